@@ -1,0 +1,6 @@
+pub mod FrameLaws
+pub mod BlobLaws
+pub mod PartLaws
+pub mod FramerLaws
+pub mod WaitingLaws
+pub mod WriteLaws

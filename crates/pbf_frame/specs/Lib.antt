@@ -1,0 +1,7 @@
+pub mod Fault
+pub mod Frame
+pub mod View
+pub mod Blob
+pub mod Parts
+pub mod Framer
+pub mod Write

@@ -1,0 +1,21 @@
+//! The frames of a PBF file: a length, a BlobHeader and a Blob.
+#![tactic(auto)]
+
+mod blob;
+mod fault;
+mod frame;
+mod framer;
+mod header;
+mod kind;
+pub mod laws;
+mod write;
+
+pub use blob::{BlobFault, Compression, raw};
+pub use fault::FrameFault;
+pub use frame::{Frame, read_frame, whole_frame};
+pub use framer::Framer;
+pub use kind::Kind;
+pub use write::write_frame;
+
+#[cfg(test)]
+mod tests;
