@@ -5,3 +5,8 @@ pub mod Block
 pub mod Phases
 pub mod Vectors
 pub mod VectorElements
+pub mod Fields
+pub mod Reads
+pub mod Parts
+pub mod Head
+pub mod Texts
