@@ -21,7 +21,7 @@ pub split : (w : List ℕ) → phases w ≡ head_phases w ++ groups_phases w
 split w =
     let fs = fields w in
     sym (append_assoc (wire_phases (wire w ∷ []) ++ when (not (is_there (each fs 1))) faults.NoStringTable ∷ wire_phases (map wire (each fs 1)) ++ flat_map text_phases (context fs).table)
-        (when (not (int_le (pos 1) (context fs).granularity && int_le (pos 1) (context fs).date_granularity)) faults.BadGranularity ∷ []) (groups_phases w))
+    (when (not (int_le (pos 1) (context fs).granularity && int_le (pos 1) (context fs).date_granularity)) faults.BadGranularity ∷ []) (groups_phases w))
 
 pub stop_head : (w : List ℕ) (f : BlockFault) → first (head_phases w) ≡ Some f → fault w ≡ Some f
 unfolding fault
@@ -46,4 +46,5 @@ block_is w b gs start out head is_groups empty a =
       texts_are = head.texts_are;
       granularity = head.granularity;
       date_granularity = head.date_granularity;
-      elements_are = subst R same (subst Q is_groups (subst P head.context_is a.2)) }
+      elements_are = subst R same (subst Q is_groups (subst P head.context_is a.2));
+    }

@@ -61,7 +61,7 @@ pub more-arrays : (ks ls : List ℕ) (p : List ℕ) → wire_phases (wires_with 
 more-arrays ks ls p =
     let split : arrays (ks ++ ls) (fields p) ≡ arrays ks (fields p) ++ arrays ls (fields p) = flat_map-append _ ks ls in
     let regrouped : map wire (each (fields p) 4) ++ arrays (ks ++ ls) (fields p) ≡ (map wire (each (fields p) 4) ++ arrays ks (fields p)) ++ arrays ls (fields p) =
-        ap (λ l. map wire (each (fields p) 4) ++ l) split ∙ sym (append_assoc (map wire (each (fields p) 4)) (arrays ks (fields p)) (arrays ls (fields p))) in
+    ap (λ l. map wire (each (fields p) 4) ++ l) split ∙ sym (append_assoc (map wire (each (fields p) 4)) (arrays ks (fields p)) (arrays ls (fields p))) in
     ap (λ l. option_map faults.Wire (wire p) ∷ wire_phases l) regrouped
     ∙ map-append (option_map faults.Wire) (wires_with ks p) (arrays ls (fields p)) ∙ ap (λ l. wire_phases (wires_with ks p) ++ l) (arrays-are ls p)
 

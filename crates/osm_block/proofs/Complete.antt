@@ -55,7 +55,7 @@ tables_none (p ∷ ps) h = ap (λ o. first (option_map faults.Wire o ∷ wire_ph
 texts_none : (ts : List (List ℕ)) → AllByRecursion IsText ts → first (flat_map text_phases ts) ≡ None
 texts_none [] h = refl
 texts_none (t ∷ ts) h =
-    first-append_none (text_phases t) (flat_map text_phases ts) (text_of_utf8 t false h.0.utf8 h.0.no_nul) ∙ texts_none ts h.1
+    first-append_none (text_phases t) (flat_map text_phases ts) (text_of_utf8 t true h.0.utf8 h.0.no_nul) ∙ texts_none ts h.1
 
 truth : (b : Bool) → T b → b ≡ true
 truth true t = refl

@@ -6,20 +6,29 @@ use Rattle.osm_block.specs.Phases.{first, message_phases}
 use Rattle.osm_block.specs.Reads.{Says, Appended}
 
 pub nothing_said : (b : Context) → Says b [] (Dense [])
-nothing_said b = (tt, ([], refl, record {
-    ids_are = record { are = refl; fit = tt };
-    lats_are = ([], record { are = refl; fit = tt }, refl);
-    lons_are = ([], record { are = refl; fit = tt }, refl);
-    tags_are = ([], inr (refl, tt), refl);
-    infos_are = record {
-      versions_are = refl;
-      times_are = ([], record { are = refl; fit = tt }, refl);
-      changesets_are = ([], record { are = refl; fit = tt }, refl);
-      uids_are = ([], record { are = refl; fit = tt }, refl);
-      users_are = ([], record { are = refl; fit = tt }, refl);
-      no_visible = refl;
-      in_range = tt };
-    in_range = tt }))
+nothing_said b = (
+  tt,
+  (
+    [],
+    refl,
+    record {
+      ids_are = record { are = refl; fit = tt };
+      lats_are = ([], record { are = refl; fit = tt }, refl);
+      lons_are = ([], record { are = refl; fit = tt }, refl);
+      tags_are = ([], inr (refl, tt), refl);
+      infos_are = record {
+        versions_are = refl;
+        times_are = ([], record { are = refl; fit = tt }, refl);
+        changesets_are = ([], record { are = refl; fit = tt }, refl);
+        uids_are = ([], record { are = refl; fit = tt }, refl);
+        users_are = ([], record { are = refl; fit = tt }, refl);
+        no_visible = refl;
+        in_range = tt;
+      };
+      in_range = tt;
+    },
+  ),
+)
 
 pub no_phase_stands : (b : Context) (ps : List (List ℕ)) → ps ≡ [] → first (message_phases b (Dense ps)) ≡ None
 no_phase_stands b ps e = ap (λ l. first (message_phases b (Dense l))) e

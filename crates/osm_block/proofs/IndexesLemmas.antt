@@ -31,7 +31,7 @@ pub indexes_fit : (n : ℕ) (ks vs : List ℕ) (u : Option ℕ) (k v w : Bool) �
 indexes_fit n ks vs u k v w is_k is_v is_w =
     let p : ℤ → Bool = is_index n in
     let parts : list_all p ((map pos ks ++ map pos vs) ++ option_to_list (option_map pos u)) ≡ ((list_all p (map pos ks) && list_all p (map pos vs)) && list_all p (option_to_list (option_map pos u))) =
-        list_all-append p (map pos ks ++ map pos vs) _ ∙ ap (λ b. b && list_all p (option_to_list (option_map pos u))) (list_all-append p (map pos ks) (map pos vs)) in
+    list_all-append p (map pos ks ++ map pos vs) _ ∙ ap (λ b. b && list_all p (option_to_list (option_map pos u))) (list_all-append p (map pos ks) (map pos vs)) in
     let kk : k ≡ list_all p (map pos ks) = is_k ∙ sym (as_numbers n ks) in
     let vv : v ≡ list_all p (map pos vs) = is_v ∙ sym (as_numbers n vs) in
     let ww : w ≡ list_all p (option_to_list (option_map pos u)) = is_w ∙ sym (as_option n u) in

@@ -82,7 +82,7 @@ pub joins-step : {A B M : Type 0} (R : List A → M → Type 0) (make : List ℕ
     new ≡ old ++ xs → R xs (make (now (get_or ps i d))) → SoFar R make now start old (take i ps) → SoFar R make now start new (take (i + 1) ps)
 joins-step {A} {B} R make now ps i d start old new xs h grown r s =
     let more : map make (map now (take (i + 1) ps)) ≡ map make (map now (take i ps)) ++ make (now (get_or ps i d)) ∷ [] =
-        ap (λ l. map make (map now l)) (take_more ps i d h) ∙ ap (map make) (map-append now (take i ps) (get_or ps i d ∷ [])) ∙ map-append make (map now (take i ps)) (now (get_or ps i d) ∷ []) in
+    ap (λ l. map make (map now l)) (take_more ps i d h) ∙ ap (map make) (map-append now (take i ps) (get_or ps i d ∷ [])) ∙ map-append make (map now (take i ps)) (now (get_or ps i d) ∷ []) in
     let P : List _ → Type 0 = λ l. Joins R (s.0 ++ xs) l in
     (s.0 ++ xs, grown ∙ ap (λ l. l ++ xs) s.1 ∙ append_assoc start s.0 xs, subst P (sym more) (Joins-more R s.0 xs _ _ s.2 r))
 

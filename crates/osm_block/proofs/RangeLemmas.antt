@@ -5,7 +5,7 @@ use Rattle.std.specs.List.{list_all, AllByRecursion}
 use Rattle.std.specs.Str.{is_utf8}
 use Rattle.std.proofs.lemmas.Str.{IsUtf8-from_is_utf8, is_utf8-from_IsUtf8}
 use Rattle.osm_value.specs.Value.{Text, InfoValue, WayValue}
-use Rattle.osm_value.specs.Ranges.{has_no_nul, passes, is_wide, is_version, is_uid, IsWide, IsText, IsTextOrNone, AreTags, IsInfo}
+use Rattle.osm_value.specs.Ranges.{has_no_nul, passes, is_wide, is_version, is_uid, IsWide, IsText, IsTextOrNone, AreTags, IsInfo, IsWay}
 use Rattle.osm_block.specs.Message.{Context, InfoMessage}
 use Rattle.osm_block.specs.Texts.{is_text}
 use Rattle.osm_block.specs.Block.{text_at, version, time, TagsAt}
@@ -86,4 +86,20 @@ info_is_in_range b m v t user h texts is_v is_t is_user =
       changeset = and_right (passes is_version v && passes is_wide t) (passes is_wide m.changeset) three;
       uid = and_right (passes is_version v && passes is_wide t && passes is_wide m.changeset) (passes is_uid m.uid) all;
       user = user_in_range b.table user m.user_sid texts is_user;
-      visible = refl }
+      visible = refl;
+    }
+
+-- ---- elements
+
+-- the ranges as the code tests them
+pub way_is_in_range : (id : ℤ) (read refs : List ℤ) (tags : List (Text × Text)) (info : InfoValue) (test others : Bool) → read ≡ refs →
+    test ≡ (is_wide id && list_all is_wide read && others) → test ≡ true → AreTags tags → IsInfo info →
+    IsWay (record { id = id; refs = refs; tags = tags; info = info })
+way_is_in_range id read refs tags info test others same is passed are_tags is_info =
+    let two : (is_wide id && list_all is_wide read) ≡ true = and_left (is_wide id && list_all is_wide read) others (sym is ∙ passed) in
+    record {
+      id = and_left (is_wide id) (list_all is_wide read) two;
+      refs = each_true is_wide refs (ap (list_all is_wide) (sym same) ∙ and_right (is_wide id) (list_all is_wide read) two);
+      tags = are_tags;
+      info = is_info;
+    }

@@ -44,7 +44,8 @@ info_from i h =
       changeset = and_left (passes is_wide i.changeset) _ b;
       uid = and_left (passes is_uid i.uid) _ c;
       user = user_from i.user (and_left (passes is_text i.user) _ d);
-      visible = unseen_from i.visible (and_right (passes is_text i.user) _ d) }
+      visible = unseen_from i.visible (and_right (passes is_text i.user) _ d);
+    }
 
 abbrev pub is_node : NodeValue → Bool
 is_node n = is_wide n.id && (is_wide n.lat && (is_wide n.lon && (are_tags n.tags && is_info n.info)))
@@ -59,7 +60,8 @@ node_from n h =
       lat = and_left (is_wide n.lat) _ a;
       lon = and_left (is_wide n.lon) _ b;
       tags = tags_from n.tags (and_left (are_tags n.tags) _ c);
-      info = info_from n.info (and_right (are_tags n.tags) _ c) }
+      info = info_from n.info (and_right (are_tags n.tags) _ c);
+    }
 
 abbrev pub is_way : WayValue → Bool
 is_way w = is_wide w.id && (list_all is_wide w.refs && (are_tags w.tags && is_info w.info))
@@ -72,7 +74,8 @@ way_from w h =
       id = and_left (is_wide w.id) _ h;
       refs = each_true is_wide w.refs (and_left (list_all is_wide w.refs) _ a);
       tags = tags_from w.tags (and_left (are_tags w.tags) _ b);
-      info = info_from w.info (and_right (are_tags w.tags) _ b) }
+      info = info_from w.info (and_right (are_tags w.tags) _ b);
+    }
 
 abbrev pub is_member : MemberValue → Bool
 is_member m = is_wide m.id && is_text m.role
@@ -91,4 +94,5 @@ relation_from r h =
       id = and_left (is_wide r.id) _ h;
       members = each_from is_member IsMember member_from r.members (and_left (list_all is_member r.members) _ a);
       tags = tags_from r.tags (and_left (are_tags r.tags) _ b);
-      info = info_from r.info (and_right (are_tags r.tags) _ b) }
+      info = info_from r.info (and_right (are_tags r.tags) _ b);
+    }

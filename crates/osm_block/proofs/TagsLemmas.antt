@@ -80,7 +80,7 @@ pair_goes_on whole b c texts n i kv h e some differs long are =
     let h2 : i + 1 < length kv = omega arith in
     let two : drop (i + 1 + 1) kv ≡ drop (i + 2) kv = ap (λ m. drop m kv) (omega arith) in
     let cut : drop i kv ≡ get_or kv i (pos 0) ∷ get_or kv (i + 1) (pos 0) ∷ drop (i + 2) kv =
-        drop_more kv i (pos 0) h ∙ ap (λ l. get_or kv i (pos 0) ∷ l) (drop_more kv (i + 1) (pos 0) h2) ∙ ap (λ l. get_or kv i (pos 0) ∷ get_or kv (i + 1) (pos 0) ∷ l) two in
+    drop_more kv i (pos 0) h ∙ ap (λ l. get_or kv i (pos 0) ∷ l) (drop_more kv (i + 1) (pos 0) h2) ∙ ap (λ l. get_or kv i (pos 0) ∷ get_or kv (i + 1) (pos 0) ∷ l) two in
     ap (λ d. stands d texts (pairs_of n (drop (i + 2) kv))) are ∙ sym (at_pair b texts n _ _ _ left differs) ∙ sym (ap (λ l. stands b texts (pairs_of n l)) cut) ∙ e
 
 -- ---- tests of signed numbers by their bits

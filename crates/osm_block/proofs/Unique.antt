@@ -75,7 +75,7 @@ pub RelationOf-unique : (b : Context) (v w : RelationValue) (m : RelationMessage
 RelationOf-unique b v w m g h =
     ap (λ x. record { id = x; members = v.members; tags = v.tags; info = v.info }) (some_one _ _ (g.id_is ∙ sym h.id_is))
     ∙ ap (λ x. record { id = w.id; members = x; tags = v.tags; info = v.info })
-      (members_one v.members w.members (Diff-unique _ _ m.memids g.memids_are h.memids_are) (g.roles_are ∙ sym h.roles_are) (g.types_are ∙ sym h.types_are))
+    (members_one v.members w.members (Diff-unique _ _ m.memids g.memids_are h.memids_are) (g.roles_are ∙ sym h.roles_are) (g.types_are ∙ sym h.types_are))
     ∙ ap (λ x. record { id = w.id; members = w.members; tags = x; info = v.info }) (TagsAt-unique b.table v.tags w.tags m.keys m.vals g.tags_are h.tags_are)
     ∙ ap (λ x. record { id = w.id; members = w.members; tags = w.tags; info = x }) (InfoOf-unique b v.info w.info m.info g.info_is h.info_is)
 

@@ -122,4 +122,3 @@ p4_says = record {
   date_granularity = omega (arith, ints);
   elements_are = (((Node (record { id = pos 1; lat = pos 0; lon = pos 0; tags = ([]); info = record { version = Some (pos 1); time = Some (pos 1000); changeset = Some (pos 5); uid = Some (pos 7); user = Some (117 ∷ []); visible = None } })) ∷ (Node (record { id = pos 2; lat = pos 0; lon = pos 0; tags = ([]); info = record { version = Some (pos 2); time = Some (pos 2000); changeset = Some (pos 5); uid = Some (pos 7); user = Some (117 ∷ []); visible = None } })) ∷ []), ([]), refl, record { is_message = refl; one_kind = lit≤ tt; elements_are = (((Node (record { id = pos 1; lat = pos 0; lon = pos 0; tags = ([]); info = record { version = Some (pos 1); time = Some (pos 1000); changeset = Some (pos 5); uid = Some (pos 7); user = Some (117 ∷ []); visible = None } })) ∷ (Node (record { id = pos 2; lat = pos 0; lon = pos 0; tags = ([]); info = record { version = Some (pos 2); time = Some (pos 2000); changeset = Some (pos 5); uid = Some (pos 7); user = Some (117 ∷ []); visible = None } })) ∷ []), ([]), refl, ((refl, (refl, (refl, (refl, (refl, (refl, (refl, (refl, (refl, (refl, tt)))))))))), (((record { id = pos 1; lat = pos 0; lon = pos 0; tags = ([]); info = record { version = Some (pos 1); time = Some (pos 1000); changeset = Some (pos 5); uid = Some (pos 7); user = Some (117 ∷ []); visible = None } }) ∷ (record { id = pos 2; lat = pos 0; lon = pos 0; tags = ([]); info = record { version = Some (pos 2); time = Some (pos 2000); changeset = Some (pos 5); uid = Some (pos 7); user = Some (117 ∷ []); visible = None } }) ∷ []), refl, record { ids_are = record { are = refl; fit = (record { sfits = lit< tt }, (record { sfits = lit< tt }, tt)) }; lats_are = ((pos 0 ∷ pos 0 ∷ []), record { are = refl; fit = (record { sfits = lit< tt }, (record { sfits = lit< tt }, tt)) }, refl); lons_are = ((pos 0 ∷ pos 0 ∷ []), record { are = refl; fit = (record { sfits = lit< tt }, (record { sfits = lit< tt }, tt)) }, refl); tags_are = ((([]) ∷ ([]) ∷ []), inr (refl, (refl, (refl, tt))), refl); infos_are = record { versions_are = refl; times_are = ((pos 1 ∷ pos 2 ∷ []), record { are = refl; fit = (record { sfits = lit< tt }, (record { sfits = lit< tt }, tt)) }, refl); changesets_are = ((pos 5 ∷ pos 5 ∷ []), record { are = refl; fit = (record { sfits = lit< tt }, (record { sfits = lit< tt }, tt)) }, refl); uids_are = ((pos 7 ∷ pos 7 ∷ []), record { are = refl; fit = (record { sfits = lit< tt }, (record { sfits = lit< tt }, tt)) }, refl); users_are = ((pos 1 ∷ pos 1 ∷ []), record { are = refl; fit = (record { sfits = lit< tt }, (record { sfits = lit< tt }, tt)) }, refl); no_visible = refl; in_range = (info_from _ refl, (info_from _ refl, tt)) }; in_range = (node_from _ refl, (node_from _ refl, tt)) })), refl) }, refl);
 }
-

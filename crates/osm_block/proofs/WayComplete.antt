@@ -50,7 +50,7 @@ info_range b i m h =
     ∙ ap (λ x. passes is_version i.version && passes is_wide i.time && passes is_wide x && passes is_uid m.uid) (sym h.changeset_is)
     ∙ ap (λ x. passes is_version i.version && passes is_wide i.time && passes is_wide i.changeset && passes is_uid x) (sym h.uid_is)
     ∙ both (passes is_version i.version && passes is_wide i.time && passes is_wide i.changeset) (passes is_uid i.uid)
-      (both (passes is_version i.version && passes is_wide i.time) (passes is_wide i.changeset) (both (passes is_version i.version) (passes is_wide i.time) h.in_range.version h.in_range.time) h.in_range.changeset) h.in_range.uid
+    (both (passes is_version i.version && passes is_wide i.time) (passes is_wide i.changeset) (both (passes is_version i.version) (passes is_wide i.time) h.in_range.version h.in_range.time) h.in_range.changeset) h.in_range.uid
 
 pub WayOf-no_phase : (b : Context) (w : WayValue) (m : WayMessage) → WayOf b w m → first (way_phases b m) ≡ None
 WayOf-no_phase b w m h =
@@ -59,15 +59,15 @@ WayOf-no_phase b w m h =
     let vals : length w.tags ≡ length m.vals = sym (length-map w.tags (λ t. Some t.1)) ∙ ap length h.tags_are.vals_are ∙ length-map m.vals (text_at b.table) in
     let even : same_length m.keys m.vals ≡ true = eq-eqb _ _ (sym keys ∙ vals) in
     let range : (passes is_wide m.id && list_all is_wide (front_sums m.refs) && info_in_range b m.info) ≡ true =
-        both (passes is_wide m.id && list_all is_wide (front_sums m.refs)) (info_in_range b m.info)
-        (ap (λ o. passes is_wide o && list_all is_wide (front_sums m.refs)) (sym h.id_is) ∙ ap (λ l. is_wide w.id && list_all is_wide l) (sym sums) ∙ both (is_wide w.id) (list_all is_wide w.refs) h.in_range.id (all_true is_wide w.refs h.in_range.refs))
-        (info_range b w.info m.info h.info_is) in
+    both (passes is_wide m.id && list_all is_wide (front_sums m.refs)) (info_in_range b m.info)
+    (ap (λ o. passes is_wide o && list_all is_wide (front_sums m.refs)) (sym h.id_is) ∙ ap (λ l. is_wide w.id && list_all is_wide l) (sym sums) ∙ both (is_wide w.id) (list_all is_wide w.refs) h.in_range.id (all_true is_wide w.refs h.in_range.refs))
+    (info_range b w.info m.info h.info_is) in
     let p : ℤ → Bool = is_index (length b.table) in
     let index : all_in b.table (m.keys ++ m.vals ++ user_indexes m.info) ≡ true =
-        list_all-append p (m.keys ++ m.vals) (user_indexes m.info) ∙
-        both (list_all p (m.keys ++ m.vals)) (list_all p (user_indexes m.info))
-        (list_all-append p m.keys m.vals ∙ both (list_all p m.keys) (list_all p m.vals) (all_indexes_there (λ t. t.0) b.table w.tags m.keys h.tags_are.keys_are) (all_indexes_there (λ t. t.1) b.table w.tags m.vals h.tags_are.vals_are))
-        (user_there b.table w.info.user m.info.user_sid h.info_is.user_is) in
+    list_all-append p (m.keys ++ m.vals) (user_indexes m.info) ∙
+    both (list_all p (m.keys ++ m.vals)) (list_all p (user_indexes m.info))
+    (list_all-append p m.keys m.vals ∙ both (list_all p m.keys) (list_all p m.vals) (all_indexes_there (λ t. t.0) b.table w.tags m.keys h.tags_are.keys_are) (all_indexes_there (λ t. t.1) b.table w.tags m.vals h.tags_are.vals_are))
+    (user_there b.table w.info.user m.info.user_sid h.info_is.user_is) in
     late_way b m w.id h.info_is.no_visible (sym h.id_is) even (gives w.refs m.refs sums h.refs_are.fit).0
     ∙ pass (passes is_wide m.id && list_all is_wide (front_sums m.refs) && info_in_range b m.info) faults.OutOfRange _ range
     ∙ pass (all_in b.table (m.keys ++ m.vals ++ user_indexes m.info)) faults.BadIndex [] index

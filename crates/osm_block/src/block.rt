@@ -12,12 +12,12 @@ ghost use Rattle.osm_block.specs.Fields.{context_of};
 ghost use Rattle.osm_block.specs.Phases.{Gives, first, fault, text_phases};
 
 use crate::common::{Common, optional_i32, optional_i64, read_payloads};
-use osm_value::Element;
 use crate::fault::{BlockError, BlockFault};
 use crate::group::{Parts, Scratch, read_groups, some_there};
 use crate::message::Scale;
 use crate::readings::{check_all, each, each_of_all, last_number, wire_of};
 use crate::texts::read_texts;
+use osm_value::Element;
 use std::alloc::{AllocError, Global};
 
 /// What the block says for all its elements.

@@ -84,7 +84,11 @@ pub fn read_numbers(payload: &[u8], number: u32, out: &mut Vec<u64>) -> Result<(
 }
 
 /// Reads the payloads of the fields `number`.
-pub fn read_payloads<'a>(payload: &'a [u8], number: u32, out: &mut Vec<&'a [u8]>) -> Result<(), AllocError>
+pub fn read_payloads<'a>(
+    payload: &'a [u8],
+    number: u32,
+    out: &mut Vec<&'a [u8]>,
+) -> Result<(), AllocError>
     ensures { OnOk result (map (λ p. p.now) out.new.items ≡ each (fields payload.now) number) }
 {
     out.clear();

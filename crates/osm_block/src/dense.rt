@@ -6,9 +6,9 @@ ghost use Rattle.osm_block.specs.Fields.{context_of};
 ghost use Rattle.osm_block.specs.Phases.{Gives, first, message_phases};
 ghost use Rattle.osm_block.specs.Reads.{Appended};
 
-use osm_value::Element;
 use crate::fault::BlockError;
 use crate::message::Scale;
+use osm_value::Element;
 use std::alloc::Global;
 
 /// Appends the nodes that the payloads together stand to.

@@ -13,13 +13,13 @@ ghost use Rattle.osm_block.specs.Reads.{Appended, AppendedOne, AppendedGroups};
 
 use crate::common::{Common, read_payloads};
 use crate::dense::read_dense;
-use osm_value::Element;
 use crate::fault::{BlockError, BlockFault};
 use crate::message::Scale;
 use crate::node::read_node;
 use crate::read_way::read_way;
 use crate::readings::wire_of;
 use crate::relation::read_relation;
+use osm_value::Element;
 use std::alloc::{AllocError, Global};
 
 /// What messages are read into. It is used again for each one.
@@ -43,7 +43,13 @@ fn read_ways<'a>(
     ensures read { OnOk result (Appended (context_of scale.now) out.old.items out.new.items (map Way (map (λ p. p.now) payloads.now))) }
 {
     for payload in payloads {
-        let way = read_way(alloc, scale, payload, &mut scratch.common, &mut scratch.refs)?;
+        let way = read_way(
+            alloc,
+            scale,
+            payload,
+            &mut scratch.common,
+            &mut scratch.refs,
+        )?;
         out.push(Element::Way(way))?;
     }
     Ok(())

@@ -11,10 +11,10 @@ ghost use Rattle.osm_block.specs.Phases.{Gives, first, node_phases, message_phas
 
 use crate::common::{Common, read_common, read_info};
 use crate::deltas::unzigzag;
-use osm_value::Node;
 use crate::fault::BlockError;
 use crate::message::{InfoFields, NodeArrays, Scale};
 use crate::readings::last_number;
+use osm_value::Node;
 use std::alloc::Global;
 
 fn optional_unzigzag(number: Option<u64>) -> Option<i64>

@@ -123,7 +123,11 @@ pub fn last_of_all(payloads: &[&[u8]], number: u32) -> Option<u64>
 }
 
 /// Appends the payloads of the fields `number` in all payloads.
-pub fn each_of_all<'a>(payloads: &[&'a [u8]], number: u32, out: &mut Vec<&'a [u8]>) -> Result<(), AllocError>
+pub fn each_of_all<'a>(
+    payloads: &[&'a [u8]],
+    number: u32,
+    out: &mut Vec<&'a [u8]>,
+) -> Result<(), AllocError>
     ensures { OnOk result (map (λ p. p.now) out.new.items ≡ map (λ p. p.now) out.old.items ++ each (flat_map fields (map (λ p. p.now) payloads.now)) number) }
 {
     for payload in payloads {

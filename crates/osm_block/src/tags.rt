@@ -48,5 +48,9 @@ pub fn check_tags(keys_vals: &[i32], nodes: usize, texts: usize) -> Result<(), B
     if left > 0 {
         return Err(BlockFault::TagsUneven);
     }
-    if all_in_table { Ok(()) } else { Err(BlockFault::BadIndex) }
+    if all_in_table {
+        Ok(())
+    } else {
+        Err(BlockFault::BadIndex)
+    }
 }

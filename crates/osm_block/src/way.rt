@@ -9,10 +9,10 @@ ghost use Rattle.osm_block.specs.Differences.{Diff};
 ghost use Rattle.osm_block.specs.Fields.{context_of, info_message_of, way_message_of};
 ghost use Rattle.osm_block.specs.Phases.{Gives, first, when, way_phases, is_index, all_in, info_in_range, user_indexes};
 
-use crate::fault::{BlockError, BlockFault};
 use crate::deltas::absolute;
-use osm_value::{Info, Way, uid_in_range, version_in_range, wide_in_range};
+use crate::fault::{BlockError, BlockFault};
 use crate::message::{InfoFields, Scale, WayArrays};
+use osm_value::{Info, Way, uid_in_range, version_in_range, wide_in_range};
 use std::alloc::{AllocError, Global};
 
 /// Whether all of the numbers are in that range.

@@ -14,7 +14,7 @@ use Rattle.osm_block.proofs.block.read_block.Goals as goal
 pub returns-in_err-scale : goal.returns-in_err-scale
 returns-in_err-scale c =
     let refused : Gives {A = Vec Element Global} (λ es. Block es.items c.args.bytes.now) (fault c.args.bytes.now) (Err c.in_err-scale.field-0.0) =
-        Gives-err {A = Unit {0}} (λ _. ⊤) (λ (es : Vec Element Global). Block es.items c.args.bytes.now) _ _ _ (stop_head c.args.bytes.now) c.in_err-scale.ensures.phase in
+    Gives-err {A = Unit {0}} (λ _. ⊤) (λ (es : Vec Element Global). Block es.items c.args.bytes.now) _ _ _ (stop_head c.args.bytes.now) c.in_err-scale.ensures.phase in
     search rules
 
 pub returns-in_err-read_groups : goal.returns-in_err-read_groups
@@ -22,7 +22,7 @@ returns-in_err-read_groups c =
     let groups = ap (map (λ x. x.now)) c.deref.ensures.value ∙ c.in_ok-each.ensures ∙ ap (λ l. map (λ x. x.now) l ++ each (fields c.args.bytes.now) 2) c.new-groups.ensures.items in
     let past = past_head c.args.bytes.now (context_of c.in_ok-scale.scale) _ c.in_ok-scale.ensures.phase.0 c.in_ok-scale.ensures.read.context_is groups in
     let refused : Gives {A = Vec Element Global} (λ es. Block es.items c.args.bytes.now) (fault c.args.bytes.now) (Err c.in_err-read_groups.field-0.0) =
-        Gives-err {A = Unit {0}} (λ _. ⊤) (λ (es : Vec Element Global). Block es.items c.args.bytes.now) _ _ _ (λ f s. past ∙ s) c.in_err-read_groups.ensures.phase in
+    Gives-err {A = Unit {0}} (λ _. ⊤) (λ (es : Vec Element Global). Block es.items c.args.bytes.now) _ _ _ (λ f s. past ∙ s) c.in_err-read_groups.ensures.phase in
     search rules
 
 pub returns : goal.returns

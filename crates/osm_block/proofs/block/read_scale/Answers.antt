@@ -11,6 +11,9 @@ use Rattle.osm_block.specs.Head.{head_phases}
 use Rattle.osm_block.specs.Phases.{Gives, first, wire_phases, text_phases}
 use Rattle.osm_block.proofs.ReadingLemmas.{Gives-err}
 use Rattle.osm_block.proofs.HeadLemmas.{past_table, stop_tables, stop_texts, past_texts, all_none, bad_scales, good_scales, scales_are, context_parts}
+use Rattle.std.specs.List.{list_all}
+use Rattle.osm_block.specs.Texts.{is_text}
+use Rattle.osm_block.proofs.RangeLemmas.{table_passes}
 use Rattle.osm_block.proofs.block.read_scale.Goals as goal
 
 pub returns-in_err-check_all-clause-phase : goal.returns-in_err-check_all-clause-phase
@@ -22,7 +25,7 @@ returns-in_err-check_all-clause-phase c =
     let past = past_table w none there in
     let tables = ap (λ l. first (wire_phases (map wire l))) (ap (map (λ x. x.now)) c.deref-2.ensures.value ∙ c.in_ok-read_payloads.ensures) in
     let refused : Gives {A = Scale} (λ _. ⊤) (first (head_phases w)) (Err c.in_err-check_all.field-0.0) =
-        Gives-err {A = Unit {0}} (λ _. ⊤) (λ (s : Scale). ⊤) _ _ _ (λ f s. stop_tables w _ past f (sym tables ∙ s)) c.in_err-check_all.ensures in
+    Gives-err {A = Unit {0}} (λ _. ⊤) (λ (s : Scale). ⊤) _ _ _ (λ f s. stop_tables w _ past f (sym tables ∙ s)) c.in_err-check_all.ensures in
     search rules
 
 pub returns-in_err-table-clause-phase : goal.returns-in_err-table-clause-phase
@@ -37,7 +40,7 @@ returns-in_err-table-clause-phase c =
     let texts = ap (λ l. first (flat_map text_phases l)) raw in
     let no_tables = sym tables ∙ c.in_ok-check_all.ensures.0 in
     let refused : Gives {A = Scale} (λ _. ⊤) (first (head_phases w)) (Err c.in_err-table.field-0.0) =
-        Gives-err {A = Unit {0}} (λ _. ⊤) (λ (s : Scale). ⊤) _ _ _ (λ f s. stop_texts w _ past no_tables f (sym texts ∙ s)) c.in_err-table.ensures.phase in
+    Gives-err {A = Unit {0}} (λ _. ⊤) (λ (s : Scale). ⊤) _ _ _ (λ f s. stop_texts w _ past no_tables f (sym texts ∙ s)) c.in_err-table.ensures.phase in
     search rules
 
 pub returns-then-not-are_scales-clause-phase : goal.returns-then-not-are_scales-clause-phase
@@ -103,4 +106,10 @@ returns-clause-read c =
       tables_are = all_none (each (fields w) 1) no_tables;
       texts_are = subst (λ l. AllByRecursion IsText l) raw c.in_ok-table.ensures.text;
       granularity = subst low granularity (c.are_scales.ensures.granularity c.if-not-are_scales.false);
-      date_granularity = subst low date_granularity (c.are_scales.ensures.date_granularity c.if-not-are_scales.false) }
+      date_granularity = subst low date_granularity (c.are_scales.ensures.date_granularity c.if-not-are_scales.false);
+    }
+
+pub invariant_of-result : goal.invariant_of-result
+invariant_of-result c =
+    let P : List (List ℕ) → Type 0 = λ l. list_all is_text l ≡ true in
+    record { texts = subst P (sym c.in_ok-table.ensures.same) (table_passes _ c.in_ok-table.ensures.text) }

@@ -13,7 +13,7 @@ returns-in_err-check_all-clause-phase c =
     let none : wire p ≡ None = search rules in
     let infos = infos_along _ p (ap (map (λ x. x.now)) c.deref.ensures.value ∙ c.in_ok-read_payloads.ensures) in
     let refused : Refused (first (wire_phases (wires_with (2 ∷ 3 ∷ []) c.args.payload.now))) c.in_err-check_all.field-0.0 =
-        still_refused _ _ _ (λ f s. stop_infos (2 ∷ 3 ∷ []) p none f (sym infos ∙ s)) c.in_err-check_all.ensures in
+    still_refused _ _ _ (λ f s. stop_infos (2 ∷ 3 ∷ []) p none f (sym infos ∙ s)) c.in_err-check_all.ensures in
     search rules
 
 pub returns-in_err-read_indexes-clause-phase : goal.returns-in_err-read_indexes-clause-phase
@@ -23,7 +23,7 @@ returns-in_err-read_indexes-clause-phase c =
     let infos = infos_along _ p (ap (map (λ x. x.now)) c.deref.ensures.value ∙ c.in_ok-read_payloads.ensures) in
     let past = past_infos (2 ∷ 3 ∷ []) p none (sym infos ∙ c.in_ok-check_all.ensures.0) in
     let refused : Refused (first (wire_phases (wires_with (2 ∷ 3 ∷ []) c.args.payload.now))) c.in_err-read_indexes.field-0.0 =
-        still_refused _ _ _ (stop_array 2 (3 ∷ []) p _ past) c.in_err-read_indexes.ensures.phase in
+    still_refused _ _ _ (stop_array 2 (3 ∷ []) p _ past) c.in_err-read_indexes.ensures.phase in
     search rules
 
 pub returns-clause-phase : goal.returns-clause-phase

@@ -12,7 +12,7 @@ pub returns-in_err-read_group-clause-phase : goal.returns-in_err-read_group-clau
 returns-in_err-read_group-clause-phase c =
     let b = context_of c.args.scale.now in
     let refused : Refused (first (flat_map (group_phases b) (map (λ p. p.now) c.args.groups.now))) c.in_err-read_group.field-0.0 =
-        still_refused _ _ _ (phase-stop (group_phases b) (λ g. g) (λ p. p.now) c.args.groups.now c.loop-group.group-index _ _ c.loop-group-test.true c.loop-group.invariant.phases) c.in_err-read_group.ensures.phase in
+    still_refused _ _ _ (phase-stop (group_phases b) (λ g. g) (λ p. p.now) c.args.groups.now c.loop-group.group-index _ _ c.loop-group-test.true c.loop-group.invariant.phases) c.in_err-read_group.ensures.phase in
     search rules
 
 pub loop-group-preserved : goal.loop-group-preserved
@@ -20,5 +20,6 @@ loop-group-preserved c =
     let b = context_of c.args.scale.now in
     record {
       so_far = joins-step (GroupOf b) (λ g. g) (λ p. p.now) c.args.groups.now c.loop-group.group-index _ _ _ _ c.in_ok-read_group.ensures.read.0 c.loop-group-test.true
-        c.in_ok-read_group.ensures.read.1 c.in_ok-read_group.ensures.read.2 c.loop-group.invariant.so_far;
-      phases = phase-step (group_phases b) (λ g. g) (λ p. p.now) c.args.groups.now c.loop-group.group-index _ _ c.loop-group-test.true c.in_ok-read_group.ensures.phase.0 c.loop-group.invariant.phases }
+          c.in_ok-read_group.ensures.read.1 c.in_ok-read_group.ensures.read.2 c.loop-group.invariant.so_far;
+      phases = phase-step (group_phases b) (λ g. g) (λ p. p.now) c.args.groups.now c.loop-group.group-index _ _ c.loop-group-test.true c.in_ok-read_group.ensures.phase.0 c.loop-group.invariant.phases;
+    }

@@ -15,7 +15,7 @@ pub returns-in_err-relation-clause-phase : goal.returns-in_err-relation-clause-p
 returns-in_err-relation-clause-phase c =
     let b = context_of c.args.scale.now in
     let refused : Refused (first (flat_map (message_phases b) (map Relation (map (λ p. p.now) c.args.payloads.now)))) c.in_err-relation.field-0.0 =
-        still_refused _ _ _ (phase-stop (message_phases b) Relation (λ p. p.now) c.args.payloads.now c.loop-payload.payload-index _ _ c.loop-payload-test.true c.loop-payload.invariant.phases) c.in_err-relation.ensures in
+    still_refused _ _ _ (phase-stop (message_phases b) Relation (λ p. p.now) c.args.payloads.now c.loop-payload.payload-index _ _ c.loop-payload-test.true c.loop-payload.invariant.phases) c.in_err-relation.ensures in
     search rules
 
 pub loop-payload-preserved : goal.loop-payload-preserved
@@ -23,5 +23,6 @@ loop-payload-preserved c =
     let b = context_of c.args.scale.now in
     record {
       so_far = joins-step (Says b) Relation (λ p. p.now) c.args.payloads.now c.loop-payload.payload-index _ _ _ _ (elements.Relation c.in_ok-relation.relation ∷ []) c.loop-payload-test.true
-        c.in_ok-push.ensures.items (relation_says b _ _ c.in_ok-relation.ensures.0 c.in_ok-relation.ensures.1) c.loop-payload.invariant.so_far;
-      phases = phase-step (message_phases b) Relation (λ p. p.now) c.args.payloads.now c.loop-payload.payload-index _ _ c.loop-payload-test.true c.in_ok-relation.ensures.0 c.loop-payload.invariant.phases }
+          c.in_ok-push.ensures.items (relation_says b _ _ c.in_ok-relation.ensures.0 c.in_ok-relation.ensures.1) c.loop-payload.invariant.so_far;
+      phases = phase-step (message_phases b) Relation (λ p. p.now) c.args.payloads.now c.loop-payload.payload-index _ _ c.loop-payload-test.true c.in_ok-relation.ensures.0 c.loop-payload.invariant.phases;
+    }

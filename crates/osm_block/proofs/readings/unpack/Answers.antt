@@ -10,7 +10,7 @@ pub loop-at-preserved : goal.loop-at-preserved
 loop-at-preserved c =
     let w = c.args.payload.now in
     let e : row_from c.loop-at.at w ≡ Ok c.in-Ok.number ∷ row_from (c.loop-at.at + c.in-Ok.len) w =
-        row_at_number c.loop-at.at w _ _ c.in-Ok.ensures.within.0 (rw take_rest at c.in-Ok.ensures.exact) in
+    row_at_number c.loop-at.at w _ _ c.in-Ok.ensures.within.0 (rw take_rest at c.in-Ok.ensures.exact) in
     record {
       within = search rules;
       so_far = grown _ _ _ _ _ _ c.in_ok-push-in-Ok.ensures.items e c.loop-at.invariant.so_far;
