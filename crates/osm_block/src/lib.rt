@@ -2,20 +2,25 @@
 #![tactic(auto)]
 
 mod block;
-mod common;
+mod column;
 mod deltas;
 mod dense;
 mod fault;
 mod group;
+mod info;
 pub mod laws;
-mod message;
 mod node;
-mod read_way;
+mod ranges;
 mod readings;
 mod relation;
+mod scale;
+mod tag_list;
 mod tags;
 mod texts;
 mod way;
 
 pub use block::read_block;
 pub use fault::{BlockError, BlockFault};
+
+#[cfg(test)]
+mod tests;
