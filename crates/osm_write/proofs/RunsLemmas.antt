@@ -18,14 +18,17 @@ groups_run e (f ∷ es) = by (first_run (f ∷ es)) (starts f es) (groups_run f 
         pick : (b : Bool) (k : ℕ) → (n : ℕ) × ((if b then suc k else 1) ≡ suc n)
         pick true k = (k, refl)
         pick false k = (0, refl)
+
     choose : (b : Bool) (n : ℕ) → (if b then (e ∷ f ∷ take n es) ∷ groups_of (drop n es) else (e ∷ []) ∷ (f ∷ take n es) ∷ groups_of (drop n es))
         ≡ take (if b then suc (suc n) else 1) (e ∷ f ∷ es) ∷ (if b then groups_of (drop n es) else (f ∷ take n es) ∷ groups_of (drop n es))
     choose true n = refl
     choose false n = refl
+
     last : (b : Bool) (n : ℕ) → groups_of (f ∷ es) ≡ (f ∷ take n es) ∷ groups_of (drop n es)
         → (if b then groups_of (drop n es) else (f ∷ take n es) ∷ groups_of (drop n es)) ≡ groups_of (drop (if b then suc (suc n) else 1) (e ∷ f ∷ es))
     last true n h = refl
     last false n h = sym h
+
     by : (k : ℕ) → (n : ℕ) × (k ≡ suc n) → groups_of (f ∷ es) ≡ take k (f ∷ es) ∷ groups_of (drop k (f ∷ es))
         → put_before e (groups_of (f ∷ es)) ≡ take (if fit_together e f then suc k else 1) (e ∷ f ∷ es) ∷ groups_of (drop (if fit_together e f then suc k else 1) (e ∷ f ∷ es))
     by k s h =

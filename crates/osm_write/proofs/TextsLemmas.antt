@@ -46,10 +46,12 @@ find_push (u ∷ us) t q apart = first (bytes_eq u t) (λ no. find_push us t q n
     rest : (b : Bool) (f : Option ℕ) → f ≡ (if b then Some (length us) else find_text us q) → option_map suc f ≡ (if b then Some (suc (length us)) else option_map suc (find_text us q))
     rest true f e = ap (option_map suc) e
     rest false f e = ap (option_map suc) e
+
     by : (b : Bool) → (has us t ≡ false → find_text (us ++ t ∷ []) q ≡ (if bytes_eq t q then Some (length us) else find_text us q)) → bytes_eq u q ≡ b → bytes_eq u t ≡ false → has us t ≡ false
         → (if b then Some 0 else option_map suc (find_text (us ++ t ∷ []) q)) ≡ (if bytes_eq t q then Some (suc (length us)) else (if b then Some 0 else option_map suc (find_text us q)))
     by true again e no_u no_us = let k = same_tests u t q no_u e in rw k refl
     by false again e no_u no_us = rest (bytes_eq t q) (find_text (us ++ t ∷ []) q) (again no_us)
+
     first : (b : Bool) → (has us t ≡ false → find_text (us ++ t ∷ []) q ≡ (if bytes_eq t q then Some (length us) else find_text us q)) → bytes_eq u t ≡ b → (b || has us t) ≡ false
         → (if bytes_eq u q then Some 0 else option_map suc (find_text (us ++ t ∷ []) q)) ≡ (if bytes_eq t q then Some (suc (length us)) else (if bytes_eq u q then Some 0 else option_map suc (find_text us q)))
     first true again e apart = absurd (let f : true ≡ false = apart in cc)

@@ -24,6 +24,7 @@ kept p (u ∷ us) t keep e = by (bytes_eq u t) refl (p u) refl (kept p us t keep
     or_true : (b : Bool) → (b || true) ≡ true
     or_true true = refl
     or_true false = refl
+
     by : (b : Bool) → bytes_eq u t ≡ b → (c : Bool) → p u ≡ c → (has us t ≡ true → has (filter p us) t ≡ true) → (b || has us t) ≡ true → has (if c then u ∷ filter p us else filter p us) t ≡ true
     by true f true g again h = rw f refl
     by true f false g again h = let same : u ≡ t = (bytes_eq-Decides u t).0 f in let k : p u ≡ true = cc in absurd (let m : true ≡ false = sym k ∙ g in cc)
@@ -41,6 +42,7 @@ first_uses_has (u ∷ us) t e = by (bytes_eq u t) refl (first_uses_has us t) e
         flip : (b : Bool) → bytes_eq t u ≡ b → b ≡ false
         flip true g = let s : t ≡ u = (bytes_eq-Decides t u).0 g in let k : bytes_eq u t ≡ true = (bytes_eq-Decides u t).1 (sym s) in cc
         flip false g = refl
+
     by : (b : Bool) → bytes_eq u t ≡ b → (has us t ≡ true → has (first_uses us) t ≡ true) → (b || has us t) ≡ true → (bytes_eq u t || has (filter (λ v. not (bytes_eq v u)) (first_uses us)) t) ≡ true
     by true f again h = rw f refl
     by false f again h = let k = same_test f in rw f (kept (λ v. not (bytes_eq v u)) (first_uses us) t (rw k refl) (again h))

@@ -5,3 +5,6 @@ pub mod Texts
 pub mod Scale
 pub mod Runs
 pub mod Arrays
+pub mod Laws
+pub mod VectorCanon
+pub mod Fault

@@ -5,9 +5,8 @@ ghost use Rattle.osm_write.specs.Arrays.{AllWide};
 ghost use Rattle.osm_block.specs.Differences.{differences};
 ghost use Rattle.osm_write.specs.Canon.{number_field, int_field, bytes_field, message_field, packed_field, delta_field, optional};
 
-use std::alloc::AllocError;
-
 use pbf_wire::{write_number, zigzag};
+use std::alloc::AllocError;
 
 /// Appends a number.
 pub(crate) fn append_number(field: u64, number: u64, out: &mut Vec<u8>) -> Result<(), AllocError>
@@ -48,7 +47,12 @@ pub(crate) fn append_message(field: u64, bytes: &[u8], out: &mut Vec<u8>) -> Res
 }
 
 /// Appends an array of numbers; its bytes are gathered in `array` first.
-pub(crate) fn append_packed(field: u64, numbers: &[u64], array: &mut Vec<u8>, out: &mut Vec<u8>) -> Result<(), AllocError>
+pub(crate) fn append_packed(
+    field: u64,
+    numbers: &[u64],
+    array: &mut Vec<u8>,
+    out: &mut Vec<u8>,
+) -> Result<(), AllocError>
     requires { field < 2 ^ 32 }
     ensures { OnOk result (out.new.items ≡ out.old.items ++ packed_field field numbers.now) }
 {
@@ -60,7 +64,12 @@ pub(crate) fn append_packed(field: u64, numbers: &[u64], array: &mut Vec<u8>, ou
 }
 
 /// Appends an array of numbers, each as its difference from the one before it.
-pub(crate) fn append_deltas(field: u64, numbers: &[i64], array: &mut Vec<u8>, out: &mut Vec<u8>) -> Result<(), AllocError>
+pub(crate) fn append_deltas(
+    field: u64,
+    numbers: &[i64],
+    array: &mut Vec<u8>,
+    out: &mut Vec<u8>,
+) -> Result<(), AllocError>
     requires small { field < 2 ^ 32 }
     requires in_range { AllWide numbers.now }
     ensures { OnOk result (out.new.items ≡ out.old.items ++ delta_field field numbers.now) }
@@ -75,7 +84,11 @@ pub(crate) fn append_deltas(field: u64, numbers: &[i64], array: &mut Vec<u8>, ou
 }
 
 /// Appends a number in two's complement, or nothing.
-pub(crate) fn append_optional(field: u64, number: Option<i64>, out: &mut Vec<u8>) -> Result<(), AllocError>
+pub(crate) fn append_optional(
+    field: u64,
+    number: Option<i64>,
+    out: &mut Vec<u8>,
+) -> Result<(), AllocError>
     requires { field < 2 ^ 32 }
     ensures { OnOk result (out.new.items ≡ out.old.items ++ optional (int_field field) number) }
 {

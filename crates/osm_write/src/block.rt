@@ -7,16 +7,15 @@ ghost use Rattle.osm_write.specs.Scale.{view};
 ghost use Rattle.osm_write.specs.Canon.{bytes_field, group_bytes, groups_of, granularity_field, block_bytes, canon};
 ghost use Rattle.osm_write.specs.Write.{IsFault};
 
-use std::alloc::{AllocError, Global};
-
 use crate::append::{append_bytes, append_number};
 use crate::collect::scale_of;
-use osm_value::Element;
 use crate::fault::WriteFault;
 use crate::group::append_group;
 use crate::groups::run_len;
 use crate::message::Scratch;
 use crate::scale::Scale;
+use osm_value::Element;
+use std::alloc::{AllocError, Global};
 
 /// What a raw payload may hold.
 const MAX_BLOCK_LEN: usize = 33_554_431;
@@ -39,7 +38,13 @@ fn append_table(alloc: Global, scale: &Scale, out: &mut Vec<u8>) -> Result<(), A
     append_bytes(1, &table, out)
 }
 
-fn append_groups(alloc: Global, scale: &Scale, elements: &[Element], scratch: &mut Scratch, out: &mut Vec<u8>) -> Result<(), AllocError>
+fn append_groups(
+    alloc: Global,
+    scale: &Scale,
+    elements: &[Element],
+    scratch: &mut Scratch,
+    out: &mut Vec<u8>,
+) -> Result<(), AllocError>
     ensures { OnOk result (out.new.items ≡ out.old.items ++ flat_map (λ g. bytes_field 2 (group_bytes (view scale.now) g)) (groups_of elements.now)) }
 {
     let mut group = Vec::new(alloc);
@@ -55,7 +60,12 @@ fn append_groups(alloc: Global, scale: &Scale, elements: &[Element], scratch: &m
     Ok(())
 }
 
-fn append_granularity(field: u64, default: u64, granularity: u64, out: &mut Vec<u8>) -> Result<(), AllocError>
+fn append_granularity(
+    field: u64,
+    default: u64,
+    granularity: u64,
+    out: &mut Vec<u8>,
+) -> Result<(), AllocError>
     requires { field < 4294967296 }
     ensures { OnOk result (out.new.items ≡ out.old.items ++ granularity_field field default granularity) }
 {

@@ -8,11 +8,10 @@ ghost use Rattle.osm_write.specs.Texts.{with_texts};
 ghost use Rattle.osm_write.specs.Scale.{view};
 ghost use Rattle.osm_write.specs.Canon.{tag_texts, texts_of, places_of, info_of, scale_of};
 
-use std::alloc::{AllocError, Global};
-
-use osm_value::{Element, Info, Member};
 use crate::scale::Scale;
 use crate::texts::TextTable;
+use osm_value::{Element, Info, Member};
+use std::alloc::{AllocError, Global};
 
 fn add_tags<'a>(table: &mut TextTable<'a>, tags: &[(&'a str, &'a str)]) -> Result<(), AllocError>
     ensures { OnOk result (table.new ≡ with_texts table.old (tag_texts (map (λ t. (t.0.now, t.1.now)) tags.now))) }

@@ -4,13 +4,11 @@ ghost use Rattle.std.specs.Prelude.{◌≡◌, ◌≤◌, List, length, take, dr
 ghost use Rattle.osm_value.specs.declared.element.Element.{Element};
 ghost use Rattle.osm_write.specs.Cutter.{StepOk, StepErr, NextOk};
 
-use std::alloc::Global;
-use std::marker::Model;
-
-use osm_value::Element;
-
 use crate::block::encode_block;
 use crate::fault::WriteFault;
+use osm_value::Element;
+use std::alloc::Global;
+use std::marker::Model;
 
 /// How many elements a block has at most.
 const MAX_ELEMENTS: usize = 8000;

@@ -8,13 +8,12 @@ ghost use Rattle.osm_write.specs.Arrays.{AllWide};
 ghost use Rattle.osm_write.specs.Scale.{view};
 ghost use Rattle.osm_write.specs.Canon.{dense_bytes, dense_info_bytes, raw_place, times_of, index_of, keys_vals_of, has_tags, tag_indexes, packed_field, delta_field, message_field};
 
-use std::alloc::{AllocError, Global};
-
 use crate::append::{append_deltas, append_message, append_packed};
-use osm_value::Node;
 use crate::message::Scratch;
 use crate::parts::{uid_of, version_number};
 use crate::scale::Scale;
+use osm_value::Node;
+use std::alloc::{AllocError, Global};
 
 #[tactic(auto, using(crate::proofs::Deltas::wide_push))]
 fn id_column(nodes: &[&Node], column: &mut Vec<i64>) -> Result<(), AllocError>
@@ -164,21 +163,34 @@ fn keys_vals(scale: &Scale, nodes: &[&Node], numbers: &mut Vec<u64>) -> Result<(
     }
 }
 
-fn append_versions(nodes: &[&Node], scratch: &mut Scratch, out: &mut Vec<u8>) -> Result<(), AllocError>
+fn append_versions(
+    nodes: &[&Node],
+    scratch: &mut Scratch,
+    out: &mut Vec<u8>,
+) -> Result<(), AllocError>
     ensures { OnOk result (out.new.items ≡ out.old.items ++ packed_field 1 (filter_map (λ (i : InfoValue). option_map (cast_unsigned w64) i.version) (map (λ n. n.now.info) nodes.now))) }
 {
     version_column(nodes, &mut scratch.numbers)?;
     append_packed(1, &scratch.numbers, &mut scratch.array, out)
 }
 
-fn append_times(scale: &Scale, nodes: &[&Node], scratch: &mut Scratch, out: &mut Vec<u8>) -> Result<(), AllocError>
+fn append_times(
+    scale: &Scale,
+    nodes: &[&Node],
+    scratch: &mut Scratch,
+    out: &mut Vec<u8>,
+) -> Result<(), AllocError>
     ensures { OnOk result (out.new.items ≡ out.old.items ++ delta_field 2 (filter_map (λ (i : InfoValue). times_of (view scale.now) i.time) (map (λ n. n.now.info) nodes.now))) }
 {
     time_column(scale, nodes, &mut scratch.column)?;
     append_deltas(2, &scratch.column, &mut scratch.array, out)
 }
 
-fn append_changesets(nodes: &[&Node], scratch: &mut Scratch, out: &mut Vec<u8>) -> Result<(), AllocError>
+fn append_changesets(
+    nodes: &[&Node],
+    scratch: &mut Scratch,
+    out: &mut Vec<u8>,
+) -> Result<(), AllocError>
     ensures { OnOk result (out.new.items ≡ out.old.items ++ delta_field 3 (filter_map (λ (i : InfoValue). i.changeset) (map (λ n. n.now.info) nodes.now))) }
 {
     changeset_column(nodes, &mut scratch.column)?;
@@ -192,7 +204,12 @@ fn append_uids(nodes: &[&Node], scratch: &mut Scratch, out: &mut Vec<u8>) -> Res
     append_deltas(4, &scratch.column, &mut scratch.array, out)
 }
 
-fn append_users(scale: &Scale, nodes: &[&Node], scratch: &mut Scratch, out: &mut Vec<u8>) -> Result<(), AllocError>
+fn append_users(
+    scale: &Scale,
+    nodes: &[&Node],
+    scratch: &mut Scratch,
+    out: &mut Vec<u8>,
+) -> Result<(), AllocError>
     ensures { OnOk result (out.new.items ≡ out.old.items ++ delta_field 5 (filter_map (λ (i : InfoValue). option_map (λ t. pos (index_of (view scale.now) t)) i.user) (map (λ n. n.now.info) nodes.now))) }
 {
     user_column(scale, nodes, &mut scratch.column)?;
@@ -206,21 +223,36 @@ fn append_ids(nodes: &[&Node], scratch: &mut Scratch, out: &mut Vec<u8>) -> Resu
     append_deltas(1, &scratch.column, &mut scratch.array, out)
 }
 
-fn append_lats(scale: &Scale, nodes: &[&Node], scratch: &mut Scratch, out: &mut Vec<u8>) -> Result<(), AllocError>
+fn append_lats(
+    scale: &Scale,
+    nodes: &[&Node],
+    scratch: &mut Scratch,
+    out: &mut Vec<u8>,
+) -> Result<(), AllocError>
     ensures { OnOk result (out.new.items ≡ out.old.items ++ delta_field 8 (map (λ (n : NodeValue). raw_place (view scale.now) n.lat) (map (λ n. n.now) nodes.now))) }
 {
     lat_column(scale, nodes, &mut scratch.column)?;
     append_deltas(8, &scratch.column, &mut scratch.array, out)
 }
 
-fn append_lons(scale: &Scale, nodes: &[&Node], scratch: &mut Scratch, out: &mut Vec<u8>) -> Result<(), AllocError>
+fn append_lons(
+    scale: &Scale,
+    nodes: &[&Node],
+    scratch: &mut Scratch,
+    out: &mut Vec<u8>,
+) -> Result<(), AllocError>
     ensures { OnOk result (out.new.items ≡ out.old.items ++ delta_field 9 (map (λ (n : NodeValue). raw_place (view scale.now) n.lon) (map (λ n. n.now) nodes.now))) }
 {
     lon_column(scale, nodes, &mut scratch.column)?;
     append_deltas(9, &scratch.column, &mut scratch.array, out)
 }
 
-fn append_dense_info(scale: &Scale, nodes: &[&Node], scratch: &mut Scratch, out: &mut Vec<u8>) -> Result<(), AllocError>
+fn append_dense_info(
+    scale: &Scale,
+    nodes: &[&Node],
+    scratch: &mut Scratch,
+    out: &mut Vec<u8>,
+) -> Result<(), AllocError>
     ensures { OnOk result (out.new.items ≡ out.old.items ++ dense_info_bytes (view scale.now) (map (λ n. n.now.info) nodes.now)) }
 {
     append_versions(nodes, scratch, out)?;
@@ -231,7 +263,13 @@ fn append_dense_info(scale: &Scale, nodes: &[&Node], scratch: &mut Scratch, out:
 }
 
 #[tactic(auto, using(crate::proofs::Joined::infos_of))]
-fn append_dense_info_message(alloc: Global, scale: &Scale, nodes: &[&Node], scratch: &mut Scratch, out: &mut Vec<u8>) -> Result<(), AllocError>
+fn append_dense_info_message(
+    alloc: Global,
+    scale: &Scale,
+    nodes: &[&Node],
+    scratch: &mut Scratch,
+    out: &mut Vec<u8>,
+) -> Result<(), AllocError>
     ensures { OnOk result (out.new.items ≡ out.old.items ++ message_field 5 (dense_info_bytes (view scale.now) (map (λ (n : NodeValue). n.info) (map (λ n. n.now) nodes.now)))) }
 {
     let mut message = Vec::new(alloc);
@@ -239,14 +277,25 @@ fn append_dense_info_message(alloc: Global, scale: &Scale, nodes: &[&Node], scra
     append_message(5, &message, out)
 }
 
-fn append_keys_vals(scale: &Scale, nodes: &[&Node], scratch: &mut Scratch, out: &mut Vec<u8>) -> Result<(), AllocError>
+fn append_keys_vals(
+    scale: &Scale,
+    nodes: &[&Node],
+    scratch: &mut Scratch,
+    out: &mut Vec<u8>,
+) -> Result<(), AllocError>
     ensures { OnOk result (out.new.items ≡ out.old.items ++ packed_field 10 (keys_vals_of (view scale.now) (map (λ n. n.now) nodes.now))) }
 {
     keys_vals(scale, nodes, &mut scratch.numbers)?;
     append_packed(10, &scratch.numbers, &mut scratch.array, out)
 }
 
-pub(crate) fn append_dense(alloc: Global, scale: &Scale, nodes: &[&Node], scratch: &mut Scratch, out: &mut Vec<u8>) -> Result<(), AllocError>
+pub(crate) fn append_dense(
+    alloc: Global,
+    scale: &Scale,
+    nodes: &[&Node],
+    scratch: &mut Scratch,
+    out: &mut Vec<u8>,
+) -> Result<(), AllocError>
     ensures { OnOk result (out.new.items ≡ out.old.items ++ dense_bytes (view scale.now) (map (λ n. n.now) nodes.now)) }
 {
     append_ids(nodes, scratch, out)?;

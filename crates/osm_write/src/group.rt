@@ -5,15 +5,17 @@ ghost use Rattle.std.specs.List.{flat_map, filter_map};
 ghost use Rattle.osm_write.specs.Scale.{view};
 ghost use Rattle.osm_write.specs.Canon.{group_bytes, way_or_relation, node_of, dense_bytes, message_field};
 
-use std::alloc::{AllocError, Global};
-
 use crate::append::{append_bytes, append_message};
 use crate::dense::append_dense;
-use osm_value::{Element, Node};
 use crate::message::{Scratch, append_relation, append_way};
 use crate::scale::Scale;
+use osm_value::{Element, Node};
+use std::alloc::{AllocError, Global};
 
-fn nodes_of<'s, 'a>(alloc: Global, elements: &'s [Element<'a>]) -> Result<Vec<&'s Node<'a>>, AllocError>
+fn nodes_of<'s, 'a>(
+    alloc: Global,
+    elements: &'s [Element<'a>],
+) -> Result<Vec<&'s Node<'a>>, AllocError>
     ensures { IfOk result (λ v. map (λ n. n.now) v.items ≡ filter_map node_of elements.now) }
 {
     let mut nodes = Vec::new(alloc);
@@ -25,7 +27,13 @@ fn nodes_of<'s, 'a>(alloc: Global, elements: &'s [Element<'a>]) -> Result<Vec<&'
     Ok(nodes)
 }
 
-fn append_nodes(alloc: Global, scale: &Scale, elements: &[Element], scratch: &mut Scratch, out: &mut Vec<u8>) -> Result<(), AllocError>
+fn append_nodes(
+    alloc: Global,
+    scale: &Scale,
+    elements: &[Element],
+    scratch: &mut Scratch,
+    out: &mut Vec<u8>,
+) -> Result<(), AllocError>
     ensures { OnOk result (out.new.items ≡ out.old.items ++ message_field 2 (dense_bytes (view scale.now) (filter_map node_of elements.now))) }
 {
     let nodes = nodes_of(alloc, elements)?;
@@ -35,7 +43,13 @@ fn append_nodes(alloc: Global, scale: &Scale, elements: &[Element], scratch: &mu
 }
 
 /// A way or a relation with its number and length; nothing for a node.
-fn append_element(scale: &Scale, element: &Element, scratch: &mut Scratch, message: &mut Vec<u8>, out: &mut Vec<u8>) -> Result<(), AllocError>
+fn append_element(
+    scale: &Scale,
+    element: &Element,
+    scratch: &mut Scratch,
+    message: &mut Vec<u8>,
+    out: &mut Vec<u8>,
+) -> Result<(), AllocError>
     ensures { OnOk result (out.new.items ≡ out.old.items ++ way_or_relation (view scale.now) element.now) }
 {
     message.clear();
@@ -52,7 +66,13 @@ fn append_element(scale: &Scale, element: &Element, scratch: &mut Scratch, messa
     }
 }
 
-fn append_elements(alloc: Global, scale: &Scale, elements: &[Element], scratch: &mut Scratch, out: &mut Vec<u8>) -> Result<(), AllocError>
+fn append_elements(
+    alloc: Global,
+    scale: &Scale,
+    elements: &[Element],
+    scratch: &mut Scratch,
+    out: &mut Vec<u8>,
+) -> Result<(), AllocError>
     ensures { OnOk result (out.new.items ≡ out.old.items ++ flat_map (way_or_relation (view scale.now)) elements.now) }
 {
     let mut message = Vec::new(alloc);
@@ -62,7 +82,13 @@ fn append_elements(alloc: Global, scale: &Scale, elements: &[Element], scratch: 
     Ok(())
 }
 
-pub(crate) fn append_group(alloc: Global, scale: &Scale, elements: &[Element], scratch: &mut Scratch, out: &mut Vec<u8>) -> Result<(), AllocError>
+pub(crate) fn append_group(
+    alloc: Global,
+    scale: &Scale,
+    elements: &[Element],
+    scratch: &mut Scratch,
+    out: &mut Vec<u8>,
+) -> Result<(), AllocError>
     ensures { OnOk result (out.new.items ≡ out.old.items ++ group_bytes (view scale.now) elements.now) }
 {
     append_nodes(alloc, scale, elements, scratch, out)?;

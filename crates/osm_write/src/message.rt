@@ -6,12 +6,13 @@ ghost use Rattle.osm_write.specs.Arrays.{AllWide};
 ghost use Rattle.osm_write.specs.Scale.{view};
 ghost use Rattle.osm_write.specs.Canon.{index_of, info_bytes, head_bytes, way_bytes, tag_texts, packed_field, message_field, members_bytes, relation_bytes, number_of_kind};
 
-use std::alloc::{AllocError, Global};
-
-use crate::append::{append_deltas, append_int, append_message, append_number, append_optional, append_packed};
-use osm_value::{Info, Member, MemberKind, Relation, Way};
+use crate::append::{
+    append_deltas, append_int, append_message, append_number, append_optional, append_packed,
+};
 use crate::parts::{uid_of, version_of};
 use crate::scale::Scale;
+use osm_value::{Info, Member, MemberKind, Relation, Way};
+use std::alloc::{AllocError, Global};
 
 /// Vectors that are used again for each message.
 #[derive(Drop)]
@@ -46,7 +47,11 @@ fn append_info(scale: &Scale, info: &Info, out: &mut Vec<u8>) -> Result<(), Allo
     }
 }
 
-fn index_keys(scale: &Scale, tags: &[(&str, &str)], numbers: &mut Vec<u64>) -> Result<(), AllocError>
+fn index_keys(
+    scale: &Scale,
+    tags: &[(&str, &str)],
+    numbers: &mut Vec<u64>,
+) -> Result<(), AllocError>
     ensures { OnOk result (numbers.new.items ≡ map (λ (t : Text × Text). index_of (view scale.now) t.0) (map (λ t. (t.0.now, t.1.now)) tags.now)) }
 {
     numbers.clear();
@@ -56,7 +61,11 @@ fn index_keys(scale: &Scale, tags: &[(&str, &str)], numbers: &mut Vec<u64>) -> R
     Ok(())
 }
 
-fn index_values(scale: &Scale, tags: &[(&str, &str)], numbers: &mut Vec<u64>) -> Result<(), AllocError>
+fn index_values(
+    scale: &Scale,
+    tags: &[(&str, &str)],
+    numbers: &mut Vec<u64>,
+) -> Result<(), AllocError>
     ensures { OnOk result (numbers.new.items ≡ map (λ (t : Text × Text). index_of (view scale.now) t.1) (map (λ t. (t.0.now, t.1.now)) tags.now)) }
 {
     numbers.clear();
@@ -66,21 +75,36 @@ fn index_values(scale: &Scale, tags: &[(&str, &str)], numbers: &mut Vec<u64>) ->
     Ok(())
 }
 
-fn append_keys(scale: &Scale, tags: &[(&str, &str)], scratch: &mut Scratch, out: &mut Vec<u8>) -> Result<(), AllocError>
+fn append_keys(
+    scale: &Scale,
+    tags: &[(&str, &str)],
+    scratch: &mut Scratch,
+    out: &mut Vec<u8>,
+) -> Result<(), AllocError>
     ensures { OnOk result (out.new.items ≡ out.old.items ++ packed_field 2 (map (λ (t : Text × Text). index_of (view scale.now) t.0) (map (λ t. (t.0.now, t.1.now)) tags.now))) }
 {
     index_keys(scale, tags, &mut scratch.numbers)?;
     append_packed(2, &scratch.numbers, &mut scratch.array, out)
 }
 
-fn append_values(scale: &Scale, tags: &[(&str, &str)], scratch: &mut Scratch, out: &mut Vec<u8>) -> Result<(), AllocError>
+fn append_values(
+    scale: &Scale,
+    tags: &[(&str, &str)],
+    scratch: &mut Scratch,
+    out: &mut Vec<u8>,
+) -> Result<(), AllocError>
     ensures { OnOk result (out.new.items ≡ out.old.items ++ packed_field 3 (map (λ (t : Text × Text). index_of (view scale.now) t.1) (map (λ t. (t.0.now, t.1.now)) tags.now))) }
 {
     index_values(scale, tags, &mut scratch.numbers)?;
     append_packed(3, &scratch.numbers, &mut scratch.array, out)
 }
 
-fn append_info_message(scale: &Scale, info: &Info, bytes: &mut Vec<u8>, out: &mut Vec<u8>) -> Result<(), AllocError>
+fn append_info_message(
+    scale: &Scale,
+    info: &Info,
+    bytes: &mut Vec<u8>,
+    out: &mut Vec<u8>,
+) -> Result<(), AllocError>
     ensures { OnOk result (out.new.items ≡ out.old.items ++ message_field 4 (info_bytes (view scale.now) info.now)) }
 {
     bytes.clear();
@@ -88,7 +112,14 @@ fn append_info_message(scale: &Scale, info: &Info, bytes: &mut Vec<u8>, out: &mu
     append_message(4, bytes, out)
 }
 
-fn append_head(scale: &Scale, id: i64, tags: &[(&str, &str)], info: &Info, scratch: &mut Scratch, out: &mut Vec<u8>) -> Result<(), AllocError>
+fn append_head(
+    scale: &Scale,
+    id: i64,
+    tags: &[(&str, &str)],
+    info: &Info,
+    scratch: &mut Scratch,
+    out: &mut Vec<u8>,
+) -> Result<(), AllocError>
     ensures { OnOk result (out.new.items ≡ out.old.items ++ head_bytes (view scale.now) id (map (λ t. (t.0.now, t.1.now)) tags.now) info.now) }
 {
     append_int(1, id, out)?;
@@ -97,7 +128,12 @@ fn append_head(scale: &Scale, id: i64, tags: &[(&str, &str)], info: &Info, scrat
     append_info_message(scale, info, &mut scratch.info, out)
 }
 
-pub(crate) fn append_way(scale: &Scale, way: &Way, scratch: &mut Scratch, out: &mut Vec<u8>) -> Result<(), AllocError>
+pub(crate) fn append_way(
+    scale: &Scale,
+    way: &Way,
+    scratch: &mut Scratch,
+    out: &mut Vec<u8>,
+) -> Result<(), AllocError>
     ensures { OnOk result (out.new.items ≡ out.old.items ++ way_bytes (view scale.now) way.now) }
 {
     append_head(scale, way.id(), way.tags(), way.info(), scratch, out)?;
@@ -140,7 +176,12 @@ fn member_ids(members: &[Member], column: &mut Vec<i64>) -> Result<(), AllocErro
     Ok(())
 }
 
-fn append_members(scale: &Scale, members: &[Member], scratch: &mut Scratch, out: &mut Vec<u8>) -> Result<(), AllocError>
+fn append_members(
+    scale: &Scale,
+    members: &[Member],
+    scratch: &mut Scratch,
+    out: &mut Vec<u8>,
+) -> Result<(), AllocError>
     ensures { OnOk result (out.new.items ≡ out.old.items ++ members_bytes (view scale.now) members.now) }
 {
     index_roles(scale, members, &mut scratch.numbers)?;
@@ -151,9 +192,21 @@ fn append_members(scale: &Scale, members: &[Member], scratch: &mut Scratch, out:
     append_packed(10, &scratch.numbers, &mut scratch.array, out)
 }
 
-pub(crate) fn append_relation(scale: &Scale, relation: &Relation, scratch: &mut Scratch, out: &mut Vec<u8>) -> Result<(), AllocError>
+pub(crate) fn append_relation(
+    scale: &Scale,
+    relation: &Relation,
+    scratch: &mut Scratch,
+    out: &mut Vec<u8>,
+) -> Result<(), AllocError>
     ensures { OnOk result (out.new.items ≡ out.old.items ++ relation_bytes (view scale.now) relation.now) }
 {
-    append_head(scale, relation.id(), relation.tags(), relation.info(), scratch, out)?;
+    append_head(
+        scale,
+        relation.id(),
+        relation.tags(),
+        relation.info(),
+        scratch,
+        out,
+    )?;
     append_members(scale, relation.members(), scratch, out)
 }
