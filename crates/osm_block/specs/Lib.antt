@@ -5,3 +5,7 @@ pub mod Block
 pub mod Phases
 pub mod Vectors
 pub mod VectorElements
+pub mod HeaderBlock
+pub mod HeaderVectors
+pub mod HeaderPayloads
+pub mod HeaderTexts

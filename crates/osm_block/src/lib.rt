@@ -2,5 +2,8 @@
 #![tactic(auto)]
 
 mod fault;
+mod header;
+mod readings;
 
 pub use fault::{BlockError, BlockFault};
+pub use header::{BBox, HeaderBlock, HeaderFault, Texts, read_header_block};
