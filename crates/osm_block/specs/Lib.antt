@@ -9,3 +9,8 @@ pub mod HeaderBlock
 pub mod HeaderVectors
 pub mod HeaderPayloads
 pub mod HeaderTexts
+pub mod Fields
+pub mod Reads
+pub mod Parts
+pub mod Head
+pub mod Texts

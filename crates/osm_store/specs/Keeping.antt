@@ -1,0 +1,64 @@
+-- What the calls of a keeper leave.
+use Rattle.std.specs.Prelude.{◌≡◌, ◌⊎◌, ℕ, ◌+◌, ◌-◌, ◌^◌, ◌==◌, Bool, ◌&&◌, nat_lt, List, map, length, Result, Ok, Err, if◌then◌else◌, OnOk, OnErr, IfErr}
+use Rattle.std.specs.FinMap.{entries, insert}
+use Rattle.osm_store.specs.Held.{Blob, HeldMap, IsFree}
+use Rattle.osm_store.specs.declared.keeper.Extent.{Extent}
+use Rattle.osm_store.specs.declared.fault.StoreFault.{StoreFault}
+use Rattle.osm_store.specs.declared.fault.StoreFault.TheVariants.{NotThisStore}
+
+-- the extent of a held blob
+abbrev pub extent_of : ℕ × Blob → Extent
+extent_of (off, blob) = record { off = off; fin = blob.fin; digest = blob.digest; kind = blob.kind; n = length blob.elements }
+
+-- all held extents, ascending
+abbrev pub extents_of : HeldMap → List Extent
+extents_of held = map extent_of (entries held)
+
+-- whether the extent shares a byte with from..to
+abbrev pub touches : ℕ → ℕ → Extent → Bool
+touches from to extent = nat_lt extent.off to && nat_lt from extent.fin
+
+-- the count of failed calls after one more call; it stays at 2 ^ 64 - 1
+abbrev pub failures_after : {T : Type 0} → Result T StoreFault → ℕ → ℕ
+failures_after (Ok _) count = count
+failures_after (Err _) count = if count == 2 ^ 64 - 1 then count else count + 1
+
+-- the tables are found to be another store's
+abbrev pub IsForeign : StoreFault → Type 0
+IsForeign (NotThisStore found) = Unit {0}
+IsForeign _ = ⊥
+
+-- the call has kept what the store holds, if it can go on, and what a crash may leave, and has counted its failure
+pub record OnlyReads {S T : Type 0} (holds leaves : S → HeldMap → Type 0) (leaves_a_map is_honest is_open : S → Type 0) (failures : S → ℕ) (old : S) (result : Result T StoreFault) (new : S) : Type 0 where
+  pub honest : is_honest new → is_honest old
+  pub open_if : is_open new → is_open old
+  pub ok : OnOk result (is_honest new → (held : HeldMap) → holds old held → holds new held)
+  pub err : OnErr result (is_honest new → is_open new → (held : HeldMap) → holds old held → holds new held)
+  pub crash : is_honest new → (held : HeldMap) → leaves new held → leaves old held
+  pub whole : is_honest new → leaves_a_map old → leaves_a_map new
+  pub own : (held : HeldMap) → holds old held → is_honest new → IfErr result (λ fault. ¬ (IsForeign fault))
+  pub counted : failures new ≡ failures_after result (failures old)
+
+-- any number of reads has kept what the store holds, if it can go on, and what a crash may leave
+pub record Rereads {S T E : Type 0} (holds leaves : S → HeldMap → Type 0) (leaves_a_map is_honest is_open : S → Type 0) (old : S) (result : Result T E) (new : S) : Type 0 where
+  pub honest : is_honest new → is_honest old
+  pub open_if : is_open new → is_open old
+  pub ok : OnOk result (is_honest new → (held : HeldMap) → holds old held → holds new held)
+  pub err : OnErr result (is_honest new → is_open new → (held : HeldMap) → holds old held → holds new held)
+  pub crash : is_honest new → (held : HeldMap) → leaves new held → leaves old held
+  pub whole : is_honest new → leaves_a_map old → leaves_a_map new
+
+-- the map with one more blob
+abbrev pub with_blob : HeldMap → ℕ → Blob → HeldMap
+with_blob held off blob = insert held off blob
+
+-- the call adds the blob at a free place, or has failed. A crash leaves what it left before or the new map
+pub record Adds {S T : Type 0} (holds leaves : S → HeldMap → Type 0) (leaves_a_map is_honest is_open : S → Type 0) (failures : S → ℕ) (off : ℕ) (blob : Blob) (old : S) (result : Result T StoreFault) (new : S) : Type 0 where
+  pub honest : is_honest new → is_honest old
+  pub open_if : is_open new → is_open old
+  pub ok : OnOk result (is_honest new → (held : HeldMap) → holds old held → IsFree held off blob.fin → holds new (with_blob held off blob))
+  pub err : OnErr result (is_honest new → is_open new → (held : HeldMap) → holds old held → IsFree held off blob.fin → holds new held)
+  pub crash : is_honest new → (held left : HeldMap) → holds old held → IsFree held off blob.fin → leaves new left → leaves old left ⊎ (left ≡ with_blob held off blob)
+  pub whole : is_honest new → (held : HeldMap) → holds old held → IsFree held off blob.fin → leaves_a_map new
+  pub own : (held : HeldMap) → holds old held → is_honest new → IsFree held off blob.fin → IfErr result (λ fault. ¬ (IsForeign fault))
+  pub counted : failures new ≡ failures_after result (failures old)

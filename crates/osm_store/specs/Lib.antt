@@ -1,0 +1,4 @@
+pub mod Held
+pub mod Keeping
+pub mod HeldLaws
+pub mod Loading

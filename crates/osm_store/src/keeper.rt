@@ -1,0 +1,96 @@
+//! What the importer asks of a store.
+ghost use Rattle.std.specs.Prelude.{◌≡◌, ◌⊎◌, ℕ, ◌^◌, ◌<◌, ◌≤◌, Some, OnOk, OnErr, IfOk, filter, length};
+ghost use Rattle.std.specs.FinMap as map;
+ghost use Rattle.osm_store.specs.Held.{Blob, HeldMap, IsFree, IsApart, HaveFewTexts};
+ghost use Rattle.osm_store.specs.Loading.{HasRowsOf};
+ghost use Rattle.osm_store.specs.Keeping.{extents_of, touches, OnlyReads, Adds};
+
+use crate::fault::StoreFault;
+use crate::loaded::Loaded;
+use osm_value::Element;
+use pbf_frame::Kind;
+use std::alloc::Global;
+
+/// Where a held blob stands.
+#[derive(Clone, Copy, Debug, PartialEq, Eq)]
+pub struct Extent {
+    pub off: u64,
+    pub fin: u64,
+    pub digest: [u8; 32],
+    pub kind: Kind,
+    pub n: u64,
+}
+
+/// A store of blobs, which stands for a finite map from offsets.
+pub trait Keeper {
+    /// The store can go on, and its tables' rows are those of this map.
+    ghost holds: { Self → HeldMap → Type 0 };
+
+    /// A crash now may leave this map for the next opening.
+    ghost leaves: { Self → HeldMap → Type 0 };
+
+    /// Whatever a crash now leaves, the tables' rows are those of a map.
+    ghost leaves_a_map: { Self → Type 0 };
+
+    /// So far the disk has returned what was written.
+    ghost is_honest: { Self → Type 0 };
+
+    /// The store needn't be opened again.
+    ghost is_open: { Self → Type 0 };
+
+    /// How many calls have answered a fault, up to 2 ^ 64 - 1.
+    ghost failures: { Self → ℕ };
+
+    /// All held extents, ascending.
+    fn extents(&mut self, alloc: Global) -> Result<Vec<Extent>, StoreFault>
+        ensures all { (held : HeldMap) → holds self.old held → is_honest self.new
+            → IfOk result (λ extents. extents.items ≡ extents_of held) }
+        ensures reads { OnlyReads holds leaves leaves_a_map is_honest is_open failures self.old result self.new };
+
+    /// The held extents that share a byte with `from..to`, ascending.
+    fn extents_touching(
+        &mut self,
+        alloc: Global,
+        from: u64,
+        to: u64,
+    ) -> Result<Vec<Extent>, StoreFault>
+        requires order { from < to }
+        requires limit { to ≤ 2 ^ 62 }
+        ensures touching { (held : HeldMap) → holds self.old held → is_honest self.new
+            → IfOk result (λ extents. extents.items ≡ filter (touches from to) (extents_of held)) }
+        ensures reads { OnlyReads holds leaves leaves_a_map is_honest is_open failures self.old result self.new };
+
+    /// The rows of the blob that is held at an offset.
+    fn load(&mut self, alloc: Global, off: u64) -> Result<Loaded, StoreFault>
+        ensures rows { (held : HeldMap) (blob : Blob) → holds self.old held → is_honest self.new
+            → map.get held off ≡ Some blob → IfOk result (λ loaded. HasRowsOf loaded blob.elements) }
+        ensures reads { OnlyReads holds leaves leaves_a_map is_honest is_open failures self.old result self.new };
+
+    /// Adds a blob where no held extent is touched.
+    fn put(
+        &mut self,
+        alloc: Global,
+        off: u64,
+        fin: u64,
+        digest: &[u8; 32],
+        kind: Kind,
+        elements: &[Element],
+    ) -> Result<(), StoreFault>
+        requires order { off < fin }
+        requires limit { fin ≤ 2 ^ 62 }
+        requires texts { HaveFewTexts elements.now }
+        ensures adds { Adds holds leaves leaves_a_map is_honest is_open failures off
+            (record { fin = fin; digest = digest.now; kind = kind; elements = elements.now }) self.old result self.new };
+
+    /// How many calls have answered a fault, up to 2 ^ 64 - 1.
+    fn failures(&self) -> u64
+        ensures { result ≡ failures self.now };
+
+    /// While the store can go on, a crash leaves what it holds and nothing else.
+    ghost settled: { (store : Self) (held left : HeldMap) → holds store held → leaves store left → left ≡ held };
+
+    ghost leaves_held: { (store : Self) (held : HeldMap) → holds store held → leaves_a_map store };
+
+    /// A map that is held is one of extents that don't meet.
+    ghost is_apart: { (store : Self) (held : HeldMap) → holds store held → IsApart held };
+}

@@ -1,0 +1,35 @@
+-- How a list of elements is cut into blocks: the next 8,000 elements, or all that are left, and half as many while their block is too large.
+use Rattle.std.specs.Prelude.{◌≡◌, ℕ, zero, suc, ◌/◌, ◌<◌, ◌≤◌, nat_lt, List, [], ◌∷◌, length, take, drop, min, Option, Some, None, if◌then◌else◌}
+use Rattle.osm_value.specs.declared.element.Element.{Element}
+use Rattle.osm_write.specs.declared.fault.WriteFault.{WriteFault}
+use Rattle.osm_write.specs.declared.fault.WriteFault.TheVariants.{BlockTooLarge, Memory}
+use Rattle.std.specs.Prelude.{Vec}
+use Rattle.osm_write.specs.Canon.{canon}
+
+abbrev pub is_too_large : List Element → ℕ → Type 0
+is_too_large es count = 33554431 < length (canon (take count es))
+
+-- `count` came from `from` by halving, and the block of each number before it is too large
+pub data Halved (es : List Element) : ℕ → ℕ → Type 0 where
+  Start : (count : ℕ) → Halved es count count
+  Half : (start count : ℕ) → Halved es start count → is_too_large es count → Halved es start (count / 2)
+
+abbrev pub first_count : List Element → ℕ
+first_count es = min (length es) 8000
+
+-- the block has the first of these counts whose block isn't too large
+pub record StepOk (es : List Element) (block : List ℕ) (count : ℕ) : Type 0 where
+  pub some : 1 ≤ count
+  pub within : count ≤ length es
+  pub halved : Halved es (first_count es) count
+  pub block_is : block ≡ canon (take count es)
+  pub fits : length block ≤ 33554431
+
+-- the first element alone is too large
+abbrev pub StepErr : List Element → WriteFault → Type 0
+StepErr es BlockTooLarge = is_too_large es 1
+StepErr es Memory = Unit {0}
+
+abbrev pub NextOk : {Z : Type 0} → List Element → List Element → Option (Vec ℕ Z) → Type 0
+NextOk es rest None = (es ≡ []) × (rest ≡ [])
+NextOk es rest (Some block) = (count : ℕ) × StepOk es block.items count × (rest ≡ drop count es)
