@@ -7,3 +7,4 @@ pub mod BlockJoined
 pub mod TextsRead
 pub mod GroupsJoin
 pub mod NumbersRead
+pub mod Written
