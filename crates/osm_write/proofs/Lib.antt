@@ -7,4 +7,3 @@ pub mod BlockJoined
 pub mod TextsRead
 pub mod GroupsJoin
 pub mod NumbersRead
-pub mod Written
