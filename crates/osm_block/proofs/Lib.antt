@@ -1,3 +1,4 @@
+pub mod HeaderLemmas
 pub mod RowLemmas
 pub mod ReadingLemmas
 pub mod FieldLemmas

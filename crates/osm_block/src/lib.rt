@@ -7,6 +7,7 @@ mod deltas;
 mod dense;
 mod fault;
 mod group;
+mod header;
 mod info;
 pub mod laws;
 mod node;
@@ -21,6 +22,7 @@ mod way;
 
 pub use block::read_block;
 pub use fault::{BlockError, BlockFault};
+pub use header::{BBox, HeaderBlock, HeaderFault, Texts, read_header_block};
 
 #[cfg(test)]
 mod tests;
