@@ -56,11 +56,11 @@ pub info_taken : (old new : InfoFields) (p : List ℕ) (left rest whole : List E
     new.numbers ≡ info_after old.numbers (fields p) → new.fault ≡ option_or old.fault (wire p) → InfoLeft old 4 left whole → InfoLeft new 4 rest whole
 info_taken old new p left rest whole e numbers fault h = record {
   numbers = ap (λ i. info_after i (flat_map fields (each rest 4))) numbers
-    ∙ info_after-append old.numbers (fields p) (flat_map fields (each rest 4))
-    ∙ sym (ap (λ l. info_after old.numbers (flat_map fields (each l 4))) e) ∙ h.numbers;
+      ∙ info_after-append old.numbers (fields p) (flat_map fields (each rest 4))
+      ∙ sym (ap (λ l. info_after old.numbers (flat_map fields (each l 4))) e) ∙ h.numbers;
   fault = ap (λ f. option_or f (first_there (map wire (each rest 4)))) fault
-    ∙ option_or-assoc old.fault (wire p) (first_there (map wire (each rest 4)))
-    ∙ sym (ap (λ l. option_or old.fault (first_there (map wire (each l 4)))) e) ∙ h.fault;
+      ∙ option_or-assoc old.fault (wire p) (first_there (map wire (each rest 4)))
+      ∙ sym (ap (λ l. option_or old.fault (first_there (map wire (each l 4)))) e) ∙ h.fault;
 }
 
 -- ---- nothing is left
@@ -90,8 +90,14 @@ pub info_read : (info : InfoFields) (whole : List Entry) → InfoLeft info 4 [] 
 info_read info whole h =
     let fs : List Entry = sub whole 4 in
     ap info_message_of h.numbers
-    ∙ ap (λ v. record { version = option_map int32 (last fs 1); timestamp = option_map int64 (last fs 2); changeset = option_map int64 (last fs 3);
-      uid = option_map int32 (last fs 4); user_sid = option_map uint32 (last fs 5); is_visible_there = v }) (last_there (fitting number_of 6 fs))
+    ∙ ap (λ v. record {
+      version = option_map int32 (last fs 1);
+      timestamp = option_map int64 (last fs 2);
+      changeset = option_map int64 (last fs 3);
+      uid = option_map int32 (last fs 4);
+      user_sid = option_map uint32 (last fs 5);
+      is_visible_there = v;
+    }) (last_there (fitting number_of 6 fs))
 
 -- the messages
 
@@ -156,7 +162,7 @@ message_fault ks p none =
     first_of_wire (wires_with ks p)
     ∙ ap (λ o. option_map faults.Wire (option_or o (first_there (map wire (each (fields p) 4) ++ arrays ks (fields p))))) none
     ∙ ap (option_map faults.Wire) (first_there-append (map wire (each (fields p) 4)) (arrays ks (fields p))
-      ∙ ap (option_or (first_there (map wire (each (fields p) 4)))) (arrays_fault-is ks (fields p)))
+    ∙ ap (option_or (first_there (map wire (each (fields p) 4)))) (arrays_fault-is ks (fields p)))
 
 pub no_message : (ks : List ℕ) (p : List ℕ) (f : WireFault) → wire p ≡ Some f → first (wire_phases (wires_with ks p)) ≡ Some (faults.Wire f)
 no_message ks p f e = ap (λ o. first (option_map faults.Wire o ∷ wire_phases (map wire (each (fields p) 4) ++ arrays ks (fields p)))) e

@@ -86,7 +86,8 @@ info_is_in_range b m i h texts is_v is_t is_c is_u is_user unseen =
       changeset = ap (passes is_wide) is_c ∙ and_right (passes is_version i.version && passes is_wide i.time) (passes is_wide m.changeset) three;
       uid = ap (passes is_uid) is_u ∙ and_right (passes is_version i.version && passes is_wide i.time && passes is_wide m.changeset) (passes is_uid m.uid) all;
       user = user_in_range b.table i.user m.user_sid texts is_user;
-      visible = unseen }
+      visible = unseen;
+    }
 
 pub info_time : (b : Context) (m : InfoMessage) → info_in_range b m ≡ true → passes (λ t. is_wide (time b.date_granularity t)) m.timestamp ≡ true
 info_time b m h =

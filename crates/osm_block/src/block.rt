@@ -11,7 +11,6 @@ ghost use Rattle.osm_block.specs.Head.{HeadRead, head_phases};
 ghost use Rattle.osm_block.specs.Fields.{context_of};
 ghost use Rattle.osm_block.specs.Phases.{Gives, first, fault, text_phases};
 
-
 use crate::fault::{BlockError, BlockFault};
 use crate::group::{Parts, Scratch, read_groups, some_there};
 use crate::info::{optional_i32, optional_i64};

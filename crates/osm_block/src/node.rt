@@ -150,13 +150,7 @@ fn node_of<'a>(
     let tags = tags_of(alloc, table, &node.keys.numbers, &node.vals.numbers)?;
     let lat = place_of(scale.lat_offset, scale.granularity, lat);
     let lon = place_of(scale.lon_offset, scale.granularity, lon);
-    Ok(osm_value::Node::new(
-        id,
-        lat,
-        lon,
-        tags,
-        info_of(scale, info),
-    ))
+    Ok(osm_value::Node::new(id, lat, lon, tags, info_of(scale, info)))
 }
 
 /// The node that a payload stands to.

@@ -220,18 +220,8 @@ fn relation_of<'a>(
     }
     let roles = &relation.roles.numbers;
     let members = members_of(alloc, table, &memids, roles, &relation.types.numbers)?;
-    let tags = tags_of(
-        alloc,
-        table,
-        &relation.keys.numbers,
-        &relation.vals.numbers,
-    )?;
-    Ok(osm_value::Relation::new(
-        id,
-        members,
-        tags,
-        info_of(scale, info),
-    ))
+    let tags = tags_of(alloc, table, &relation.keys.numbers, &relation.vals.numbers)?;
+    Ok(osm_value::Relation::new(id, members, tags, info_of(scale, info)))
 }
 
 /// The relation that a payload stands to.

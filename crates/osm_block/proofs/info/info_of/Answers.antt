@@ -22,8 +22,10 @@ new-requires c =
     let units = option_map int64 c.args.info.now.timestamp in
     let time_is : c.time_of-time.result ≡ option_map (time c.args.scale.now.date_granularity) units = c.time_of-time.ensures ∙ ap (λ g. option_map (time g) units) same in
     let user_is = c.user_of-user.ensures ∙ ap (λ l. option_map (λ i. text_at (map (λ t. t.now) l) (uint32 i)) c.args.info.now.user_sid) c.deref.ensures.value ∙ user_text _ c.args.info.now.user_sid in
-    record { in_range = info_is_in_range (context_of c.args.scale.now) (info_message_of c.args.info.now) _ c.requires.in_range c.args.scale.now.texts
-      c.version_of-version.ensures time_is c.optional_i64.ensures c.optional_i32.ensures user_is refl }
+    record {
+      in_range = info_is_in_range (context_of c.args.scale.now) (info_message_of c.args.info.now) _ c.requires.in_range c.args.scale.now.texts
+          c.version_of-version.ensures time_is c.optional_i64.ensures c.optional_i32.ensures user_is refl;
+    }
 
 pub returns : goal.returns
 returns c =
@@ -40,5 +42,5 @@ returns c =
       user_is = user_is;
       no_visible = c.requires.no_visible;
       in_range = info_is_in_range (context_of c.args.scale.now) (info_message_of c.args.info.now) _ c.requires.in_range c.args.scale.now.texts
-        c.version_of-version.ensures time_is c.optional_i64.ensures c.optional_i32.ensures user_is refl;
+          c.version_of-version.ensures time_is c.optional_i64.ensures c.optional_i32.ensures user_is refl;
     })

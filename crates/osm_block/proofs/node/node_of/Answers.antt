@@ -20,9 +20,12 @@ returns-then-not-node_in_range c =
     let lat_fits : FitsSigned w64 c.in-Some-optional_unzigzag.lat = search rules in
     let lon_fits : FitsSigned w64 c.in-Some-optional_unzigzag-2.lon = search rules in
     let read : NodeRead (context_of c.args.scale.now) (node_message_of c.args.node.now) c.in-Some.id c.in-Some-optional_unzigzag.lat c.in-Some-optional_unzigzag-2.lon = record {
-      visible = sym c.is_some.ensures ∙ c.if-is_some.false; there = sym c.optional_unzigzag.ensures ∙ c.in-Some.is;
-      lat_there = sym c.optional_unzigzag-2.ensures ∙ c.in-Some-optional_unzigzag.is; lon_there = sym c.optional_unzigzag-3.ensures ∙ c.in-Some-optional_unzigzag-2.is;
-      even = even_from _ _ (omega arith) } in
+      visible = sym c.is_some.ensures ∙ c.if-is_some.false;
+      there = sym c.optional_unzigzag.ensures ∙ c.in-Some.is;
+      lat_there = sym c.optional_unzigzag-2.ensures ∙ c.in-Some-optional_unzigzag.is;
+      lon_there = sym c.optional_unzigzag-3.ensures ∙ c.in-Some-optional_unzigzag-2.is;
+      even = even_from _ _ (omega arith);
+    } in
     let range = range_is _ _ _ _ _ _ _ _ _ read (to_z-of_z w64 _ fits) (to_z-of_z w64 _ lat_fits) (to_z-of_z w64 _ lon_fits) c.node_in_range.ensures in
     fails_range _ _ _ _ _ _ read range c.if-not-node_in_range.true
 
@@ -32,9 +35,12 @@ returns-then-not-indexes_fit c =
     let lat_fits : FitsSigned w64 c.in-Some-optional_unzigzag.lat = search rules in
     let lon_fits : FitsSigned w64 c.in-Some-optional_unzigzag-2.lon = search rules in
     let read : NodeRead (context_of c.args.scale.now) (node_message_of c.args.node.now) c.in-Some.id c.in-Some-optional_unzigzag.lat c.in-Some-optional_unzigzag-2.lon = record {
-      visible = sym c.is_some.ensures ∙ c.if-is_some.false; there = sym c.optional_unzigzag.ensures ∙ c.in-Some.is;
-      lat_there = sym c.optional_unzigzag-2.ensures ∙ c.in-Some-optional_unzigzag.is; lon_there = sym c.optional_unzigzag-3.ensures ∙ c.in-Some-optional_unzigzag-2.is;
-      even = even_from _ _ (omega arith) } in
+      visible = sym c.is_some.ensures ∙ c.if-is_some.false;
+      there = sym c.optional_unzigzag.ensures ∙ c.in-Some.is;
+      lat_there = sym c.optional_unzigzag-2.ensures ∙ c.in-Some-optional_unzigzag.is;
+      lon_there = sym c.optional_unzigzag-3.ensures ∙ c.in-Some-optional_unzigzag-2.is;
+      even = even_from _ _ (omega arith);
+    } in
     let range = range_is _ _ _ _ _ _ _ _ _ read (to_z-of_z w64 _ fits) (to_z-of_z w64 _ lat_fits) (to_z-of_z w64 _ lon_fits) c.node_in_range.ensures in
     fails_index _ _ _ _ _ _ _ _ read range c.if-not-node_in_range.false (ap length c.deref-table.ensures.value ∙ sym (length-map _ (λ t. t.now)))
     (c.indexes_fit.ensures ∙ indexes_are _ c.args.node.now.keys.numbers.items c.args.node.now.vals.numbers.items c.args.node.now.info.numbers.user_sid) c.if-not-indexes_fit.true
@@ -44,8 +50,8 @@ place_of-lat-requires c =
     let offset_fits : FitsSigned w64 c.args.scale.now.lat_offset = search rules in
     let unit_fits : FitsSigned w32 c.args.scale.now.granularity = search rules in
     let passed = four (is_wide (to_z w64 (of_z w64 c.in-Some.id))) (place_in_range c.args.scale.now.lat_offset c.args.scale.now.granularity (to_z w64 (of_z w64 c.in-Some-optional_unzigzag.lat)))
-        (place_in_range c.args.scale.now.lon_offset c.args.scale.now.granularity (to_z w64 (of_z w64 c.in-Some-optional_unzigzag-2.lon))) (info_in_range (context_of c.args.scale.now) (info_message_of c.args.node.now.info.numbers))
-        (sym c.node_in_range.ensures ∙ c.if-not-node_in_range.false) in
+    (place_in_range c.args.scale.now.lon_offset c.args.scale.now.granularity (to_z w64 (of_z w64 c.in-Some-optional_unzigzag-2.lon))) (info_in_range (context_of c.args.scale.now) (info_message_of c.args.node.now.info.numbers))
+    (sym c.node_in_range.ensures ∙ c.if-not-node_in_range.false) in
     ap (λ x. place_in_range x (to_z w32 (of_z w32 c.args.scale.now.granularity)) (to_z w64 (of_z w64 c.in-Some-optional_unzigzag.lat))) (to_z-of_z w64 c.args.scale.now.lat_offset offset_fits)
     ∙ ap (λ x. place_in_range c.args.scale.now.lat_offset x (to_z w64 (of_z w64 c.in-Some-optional_unzigzag.lat))) (to_z-of_z w32 c.args.scale.now.granularity unit_fits) ∙ passed.1
 
@@ -54,16 +60,16 @@ place_of-lon-requires c =
     let offset_fits : FitsSigned w64 c.args.scale.now.lon_offset = search rules in
     let unit_fits : FitsSigned w32 c.args.scale.now.granularity = search rules in
     let passed = four (is_wide (to_z w64 (of_z w64 c.in-Some.id))) (place_in_range c.args.scale.now.lat_offset c.args.scale.now.granularity (to_z w64 (of_z w64 c.in-Some-optional_unzigzag.lat)))
-        (place_in_range c.args.scale.now.lon_offset c.args.scale.now.granularity (to_z w64 (of_z w64 c.in-Some-optional_unzigzag-2.lon))) (info_in_range (context_of c.args.scale.now) (info_message_of c.args.node.now.info.numbers))
-        (sym c.node_in_range.ensures ∙ c.if-not-node_in_range.false) in
+    (place_in_range c.args.scale.now.lon_offset c.args.scale.now.granularity (to_z w64 (of_z w64 c.in-Some-optional_unzigzag-2.lon))) (info_in_range (context_of c.args.scale.now) (info_message_of c.args.node.now.info.numbers))
+    (sym c.node_in_range.ensures ∙ c.if-not-node_in_range.false) in
     ap (λ x. place_in_range x (to_z w32 (of_z w32 c.args.scale.now.granularity)) (to_z w64 (of_z w64 c.in-Some-optional_unzigzag-2.lon))) (to_z-of_z w64 c.args.scale.now.lon_offset offset_fits)
     ∙ ap (λ x. place_in_range c.args.scale.now.lon_offset x (to_z w64 (of_z w64 c.in-Some-optional_unzigzag-2.lon))) (to_z-of_z w32 c.args.scale.now.granularity unit_fits) ∙ passed.2
 
 pub info_of-requires-clause-in_range : goal.info_of-requires-clause-in_range
 info_of-requires-clause-in_range c =
     let passed = four (is_wide (to_z w64 (of_z w64 c.in-Some.id))) (place_in_range c.args.scale.now.lat_offset c.args.scale.now.granularity (to_z w64 (of_z w64 c.in-Some-optional_unzigzag.lat)))
-        (place_in_range c.args.scale.now.lon_offset c.args.scale.now.granularity (to_z w64 (of_z w64 c.in-Some-optional_unzigzag-2.lon))) (info_in_range (context_of c.args.scale.now) (info_message_of c.args.node.now.info.numbers))
-        (sym c.node_in_range.ensures ∙ c.if-not-node_in_range.false) in
+    (place_in_range c.args.scale.now.lon_offset c.args.scale.now.granularity (to_z w64 (of_z w64 c.in-Some-optional_unzigzag-2.lon))) (info_in_range (context_of c.args.scale.now) (info_message_of c.args.node.now.info.numbers))
+    (sym c.node_in_range.ensures ∙ c.if-not-node_in_range.false) in
     passed.3
 
 pub info_of-requires-clause-in_table : goal.info_of-requires-clause-in_table
@@ -75,8 +81,8 @@ info_of-requires-clause-in_table c =
 pub new-requires : goal.new-requires
 new-requires c =
     let passed = four (is_wide (to_z w64 (of_z w64 c.in-Some.id))) (place_in_range c.args.scale.now.lat_offset c.args.scale.now.granularity (to_z w64 (of_z w64 c.in-Some-optional_unzigzag.lat)))
-        (place_in_range c.args.scale.now.lon_offset c.args.scale.now.granularity (to_z w64 (of_z w64 c.in-Some-optional_unzigzag-2.lon))) (info_in_range (context_of c.args.scale.now) (info_message_of c.args.node.now.info.numbers))
-        (sym c.node_in_range.ensures ∙ c.if-not-node_in_range.false) in
+    (place_in_range c.args.scale.now.lon_offset c.args.scale.now.granularity (to_z w64 (of_z w64 c.in-Some-optional_unzigzag-2.lon))) (info_in_range (context_of c.args.scale.now) (info_message_of c.args.node.now.info.numbers))
+    (sym c.node_in_range.ensures ∙ c.if-not-node_in_range.false) in
     let lat_offset_fits : FitsSigned w64 c.args.scale.now.lat_offset = search rules in
     let lon_offset_fits : FitsSigned w64 c.args.scale.now.lon_offset = search rules in
     let unit_fits : FitsSigned w32 c.args.scale.now.granularity = search rules in
@@ -86,11 +92,11 @@ new-requires c =
     let lon : ℤ = to_z w64 (of_z w64 c.in-Some-optional_unzigzag-2.lon) in
     let unit : ℤ = to_z w32 (of_z w32 c.args.scale.now.granularity) in
     let lat_place : to_z w64 (of_z w64 c.place_of-lat.result) ≡ place c.args.scale.now.lat_offset c.args.scale.now.granularity lat =
-        to_z-of_z w64 c.place_of-lat.result lat_place_fits ∙ c.place_of-lat.ensures ∙ ap (λ x. place x unit lat) (to_z-of_z w64 c.args.scale.now.lat_offset lat_offset_fits)
-        ∙ ap (λ x. place c.args.scale.now.lat_offset x lat) (to_z-of_z w32 c.args.scale.now.granularity unit_fits) in
+    to_z-of_z w64 c.place_of-lat.result lat_place_fits ∙ c.place_of-lat.ensures ∙ ap (λ x. place x unit lat) (to_z-of_z w64 c.args.scale.now.lat_offset lat_offset_fits)
+    ∙ ap (λ x. place c.args.scale.now.lat_offset x lat) (to_z-of_z w32 c.args.scale.now.granularity unit_fits) in
     let lon_place : to_z w64 (of_z w64 c.place_of-lon.result) ≡ place c.args.scale.now.lon_offset c.args.scale.now.granularity lon =
-        to_z-of_z w64 c.place_of-lon.result lon_place_fits ∙ c.place_of-lon.ensures ∙ ap (λ x. place x unit lon) (to_z-of_z w64 c.args.scale.now.lon_offset lon_offset_fits)
-        ∙ ap (λ x. place c.args.scale.now.lon_offset x lon) (to_z-of_z w32 c.args.scale.now.granularity unit_fits) in
+    to_z-of_z w64 c.place_of-lon.result lon_place_fits ∙ c.place_of-lon.ensures ∙ ap (λ x. place x unit lon) (to_z-of_z w64 c.args.scale.now.lon_offset lon_offset_fits)
+    ∙ ap (λ x. place c.args.scale.now.lon_offset x lon) (to_z-of_z w32 c.args.scale.now.granularity unit_fits) in
     let tags_are = TagsAt-along _ _ _ _ _ _ _ _ c.deref-table.ensures.value c.deref.ensures.value c.deref-2.ensures.value c.in_ok-tags.ensures in
     let tags = tags_in_range (map (λ t. t.now) c.args.scale.now.table.items) _ _ _ c.args.scale.now.texts tags_are in
     record { in_range = record { id = passed.0; lat = ap is_wide lat_place ∙ passed.1; lon = ap is_wide lon_place ∙ passed.2; tags = tags; info = c.info_of.ensures.in_range } }
@@ -101,13 +107,16 @@ returns c =
     let lat_fits : FitsSigned w64 c.in-Some-optional_unzigzag.lat = search rules in
     let lon_fits : FitsSigned w64 c.in-Some-optional_unzigzag-2.lon = search rules in
     let read : NodeRead (context_of c.args.scale.now) (node_message_of c.args.node.now) c.in-Some.id c.in-Some-optional_unzigzag.lat c.in-Some-optional_unzigzag-2.lon = record {
-      visible = sym c.is_some.ensures ∙ c.if-is_some.false; there = sym c.optional_unzigzag.ensures ∙ c.in-Some.is;
-      lat_there = sym c.optional_unzigzag-2.ensures ∙ c.in-Some-optional_unzigzag.is; lon_there = sym c.optional_unzigzag-3.ensures ∙ c.in-Some-optional_unzigzag-2.is;
-      even = even_from _ _ (omega arith) } in
+      visible = sym c.is_some.ensures ∙ c.if-is_some.false;
+      there = sym c.optional_unzigzag.ensures ∙ c.in-Some.is;
+      lat_there = sym c.optional_unzigzag-2.ensures ∙ c.in-Some-optional_unzigzag.is;
+      lon_there = sym c.optional_unzigzag-3.ensures ∙ c.in-Some-optional_unzigzag-2.is;
+      even = even_from _ _ (omega arith);
+    } in
     let range = range_is _ _ _ _ _ _ _ _ _ read (to_z-of_z w64 _ fits) (to_z-of_z w64 _ lat_fits) (to_z-of_z w64 _ lon_fits) c.node_in_range.ensures in
     let passed = four (is_wide (to_z w64 (of_z w64 c.in-Some.id))) (place_in_range c.args.scale.now.lat_offset c.args.scale.now.granularity (to_z w64 (of_z w64 c.in-Some-optional_unzigzag.lat)))
-        (place_in_range c.args.scale.now.lon_offset c.args.scale.now.granularity (to_z w64 (of_z w64 c.in-Some-optional_unzigzag-2.lon))) (info_in_range (context_of c.args.scale.now) (info_message_of c.args.node.now.info.numbers))
-        (sym c.node_in_range.ensures ∙ c.if-not-node_in_range.false) in
+    (place_in_range c.args.scale.now.lon_offset c.args.scale.now.granularity (to_z w64 (of_z w64 c.in-Some-optional_unzigzag-2.lon))) (info_in_range (context_of c.args.scale.now) (info_message_of c.args.node.now.info.numbers))
+    (sym c.node_in_range.ensures ∙ c.if-not-node_in_range.false) in
     let lat_offset_fits : FitsSigned w64 c.args.scale.now.lat_offset = search rules in
     let lon_offset_fits : FitsSigned w64 c.args.scale.now.lon_offset = search rules in
     let unit_fits : FitsSigned w32 c.args.scale.now.granularity = search rules in
@@ -117,20 +126,21 @@ returns c =
     let lon : ℤ = to_z w64 (of_z w64 c.in-Some-optional_unzigzag-2.lon) in
     let unit : ℤ = to_z w32 (of_z w32 c.args.scale.now.granularity) in
     let lat_place : to_z w64 (of_z w64 c.place_of-lat.result) ≡ place c.args.scale.now.lat_offset c.args.scale.now.granularity lat =
-        to_z-of_z w64 c.place_of-lat.result lat_place_fits ∙ c.place_of-lat.ensures ∙ ap (λ x. place x unit lat) (to_z-of_z w64 c.args.scale.now.lat_offset lat_offset_fits)
-        ∙ ap (λ x. place c.args.scale.now.lat_offset x lat) (to_z-of_z w32 c.args.scale.now.granularity unit_fits) in
+    to_z-of_z w64 c.place_of-lat.result lat_place_fits ∙ c.place_of-lat.ensures ∙ ap (λ x. place x unit lat) (to_z-of_z w64 c.args.scale.now.lat_offset lat_offset_fits)
+    ∙ ap (λ x. place c.args.scale.now.lat_offset x lat) (to_z-of_z w32 c.args.scale.now.granularity unit_fits) in
     let lon_place : to_z w64 (of_z w64 c.place_of-lon.result) ≡ place c.args.scale.now.lon_offset c.args.scale.now.granularity lon =
-        to_z-of_z w64 c.place_of-lon.result lon_place_fits ∙ c.place_of-lon.ensures ∙ ap (λ x. place x unit lon) (to_z-of_z w64 c.args.scale.now.lon_offset lon_offset_fits)
-        ∙ ap (λ x. place c.args.scale.now.lon_offset x lon) (to_z-of_z w32 c.args.scale.now.granularity unit_fits) in
+    to_z-of_z w64 c.place_of-lon.result lon_place_fits ∙ c.place_of-lon.ensures ∙ ap (λ x. place x unit lon) (to_z-of_z w64 c.args.scale.now.lon_offset lon_offset_fits)
+    ∙ ap (λ x. place c.args.scale.now.lon_offset x lon) (to_z-of_z w32 c.args.scale.now.granularity unit_fits) in
     let tags_are = TagsAt-along _ _ _ _ _ _ _ _ c.deref-table.ensures.value c.deref.ensures.value c.deref-2.ensures.value c.in_ok-tags.ensures in
-    let tags = tags_in_range (map (λ t. t.now) c.args.scale.now.table.items) _ _ _ c.args.scale.now.texts tags_are in
-    (no_phase _ _ _ _ _ _ _ _ read range c.if-not-node_in_range.false (ap length c.deref-table.ensures.value ∙ sym (length-map _ (λ t. t.now)))
-    (c.indexes_fit.ensures ∙ indexes_are _ c.args.node.now.keys.numbers.items c.args.node.now.vals.numbers.items c.args.node.now.info.numbers.user_sid) c.if-not-indexes_fit.false,
-    rw c.new.ensures (record {
-      id_is = ap Some (to_z-of_z w64 _ fits) ∙ sym read.there;
-      lat_is = ap Some (lat_place ∙ ap (place c.args.scale.now.lat_offset c.args.scale.now.granularity) (to_z-of_z w64 _ lat_fits)) ∙ sym (ap (option_map (place c.args.scale.now.lat_offset c.args.scale.now.granularity)) read.lat_there);
-      lon_is = ap Some (lon_place ∙ ap (place c.args.scale.now.lon_offset c.args.scale.now.granularity) (to_z-of_z w64 _ lon_fits)) ∙ sym (ap (option_map (place c.args.scale.now.lon_offset c.args.scale.now.granularity)) read.lon_there);
-      tags_are = tags_are;
-      info_is = c.info_of.ensures;
-      in_range = record { id = passed.0; lat = ap is_wide lat_place ∙ passed.1; lon = ap is_wide lon_place ∙ passed.2; tags = tags; info = c.info_of.ensures.in_range };
-    }))
+    let tags = tags_in_range (map (λ t. t.now) c.args.scale.now.table.items) _ _ _ c.args.scale.now.texts tags_are in (
+      no_phase _ _ _ _ _ _ _ _ read range c.if-not-node_in_range.false (ap length c.deref-table.ensures.value ∙ sym (length-map _ (λ t. t.now)))
+          (c.indexes_fit.ensures ∙ indexes_are _ c.args.node.now.keys.numbers.items c.args.node.now.vals.numbers.items c.args.node.now.info.numbers.user_sid) c.if-not-indexes_fit.false,
+      rw c.new.ensures (record {
+        id_is = ap Some (to_z-of_z w64 _ fits) ∙ sym read.there;
+        lat_is = ap Some (lat_place ∙ ap (place c.args.scale.now.lat_offset c.args.scale.now.granularity) (to_z-of_z w64 _ lat_fits)) ∙ sym (ap (option_map (place c.args.scale.now.lat_offset c.args.scale.now.granularity)) read.lat_there);
+        lon_is = ap Some (lon_place ∙ ap (place c.args.scale.now.lon_offset c.args.scale.now.granularity) (to_z-of_z w64 _ lon_fits)) ∙ sym (ap (option_map (place c.args.scale.now.lon_offset c.args.scale.now.granularity)) read.lon_there);
+        tags_are = tags_are;
+        info_is = c.info_of.ensures;
+        in_range = record { id = passed.0; lat = ap is_wide lat_place ∙ passed.1; lon = ap is_wide lon_place ∙ passed.2; tags = tags; info = c.info_of.ensures.in_range };
+      }),
+    )

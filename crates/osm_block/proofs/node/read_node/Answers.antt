@@ -12,8 +12,8 @@ use Rattle.osm_block.proofs.node.read_node.Goals as goal
 pub returns-in_err-read_node_fields : goal.returns-in_err-read_node_fields
 returns-in_err-read_node_fields c =
     let refused : Gives {A = NodeValue} (λ x. NodeOf (context_of c.args.scale.now) x (node_message (fields c.args.payload.now))) (first (message_phases (context_of c.args.scale.now) (Plain c.args.payload.now))) (Err c.in_err-read_node_fields.field-0.0) =
-        Gives-err {A = Unit {0}} (λ _. ⊤) (λ x. NodeOf (context_of c.args.scale.now) x (node_message (fields c.args.payload.now))) _ _ _
-        (λ f s. first-append_some (wire_phases (wires (Plain c.args.payload.now))) _ f s) c.in_err-read_node_fields.ensures.phase in
+    Gives-err {A = Unit {0}} (λ _. ⊤) (λ x. NodeOf (context_of c.args.scale.now) x (node_message (fields c.args.payload.now))) _ _ _
+    (λ f s. first-append_some (wire_phases (wires (Plain c.args.payload.now))) _ f s) c.in_err-read_node_fields.ensures.phase in
     search rules
 
 pub returns : goal.returns

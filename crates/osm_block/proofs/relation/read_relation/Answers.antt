@@ -12,8 +12,8 @@ use Rattle.osm_block.proofs.relation.read_relation.Goals as goal
 pub returns-in_err-read_relation_fields : goal.returns-in_err-read_relation_fields
 returns-in_err-read_relation_fields c =
     let refused : Gives {A = RelationValue} (λ x. RelationOf (context_of c.args.scale.now) x (relation_message (fields c.args.payload.now))) (first (message_phases (context_of c.args.scale.now) (Relation c.args.payload.now))) (Err c.in_err-read_relation_fields.field-0.0) =
-        Gives-err {A = Unit {0}} (λ _. ⊤) (λ x. RelationOf (context_of c.args.scale.now) x (relation_message (fields c.args.payload.now))) _ _ _
-        (λ f s. first-append_some (wire_phases (wires (Relation c.args.payload.now))) _ f s) c.in_err-read_relation_fields.ensures.phase in
+    Gives-err {A = Unit {0}} (λ _. ⊤) (λ x. RelationOf (context_of c.args.scale.now) x (relation_message (fields c.args.payload.now))) _ _ _
+    (λ f s. first-append_some (wire_phases (wires (Relation c.args.payload.now))) _ f s) c.in_err-read_relation_fields.ensures.phase in
     search rules
 
 pub returns : goal.returns

@@ -24,9 +24,12 @@ returns-then-not-relation_in_range c =
     let lengths_fit = sym c.lengths_fit.ensures ∙ c.if-not-lengths_fit.false in
     let fits : FitsSigned w64 c.in-Some.id = search rules in
     let read : RelationRead (context_of c.args.scale.now) (relation_message_of c.args.relation.now) c.in-Some.id c.in_ok-memids.memids.items = record {
-      visible = sym c.is_some.ensures ∙ c.if-is_some.false; there = sym c.optional_i64.ensures ∙ c.in-Some.is;
+      visible = sym c.is_some.ensures ∙ c.if-is_some.false;
+      there = sym c.optional_i64.ensures ∙ c.in-Some.is;
       even = sym (lengths_are c.args.relation.now.keys.numbers.items c.args.relation.now.vals.numbers.items c.args.relation.now.roles.numbers.items c.args.relation.now.memids.numbers.items c.args.relation.now.types.numbers.items) ∙ lengths_fit;
-      sums = taken.0; diff = taken.1 } in
+      sums = taken.0;
+      diff = taken.1;
+    } in
     let range = range_is _ _ _ _ _ _ _ read (to_z-of_z w64 _ fits) c.deref-2.ensures.value c.relation_in_range.ensures in
     fails_range _ _ _ _ _ read range c.if-not-relation_in_range.true
 
@@ -36,9 +39,12 @@ returns-then-not-indexes_fit c =
     let lengths_fit = sym c.lengths_fit.ensures ∙ c.if-not-lengths_fit.false in
     let fits : FitsSigned w64 c.in-Some.id = search rules in
     let read : RelationRead (context_of c.args.scale.now) (relation_message_of c.args.relation.now) c.in-Some.id c.in_ok-memids.memids.items = record {
-      visible = sym c.is_some.ensures ∙ c.if-is_some.false; there = sym c.optional_i64.ensures ∙ c.in-Some.is;
+      visible = sym c.is_some.ensures ∙ c.if-is_some.false;
+      there = sym c.optional_i64.ensures ∙ c.in-Some.is;
       even = sym (lengths_are c.args.relation.now.keys.numbers.items c.args.relation.now.vals.numbers.items c.args.relation.now.roles.numbers.items c.args.relation.now.memids.numbers.items c.args.relation.now.types.numbers.items) ∙ lengths_fit;
-      sums = taken.0; diff = taken.1 } in
+      sums = taken.0;
+      diff = taken.1;
+    } in
     let range = range_is _ _ _ _ _ _ _ read (to_z-of_z w64 _ fits) c.deref-2.ensures.value c.relation_in_range.ensures in
     fails_index _ _ _ _ _ _ _ read range c.if-not-relation_in_range.false (ap length c.deref-table.ensures.value ∙ sym (length-map _ (λ t. t.now)))
     (c.indexes_fit.ensures ∙ role_indexes_are _ c.args.relation.now.keys.numbers.items c.args.relation.now.vals.numbers.items c.args.relation.now.roles.numbers.items c.args.relation.now.info.numbers.user_sid) c.if-not-indexes_fit.true
@@ -63,15 +69,18 @@ returns-in_err-members c =
     let lengths_fit = sym c.lengths_fit.ensures ∙ c.if-not-lengths_fit.false in
     let fits : FitsSigned w64 c.in-Some.id = search rules in
     let read : RelationRead (context_of c.args.scale.now) (relation_message_of c.args.relation.now) c.in-Some.id c.in_ok-memids.memids.items = record {
-      visible = sym c.is_some.ensures ∙ c.if-is_some.false; there = sym c.optional_i64.ensures ∙ c.in-Some.is;
+      visible = sym c.is_some.ensures ∙ c.if-is_some.false;
+      there = sym c.optional_i64.ensures ∙ c.in-Some.is;
       even = sym (lengths_are c.args.relation.now.keys.numbers.items c.args.relation.now.vals.numbers.items c.args.relation.now.roles.numbers.items c.args.relation.now.memids.numbers.items c.args.relation.now.types.numbers.items) ∙ lengths_fit;
-      sums = taken.0; diff = taken.1 } in
+      sums = taken.0;
+      diff = taken.1;
+    } in
     let range = range_is _ _ _ _ _ _ _ read (to_z-of_z w64 _ fits) c.deref-2.ensures.value c.relation_in_range.ensures in
     let past = past_index _ _ _ _ _ _ _ read range c.if-not-relation_in_range.false (ap length c.deref-table.ensures.value ∙ sym (length-map _ (λ t. t.now)))
     (c.indexes_fit.ensures ∙ role_indexes_are _ c.args.relation.now.keys.numbers.items c.args.relation.now.vals.numbers.items c.args.relation.now.roles.numbers.items c.args.relation.now.info.numbers.user_sid) c.if-not-indexes_fit.false in
     let same = ap (λ l. when (not (list_all (λ t. is_some (kind t)) (map int32 l))) faults.BadMemberType) c.deref-5.ensures.value in
     let refused : Gives {A = RelationValue} (λ r. RelationOf (context_of c.args.scale.now) r (relation_message_of c.args.relation.now)) (first (relation_phases (context_of c.args.scale.now) (relation_message_of c.args.relation.now))) (Err c.in_err-members.field-0.0) =
-        Gives-err {A = Unit {0}} (λ _. ⊤) (λ r. RelationOf (context_of c.args.scale.now) r (relation_message_of c.args.relation.now)) _ _ _ (λ f s. past ∙ sym same ∙ s) c.in_err-members.ensures in
+    Gives-err {A = Unit {0}} (λ _. ⊤) (λ r. RelationOf (context_of c.args.scale.now) r (relation_message_of c.args.relation.now)) _ _ _ (λ f s. past ∙ sym same ∙ s) c.in_err-members.ensures in
     search rules
 
 pub new-requires : goal.new-requires
@@ -79,7 +88,7 @@ new-requires c =
     let tags_are = TagsAt-along _ _ _ _ _ _ _ _ c.deref-table.ensures.value c.deref-6.ensures.value c.deref-7.ensures.value c.in_ok-tags.ensures in
     let tags = tags_in_range (map (λ t. t.now) c.args.scale.now.table.items) _ _ _ c.args.scale.now.texts tags_are in
     let wide = and_left (is_wide (to_z w64 (of_z w64 c.in-Some.id))) (list_all is_wide c.deref-2.result.now)
-        (and_left (is_wide (to_z w64 (of_z w64 c.in-Some.id)) && list_all is_wide c.deref-2.result.now) (info_in_range (context_of c.args.scale.now) (info_message_of c.args.relation.now.info.numbers)) (sym c.relation_in_range.ensures ∙ c.if-not-relation_in_range.false)) in
+    (and_left (is_wide (to_z w64 (of_z w64 c.in-Some.id)) && list_all is_wide c.deref-2.result.now) (info_in_range (context_of c.args.scale.now) (info_message_of c.args.relation.now.info.numbers)) (sym c.relation_in_range.ensures ∙ c.if-not-relation_in_range.false)) in
     record { in_range = record { id = wide; members = c.in_ok-members.ensures.1.in_range; tags = tags; info = c.info_of.ensures.in_range } }
 
 pub returns : goal.returns
@@ -88,25 +97,29 @@ returns c =
     let lengths_fit = sym c.lengths_fit.ensures ∙ c.if-not-lengths_fit.false in
     let fits : FitsSigned w64 c.in-Some.id = search rules in
     let read : RelationRead (context_of c.args.scale.now) (relation_message_of c.args.relation.now) c.in-Some.id c.in_ok-memids.memids.items = record {
-      visible = sym c.is_some.ensures ∙ c.if-is_some.false; there = sym c.optional_i64.ensures ∙ c.in-Some.is;
+      visible = sym c.is_some.ensures ∙ c.if-is_some.false;
+      there = sym c.optional_i64.ensures ∙ c.in-Some.is;
       even = sym (lengths_are c.args.relation.now.keys.numbers.items c.args.relation.now.vals.numbers.items c.args.relation.now.roles.numbers.items c.args.relation.now.memids.numbers.items c.args.relation.now.types.numbers.items) ∙ lengths_fit;
-      sums = taken.0; diff = taken.1 } in
+      sums = taken.0;
+      diff = taken.1;
+    } in
     let range = range_is _ _ _ _ _ _ _ read (to_z-of_z w64 _ fits) c.deref-2.ensures.value c.relation_in_range.ensures in
     let tags_are = TagsAt-along _ _ _ _ _ _ _ _ c.deref-table.ensures.value c.deref-6.ensures.value c.deref-7.ensures.value c.in_ok-tags.ensures in
     let tags = tags_in_range (map (λ t. t.now) c.args.scale.now.table.items) _ _ _ c.args.scale.now.texts tags_are in
     let wide = and_left (is_wide (to_z w64 (of_z w64 c.in-Some.id))) (list_all is_wide c.deref-2.result.now)
-        (and_left (is_wide (to_z w64 (of_z w64 c.in-Some.id)) && list_all is_wide c.deref-2.result.now) (info_in_range (context_of c.args.scale.now) (info_message_of c.args.relation.now.info.numbers)) (sym c.relation_in_range.ensures ∙ c.if-not-relation_in_range.false)) in
+    (and_left (is_wide (to_z w64 (of_z w64 c.in-Some.id)) && list_all is_wide c.deref-2.result.now) (info_in_range (context_of c.args.scale.now) (info_message_of c.args.relation.now.info.numbers)) (sym c.relation_in_range.ensures ∙ c.if-not-relation_in_range.false)) in
     let past = past_index _ _ _ _ _ _ _ read range c.if-not-relation_in_range.false (ap length c.deref-table.ensures.value ∙ sym (length-map _ (λ t. t.now)))
     (c.indexes_fit.ensures ∙ role_indexes_are _ c.args.relation.now.keys.numbers.items c.args.relation.now.vals.numbers.items c.args.relation.now.roles.numbers.items c.args.relation.now.info.numbers.user_sid) c.if-not-indexes_fit.false in
     let same = ap (λ l. when (not (list_all (λ t. is_some (kind t)) (map int32 l))) faults.BadMemberType) c.deref-5.ensures.value in
-    let members = MembersAt-along (λ t. t.now) _ _ _ _ _ _ _ _ _ c.deref-table.ensures.value c.deref-3.ensures.value c.deref-4.ensures.value c.deref-5.ensures.value c.in_ok-members.ensures.1 in
-    (past ∙ sym same ∙ c.in_ok-members.ensures.0,
-    rw c.new.ensures (record {
-      id_is = ap Some (to_z-of_z w64 _ fits) ∙ sym read.there;
-      memids_are = subst (λ l. Diff l (map sint64 c.args.relation.now.memids.numbers.items)) (sym members.ids_are) taken.1;
-      roles_are = members.roles_are;
-      types_are = members.types_are;
-      tags_are = tags_are;
-      info_is = c.info_of.ensures;
-      in_range = record { id = wide; members = c.in_ok-members.ensures.1.in_range; tags = tags; info = c.info_of.ensures.in_range };
-    }))
+    let members = MembersAt-along (λ t. t.now) _ _ _ _ _ _ _ _ _ c.deref-table.ensures.value c.deref-3.ensures.value c.deref-4.ensures.value c.deref-5.ensures.value c.in_ok-members.ensures.1 in (
+      past ∙ sym same ∙ c.in_ok-members.ensures.0,
+      rw c.new.ensures (record {
+        id_is = ap Some (to_z-of_z w64 _ fits) ∙ sym read.there;
+        memids_are = subst (λ l. Diff l (map sint64 c.args.relation.now.memids.numbers.items)) (sym members.ids_are) taken.1;
+        roles_are = members.roles_are;
+        types_are = members.types_are;
+        tags_are = tags_are;
+        info_is = c.info_of.ensures;
+        in_range = record { id = wide; members = c.in_ok-members.ensures.1.in_range; tags = tags; info = c.info_of.ensures.in_range };
+      }),
+    )

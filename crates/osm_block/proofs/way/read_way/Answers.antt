@@ -12,8 +12,8 @@ use Rattle.osm_block.proofs.way.read_way.Goals as goal
 pub returns-in_err-read_way_fields : goal.returns-in_err-read_way_fields
 returns-in_err-read_way_fields c =
     let refused : Gives {A = WayValue} (λ x. WayOf (context_of c.args.scale.now) x (way_message (fields c.args.payload.now))) (first (message_phases (context_of c.args.scale.now) (Way c.args.payload.now))) (Err c.in_err-read_way_fields.field-0.0) =
-        Gives-err {A = Unit {0}} (λ _. ⊤) (λ x. WayOf (context_of c.args.scale.now) x (way_message (fields c.args.payload.now))) _ _ _
-        (λ f s. first-append_some (wire_phases (wires (Way c.args.payload.now))) _ f s) c.in_err-read_way_fields.ensures.phase in
+    Gives-err {A = Unit {0}} (λ _. ⊤) (λ x. WayOf (context_of c.args.scale.now) x (way_message (fields c.args.payload.now))) _ _ _
+    (λ f s. first-append_some (wire_phases (wires (Way c.args.payload.now))) _ f s) c.in_err-read_way_fields.ensures.phase in
     search rules
 
 pub returns : goal.returns

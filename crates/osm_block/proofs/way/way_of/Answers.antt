@@ -18,7 +18,12 @@ returns-then-not-way_in_range c =
     let fits : FitsSigned w64 c.in-Some.id = search rules in
     let taken = subst (λ l. (when (not (list_all fits_i64 (front_sums (map sint64 l)))) faults.SumTooLarge ≡ None) × Diff c.in_ok-refs.refs.items (map sint64 l)) c.deref.ensures.value c.in_ok-refs.ensures in
     let read : WayRead (context_of c.args.scale.now) (way_message_of c.args.way.now) c.in-Some.id c.in_ok-refs.refs.items = record {
-      visible = sym c.is_some.ensures ∙ c.if-is_some.false; there = sym c.optional_i64.ensures ∙ c.in-Some.is; even = even_from _ _ (omega arith); sums = taken.0; diff = taken.1 } in
+      visible = sym c.is_some.ensures ∙ c.if-is_some.false;
+      there = sym c.optional_i64.ensures ∙ c.in-Some.is;
+      even = even_from _ _ (omega arith);
+      sums = taken.0;
+      diff = taken.1;
+    } in
     let range = range_is _ _ _ _ _ _ _ read (to_z-of_z w64 _ fits) c.deref-2.ensures.value c.way_in_range.ensures in
     fails_range _ _ _ _ _ read range c.if-not-way_in_range.true
 
@@ -27,7 +32,12 @@ returns-then-not-indexes_fit c =
     let fits : FitsSigned w64 c.in-Some.id = search rules in
     let taken = subst (λ l. (when (not (list_all fits_i64 (front_sums (map sint64 l)))) faults.SumTooLarge ≡ None) × Diff c.in_ok-refs.refs.items (map sint64 l)) c.deref.ensures.value c.in_ok-refs.ensures in
     let read : WayRead (context_of c.args.scale.now) (way_message_of c.args.way.now) c.in-Some.id c.in_ok-refs.refs.items = record {
-      visible = sym c.is_some.ensures ∙ c.if-is_some.false; there = sym c.optional_i64.ensures ∙ c.in-Some.is; even = even_from _ _ (omega arith); sums = taken.0; diff = taken.1 } in
+      visible = sym c.is_some.ensures ∙ c.if-is_some.false;
+      there = sym c.optional_i64.ensures ∙ c.in-Some.is;
+      even = even_from _ _ (omega arith);
+      sums = taken.0;
+      diff = taken.1;
+    } in
     let range = range_is _ _ _ _ _ _ _ read (to_z-of_z w64 _ fits) c.deref-2.ensures.value c.way_in_range.ensures in
     fails_index _ _ _ _ _ _ _ read range c.if-not-way_in_range.false (ap length c.deref-table.ensures.value ∙ sym (length-map _ (λ t. t.now)))
     (c.indexes_fit.ensures ∙ indexes_are _ c.args.way.now.keys.numbers.items c.args.way.now.vals.numbers.items c.args.way.now.info.numbers.user_sid) c.if-not-indexes_fit.true
@@ -43,16 +53,22 @@ returns c =
     let fits : FitsSigned w64 c.in-Some.id = search rules in
     let taken = subst (λ l. (when (not (list_all fits_i64 (front_sums (map sint64 l)))) faults.SumTooLarge ≡ None) × Diff c.in_ok-refs.refs.items (map sint64 l)) c.deref.ensures.value c.in_ok-refs.ensures in
     let read : WayRead (context_of c.args.scale.now) (way_message_of c.args.way.now) c.in-Some.id c.in_ok-refs.refs.items = record {
-      visible = sym c.is_some.ensures ∙ c.if-is_some.false; there = sym c.optional_i64.ensures ∙ c.in-Some.is; even = even_from _ _ (omega arith); sums = taken.0; diff = taken.1 } in
+      visible = sym c.is_some.ensures ∙ c.if-is_some.false;
+      there = sym c.optional_i64.ensures ∙ c.in-Some.is;
+      even = even_from _ _ (omega arith);
+      sums = taken.0;
+      diff = taken.1;
+    } in
     let range = range_is _ _ _ _ _ _ _ read (to_z-of_z w64 _ fits) c.deref-2.ensures.value c.way_in_range.ensures in
     let tags_are = TagsAt-along _ _ _ _ _ _ _ _ c.deref-table.ensures.value c.deref-3.ensures.value c.deref-4.ensures.value c.in_ok-tags.ensures in
-    let tags = tags_in_range (map (λ t. t.now) c.args.scale.now.table.items) _ _ _ c.args.scale.now.texts tags_are in
-    (no_phase _ _ _ _ _ _ _ read range c.if-not-way_in_range.false (ap length c.deref-table.ensures.value ∙ sym (length-map _ (λ t. t.now)))
-    (c.indexes_fit.ensures ∙ indexes_are _ c.args.way.now.keys.numbers.items c.args.way.now.vals.numbers.items c.args.way.now.info.numbers.user_sid) c.if-not-indexes_fit.false,
-    rw c.new.ensures (record {
-      id_is = ap Some (to_z-of_z w64 _ fits) ∙ sym (sym c.optional_i64.ensures ∙ c.in-Some.is);
-      refs_are = taken.1;
-      tags_are = tags_are;
-      info_is = c.info_of.ensures;
-      in_range = way_is_in_range (to_z w64 (of_z w64 c.in-Some.id)) _ _ _ _ _ (info_in_range (context_of c.args.scale.now) (info_message_of c.args.way.now.info.numbers)) c.deref-2.ensures.value c.way_in_range.ensures c.if-not-way_in_range.false tags c.info_of.ensures.in_range;
-    }))
+    let tags = tags_in_range (map (λ t. t.now) c.args.scale.now.table.items) _ _ _ c.args.scale.now.texts tags_are in (
+      no_phase _ _ _ _ _ _ _ read range c.if-not-way_in_range.false (ap length c.deref-table.ensures.value ∙ sym (length-map _ (λ t. t.now)))
+          (c.indexes_fit.ensures ∙ indexes_are _ c.args.way.now.keys.numbers.items c.args.way.now.vals.numbers.items c.args.way.now.info.numbers.user_sid) c.if-not-indexes_fit.false,
+      rw c.new.ensures (record {
+        id_is = ap Some (to_z-of_z w64 _ fits) ∙ sym (sym c.optional_i64.ensures ∙ c.in-Some.is);
+        refs_are = taken.1;
+        tags_are = tags_are;
+        info_is = c.info_of.ensures;
+        in_range = way_is_in_range (to_z w64 (of_z w64 c.in-Some.id)) _ _ _ _ _ (info_in_range (context_of c.args.scale.now) (info_message_of c.args.way.now.info.numbers)) c.deref-2.ensures.value c.way_in_range.ensures c.if-not-way_in_range.false tags c.info_of.ensures.in_range;
+      }),
+    )
