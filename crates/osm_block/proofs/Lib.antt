@@ -23,3 +23,5 @@ pub mod Unique
 pub mod UniqueDense
 pub mod VectorBlocks
 pub mod WayComplete
+pub mod NodeComplete
+pub mod RelationComplete
