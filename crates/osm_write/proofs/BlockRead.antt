@@ -358,7 +358,7 @@ scale_is es =
     let b = divisor_is 1000 (flat_map times_of es) (record { some = omega arith; small = omega arith }) in
     record { some = a.some; small = a.small; date_some = b.some; date_small = b.small }
 
-texts_are : (es : List Element) → (scale_of es).texts ≡ first_uses (flat_map texts_of es)
+pub texts_are : (es : List Element) → (scale_of es).texts ≡ first_uses (flat_map texts_of es)
 unfolding scale_of
 texts_are es = refl
 

@@ -19,3 +19,4 @@ pub mod DenseRead
 pub mod RunsRead
 pub mod GroupRead
 pub mod BlockRead
+pub mod Bounds
