@@ -20,3 +20,4 @@ pub mod RunsRead
 pub mod GroupRead
 pub mod BlockRead
 pub mod Bounds
+pub mod HeaderRead
