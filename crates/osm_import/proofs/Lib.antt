@@ -1,0 +1,10 @@
+pub mod Delivering
+pub mod ExamineLemmas
+pub mod FilesLemmas
+pub mod GapsLemmas
+pub mod GoodLaws
+pub mod HistoryLemmas
+pub mod OpenLaws
+pub mod RunsLemmas
+pub mod StepLaws
+pub mod Touching

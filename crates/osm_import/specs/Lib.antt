@@ -1,0 +1,9 @@
+pub mod Bad
+pub mod Deliveries
+pub mod Files
+pub mod Gaps
+pub mod Good
+pub mod Histories
+pub mod Pending
+pub mod Runs
+pub mod Step
