@@ -294,12 +294,12 @@ pub leaves-fault-at : (leaves : HeldMap → Type 0) (held : HeldMap) (ds : List 
     → CrashLeaves leaves between d.off d.bytes → LeavesAfter leaves held ds items
 leaves-fault-at leaves held ds i d item rs items a within is_item at pushed between run sound is crash =
     let split : take i ds ++ d ∷ drop (i + 1) ds ≡ ds
-        = sym (append_assoc (take i ds) (d ∷ []) (drop (i + 1) ds))
-        ∙ ap (λ (xs : List DeliveryValue). xs ++ drop (i + 1) ds) (sym (take_more ds i item within ∙ ap (λ (y : DeliveryValue). take i ds ++ y ∷ []) (sym at ∙ sym is_item)))
-        ∙ take-append-drop (i + 1) ds in
+    = sym (append_assoc (take i ds) (d ∷ []) (drop (i + 1) ds))
+    ∙ ap (λ (xs : List DeliveryValue). xs ++ drop (i + 1) ds) (sym (take_more ds i item within ∙ ap (λ (y : DeliveryValue). take i ds ++ y ∷ []) (sym at ∙ sym is_item)))
+    ∙ take-append-drop (i + 1) ds in
     subst (λ (ys : List Answer). LeavesAfter leaves held ds ys) (sym pushed)
-      (subst (λ (xs : List DeliveryValue). LeavesAfter leaves held xs (rs ++ a ∷ [])) split
-        (leaves-fault leaves held (take i ds) rs between d (drop (i + 1) ds) a run sound is crash))
+    (subst (λ (xs : List DeliveryValue). LeavesAfter leaves held xs (rs ++ a ∷ [])) split
+    (leaves-fault leaves held (take i ds) rs between d (drop (i + 1) ds) a run sound is crash))
 
 pub none-push : (P : Answer → Type 0) (rs : List Answer) (a : Answer) → IsNone P rs → ¬ (P a) → IsNone P (rs ++ a ∷ [])
 none-push P [] a none last = (last, tt)

@@ -9,11 +9,7 @@ ghost use Rattle.osm_import.specs.Step.{HasCause};
 use osm_store::{Extent, Keeper, StoreFault};
 use std::alloc::{AllocError, Global};
 
-fn gaps_between(
-    alloc: Global,
-    extents: &[Extent],
-    size: u64,
-) -> Result<Vec<(u64, u64)>, AllocError>
+fn gaps_between(alloc: Global, extents: &[Extent], size: u64) -> Result<Vec<(u64, u64)>, AllocError>
     ensures { IfOk result (λ gaps. gaps.items ≡ ranges_between 0 size extents.now) }
 {
     let mut gaps = Vec::new(alloc);

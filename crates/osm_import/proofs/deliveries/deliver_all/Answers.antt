@@ -34,8 +34,8 @@ loop-delivery-preserved g c =
           (cause-wider (K.failures c.args.keeper.now) (K.failures c.loop-delivery.keeper) (K.failures c.deliver-answer.new.keeper) (K.failures c.deliver-answer.new.keeper) c.deliver-answer.result inv.counted (omega arith) made.cause));
       own = λ held holds honest is_open.
           (let so_far = inv.run held holds (made.honest honest) (made.open_if is_open) in
-            subst (λ (rs : List Answer). AreOwn rs) (sym pushed) (own-push c.loop-delivery.answers.items c.deliver-answer.result
-                (inv.own held holds (made.honest honest) (made.open_if is_open)) (made.own so_far.0 so_far.2 honest)));
+          subst (λ (rs : List Answer). AreOwn rs) (sym pushed) (own-push c.loop-delivery.answers.items c.deliver-answer.result
+          (inv.own held holds (made.honest honest) (made.open_if is_open)) (made.own so_far.0 so_far.2 honest)));
       run = λ held holds honest is_open.
           runs-more (K.holds c.loop-delivery.keeper) (K.holds c.deliver-answer.new.keeper) (K.is_open c.deliver-answer.new.keeper) held c.args.deliveries.now c.loop-delivery.delivery-index _ c.delivery-item.result
           c.loop-delivery.answers.items c.push.new.self.items c.deliver-answer.result (omega arith) c.delivery.view_is c.delivery-item.is pushed

@@ -27,11 +27,11 @@ loop-delivery-preserved g c =
       honest = λ h. inv.honest (made.honest h);
       sound = subst (λ (rs : List Answer). IsNone IsFault rs) (sym pushed) (none-push IsFault c.loop-delivery.answers.items c.deliver-answer.result inv.sound sound);
       unbroken = λ held holds honest.
-        runs-step (K.holds c.loop-delivery.keeper) (K.holds c.deliver-answer.new.keeper) held c.args.deliveries.now c.loop-delivery.delivery-index _ c.delivery-item.result
+          runs-step (K.holds c.loop-delivery.keeper) (K.holds c.deliver-answer.new.keeper) held c.args.deliveries.now c.loop-delivery.delivery-index _ c.delivery-item.result
           c.loop-delivery.answers.items c.push.new.self.items c.deliver-answer.result (omega arith) c.delivery.view_is c.delivery-item.is pushed
           (inv.unbroken held holds (made.honest honest))
           (λ now holds_now. delivers-sound (K.is_open c.deliver-answer.new.keeper) (K.holds c.deliver-answer.new.keeper) now c.delivery.inside.off c.delivery.inside.bytes.now c.deliver-answer.result sound
-            (made.step now holds_now honest));
+          (made.step now holds_now honest));
     }
 
 pub returns-in-Fault : goal.returns-in-Fault
@@ -40,14 +40,18 @@ returns-in-Fault g c =
     let inv = c.loop-delivery.invariant in
     let made = c.deliver-answer.ensures in
     let pushed : c.push.new.self.items ≡ c.loop-delivery.answers.items ++ c.deliver-answer.result ∷ [] = rw c.unwrap.ensures at c.push.ensures.items in
-    record { crash = λ held holds honest.
-      let run = inv.unbroken held holds (made.honest honest) in
-      leaves-fault-at (K.leaves c.deliver-answer.new.keeper) held c.args.deliveries.now c.loop-delivery.delivery-index _ c.delivery-item.result c.loop-delivery.answers.items c.push.new.self.items c.deliver-answer.result
-        (omega arith) c.delivery.view_is c.delivery-item.is pushed run.0 run.1 inv.sound (subst (λ (a : Answer). IsFault a) (sym c.in-Fault.is) tt) (made.crash run.0 run.2 honest) }
+    record {
+      crash = λ held holds honest.
+          let run = inv.unbroken held holds (made.honest honest) in
+          leaves-fault-at (K.leaves c.deliver-answer.new.keeper) held c.args.deliveries.now c.loop-delivery.delivery-index _ c.delivery-item.result c.loop-delivery.answers.items c.push.new.self.items c.deliver-answer.result
+          (omega arith) c.delivery.view_is c.delivery-item.is pushed run.0 run.1 inv.sound (subst (λ (a : Answer). IsFault a) (sym c.in-Fault.is) tt) (made.crash run.0 run.2 honest);
+    }
 
 pub returns : goal.returns
 returns g c =
     let K = g.K.Keeper in
-    record { crash = λ held holds honest.
-      let run = runs-all (K.holds c.loop-delivery.keeper) held c.args.deliveries.now c.loop-delivery.delivery-index c.loop-delivery.answers.items (omega arith) (c.loop-delivery.invariant.unbroken held holds honest) in
-      leaves-run (K.leaves c.loop-delivery.keeper) held c.args.deliveries.now c.loop-delivery.answers.items run.0 run.1 c.loop-delivery.invariant.sound (λ left it. g.met.K.Keeper.settled _ run.0 left run.2 it) }
+    record {
+      crash = λ held holds honest.
+          let run = runs-all (K.holds c.loop-delivery.keeper) held c.args.deliveries.now c.loop-delivery.delivery-index c.loop-delivery.answers.items (omega arith) (c.loop-delivery.invariant.unbroken held holds honest) in
+          leaves-run (K.leaves c.loop-delivery.keeper) held c.args.deliveries.now c.loop-delivery.answers.items run.0 run.1 c.loop-delivery.invariant.sound (λ left it. g.met.K.Keeper.settled _ run.0 left run.2 it);
+    }
