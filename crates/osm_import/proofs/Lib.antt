@@ -1,5 +1,6 @@
 pub mod Delivering
 pub mod ExamineLemmas
+pub mod ExportLemmas
 pub mod FilesLemmas
 pub mod GapsLemmas
 pub mod GoodLaws
@@ -8,3 +9,4 @@ pub mod OpenLaws
 pub mod RunsLemmas
 pub mod StepLaws
 pub mod Touching
+pub mod WritingLemmas

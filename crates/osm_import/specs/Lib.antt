@@ -1,5 +1,7 @@
 pub mod Bad
 pub mod Deliveries
+pub mod ExportCauses
+pub mod Exports
 pub mod Files
 pub mod Gaps
 pub mod Good

@@ -1,6 +1,8 @@
 //! STAND-IN, to be replaced by `osm_block`'s own: what reads a header block and a primitive block.
 
-ghost use Rattle.std.specs.Prelude.{◌≡◌};
+ghost use Rattle.std.specs.Prelude.{◌≡◌, List, IfOk};
+ghost use Rattle.osm_value.specs.declared.element.Element.{Element as ElementValue};
+ghost use Rattle.osm_store.specs.Loading.{HasRowsOf};
 ghost use Rattle.osm_block.specs.Block.{Block};
 ghost use Rattle.osm_block.specs.Phases.{Gives, fault};
 ghost use Rattle.osm_import.specs.Pending.{IsRead, header_fault};
@@ -8,7 +10,8 @@ ghost use Rattle.osm_import.specs.Pending.{IsRead, header_fault};
 use osm_block::BlockError;
 use osm_value::Element;
 use pbf_wire::WireFault;
-use std::alloc::Global;
+use osm_store::Loaded;
+use std::alloc::{AllocError, Global};
 use thiserror::Error;
 
 /// Why a header block is refused.
@@ -35,4 +38,13 @@ pub fn read_block(_alloc: Global, bytes: &[u8]) -> Result<Vec<Element<'_>>, Bloc
 {
     let _ = bytes;
     Err(BlockError::Memory)
+}
+
+/// STAND-IN, to be replaced by `Loaded::elements`.
+pub fn elements_of(alloc: Global, loaded: &Loaded) -> Result<Vec<Element<'_>>, AllocError>
+    ensures { (es : List ElementValue) → HasRowsOf loaded.now es → IfOk result (λ v. v.items ≡ es) }
+{
+    let _ = alloc;
+    let _ = loaded;
+    Err(AllocError)
 }
