@@ -16,15 +16,16 @@ use Rattle.pbf_frame.proofs.FrameLaws.{faults_again, whole_again, whole_trailing
 use Rattle.pbf_frame.proofs.BlobLaws.{raw_takes, raw_again, blob_faults, blob_faults_again}
 use Rattle.osm_block.specs.declared.fault.BlockFault.{BlockFault}
 use Rattle.osm_block.specs.Block.{Block}
+use Rattle.osm_block.proofs.UniqueDense.{Block-unique}
 use Rattle.osm_block.specs.Phases.{fault as block_fault}
-use Rattle.osm_import.specs.declared.pending.HeaderFault.{HeaderFault}
-use Rattle.osm_import.specs.Pending.{header_fault}
+use Rattle.osm_block.specs.declared.header.fault.HeaderFault.{HeaderFault}
+use Rattle.osm_block.specs.HeaderBlock.{header_fault}
 use Rattle.osm_import.specs.Good.{IsGood, IsPlaced, HasElements}
 use Rattle.osm_import.specs.Bad.{IsBad, IsBadFrame, CanStand, IsMisplaced, IsBadBlob}
 use Rattle.osm_import.specs.declared.fault.Fault.{Fault}
 use Rattle.osm_import.specs.declared.fault.Fault.TheVariants as faults
 use Rattle.osm_import.specs.declared.examination.ExamineFault.TheVariants as found
-use Rattle.osm_import.proofs.OpenLaws.{one_list_of_elements, block_has_no_fault, faultless_is_block}
+use Rattle.osm_import.proofs.OpenLaws.{block_has_no_fault, faultless_is_block}
 use Rattle.osm_import.proofs.ExamineLemmas.{whole-faults, misplaced, good-of, finding-of}
 
 -- ---- the plain reading
@@ -284,7 +285,7 @@ elements-same : (kind : Kind) (blob : List ℕ) (a b : List Element) → HasElem
 elements-same Other blob a b x y = x ∙ sym y
 elements-same OsmHeader blob a b x y = x.3 ∙ sym y.3
 elements-same OsmData blob a b x y =
-    one_list_of_elements a b y.0 (subst (Block a) (raw-same blob x.0 y.0 x.1 y.1) x.2) y.2
+    Block-unique a b y.0 (subst (Block a) (raw-same blob x.0 y.0 x.1 y.1) x.2) y.2
 
 -- kind and elements of a good delivery are fixed
 pub good-same : (off : ℕ) (w : List ℕ) (kind other : Kind) (a b : List Element) → IsGood off w kind a → IsGood off w other b → (kind ≡ other) × (a ≡ b)

@@ -5,10 +5,6 @@ use Rattle.osm_block.specs.Block.{Block}
 use Rattle.osm_block.specs.Phases.{fault}
 use Rattle.osm_store.specs.Held.{HaveFewTexts}
 
--- a block says one list of elements
-pub one_list_of_elements : (es fs : List Element) (w : List ℕ) → Block es w → Block fs w → es ≡ fs
-one_list_of_elements es fs w b c = ?
-
 -- where a block says elements, no phase stands
 pub block_has_no_fault : (es : List Element) (w : List ℕ) → Block es w → fault w ≡ None
 block_has_no_fault es w b = ?

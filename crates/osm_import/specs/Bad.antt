@@ -7,7 +7,7 @@ use Rattle.pbf_frame.specs.declared.fault.FrameFault.TheVariants as frames
 use Rattle.pbf_frame.specs.Frame.{Frame, FirstFault, kind_of}
 use Rattle.pbf_frame.specs.Blob.{Raw, IsBlobFault}
 use Rattle.osm_block.specs.Phases.{fault}
-use Rattle.osm_import.specs.Pending.{header_fault}
+use Rattle.osm_block.specs.HeaderBlock.{header_fault}
 use Rattle.osm_import.specs.Good.{IsFrame, IsPlaced}
 use Rattle.osm_import.specs.declared.fault.Fault.{Fault}
 use Rattle.osm_import.specs.declared.fault.Fault.TheVariants.{Frame as FrameFaulty, NoHeaderFirst, HeaderNotFirst, Blob, Header, Block}

@@ -6,7 +6,7 @@ use Rattle.pbf_frame.specs.declared.kind.Kind.TheVariants.{OsmHeader, OsmData, O
 use Rattle.pbf_frame.specs.Frame.{Frame, kind_of}
 use Rattle.pbf_frame.specs.Blob.{Raw}
 use Rattle.osm_block.specs.Block.{Block}
-use Rattle.osm_import.specs.Pending.{header_fault}
+use Rattle.osm_block.specs.HeaderBlock.{header_fault}
 
 -- one whole frame, and nothing behind it
 abbrev pub IsFrame : List ℕ → Type 0

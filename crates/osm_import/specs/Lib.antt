@@ -6,6 +6,5 @@ pub mod Files
 pub mod Gaps
 pub mod Good
 pub mod Histories
-pub mod Pending
 pub mod Runs
 pub mod Step

@@ -6,8 +6,7 @@ ghost use Rattle.osm_import.specs.Good.{IsGood, HasElements};
 ghost use Rattle.osm_import.specs.Bad.{IsFinding, CanStand, IsMisplaced, IsBadBlob, IsBlobFinding};
 
 use crate::fault::Fault;
-use crate::pending::{read_block, read_header_block};
-use osm_block::BlockError;
+use osm_block::{BlockError, read_block, read_header_block};
 use osm_value::Element;
 use pbf_frame::{FrameFault, Kind, raw, whole_frame};
 use std::alloc::Global;

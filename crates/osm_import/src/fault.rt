@@ -1,7 +1,7 @@
 //! What is wrong with a delivery.
 
-use crate::pending::HeaderFault;
-use osm_block::BlockFault;
+
+use osm_block::{BlockFault, HeaderFault};
 use pbf_frame::{BlobFault, FrameFault};
 use thiserror::Error;
 
