@@ -6,4 +6,16 @@ pub mod FirstUses
 pub mod BlockJoined
 pub mod TextsRead
 pub mod GroupsJoin
-pub mod NumbersRead
+pub mod Pieces
+pub mod Segments
+pub mod Values
+pub mod Known
+pub mod InfoRead
+pub mod DeltasRead
+pub mod ElementRead
+pub mod Columns
+pub mod DenseInfoRead
+pub mod DenseRead
+pub mod RunsRead
+pub mod GroupRead
+pub mod BlockRead

@@ -9,6 +9,7 @@ mod dense;
 mod fault;
 mod group;
 mod groups;
+pub mod laws;
 mod message;
 mod parts;
 mod scale;
