@@ -13,7 +13,7 @@ use Rattle.osm_store.specs.Keeping.{touches, extents_of, extent_of}
 use Rattle.osm_store.specs.declared.keeper.Extent.{Extent}
 use Rattle.osm_import.specs.Step.{IsEntry, IsHeldAlready, IsHeldOtherwise, IsOverlapping, IsStoring}
 use Rattle.osm_import.proofs.GoodLaws.{frame-filled}
-use Rattle.osm_import.proofs.OpenLaws.{block_uses_few_texts}
+use Rattle.osm_import.proofs.FewTexts.{block_uses_few_texts}
 use Rattle.osm_import.proofs.Touching.{extent_found, find_touching, free-none, touching-meets, Meets}
 
 pub good-filled : (off : ℕ) (frame : List ℕ) (kind : Kind) (elements : List Element) → IsGood off frame kind elements → off < off + length frame

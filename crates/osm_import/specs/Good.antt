@@ -6,6 +6,7 @@ use Rattle.pbf_frame.specs.declared.kind.Kind.TheVariants.{OsmHeader, OsmData, O
 use Rattle.pbf_frame.specs.Frame.{Frame, kind_of}
 use Rattle.pbf_frame.specs.Blob.{Raw}
 use Rattle.osm_block.specs.Block.{Block}
+use Rattle.osm_block.specs.Phases.{fault}
 use Rattle.osm_block.specs.HeaderBlock.{header_fault}
 
 -- one whole frame, and nothing behind it
@@ -18,10 +19,10 @@ pub record IsPlaced (off : ℕ) (type blob w : List ℕ) : Type 0 where
   pub limit : off + length w ≤ 2 ^ 62
   pub header_first : (off ≡ 0) ↔ (kind_of type ≡ OsmHeader)
 
--- the elements of a blob of that kind: those of an OSMData's block; none of an OSMHeader, whose header block
+-- the elements of a blob of that kind: those of an OSMData's block, in which no fault stands; none of an OSMHeader, whose header block
 -- has no fault; and none of another kind, whose blob isn't read
 abbrev pub HasElements : Kind → List ℕ → List Element → Type 0
-HasElements OsmData blob es = (block : List ℕ) × Raw blob block × Block es block
+HasElements OsmData blob es = (block : List ℕ) × Raw blob block × Block es block × (fault block ≡ None)
 HasElements OsmHeader blob es = (block : List ℕ) × Raw blob block × (header_fault block ≡ None) × (es ≡ [])
 HasElements Other blob es = es ≡ []
 
@@ -32,3 +33,7 @@ pub record IsGood (off : ℕ) (w : List ℕ) (kind : Kind) (es : List Element) :
   pub placed : IsPlaced off type_name blob w
   pub kind_is : kind ≡ kind_of type_name
   pub content : HasElements kind blob es
+
+-- a law of blocks: one in which no fault stands says some elements
+abbrev pub FaultlessBlocksSay : Type 0
+FaultlessBlocksSay = (block : List ℕ) → fault block ≡ None → (es : List Element) × Block es block

@@ -8,3 +8,5 @@ pub mod Good
 pub mod Histories
 pub mod Runs
 pub mod Step
+pub mod Faults
+pub mod Pending

@@ -1,5 +1,8 @@
 //! What a delivery is answered with.
 
+ghost use Rattle.std.specs.Prelude.{◌≡◌};
+ghost use Rattle.osm_import.specs.Faults.{conflict_number_of, conflict_name_of};
+
 use crate::fault::Fault;
 use osm_store::StoreFault;
 use thiserror::Error;
@@ -11,6 +14,28 @@ pub enum Conflict {
     Differs,
     #[error("the blob's extent meets that of a held one")]
     Overlap,
+}
+
+impl Conflict {
+    /// The number that this fault has in every message of the program.
+    pub fn number(self) -> u8
+        ensures { result ≡ conflict_number_of self }
+    {
+        match self {
+            Conflict::Differs => 63,
+            Conflict::Overlap => 64,
+        }
+    }
+
+    /// The name that this fault has in every message of the program.
+    pub fn name(self) -> &'static str
+        ensures { result.now ≡ conflict_name_of self }
+    {
+        match self {
+            Conflict::Differs => "Differs",
+            Conflict::Overlap => "Overlap",
+        }
+    }
 }
 
 /// What a delivery is answered with. Every answer but `Stored` has changed nothing.

@@ -1,6 +1,9 @@
 //! What is wrong with a delivery.
 
+ghost use Rattle.std.specs.Prelude.{◌≡◌};
+ghost use Rattle.osm_import.specs.Faults.{number_of, name_of};
 
+use crate::pending::{block_name, block_number};
 use osm_block::{BlockFault, HeaderFault};
 use pbf_frame::{BlobFault, FrameFault};
 use thiserror::Error;
@@ -21,4 +24,34 @@ pub enum Fault {
     Header(HeaderFault),
     #[error("{0:?}")]
     Block(BlockFault),
+}
+
+impl Fault {
+    /// The number that this fault has in every message of the program.
+    pub fn number(self) -> u8
+        ensures { result ≡ number_of self }
+    {
+        match self {
+            Fault::Frame(fault) => fault.number(),
+            Fault::NoHeaderFirst => 61,
+            Fault::HeaderNotFirst => 62,
+            Fault::Blob(fault) => fault.number(),
+            Fault::Header(fault) => fault.number(),
+            Fault::Block(fault) => block_number(fault),
+        }
+    }
+
+    /// The name that this fault has in every message of the program.
+    pub fn name(self) -> &'static str
+        ensures { result.now ≡ name_of self }
+    {
+        match self {
+            Fault::Frame(fault) => fault.name(),
+            Fault::NoHeaderFirst => "NoHeaderFirst",
+            Fault::HeaderNotFirst => "HeaderNotFirst",
+            Fault::Blob(fault) => fault.name(),
+            Fault::Header(fault) => fault.name(),
+            Fault::Block(fault) => block_name(fault),
+        }
+    }
 }
