@@ -137,9 +137,10 @@ element_known s (elements.Relation r) h texts places times =
 elements_known : (s : Scale) (es : List Element) → AllByRecursion IsElement es → AllByRecursion (IsKnown s) (flat_map texts_of es) → AllByRecursion (Whole s.granularity) (flat_map places_of es)
     → AllByRecursion (Whole s.date_granularity) (flat_map times_of es) → AllByRecursion (ElementIsKnown s) es
 elements_known s [] h texts places times = tt
-elements_known s (e ∷ es) h texts places times =
-    (element_known s e h.0 (all_front _ _ _ texts) (all_front _ _ _ places) (all_front _ _ _ times),
-     elements_known s es h.1 (all_back _ (texts_of e) _ texts) (all_back _ (places_of e) _ places) (all_back _ (times_of e) _ times))
+elements_known s (e ∷ es) h texts places times = (
+  element_known s e h.0 (all_front _ _ _ texts) (all_front _ _ _ places) (all_front _ _ _ times),
+  elements_known s es h.1 (all_back _ (texts_of e) _ texts) (all_back _ (places_of e) _ places) (all_back _ (times_of e) _ times),
+)
 
 -- ---- groups
 
@@ -149,9 +150,13 @@ grouped gs = flat_map (λ g. g) gs
 groups_joined : (s : Scale) (gs : List (List Element)) → IsScale s → AllByRecursion (ElementIsKnown s) (grouped gs) → AllByRecursion IsRun gs
     → AllByRecursion (λ (bs : List ℕ). length bs < 2 ^ 64) (map (group_bytes s) gs) → Joins (GroupOf (context_of s)) (grouped gs) (map (group_bytes s) gs)
 groups_joined s [] sc all runs short = refl
-groups_joined s (g ∷ gs) sc all runs short =
-    (g, grouped gs, refl, group_read s g sc (all_front (ElementIsKnown s) g (grouped gs) all) runs.0 short.0,
-     groups_joined s gs sc (all_back (ElementIsKnown s) g (grouped gs) all) runs.1 short.1)
+groups_joined s (g ∷ gs) sc all runs short = (
+  g,
+  grouped gs,
+  refl,
+  group_read s g sc (all_front (ElementIsKnown s) g (grouped gs) all) runs.0 short.0,
+  groups_joined s gs sc (all_back (ElementIsKnown s) g (grouped gs) all) runs.1 short.1,
+)
 
 -- ---- texts
 
@@ -217,7 +222,7 @@ four_parts a b c d = simp (append_assoc, append-nil)
 bytes_are : (s : Scale) (es : List Element) → block_bytes s es ≡ bytes_in (block_segments s es)
 bytes_are s es =
     rw (mapped_groups s (groups_of es), granularity_is 17 100 s.granularity, granularity_is 18 1000 s.date_granularity)
-      (four_parts (bytes_field 1 (table_bytes s)) (flat_map (bytes_field 2) (map (group_bytes s) (groups_of es))) (optional (number_field 17) (unless 100 s.granularity)) (optional (number_field 18) (unless 1000 s.date_granularity)))
+    (four_parts (bytes_field 1 (table_bytes s)) (flat_map (bytes_field 2) (map (group_bytes s) (groups_of es))) (optional (number_field 17) (unless 100 s.granularity)) (optional (number_field 18) (unless 1000 s.date_granularity)))
 
 unless_fits : (default n : ℕ) → n < 2 ^ 31 → AllByRecursion (λ m. m < 2 ^ 64) (option_to_list (unless default n))
 unless_fits default n small = by (n == default)
@@ -249,11 +254,16 @@ block_all s es h =
     let p = length-append (T ++ []) (G ++ (optional (number_field 17) (unless 100 s.granularity) ++ (optional (number_field 18) (unless 1000 s.date_granularity) ++ []))) in
     let q = length-append G (optional (number_field 17) (unless 100 s.granularity) ++ (optional (number_field 18) (unless 1000 s.date_granularity) ++ [])) in
     let table : length (T ++ []) < 2 ^ 64 = omega arith in
-    let groups : length G < 2 ^ 64 = omega arith in
-    (is_repeated_segment 1 refl (omega arith) (table_bytes s ∷ []) (each_short 1 (table_bytes s ∷ []) table),
-     (is_repeated_segment 2 refl (omega arith) (map (group_bytes s) (groups_of es)) (each_short 2 (map (group_bytes s) (groups_of es)) groups),
-      (is_optional_segment 17 refl (omega arith) (unless 100 s.granularity) (unless_fits 100 s.granularity h.scale.small),
-       (is_optional_segment 18 refl (omega arith) (unless 1000 s.date_granularity) (unless_fits 1000 s.date_granularity h.scale.date_small), tt))))
+    let groups : length G < 2 ^ 64 = omega arith in (
+      is_repeated_segment 1 refl (omega arith) (table_bytes s ∷ []) (each_short 1 (table_bytes s ∷ []) table),
+      (
+        is_repeated_segment 2 refl (omega arith) (map (group_bytes s) (groups_of es)) (each_short 2 (map (group_bytes s) (groups_of es)) groups),
+        (
+          is_optional_segment 17 refl (omega arith) (unless 100 s.granularity) (unless_fits 100 s.granularity h.scale.small),
+          (is_optional_segment 18 refl (omega arith) (unless 1000 s.date_granularity) (unless_fits 1000 s.date_granularity h.scale.date_small), tt),
+        ),
+      ),
+    )
 
 groups_short : (s : Scale) (es : List Element) → BlockIsWritten s es → AllByRecursion (λ (bs : List ℕ). length bs < 2 ^ 64) (map (group_bytes s) (groups_of es))
 groups_short s es h =
@@ -358,7 +368,7 @@ scale_is es =
     let b = divisor_is 1000 (flat_map times_of es) (record { some = omega arith; small = omega arith }) in
     record { some = a.some; small = a.small; date_some = b.some; date_small = b.small }
 
-texts_are : (es : List Element) → (scale_of es).texts ≡ first_uses (flat_map texts_of es)
+pub texts_are : (es : List Element) → (scale_of es).texts ≡ first_uses (flat_map texts_of es)
 unfolding scale_of
 texts_are es = refl
 

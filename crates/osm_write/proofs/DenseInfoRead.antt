@@ -117,18 +117,25 @@ segments_are s is short =
     let p = length-append (A ++ B ++ C ++ D) E in
     let q = length-append (A ++ B ++ C) D in
     let r = length-append (A ++ B) C in
-    let t = length-append A B in
-    (is_message_segment 1 refl (omega arith) (flat_map number (versions_of is)) (omega arith),
-     (is_message_segment 2 refl (omega arith) (flat_map number (deltas_of (all_times s is))) (omega arith),
-      (is_message_segment 3 refl (omega arith) (flat_map number (deltas_of (changesets_of is))) (omega arith),
-       (is_message_segment 4 refl (omega arith) (flat_map number (deltas_of (uids_of is))) (omega arith),
-        (is_message_segment 5 refl (omega arith) (flat_map number (deltas_of (users_of s is))) (omega arith), tt)))))
+    let t = length-append A B in (
+      is_message_segment 1 refl (omega arith) (flat_map number (versions_of is)) (omega arith),
+      (
+        is_message_segment 2 refl (omega arith) (flat_map number (deltas_of (all_times s is))) (omega arith),
+        (
+          is_message_segment 3 refl (omega arith) (flat_map number (deltas_of (changesets_of is))) (omega arith),
+          (
+            is_message_segment 4 refl (omega arith) (flat_map number (deltas_of (uids_of is))) (omega arith),
+            (is_message_segment 5 refl (omega arith) (flat_map number (deltas_of (users_of s is))) (omega arith), tt),
+          ),
+        ),
+      ),
+    )
 
 pub dense_info_is_message : (s : Scale) (is : List InfoValue) → length (dense_info_bytes s is) < 2 ^ 64 → IsMessage (entries_of (dense_info_segments s is)) (dense_info_bytes s is)
 dense_info_is_message s is short =
     message_read (dense_info_segments s is) (dense_info_bytes s is)
-      (five_parts (packed_field 1 (versions_of is)) (delta_field 2 (all_times s is)) (delta_field 3 (changesets_of is)) (delta_field 4 (uids_of is)) (delta_field 5 (users_of s is)))
-      (segments_are s is short)
+    (five_parts (packed_field 1 (versions_of is)) (delta_field 2 (all_times s is)) (delta_field 3 (changesets_of is)) (delta_field 4 (uids_of is)) (delta_field 5 (users_of s is)))
+    (segments_are s is short)
 
 -- ---- what is read
 
@@ -178,20 +185,20 @@ dense_info_read s is sc all same short =
       arrays = subst Q (sym m.fields_are) (all_append IsNone _ _ a.sound (all_append IsNone _ _ b.sound (all_append IsNone _ _ c.sound (all_append IsNone _ _ d.sound (all_append IsNone _ _ e.sound tt)))));
       holds = subst P (sym m.fields_are) (record {
         versions_are = rw (a.nums_are, map_two version int32 (versions_of is))
-          (column_of (λ (i : InfoValue). i.version) (λ (i : InfoValue). option_map (cast_unsigned w64) i.version) (λ n. version (int32 n)) same.version.0 is
+            (column_of (λ (i : InfoValue). i.version) (λ (i : InfoValue). option_map (cast_unsigned w64) i.version) (λ n. version (int32 n)) same.version.0 is
             (uniform_mapped (cast_unsigned w64) (λ (i : InfoValue). i.version) same.version.0 is same.version.1) (all_of (IsWritten s) _ is (λ i w. version_part i.version w.in_range.version) all));
         times_are = rw b.nums_are
-          (stands (λ (i : InfoValue). i.time) (λ (i : InfoValue). times_of s i.time) (time (pos s.date_granularity)) same.time.0 is (map sint64 (deltas_of (all_times s is)))
+            (stands (λ (i : InfoValue). i.time) (λ (i : InfoValue). times_of s i.time) (time (pos s.date_granularity)) same.time.0 is (map sint64 (deltas_of (all_times s is)))
             (uniform_mapped (λ z. int_div z (pos s.date_granularity)) (λ (i : InfoValue). i.time) same.time.0 is same.time.1) (all_of (IsWritten s) _ is (λ i w. time_part s i.time w.time) all)
             (diff_read (all_times s is) (times_wide s is all)));
         changesets_are = rw c.nums_are
-          (stands (λ (i : InfoValue). i.changeset) (λ (i : InfoValue). i.changeset) (λ v. v) same.changeset.0 is (map sint64 (deltas_of (changesets_of is)))
+            (stands (λ (i : InfoValue). i.changeset) (λ (i : InfoValue). i.changeset) (λ v. v) same.changeset.0 is (map sint64 (deltas_of (changesets_of is)))
             same.changeset.1 (all_of (IsWritten s) _ is (λ i w. own_part i.changeset) all) (diff_read (changesets_of is) (changesets_wide s is all)));
         uids_are = rw d.nums_are
-          (stands (λ (i : InfoValue). i.uid) (λ (i : InfoValue). i.uid) (λ v. v) same.uid.0 is (map sint32 (deltas_of (uids_of is)))
+            (stands (λ (i : InfoValue). i.uid) (λ (i : InfoValue). i.uid) (λ v. v) same.uid.0 is (map sint32 (deltas_of (uids_of is)))
             same.uid.1 (all_of (IsWritten s) _ is (λ i w. own_part i.uid) all) (diff_read_32 (uids_of is) (uids_small s is all)));
         users_are = rw e.nums_are
-          (stands (λ (i : InfoValue). option_map Some i.user) (λ (i : InfoValue). option_map (λ t. pos (index_of s t)) i.user) (text_at ([] ∷ s.texts)) same.user.0 is (map sint32 (deltas_of (users_of s is)))
+            (stands (λ (i : InfoValue). option_map Some i.user) (λ (i : InfoValue). option_map (λ t. pos (index_of s t)) i.user) (text_at ([] ∷ s.texts)) same.user.0 is (map sint32 (deltas_of (users_of s is)))
             (uniform_mapped (λ t. pos (index_of s t)) (λ (i : InfoValue). i.user) same.user.0 is same.user.1) (all_of (IsWritten s) _ is (λ i w. user_part s i.user w.user) all)
             (diff_read_32 (users_of s is) (users_small s is all)));
         no_visible = rw x refl;

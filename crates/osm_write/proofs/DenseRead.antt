@@ -86,9 +86,11 @@ no_pairs s (n ∷ ns) none = (here n.tags (or_left (nat_lt 0 (length n.tags)) (l
     or_left : (a b : Bool) → (a || b) ≡ false → a ≡ false
     or_left true b e = e
     or_left false b e = refl
+
     or_right : (a b : Bool) → (a || b) ≡ false → b ≡ false
     or_right true b e = absurd (cc)
     or_right false b e = e
+
     here : (tags : List (Text × Text)) → nat_lt 0 (length tags) ≡ false → map (pair_of s) tags ≡ []
     here [] e = refl
     here (t ∷ tags) e = let f : nat_lt 0 (suc (length tags)) ≡ true = lt-ltb 0 (suc (length tags)) (omega arith) in absurd (true≢false (sym f ∙ e))
@@ -182,12 +184,19 @@ segments_are s ns short =
     let p = length-append (A ++ B ++ C ++ D) E in
     let q = length-append (A ++ B ++ C) D in
     let r = length-append (A ++ B) C in
-    let t = length-append A B in
-    (is_message_segment 1 refl (omega arith) (flat_map number (deltas_of (ids_of ns))) (omega arith),
-     (is_message_segment 5 refl (omega arith) (dense_info_bytes s (infos_of ns)) b,
-      (is_message_segment 8 refl (omega arith) (flat_map number (deltas_of (lats_of s ns))) (omega arith),
-       (is_message_segment 9 refl (omega arith) (flat_map number (deltas_of (lons_of s ns))) (omega arith),
-        (is_message_segment 10 refl (omega arith) (flat_map number (keys_vals_of s ns)) (omega arith), tt)))))
+    let t = length-append A B in (
+      is_message_segment 1 refl (omega arith) (flat_map number (deltas_of (ids_of ns))) (omega arith),
+      (
+        is_message_segment 5 refl (omega arith) (dense_info_bytes s (infos_of ns)) b,
+        (
+          is_message_segment 8 refl (omega arith) (flat_map number (deltas_of (lats_of s ns))) (omega arith),
+          (
+            is_message_segment 9 refl (omega arith) (flat_map number (deltas_of (lons_of s ns))) (omega arith),
+            (is_message_segment 10 refl (omega arith) (flat_map number (keys_vals_of s ns)) (omega arith), tt),
+          ),
+        ),
+      ),
+    )
 
 -- what is read of the nodes, and that the payloads are as they should be
 pub record IsDense (s : Scale) (ns : List NodeValue) (w : List ℕ) : Type 0 where
@@ -203,7 +212,7 @@ dense_read s ns sc all same short =
     let ss : List Segment = dense_segments s ns in
     let whole = segments_are s ns short in
     let m = message_read ss (dense_bytes s ns)
-          (five_parts (delta_field 1 (ids_of ns)) (message_field 5 (dense_info_bytes s (infos_of ns))) (delta_field 8 (lats_of s ns)) (delta_field 9 (lons_of s ns)) (packed_field 10 (keys_vals_of s ns))) whole in
+    (five_parts (delta_field 1 (ids_of ns)) (message_field 5 (dense_info_bytes s (infos_of ns))) (delta_field 8 (lats_of s ns)) (delta_field 9 (lons_of s ns)) (packed_field 10 (keys_vals_of s ns))) whole in
     let ids_wide : AllByRecursion IsWide (ids_of ns) = all_mapped_by (NodeIsWritten s) IsWide (λ (n : NodeValue). n.id) ns (λ n w. w.in_range.id) all in
     let lats_wide : AllByRecursion IsWide (lats_of s ns) = all_mapped_by (NodeIsWritten s) IsWide (λ (n : NodeValue). raw_place s n.lat) ns (λ n w. quotient_is_wide s.granularity n.lat w.in_range.lat) all in
     let lons_wide : AllByRecursion IsWide (lons_of s ns) = all_mapped_by (NodeIsWritten s) IsWide (λ (n : NodeValue). raw_place s n.lon) ns (λ n w. quotient_is_wide s.granularity n.lon w.in_range.lon) all in
@@ -213,7 +222,7 @@ dense_read s ns sc all same short =
     let d = packed_at ss whole 9 (deltas_of (lons_of s ns)) (append-nil _) (deltas_fit (lons_of s ns) lons_wide) in
     let e = packed_at ss whole 10 (keys_vals_of s ns) (append-nil _) (keys_vals_fit s ns all) in
     let info : each (entries_of ss) 5 ≡ payloads_of (dense_info_bytes s (infos_of ns)) =
-        each_at ss whole 5 (message_entries 5 (dense_info_bytes s (infos_of ns))) (append-nil _) ∙ message_each 5 (dense_info_bytes s (infos_of ns)) in
+    each_at ss whole 5 (message_entries 5 (dense_info_bytes s (infos_of ns))) (append-nil _) ∙ message_each 5 (dense_info_bytes s (infos_of ns)) in
     let subs : sub (entries_of ss) 5 ≡ fields (dense_info_bytes s (infos_of ns)) = rw info (message_sub (dense_info_bytes s (infos_of ns))) in
     let P : List Entry → Type 0 = λ fs. DenseOf (context_of s) ns (dense_message fs) in
     let Q : List Entry → Type 0 = λ fs. AllByRecursion (IsNone {T = WireFault}) (map packed (each fs 1) ++ (map packed (each fs 8) ++ (map packed (each fs 9) ++ (map packed (each fs 10) ++ [])))) in

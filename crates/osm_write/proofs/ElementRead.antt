@@ -59,11 +59,16 @@ head_all s id tags i more h all =
     let c = message_long 4 (info_bytes s i) in
     let d = length-append (number 8 ++ number (cast_unsigned w64 id) ++ packed_field 2 (keys_of s tags) ++ packed_field 3 (values_of s tags)) (message_field 4 (info_bytes s i)) in
     let e = length-append (number 8 ++ number (cast_unsigned w64 id) ++ packed_field 2 (keys_of s tags)) (packed_field 3 (values_of s tags)) in
-    let f = length-append (number 8 ++ number (cast_unsigned w64 id)) (packed_field 2 (keys_of s tags)) in
-    (is_number_segment 1 refl (omega arith) (cast_unsigned w64 id) (int64_small id (wide_fits id h.wide)),
-     (is_message_segment 2 refl (omega arith) (flat_map number (keys_of s tags)) (omega arith),
-      (is_message_segment 3 refl (omega arith) (flat_map number (values_of s tags)) (omega arith),
-       (is_message_segment 4 refl (omega arith) (info_bytes s i) (omega arith), all))))
+    let f = length-append (number 8 ++ number (cast_unsigned w64 id)) (packed_field 2 (keys_of s tags)) in (
+      is_number_segment 1 refl (omega arith) (cast_unsigned w64 id) (int64_small id (wide_fits id h.wide)),
+      (
+        is_message_segment 2 refl (omega arith) (flat_map number (keys_of s tags)) (omega arith),
+        (
+          is_message_segment 3 refl (omega arith) (flat_map number (values_of s tags)) (omega arith),
+          (is_message_segment 4 refl (omega arith) (info_bytes s i) (omega arith), all),
+        ),
+      ),
+    )
 
 -- what is read of the head
 record IsHead (s : Scale) (id : ℤ) (tags : List (Text × Text)) (i : InfoValue) (es : List Entry) : Type 0 where
@@ -119,8 +124,8 @@ way_all s w h =
 way_is_message : (s : Scale) (w : WayValue) → WayIsWritten s w → IsMessage (entries_of (way_segments s w)) (way_bytes s w)
 way_is_message s w h =
     message_read (way_segments s w) (way_bytes s w)
-      (five_parts (number 8 ++ number (cast_unsigned w64 w.id)) (packed_field 2 (keys_of s w.tags)) (packed_field 3 (values_of s w.tags)) (message_field 4 (info_bytes s w.info)) (packed_field 8 (deltas_of w.refs)))
-      (head_all s w.id w.tags w.info (message_segment 8 (flat_map number (deltas_of w.refs)) ∷ []) h.head (way_all s w h))
+    (five_parts (number 8 ++ number (cast_unsigned w64 w.id)) (packed_field 2 (keys_of s w.tags)) (packed_field 3 (values_of s w.tags)) (message_field 4 (info_bytes s w.info)) (packed_field 8 (deltas_of w.refs)))
+    (head_all s w.id w.tags w.info (message_segment 8 (flat_map number (deltas_of w.refs)) ∷ []) h.head (way_all s w h))
 
 pub way_read : (s : Scale) (w : WayValue) → WayIsWritten s w → IsElementOf (Way (way_bytes s w)) (WayOf (context_of s) w (way_message (fields (way_bytes s w))))
 way_read s w h =
@@ -133,8 +138,11 @@ way_read s w h =
     let P : List Entry → Type 0 = λ fs. WayOf (context_of s) w (way_message fs) in
     let Q : List Entry → Type 0 = λ fs. AllByRecursion (IsNone {T = WireFault}) (map wire (each fs 4) ++ (map packed (each fs 2) ++ (map packed (each fs 3) ++ (map packed (each fs 8) ++ [])))) in
     record {
-      sound = (rw m.sound refl, subst Q (sym m.fields_are)
-        (all_append IsNone _ _ d.info_sound (all_append IsNone _ _ d.keys.sound (all_append IsNone _ _ d.values.sound (all_append IsNone _ _ r.sound tt)))));
+      sound = (
+        rw m.sound refl,
+        subst Q (sym m.fields_are)
+            (all_append IsNone _ _ d.info_sound (all_append IsNone _ _ d.keys.sound (all_append IsNone _ _ d.values.sound (all_append IsNone _ _ r.sound tt)))),
+      );
       holds = subst P (sym m.fields_are) (record {
         id_is = rw d.id_is (ap Some (sym (int64_read w.id (wide_fits w.id h.in_range.id))));
         refs_are = rw r.nums_are (diff_read w.refs h.in_range.refs);
@@ -182,17 +190,20 @@ members_all s r h =
     let c = message_long 10 (flat_map number (kinds_of r.members)) in
     let d = length-append (head_bytes s r.id r.tags r.info) (members_bytes s r.members) in
     let e = length-append (packed_field 8 (roles_of s r.members) ++ packed_field 9 (deltas_of (ids_of r.members))) (packed_field 10 (kinds_of r.members)) in
-    let f = length-append (packed_field 8 (roles_of s r.members)) (packed_field 9 (deltas_of (ids_of r.members))) in
-    (is_message_segment 8 refl (omega arith) (flat_map number (roles_of s r.members)) (omega arith),
-     (is_message_segment 9 refl (omega arith) (flat_map number (deltas_of (ids_of r.members))) (omega arith),
-      (is_message_segment 10 refl (omega arith) (flat_map number (kinds_of r.members)) (omega arith), tt)))
+    let f = length-append (packed_field 8 (roles_of s r.members)) (packed_field 9 (deltas_of (ids_of r.members))) in (
+      is_message_segment 8 refl (omega arith) (flat_map number (roles_of s r.members)) (omega arith),
+      (
+        is_message_segment 9 refl (omega arith) (flat_map number (deltas_of (ids_of r.members))) (omega arith),
+        (is_message_segment 10 refl (omega arith) (flat_map number (kinds_of r.members)) (omega arith), tt),
+      ),
+    )
 
 relation_is_message : (s : Scale) (r : RelationValue) → RelationIsWritten s r → IsMessage (entries_of (relation_segments s r)) (relation_bytes s r)
 relation_is_message s r h =
     message_read (relation_segments s r) (relation_bytes s r)
-      (seven_parts (number 8 ++ number (cast_unsigned w64 r.id)) (packed_field 2 (keys_of s r.tags)) (packed_field 3 (values_of s r.tags)) (message_field 4 (info_bytes s r.info))
-        (packed_field 8 (roles_of s r.members)) (packed_field 9 (deltas_of (ids_of r.members))) (packed_field 10 (kinds_of r.members)))
-      (head_all s r.id r.tags r.info (member_segments s r.members) h.head (members_all s r h))
+    (seven_parts (number 8 ++ number (cast_unsigned w64 r.id)) (packed_field 2 (keys_of s r.tags)) (packed_field 3 (values_of s r.tags)) (message_field 4 (info_bytes s r.info))
+    (packed_field 8 (roles_of s r.members)) (packed_field 9 (deltas_of (ids_of r.members))) (packed_field 10 (kinds_of r.members)))
+    (head_all s r.id r.tags r.info (member_segments s r.members) h.head (members_all s r h))
 
 kind_read : (k : MemberKind) → (number_of_kind k < 3) × (kind (pos (number_of_kind k)) ≡ Some k)
 kind_read kinds.Node = (omega arith, refl)
@@ -228,11 +239,14 @@ relation_read s r h =
     let c = packed_at ss all 10 (kinds_of r.members) (append-nil _) (kinds_fit r.members) in
     let P : List Entry → Type 0 = λ fs. RelationOf (context_of s) r (relation_message fs) in
     let Q : List Entry → Type 0 = λ fs. AllByRecursion (IsNone {T = WireFault}) (map wire (each fs 4)
-        ++ (map packed (each fs 2) ++ (map packed (each fs 3) ++ (map packed (each fs 8) ++ (map packed (each fs 9) ++ (map packed (each fs 10) ++ [])))))) in
+    ++ (map packed (each fs 2) ++ (map packed (each fs 3) ++ (map packed (each fs 8) ++ (map packed (each fs 9) ++ (map packed (each fs 10) ++ [])))))) in
     record {
-      sound = (rw m.sound refl, subst Q (sym m.fields_are)
-        (all_append IsNone _ _ d.info_sound (all_append IsNone _ _ d.keys.sound (all_append IsNone _ _ d.values.sound
-          (all_append IsNone _ _ a.sound (all_append IsNone _ _ b.sound (all_append IsNone _ _ c.sound tt)))))));
+      sound = (
+        rw m.sound refl,
+        subst Q (sym m.fields_are)
+            (all_append IsNone _ _ d.info_sound (all_append IsNone _ _ d.keys.sound (all_append IsNone _ _ d.values.sound
+            (all_append IsNone _ _ a.sound (all_append IsNone _ _ b.sound (all_append IsNone _ _ c.sound tt)))))),
+      );
       holds = subst P (sym m.fields_are) (record {
         id_is = rw d.id_is (ap Some (sym (int64_read r.id (wide_fits r.id h.in_range.id))));
         memids_are = rw b.nums_are (diff_read (ids_of r.members) wide);

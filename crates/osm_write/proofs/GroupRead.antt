@@ -82,22 +82,29 @@ abbrev Says : Context → List Element → Message → Type 0
 Says b xs m = AllAreWire m × MessageOf b xs m
 
 no_dense : (b : Context) → Says b [] (Dense [])
-no_dense b = (tt, ([], refl, record {
-  ids_are = record { are = refl; fit = tt };
-  lats_are = ([], record { are = refl; fit = tt }, refl);
-  lons_are = ([], record { are = refl; fit = tt }, refl);
-  tags_are = ([], inl (refl, tt), refl);
-  infos_are = record {
-    versions_are = refl;
-    times_are = ([], record { are = refl; fit = tt }, refl);
-    changesets_are = ([], record { are = refl; fit = tt }, refl);
-    uids_are = ([], record { are = refl; fit = tt }, refl);
-    users_are = ([], record { are = refl; fit = tt }, refl);
-    no_visible = refl;
-    in_range = tt;
-  };
-  in_range = tt;
-}))
+no_dense b = (
+  tt,
+  (
+    [],
+    refl,
+    record {
+      ids_are = record { are = refl; fit = tt };
+      lats_are = ([], record { are = refl; fit = tt }, refl);
+      lons_are = ([], record { are = refl; fit = tt }, refl);
+      tags_are = ([], inl (refl, tt), refl);
+      infos_are = record {
+        versions_are = refl;
+        times_are = ([], record { are = refl; fit = tt }, refl);
+        changesets_are = ([], record { are = refl; fit = tt }, refl);
+        uids_are = ([], record { are = refl; fit = tt }, refl);
+        users_are = ([], record { are = refl; fit = tt }, refl);
+        no_visible = refl;
+        in_range = tt;
+      };
+      in_range = tt;
+    },
+  ),
+)
 
 -- ---- a group of nodes
 
@@ -139,11 +146,12 @@ dense_says : (s : Scale) (ns : List NodeValue) (w : List ℕ) → IsDense s ns w
 dense_says s ns w h =
     let same : flat_map fields (payloads_of w) ≡ fields w = message_sub w in
     let Q : List Entry → Type 0 = λ fs. AllByRecursion (IsNone {T = WireFault})
-          (map wire (payloads_of w) ++ map wire (each fs 5) ++ (map packed (each fs 1) ++ (map packed (each fs 8) ++ (map packed (each fs 9) ++ (map packed (each fs 10) ++ []))))
-            ++ (map packed (each (sub fs 5) 1) ++ (map packed (each (sub fs 5) 2) ++ (map packed (each (sub fs 5) 3) ++ (map packed (each (sub fs 5) 4) ++ (map packed (each (sub fs 5) 5) ++ [])))))) in
-    let P : List Entry → Type 0 = λ fs. DenseOf (context_of s) ns (dense_message fs) in
-    (subst Q (sym same) (all_append IsNone _ _ (all_append IsNone _ _ (all_append IsNone _ _ (payloads_sound w h.sound) h.info_sound) h.arrays) h.info_arrays),
-     (ns, refl, subst P (sym same) h.holds))
+    (map wire (payloads_of w) ++ map wire (each fs 5) ++ (map packed (each fs 1) ++ (map packed (each fs 8) ++ (map packed (each fs 9) ++ (map packed (each fs 10) ++ []))))
+    ++ (map packed (each (sub fs 5) 1) ++ (map packed (each (sub fs 5) 2) ++ (map packed (each (sub fs 5) 3) ++ (map packed (each (sub fs 5) 4) ++ (map packed (each (sub fs 5) 5) ++ [])))))) in
+    let P : List Entry → Type 0 = λ fs. DenseOf (context_of s) ns (dense_message fs) in (
+      subst Q (sym same) (all_append IsNone _ _ (all_append IsNone _ _ (all_append IsNone _ _ (payloads_sound w h.sound) h.info_sound) h.arrays) h.info_arrays),
+      (ns, refl, subst P (sym same) h.holds),
+    )
 
 nodes_group : (s : Scale) (ns : List NodeValue) (g : List ℕ) → g ≡ message_field 2 (dense_bytes s ns) ++ [] → IsDense s ns (dense_bytes s ns) → length (dense_bytes s ns) < 2 ^ 64 → GroupOf (context_of s) (map elements.Node ns) g
 nodes_group s ns g is d within =
@@ -151,11 +159,11 @@ nodes_group s ns g is d within =
     let whole : AllByRecursion IsSegment ss = (is_message_segment 2 refl (omega arith) (dense_bytes s ns) within, tt) in
     let m = message_read ss g is whole in
     let only : IsOnly (entries_of ss) (payloads_of (dense_bytes s ns)) [] [] = record {
-          plain_are = each_at ss whole 1 [] refl;
-          dense_are = each_at ss whole 2 (message_entries 2 (dense_bytes s ns)) (append-nil _) ∙ message_each 2 (dense_bytes s ns);
-          ways_are = each_at ss whole 3 [] refl;
-          relations_are = each_at ss whole 4 [] refl;
-        } in
+      plain_are = each_at ss whole 1 [] refl;
+      dense_are = each_at ss whole 2 (message_entries 2 (dense_bytes s ns)) (append-nil _) ∙ message_each 2 (dense_bytes s ns);
+      ways_are = each_at ss whole 3 [] refl;
+      relations_are = each_at ss whole 4 [] refl;
+    } in
     let J : List Message → Type 0 = λ ms. Joins (Says (context_of s)) (map elements.Node ns) ms in
     let joins : J (Dense (payloads_of (dense_bytes s ns)) ∷ []) = (map elements.Node ns, [], sym (append-nil _), dense_says s ns (dense_bytes s ns) d, refl) in
     let K : List Entry → Type 0 = λ gs. kinds_in gs ≤ 1 in
@@ -207,11 +215,11 @@ ways_group s ws g sc all short is =
     let whole : AllByRecursion IsSegment ss = (is_repeated_segment 3 refl (omega arith) bss each_is, tt) in
     let m = message_read ss g (is ∙ sym (append-nil _)) whole in
     let only : IsOnly (entries_of ss) [] bss [] = record {
-          plain_are = each_at ss whole 1 [] refl;
-          dense_are = each_at ss whole 2 [] refl;
-          ways_are = each_at ss whole 3 (map (bytes_entry 3) bss) (append-nil _) ∙ repeated_each 3 bss;
-          relations_are = each_at ss whole 4 [] refl;
-        } in
+      plain_are = each_at ss whole 1 [] refl;
+      dense_are = each_at ss whole 2 [] refl;
+      ways_are = each_at ss whole 3 (map (bytes_entry 3) bss) (append-nil _) ∙ repeated_each 3 bss;
+      relations_are = each_at ss whole 4 [] refl;
+    } in
     let J : List Message → Type 0 = λ ms. Joins (Says (context_of s)) (map elements.Way ws) ms in
     let joins : J (Dense [] ∷ (map Way bss ++ [])) = ([], map elements.Way ws, refl, no_dense (context_of s), ways_join s ws sc all each_is) in
     let K : List Entry → Type 0 = λ gs. kinds_in gs ≤ 1 in
@@ -231,11 +239,11 @@ relations_group s rs g sc all short is =
     let whole : AllByRecursion IsSegment ss = (is_repeated_segment 4 refl (omega arith) bss each_is, tt) in
     let m = message_read ss g (is ∙ sym (append-nil _)) whole in
     let only : IsOnly (entries_of ss) [] [] bss = record {
-          plain_are = each_at ss whole 1 [] refl;
-          dense_are = each_at ss whole 2 [] refl;
-          ways_are = each_at ss whole 3 [] refl;
-          relations_are = each_at ss whole 4 (map (bytes_entry 4) bss) (append-nil _) ∙ repeated_each 4 bss;
-        } in
+      plain_are = each_at ss whole 1 [] refl;
+      dense_are = each_at ss whole 2 [] refl;
+      ways_are = each_at ss whole 3 [] refl;
+      relations_are = each_at ss whole 4 (map (bytes_entry 4) bss) (append-nil _) ∙ repeated_each 4 bss;
+    } in
     let J : List Message → Type 0 = λ ms. Joins (Says (context_of s)) (map elements.Relation rs) ms in
     let joins : J (Dense [] ∷ map Relation bss) = ([], map elements.Relation rs, refl, no_dense (context_of s), relations_join s rs sc all each_is) in
     let K : List Entry → Type 0 = λ gs. kinds_in gs ≤ 1 in

@@ -55,12 +55,19 @@ users_fit s None h = tt
 users_fit s (Some t) h = (let lt = h.0.small in omega arith, tt)
 
 all_segments : (s : Scale) (i : InfoValue) → IsScale s → IsWritten s i → AllByRecursion IsSegment (info_segments s i)
-all_segments s i sc w =
-    (is_optional_segment 1 refl (omega arith) (bits_of i.version) (versions_fit i.version w.in_range.version),
-     (is_optional_segment 2 refl (omega arith) (bits_of (times_of s i.time)) (times_fit s sc i.time w.in_range.time),
-      (is_optional_segment 3 refl (omega arith) (bits_of i.changeset) (wides_fit i.changeset w.in_range.changeset),
-       (is_optional_segment 4 refl (omega arith) (bits_of i.uid) (uids_fit i.uid w.in_range.uid),
-        (is_optional_segment 5 refl (omega arith) (option_map (index_of s) i.user) (users_fit s i.user w.user), tt)))))
+all_segments s i sc w = (
+  is_optional_segment 1 refl (omega arith) (bits_of i.version) (versions_fit i.version w.in_range.version),
+  (
+    is_optional_segment 2 refl (omega arith) (bits_of (times_of s i.time)) (times_fit s sc i.time w.in_range.time),
+    (
+      is_optional_segment 3 refl (omega arith) (bits_of i.changeset) (wides_fit i.changeset w.in_range.changeset),
+      (
+        is_optional_segment 4 refl (omega arith) (bits_of i.uid) (uids_fit i.uid w.in_range.uid),
+        (is_optional_segment 5 refl (omega arith) (option_map (index_of s) i.user) (users_fit s i.user w.user), tt),
+      ),
+    ),
+  ),
+)
 
 optional_mapped : {A B : Type 0} (f : B → List ℕ) (g : A → B) (o : Option A) → optional (λ x. f (g x)) o ≡ optional f (option_map g o)
 optional_mapped f g None = refl
@@ -74,7 +81,7 @@ bytes_are s i =
     let d = optional_mapped (number_field 4) (cast_unsigned w64) i.uid in
     let e = optional_mapped (number_field 5) (index_of s) i.user in
     rw (a, b, c, d, e) (five_parts (optional (number_field 1) (bits_of i.version)) (optional (number_field 2) (bits_of (times_of s i.time))) (optional (number_field 3) (bits_of i.changeset))
-      (optional (number_field 4) (bits_of i.uid)) (optional (number_field 5) (option_map (index_of s) i.user)))
+    (optional (number_field 4) (bits_of i.uid)) (optional (number_field 5) (option_map (index_of s) i.user)))
 
 pub info_is_message : (s : Scale) (i : InfoValue) → IsScale s → IsWritten s i → IsMessage (entries_of (info_segments s i)) (info_bytes s i)
 info_is_message s i sc w = message_read (info_segments s i) (info_bytes s i) (bytes_are s i) (all_segments s i sc w)

@@ -19,3 +19,5 @@ pub mod DenseRead
 pub mod RunsRead
 pub mod GroupRead
 pub mod BlockRead
+pub mod Bounds
+pub mod HeaderRead

@@ -100,7 +100,7 @@ module _ (k : ℕ) (is_number : is_field_number k ≡ true) (small : k < 2 ^ 29)
   repeated_spelled [] short = refl
   repeated_spelled (bs ∷ bss) short =
       fields_join (bytes_entry k bs ∷ []) (map (bytes_entry k) bss) (bytes_field k bs) (flat_map (bytes_field k) bss)
-        (one_field (bytes_entry k bs) (bytes_field k bs) (bytes_field_spelled k bs is_number small short.0)) (repeated_spelled bss short.1)
+      (one_field (bytes_entry k bs) (bytes_field k bs) (bytes_field_spelled k bs is_number small short.0)) (repeated_spelled bss short.1)
 
   repeated_only : (bss : List (List ℕ)) → AllByRecursion (λ (f : Entry). f.number ≡ k) (map (bytes_entry k) bss)
   repeated_only [] = tt
