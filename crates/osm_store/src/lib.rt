@@ -1,9 +1,13 @@
 //! A store of blobs: a finite map from offsets, kept in the tables of a database.
 #![tactic(auto)]
 
+mod create;
+mod encode;
 mod fault;
 mod keeper;
 mod loaded;
+mod rows;
+mod sql;
 
 pub use fault::StoreFault;
 pub use keeper::{Extent, Keeper};
