@@ -6,3 +6,14 @@ pub mod Adds
 pub mod MakeSteps
 pub mod RowSteps
 pub mod Placing
+pub mod SortedLists
+pub mod TableReads
+pub mod ReadTexts
+pub mod SelectLemmas
+pub mod AnswerLemmas
+pub mod RowLemmas
+pub mod CompareLemmas
+pub mod CauseLemmas
+pub mod ReadLemmas
+pub mod NestedLists
+pub mod HeldLemmas

@@ -50,3 +50,8 @@ name_of Full = codes "Full"
 name_of Interrupted = codes "Interrupted"
 name_of Disk = codes "Disk"
 name_of (NotThisStore found) = codes "NotThisStore"
+
+-- a column that doesn't read as wanted is that of a row of no map
+abbrev pub unread_fault : Error → StoreFault
+unread_fault (SqliteFailure code.OutOfMemory) = Memory
+unread_fault _ = NotThisStore None

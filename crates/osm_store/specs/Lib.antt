@@ -6,3 +6,6 @@ pub mod Tables
 pub mod Rows
 pub mod Steps
 pub mod Faults
+pub mod Holding
+pub mod Asking
+pub mod Selects

@@ -1,5 +1,6 @@
 -- The rows that a held map stands for.
-use Rattle.std.specs.Prelude.{ℕ, ◌+◌, ℤ, pos, List, [], ◌∷◌, flat_map}
+use Rattle.std.specs.Prelude.{ℕ, ◌+◌, ◌^◌, ◌<◌, ◌==◌, ◌&&◌, Bool, ℤ, pos, List, [], ◌∷◌, flat_map, length}
+use Rattle.std.specs.Ordering.{int_eq}
 use Rattle.std.specs.FinMap.{entries}
 use Rattle.sqlite.specs.declared.types.Value.TheVariants.{Null, Int, Blob as Octets}
 use Rattle.sqlite.specs.Order.{Row}
@@ -7,6 +8,7 @@ use Rattle.osm_value.specs.declared.element.Element.{Element}
 use Rattle.osm_value.specs.declared.element.Element.TheVariants as elements
 use Rattle.osm_value.specs.declared.element.MemberKind.{MemberKind}
 use Rattle.osm_value.specs.declared.element.MemberKind.TheVariants.{Node, Way, Relation}
+use Rattle.osm_value.specs.Elements.{IsElement}
 use Rattle.osm_write.specs.Canon.{canon}
 use Rattle.pbf_frame.specs.declared.kind.Kind.{Kind}
 use Rattle.pbf_frame.specs.declared.kind.Kind.TheVariants.{OsmHeader, OsmData, Other}
@@ -60,3 +62,23 @@ body_columns off position kind id block = Int (pos off) ∷ Int (pos position) �
 -- an element is kept as the canonical block of itself alone
 abbrev pub body_row : Placed → Row
 body_row p = body_columns p.0 p.1 (kind_of p.2) (id_of p.2) (canon (p.2 ∷ []))
+
+-- what a query shows of an extent
+abbrev pub extent_columns : Extent → Row
+extent_columns e = Int (pos e.off) ∷ Int (pos e.fin) ∷ Octets e.digest ∷ Int (pos (blob_code e.kind)) ∷ Int (pos e.n) ∷ []
+
+-- what a query on one blob shows of an element, and what one on all blobs shows
+abbrev pub block_row : Element → Row
+block_row e = Octets (canon (e ∷ [])) ∷ []
+
+abbrev pub found_row : Placed → Row
+found_row p = Int (pos p.0) ∷ Int (pos p.1) ∷ Octets (canon (p.2 ∷ [])) ∷ []
+
+-- whether the element has this kind and this id
+abbrev pub is_of : MemberKind → ℤ → Placed → Bool
+is_of kind id p = (element_code (kind_of p.2) == element_code kind) && int_eq (id_of p.2) id
+
+-- inside its ranges, and its block has a length
+pub record HasBlock (e : Element) : Type 0 where
+  pub in_range : IsElement e
+  pub short : length (canon (e ∷ [])) < 2 ^ 64

@@ -2,7 +2,7 @@
 
 ghost use Rattle.std.specs.Prelude.{◌≡◌};
 ghost use Rattle.osm_store.specs.declared.fault.StoreFault.TheVariants.{Memory};
-ghost use Rattle.osm_store.specs.Faults.{fault_of, fault_of_code, fault_over_unknown, fault_of_unknown_code, number_of, name_of};
+ghost use Rattle.osm_store.specs.Faults.{fault_of, fault_of_code, fault_over_unknown, fault_of_unknown_code, unread_fault, number_of, name_of};
 
 use sqlite::{Error as SqlError, ErrorCode};
 use std::alloc::{AllocError, AllocFailed};
@@ -117,6 +117,16 @@ fn fault_of_unknown_code(code: ErrorCode) -> StoreFault
         | ErrorCode::DatabaseBusy
         | ErrorCode::CannotOpen
         | ErrorCode::Closed => fault_of_code(code),
+        _ => StoreFault::NotThisStore(None),
+    }
+}
+
+/// What a column that doesn't read as wanted means: a row of no map, or want of memory.
+pub(crate) fn unread(error: SqlError) -> StoreFault
+    ensures { result ≡ unread_fault error }
+{
+    match error {
+        SqlError::SqliteFailure(ErrorCode::OutOfMemory) => StoreFault::Memory,
         _ => StoreFault::NotThisStore(None),
     }
 }

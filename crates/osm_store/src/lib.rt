@@ -1,8 +1,10 @@
 //! A store of blobs: a finite map from offsets, kept in the tables of a database.
 #![tactic(auto)]
 
+mod answer;
 mod create;
 mod encode;
+mod extents;
 mod fault;
 mod keeper;
 mod loaded;

@@ -7,7 +7,7 @@ ghost use Rattle.sqlite.specs.Held.{state};
 ghost use Rattle.osm_value.specs.Elements.{IsElement};
 ghost use Rattle.osm_store.specs.Tables.{store_schema};
 ghost use Rattle.osm_store.specs.Keeping.{IsForeign};
-ghost use Rattle.osm_store.specs.Rows.{blob_code, element_code, kind_of, id_of, placed, body_columns, body_row, extent_row};
+ghost use Rattle.osm_store.specs.Rows.{blob_code, element_code, kind_of, id_of, placed, body_columns, body_row, extent_row, HasBlock};
 ghost use Rattle.osm_store.specs.Steps.{IsWriting, AddsBody, AddsBodies, AddsExtent, Puts, Writes};
 
 use crate::encode::encode_one;
@@ -126,7 +126,7 @@ fn add_element<S: Alter>(
     ensures same_reference { transaction.new.conn.ghost_name ≡ transaction.old.conn.ghost_name }
     ensures added { HasCleanDisk (state S.Store transaction.new.conn.now) → IsWriting (state S.Store transaction.old.conn.now)
         → OnOk result (AddsBody (state S.Store transaction.old.conn.now) (state S.Store transaction.new.conn.now) (body_row (off, position, element.now))) }
-    ensures in_range { IsElement element.now }
+    ensures has_block { OnOk result (HasBlock element.now) }
     ensures inside { HasCleanDisk (state S.Store transaction.new.conn.now) → IsTrue (state S.Store transaction.old.conn.now).in_transaction → OnOk result (IsTrue (state S.Store transaction.new.conn.now).in_transaction) }
     ensures kept { HasCleanDisk (state S.Store transaction.new.conn.now) → KeepsCommit (state S.Store transaction.old.conn.now) (state S.Store transaction.new.conn.now) }
     ensures ours { IfErr result (λ fault. ¬ (IsForeign fault)) }
@@ -148,7 +148,7 @@ fn add_elements<S: Alter>(
     ensures same_reference { transaction.new.conn.ghost_name ≡ transaction.old.conn.ghost_name }
     ensures added { HasCleanDisk (state S.Store transaction.new.conn.now) → IsWriting (state S.Store transaction.old.conn.now)
         → OnOk result (AddsBodies (state S.Store transaction.old.conn.now) (state S.Store transaction.new.conn.now) (map body_row (placed off 0 elements.now))) }
-    ensures in_range { OnOk result (AllByRecursion IsElement elements.now) }
+    ensures have_blocks { OnOk result (AllByRecursion HasBlock elements.now) }
     ensures inside { HasCleanDisk (state S.Store transaction.new.conn.now) → IsTrue (state S.Store transaction.old.conn.now).in_transaction → OnOk result (IsTrue (state S.Store transaction.new.conn.now).in_transaction) }
     ensures kept { HasCleanDisk (state S.Store transaction.new.conn.now) → KeepsCommit (state S.Store transaction.old.conn.now) (state S.Store transaction.new.conn.now) }
     ensures ours { IfErr result (λ fault. ¬ (IsForeign fault)) }
@@ -171,7 +171,7 @@ fn write_rows<S: Alter>(
     ensures same_reference { transaction.new.conn.ghost_name ≡ transaction.old.conn.ghost_name }
     ensures written { HasCleanDisk (state S.Store transaction.new.conn.now)
         → OnOk result (Writes (state S.Store transaction.old.conn.now) (state S.Store transaction.new.conn.now) extent.now (map body_row (placed extent.now.off 0 elements.now))) }
-    ensures in_range { OnOk result (AllByRecursion IsElement elements.now) }
+    ensures have_blocks { OnOk result (AllByRecursion HasBlock elements.now) }
     ensures kept { HasCleanDisk (state S.Store transaction.new.conn.now) → KeepsCommit (state S.Store transaction.old.conn.now) (state S.Store transaction.new.conn.now) }
     ensures ours { IfErr result (λ fault. ¬ (IsForeign fault)) }
     ensures survives { Survives (state S.Store transaction.old.conn.now) (state S.Store transaction.new.conn.now) (λ _. ⊥) }
@@ -191,14 +191,14 @@ pub(crate) fn put_rows<S: Alter>(
     requires bounds { (extent.now.off ≤ 2 ^ 62) × (extent.now.fin ≤ 2 ^ 62) × (extent.now.n ≤ 2 ^ 62) }
     ensures added { HasCleanDisk (state S.Store connection.new) → (state S.Store connection.old).now.schema ≡ store_schema
         → OnOk result (((state S.Store connection.new).now.schema ≡ store_schema) × Puts (state S.Store connection.old).now.trees (state S.Store connection.new).now.trees extent.now (map body_row (placed extent.now.off 0 elements.now))) }
-    ensures in_range { OnOk result (AllByRecursion IsElement elements.now) }
+    ensures have_blocks { OnOk result (AllByRecursion HasBlock elements.now) }
     ensures committed { HasCleanDisk (state S.Store connection.new) → OnOk result (IsTrue (state S.Store connection.old).is_open × IsTrue (state S.Store connection.new).is_open × ((state S.Store connection.new).committed ≡ (state S.Store connection.new).now)) }
     ensures autocommit { (state S.Store connection.new).in_transaction ≡ false }
     ensures unchanged { HasCleanDisk (state S.Store connection.new) → IsTrue (state S.Store connection.new).is_open
         → OnErr result (IsTrue (state S.Store connection.old).is_open × ((state S.Store connection.new).now ≡ (state S.Store connection.old).now) × ((state S.Store connection.new).committed ≡ (state S.Store connection.old).committed)) }
     ensures ours { IfErr result (λ fault. ¬ (IsForeign fault)) }
     ensures crash { Survives (state S.Store connection.old) (state S.Store connection.new) (λ trees. IsTrue (state S.Store connection.old).is_open
-        × AllByRecursion IsElement elements.now
+        × AllByRecursion HasBlock elements.now
         × ((state S.Store connection.old).now.schema ≡ store_schema → Puts (state S.Store connection.old).now.trees trees extent.now (map body_row (placed extent.now.off 0 elements.now)))) }
 {
     let _settled = connection.is_autocommit();

@@ -3,8 +3,7 @@ use Rattle.sqlite.specs.State.{HasCleanDisk, Survives}
 use Rattle.sqlite.specs.Held.{state}
 use Rattle.sqlite.proofs.StateLemmas.{survives_then}
 use Rattle.sqlite.proofs.InsideLemmas.{keeps_then}
-use Rattle.osm_value.specs.Elements.{IsElement}
-use Rattle.osm_store.specs.Rows.{body_row, placed}
+use Rattle.osm_store.specs.Rows.{HasBlock, body_row, placed}
 use Rattle.osm_store.specs.Steps.{AddsBodies}
 use Rattle.osm_store.proofs.RowSteps.{survives_nothing, no_bodies, one_more}
 use Rattle.osm_store.proofs.Placing.{rows_more, all_more}
@@ -18,7 +17,7 @@ loop-position-init g c =
       survives = survives_nothing start;
       kept = λ clean. record { was_open = λ h. h; committed = λ _. refl };
       inside = λ clean inside. inside;
-      in_range = tt;
+      have_blocks = tt;
       added = λ clean over. no_bodies start over;
     }
 
@@ -39,7 +38,7 @@ loop-position-preserved g c =
       survives = survives;
       kept = λ clean. keeps_then start now next (c.loop-position.invariant.kept (before clean)) (c.add_element.ensures.kept clean);
       inside = λ clean inside. c.in_ok-add_element.ensures.inside clean (c.loop-position.invariant.inside (before clean) inside);
-      in_range = all_more IsElement es at e low c.index-elements-position.is c.loop-position.invariant.in_range c.add_element.ensures.in_range;
+      have_blocks = all_more HasBlock es at e low c.index-elements-position.is c.loop-position.invariant.have_blocks c.in_ok-add_element.ensures.has_block;
       added = λ clean over.
           let added = c.loop-position.invariant.added (before clean) over in
           subst (AddsBodies start next) (sym so_far) (one_more start now next (map body_row (placed c.args.off 0 (take at es))) (body_row (c.args.off, at, e)) added (c.in_ok-add_element.ensures.added clean added.over));

@@ -2,8 +2,7 @@ use Rattle.std.proofs.Common.{◌≡◌, map, take, IsTrue}
 use Rattle.std.specs.List.{AllByRecursion}
 use Rattle.sqlite.specs.State.{HasCleanDisk, KeepsCommit, Survives}
 use Rattle.sqlite.specs.Held.{state}
-use Rattle.osm_value.specs.Elements.{IsElement}
-use Rattle.osm_store.specs.Rows.{body_row, placed}
+use Rattle.osm_store.specs.Rows.{HasBlock, body_row, placed}
 use Rattle.osm_store.specs.Steps.{IsWriting, AddsBodies}
 use Rattle.osm_store.proofs.rows.add_elements.Given as goal
 
@@ -16,6 +15,6 @@ invariant-loop-position g l =
       survives : Survives old now (λ _. ⊥);
       kept : HasCleanDisk now → KeepsCommit old now;
       inside : HasCleanDisk now → IsTrue old.in_transaction → IsTrue now.in_transaction;
-      in_range : AllByRecursion IsElement (take l.position l.elements);
+      have_blocks : AllByRecursion HasBlock (take l.position l.elements);
       added : HasCleanDisk now → IsWriting old → AddsBodies old now (map body_row (placed l.off 0 (take l.position l.elements)));
     }
