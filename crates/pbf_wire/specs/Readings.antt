@@ -96,6 +96,10 @@ last fs k = last_or None (fitting number_of k fs)
 abbrev pub each : List Entry → ℕ → List (List ℕ)
 each fs k = fitting bytes_of k fs
 
+-- of a text or a payload, too
+abbrev pub last_bytes : List Entry → ℕ → Option (List ℕ)
+last_bytes fs k = last_or None (each fs k)
+
 -- an array of numbers: unpacked, packed or in several pieces, joined in order
 abbrev pub nums : List Entry → ℕ → List ℕ
 nums fs k = flat_map (λ ns. ns) (fitting numbers_of k fs)
