@@ -21,6 +21,9 @@ use Rattle.sqlite.specs.declared.error.Error.TheVariants.{SqliteFailure}
 use Rattle.sqlite.specs.declared.error.ErrorCode.TheVariants.{OperationInterrupted}
 use Rattle.sqlite.specs.State.{store_error}
 use Rattle.sqlite_trees.specs.declared.error.StoreError.{StoreError}
+use Rattle.sqlite_trees.specs.declared.error.StoreError.TheVariants.{OutOfMemory, Io, Corrupt, Full, Broken, Unstorable}
+use Rattle.osm_store.specs.Faults.{fault_over_unknown}
+use Rattle.osm_store.specs.Keeping.{IsForeign}
 use Rattle.osm_store.specs.Selects.{selects}
 use Rattle.osm_store.proofs.SelectLemmas.{query_plain}
 use Rattle.osm_store.proofs.TableReads.{select}
@@ -70,3 +73,16 @@ module _ (sql : List ℕ) (params : Row) (old new : State) (schema : Schema) (ha
         | inl typed ↦ absurd (true≢false (sym accepted ∙ ap (λ s. accepts_program s [] (select tree tests shown keys) params) (sym has) ∙ typed.1))
         | inr more ↦ elim more [ inl lost ↦ absurd (never_lost old.now.trees lost.1) | inr stopped ↦ inr stopped.0 ]
       ]
+
+code_ours : (cause : StoreError) → IsForeign (fault_over_unknown (store_error cause)) → ⊥
+code_ours OutOfMemory foreign = foreign
+code_ours Io foreign = foreign
+code_ours Corrupt foreign = foreign
+code_ours Full foreign = foreign
+code_ours Broken foreign = foreign
+code_ours Unstorable foreign = foreign
+
+-- such a cause doesn't say that the tables are another's
+pub cause_ours : (e : Error) → IsCause e → IsForeign (fault_over_unknown e) → ⊥
+cause_ours e (inl h) foreign = code_ours h.0 (subst (λ e. IsForeign (fault_over_unknown e)) h.1 foreign)
+cause_ours e (inr is) foreign = subst (λ e. IsForeign (fault_over_unknown e)) is foreign

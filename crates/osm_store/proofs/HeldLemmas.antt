@@ -1,94 +1,27 @@
 -- What the tables of a held map have.
-use Rattle.std.proofs.Common.{◌≡◌, ◌⊎◌, inl, inr, ℕ, ◌+◌, ◌<◌, ◌≤◌, ◌&&◌, Bool, true, false, T, IsTrue, List, [], ◌∷◌, map, drop, length, Some, None, Option, cond, eqb, refl, sym, ap, ap₂, subst, ◌∙◌, arith, IsPermutation, All, pos}
+use Rattle.std.proofs.Common.{◌≡◌, inl, inr, ℕ, suc, ◌+◌, ◌<◌, List, [], ◌∷◌, Some, slice_get, cond, eqb, map, drop, length, refl, sym, ap, ap₂, subst, ◌∙◌, IsPermutation, All, pos}
 use Rattle.std.specs.Prelude.{flat_map, filter}
 use Rattle.std.specs.List.{AllByRecursion}
-use Rattle.std.specs.Ordering.{nat_cmp, is_lt, eq_by_cmp}
-use Rattle.std.specs.Cmp.{nat_cmp_is, nat_cmp_total, unsigned_tied}
-use Rattle.std.specs.FinMap.Entries.{below_all}
-use Rattle.std.specs.FinMap.{entries, get, insert, find, put, is_sorted, entries_sorted, get-entries, entries-insert}
-use Rattle.std.proofs.lemmas.Bool.Decides.{eqb_tells, nat_tests}
+use Rattle.std.specs.Ordering.{nat_cmp}
+use Rattle.std.specs.Cmp.{unsigned_tied}
+use Rattle.std.specs.FinMap.{entries, get, find, get-entries}
+use Rattle.std.proofs.lemmas.Bool.Decides.{eqb_tells}
 use Rattle.std.proofs.lemmas.List.Elements.{All-from_recursion}
 use Rattle.std.proofs.lemmas.List.Sorted.{IsPermutation-sym}
-use Rattle.sqlite.specs.declared.types.Value.TheVariants.{Int}
 use Rattle.sqlite.specs.Order.{Row, column}
-use Rattle.sqlite.specs.Tree.{Trees}
 use Rattle.sqlite.specs.Effect.{Database}
 use Rattle.sqlite_trees.specs.Tree.{IsAscending}
-use Rattle.sqlite_trees.proofs.ListLemmas.{map-map, all_weaker, all-map, all_from_map, all-permutation, ascending-map, IsPermutation-same}
+use Rattle.sqlite_trees.proofs.ListLemmas.{all_weaker, all_both, all-map, all-filter, all-flat_map, all_from_map, all-permutation, ascending-map, IsPermutation-same}
 use Rattle.osm_value.specs.declared.element.Element.{Element}
 use Rattle.osm_store.specs.declared.keeper.Extent.{Extent}
-use Rattle.osm_store.specs.Held.{Blob, HeldMap}
+use Rattle.osm_store.specs.Held.{Blob, HeldMap, HasFewTexts}
 use Rattle.osm_store.specs.Keeping.{extent_of, extents_of}
-use Rattle.osm_store.specs.Rows.{Placed, placed, placed_in, body_row, extent_row, extent_columns}
+use Rattle.osm_store.specs.Rows.{Placed, placed, placed_in, HasBlock, IsStored, body_row, extent_row, extent_columns}
 use Rattle.osm_store.specs.Tables.{store_schema}
 use Rattle.osm_store.specs.Holding.{TablesHold, IsBlob, IsKept}
-use Rattle.osm_store.proofs.NestedLists.{nested_rise, nested_at}
-use Rattle.osm_store.proofs.ReadLemmas.{columns_at, HasExtents, HasElements, HasVersion, IsBefore, is_in}
-
-abbrev Entry : Type 0
-Entry = ℕ × Blob
-
--- ---- the entries of a map
-
-first : (a b : Bool) → T (a && b) → T a
-first true b p = tt
-first false b p = absurd p
-
-second : (a b : Bool) → T (a && b) → T b
-second true b p = p
-second false b p = absurd p
-
-less : (x y : ℕ) → T (is_lt (nat_cmp x y)) → x < y
-less x y p = grind (arith, nat_tests, p)
-
-below : (off : ℕ) (es : List Entry) → T (below_all nat_cmp off es) → AllByRecursion (λ (e : Entry). off < e.0) es
-below off [] p = tt
-below off (e ∷ es) p = (less off e.0 (first _ _ p), below off es (second _ _ p))
-
-rising : (es : List Entry) → T (is_sorted nat_cmp es) → IsAscending (λ (a b : Entry). a.0 < b.0) es
-rising [] p = tt
-rising (e ∷ es) p = (below e.0 es (first _ _ p), rising es (second _ _ p))
-
-pub entries_rise : (held : HeldMap) → IsAscending (λ (a b : Entry). a.0 < b.0) (entries held)
-entries_rise held = rising (entries held) (entries_sorted held)
-
-all_find : (P : Entry → Type 0) (es : List Entry) (off : ℕ) (blob : Blob) → AllByRecursion P es → find nat_cmp off es ≡ Some blob → P (off, blob)
-all_find P [] off blob all is = absurd (cc)
-all_find P (e ∷ es) off blob all is =
-    let known : cond (eqb off e.0) (Some e.1) (find nat_cmp off es) ≡ Some blob = ap (λ b. cond b (Some e.1) (find nat_cmp off es)) (sym (unsigned_tied off e.0)) ∙ is in
-    elim (eqb_tells off e.0) [
-      | inl (test, same) ↦
-          let there : Some e.1 ≡ Some blob = ap (λ b. cond b (Some e.1) (find nat_cmp off es)) (sym test) ∙ known in
-          let one : e.1 ≡ blob = cc in
-          subst (λ (b : Blob). P (off, b)) one (subst (λ n. P (n, e.1)) (sym same) all.0)
-      | inr (test, apart) ↦ all_find P es off blob all.1 (ap (λ b. cond b (Some e.1) (find nat_cmp off es)) (sym test) ∙ known)
-    ]
-
--- what holds of each entry holds of the blob at an offset
-pub all_held : (P : Entry → Type 0) (held : HeldMap) (off : ℕ) (blob : Blob) → AllByRecursion P (entries held) → get held off ≡ Some blob → P (off, blob)
-all_held P held off blob all is = all_find P (entries held) off blob all (sym (get-entries held off) ∙ is)
-
--- ---- the elements of a map, by offset and position
-
-placed_at : (off position : ℕ) (es : List Element) → AllByRecursion (λ (p : Placed). (p.0 ≡ off) × (position ≤ p.1)) (placed off position es)
-placed_at off position [] = tt
-placed_at off position (e ∷ es) = ((refl, omega arith), all_weaker _ _ (λ s h. (h.0, omega (arith, h.1))) _ (placed_at off (position + 1) es))
-
-placed_rise : (off position : ℕ) (es : List Element) → IsAscending (λ (a b : Placed). a.1 < b.1) (placed off position es)
-placed_rise off position [] = tt
-placed_rise off position (e ∷ es) = (all_weaker _ _ (λ s h. omega (arith, h.1)) _ (placed_at off (position + 1) es), placed_rise off (position + 1) es)
-
-abbrev pub within : Entry → List Placed
-within entry = placed entry.0 0 entry.1.elements
-
-here : (entry : Entry) → AllByRecursion (λ (p : Placed). p.0 ≡ entry.0) (within entry)
-here entry = all_weaker _ _ (λ s p. p.0) _ (placed_at entry.0 0 entry.1.elements)
-
-by_position : (entry : Entry) → IsAscending (λ (a b : Placed). a.1 < b.1) (within entry)
-by_position entry = placed_rise entry.0 0 entry.1.elements
-
-pub placed_in_rise : (held : HeldMap) → IsAscending IsBefore (placed_in held)
-placed_in_rise held = nested_rise (λ (e : Entry). e.0) (λ (p : Placed). p.0) (λ (a b : Placed). a.1 < b.1) within here by_position (entries held) (entries_rise held)
+use Rattle.osm_store.specs.PlacedLaws.{Entry, within, entries_rise, placed_in_rise, here, by_position, all_held}
+use Rattle.osm_store.specs.NestedLists.{nested_at}
+use Rattle.osm_store.proofs.ReadLemmas.{columns_at, HasExtents, HasElements, HasVersion, is_in}
 
 -- ---- the tables
 
@@ -147,3 +80,43 @@ digests es all = All-from_recursion _ _ (all-map (λ (extent : Extent). length e
 
 pub digests_of : (held : HeldMap) → IsKept held → All (λ (extent : Extent). length extent.digest ≡ 32) (extents_of held)
 digests_of held kept = digests (entries held) kept.blobs
+
+stored_both : (es : List Element) → AllByRecursion HasBlock es → AllByRecursion HasFewTexts es → AllByRecursion IsStored es
+stored_both = all_both HasBlock HasFewTexts IsStored (λ e has few. (has, few))
+
+pub blob_stored : (blob : Blob) → IsBlob blob → All IsStored blob.elements
+blob_stored blob is = All-from_recursion _ _ (stored_both blob.elements is.have_blocks is.few_texts)
+
+placed_stored : (off position : ℕ) (es : List Element) → AllByRecursion IsStored es → AllByRecursion (λ (p : Placed). IsStored p.2) (placed off position es)
+placed_stored off position [] h = tt
+placed_stored off position (e ∷ es) h = (h.0, placed_stored off (position + 1) es h.1)
+
+-- each held element is stored
+pub all_stored : (held : HeldMap) → IsKept held → AllByRecursion (λ (p : Placed). IsStored p.2) (placed_in held)
+all_stored held kept = all-flat_map _ within (entries held) (all_weaker _ _ (λ entry is. placed_stored entry.0 0 entry.1.elements (stored_both entry.1.elements is.have_blocks is.few_texts)) (entries held) kept.blobs)
+
+elements_of : (off position : ℕ) (es : List Element) → map (λ (p : Placed). p.2) (placed off position es) ≡ es
+elements_of off position [] = refl
+elements_of off position (e ∷ es) = ap (λ l. e ∷ l) (elements_of off (position + 1) es)
+
+at_entry : (es : List Entry) (off : ℕ) (blob : Blob) → find nat_cmp off es ≡ Some blob → (k : ℕ) × (slice_get es k ≡ Some (off, blob))
+at_entry [] off blob is = absurd (cc)
+at_entry (e ∷ es) off blob is =
+    let known : cond (eqb off e.0) (Some e.1) (find nat_cmp off es) ≡ Some blob = ap (λ b. cond b (Some e.1) (find nat_cmp off es)) (sym (unsigned_tied off e.0)) ∙ is in
+    elim (eqb_tells off e.0) [
+      | inl (test, same) ↦
+          let there : Some e.1 ≡ Some blob = ap (λ b. cond b (Some e.1) (find nat_cmp off es)) (sym test) ∙ known in
+          let one : e.1 ≡ blob = cc in
+          let make : ℕ → Blob → Entry = λ n b. (n, b) in
+          (0, ap Some (ap₂ make (sym same) one))
+      | inr (test, apart) ↦
+          let later = at_entry es off blob (ap (λ b. cond b (Some e.1) (find nat_cmp off es)) (sym test) ∙ known) in
+          (suc later.0, later.1)
+    ]
+
+-- the elements at an offset are those of the blob there
+pub elements_at : (held : HeldMap) (off : ℕ) (blob : Blob) → get held off ≡ Some blob → map (λ (p : Placed). p.2) (filter (is_in off) (placed_in held)) ≡ blob.elements
+elements_at held off blob is =
+    let there = at_entry (entries held) off blob (sym (get-entries held off) ∙ is) in
+    ap (map (λ (p : Placed). p.2)) (nested_at (λ (e : Entry). e.0) (λ (p : Placed). p.0) (λ (a b : Placed). a.1 < b.1) within here by_position (entries held) there.0 (off, blob) (entries_rise held) there.1)
+    ∙ elements_of off 0 blob.elements

@@ -6,7 +6,6 @@ pub mod Adds
 pub mod MakeSteps
 pub mod RowSteps
 pub mod Placing
-pub mod SortedLists
 pub mod TableReads
 pub mod ReadTexts
 pub mod SelectLemmas
@@ -15,5 +14,6 @@ pub mod RowLemmas
 pub mod CompareLemmas
 pub mod CauseLemmas
 pub mod ReadLemmas
-pub mod NestedLists
 pub mod HeldLemmas
+pub mod PutLemmas
+pub mod StoredRows

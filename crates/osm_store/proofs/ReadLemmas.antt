@@ -34,7 +34,9 @@ use Rattle.osm_store.specs.Rows.{Placed, body_row, extent_columns as shown_exten
 use Rattle.osm_store.specs.Selects.{selects}
 use Rattle.osm_store.proofs.CauseLemmas.{IsCause, takes, query_causes}
 use Rattle.osm_store.proofs.TableReads.{select, answer_is}
-use Rattle.osm_store.proofs.CompareLemmas.{lower, higher, same_number, same_int, numbers_below, numbers_tied}
+use Rattle.osm_store.proofs.CompareLemmas.{lower, higher, same_number, same_int}
+use Rattle.osm_store.specs.NumberOrder.{numbers_below, numbers_tied}
+use Rattle.osm_store.specs.PlacedLaws.{IsBefore}
 use Rattle.osm_store.proofs.ReadTexts.{compares, version_is, extents_is, extent_columns, touching_is, rows_are, element_is}
 
 -- the values at these places of a stored row, of which the rowid is place 0
@@ -46,10 +48,6 @@ pub record HasExtents (db : Database) (held : List Extent) : Type 0 where
   pub schema : db.schema ≡ store_schema
   pub rows : IsPermutation (map (columns_at (0 ∷ 2 ∷ 3 ∷ 4 ∷ 5 ∷ [])) (db.trees 1)) (map shown_extent held)
   pub ascending : IsAscending (λ a b. a.off < b.off) held
-
--- by offset and position
-abbrev pub IsBefore : Placed → Placed → Type 0
-IsBefore a b = (a.0 < b.0) ⊎ ((a.0 ≡ b.0) × (a.1 < b.1))
 
 -- the table `body` has the rows of these elements, which ascend; its rowid means nothing
 pub record HasElements (db : Database) (held : List Placed) : Type 0 where

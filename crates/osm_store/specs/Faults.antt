@@ -1,5 +1,5 @@
 -- The numbers and names of a store's faults, and which fault an error of `sqlite` is.
-use Rattle.std.specs.Prelude.{ℕ, List, codes, None}
+use Rattle.std.specs.Prelude.{ℕ, List, codes, Some, None}
 use Rattle.sqlite.specs.declared.error.Error.{Error}
 use Rattle.sqlite.specs.declared.error.Error.TheVariants.{SqliteFailure}
 use Rattle.sqlite.specs.declared.error.ErrorCode.{ErrorCode}
@@ -55,3 +55,8 @@ name_of (NotThisStore found) = codes "NotThisStore"
 abbrev pub unread_fault : Error → StoreFault
 unread_fault (SqliteFailure code.OutOfMemory) = Memory
 unread_fault _ = NotThisStore None
+
+-- no other version is named
+abbrev pub NamesNoVersion : StoreFault → Type 0
+NamesNoVersion (NotThisStore (Some version)) = ⊥
+NamesNoVersion _ = Unit {0}

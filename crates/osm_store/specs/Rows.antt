@@ -13,7 +13,7 @@ use Rattle.osm_write.specs.Canon.{canon}
 use Rattle.pbf_frame.specs.declared.kind.Kind.{Kind}
 use Rattle.pbf_frame.specs.declared.kind.Kind.TheVariants.{OsmHeader, OsmData, Other}
 use Rattle.osm_store.specs.declared.keeper.Extent.{Extent}
-use Rattle.osm_store.specs.Held.{Blob, HeldMap}
+use Rattle.osm_store.specs.Held.{Blob, HeldMap, HasFewTexts}
 
 abbrev pub blob_code : Kind → ℕ
 blob_code OsmHeader = 0
@@ -82,3 +82,7 @@ is_of kind id p = (element_code (kind_of p.2) == element_code kind) && int_eq (i
 pub record HasBlock (e : Element) : Type 0 where
   pub in_range : IsElement e
   pub short : length (canon (e ∷ [])) < 2 ^ 64
+
+-- what is known of each stored element
+abbrev pub IsStored : Element → Type 0
+IsStored e = HasBlock e × HasFewTexts e

@@ -2,7 +2,7 @@
 
 ghost use Rattle.std.specs.Prelude.{◌≡◌};
 ghost use Rattle.osm_store.specs.declared.fault.StoreFault.TheVariants.{Memory};
-ghost use Rattle.osm_store.specs.Faults.{fault_of, fault_of_code, fault_over_unknown, fault_of_unknown_code, unread_fault, number_of, name_of};
+ghost use Rattle.osm_store.specs.Faults.{fault_of, fault_of_code, fault_over_unknown, fault_of_unknown_code, unread_fault, number_of, name_of, NamesNoVersion};
 
 use sqlite::{Error as SqlError, ErrorCode};
 use std::alloc::{AllocError, AllocFailed};
@@ -79,7 +79,8 @@ impl From<SqlError> for StoreFault {
 }
 
 fn fault_of_code(code: ErrorCode) -> StoreFault
-    ensures { result ≡ fault_of_code code }
+    ensures exact { result ≡ fault_of_code code }
+    ensures unnamed { NamesNoVersion result }
 {
     match code {
         ErrorCode::OutOfMemory => StoreFault::Memory,
@@ -94,7 +95,8 @@ fn fault_of_code(code: ErrorCode) -> StoreFault
 
 /// What an error means where it isn't known whose tables the database has.
 pub(crate) fn fault_over_unknown(error: SqlError) -> StoreFault
-    ensures { result ≡ fault_over_unknown error }
+    ensures exact { result ≡ fault_over_unknown error }
+    ensures unnamed { NamesNoVersion result }
 {
     match error {
         SqlError::SqliteFailure(code) => fault_of_unknown_code(code),
@@ -103,7 +105,8 @@ pub(crate) fn fault_over_unknown(error: SqlError) -> StoreFault
 }
 
 fn fault_of_unknown_code(code: ErrorCode) -> StoreFault
-    ensures { result ≡ fault_of_unknown_code code }
+    ensures exact { result ≡ fault_of_unknown_code code }
+    ensures unnamed { NamesNoVersion result }
 {
     match code {
         ErrorCode::OutOfMemory
@@ -123,7 +126,8 @@ fn fault_of_unknown_code(code: ErrorCode) -> StoreFault
 
 /// What a column that doesn't read as wanted means: a row of no map, or want of memory.
 pub(crate) fn unread(error: SqlError) -> StoreFault
-    ensures { result ≡ unread_fault error }
+    ensures exact { result ≡ unread_fault error }
+    ensures unnamed { NamesNoVersion result }
 {
     match error {
         SqlError::SqliteFailure(ErrorCode::OutOfMemory) => StoreFault::Memory,

@@ -2,15 +2,21 @@
 #![tactic(auto)]
 
 mod answer;
+mod body_store;
 mod create;
-mod encode;
+mod elements;
 mod extents;
 mod fault;
+mod found;
 mod keeper;
 mod loaded;
+mod read_block;
 mod rows;
 mod sql;
+mod version;
 
+pub use body_store::BodyStore;
 pub use fault::StoreFault;
+pub use found::Found;
 pub use keeper::{Extent, Keeper};
 pub use loaded::Loaded;

@@ -10,11 +10,11 @@ ghost use Rattle.osm_store.specs.Keeping.{IsForeign};
 ghost use Rattle.osm_store.specs.Rows.{blob_code, element_code, kind_of, id_of, placed, body_columns, body_row, extent_row, HasBlock};
 ghost use Rattle.osm_store.specs.Steps.{IsWriting, AddsBody, AddsBodies, AddsExtent, Puts, Writes};
 
-use crate::encode::encode_one;
 use crate::fault::StoreFault;
 use crate::keeper::Extent;
 use crate::sql::{INSERT_BLOB, INSERT_BODY};
 use osm_value::{Element, MemberKind};
+use osm_write::encode_one;
 use pbf_frame::Kind;
 use sqlite::{Alter, Connection, Transaction, params};
 use std::alloc::Global;
