@@ -19,8 +19,8 @@ use Rattle.osm_store.specs.Keeping.{extent_of, extents_of}
 use Rattle.osm_store.specs.Rows.{Placed, placed, placed_in, HasBlock, IsStored, body_row, extent_row, extent_columns}
 use Rattle.osm_store.specs.Tables.{store_schema}
 use Rattle.osm_store.specs.Holding.{TablesHold, IsBlob, IsKept}
-use Rattle.osm_store.specs.PlacedLaws.{Entry, within, entries_rise, placed_in_rise, here, by_position, all_held}
-use Rattle.osm_store.specs.NestedLists.{nested_at}
+use Rattle.osm_store.proofs.PlacedLaws.{Entry, within, entries_rise, placed_in_rise, here, by_position, all_held}
+use Rattle.osm_store.proofs.NestedLists.{nested_at}
 use Rattle.osm_store.proofs.ReadLemmas.{columns_at, HasExtents, HasElements, HasVersion, is_in}
 
 -- ---- the tables

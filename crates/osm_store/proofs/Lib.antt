@@ -17,3 +17,11 @@ pub mod ReadLemmas
 pub mod HeldLemmas
 pub mod PutLemmas
 pub mod StoredRows
+pub mod ReadingLemmas
+pub mod PuttingLemmas
+pub mod SortedLists
+pub mod NestedLists
+pub mod NumberOrder
+pub mod PlacedLaws
+pub mod OneElement
+pub mod OneMap

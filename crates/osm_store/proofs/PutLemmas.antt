@@ -28,9 +28,9 @@ use Rattle.osm_store.specs.Steps.{Puts, IsEmptyStore}
 use Rattle.osm_store.specs.Tables.{store_schema}
 use Rattle.osm_store.specs.Asking.{JustAsks}
 use Rattle.osm_store.specs.Holding.{IsBlob, IsKept, TablesHold, Holds, MayLeave, LeavesAMap}
-use Rattle.osm_store.specs.NumberOrder.{numbers_below}
-use Rattle.osm_store.specs.PlacedLaws.{Entry, within}
-use Rattle.osm_store.specs.OneMap.{one_map}
+use Rattle.osm_store.proofs.NumberOrder.{numbers_below}
+use Rattle.osm_store.proofs.PlacedLaws.{Entry, within}
+use Rattle.osm_store.proofs.OneMap.{one_map}
 use Rattle.osm_store.specs.StoreLaws.{IsSettled, leaves_held}
 
 -- ---- an entry in its place
@@ -163,6 +163,9 @@ hold_nothing db h = record {
   body = subst (λ l. IsPermutation (map body_row (flat_map within l)) (map (drop 1) (db 2))) (sym no_entries) (subst (λ rows. IsPermutation [] (map (drop 1) rows)) (sym h.body) (IsPermutation-refl []));
 }
 
+pub nothing_else : (db : Trees) → IsEmptyStore db → (other : HeldMap) → IsKept other → TablesHold other db → other ≡ empty
+nothing_else db h other kept tables = one_map other empty db kept nothing_kept tables (hold_nothing db h)
+
 -- ---- a put
 
 module _ (held : HeldMap) (off : ℕ) (blob : Blob) (old new : State) (holds : Holds old held) (free : IsFree held off blob.fin) (order : off < blob.fin) (limit : blob.fin ≤ 2 ^ 62) where
@@ -176,13 +179,16 @@ module _ (held : HeldMap) (off : ℕ) (blob : Blob) (old new : State) (holds : H
       → IsTrue new.is_open → new.committed ≡ new.now → IsBlob blob → Holds new (with_blob held off blob)
   holds_more clean puts there committed is =
       let put = puts holds.schema in
+      let kept = kept_more held off blob holds.kept free order limit is in
+      let tables = hold_more held off blob holds.kept free order old.now.trees new.now.trees holds.tables put.1 in
       record {
         clean = clean;
         opened = there;
         settled = sym committed;
         schema = put.0;
-        kept = kept_more held off blob holds.kept free order limit is;
-        tables = hold_more held off blob holds.kept free order old.now.trees new.now.trees holds.tables put.1;
+        kept = kept;
+        tables = tables;
+        only = λ other kept_too tables_too. one_map other (with_blob held off blob) new.now.trees kept_too kept tables_too tables;
       }
 
   left_more : IsBlob blob → (db : Trees) → MayPut db → TablesHold (with_blob held off blob) db
@@ -213,6 +219,7 @@ holds_still held old new holds clean there now committed = record {
   schema = ap (λ (d : Database). d.schema) now ∙ holds.schema;
   kept = holds.kept;
   tables = subst (λ (d : Database). TablesHold held d.trees) (sym now) holds.tables;
+  only = λ other kept tables. holds.only other kept (subst (λ (d : Database). TablesHold other d.trees) now tables);
 }
 
 -- ---- a read

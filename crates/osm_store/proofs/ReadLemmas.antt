@@ -35,8 +35,8 @@ use Rattle.osm_store.specs.Selects.{selects}
 use Rattle.osm_store.proofs.CauseLemmas.{IsCause, takes, query_causes}
 use Rattle.osm_store.proofs.TableReads.{select, answer_is}
 use Rattle.osm_store.proofs.CompareLemmas.{lower, higher, same_number, same_int}
-use Rattle.osm_store.specs.NumberOrder.{numbers_below, numbers_tied}
-use Rattle.osm_store.specs.PlacedLaws.{IsBefore}
+use Rattle.osm_store.proofs.NumberOrder.{numbers_below, numbers_tied}
+use Rattle.osm_store.proofs.PlacedLaws.{IsBefore}
 use Rattle.osm_store.proofs.ReadTexts.{compares, version_is, extents_is, extent_columns, touching_is, rows_are, element_is}
 
 -- the values at these places of a stored row, of which the rowid is place 0

@@ -13,7 +13,7 @@ use Rattle.sqlite_trees.specs.Tree.{IsAscending}
 use Rattle.sqlite_trees.proofs.ListLemmas.{ascending-map, IsPermutation-filter}
 use Rattle.sqlite_value.specs.Keys.{ascending}
 use Rattle.sqlite.specs.Collation.TheVariants.{Binary}
-use Rattle.osm_store.specs.SortedLists.{sorted_is}
+use Rattle.osm_store.proofs.SortedLists.{sorted_is}
 
 -- `SELECT shown FROM tree WHERE tests ORDER BY keys`
 abbrev pub select : ℕ → List Term → List Term → List Term → Query

@@ -28,7 +28,7 @@ pub record TablesHold (held : HeldMap) (db : Trees) : Type 0 where
   pub blob : db 1 ≡ map extent_row (extents_of held)
   pub body : IsPermutation (map body_row (placed_in held)) (map (drop 1) (db 2))
 
--- the connection can go on, no write is under way, and its tables' rows are those of the map
+-- the connection can go on, no write is under way, and its tables' rows are those of this map and of no other
 pub record Holds (s : State) (held : HeldMap) : Type 0 where
   pub clean : HasCleanDisk s
   pub opened : IsTrue s.is_open
@@ -36,6 +36,7 @@ pub record Holds (s : State) (held : HeldMap) : Type 0 where
   pub schema : s.now.schema ≡ store_schema
   pub kept : IsKept held
   pub tables : TablesHold held s.now.trees
+  pub only : (other : HeldMap) → IsKept other → TablesHold other s.now.trees → other ≡ held
 
 -- a crash now may leave the rows of this map
 pub record MayLeave (s : State) (held : HeldMap) : Type 0 where

@@ -11,10 +11,4 @@ pub mod Asking
 pub mod Selects
 pub mod Finding
 pub mod Store
-pub mod SortedLists
-pub mod NestedLists
-pub mod NumberOrder
-pub mod PlacedLaws
-pub mod OneElement
-pub mod OneMap
 pub mod StoreLaws

@@ -5,7 +5,6 @@ use Rattle.sqlite.specs.Effect.{Database}
 use Rattle.sqlite.specs.State.{State}
 use Rattle.osm_store.specs.Held.{HeldMap}
 use Rattle.osm_store.specs.Holding.{TablesHold, Holds, MayLeave, LeavesAMap}
-use Rattle.osm_store.specs.OneMap.{one_map}
 
 -- an open store leaves its last commit to a crash
 abbrev pub IsSettled : State → Type 0
@@ -17,7 +16,7 @@ module _ (s : State) (held : HeldMap) (holds : Holds s held) (settles : IsSettle
 
   pub leaves_held_alone : (left : HeldMap) → MayLeave s left → left ≡ held
   leaves_held_alone left may =
-      one_map left held s.now.trees may.kept holds.kept (subst (TablesHold left) (left_is may.trees may.left) may.tables) holds.tables
+      holds.only left may.kept (subst (TablesHold left) (left_is may.trees may.left) may.tables)
 
   pub leaves_held : LeavesAMap s
   leaves_held db left = (held, holds.kept, subst (TablesHold held) (sym (left_is db left)) holds.tables)

@@ -7,7 +7,7 @@ use Rattle.sqlite_trees.proofs.ListLemmas.{map-map, all-map, all-filter}
 use Rattle.osm_store.specs.Held.{Blob}
 use Rattle.osm_store.specs.Holding.{IsBlob}
 use Rattle.osm_store.specs.Keeping.{IsForeign}
-use Rattle.osm_store.specs.PlacedLaws.{Entry, all_held}
+use Rattle.osm_store.proofs.PlacedLaws.{Entry, all_held}
 use Rattle.osm_store.specs.Rows.{Placed, IsStored, placed_in, block_row}
 use Rattle.osm_store.proofs.HeldLemmas.{has_elements, all_stored, blob_stored, elements_at}
 use Rattle.osm_store.proofs.ReadLemmas.{rows_read, is_in}

@@ -2,7 +2,7 @@ use Rattle.std.proofs.Common.{◌≡◌, [], ◌∷◌, None, Some, List, sym, a
 use Rattle.osm_value.specs.declared.element.Element.{Element}
 use Rattle.osm_block.specs.Block.{Block}
 use Rattle.osm_block.specs.Phases.{fault}
-use Rattle.osm_store.specs.OneElement.{one_element, canon_faultless}
+use Rattle.osm_store.proofs.OneElement.{one_element, canon_faultless}
 use Rattle.osm_store.proofs.loaded.element_in.Goals as goal
 
 pub returns-in-Ok : goal.returns-in-Ok

@@ -23,10 +23,10 @@ use Rattle.osm_store.specs.Held.{Blob, HeldMap, HaveFewTexts}
 use Rattle.osm_store.specs.Keeping.{extent_of, extents_of}
 use Rattle.osm_store.specs.Rows.{Placed, placed, placed_in, HasBlock, blob_code, body_row, extent_row}
 use Rattle.osm_store.specs.Holding.{TablesHold, IsBlob, IsKept}
-use Rattle.osm_store.specs.SortedLists.{same_elements, not_both}
-use Rattle.osm_store.specs.NumberOrder.{numbers_below, numbers_tied}
-use Rattle.osm_store.specs.PlacedLaws.{Entry, IsBefore, placed_in_rise, within}
-use Rattle.osm_store.specs.OneElement.{canon_once}
+use Rattle.osm_store.proofs.SortedLists.{same_elements, not_both}
+use Rattle.osm_store.proofs.NumberOrder.{numbers_below, numbers_tied}
+use Rattle.osm_store.proofs.PlacedLaws.{Entry, IsBefore, placed_in_rise, within}
+use Rattle.osm_store.proofs.OneElement.{canon_once}
 
 -- ---- rows in the order of their first two columns
 

@@ -12,7 +12,7 @@ use Rattle.sqlite_trees.proofs.ListLemmas.{all_weaker}
 use Rattle.osm_value.specs.declared.element.Element.{Element}
 use Rattle.osm_store.specs.Held.{Blob, HeldMap}
 use Rattle.osm_store.specs.Rows.{Placed, placed, placed_in}
-use Rattle.osm_store.specs.NestedLists.{nested_rise}
+use Rattle.osm_store.proofs.NestedLists.{nested_rise}
 
 abbrev pub Entry : Type 0
 Entry = ℕ × Blob
