@@ -36,13 +36,13 @@ pub record Wrote {T : Type 0} (off : ℕ) (blob : Blob) (n : ℕ) (old new : Sta
 blob_is : (blob : Blob) → length blob.digest ≡ 32 → HaveFewTexts blob.elements → AllByRecursion HasBlock blob.elements → IsBlob blob
 blob_is blob digest few have = record { digest = digest; have_blocks = have; few_texts = few }
 
+abbrev pub Added : {S T : Type 0} → Ghosts S → Store S → Store S → ℕ → Blob → Result T StoreFault → Type 0
+Added {S} g old new off blob r = Adds (λ (s : Store S) held. Holds (state g s.connection) held) (λ s left. MayLeave (state g s.connection) left) (λ s. LeavesAMap (state g s.connection)) (λ s. HasCleanDisk (state g s.connection))
+    (λ s. HasCleanDisk (state g s.connection) × IsTrue (state g s.connection).is_open) (λ s. s.failures) off blob old r new
+
 module _ {S T : Type 0} (g : Ghosts S) (old new : Store S) (off : ℕ) (blob : Blob) (order : off < blob.fin) (limit : blob.fin ≤ 2 ^ 62) (digest : length blob.digest ≡ 32) (few : HaveFewTexts blob.elements)
     (settles : IsSettled (state g old.connection)) where
-  abbrev pub Added : Result T StoreFault → Type 0
-  Added r = Adds (λ (s : Store S) held. Holds (state g s.connection) held) (λ s left. MayLeave (state g s.connection) left) (λ s. LeavesAMap (state g s.connection)) (λ s. HasCleanDisk (state g s.connection))
-      (λ s. HasCleanDisk (state g s.connection) × IsTrue (state g s.connection).is_open) (λ s. s.failures) off blob old r new
-
-  pub put_adds : (r : Result T StoreFault) → Wrote off blob (length blob.elements) (state g old.connection) (state g new.connection) r → new.failures ≡ failures_after r old.failures → Added r
+  pub put_adds : (r : Result T StoreFault) → Wrote off blob (length blob.elements) (state g old.connection) (state g new.connection) r → new.failures ≡ failures_after r old.failures → Added g old new off blob r
   put_adds (Ok x) w counted = record {
     honest = λ clean. omega (arith, w.crash.clean, clean);
     open_if = λ up. (omega (arith, w.crash.clean, up.0), (w.committed up.0).0);
