@@ -5,3 +5,12 @@ pub mod Block
 pub mod Phases
 pub mod Vectors
 pub mod VectorElements
+pub mod HeaderBlock
+pub mod HeaderVectors
+pub mod HeaderPayloads
+pub mod HeaderTexts
+pub mod Fields
+pub mod Reads
+pub mod Parts
+pub mod Head
+pub mod Texts

@@ -70,7 +70,7 @@ node_phases b m =
     ∷ when (is_none m.id || is_none m.lat || is_none m.lon) faults.Missing
     ∷ when (not (same_length m.keys m.vals)) faults.LengthsDiffer
     ∷ when (not (passes is_wide m.id && passes (place_in_range b.lat_offset b.granularity) m.lat
-        && passes (place_in_range b.lon_offset b.granularity) m.lon && info_in_range b m.info)) faults.OutOfRange
+    && passes (place_in_range b.lon_offset b.granularity) m.lon && info_in_range b m.info)) faults.OutOfRange
     ∷ when (not (all_in b.table (m.keys ++ m.vals ++ user_indexes m.info))) faults.BadIndex
     ∷ []
 
@@ -124,9 +124,9 @@ dense_phases b m =
     ∷ when (not (same_length m.lat m.id && same_length m.lon m.id && dense_info_fits m.id m.info)) faults.LengthsDiffer
     ∷ when (not (list_all (λ ds. list_all fits_i64 (front_sums ds)) (deltas_of m))) faults.SumTooLarge
     ∷ when (not (list_all is_wide (front_sums m.id)
-        && list_all (place_in_range b.lat_offset b.granularity) (front_sums m.lat)
-        && list_all (place_in_range b.lon_offset b.granularity) (front_sums m.lon)
-        && dense_info_in_range b m.info)) faults.OutOfRange
+    && list_all (place_in_range b.lat_offset b.granularity) (front_sums m.lat)
+    && list_all (place_in_range b.lon_offset b.granularity) (front_sums m.lon)
+    && dense_info_in_range b m.info)) faults.OutOfRange
     ∷ tags_phases (length m.id) (length b.table) m.keys_vals
     ++ when (not (all_in b.table (front_sums m.info.user_sid))) faults.BadIndex
     ∷ []

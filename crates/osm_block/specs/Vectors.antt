@@ -280,4 +280,3 @@ v1_front_19 = refl
 v1_front_20 : fault (take 20 v1) ≡ None
 unfolding fault number_within number_at value_at field_at next_at items_within items_from row_within is_utf8 chars lib.Utf8.encode
 v1_front_20 = refl
-

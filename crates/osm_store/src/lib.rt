@@ -10,7 +10,6 @@ mod fault;
 mod found;
 mod keeper;
 mod loaded;
-mod read_block;
 mod rows;
 mod sql;
 mod version;

@@ -10,8 +10,7 @@ ghost use Rattle.osm_store.specs.Loading.{HasRowsOf};
 ghost use Rattle.osm_store.specs.Rows.{HasBlock};
 
 use crate::fault::StoreFault;
-use crate::read_block::read_block;
-use osm_block::BlockError;
+use osm_block::{BlockError, read_block};
 use osm_value::Element;
 use sqlite::Row;
 use sqlite::types::ValueRef;

@@ -17,3 +17,6 @@ pub use outlet::Outlet;
 pub use pieces::{put, put_digits, put_escaped, put_number};
 pub use range::{text_in_range, uid_in_range, version_in_range, wide_in_range};
 pub use sink::{Sink, SinkFailed};
+
+#[cfg(test)]
+mod tests;

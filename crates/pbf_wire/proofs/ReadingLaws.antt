@@ -6,7 +6,7 @@ use Rattle.pbf_wire.specs.Field.{Entry, Fields, Wire}
 use Rattle.pbf_wire.specs.FieldList.{IsWalk, items_from, all_ok, fields_of}
 use Rattle.pbf_wire.specs.Readings.{front, first_fault, fields, wire}
 use Rattle.pbf_wire.proofs.Choices.{ok_is, err_is, not_both, neither_both, then_ok, then_err}
-use Rattle.pbf_wire.proofs.FieldListLaws.{fields_read, read_fields, wire_read, read_wire, list_faults}
+use Rattle.pbf_wire.proofs.FieldListLaws.{fields_read, read_fields, wire_read, read_wire, broken}
 
 -- ---- items that may end in a fault
 
@@ -66,3 +66,23 @@ fault_read fault w h = is_fault (items_from 0 w) fault (wire_read fault w h)
 
 pub read_fault : (fault : WireFault) (w : List ℕ) → wire w ≡ Some fault → Wire fault w
 read_fault fault w e = read_wire fault w (wire_is w fault e)
+
+-- ---- what a walk gives
+
+front_of : {A : Type 0} (xs : List A) (d : WireFault) → front (map Ok xs ++ Err d ∷ []) ≡ xs
+front_of [] d = refl
+front_of {A} (x ∷ xs) d = ap (λ (ys : List A). x ∷ ys) (front_of xs d)
+
+-- the fields in front of a fault
+pub fields_before : (fault : WireFault) (w : List ℕ) → Wire fault w → Fields (fields w) (take fault.at w)
+fields_before fault w h =
+    let b = broken fault w (wire_read fault w h) in
+    let same : fields w ≡ b.fs = ap (λ (items : List (Result Entry WireFault)). front items) b.listed ∙ front_of b.fs fault in
+    rw same b.front
+
+walk_of : (w : List ℕ) (r : Result (List Entry) WireFault) → fields_of w ≡ r → IsWalk (items_from 0 w) w
+walk_of w (Ok fs) e = inl (fs, read_fields fs w e, (is_front (items_from 0 w) fs e).listed)
+walk_of w (Err fault) e = let b = broken fault w e in inr (b.fs, fault, b.high, b.front, b.stands, b.listed)
+
+pub walked : (w : List ℕ) → IsWalk (items_from 0 w) w
+walked w = walk_of w (fields_of w) refl

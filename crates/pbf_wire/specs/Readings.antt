@@ -55,6 +55,7 @@ packed w = first_fault (row w)
 abbrev pub int64 : ℕ → ℤ
 int64 n = cast_signed w64 n
 
+-- the low 32 bits, in two's complement
 abbrev pub int32 : ℕ → ℤ
 int32 n = cast_signed w32 (n % 2 ^ 32)
 

@@ -1,0 +1,127 @@
+-- Differences and the sums of fronts undo each other.
+use Rattle.std.proofs.Common.{◌≡◌, ℕ, ◌+◌, ◌<◌, ◌≤◌, List, [], ◌∷◌, ◌++◌, map, length, get_or, drop, Bool, true, false, ◌&&◌, ◌||◌, refl, sym, ap, ◌∙◌, ℤ, pos, negsuc, ◌+ℤ◌, ◌-ℤ◌, FitsSigned, arith, Option, Some, None, not, append_assoc}
+use Rattle.std.specs.List.{AllByRecursion, list_all}
+use Rattle.std.specs.Int.{w64}
+use Rattle.std.proofs.lemmas.Int.{ints}
+use Rattle.std.proofs.lemmas.List.{drop_more, drop_all, append-nil}
+use Rattle.std.proofs.lemmas.List.Folds.{list_all-append}
+use Rattle.osm_block.specs.declared.fault.BlockFault.TheVariants as faults
+use Rattle.osm_block.specs.Phases.{when}
+use Rattle.pbf_wire.specs.Readings.{sint64}
+use Rattle.osm_block.specs.Differences.{differences, differences_from, front_sums, fits_i64, Diff}
+
+-- each of the sums with a number added
+abbrev pub onto : ℤ → List ℤ → List ℤ
+onto b ss = map (λ s. b +ℤ s) ss
+
+pub onto-onto : (a b : ℤ) (ss : List ℤ) → onto a (onto b ss) ≡ onto (a +ℤ b) ss
+onto-onto a b [] = refl
+onto-onto a b (s ∷ ss) =
+    let here : a +ℤ (b +ℤ s) ≡ (a +ℤ b) +ℤ s = omega (arith, ints) in
+    let later : onto a (onto b ss) ≡ onto (a +ℤ b) ss = onto-onto a b ss in
+    cc
+
+pub onto-zero : (ss : List ℤ) → onto (pos 0) ss ≡ ss
+onto-zero [] = refl
+onto-zero (s ∷ ss) =
+    let here : pos 0 +ℤ s ≡ s = omega (arith, ints) in
+    let later : onto (pos 0) ss ≡ ss = onto-zero ss in
+    cc
+
+-- differences of the sums are what was summed
+pub differences_from-sums : (b : ℤ) (ds : List ℤ) → differences_from b (onto b (front_sums ds)) ≡ ds
+differences_from-sums b [] = refl
+differences_from-sums b (d ∷ ds) =
+    let first : (b +ℤ d) -ℤ b ≡ d = omega (arith, ints) in
+    let fused : onto b (onto d (front_sums ds)) ≡ onto (b +ℤ d) (front_sums ds) = onto-onto b d (front_sums ds) in
+    let later : differences_from (b +ℤ d) (onto (b +ℤ d) (front_sums ds)) ≡ ds = differences_from-sums (b +ℤ d) ds in
+    cc
+
+-- sums of differences are what they were taken of
+pub sums-differences_from : (b : ℤ) (vs : List ℤ) → onto b (front_sums (differences_from b vs)) ≡ vs
+sums-differences_from b [] = refl
+sums-differences_from b (v ∷ vs) =
+    let first : b +ℤ (v -ℤ b) ≡ v = omega (arith, ints) in
+    let fused : onto b (onto (v -ℤ b) (front_sums (differences_from v vs))) ≡ onto (b +ℤ (v -ℤ b)) (front_sums (differences_from v vs)) = onto-onto b (v -ℤ b) (front_sums (differences_from v vs)) in
+    let later : onto v (front_sums (differences_from v vs)) ≡ vs = sums-differences_from v vs in
+    cc
+
+-- numbers of which ds are the differences are the sums of the fronts of ds, so there is one such list at most
+pub Diff-are_sums : (vs ds : List ℤ) → Diff vs ds → vs ≡ front_sums ds
+Diff-are_sums vs ds h =
+    let start : onto (pos 0) (front_sums (differences_from (pos 0) vs)) ≡ vs = sums-differences_from (pos 0) vs in
+    let plain : onto (pos 0) (front_sums (differences_from (pos 0) vs)) ≡ front_sums (differences_from (pos 0) vs) = onto-zero _ in
+    let are : differences_from (pos 0) vs ≡ ds = h.are in
+    let sums : front_sums (differences_from (pos 0) vs) ≡ front_sums ds = ap front_sums are in
+    cc
+
+pub Diff-unique : (us vs ds : List ℤ) → Diff us ds → Diff vs ds → us ≡ vs
+Diff-unique us vs ds g h = Diff-are_sums us ds g ∙ sym (Diff-are_sums vs ds h)
+
+pub Diff-from_sums : (vs ds : List ℤ) → vs ≡ front_sums ds → AllByRecursion (FitsSigned w64) vs → Diff vs ds
+Diff-from_sums vs ds e fit =
+    let back : differences_from (pos 0) (onto (pos 0) (front_sums ds)) ≡ ds = differences_from-sums (pos 0) ds in
+    let plain : onto (pos 0) (front_sums ds) ≡ front_sums ds = onto-zero (front_sums ds) in
+    let are : differences_from (pos 0) vs ≡ ds = ap (differences_from (pos 0)) (e ∙ sym plain) ∙ back in
+    record { are = are; fit = fit }
+
+-- where one of the sums doesn't fit, no numbers of 64 bits have these differences
+pub fits_i64-from : (z : ℤ) → FitsSigned w64 z → fits_i64 z ≡ true
+fits_i64-from z h = grind (arith, ints)
+
+pub fits_i64-none : (z : ℤ) → (FitsSigned w64 z → ⊥) → fits_i64 z ≡ false
+fits_i64-none z h = grind (arith, ints)
+
+pub list_all-stops : {X : Type 0} (p : X → Bool) (xs ys : List X) (y : X) → p y ≡ false → list_all p (xs ++ y ∷ ys) ≡ false
+list_all-stops p [] ys y fails = ap (λ b. b && list_all p ys) fails
+list_all-stops p (x ∷ xs) ys y fails = elim (p x) as (λ b. (b && list_all p (xs ++ y ∷ ys)) ≡ false) [ true ↦ list_all-stops p xs ys y fails | false ↦ refl ]
+
+-- ---- a loop's step
+
+pub AllByRecursion-push : {A : Type 0} (P : A → Type 0) (xs : List A) (x : A) → AllByRecursion P xs → P x → AllByRecursion P (xs ++ x ∷ [])
+AllByRecursion-push P [] x all here = (here, tt)
+AllByRecursion-push P (y ∷ xs) x all here = (all.0, AllByRecursion-push P xs x all.1 here)
+
+-- the sums of what is left, each added to the last, go on from the sums so far
+pub sums_left-step : (xs : List ℕ) (i : ℕ) (last : ℤ) → i < length xs →
+    onto last (front_sums (map sint64 (drop i xs))) ≡ (last +ℤ sint64 (get_or xs i 0)) ∷ onto (last +ℤ sint64 (get_or xs i 0)) (front_sums (map sint64 (drop (i + 1) xs)))
+sums_left-step xs i last h =
+    let d : ℤ = sint64 (get_or xs i 0) in
+    let cut : drop i xs ≡ get_or xs i 0 ∷ drop (i + 1) xs = drop_more xs i 0 h in
+    let fused : onto last (onto d (front_sums (map sint64 (drop (i + 1) xs)))) ≡ onto (last +ℤ d) (front_sums (map sint64 (drop (i + 1) xs))) = onto-onto last d _ in
+    ap (λ l. onto last (front_sums (map sint64 l))) cut ∙ ap (λ l. (last +ℤ d) ∷ l) fused
+
+pub step : (vs ws total : List ℤ) (xs : List ℕ) (i : ℕ) (last d value : ℤ) → i < length xs →
+    vs ++ onto last (front_sums (map sint64 (drop i xs))) ≡ total → ws ≡ vs ++ value ∷ [] → d ≡ sint64 (get_or xs i 0) → value ≡ last +ℤ d →
+    ws ++ onto value (front_sums (map sint64 (drop (i + 1) xs))) ≡ total
+step vs ws total xs i last d value h sums pushed delta sum =
+    let cut : onto last (front_sums (map sint64 (drop i xs))) ≡ (last +ℤ sint64 (get_or xs i 0)) ∷ onto (last +ℤ sint64 (get_or xs i 0)) (front_sums (map sint64 (drop (i + 1) xs))) = sums_left-step xs i last h in
+    let is : value ≡ last +ℤ sint64 (get_or xs i 0) = cc in
+    let regrouped : (vs ++ value ∷ []) ++ onto value (front_sums (map sint64 (drop (i + 1) xs))) ≡ vs ++ (value ∷ onto value (front_sums (map sint64 (drop (i + 1) xs)))) = append_assoc vs (value ∷ []) _ in
+    cc
+
+pub stop : (vs total : List ℤ) (xs : List ℕ) (i : ℕ) (last d : ℤ) → i < length xs →
+    vs ++ onto last (front_sums (map sint64 (drop i xs))) ≡ total → d ≡ sint64 (get_or xs i 0) → (FitsSigned w64 (last +ℤ d) → ⊥) → list_all fits_i64 total ≡ false
+stop vs total xs i last d h sums delta outside =
+    let cut : onto last (front_sums (map sint64 (drop i xs))) ≡ (last +ℤ sint64 (get_or xs i 0)) ∷ onto (last +ℤ sint64 (get_or xs i 0)) (front_sums (map sint64 (drop (i + 1) xs))) = sums_left-step xs i last h in
+    let no_here : fits_i64 (last +ℤ sint64 (get_or xs i 0)) ≡ false = ap (λ e. fits_i64 (last +ℤ e)) (sym delta) ∙ fits_i64-none (last +ℤ d) outside in
+    let whole : total ≡ vs ++ ((last +ℤ sint64 (get_or xs i 0)) ∷ onto (last +ℤ sint64 (get_or xs i 0)) (front_sums (map sint64 (drop (i + 1) xs)))) = sym sums ∙ ap (λ l. vs ++ l) cut in
+    ap (list_all fits_i64) whole ∙ list_all-stops fits_i64 vs _ _ no_here
+
+pub finish : (vs total : List ℤ) (xs : List ℕ) (i : ℕ) (last : ℤ) → length xs ≤ i → vs ++ onto last (front_sums (map sint64 (drop i xs))) ≡ total → vs ≡ total
+finish vs total xs i last over sums =
+    sym (append-nil vs) ∙ sym (ap (λ l. vs ++ onto last (front_sums (map sint64 l))) (drop_all i xs over)) ∙ sums
+
+pub list_all-fits : (vs : List ℤ) → AllByRecursion (FitsSigned w64) vs → list_all fits_i64 vs ≡ true
+list_all-fits [] h = refl
+list_all-fits (v ∷ vs) h = ap (λ b. b && list_all fits_i64 vs) (fits_i64-from v h.0) ∙ list_all-fits vs h.1
+
+-- what the values say where all sums were taken
+pub gives : (vs ds : List ℤ) → vs ≡ front_sums ds → AllByRecursion (FitsSigned w64) vs →
+    (when (not (list_all fits_i64 (front_sums ds))) faults.SumTooLarge ≡ None) × Diff vs ds
+gives vs ds e fit =
+    let all : list_all fits_i64 (front_sums ds) ≡ true = ap (list_all fits_i64) (sym e) ∙ list_all-fits vs fit in
+    (ap (λ b. when (not b) faults.SumTooLarge) all, Diff-from_sums vs ds e fit)
+
+pub stops : (b : Bool) → b ≡ false → when (not b) faults.SumTooLarge ≡ Some faults.SumTooLarge
+stops b e = ap (λ c. when (not c) faults.SumTooLarge) e

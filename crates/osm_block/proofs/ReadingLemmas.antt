@@ -1,0 +1,162 @@
+-- What is read from several payloads, one after the other.
+use Rattle.std.proofs.Common.{◌≡◌, ℕ, zero, suc, ◌+◌, ◌<◌, List, [], ◌∷◌, ◌++◌, map, length, drop, take, get_or, refl, sym, ap, ◌∙◌, Option, Some, None, Result, Ok, Err, append_assoc, subst, set, arith}
+use Rattle.std.specs.Prelude.{⊤, option_map, ℤ, Bool, is_some, true, ◌%◌, ◌^◌, pos}
+use Rattle.std.specs.List.{flat_map, filter_map}
+use Rattle.std.proofs.lemmas.List.{map-append, drop_more}
+use Rattle.std.proofs.lemmas.List.Elements.{filter_map-append}
+use Rattle.std.proofs.lemmas.Grind.{flat_map-append}
+use Rattle.pbf_wire.specs.Field.{Entry}
+use Rattle.pbf_wire.specs.FieldList.{last_or}
+use Rattle.osm_block.specs.declared.fault.BlockFault.{BlockFault}
+use Rattle.osm_block.specs.declared.fault.BlockError.{BlockError}
+use Rattle.osm_block.specs.declared.fault.BlockError.TheVariants as errors
+use Rattle.pbf_wire.specs.Readings.{fields, packed}
+use Rattle.pbf_wire.specs.Readings.{fitting, number_of, bytes_of, numbers_of, each, nums, last, is_there, uint32, int32, int64}
+use Rattle.osm_block.specs.Message.{InfoMessage, info_message}
+use Rattle.osm_block.specs.Phases.{Phase, Gives, first, wire_phases}
+
+-- ---- lists of phases
+
+pub first-append_none : (ps qs : List Phase) → first ps ≡ None → first (ps ++ qs) ≡ first qs
+first-append_none [] qs e = refl
+first-append_none (None ∷ ps) qs e = first-append_none ps qs e
+first-append_none (Some f ∷ ps) qs e = cc
+
+pub first-append_some : (ps qs : List Phase) (f : BlockFault) → first ps ≡ Some f → first (ps ++ qs) ≡ Some f
+first-append_some [] qs f e = cc
+first-append_some (None ∷ ps) qs f e = first-append_some ps qs f e
+first-append_some (Some g ∷ ps) qs f e = e
+
+-- a refusal stands for a longer list of phases
+pub Gives-err : {A B : Type 0} (P : A → Type 0) (Q : B → Type 0) (p q : Phase) (e : BlockError) → ((f : BlockFault) → p ≡ Some f → q ≡ Some f) → Gives P p (Err e) → Gives Q q (Err e)
+Gives-err P Q p q errors.Memory h g = tt
+Gives-err P Q p q (errors.Fault f) h g = h f g
+
+-- what a call that gives no value answers where it refuses
+abbrev pub Refused : Phase → BlockError → Type 0
+Refused p e = Gives {A = Unit {0}} (λ _. ⊤) p (Err e)
+
+pub still_refused : (p q : Phase) (e : BlockError) → ((f : BlockFault) → p ≡ Some f → q ≡ Some f) → Refused p e → Refused q e
+still_refused p q errors.Memory h g = tt
+still_refused p q (errors.Fault f) h g = h f g
+
+-- the same phase, written otherwise
+pub as_it_is : (p q : Phase) (r : Result (Unit {0}) BlockError) → p ≡ q → Gives {A = Unit {0}} (λ _. ⊤) p r → Gives {A = Unit {0}} (λ _. ⊤) q r
+as_it_is p q r e g = let P : Phase → Type 0 = λ s. Gives {A = Unit {0}} (λ _. ⊤) s r in subst P e g
+
+-- ---- readings of joined field lists
+
+last_or-append : (b : Option ℕ) (xs ys : List ℕ) → last_or b (xs ++ ys) ≡ last_or (last_or b xs) ys
+last_or-append b [] ys = refl
+last_or-append b (x ∷ xs) ys = last_or-append (Some x) xs ys
+
+abbrev all : {B : Type 0} → (B → List ℕ) → List B → List Entry
+all now ps = flat_map fields (map now ps)
+
+pub last-step : {B : Type 0} (now : B → List ℕ) (ps : List B) (i : ℕ) (d : B) (k : ℕ) (old new : Option ℕ) → i < length ps →
+    new ≡ last_or old (fitting number_of k (fields (now (get_or ps i d)))) →
+    last_or new (fitting number_of k (flat_map fields (map now (drop (i + 1) ps)))) ≡ last_or old (fitting number_of k (flat_map fields (map now (drop i ps))))
+last-step now ps i d k old new h is =
+    let rest : List Entry = all now (drop (i + 1) ps) in
+    let p : List Entry = fields (now (get_or ps i d)) in
+    ap (λ b. last_or b (fitting number_of k rest)) is
+    ∙ sym (last_or-append old (fitting number_of k p) (fitting number_of k rest))
+    ∙ sym (ap (last_or old) (filter_map-append _ p rest))
+    ∙ ap (λ l. last_or old (fitting number_of k (all now l))) (sym (drop_more ps i d h))
+
+pub each-append : (k : ℕ) (xs ys : List Entry) → each (xs ++ ys) k ≡ each xs k ++ each ys k
+each-append k xs ys = filter_map-append _ xs ys
+
+pub nums-append : (k : ℕ) (xs ys : List Entry) → nums (xs ++ ys) k ≡ nums xs k ++ nums ys k
+nums-append k xs ys = ap (flat_map (λ ns. ns)) (filter_map-append _ xs ys) ∙ flat_map-append (λ ns. ns) (fitting numbers_of k xs) (fitting numbers_of k ys)
+
+pub each-step : {B : Type 0} (now : B → List ℕ) (ps : List B) (i : ℕ) (d : B) (k : ℕ) (old new total : List (List ℕ)) → i < length ps →
+    new ≡ old ++ each (fields (now (get_or ps i d))) k →
+    old ++ each (flat_map fields (map now (drop i ps))) k ≡ total → new ++ each (flat_map fields (map now (drop (i + 1) ps))) k ≡ total
+each-step now ps i d k old new total h is so_far =
+    let rest : List Entry = all now (drop (i + 1) ps) in
+    let p : List Entry = fields (now (get_or ps i d)) in
+    ap (λ l. l ++ each rest k) is ∙ append_assoc old (each p k) (each rest k) ∙ sym (ap (λ l. old ++ l) (each-append k p rest))
+    ∙ ap (λ l. old ++ each (all now l) k) (sym (drop_more ps i d h)) ∙ so_far
+
+pub nums-step : {B : Type 0} (now : B → List ℕ) (ps : List B) (i : ℕ) (d : B) (k : ℕ) (old new total : List ℕ) → i < length ps →
+    new ≡ old ++ nums (fields (now (get_or ps i d))) k →
+    old ++ nums (flat_map fields (map now (drop i ps))) k ≡ total → new ++ nums (flat_map fields (map now (drop (i + 1) ps))) k ≡ total
+nums-step now ps i d k old new total h is so_far =
+    let rest : List Entry = all now (drop (i + 1) ps) in
+    let p : List Entry = fields (now (get_or ps i d)) in
+    ap (λ l. l ++ nums rest k) is ∙ append_assoc old (nums p k) (nums rest k) ∙ sym (ap (λ l. old ++ l) (nums-append k p rest))
+    ∙ ap (λ l. old ++ nums (all now l) k) (sym (drop_more ps i d h)) ∙ so_far
+
+-- the packed payloads of an array
+abbrev pub array_phases : ℕ → List Entry → List Phase
+array_phases k fs = wire_phases (map packed (each fs k))
+
+array_phases-append : (k : ℕ) (xs ys : List Entry) → array_phases k (xs ++ ys) ≡ array_phases k xs ++ array_phases k ys
+array_phases-append k xs ys =
+    ap (λ l. wire_phases (map packed l)) (each-append k xs ys) ∙ ap wire_phases (map-append packed (each xs k) (each ys k)) ∙ map-append _ (map packed (each xs k)) (map packed (each ys k))
+
+array_phases-drop : {B : Type 0} (now : B → List ℕ) (ps : List B) (i : ℕ) (d : B) (k : ℕ) → i < length ps →
+    array_phases k (flat_map fields (map now (drop i ps))) ≡ array_phases k (fields (now (get_or ps i d))) ++ array_phases k (flat_map fields (map now (drop (i + 1) ps)))
+array_phases-drop now ps i d k h = ap (λ l. array_phases k (all now l)) (drop_more ps i d h) ∙ array_phases-append k (fields (now (get_or ps i d))) (all now (drop (i + 1) ps))
+
+pub array-step : {B : Type 0} (now : B → List ℕ) (ps : List B) (i : ℕ) (d : B) (k : ℕ) (whole : Phase) → i < length ps →
+    first (array_phases k (fields (now (get_or ps i d)))) ≡ None →
+    first (array_phases k (flat_map fields (map now (drop i ps)))) ≡ whole → first (array_phases k (flat_map fields (map now (drop (i + 1) ps)))) ≡ whole
+array-step now ps i d k whole h none so_far =
+    sym (first-append_none (array_phases k (fields (now (get_or ps i d)))) _ none) ∙ sym (ap first (array_phases-drop now ps i d k h)) ∙ so_far
+
+pub array-stop : {B : Type 0} (now : B → List ℕ) (ps : List B) (i : ℕ) (d : B) (k : ℕ) (whole : Phase) (f : BlockFault) → i < length ps →
+    first (array_phases k (flat_map fields (map now (drop i ps)))) ≡ whole →
+    first (array_phases k (fields (now (get_or ps i d)))) ≡ Some f → whole ≡ Some f
+array-stop now ps i d k whole f h so_far some =
+    sym so_far ∙ ap first (array_phases-drop now ps i d k h) ∙ first-append_some (array_phases k (fields (now (get_or ps i d)))) _ f some
+
+-- ---- a list changed from the front
+
+changed : (f : ℕ → ℕ) (ys : List ℕ) (i : ℕ) → i < length ys →
+    set (map f (take i ys) ++ drop i ys) i (f (get_or (map f (take i ys) ++ drop i ys) i 0)) ≡ map f (take (suc i) ys) ++ drop (suc i) ys
+changed f [] i h = absurd (omega arith)
+changed f (y ∷ ys) zero h = refl
+changed f (y ∷ ys) (suc i) h = ap (λ l. f y ∷ l) (changed f ys i (omega arith))
+
+pub changed-step : (f : ℕ → ℕ) (xs ys : List ℕ) (i : ℕ) → i < length ys → xs ≡ map f (take i ys) ++ drop i ys →
+    set xs i (f (get_or xs i 0)) ≡ map f (take (i + 1) ys) ++ drop (i + 1) ys
+changed-step f xs ys i h e =
+    let next : suc i ≡ i + 1 = omega arith in
+    ap (λ l. set l i (f (get_or l i 0))) e ∙ changed f ys i h ∙ ap (λ k. map f (take k ys) ++ drop k ys) next
+
+-- ---- scalars
+
+pub last_is_some : (x : ℕ) (xs : List ℕ) → is_some (last_or (Some x) xs) ≡ true
+last_is_some x [] = refl
+last_is_some x (y ∷ ys) = last_is_some y ys
+
+pub last_there : (xs : List ℕ) → is_some (last_or None xs) ≡ is_there xs
+last_there [] = refl
+last_there (x ∷ xs) = last_is_some x xs
+
+pub indexes_are : (old new ns : List ℕ) → old ≡ ns → new ≡ map (λ n. n % 2 ^ 32) old → map pos new ≡ map uint32 ns
+indexes_are old new ns e f = ap (map pos) (f ∙ ap (map (λ n. n % 2 ^ 32)) e) ∙ twice ns
+  where
+    twice : (ns : List ℕ) → map pos (map (λ n. n % 2 ^ 32) ns) ≡ map uint32 ns
+    twice [] = refl
+    twice (n ∷ ns) = ap (λ l. pos (n % 2 ^ 32) ∷ l) (twice ns)
+
+pub info_is : (fs : List Entry) (v : Option ℤ) (t : Option ℤ) (c : Option ℤ) (u : Option ℤ) (s : Option ℕ) (h : Bool) →
+    v ≡ option_map int32 (last fs 1) → t ≡ option_map int64 (last fs 2) → c ≡ option_map int64 (last fs 3) → u ≡ option_map int32 (last fs 4) →
+    s ≡ option_map (λ n. n % 2 ^ 32) (last fs 5) → h ≡ is_some (last fs 6) →
+    record { version = v; timestamp = t; changeset = c; uid = u; user_sid = option_map pos s; is_visible_there = h } ≡ info_message fs
+info_is fs v t c u s h ev et ec eu es eh =
+    let user : option_map pos s ≡ option_map uint32 (last fs 5) = ap (option_map pos) es ∙ low (last fs 5) in
+    let visible : h ≡ is_there (fitting number_of 6 fs) = eh ∙ last_there (fitting number_of 6 fs) in
+    ap (λ x. record { version = x; timestamp = t; changeset = c; uid = u; user_sid = option_map pos s; is_visible_there = h }) ev
+    ∙ ap (λ x. record { version = option_map int32 (last fs 1); timestamp = x; changeset = c; uid = u; user_sid = option_map pos s; is_visible_there = h }) et
+    ∙ ap (λ x. record { version = option_map int32 (last fs 1); timestamp = option_map int64 (last fs 2); changeset = x; uid = u; user_sid = option_map pos s; is_visible_there = h }) ec
+    ∙ ap (λ x. record { version = option_map int32 (last fs 1); timestamp = option_map int64 (last fs 2); changeset = option_map int64 (last fs 3); uid = x; user_sid = option_map pos s; is_visible_there = h }) eu
+    ∙ ap (λ x. record { version = option_map int32 (last fs 1); timestamp = option_map int64 (last fs 2); changeset = option_map int64 (last fs 3); uid = option_map int32 (last fs 4); user_sid = x; is_visible_there = h }) user
+    ∙ ap (λ x. record { version = option_map int32 (last fs 1); timestamp = option_map int64 (last fs 2); changeset = option_map int64 (last fs 3); uid = option_map int32 (last fs 4); user_sid = option_map uint32 (last fs 5); is_visible_there = x }) visible
+  where
+    low : (o : Option ℕ) → option_map pos (option_map (λ n. n % 2 ^ 32) o) ≡ option_map uint32 o
+    low None = refl
+    low (Some n) = refl

@@ -1,0 +1,31 @@
+use Rattle.std.proofs.lemmas.Int.{to_z-of_z}
+use Rattle.std.proofs.Common.{rules, ◌∙◌, ◌≡◌, map, IfOk, IsErrOf, false, ℕ, ◌+◌, ◌-◌, ◌*◌, ◌<◌, ◌≤◌, length, ◌/◌, ◌%◌, Bool, true, nat_eq, nat_lt, List, [], ◌∷◌, ◌++◌, slice_index_or, slice_set, bit_and, bit_or, Fits, w8, w32, w64, Bor, MutBor, ℤ, pos, ◌+ℤ◌, ◌-ℤ◌, ◌*ℤ◌, ◌≤ℤ◌, ◌<ℤ◌, FitsSigned, to_z, of_z}
+use Rattle.std.specs.List.{list_all}
+use Rattle.pbf_wire.specs.Readings.{sint64}
+use Rattle.osm_block.specs.Differences.{Diff, front_sums, fits_i64}
+use Rattle.osm_block.proofs.DifferencesLemmas.{onto-zero, step, AllByRecursion-push, Diff-from_sums, stop, finish, gives, stops}
+use Rattle.osm_block.proofs.deltas.absolute.Goals as goal
+
+pub loop-delta-init : goal.loop-delta-init
+loop-delta-init c = record {
+  sums = rw c.in_ok-values.ensures.items (onto-zero _);
+  fit = rw c.in_ok-values.ensures.items tt;
+}
+
+pub loop-delta-preserved : goal.loop-delta-preserved
+loop-delta-preserved c =
+    let fits : FitsSigned w64 c.in-Some.value = rw c.in-Some.ensures.1 c.in-Some.ensures.0 in
+    let fits_delta : FitsSigned w64 c.unzigzag.result = search rules in
+    let value_is : to_z w64 (of_z w64 c.in-Some.value) ≡ c.in-Some.value = to_z-of_z w64 _ fits in
+    record {
+      sums = step _ _ _ _ _ _ _ _ c.loop-delta-test.true c.loop-delta.invariant.sums c.in_ok-push.ensures.items (to_z-of_z w64 _ fits_delta ∙ c.unzigzag.ensures) (value_is ∙ c.in-Some.ensures.1);
+      fit = rw c.in_ok-push.ensures.items (AllByRecursion-push (FitsSigned w64) _ _ c.loop-delta.invariant.fit (rw value_is fits));
+    }
+
+pub returns-in-None : goal.returns-in-None
+returns-in-None c =
+    let fits_delta : FitsSigned w64 c.unzigzag.result = search rules in
+    stops _ (stop _ _ _ _ _ _ c.loop-delta-test.true c.loop-delta.invariant.sums (to_z-of_z w64 _ fits_delta ∙ c.unzigzag.ensures) c.in-None.ensures)
+
+pub returns : goal.returns
+returns c = gives _ _ (finish _ _ _ _ _ c.loop-delta-test.false c.loop-delta.invariant.sums) c.loop-delta.invariant.fit

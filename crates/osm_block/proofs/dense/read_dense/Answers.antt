@@ -1,0 +1,14 @@
+use Rattle.std.proofs.Common.{rules, ◌≡◌, length, map, arith}
+use Rattle.osm_block.specs.Fields.{context_of}
+use Rattle.osm_block.proofs.DenseLemmas.{no_phase_stands, nothing_appended, no_items}
+use Rattle.osm_block.proofs.dense.read_dense.Goals as goal
+
+pub returns-then-is_empty-clause-phase : goal.returns-then-is_empty-clause-phase
+returns-then-is_empty-clause-phase c =
+    let empty : length c.args.payloads.now ≡ 0 = search rules in
+    (no_phase_stands (context_of c.args.scale.now) _ (no_items (λ p. p.now) c.args.payloads.now empty), tt)
+
+pub returns-then-is_empty-clause-read : goal.returns-then-is_empty-clause-read
+returns-then-is_empty-clause-read c =
+    let empty : length c.args.payloads.now ≡ 0 = search rules in
+    nothing_appended (context_of c.args.scale.now) _ _ (no_items (λ p. p.now) c.args.payloads.now empty)

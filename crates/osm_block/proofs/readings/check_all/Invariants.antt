@@ -1,0 +1,10 @@
+use Rattle.std.proofs.Common.{◌≡◌, ◌++◌, map, drop, List, ℕ, ◌%◌, ◌^◌, take}
+use Rattle.std.specs.List.{flat_map}
+use Rattle.pbf_wire.specs.FieldList.{last_or}
+use Rattle.pbf_wire.specs.Readings.{fields, wire, packed}
+use Rattle.pbf_wire.specs.Readings.{fitting, number_of, each, nums, last}
+use Rattle.osm_block.specs.Phases.{first, wire_phases}
+use Rattle.osm_block.proofs.readings.check_all.Given as goal
+
+abbrev pub invariant-loop-payload : goal.invariant-loop-payload
+invariant-loop-payload l = first (wire_phases (map wire (map (λ p. p.now) (drop l.payload-index l.payloads)))) ≡ first (wire_phases (map wire (map (λ p. p.now) l.payloads)))

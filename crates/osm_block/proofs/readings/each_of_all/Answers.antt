@@ -1,0 +1,6 @@
+use Rattle.std.proofs.Common.{rules, ◌≡◌, ℕ, List, map, length, arith}
+use Rattle.osm_block.proofs.ReadingLemmas.{last-step, each-step, nums-step, array-step, array-stop, Gives-err}
+use Rattle.osm_block.proofs.readings.each_of_all.Goals as goal
+
+pub loop-payload-preserved : goal.loop-payload-preserved
+loop-payload-preserved c = each-step _ _ _ _ _ _ _ _ c.loop-payload-test.true c.in_ok-each.ensures c.loop-payload.invariant

@@ -1,0 +1,15 @@
+use Rattle.std.proofs.Common.{◌≡◌, ◌++◌, map}
+use Rattle.pbf_wire.specs.FieldList.{last_or}
+use Rattle.pbf_wire.specs.Walk.{items_left}
+use Rattle.pbf_wire.specs.Readings.{front, first_fault, fields, wire, numbers, packed, row, row_within}
+use Rattle.pbf_wire.specs.Readings.{fitting, number_of, each, nums}
+use Rattle.osm_block.specs.Phases.{first, wire_phases}
+use Rattle.osm_block.proofs.readings.numbers.Given as goal
+
+abbrev pub invariant-loop-field : goal.invariant-loop-field
+invariant-loop-field l = record {
+  can : (goal.iterator-loop-field).can_next l.field-iterator;
+  ends : (goal.iterator-loop-field).is_finite l.field-iterator;
+  so_far : l.out.items ++ nums (front (items_left l.field-iterator)) l.number ≡ l.fn.out.items ++ nums (fields l.payload) l.number;
+  phases : first (wire_phases (map packed (each (front (items_left l.field-iterator)) l.number))) ≡ first (wire_phases (map packed (each (fields l.payload) l.number)));
+}

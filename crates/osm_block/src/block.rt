@@ -1,0 +1,130 @@
+//! Primitive blocks.
+
+ghost use Rattle.std.specs.Prelude.{◌≡◌, map, pos, OnOk, IfOk, ⊤, ◌≤ℤ◌, ◌&&◌, int_le, IsTrue, option_map, unwrap_or};
+ghost use Rattle.std.specs.List.{flat_map, AllByRecursion};
+ghost use Rattle.pbf_wire.specs.Readings.{fields, wire};
+ghost use Rattle.pbf_wire.specs.Readings.{each, last, int64};
+ghost use Rattle.osm_block.specs.Message.{context};
+ghost use Rattle.osm_block.specs.Block.{Block};
+ghost use Rattle.osm_value.specs.Ranges.{IsText};
+ghost use Rattle.osm_block.specs.Head.{HeadRead, head_phases};
+ghost use Rattle.osm_block.specs.Fields.{context_of};
+ghost use Rattle.osm_block.specs.Phases.{Gives, first, fault, text_phases};
+
+use crate::common::{Common, optional_i32, optional_i64, read_payloads};
+use crate::fault::{BlockError, BlockFault};
+use crate::group::{Parts, Scratch, read_groups, some_there};
+use crate::message::Scale;
+use crate::readings::{check_all, each, each_of_all, last_number, wire_of};
+use crate::texts::read_texts;
+use osm_value::Element;
+use std::alloc::{AllocError, Global};
+
+/// What the block says for all its elements.
+fn read_scale<'a>(alloc: Global, bytes: &'a [u8]) -> Result<Scale<'a>, BlockError>
+    ensures phase { Gives (λ _. ⊤) (first (head_phases bytes.now)) result }
+    ensures read { IfOk result (λ s. HeadRead (context_of s) bytes.now) }
+{
+    if let Some(fault) = wire_of(bytes) {
+        return Err(BlockError::Fault(BlockFault::Wire(fault)));
+    }
+    let mut tables = Vec::new(alloc);
+    read_payloads(bytes, 1, &mut tables)?;
+    if !some_there(&tables) {
+        return Err(BlockError::Fault(BlockFault::NoStringTable));
+    }
+    check_all(&tables)?;
+    let mut raw = Vec::new(alloc);
+    read_payloads_of_all(&tables, 1, &mut raw)?;
+    let table = read_texts(alloc, &raw)?;
+    let granularity = granularity_of(bytes);
+    let date_granularity = date_granularity_of(bytes);
+    if !are_scales(granularity, date_granularity) {
+        return Err(BlockError::Fault(BlockFault::BadGranularity));
+    }
+    Ok(Scale {
+        table,
+        granularity,
+        date_granularity,
+        lat_offset: offset_of(bytes, 19),
+        lon_offset: offset_of(bytes, 20),
+    })
+}
+
+fn granularity_of(bytes: &[u8]) -> i32
+    ensures { result ≡ (context (fields bytes.now)).granularity }
+{
+    match optional_i32(last_number(bytes, 17, None)) {
+        Some(granularity) => granularity,
+        None => 100,
+    }
+}
+
+fn date_granularity_of(bytes: &[u8]) -> i32
+    ensures { result ≡ (context (fields bytes.now)).date_granularity }
+{
+    match optional_i32(last_number(bytes, 18, None)) {
+        Some(granularity) => granularity,
+        None => 1000,
+    }
+}
+
+fn offset_of(bytes: &[u8], number: u32) -> i64
+    ensures { result ≡ unwrap_or (option_map int64 (last (fields bytes.now) number)) (pos 0) }
+{
+    match optional_i64(last_number(bytes, number, None)) {
+        Some(offset) => offset,
+        None => 0,
+    }
+}
+
+fn are_scales(granularity: i32, date_granularity: i32) -> bool
+    ensures is { result ≡ (int_le (pos 1) granularity && int_le (pos 1) date_granularity) }
+    ensures granularity { IsTrue result → pos 1 ≤ℤ granularity }
+    ensures date_granularity { IsTrue result → pos 1 ≤ℤ date_granularity }
+{
+    let place = granularity >= 1;
+    let time = date_granularity >= 1;
+    place & time
+}
+
+/// Reads the payloads of the fields `number` of all payloads.
+fn read_payloads_of_all<'a>(
+    payloads: &[&'a [u8]],
+    number: u32,
+    out: &mut Vec<&'a [u8]>,
+) -> Result<(), AllocError>
+    ensures { OnOk result (map (λ p. p.now) out.new.items ≡ each (flat_map fields (map (λ p. p.now) payloads.now)) number) }
+{
+    out.clear();
+    each_of_all(payloads, number, out)
+}
+
+/// The elements of a block.
+#[tactic(auto, unfolding(crate::specs::Phases::fault))]
+pub fn read_block<'a>(alloc: Global, bytes: &'a [u8]) -> Result<Vec<Element<'a>>, BlockError>
+    ensures { Gives (λ es. Block es.items bytes.now) (fault bytes.now) result }
+{
+    let scale = read_scale(alloc, bytes)?;
+    let mut groups = Vec::new(alloc);
+    each(bytes, 2, &mut groups)?;
+    let mut parts = Parts {
+        nodes: Vec::new(alloc),
+        dense: Vec::new(alloc),
+        ways: Vec::new(alloc),
+        relations: Vec::new(alloc),
+    };
+    let mut scratch = Scratch {
+        common: Common {
+            infos: Vec::new(alloc),
+            keys: Vec::new(alloc),
+            vals: Vec::new(alloc),
+        },
+        refs: Vec::new(alloc),
+        roles: Vec::new(alloc),
+        types: Vec::new(alloc),
+    };
+    let mut out = Vec::new(alloc);
+    read_groups(alloc, &scale, &groups, &mut parts, &mut scratch, &mut out)?;
+    Ok(out)
+}

@@ -1,0 +1,35 @@
+//! Delta coded arrays.
+
+ghost use Rattle.std.specs.Prelude.{◌≡◌, map, not};
+ghost use Rattle.std.specs.List.{list_all};
+ghost use Rattle.osm_block.specs.declared.fault.BlockFault.TheVariants as faults;
+ghost use Rattle.pbf_wire.specs.Readings.{sint64};
+ghost use Rattle.osm_block.specs.Differences.{Diff, front_sums, fits_i64};
+ghost use Rattle.osm_block.specs.Phases.{Gives, when};
+
+use crate::fault::{BlockError, BlockFault};
+use std::alloc::Global;
+
+/// The number that a zigzag spelling stands for.
+pub fn unzigzag(n: u64) -> i64
+    ensures { result ≡ sint64 n }
+{
+    let half = (n / 2) as i64;
+    if n % 2 == 0 { half } else { -half - 1 }
+}
+
+/// The numbers whose differences these are.
+pub fn absolute(alloc: Global, deltas: &[u64]) -> Result<Vec<i64>, BlockError>
+    ensures { Gives (λ values. Diff values.items (map sint64 deltas.now)) (when (not (list_all fits_i64 (front_sums (map sint64 deltas.now)))) faults.SumTooLarge) result }
+{
+    let mut values = Vec::with_capacity(alloc, deltas.len())?;
+    let mut last: i64 = 0;
+    for delta in deltas {
+        last = match last.checked_add(unzigzag(*delta)) {
+            Some(value) => value,
+            None => return Err(BlockError::Fault(BlockFault::SumTooLarge)),
+        };
+        values.push(last)?;
+    }
+    Ok(values)
+}

@@ -1,0 +1,192 @@
+//! The messages of a group.
+
+ghost use Rattle.std.specs.Prelude.{◌≡◌, map, OnOk, ⊤, not, nat_le, ◌∷◌, []};
+ghost use Rattle.std.specs.List.{flat_map, count_by};
+ghost use Rattle.pbf_wire.specs.Readings.{fields};
+ghost use Rattle.osm_block.specs.Message.{Plain, Way, Relation};
+ghost use Rattle.pbf_wire.specs.Readings.{each, is_there};
+ghost use Rattle.osm_block.specs.Block.{GroupOf};
+ghost use Rattle.osm_block.specs.Parts.{messages_of};
+ghost use Rattle.osm_block.specs.Fields.{context_of};
+ghost use Rattle.osm_block.specs.Phases.{Gives, first, message_phases, group_phases};
+ghost use Rattle.osm_block.specs.Reads.{Appended, AppendedOne, AppendedGroups};
+
+use crate::common::{Common, read_payloads};
+use crate::dense::read_dense;
+use crate::fault::{BlockError, BlockFault};
+use crate::message::Scale;
+use crate::node::read_node;
+use crate::read_way::read_way;
+use crate::readings::wire_of;
+use crate::relation::read_relation;
+use osm_value::Element;
+use std::alloc::{AllocError, Global};
+
+/// What messages are read into. It is used again for each one.
+#[derive(Drop)]
+pub struct Scratch<'a> {
+    pub common: Common<'a>,
+    pub refs: Vec<u64>,
+    pub roles: Vec<u64>,
+    pub types: Vec<u64>,
+}
+
+/// Appends the ways of the payloads.
+fn read_ways<'a>(
+    alloc: Global,
+    scale: &Scale<'a>,
+    payloads: &[&'a [u8]],
+    scratch: &mut Scratch<'a>,
+    out: &mut Vec<Element<'a>>,
+) -> Result<(), BlockError>
+    ensures phase { Gives (λ _. ⊤) (first (flat_map (message_phases (context_of scale.now)) (map Way (map (λ p. p.now) payloads.now)))) result }
+    ensures read { OnOk result (Appended (context_of scale.now) out.old.items out.new.items (map Way (map (λ p. p.now) payloads.now))) }
+{
+    for payload in payloads {
+        let way = read_way(
+            alloc,
+            scale,
+            payload,
+            &mut scratch.common,
+            &mut scratch.refs,
+        )?;
+        out.push(Element::Way(way))?;
+    }
+    Ok(())
+}
+
+/// Appends the nodes of the payloads.
+fn read_nodes<'a>(
+    alloc: Global,
+    scale: &Scale<'a>,
+    payloads: &[&'a [u8]],
+    scratch: &mut Scratch<'a>,
+    out: &mut Vec<Element<'a>>,
+) -> Result<(), BlockError>
+    ensures phase { Gives (λ _. ⊤) (first (flat_map (message_phases (context_of scale.now)) (map Plain (map (λ p. p.now) payloads.now)))) result }
+    ensures read { OnOk result (Appended (context_of scale.now) out.old.items out.new.items (map Plain (map (λ p. p.now) payloads.now))) }
+{
+    for payload in payloads {
+        let node = read_node(alloc, scale, payload, &mut scratch.common)?;
+        out.push(Element::Node(node))?;
+    }
+    Ok(())
+}
+
+/// Appends the relations of the payloads.
+fn read_relations<'a>(
+    alloc: Global,
+    scale: &Scale<'a>,
+    payloads: &[&'a [u8]],
+    out: &mut Vec<Element<'a>>,
+) -> Result<(), BlockError>
+    ensures phase { Gives (λ _. ⊤) (first (flat_map (message_phases (context_of scale.now)) (map Relation (map (λ p. p.now) payloads.now)))) result }
+    ensures read { OnOk result (Appended (context_of scale.now) out.old.items out.new.items (map Relation (map (λ p. p.now) payloads.now))) }
+{
+    for payload in payloads {
+        let relation = read_relation(alloc, scale, payload)?;
+        out.push(Element::Relation(relation))?;
+    }
+    Ok(())
+}
+
+/// The payloads of a group, by kind.
+#[derive(Drop)]
+pub struct Parts<'a> {
+    pub nodes: Vec<&'a [u8]>,
+    pub dense: Vec<&'a [u8]>,
+    pub ways: Vec<&'a [u8]>,
+    pub relations: Vec<&'a [u8]>,
+}
+
+pub fn some_there(payloads: &[&[u8]]) -> bool
+    ensures { result ≡ is_there (map (λ p. p.now) payloads.now) }
+{
+    !payloads.is_empty()
+}
+
+fn several(a: bool, b: bool, c: bool, d: bool) -> bool
+    ensures { result ≡ not (nat_le (count_by (λ x. x) (a ∷ b ∷ c ∷ d ∷ [])) 1) }
+{
+    a & (b | c | d) | b & (c | d) | c & d
+}
+
+/// Whether a group has elements of several kinds.
+fn is_mixed(parts: &Parts) -> bool
+    ensures { result ≡ not (nat_le (count_by (λ x. x) (is_there (map (λ p. p.now) parts.now.nodes.items) ∷ is_there (map (λ p. p.now) parts.now.dense.items) ∷ is_there (map (λ p. p.now) parts.now.ways.items) ∷ is_there (map (λ p. p.now) parts.now.relations.items) ∷ [])) 1) }
+{
+    let nodes = some_there(&parts.nodes);
+    let dense = some_there(&parts.dense);
+    let ways = some_there(&parts.ways);
+    several(nodes, dense, ways, some_there(&parts.relations))
+}
+
+/// Reads the payloads of a group.
+fn read_parts<'a>(group: &'a [u8], parts: &mut Parts<'a>) -> Result<(), AllocError>
+    ensures nodes { OnOk result (map (λ p. p.now) parts.new.nodes.items ≡ each (fields group.now) 1) }
+    ensures dense { OnOk result (map (λ p. p.now) parts.new.dense.items ≡ each (fields group.now) 2) }
+    ensures ways { OnOk result (map (λ p. p.now) parts.new.ways.items ≡ each (fields group.now) 3) }
+    ensures relations { OnOk result (map (λ p. p.now) parts.new.relations.items ≡ each (fields group.now) 4) }
+{
+    read_payloads(group, 1, &mut parts.nodes)?;
+    read_payloads(group, 2, &mut parts.dense)?;
+    read_payloads(group, 3, &mut parts.ways)?;
+    read_payloads(group, 4, &mut parts.relations)
+}
+
+/// Appends the elements of the parts, in order.
+fn read_messages<'a>(
+    alloc: Global,
+    scale: &Scale<'a>,
+    parts: &Parts<'a>,
+    scratch: &mut Scratch<'a>,
+    out: &mut Vec<Element<'a>>,
+) -> Result<(), BlockError>
+    ensures phase { Gives (λ _. ⊤) (first (flat_map (message_phases (context_of scale.now)) (messages_of parts.now))) result }
+    ensures read { OnOk result (Appended (context_of scale.now) out.old.items out.new.items (messages_of parts.now)) }
+{
+    read_nodes(alloc, scale, &parts.nodes, scratch, out)?;
+    read_dense(alloc, scale, &parts.dense, out)?;
+    read_ways(alloc, scale, &parts.ways, scratch, out)?;
+    read_relations(alloc, scale, &parts.relations, out)
+}
+
+/// Appends the elements of a group.
+pub fn read_group<'a>(
+    alloc: Global,
+    scale: &Scale<'a>,
+    group: &'a [u8],
+    parts: &mut Parts<'a>,
+    scratch: &mut Scratch<'a>,
+    out: &mut Vec<Element<'a>>,
+) -> Result<(), BlockError>
+    ensures phase { Gives (λ _. ⊤) (first (group_phases (context_of scale.now) group.now)) result }
+    ensures read { OnOk result (AppendedOne (GroupOf (context_of scale.now)) out.old.items out.new.items group.now) }
+{
+    if let Some(fault) = wire_of(group) {
+        return Err(BlockError::Fault(BlockFault::Wire(fault)));
+    }
+    read_parts(group, parts)?;
+    if is_mixed(parts) {
+        return Err(BlockError::Fault(BlockFault::MixedGroup));
+    }
+    read_messages(alloc, scale, parts, scratch, out)
+}
+
+/// Appends the elements of the groups.
+pub fn read_groups<'a>(
+    alloc: Global,
+    scale: &Scale<'a>,
+    groups: &[&'a [u8]],
+    parts: &mut Parts<'a>,
+    scratch: &mut Scratch<'a>,
+    out: &mut Vec<Element<'a>>,
+) -> Result<(), BlockError>
+    ensures phase { Gives (λ _. ⊤) (first (flat_map (group_phases (context_of scale.now)) (map (λ p. p.now) groups.now))) result }
+    ensures read { OnOk result (AppendedGroups (context_of scale.now) out.old.items out.new.items (map (λ p. p.now) groups.now)) }
+{
+    for group in groups {
+        read_group(alloc, scale, group, parts, scratch, out)?;
+    }
+    Ok(())
+}

@@ -1,0 +1,262 @@
+//! Header blocks: which features a file needs, which area it covers, and who wrote it.
+
+ghost use Rattle.std.specs.Prelude.{◌≡◌, List, map, true, IfOk, option_map, IsTrue};
+ghost use Rattle.std.specs.List.{list_all};
+ghost use Rattle.std.specs.Option.{option_copied};
+ghost use Rattle.std.specs.Str.{is_utf8};
+ghost use Rattle.pbf_wire.specs.Readings.{fields, wire, each, sub, int64, last, is_there};
+ghost use Rattle.osm_block.specs.declared.header.fault.HeaderFault.TheVariants as faults;
+ghost use Rattle.osm_block.specs.HeaderBlock.{HeaderValue, Answers, header_value, header_fault, first, wire_phase, box_of, side, last_text, are_texts, is_known, unknown_feature};
+
+use crate::readings::{last_number, wire_of};
+use payloads::Payloads;
+use pbf_wire::{WireFault, unzigzag};
+use std::marker::Model;
+
+mod fault;
+mod payloads;
+mod texts;
+
+pub use fault::HeaderFault;
+pub use texts::Texts;
+
+/// The sides of an area, in nanodegrees.
+#[derive(Clone, Copy, Debug, PartialEq, Eq)]
+pub struct BBox {
+    pub left: i64,
+    pub right: i64,
+    pub top: i64,
+    pub bottom: i64,
+}
+
+/// A header block whose features are all known. Its texts are slices of its bytes.
+#[derive(Debug, Drop)]
+pub struct HeaderBlock<'a> {
+    bytes: &'a [u8],
+    bbox: Option<BBox>,
+    program: Option<&'a str>,
+    source: Option<&'a str>,
+    timestamp: Option<i64>,
+    sequence: Option<i64>,
+    url: Option<&'a str>,
+}
+
+impl<'a> Model for HeaderBlock<'a> {
+    ghost Value = { HeaderValue };
+
+    ghost view = { λ h. record {
+      bbox = h.bbox;
+      required = each (fields h.bytes.now) 4;
+      optional = each (fields h.bytes.now) 5;
+      program = option_copied h.program;
+      source = option_copied h.source;
+      timestamp = h.timestamp;
+      sequence = h.sequence;
+      url = option_copied h.url;
+    } };
+
+    ghost invariant = { λ h. (list_all is_utf8 (each (fields h.bytes.now) 4) ≡ true) × (list_all is_utf8 (each (fields h.bytes.now) 5) ≡ true) };
+}
+
+impl<'a> HeaderBlock<'a> {
+    ghost use Rattle.osm_block.specs.HeaderTexts.{texts_left};
+
+    /// The area that the file covers.
+    pub fn bbox(&self) -> Option<BBox>
+        ensures { result ≡ self.now.bbox }
+    {
+        self.bbox
+    }
+
+    /// The features that a reader needs; all of them are known.
+    pub fn required(&self) -> Texts<'a>
+        ensures { texts_left result ≡ self.now.required }
+    {
+        Texts::new(self.bytes, 4)
+    }
+
+    /// The features that a reader may use.
+    pub fn optional(&self) -> Texts<'a>
+        ensures { texts_left result ≡ self.now.optional }
+    {
+        Texts::new(self.bytes, 5)
+    }
+
+    /// The program that wrote the file.
+    pub fn program(&self) -> Option<&'a str>
+        ensures { option_copied result ≡ self.now.program }
+    {
+        self.program
+    }
+
+    /// Where the data comes from.
+    pub fn source(&self) -> Option<&'a str>
+        ensures { option_copied result ≡ self.now.source }
+    {
+        self.source
+    }
+
+    /// The state of the database that the file shows, in seconds since 1970.
+    pub fn timestamp(&self) -> Option<i64>
+        ensures { result ≡ self.now.timestamp }
+    {
+        self.timestamp
+    }
+
+    /// The number of that state in the row of replications.
+    pub fn sequence(&self) -> Option<i64>
+        ensures { result ≡ self.now.sequence }
+    {
+        self.sequence
+    }
+
+    /// Where later states are to be had.
+    pub fn url(&self) -> Option<&'a str>
+        ensures { option_copied result ≡ self.now.url }
+    {
+        self.url
+    }
+}
+
+/// The first wire fault of the boxes.
+fn wire_of_boxes(bytes: &[u8]) -> Option<WireFault>
+    ensures { option_map faults.HeaderBlockWire result ≡ first (map wire_phase (each (fields bytes.now) 1)) }
+{
+    for payload in Payloads::new(bytes, 1) {
+        if let Some(fault) = wire_of(payload) {
+            return Some(fault);
+        }
+    }
+    None
+}
+
+fn has_box(bytes: &[u8]) -> bool
+    ensures { result ≡ is_there (each (fields bytes.now) 1) }
+{
+    Payloads::new(bytes, 1).next().is_some()
+}
+
+/// One side of the box that all payloads make together.
+fn side(bytes: &[u8], number: u32) -> Option<i64>
+    ensures { result ≡ side (sub (fields bytes.now) 1) number }
+{
+    let mut last = None;
+    for payload in Payloads::new(bytes, 1) {
+        last = last_number(payload, number, last);
+    }
+    match last {
+        Some(number) => Some(unzigzag(number)),
+        None => None,
+    }
+}
+
+/// The box, where all its sides are there.
+fn bbox_of(bytes: &[u8]) -> Option<BBox>
+    ensures { result ≡ box_of (sub (fields bytes.now) 1) }
+{
+    Some(BBox {
+        left: side(bytes, 1)?,
+        right: side(bytes, 2)?,
+        top: side(bytes, 3)?,
+        bottom: side(bytes, 4)?,
+    })
+}
+
+fn is_utf8(bytes: &[u8]) -> bool
+    ensures { result ≡ is_utf8 bytes.now }
+{
+    simdutf8::is_utf8(bytes)
+}
+
+/// Whether all payloads of the fields `number` are UTF-8.
+fn are_utf8(bytes: &[u8], number: u32) -> bool
+    ensures { result ≡ list_all is_utf8 (each (fields bytes.now) number) }
+{
+    for payload in Payloads::new(bytes, number) {
+        if !is_utf8(payload) {
+            return false;
+        }
+    }
+    true
+}
+
+fn are_texts(bytes: &[u8]) -> bool
+    ensures { result ≡ are_texts (fields bytes.now) }
+{
+    let features = are_utf8(bytes, 4) & are_utf8(bytes, 5);
+    let origins = are_utf8(bytes, 16) & are_utf8(bytes, 17) & are_utf8(bytes, 34);
+    features & origins
+}
+
+fn is_known(feature: &str) -> bool
+    ensures { result ≡ is_known feature.now }
+{
+    feature == "OsmSchema-V0.6" || feature == "DenseNodes"
+}
+
+/// The place of the first required feature that isn't known.
+fn unknown_feature(bytes: &[u8]) -> Option<usize>
+    requires { list_all is_utf8 (each (fields bytes.now) 4) ≡ true }
+    ensures { result ≡ unknown_feature (each (fields bytes.now) 4) }
+{
+    Texts::new(bytes, 4).position(|feature| !is_known(feature))
+}
+
+/// The last text of the fields `number`.
+fn last_text(bytes: &[u8], number: u32) -> Option<&str>
+    requires { list_all is_utf8 (each (fields bytes.now) number) ≡ true }
+    ensures { option_copied result ≡ last_text (fields bytes.now) number }
+{
+    let mut last = None;
+    for text in Texts::new(bytes, number) {
+        last = Some(text);
+    }
+    last
+}
+
+/// The last number of the fields `number`.
+fn last_int(bytes: &[u8], number: u32) -> Option<i64>
+    ensures { result ≡ option_map int64 (last (fields bytes.now) number) }
+{
+    match last_number(bytes, number, None) {
+        Some(number) => Some(number.cast_signed()),
+        None => None,
+    }
+}
+
+/// Reads a header block, and refuses one whose features aren't all known (osmformat.proto, HeaderBlock).
+#[tactic(auto, unfolding(crate::specs::HeaderBlock::header_fault))]
+pub fn read_header_block(bytes: &[u8]) -> Result<HeaderBlock<'_>, HeaderFault>
+    // It is refused exactly where a fault stands, with the first.
+    ensures fault { Answers (header_fault bytes.now) result }
+    ensures parts { IfOk result (λ h. h ≡ header_value (fields bytes.now)) }
+{
+    if let Some(fault) = wire_of(bytes) {
+        return Err(HeaderFault::HeaderBlockWire(fault));
+    }
+    if let Some(fault) = wire_of_boxes(bytes) {
+        return Err(HeaderFault::HeaderBlockWire(fault));
+    }
+    let bbox = bbox_of(bytes);
+    if has_box(bytes) & bbox.is_none() {
+        return Err(HeaderFault::BBoxIncomplete);
+    }
+    if !are_texts(bytes) {
+        return Err(HeaderFault::HeaderTextNotUtf8);
+    }
+    if let Some(place) = unknown_feature(bytes) {
+        return Err(HeaderFault::UnknownFeature(place));
+    }
+    Ok(HeaderBlock {
+        bytes,
+        bbox,
+        program: last_text(bytes, 16),
+        source: last_text(bytes, 17),
+        timestamp: last_int(bytes, 32),
+        sequence: last_int(bytes, 33),
+        url: last_text(bytes, 34),
+    })
+}
+
+#[cfg(test)]
+mod tests;

@@ -1,0 +1,91 @@
+use super::*;
+use pbf_wire::WireFaultKind;
+use std::test::*;
+
+fn wire(kind: WireFaultKind, at: usize) -> HeaderFault {
+    HeaderFault::HeaderBlockWire(WireFault { kind, at })
+}
+
+#[test]
+fn no_byte_has_nothing(rt: HostRuntime) {
+    let header = read_header_block(&[]).expect(&rt, "no byte is a header block");
+    assert!(rt; header.bbox().is_none());
+    assert!(rt; header.required().next().is_none());
+    assert!(rt; header.optional().next().is_none());
+    assert!(rt; header.program().is_none() && header.source().is_none() && header.url().is_none());
+    assert!(rt; header.timestamp().is_none() && header.sequence().is_none());
+}
+
+#[test]
+fn two_features(rt: HostRuntime) {
+    let bytes = b"\x22\x0EOsmSchema-V0.6\x22\x0ADenseNodes";
+    let header = read_header_block(bytes).expect(&rt, "both features are known");
+    let mut required = header.required();
+    assert!(rt; required.next() == Some("OsmSchema-V0.6"));
+    assert!(rt; required.next() == Some("DenseNodes"));
+    assert!(rt; required.next().is_none());
+    assert!(rt; header.optional().next().is_none());
+}
+
+#[test]
+fn every_part(rt: HostRuntime) {
+    let bytes =
+        b"\x22\x0ADenseNodes\x2A\x07Has_Aaa\x2A\x01b\x82\x01\x06pbfrow\x8A\x01\x01s\x80\x02\x05\x88\x02\xFF\xFF\xFF\xFF\xFF\xFF\xFF\xFF\xFF\x01\x92\x02\x01u";
+    let header = read_header_block(bytes).expect(&rt, "the feature is known");
+    let mut optional = header.optional();
+    assert!(rt; optional.next() == Some("Has_Aaa"));
+    assert!(rt; optional.next() == Some("b"));
+    assert!(rt; optional.next().is_none());
+    assert!(rt; header.program() == Some("pbfrow"));
+    assert!(rt; header.source() == Some("s"));
+    assert!(rt; header.timestamp() == Some(5));
+    assert!(rt; header.sequence() == Some(-1));
+    assert!(rt; header.url() == Some("u"));
+}
+
+#[test]
+fn boxes(rt: HostRuntime) {
+    let sides = BBox {
+        left: -1,
+        right: 1,
+        top: 2,
+        bottom: -2,
+    };
+    let whole = [0x0A, 0x08, 0x08, 0x01, 0x10, 0x02, 0x18, 0x04, 0x20, 0x03];
+    let header = read_header_block(&whole).expect(&rt, "all sides are there");
+    assert!(rt; header.bbox() == Some(sides));
+    let halves = [
+        0x0A, 0x04, 0x08, 0x01, 0x10, 0x02, 0x0A, 0x04, 0x18, 0x04, 0x20, 0x03,
+    ];
+    let header = read_header_block(&halves).expect(&rt, "all sides are there");
+    assert!(rt; header.bbox() == Some(sides));
+    assert!(rt; fault_of(&[0x0A, 0x02, 0x08, 0x02]) == Some(HeaderFault::BBoxIncomplete));
+    assert!(rt; fault_of(&[0x0A, 0x01, 0x08]) == Some(wire(WireFaultKind::NumberCut, 0)));
+}
+
+fn fault_of(bytes: &[u8]) -> Option<HeaderFault> {
+    read_header_block(bytes).err()
+}
+
+#[test]
+fn other_faults(rt: HostRuntime) {
+    assert!(rt; fault_of(&[0x0B]) == Some(wire(WireFaultKind::BadWireType, 0)));
+    assert!(rt; fault_of(&[0x82, 0x01, 0x01, 0xFF]) == Some(HeaderFault::HeaderTextNotUtf8));
+    assert!(rt; fault_of(b"\x22\x03ABC") == Some(HeaderFault::UnknownFeature(0)));
+    let second = b"\x22\x0ADenseNodes\x22\x03ABC";
+    assert!(rt; fault_of(second) == Some(HeaderFault::UnknownFeature(1)));
+    let header = read_header_block(&[0x80, 0x02, 0x05]).expect(&rt, "a timestamp alone");
+    assert!(rt; header.timestamp() == Some(5));
+}
+
+#[test]
+fn numbers_and_names(rt: HostRuntime) {
+    assert!(rt; wire(WireFaultKind::NumberCut, 0).number() == 30);
+    assert!(rt; HeaderFault::BBoxIncomplete.number() == 31);
+    assert!(rt; HeaderFault::HeaderTextNotUtf8.number() == 32);
+    assert!(rt; HeaderFault::UnknownFeature(0).number() == 33);
+    assert!(rt; wire(WireFaultKind::NumberCut, 0).name() == "HeaderBlockWire");
+    assert!(rt; HeaderFault::BBoxIncomplete.name() == "BBoxIncomplete");
+    assert!(rt; HeaderFault::HeaderTextNotUtf8.name() == "HeaderTextNotUtf8");
+    assert!(rt; HeaderFault::UnknownFeature(0).name() == "UnknownFeature");
+}

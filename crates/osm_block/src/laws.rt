@@ -1,0 +1,16 @@
+//! What holds of the definitions, over all inputs.
+
+ghost use Rattle.std.specs.Prelude.{◌≡◌, ℕ, ℤ, List};
+ghost use Rattle.osm_value.specs.declared.element.Element.{Element};
+ghost use Rattle.osm_block.specs.Block.{Block};
+ghost use Rattle.osm_block.specs.Differences.{Diff};
+
+/// A block says one list of elements.
+pub fn one_list_of_elements()
+    ensures { (es fs : List Element) (w : List ℕ) → Block es w → Block fs w → es ≡ fs }
+{}
+
+/// Differences are those of one list of numbers.
+pub fn one_list_of_numbers()
+    ensures { (us vs ds : List ℤ) → Diff us ds → Diff vs ds → us ≡ vs }
+{}
