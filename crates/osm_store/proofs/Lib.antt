@@ -25,3 +25,4 @@ pub mod NumberOrder
 pub mod PlacedLaws
 pub mod OneElement
 pub mod OneMap
+pub mod VersionLemmas

@@ -4,6 +4,7 @@ use Rattle.osm_value.specs.declared.element.Element.{Element}
 use Rattle.osm_value.specs.Elements.{IsElement}
 use Rattle.osm_block.specs.Block.{Block}
 use Rattle.osm_block.specs.Phases.{fault}
+use Rattle.osm_block.proofs.UniqueDense.{Block-unique}
 use Rattle.osm_write.specs.Canon.{canon}
 use Rattle.osm_write.specs.Laws.{ReadsBack}
 use Rattle.osm_store.specs.Held.{HasFewTexts}
@@ -13,16 +14,13 @@ use Rattle.osm_store.specs.Rows.{HasBlock}
 axiom reads_back : (es : List Element) → ReadsBack es
 
 -- TODO: what `osm_block` promises of all blocks
-axiom one_list_of_elements : (es fs : List Element) (w : List ℕ) → Block es w → Block fs w → es ≡ fs
-
--- TODO: what `osm_block` promises of all blocks
 axiom no_fault : (es : List Element) (w : List ℕ) → Block es w → fault w ≡ None
 
 pub canon_says : (e : Element) → HasBlock e → HasFewTexts e → Block (e ∷ []) (canon (e ∷ []))
 canon_says e has few = reads_back (e ∷ []) (has.in_range, tt) (rw append-nil few) has.short
 
 pub one_element : (e : Element) (es : List Element) → HasBlock e → HasFewTexts e → Block es (canon (e ∷ [])) → es ≡ e ∷ []
-one_element e es has few says = one_list_of_elements es (e ∷ []) (canon (e ∷ [])) says (canon_says e has few)
+one_element e es has few says = Block-unique es (e ∷ []) (canon (e ∷ [])) says (canon_says e has few)
 
 pub canon_faultless : (e : Element) → HasBlock e → HasFewTexts e → fault (canon (e ∷ [])) ≡ None
 canon_faultless e has few = no_fault (e ∷ []) (canon (e ∷ [])) (canon_says e has few)

@@ -1,7 +1,9 @@
 -- What a query leaves of a connection.
-use Rattle.std.specs.Prelude.{◌≡◌, false, IsTrue, ℕ, List}
-use Rattle.sqlite.specs.Order.{Row}
+use Rattle.std.specs.Prelude.{◌≡◌, false, IsTrue, ℕ, ℤ, List, [], ◌∷◌}
+use Rattle.sqlite.specs.declared.types.Value.TheVariants.{Int}
+use Rattle.sqlite.specs.Order.{Row, column}
 use Rattle.sqlite.specs.State.{State, HasCleanDisk, Shown, Survives}
+use Rattle.osm_store.specs.Tables.{select_version_text}
 
 -- The connection sees the last commit as before, and, where no transaction had written, the same rows and schema.
 pub record Keeps (old new : State) : Type 0 where
@@ -20,3 +22,9 @@ pub record IsAnswered (sql : List ℕ) (params : Row) (old new : State) (rows : 
   pub was_open : IsTrue old.is_open
   pub is_open : IsTrue new.is_open
   pub shown : Shown sql params old new rows
+
+-- The table `meta` was asked, and has one row, which names this version.
+pub record NamesVersion (old new : State) (version : ℤ) : Type 0 where
+  pub row : Row
+  pub answered : IsAnswered select_version_text [] old new (row ∷ [])
+  pub named : column row 0 ≡ Int version

@@ -4,7 +4,7 @@ ghost use Rattle.std.specs.Prelude.{◌≡◌, ◌≢◌, ◌⊎◌, ◌∷◌, 
 ghost use Rattle.std.specs.FinMap.{empty};
 ghost use Rattle.sqlite.specs.State.{HasCleanDisk};
 ghost use Rattle.sqlite.specs.Held.{state};
-ghost use Rattle.osm_store.specs.Asking.{JustAsks};
+ghost use Rattle.osm_store.specs.Asking.{JustAsks, NamesVersion};
 ghost use Rattle.osm_store.specs.Finding.{AreMatches};
 ghost use Rattle.osm_store.specs.Held.{HeldMap};
 ghost use Rattle.osm_store.specs.Holding.{Holds, TablesHold};
@@ -118,7 +118,8 @@ impl<S: Alter> BodyStore<S> {
             → MatchResult result (λ store. HasCleanDisk (state S.Store store.connection) → Holds (state S.Store store.connection) held) (λ e. HasCleanDisk (state S.Store e.1) → ¬ (IsForeign e.0)) }
         ensures asks { MatchResult result (λ store. JustAsks (state S.Store connection) (state S.Store store.connection)) (λ e. JustAsks (state S.Store connection) (state S.Store e.1)) }
         ensures failures { IfOk result (λ store. store.failures ≡ 0) }
-        ensures other { IfErr result (λ e. (found : ℤ) → e.0 ≡ StoreFault.NotThisStore (Some found) → found ≢ pos 1) }
+        ensures ours { IfOk result (λ store. HasCleanDisk (state S.Store store.connection) → NamesVersion (state S.Store connection) (state S.Store store.connection) (pos 1)) }
+        ensures other { IfErr result (λ e. (found : ℤ) → e.0 ≡ StoreFault.NotThisStore (Some found) → (found ≢ pos 1) × (HasCleanDisk (state S.Store e.1) → NamesVersion (state S.Store connection) (state S.Store e.1) found)) }
         ensures autocommit { IfErr result (λ e. (state S.Store e.1).in_transaction ≡ false) }
     {
         match version(&mut connection) {

@@ -9,6 +9,7 @@ mod extents;
 mod fault;
 mod found;
 mod keeper;
+pub mod laws;
 mod loaded;
 mod rows;
 mod sql;
