@@ -15,7 +15,8 @@ use Rattle.osm_store.specs.Held.{HasFewTexts}
 use Rattle.osm_store.specs.Rows.{HasBlock}
 
 -- TODO: what `osm_block` promises of dense nodes
-axiom dense_none : (b : Context) (es : List Element) (ps : List (List ℕ)) → Says b es (Dense ps) → first (message_phases b (Dense ps)) ≡ None
+dense_none : (b : Context) (es : List Element) (ps : List (List ℕ)) → Says b es (Dense ps) → first (message_phases b (Dense ps)) ≡ None
+dense_none b es ps says = ?
 
 message_none : (b : Context) (es : List Element) (m : Message) → Says b es m → first (message_phases b m) ≡ None
 message_none b es (Plain p) h = node_none b es p h
