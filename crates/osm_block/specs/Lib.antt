@@ -14,3 +14,7 @@ pub mod Reads
 pub mod Parts
 pub mod Head
 pub mod Texts
+pub mod Columns
+pub mod NodeTags
+pub mod Dense
+pub mod DenseRead

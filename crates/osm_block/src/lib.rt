@@ -2,6 +2,7 @@
 #![tactic(auto)]
 
 mod block;
+mod column;
 mod common;
 mod deltas;
 mod dense;
@@ -11,6 +12,7 @@ mod header;
 pub mod laws;
 mod message;
 mod node;
+mod ranges;
 mod read_way;
 mod readings;
 mod relation;
@@ -21,3 +23,6 @@ mod way;
 pub use block::read_block;
 pub use fault::{BlockError, BlockFault};
 pub use header::{BBox, HeaderBlock, HeaderFault, Texts, read_header_block};
+
+#[cfg(test)]
+mod tests;
