@@ -19,3 +19,5 @@ pub mod Unique
 pub mod UniqueDense
 pub mod VectorBlocks
 pub mod WayComplete
+pub mod NodeTagsLemmas
+pub mod DenseColumnLemmas

@@ -22,8 +22,8 @@ pub record InfosRead (b : Context) (c : Columns) (k : ℕ) (is : List InfoValue)
 -- the first nodes, where these are the indexes of the tags that are left
 pub record NodesRead (b : Context) (c : Columns) (k : ℕ) (left : List ℤ) (ns : List NodeValue) : Type 0 where
   pub ids : map (λ n. n.id) ns ++ drop k c.ids.items ≡ c.ids.items
-  pub lats : map (λ n. n.lat) ns ++ map (place b.lat_offset b.granularity) (drop k c.lats.items) ≡ map (place b.lat_offset b.granularity) c.lats.items
-  pub lons : map (λ n. n.lon) ns ++ map (place b.lon_offset b.granularity) (drop k c.lons.items) ≡ map (place b.lon_offset b.granularity) c.lons.items
+  pub lats : map (λ n. n.lat) ns ++ drop k (map (place b.lat_offset b.granularity) c.lats.items) ≡ map (place b.lat_offset b.granularity) c.lats.items
+  pub lons : map (λ n. n.lon) ns ++ drop k (map (place b.lon_offset b.granularity) c.lons.items) ≡ map (place b.lon_offset b.granularity) c.lons.items
   pub tags : map (λ n. all_there n.tags) ns ++ map (texts_at b.table) (node_pairs (length c.ids.items - k) left) ≡ map (texts_at b.table) (node_pairs (length c.ids.items) c.keys_vals.items)
   pub infos : InfosRead b c k (map (λ n. n.info) ns)
   pub in_range : AllByRecursion IsNode ns

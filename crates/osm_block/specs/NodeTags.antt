@@ -15,12 +15,5 @@ abbrev pub node_pairs : ℕ → List ℤ → List (List Pair)
 node_pairs zero kv = []
 node_pairs (suc n) kv = (front_pairs kv).0 ∷ node_pairs n (front_pairs kv).1
 
--- a pair stands in front
-abbrev pub has_pair : List ℤ → Bool
-has_pair [] = false
-has_pair (pos zero ∷ kv) = false
-has_pair (k ∷ []) = false
-has_pair (k ∷ v ∷ kv) = true
-
 abbrev pub pair_indexes : List Pair → List ℤ
 pair_indexes ps = flat_map (λ p. p.0 ∷ p.1 ∷ []) ps

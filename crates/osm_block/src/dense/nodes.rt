@@ -1,14 +1,15 @@
 //! Dense nodes, built from their columns.
 
 ghost use Rattle.std.specs.Prelude.{◌≡◌, ◌*ℤ◌, ◌<◌, length, true, pos, IfOk, OnOk, Some, None, option_map, option_and_then, option_copied, slice_get, map, ◌++◌};
-ghost use Rattle.osm_value.specs.Ranges.{is_wide, is_uid, IsInfo};
+ghost use Rattle.osm_value.specs.Ranges.{is_wide, is_uid, passes};
+ghost use Rattle.osm_block.specs.Phases.{is_index};
 ghost use Rattle.osm_block.specs.Block.{time, version as version_of, text_at};
 ghost use Rattle.osm_block.specs.Dense.{AreReady, InfoAt, NodeAt};
 ghost use Rattle.osm_block.specs.DenseRead.{AppendedNodes};
 ghost use Rattle.osm_block.specs.Fields.{context_of};
 
 use super::columns::Columns;
-use super::tags::node_tags;
+use super::tags::{index_of, node_tags};
 use crate::message::Scale;
 use crate::ranges::place_of;
 use osm_value::{Element, Info, Node};
@@ -23,24 +24,39 @@ fn version_at(versions: &[i32], index: usize) -> Option<i32>
     }
 }
 
-fn time_at(date_granularity: i32, timestamps: &[i64], index: usize) -> Option<i64> {
-    match timestamps.get(index) {
+fn number_at(column: &[i64], index: usize) -> Option<i64>
+    ensures { result ≡ slice_get column.now index }
+{
+    column.get(index).copied()
+}
+
+fn time_of(date_granularity: i32, units: Option<i64>) -> Option<i64>
+    requires { passes (λ t. is_wide (time date_granularity t)) units ≡ true }
+    ensures { result ≡ option_map (time date_granularity) units }
+{
+    match units {
         None => None,
-        Some(units) => Some(*units * i64::from(date_granularity)),
+        Some(units) => Some(units * i64::from(date_granularity)),
     }
 }
 
-fn uid_at(uids: &[i64], index: usize) -> Option<i32> {
-    match uids.get(index) {
+fn uid_of(uid: Option<i64>) -> Option<i32>
+    requires { passes is_uid uid ≡ true }
+    ensures { result ≡ uid }
+{
+    match uid {
         None => None,
-        Some(uid) => Some(*uid as i32),
+        Some(uid) => Some(uid as i32),
     }
 }
 
-fn user_at<'a>(table: &[&'a str], users: &[i64], index: usize) -> Option<&'a str> {
-    match users.get(index) {
+fn user_of<'a>(table: &[&'a str], index: Option<i64>) -> Option<&'a str>
+    requires { passes (is_index (length table.now)) index ≡ true }
+    ensures { option_map Some (option_copied result) ≡ option_map (text_at (map (λ t. t.now) table.now)) index }
+{
+    match index {
         None => None,
-        Some(user) => Some(table[*user as usize]),
+        Some(index) => Some(table[index_of(index, table.len())]),
     }
 }
 
@@ -50,14 +66,15 @@ fn info_at<'a>(scale: &Scale<'a>, columns: &Columns, index: usize) -> Info<'a>
     requires within { index < length columns.now.ids.items }
     ensures { InfoAt (context_of scale.now) columns.now index result }
 {
-    Info::new(
-        version_at(&columns.versions, index),
-        time_at(scale.date_granularity, &columns.timestamps, index),
-        columns.changesets.get(index).copied(),
-        uid_at(&columns.uids, index),
-        user_at(&scale.table, &columns.users, index),
-        None,
-    )
+    let version = version_at(&columns.versions, index);
+    let time = time_of(
+        scale.date_granularity,
+        number_at(&columns.timestamps, index),
+    );
+    let changeset = number_at(&columns.changesets, index);
+    let uid = uid_of(number_at(&columns.uids, index));
+    let user = user_of(&scale.table, number_at(&columns.users, index));
+    Info::new(version, time, changeset, uid, user, None)
 }
 
 /// Appends the nodes that the columns stand for.

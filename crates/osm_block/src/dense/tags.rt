@@ -1,33 +1,34 @@
 //! The tags of one dense node.
 
-ghost use Rattle.std.specs.Prelude.{◌≡◌, ◌≤◌, ◌<◌, map, length, drop, IfOk, true};
+ghost use Rattle.std.specs.Prelude.{◌≡◌, ◌≤◌, ◌<◌, map, length, drop, IfOk, true, pos};
 ghost use Rattle.std.specs.List.{list_all};
 ghost use Rattle.osm_block.specs.Block.{texts_at, all_there};
-ghost use Rattle.osm_block.specs.NodeTags.{front_pairs, has_pair, pair_indexes};
+ghost use Rattle.osm_block.specs.NodeTags.{front_pairs, pair_indexes};
 ghost use Rattle.osm_block.specs.Phases.{is_index};
 
 use std::alloc::{AllocError, Global};
-
-/// Whether a pair stands at the place.
-fn has_pair(keys_vals: &[i32], place: usize) -> bool
-    requires { place ≤ length keys_vals.now }
-    ensures { result ≡ has_pair (drop place keys_vals.now) }
-{
-    if keys_vals.len() - place < 2 {
-        return false;
-    }
-    keys_vals[place] != 0
-}
 
 /// How many pairs stand from the place on, in front of the next 0.
 fn pair_count(keys_vals: &[i32], at: usize) -> usize
     requires { at ≤ length keys_vals.now }
 {
     let mut place = at;
-    while has_pair(keys_vals, place) {
+    while keys_vals.len() - place >= 2 {
+        if keys_vals[place] == 0 {
+            return (place - at) / 2;
+        }
         place += 2;
     }
     (place - at) / 2
+}
+
+/// An index that the table has.
+pub fn index_of(index: i64, texts: usize) -> usize
+    requires { is_index texts index ≡ true }
+    ensures within { result < texts }
+    ensures same { pos result ≡ index }
+{
+    index as usize
 }
 
 /// The tags of the node whose pairs begin at the place, and the place behind its 0.
@@ -45,14 +46,15 @@ pub fn node_tags<'a>(
 {
     let mut tags = Vec::with_capacity(alloc, pair_count(keys_vals, at))?;
     let mut place = at;
-    while has_pair(keys_vals, place) {
-        let key = table[keys_vals[place] as usize];
-        let value = table[keys_vals[place + 1] as usize];
-        tags.push((key, value))?;
+    while keys_vals.len() - place >= 2 {
+        let key = keys_vals[place];
+        if key == 0 {
+            return Ok((tags, place + 1));
+        }
+        let key = index_of(i64::from(key), table.len());
+        let value = index_of(i64::from(keys_vals[place + 1]), table.len());
+        tags.push((table[key], table[value]))?;
         place += 2;
     }
-    if place < keys_vals.len() {
-        place += 1;
-    }
-    Ok((tags, place))
+    Ok((tags, keys_vals.len()))
 }
