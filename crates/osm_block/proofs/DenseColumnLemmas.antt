@@ -5,6 +5,8 @@ use Rattle.std.specs.List.{AllByRecursion, list_all}
 use Rattle.std.proofs.lemmas.List.{drop_more, drop_all, map-append, length-map, length-replicate, get_or-map}
 use Rattle.std.proofs.lemmas.Bool.{eqb-true}
 use Rattle.pbf_wire.specs.Readings.{is_there, int32, sint64}
+use Rattle.osm_value.specs.declared.element.Element.{Element}
+use Rattle.osm_value.specs.declared.element.Element.TheVariants as elements
 use Rattle.osm_value.specs.Value.{Text, InfoValue, NodeValue}
 use Rattle.osm_value.specs.Ranges.{is_wide, is_version, is_uid, passes, AreTags, IsInfo, IsNode}
 use Rattle.osm_block.specs.declared.dense.columns.Columns.{Columns}
@@ -330,10 +332,10 @@ pub lon_in_range : (b : Context) (c : Columns) (k : ℕ) (d : ℤ) → AreReady 
 lon_in_range b c k d r h = each_at (place_in_range b.lon_offset b.granularity) c.lons.items k d (omega (arith, r.lons)) (in_range_parts b c r.in_range).lons
 
 -- the node whose parts were taken from the place
-pub node_is_at : (b : Context) (c : Columns) (k : ℕ) (id lat lon : ℤ) (tags : List (Text × Text)) (info : InfoValue) (ps : List Pair) → AreReady b c → list_all is_text b.table ≡ true → k < length c.ids.items →
+pub node_is_at : (b : Context) (c : Columns) (k : ℕ) (id lat lon : ℤ) (tags : List (Text × Text)) (info : InfoValue) → AreReady b c → k < length c.ids.items →
     id ≡ get_or c.ids.items k (pos 0) → lat ≡ place b.lat_offset b.granularity (get_or c.lats.items k (pos 0)) → lon ≡ place b.lon_offset b.granularity (get_or c.lons.items k (pos 0)) →
-    InfoAt b c k info → all_there tags ≡ texts_at b.table ps → NodeAt b c k (record { id = id; lat = lat; lon = lon; tags = tags; info = info })
-node_is_at b c k id lat lon tags info ps r texts h eid elat elon here there = record {
+    InfoAt b c k info → AreTags tags → NodeAt b c k (record { id = id; lat = lat; lon = lon; tags = tags; info = info })
+node_is_at b c k id lat lon tags info r h eid elat elon here there = record {
   id = eid;
   lat = elat;
   lon = elon;
@@ -342,7 +344,12 @@ node_is_at b c k id lat lon tags info ps r texts h eid elat elon here there = re
     id = ap is_wide eid ∙ each_at is_wide c.ids.items k (pos 0) h (in_range_parts b c r.in_range).ids;
     lat = ap is_wide elat ∙ lat_in_range b c k (pos 0) r h;
     lon = ap is_wide elon ∙ lon_in_range b c k (pos 0) r h;
-    tags = tags_are_in_range b.table tags ps texts there;
+    tags = there;
     info = here.in_range;
   };
 }
+
+-- one more node was appended
+pub appended_node : (start old new : List Element) (ns : List NodeValue) (n : NodeValue) → old ≡ start ++ map elements.Node ns → new ≡ old ++ elements.Node n ∷ [] → new ≡ start ++ map elements.Node (ns ++ n ∷ [])
+appended_node start old new ns n so_far pushed =
+    pushed ∙ ap (λ l. l ++ elements.Node n ∷ []) so_far ∙ append_assoc start (map elements.Node ns) (elements.Node n ∷ []) ∙ ap (λ l. start ++ l) (sym (map-append elements.Node ns (n ∷ [])))

@@ -1,9 +1,10 @@
 //! Dense nodes, built from their columns.
 
-ghost use Rattle.std.specs.Prelude.{◌≡◌, ◌*ℤ◌, ◌<◌, length, true, pos, IfOk, OnOk, Some, None, option_map, option_and_then, option_copied, slice_get, map, ◌++◌};
-ghost use Rattle.osm_value.specs.Ranges.{is_wide, is_uid, passes};
-ghost use Rattle.osm_block.specs.Phases.{is_index};
-ghost use Rattle.osm_block.specs.Block.{time, version as version_of, text_at};
+ghost use Rattle.std.specs.Prelude.{◌≡◌, ◌*ℤ◌, ◌<◌, length, true, pos, IfOk, OnOk, Some, None, option_map, option_and_then, option_copied, slice_get, slice_index_or, map, ◌++◌};
+ghost use Rattle.std.specs.List.{list_all};
+ghost use Rattle.osm_value.specs.Ranges.{is_wide, is_uid, passes, AreTags};
+ghost use Rattle.osm_block.specs.Phases.{is_index, place_in_range};
+ghost use Rattle.osm_block.specs.Block.{place, time, version as version_of, text_at};
 ghost use Rattle.osm_block.specs.Dense.{AreReady, InfoAt, NodeAt};
 ghost use Rattle.osm_block.specs.DenseRead.{AppendedNodes};
 ghost use Rattle.osm_block.specs.Fields.{context_of};
@@ -77,6 +78,35 @@ fn info_at<'a>(scale: &Scale<'a>, columns: &Columns, index: usize) -> Info<'a>
     Info::new(version, time, changeset, uid, user, None)
 }
 
+/// A place of that column, in nanodegrees.
+fn place_at(offset: i64, granularity: i32, units: &[i64], index: usize) -> i64
+    requires within { index < length units.now }
+    requires in_range { list_all (place_in_range offset granularity) units.now ≡ true }
+    ensures { result ≡ place offset granularity (slice_index_or units.now index (pos 0)) }
+{
+    place_of(offset, granularity, units[index])
+}
+
+/// The node at the place, with these tags.
+fn node_at<'a>(
+    scale: &Scale<'a>,
+    columns: &Columns,
+    index: usize,
+    tags: Vec<(&'a str, &'a str)>,
+) -> Node<'a>
+    requires ready { AreReady (context_of scale.now) columns.now }
+    requires within { index < length columns.now.ids.items }
+    requires tags { AreTags (map (λ t. (t.0.now, t.1.now)) tags.items) }
+    ensures node { NodeAt (context_of scale.now) columns.now index result }
+    ensures tags { result.tags ≡ map (λ t. (t.0.now, t.1.now)) tags.entry.items }
+{
+    let ids: &[i64] = &columns.ids;
+    let info = info_at(scale, columns, index);
+    let lat = place_at(scale.lat_offset, scale.granularity, &columns.lats, index);
+    let lon = place_at(scale.lon_offset, scale.granularity, &columns.lons, index);
+    Node::new(ids[index], lat, lon, tags, info)
+}
+
 /// Appends the nodes that the columns stand for.
 pub fn nodes_of<'a>(
     alloc: Global,
@@ -92,10 +122,7 @@ pub fn nodes_of<'a>(
     let mut at = 0;
     for index in 0..count {
         let (tags, next) = node_tags(alloc, &scale.table, &columns.keys_vals, at)?;
-        let info = info_at(scale, columns, index);
-        let lat = place_of(scale.lat_offset, scale.granularity, columns.lats[index]);
-        let lon = place_of(scale.lon_offset, scale.granularity, columns.lons[index]);
-        let node = Node::new(columns.ids[index], lat, lon, tags, info);
+        let node = node_at(scale, columns, index, tags);
         out.push(Element::Node(node))?;
         at = next;
     }
