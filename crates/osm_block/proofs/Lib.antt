@@ -21,3 +21,5 @@ pub mod VectorBlocks
 pub mod WayComplete
 pub mod NodeTagsLemmas
 pub mod DenseColumnLemmas
+pub mod DensePhaseLemmas
+pub mod PlaceLemmas

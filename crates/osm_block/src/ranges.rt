@@ -1,6 +1,6 @@
 //! Tests of numbers by their ranges, and of indexes by the table.
 
-ghost use Rattle.std.specs.Prelude.{◌≡◌, ◌≤ℤ◌, ◌+ℤ◌, ◌*ℤ◌, nat_lt, pos, negsuc, true, ◌%◌, ◌^◌};
+ghost use Rattle.std.specs.Prelude.{◌≡◌, ◌≤ℤ◌, ◌+ℤ◌, ◌-ℤ◌, ◌*ℤ◌, nat_lt, pos, negsuc, true, ◌%◌, ◌^◌};
 ghost use Rattle.std.specs.List.{list_all};
 ghost use Rattle.osm_value.specs.Ranges.{is_wide, is_version, is_uid, passes};
 ghost use Rattle.osm_block.specs.Block.{place, time, version as version_of};
@@ -76,12 +76,24 @@ fn scaled(granularity: i32, units: i64) -> i128
     i128::from(granularity) * i128::from(units)
 }
 
+/// How far a place may lie below the offset.
+fn least_from(offset: i64) -> i128
+    ensures { result ≡ negsuc 4611686018427387902 -ℤ offset }
+{
+    -4611686018427387903 - i128::from(offset)
+}
+
+/// How far a place may lie above the offset.
+fn most_from(offset: i64) -> i128
+    ensures { result ≡ pos 4611686018427387903 -ℤ offset }
+{
+    4611686018427387903 - i128::from(offset)
+}
+
 fn sum_in_range(offset: i64, moved: i128) -> bool
     ensures { result ≡ is_wide (offset +ℤ moved) }
 {
-    let least = -4611686018427387903 - i128::from(offset);
-    let most = 4611686018427387903 - i128::from(offset);
-    (least <= moved) & (moved <= most)
+    (least_from(offset) <= moved) & (moved <= most_from(offset))
 }
 
 /// Whether a place of that many units is in the range.

@@ -1,8 +1,8 @@
 //! The columns of dense nodes: absolute numbers.
 
-ghost use Rattle.std.specs.Prelude.{◌≡◌, ◌&&◌, map, not, IfOk, ⊤};
+ghost use Rattle.std.specs.Prelude.{◌≡◌, ◌&&◌, ◌||◌, nat_eq, length, map, not, IfOk, ⊤};
 ghost use Rattle.std.specs.List.{list_all};
-ghost use Rattle.pbf_wire.specs.Readings.{int32};
+ghost use Rattle.pbf_wire.specs.Readings.{int32, is_there};
 ghost use Rattle.osm_value.specs.Ranges.{is_wide, is_version, is_uid, passes};
 ghost use Rattle.osm_block.specs.declared.fault.BlockFault.TheVariants as faults;
 ghost use Rattle.osm_block.specs.Block.{time, version as version_of};
@@ -36,8 +36,19 @@ pub struct Columns {
     pub keys_vals: Vec<i32>,
 }
 
-fn fits_count(column: &Column, count: usize) -> bool {
-    column.numbers.is_empty() || column.numbers.len() == count
+fn is_there(column: &Column) -> bool
+    ensures { result ≡ is_there column.now.numbers.items }
+{
+    !column.numbers.is_empty()
+}
+
+/// Whether an array is empty or has that many numbers.
+fn fits_count(column: &Column, count: usize) -> bool
+    ensures { result ≡ (not (is_there column.now.numbers.items) || nat_eq (length column.now.numbers.items) count) }
+{
+    let empty = !is_there(column);
+    let whole = column.numbers.len() == count;
+    empty | whole
 }
 
 /// Whether the arrays are as long as that of the ids, those of DenseInfo perhaps empty.
@@ -59,27 +70,32 @@ pub fn lengths_fit(dense: &DenseFields) -> bool
 fn to_i32s(alloc: Global, numbers: &[u64]) -> Result<Vec<i32>, AllocError>
     ensures { IfOk result (λ v. v.items ≡ map int32 numbers.now) }
 {
-    let mut out = Vec::with_capacity(alloc, numbers.len())?;
-    for number in numbers {
-        out.push(to_i32(*number))?;
-    }
-    Ok(out)
+    numbers.iter().map(|number| to_i32(*number)).collect(alloc)
 }
 
 /// The absolute numbers of the arrays.
 pub fn columns_of(alloc: Global, dense: &DenseFields) -> Result<Columns, BlockError>
     ensures { Gives (λ c. AreColumns c (dense_message_of dense.now)) (when (not (list_all (λ ds. list_all fits_i64 (front_sums ds)) (deltas_of (dense_message_of dense.now)))) faults.SumTooLarge) result }
 {
+    let ids = absolute(alloc, &dense.ids.numbers)?;
+    let lats = absolute(alloc, &dense.lats.numbers)?;
+    let lons = absolute(alloc, &dense.lons.numbers)?;
+    let timestamps = absolute(alloc, &dense.timestamps.numbers)?;
+    let changesets = absolute(alloc, &dense.changesets.numbers)?;
+    let uids = absolute(alloc, &dense.uids.numbers)?;
+    let users = absolute(alloc, &dense.users.numbers)?;
+    let versions = to_i32s(alloc, &dense.versions.numbers)?;
+    let keys_vals = to_i32s(alloc, &dense.keys_vals.numbers)?;
     Ok(Columns {
-        ids: absolute(alloc, &dense.ids.numbers)?,
-        lats: absolute(alloc, &dense.lats.numbers)?,
-        lons: absolute(alloc, &dense.lons.numbers)?,
-        versions: to_i32s(alloc, &dense.versions.numbers)?,
-        timestamps: absolute(alloc, &dense.timestamps.numbers)?,
-        changesets: absolute(alloc, &dense.changesets.numbers)?,
-        uids: absolute(alloc, &dense.uids.numbers)?,
-        users: absolute(alloc, &dense.users.numbers)?,
-        keys_vals: to_i32s(alloc, &dense.keys_vals.numbers)?,
+        ids,
+        lats,
+        lons,
+        versions,
+        timestamps,
+        changesets,
+        uids,
+        users,
+        keys_vals,
     })
 }
 

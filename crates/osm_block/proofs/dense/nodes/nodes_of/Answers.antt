@@ -1,5 +1,6 @@
-use Rattle.std.proofs.Common.{◌≡◌, ◌<◌, ◌≤◌, ◌++◌, ◌∙◌, ◌∷◌, [], ap, sym, subst, ℕ, map, length, drop, append-nil, arith}
+use Rattle.std.proofs.Common.{◌≡◌, ◌<◌, ◌≤◌, ◌++◌, ◌∙◌, ◌∷◌, [], ap, sym, subst, ℕ, ℤ, List, map, length, drop, append-nil, arith}
 use Rattle.std.specs.List.{list_all}
+use Rattle.osm_value.specs.declared.element.Element.TheVariants as elements
 use Rattle.osm_block.specs.Fields.{context_of}
 use Rattle.osm_block.specs.Block.{texts_at, all_there}
 use Rattle.osm_block.specs.NodeTags.{front_pairs, pair_indexes}
@@ -41,4 +42,8 @@ loop-index-preserved c =
     )
 
 pub returns : goal.returns
-returns c = ?
+returns c =
+    let end : c.loop-index.index ≡ length c.args.columns.now.ids.items = omega (arith, c.len-count.ensures) in
+    let left : List ℤ = drop c.loop-index.at c.args.columns.now.keys_vals.items in
+    let P : ℕ → Type 0 = λ k. NodesRead (context_of c.args.scale.now) c.args.columns.now k left c.loop-index.invariant.0 in
+    (c.loop-index.invariant.0, left, c.loop-index.invariant.1 ∙ ap (λ l. l ++ map elements.Node c.loop-index.invariant.0) c.in_ok-reserve.ensures.items, subst P end c.loop-index.invariant.2.read)
