@@ -23,3 +23,4 @@ pub mod NodeTagsLemmas
 pub mod DenseColumnLemmas
 pub mod DensePhaseLemmas
 pub mod PlaceLemmas
+pub mod DenseFieldLemmas

@@ -19,12 +19,12 @@ abbrev pub dense_message_of : DenseFields → DenseMessage
 dense_message_of d = record {
   id = map sint64 d.ids.numbers.items;
   info = record {
-    version = map int32 d.versions.numbers.items;
-    timestamp = map sint64 d.timestamps.numbers.items;
-    changeset = map sint64 d.changesets.numbers.items;
-    uid = map sint64 d.uids.numbers.items;
-    user_sid = map sint64 d.users.numbers.items;
-    is_visible_there = d.has_visible;
+    version = map int32 d.info.versions.numbers.items;
+    timestamp = map sint64 d.info.timestamps.numbers.items;
+    changeset = map sint64 d.info.changesets.numbers.items;
+    uid = map sint64 d.info.uids.numbers.items;
+    user_sid = map sint64 d.info.users.numbers.items;
+    is_visible_there = d.info.has_visible;
   };
   lat = map sint64 d.lats.numbers.items;
   lon = map sint64 d.lons.numbers.items;

@@ -18,3 +18,4 @@ pub mod Columns
 pub mod NodeTags
 pub mod Dense
 pub mod DenseRead
+pub mod DenseFieldsRead

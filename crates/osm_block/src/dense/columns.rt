@@ -58,11 +58,11 @@ pub fn lengths_fit(dense: &DenseFields) -> bool
     let count = dense.ids.numbers.len();
     let lats = dense.lats.numbers.len() == count;
     let lons = dense.lons.numbers.len() == count;
-    let versions = fits_count(&dense.versions, count);
-    let timestamps = fits_count(&dense.timestamps, count);
-    let changesets = fits_count(&dense.changesets, count);
-    let uids = fits_count(&dense.uids, count);
-    let users = fits_count(&dense.users, count);
+    let versions = fits_count(&dense.info.versions, count);
+    let timestamps = fits_count(&dense.info.timestamps, count);
+    let changesets = fits_count(&dense.info.changesets, count);
+    let uids = fits_count(&dense.info.uids, count);
+    let users = fits_count(&dense.info.users, count);
     lats & lons & (versions & timestamps & changesets & uids & users)
 }
 
@@ -80,11 +80,11 @@ pub fn columns_of(alloc: Global, dense: &DenseFields) -> Result<Columns, BlockEr
     let ids = absolute(alloc, &dense.ids.numbers)?;
     let lats = absolute(alloc, &dense.lats.numbers)?;
     let lons = absolute(alloc, &dense.lons.numbers)?;
-    let timestamps = absolute(alloc, &dense.timestamps.numbers)?;
-    let changesets = absolute(alloc, &dense.changesets.numbers)?;
-    let uids = absolute(alloc, &dense.uids.numbers)?;
-    let users = absolute(alloc, &dense.users.numbers)?;
-    let versions = to_i32s(alloc, &dense.versions.numbers)?;
+    let timestamps = absolute(alloc, &dense.info.timestamps.numbers)?;
+    let changesets = absolute(alloc, &dense.info.changesets.numbers)?;
+    let uids = absolute(alloc, &dense.info.uids.numbers)?;
+    let users = absolute(alloc, &dense.info.users.numbers)?;
+    let versions = to_i32s(alloc, &dense.info.versions.numbers)?;
     let keys_vals = to_i32s(alloc, &dense.keys_vals.numbers)?;
     Ok(Columns {
         ids,

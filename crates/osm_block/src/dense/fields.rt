@@ -2,11 +2,13 @@
 
 ghost use Rattle.std.specs.Prelude.{◌≡◌, ◌++◌, map, OnOk, ⊤, ◌%◌, ◌^◌};
 ghost use Rattle.std.specs.List.{flat_map};
-ghost use Rattle.std.specs.Option.{option_or};
+ghost use Rattle.std.specs.Option.{option_or, is_some};
+ghost use Rattle.pbf_wire.specs.Field.{content_of};
 ghost use Rattle.pbf_wire.specs.Readings.{fields, wire, packed, each, nums, fitting, is_there};
 ghost use Rattle.osm_block.specs.Message.{Dense, dense_message, some_visible, wires};
 ghost use Rattle.osm_block.specs.Columns.{first_there};
 ghost use Rattle.osm_block.specs.Dense.{dense_message_of};
+ghost use Rattle.osm_block.specs.DenseFieldsRead.{ColumnRead, ColumnRead32, DenseInfoRead};
 ghost use Rattle.osm_block.specs.Phases.{Gives, first, wire_phases};
 
 use crate::column::Column;
@@ -15,6 +17,17 @@ use crate::readings::{each_of_all, low_32, wire_of};
 use pbf_wire::{Fields, Value, WireFault};
 use std::alloc::{AllocError, Global};
 
+/// The arrays of a DenseInfo. They are read into again for each message.
+#[derive(Drop)]
+pub struct DenseInfoFields {
+    pub versions: Column,
+    pub timestamps: Column,
+    pub changesets: Column,
+    pub uids: Column,
+    pub users: Column,
+    pub has_visible: bool,
+}
+
 /// The arrays of a message of dense nodes. They are read into again for each message.
 #[derive(Drop)]
 pub struct DenseFields {
@@ -22,12 +35,29 @@ pub struct DenseFields {
     pub lats: Column,
     pub lons: Column,
     pub keys_vals: Column,
-    pub versions: Column,
-    pub timestamps: Column,
-    pub changesets: Column,
-    pub uids: Column,
-    pub users: Column,
-    pub has_visible: bool,
+    pub info: DenseInfoFields,
+}
+
+impl DenseInfoFields {
+    fn new(alloc: Global) -> DenseInfoFields {
+        DenseInfoFields {
+            versions: Column::new(alloc),
+            timestamps: Column::new(alloc),
+            changesets: Column::new(alloc),
+            uids: Column::new(alloc),
+            users: Column::new(alloc),
+            has_visible: false,
+        }
+    }
+
+    /// The first fault of the arrays, by field number.
+    fn fault(&self) -> Option<WireFault>
+        ensures { result ≡ option_or self.now.versions.fault (option_or self.now.timestamps.fault (option_or self.now.changesets.fault (option_or self.now.uids.fault self.now.users.fault))) }
+    {
+        let users = self.uids.fault.or(self.users.fault);
+        let times = self.timestamps.fault.or(self.changesets.fault.or(users));
+        self.versions.fault.or(times)
+    }
 }
 
 impl DenseFields {
@@ -37,13 +67,16 @@ impl DenseFields {
             lats: Column::new(alloc),
             lons: Column::new(alloc),
             keys_vals: Column::new(alloc),
-            versions: Column::new(alloc),
-            timestamps: Column::new(alloc),
-            changesets: Column::new(alloc),
-            uids: Column::new(alloc),
-            users: Column::new(alloc),
-            has_visible: false,
+            info: DenseInfoFields::new(alloc),
         }
+    }
+
+    /// The first fault of the arrays outside the DenseInfo, by field number.
+    fn fault(&self) -> Option<WireFault>
+        ensures { result ≡ option_or self.now.ids.fault (option_or self.now.lats.fault (option_or self.now.lons.fault self.now.keys_vals.fault)) }
+    {
+        let places = self.lats.fault.or(self.lons.fault.or(self.keys_vals.fault));
+        self.ids.fault.or(places)
     }
 }
 
@@ -65,8 +98,7 @@ fn take_fields(payload: &[u8], number: u32, column: &mut Column) -> Result<(), A
 
 /// Reads the numbers of the fields `number` of all payloads.
 fn read_column(payloads: &[&[u8]], number: u32, column: &mut Column) -> Result<(), AllocError>
-    ensures numbers { OnOk result (column.new.numbers.items ≡ nums (flat_map fields (map (λ p. p.now) payloads.now)) number) }
-    ensures fault { OnOk result (column.new.fault ≡ first_there (map packed (each (flat_map fields (map (λ p. p.now) payloads.now)) number))) }
+    ensures { OnOk result (ColumnRead column.new number (flat_map fields (map (λ p. p.now) payloads.now))) }
 {
     column.clear();
     for payload in payloads {
@@ -77,15 +109,24 @@ fn read_column(payloads: &[&[u8]], number: u32, column: &mut Column) -> Result<(
 
 /// The same of numbers of 32 bits.
 fn read_column_32(payloads: &[&[u8]], number: u32, column: &mut Column) -> Result<(), AllocError>
-    ensures numbers { OnOk result (column.new.numbers.items ≡ map (λ n. n % 2 ^ 32) (nums (flat_map fields (map (λ p. p.now) payloads.now)) number)) }
-    ensures fault { OnOk result (column.new.fault ≡ first_there (map packed (each (flat_map fields (map (λ p. p.now) payloads.now)) number))) }
+    ensures { OnOk result (ColumnRead32 column.new number (flat_map fields (map (λ p. p.now) payloads.now))) }
 {
     read_column(payloads, number, column)?;
     low_32(&mut column.numbers);
     Ok(())
 }
 
-/// Whether a payload has a flag of visibility: a number, or a packed row that isn't empty.
+/// Whether a field holds a flag of visibility: a number, or a packed row that isn't empty.
+fn is_flag(value: Value) -> bool
+    ensures { result ≡ is_some (some_visible (content_of value.entry)) }
+{
+    match value {
+        Value::Number(_) => true,
+        Value::Bytes(flags) => !flags.is_empty(),
+        Value::Fixed64(_) | Value::Fixed32(_) => false,
+    }
+}
+
 fn payload_has_visible(payload: &[u8]) -> bool
     ensures { result ≡ is_there (fitting some_visible 6 (fields payload.now)) }
 {
@@ -93,10 +134,10 @@ fn payload_has_visible(payload: &[u8]) -> bool
         let Ok(field) = field else {
             return false;
         };
-        match field.value {
-            Value::Number(_) if field.number == 6 => return true,
-            Value::Bytes(flags) if field.number == 6 && !flags.is_empty() => return true,
-            _ => {}
+        if field.number == 6 {
+            if is_flag(field.value) {
+                return true;
+            }
         }
     }
     false
@@ -125,27 +166,16 @@ fn first_wire(payloads: &[&[u8]]) -> Option<WireFault>
     None
 }
 
-/// The first fault of the arrays, by field number, and then of those of DenseInfo.
-fn array_fault(dense: &DenseFields) -> Option<WireFault>
-    ensures { result ≡ option_or dense.now.ids.fault (option_or dense.now.lats.fault (option_or dense.now.lons.fault (option_or dense.now.keys_vals.fault
-        (option_or dense.now.versions.fault (option_or dense.now.timestamps.fault (option_or dense.now.changesets.fault (option_or dense.now.uids.fault dense.now.users.fault))))))) }
+/// Reads the arrays of the DenseInfo that the payloads are.
+fn read_infos(payloads: &[&[u8]], info: &mut DenseInfoFields) -> Result<(), AllocError>
+    ensures { OnOk result (DenseInfoRead info.new (flat_map fields (map (λ p. p.now) payloads.now))) }
 {
-    let users = dense.uids.fault.or(dense.users.fault);
-    let times = dense.timestamps.fault.or(dense.changesets.fault.or(users));
-    let infos = dense.versions.fault.or(times);
-    let places = dense.lons.fault.or(dense.keys_vals.fault.or(infos));
-    dense.ids.fault.or(dense.lats.fault.or(places))
-}
-
-/// Reads the arrays of DenseInfo, whose payloads these are.
-fn read_infos(infos: &[&[u8]], dense: &mut DenseFields) -> Result<(), AllocError>
-{
-    read_column(infos, 1, &mut dense.versions)?;
-    read_column(infos, 2, &mut dense.timestamps)?;
-    read_column(infos, 3, &mut dense.changesets)?;
-    read_column_32(infos, 4, &mut dense.uids)?;
-    read_column_32(infos, 5, &mut dense.users)?;
-    dense.has_visible = has_visible(infos);
+    read_column(payloads, 1, &mut info.versions)?;
+    read_column(payloads, 2, &mut info.timestamps)?;
+    read_column(payloads, 3, &mut info.changesets)?;
+    read_column_32(payloads, 4, &mut info.uids)?;
+    read_column_32(payloads, 5, &mut info.users)?;
+    info.has_visible = has_visible(payloads);
     Ok(())
 }
 
@@ -164,9 +194,9 @@ pub fn read_fields<'a>(
     read_column(payloads, 8, &mut dense.lats)?;
     read_column(payloads, 9, &mut dense.lons)?;
     read_column(payloads, 10, &mut dense.keys_vals)?;
-    read_infos(&infos, dense)?;
+    read_infos(&infos, &mut dense.info)?;
     let wires = first_wire(payloads).or(first_wire(&infos));
-    match wires.or(array_fault(dense)) {
+    match wires.or(dense.fault()).or(dense.info.fault()) {
         Some(fault) => Err(BlockError::Fault(BlockFault::Wire(fault))),
         None => Ok(()),
     }

@@ -12,9 +12,9 @@ returns c =
     let lons_count : c.len-2.result ≡ length d.lons.numbers.items = search rules in
     let lats = same_lengths sint64 sint64 d.lats.numbers.items ids _ _ lats_count count in
     let lons = same_lengths sint64 sint64 d.lons.numbers.items ids _ _ lons_count count in
-    let versions = fits_lengths int32 sint64 d.versions.numbers.items ids _ _ count c.fits_count-versions.ensures in
-    let timestamps = fits_lengths sint64 sint64 d.timestamps.numbers.items ids _ _ count c.fits_count-timestamps.ensures in
-    let changesets = fits_lengths sint64 sint64 d.changesets.numbers.items ids _ _ count c.fits_count-changesets.ensures in
-    let uids = fits_lengths sint64 sint64 d.uids.numbers.items ids _ _ count c.fits_count-uids.ensures in
-    let users = fits_lengths sint64 sint64 d.users.numbers.items ids _ _ count c.fits_count-users.ensures in
+    let versions = fits_lengths int32 sint64 d.info.versions.numbers.items ids _ _ count c.fits_count-versions.ensures in
+    let timestamps = fits_lengths sint64 sint64 d.info.timestamps.numbers.items ids _ _ count c.fits_count-timestamps.ensures in
+    let changesets = fits_lengths sint64 sint64 d.info.changesets.numbers.items ids _ _ count c.fits_count-changesets.ensures in
+    let uids = fits_lengths sint64 sint64 d.info.uids.numbers.items ids _ _ count c.fits_count-uids.ensures in
+    let users = fits_lengths sint64 sint64 d.info.users.numbers.items ids _ _ count c.fits_count-users.ensures in
     cc (lats, lons, versions, timestamps, changesets, uids, users)
