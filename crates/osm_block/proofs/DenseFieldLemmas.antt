@@ -209,3 +209,14 @@ faults_are d ps infos w i a n r are ew ei ea en =
     ap (λ x. option_or x n) three ∙ ap (option_or (first_there (map wire ps ++ map wire (each fs 5) ++ arrays (1 ∷ 8 ∷ 9 ∷ 10 ∷ []) fs))) info
     ∙ sym (first_there-append (map wire ps ++ map wire (each fs 5) ++ arrays (1 ∷ 8 ∷ 9 ∷ 10 ∷ []) fs) (arrays (1 ∷ 2 ∷ 3 ∷ 4 ∷ 5 ∷ []) gs)) in
     first_wires (wires (Dense ps)) ∙ sym (ap (option_map faults.Wire) all)
+
+-- a payload that has a flag, and one that has none
+pub visible_here : {B : Type 0} (now : B → List ℕ) (ps : List B) (i : ℕ) (d : B) (k : ℕ) (here : Bool) → i < length ps → here ≡ is_there (fitting some_visible k (fields (now (get_or ps i d)))) → here ≡ true →
+    is_there (fitting some_visible k (flat_map fields (map now (drop i ps)))) ≡ true
+visible_here now ps i d k here h is e =
+    visible_more now ps i d k here h is ∙ ap (λ b. b || is_there (fitting some_visible k (flat_map fields (map now (drop (i + 1) ps))))) e
+
+pub visible_not_here : {B : Type 0} (now : B → List ℕ) (ps : List B) (i : ℕ) (d : B) (k : ℕ) (here : Bool) → i < length ps → here ≡ is_there (fitting some_visible k (fields (now (get_or ps i d)))) → here ≡ false →
+    is_there (fitting some_visible k (flat_map fields (map now (drop i ps)))) ≡ is_there (fitting some_visible k (flat_map fields (map now (drop (i + 1) ps))))
+visible_not_here now ps i d k here h is e =
+    visible_more now ps i d k here h is ∙ ap (λ b. b || is_there (fitting some_visible k (flat_map fields (map now (drop (i + 1) ps))))) e
