@@ -146,11 +146,11 @@ node_more b c k left next ns n r h so_far here tags rest =
       lats = more (λ n. n.lat) ns n _ _ k (place b.lat_offset b.granularity (pos 0)) lats (here.lat ∙ sym (get_or-map (place b.lat_offset b.granularity) c.lats.items k (pos 0) _ (omega (arith, r.lats)))) so_far.lats;
       lons = more (λ n. n.lon) ns n _ _ k (place b.lon_offset b.granularity (pos 0)) lons (here.lon ∙ sym (get_or-map (place b.lon_offset b.granularity) c.lons.items k (pos 0) _ (omega (arith, r.lons)))) so_far.lons;
       tags = ap (λ l. map (λ n. all_there n.tags) (ns ++ n ∷ []) ++ map (texts_at b.table) (node_pairs (length c.ids.items - (k + 1)) l)) rest
-        ∙ ap (λ l. l ++ map (texts_at b.table) after) (map-append (λ n. all_there n.tags) ns (n ∷ []))
-        ∙ append_assoc (map (λ n. all_there n.tags) ns) (all_there n.tags ∷ []) (map (texts_at b.table) after)
-        ∙ ap (λ t. map (λ n. all_there n.tags) ns ++ t ∷ map (texts_at b.table) after) tags
-        ∙ sym (ap (λ m. map (λ n. all_there n.tags) ns ++ map (texts_at b.table) (node_pairs m left)) one_less)
-        ∙ so_far.tags;
+          ∙ ap (λ l. l ++ map (texts_at b.table) after) (map-append (λ n. all_there n.tags) ns (n ∷ []))
+          ∙ append_assoc (map (λ n. all_there n.tags) ns) (all_there n.tags ∷ []) (map (texts_at b.table) after)
+          ∙ ap (λ t. map (λ n. all_there n.tags) ns ++ t ∷ map (texts_at b.table) after) tags
+          ∙ sym (ap (λ m. map (λ n. all_there n.tags) ns ++ map (texts_at b.table) (node_pairs m left)) one_less)
+          ∙ so_far.tags;
       infos = subst (InfosRead b c (k + 1)) (sym (map-append (λ n. n.info) ns (n ∷ []))) (infos_more b c k (map (λ n. n.info) ns) n.info r h so_far.infos here.info);
       in_range = AllByRecursion-push IsNode ns n so_far.in_range here.in_range;
     }
@@ -314,12 +314,15 @@ tags_are_in_range table tags ps texts e = tags_in_range table tags (map (λ p. p
     through_tags : (ts : List (Text × Text)) → map (λ x. x.0) (all_there ts) ≡ map (λ t. Some t.0) ts
     through_tags [] = refl
     through_tags (t ∷ ts) = ap (λ l. Some t.0 ∷ l) (through_tags ts)
+
     tags_through : (ts : List (Text × Text)) → map (λ x. x.1) (all_there ts) ≡ map (λ t. Some t.1) ts
     tags_through [] = refl
     tags_through (t ∷ ts) = ap (λ l. Some t.1 ∷ l) (tags_through ts)
+
     through_pairs : (qs : List Pair) → map (λ x. x.0) (texts_at table qs) ≡ map (text_at table) (map (λ p. p.0) qs)
     through_pairs [] = refl
     through_pairs (q ∷ qs) = ap (λ l. text_at table q.0 ∷ l) (through_pairs qs)
+
     pairs_through : (qs : List Pair) → map (λ x. x.1) (texts_at table qs) ≡ map (text_at table) (map (λ p. p.1) qs)
     pairs_through [] = refl
     pairs_through (q ∷ qs) = ap (λ l. text_at table q.1 ∷ l) (pairs_through qs)

@@ -1,7 +1,7 @@
 pub mod HeaderLemmas
 pub mod RowLemmas
 pub mod ReadingLemmas
-pub mod CommonLemmas
+pub mod FieldLemmas
 pub mod LoopLemmas
 pub mod Complete
 pub mod DenseLemmas
@@ -12,9 +12,13 @@ pub mod TagsLemmas
 pub mod TextsLemmas
 pub mod IndexesLemmas
 pub mod PhaseLemmas
+pub mod NodePhases
+pub mod RelationPhases
 pub mod InfoLemmas
 pub mod RangeLemmas
 pub mod RangeTests
+pub mod PlaceLemmas
+pub mod MemberLemmas
 pub mod Unique
 pub mod UniqueDense
 pub mod VectorBlocks
@@ -22,5 +26,6 @@ pub mod WayComplete
 pub mod NodeTagsLemmas
 pub mod DenseColumnLemmas
 pub mod DensePhaseLemmas
-pub mod PlaceLemmas
 pub mod DenseFieldLemmas
+pub mod NodeComplete
+pub mod RelationComplete

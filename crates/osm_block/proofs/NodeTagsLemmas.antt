@@ -75,12 +75,12 @@ pair_more table kv at i tags more key value p h differs pushed is_key is_value =
       within = omega arith;
       in_table = and_right (is_index (length table) (get_or kv (i + 1) (pos 0))) _ later;
       texts = ap (λ l. all_there l ++ texts_at table (front_pairs (drop (i + 2) kv)).0) pushed
-        ∙ ap (λ l. l ++ texts_at table (front_pairs (drop (i + 2) kv)).0) (map-append (λ t. (Some t.0, Some t.1)) tags ((key, value) ∷ []))
-        ∙ append_assoc (all_there tags) ((Some key, Some value) ∷ []) (texts_at table (front_pairs (drop (i + 2) kv)).0)
-        ∙ ap (λ x. all_there tags ++ (x, Some value) ∷ texts_at table (front_pairs (drop (i + 2) kv)).0) (sym is_key)
-        ∙ ap (λ x. all_there tags ++ (text_at table (get_or kv i (pos 0)), x) ∷ texts_at table (front_pairs (drop (i + 2) kv)).0) (sym is_value)
-        ∙ sym (ap (λ x. all_there tags ++ texts_at table x.0) front)
-        ∙ p.texts;
+          ∙ ap (λ l. l ++ texts_at table (front_pairs (drop (i + 2) kv)).0) (map-append (λ t. (Some t.0, Some t.1)) tags ((key, value) ∷ []))
+          ∙ append_assoc (all_there tags) ((Some key, Some value) ∷ []) (texts_at table (front_pairs (drop (i + 2) kv)).0)
+          ∙ ap (λ x. all_there tags ++ (x, Some value) ∷ texts_at table (front_pairs (drop (i + 2) kv)).0) (sym is_key)
+          ∙ ap (λ x. all_there tags ++ (text_at table (get_or kv i (pos 0)), x) ∷ texts_at table (front_pairs (drop (i + 2) kv)).0) (sym is_value)
+          ∙ sym (ap (λ x. all_there tags ++ texts_at table x.0) front)
+          ∙ p.texts;
       rest = sym (ap (λ x. x.1) front) ∙ p.rest;
     }
 

@@ -49,9 +49,9 @@ columns_in_range b c =
     && list_all (place_in_range b.lat_offset b.granularity) c.lats.items
     && list_all (place_in_range b.lon_offset b.granularity) c.lons.items
     && (list_all (λ v. passes is_version (version v)) c.versions.items
-        && list_all (λ t. is_wide (time b.date_granularity t)) c.timestamps.items
-        && list_all is_wide c.changesets.items
-        && list_all is_uid c.uids.items)
+    && list_all (λ t. is_wide (time b.date_granularity t)) c.timestamps.items
+    && list_all is_wide c.changesets.items
+    && list_all is_uid c.uids.items)
 
 -- the columns are as long as they should be, and their numbers in their ranges and their indexes in the table
 pub record AreReady (b : Context) (c : Columns) : Type 0 where

@@ -19,3 +19,5 @@ pub mod NodeTags
 pub mod Dense
 pub mod DenseRead
 pub mod DenseFieldsRead
+pub mod Members
+pub mod Fault

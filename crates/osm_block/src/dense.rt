@@ -11,7 +11,7 @@ ghost use Rattle.osm_block.specs.Phases.{Gives, first, dense_phases, message_pha
 ghost use Rattle.osm_block.specs.Reads.{Appended};
 
 use crate::fault::{BlockError, BlockFault};
-use crate::message::Scale;
+use crate::scale::Scale;
 use crate::tags::check_tags;
 use columns::{all_users, columns_in_range, columns_of, lengths_fit};
 use fields::{DenseFields, read_fields};
@@ -72,3 +72,6 @@ pub fn read_dense<'a>(
     read_fields(alloc, payloads, &mut dense)?;
     dense_of(alloc, scale, &dense, out)
 }
+
+#[cfg(test)]
+mod tests;

@@ -3,19 +3,19 @@
 
 mod block;
 mod column;
-mod common;
 mod deltas;
 mod dense;
 mod fault;
 mod group;
 mod header;
+mod info;
 pub mod laws;
-mod message;
 mod node;
 mod ranges;
-mod read_way;
 mod readings;
 mod relation;
+mod scale;
+mod tag_list;
 mod tags;
 mod texts;
 mod way;

@@ -1,11 +1,11 @@
 -- What the tests of the ranges mean, and how an element's parts are shown to be inside them.
-use Rattle.std.proofs.Common.{◌≡◌, ℕ, zero, suc, ◌+◌, ◌-◌, ◌^◌, ◌<◌, ◌≤◌, ◌+ℤ◌, ◌-ℤ◌, ◌≤ℤ◌, List, [], ◌∷◌, ◌++◌, map, length, take, drop, get_or, Bool, true, false, ◌&&◌, refl, sym, ap, ◌∙◌, arith, ℤ, pos, negsuc, Option, Some, None, IsTrue, FitsSigned, w32, w64, subst}
+use Rattle.std.proofs.Common.{◌≡◌, ℕ, zero, suc, ◌-◌, ◌^◌, ◌<◌, ◌-ℤ◌, ◌≤ℤ◌, List, [], ◌∷◌, ◌++◌, map, length, take, drop, get_or, Bool, true, ◌&&◌, refl, sym, arith, ℤ, pos, negsuc, Option, Some, None, IsTrue, FitsSigned, w32, w64, subst}
 use Rattle.std.proofs.lemmas.Int.{ints}
-use Rattle.std.proofs.lemmas.Bool.{and_parts, and_from, true≢false}
-use Rattle.std.specs.Prelude.{slice_get, IfSome, int_le, unwrap_or}
+use Rattle.std.proofs.lemmas.Bool.{and_parts, and_from}
+use Rattle.std.specs.Prelude.{slice_get, IfSome, int_le}
 use Rattle.std.specs.List.{AllByRecursion, list_all}
 use Rattle.std.specs.Str.{IsUtf8}
-use Rattle.osm_value.specs.Value.{Text, InfoValue}
+use Rattle.osm_value.specs.Value.{Text}
 use Rattle.osm_value.specs.Ranges.{IsWide, IsText, IsTextOrNone, AreTags, is_wide, is_version, is_uid, has_no_nul, passes}
 
 -- ---- wide numbers: ids, references, nanodegrees, milliseconds, changesets

@@ -1,5 +1,5 @@
 -- The ranges of an element's numbers and texts.
-use Rattle.std.specs.Prelude.{◌≡◌, ℕ, ℤ, pos, negsuc, ◌^◌, ◌-◌, ◌==◌, List, Option, Some, None, Bool, true, ◌&&◌, not, int_le, IsTrue}
+use Rattle.std.specs.Prelude.{◌≡◌, ℤ, pos, negsuc, ◌^◌, ◌-◌, ◌==◌, List, Option, Some, None, Bool, true, ◌&&◌, not, int_le, IsTrue}
 use Rattle.std.specs.List.{AllByRecursion, list_all}
 use Rattle.std.specs.Str.{IsUtf8}
 use Rattle.osm_value.specs.Value.{Text, InfoValue, MemberValue, NodeValue, WayValue, RelationValue}

@@ -345,9 +345,57 @@ impl<'a> Relation<'a> {
     }
 }
 
+/// An element of any kind.
 #[derive(Debug, Drop)]
 pub enum Element<'a> {
     Node(Node<'a>),
     Way(Way<'a>),
     Relation(Relation<'a>),
+}
+
+impl<'a> Element<'a> {
+    ghost use Rattle.osm_value.specs.Elements.{IsElement, kind_of_element, id_of_element, tags_of_element, info_of_element};
+
+    pub fn kind(&self) -> MemberKind
+        ensures { result ≡ kind_of_element self.now }
+    {
+        match self {
+            Element::Node(_) => MemberKind::Node,
+            Element::Way(_) => MemberKind::Way,
+            Element::Relation(_) => MemberKind::Relation,
+        }
+    }
+
+    pub fn id(&self) -> i64
+        ensures exact { result ≡ id_of_element self.now }
+        ensures in_range { IsElement self.now }
+    {
+        match self {
+            Element::Node(node) => node.id(),
+            Element::Way(way) => way.id(),
+            Element::Relation(relation) => relation.id(),
+        }
+    }
+
+    pub fn tags(&self) -> &[(&'a str, &'a str)]
+        ensures exact { map (λ t. (t.0.now, t.1.now)) result.now ≡ tags_of_element self.now }
+        ensures in_range { IsElement self.now }
+    {
+        match self {
+            Element::Node(node) => node.tags(),
+            Element::Way(way) => way.tags(),
+            Element::Relation(relation) => relation.tags(),
+        }
+    }
+
+    pub fn info(&self) -> &Info<'a>
+        ensures exact { result.now ≡ info_of_element self.now }
+        ensures in_range { IsElement self.now }
+    {
+        match self {
+            Element::Node(node) => node.info(),
+            Element::Way(way) => way.info(),
+            Element::Relation(relation) => relation.info(),
+        }
+    }
 }

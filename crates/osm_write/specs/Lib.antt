@@ -1,3 +1,10 @@
 pub mod Canon
 pub mod Cutter
 pub mod Write
+pub mod Texts
+pub mod Scale
+pub mod Runs
+pub mod Arrays
+pub mod Laws
+pub mod VectorCanon
+pub mod Fault

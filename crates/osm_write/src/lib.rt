@@ -1,6 +1,19 @@
 //! The one block that is written for a list of elements.
 #![tactic(auto)]
 
+mod append;
+mod block;
+mod collect;
+mod cutter;
+mod dense;
 mod fault;
+mod group;
+mod groups;
+mod message;
+mod parts;
+mod scale;
+mod texts;
 
+pub use block::{encode_block, encode_one};
+pub use cutter::BlobCutter;
 pub use fault::WriteFault;

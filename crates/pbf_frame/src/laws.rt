@@ -1,11 +1,11 @@
 //! What the definition of a frame implies: theorems, with no code.
 
-ghost use Rattle.std.specs.Prelude.{◌≡◌, ℕ, ◌++◌, ◌⊎◌, ◌≤◌, ◌<◌, ◌+◌, true, List, [], length, take, Ok, Err};
+ghost use Rattle.std.specs.Prelude.{◌≡◌, ℕ, ◌++◌, ◌≤◌, ◌<◌, List, [], length, take, Some, Ok, Err};
 ghost use Rattle.pbf_frame.specs.declared.fault.FrameFault.{FrameFault};
-ghost use Rattle.pbf_frame.specs.declared.fault.FrameFault.TheVariants.{Trailing, OffsetTooLarge};
+ghost use Rattle.pbf_frame.specs.declared.fault.FrameFault.TheVariants.{Trailing};
 ghost use Rattle.pbf_frame.specs.declared.blob.BlobFault.{BlobFault};
 ghost use Rattle.pbf_frame.specs.Write.{blob_bytes, frame_bytes};
-ghost use Rattle.pbf_frame.specs.Parts.{EndsTooFar, is_early, part_end};
+ghost use Rattle.pbf_frame.specs.Framer.{Framing, FrameWaits, FaultStands, ended, fed, let_go, taken, waiting};
 ghost use Rattle.pbf_frame.specs.Blob.{Raw, IsBlobFault, raw_at};
 ghost use Rattle.pbf_frame.specs.Frame.{Frame, FirstFault, Stands, Found, found_at, frame_at, whole_at};
 
@@ -49,16 +49,25 @@ pub fn raw_is_read()
     ensures fault { (b : List ℕ) (fault : BlobFault) → raw_at b ≡ Err fault → IsBlobFault fault b }
 {}
 
-/// A framer's rest waits as a frame exactly where it is one that ends at 2^62 at most.
+/// A frame waits in a framer exactly where its rest is one that ends at 2^62 at most.
 pub fn frame_waits()
-    ensures waits { (offset : ℕ) (type blob w : List ℕ) → Frame type blob w → offset + length w ≤ 4611686018427387904 → part_end offset w ≡ Ok (length w) }
-    ensures is_frame { (offset : ℕ) (w : List ℕ) → part_end offset w ≡ Ok (length w) → (type blob : List ℕ) × Frame type blob w × (offset + length w ≤ 4611686018427387904) }
+    ensures waits { (f : Framing) → FrameWaits f → waiting f ≡ Ok (Some (f.offset, f.rest)) }
+    ensures read { (f : Framing) (x : ℕ × List ℕ) → waiting f ≡ Ok (Some x) → (x ≡ (f.offset, f.rest)) × FrameWaits f }
 {}
 
-/// A fault stands in a framer exactly where the first fault of its rest needs no further byte, or else the frame would end above 2^62.
-pub fn fault_stands_early()
-    ensures early { (offset : ℕ) (w : List ℕ) (fault : FrameFault) → FirstFault fault w → is_early fault ≡ true → part_end offset w ≡ Err fault }
-    ensures read { (offset : ℕ) (w : List ℕ) (fault : FrameFault) → part_end offset w ≡ Err fault → FirstFault fault w ⊎ ((fault ≡ OffsetTooLarge) × EndsTooFar offset w) }
+/// A fault stands in a framer exactly where the first fault of its rest is one that no further bytes mend, or where the
+/// frame would end above 2^62.
+pub fn fault_stands()
+    ensures stands { (f : Framing) (fault : FrameFault) → FaultStands fault f → waiting f ≡ Err fault }
+    ensures read { (f : Framing) (fault : FrameFault) → waiting f ≡ Err fault → FaultStands fault f }
+{}
+
+/// A fault that stands in a framer stays: nothing more is taken, and each later call answers it again.
+pub fn fault_stays()
+    ensures none { (f : Framing) (fault : FrameFault) (piece : List ℕ) → waiting f ≡ Err fault → taken f piece ≡ [] }
+    ensures fed { (f : Framing) (fault : FrameFault) (piece : List ℕ) → waiting f ≡ Err fault → waiting (fed f piece) ≡ Err fault }
+    ensures next { (f : Framing) (fault : FrameFault) → waiting f ≡ Err fault → waiting (let_go f) ≡ Err fault }
+    ensures end { (f : Framing) (fault : FrameFault) → waiting f ≡ Err fault → ended f ≡ Err fault }
 {}
 
 /// A written frame is a frame, and its Blob holds the raw payload.

@@ -5,6 +5,7 @@ mod blob;
 mod fault;
 mod frame;
 mod framer;
+mod front;
 mod header;
 mod kind;
 pub mod laws;

@@ -1,8 +1,9 @@
 pub mod Fault
 pub mod Number
+pub mod Row
 pub mod Field
 pub mod FieldList
 pub mod Walk
+pub mod Readings
 pub mod Message
 pub mod Write
-pub mod Readings

@@ -55,6 +55,7 @@ packed w = first_fault (row w)
 abbrev pub int64 : ℕ → ℤ
 int64 n = cast_signed w64 n
 
+-- the low 32 bits, in two's complement
 abbrev pub int32 : ℕ → ℤ
 int32 n = cast_signed w32 (n % 2 ^ 32)
 
@@ -95,6 +96,10 @@ last fs k = last_or None (fitting number_of k fs)
 -- all payloads, in order
 abbrev pub each : List Entry → ℕ → List (List ℕ)
 each fs k = fitting bytes_of k fs
+
+-- of a text or a payload, too
+abbrev pub last_bytes : List Entry → ℕ → Option (List ℕ)
+last_bytes fs k = last_or None (each fs k)
 
 -- an array of numbers: unpacked, packed or in several pieces, joined in order
 abbrev pub nums : List Entry → ℕ → List ℕ

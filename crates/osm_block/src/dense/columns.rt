@@ -15,9 +15,8 @@ use super::fields::DenseFields;
 use crate::column::Column;
 use crate::deltas::absolute;
 use crate::fault::BlockError;
-use crate::message::Scale;
-use crate::ranges::place_in_range;
-use crate::way::{all_wide, time_in_range};
+use crate::ranges::{all_wide, place_in_range, time_in_range};
+use crate::scale::Scale;
 use osm_value::version_in_range;
 use pbf_wire::to_i32;
 use std::alloc::{AllocError, Global};
@@ -130,13 +129,17 @@ fn all_uids(uids: &[i64]) -> bool
 fn all_times(date_granularity: i32, units: &[i64]) -> bool
     ensures { result ≡ list_all (λ t. is_wide (time date_granularity t)) units.now }
 {
-    units.iter().all(|units| time_in_range(date_granularity, *units))
+    units
+        .iter()
+        .all(|units| time_in_range(date_granularity, *units))
 }
 
 fn all_places(offset: i64, granularity: i32, units: &[i64]) -> bool
     ensures { result ≡ list_all (place_in_range offset granularity) units.now }
 {
-    units.iter().all(|units| place_in_range(offset, granularity, *units))
+    units
+        .iter()
+        .all(|units| place_in_range(offset, granularity, *units))
 }
 
 /// Whether the numbers of the columns are in their ranges.

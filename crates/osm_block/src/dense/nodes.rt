@@ -11,8 +11,8 @@ ghost use Rattle.osm_block.specs.Fields.{context_of};
 
 use super::columns::Columns;
 use super::tags::{index_of, node_tags};
-use crate::message::Scale;
 use crate::ranges::place_of;
+use crate::scale::Scale;
 use osm_value::{Element, Info, Node};
 use std::alloc::{AllocError, Global};
 

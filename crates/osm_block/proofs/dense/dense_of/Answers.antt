@@ -83,8 +83,7 @@ returns-clause-phase c =
     ap (λ n. first (tags_phases n c.len-texts.result c.deref.result.now)) ids ∙ ap (λ n. first (tags_phases (length cols.ids.items) n c.deref.result.now)) texts
     ∙ ap (λ l. first (tags_phases (length cols.ids.items) (length b.table) l)) c.deref.ensures.value in
     let users : c.all_users.result ≡ list_all (is_index (length b.table)) cols.users.items =
-    c.all_users.ensures ∙ ap (λ n. list_all (is_index n) c.deref-2.result.now) texts ∙ ap (list_all (is_index (length b.table))) c.deref-2.ensures.value in
-    (
+    c.all_users.ensures ∙ ap (λ n. list_all (is_index n) c.deref-2.result.now) texts ∙ ap (list_all (is_index (length b.table))) c.deref-2.ensures.value in (
       dense_fault_is b m false true None true None true (sym c.if-dense.false) (sym c.if-not-lengths_fit.false ∙ c.lengths_fit.ensures) (sym c.in_ok-columns.ensures.0) (sym c.if-not-columns_in_range.false ∙ c.columns_in_range.ensures ∙ ranges_are b cols m are)
           (sym c.in_default.ensures ∙ tested ∙ tags_are b cols m are) (sym c.if-not-all_users.false ∙ users ∙ users_are b cols m are),
       tt,
@@ -110,4 +109,3 @@ returns-clause-read c =
     let is_ready : AreReady b cols = ready b cols m are lengths ranges tags (sym users ∙ c.if-not-all_users.false) in
     let read = c.in_ok-nodes_of.ensures in
     (read.0, read.2, all_read b cols m (length cols.ids.items) read.1 read.0 are is_ready tags.are_tags c.if-dense.false refl read.3)
-

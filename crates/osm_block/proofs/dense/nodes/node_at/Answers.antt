@@ -17,10 +17,10 @@ new-requires c =
     let lon : c.place_at-lon.result ≡ place c.args.scale.now.lon_offset c.args.scale.now.granularity (get_or c.deref-2.result.now c.args.index (pos 0)) = simp to_z-of_z at c.place_at-lon.ensures in
     record {
       in_range = (node_is_at (context_of c.args.scale.now) c.args.columns.now c.args.index _ _ _ _ _ c.requires.ready c.requires.within
-      (to_z-of_z w64 _ id_fits ∙ ap (λ l. get_or l c.args.index (pos 0)) c.deref-ids.ensures.value)
-      (to_z-of_z w64 _ lat_fits ∙ lat ∙ ap (λ l. place c.args.scale.now.lat_offset c.args.scale.now.granularity (get_or l c.args.index (pos 0))) c.deref.ensures.value)
-      (to_z-of_z w64 _ lon_fits ∙ lon ∙ ap (λ l. place c.args.scale.now.lon_offset c.args.scale.now.granularity (get_or l c.args.index (pos 0))) c.deref-2.ensures.value)
-      c.info_at-info.ensures c.requires.tags).in_range;
+          (to_z-of_z w64 _ id_fits ∙ ap (λ l. get_or l c.args.index (pos 0)) c.deref-ids.ensures.value)
+          (to_z-of_z w64 _ lat_fits ∙ lat ∙ ap (λ l. place c.args.scale.now.lat_offset c.args.scale.now.granularity (get_or l c.args.index (pos 0))) c.deref.ensures.value)
+          (to_z-of_z w64 _ lon_fits ∙ lon ∙ ap (λ l. place c.args.scale.now.lon_offset c.args.scale.now.granularity (get_or l c.args.index (pos 0))) c.deref-2.ensures.value)
+          c.info_at-info.ensures c.requires.tags).in_range;
     }
 
 pub returns-clause-node : goal.returns-clause-node

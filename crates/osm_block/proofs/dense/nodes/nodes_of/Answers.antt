@@ -29,8 +29,7 @@ node_at-node-requires-clause-tags c =
 pub loop-index-preserved : goal.loop-index-preserved
 loop-index-preserved c =
     let inside : c.loop-index.index < length c.args.columns.now.ids.items = omega (arith, c.len-count.ensures) in
-    let within : c.in_ok-tags.next ≤ length c.args.columns.now.keys_vals.items = rw c.deref-in-loop-index.ensures.value at c.in_ok-tags.ensures.within in
-    (
+    let within : c.in_ok-tags.next ≤ length c.args.columns.now.keys_vals.items = rw c.deref-in-loop-index.ensures.value at c.in_ok-tags.ensures.within in (
       c.loop-index.invariant.0 ++ c.node_at-node.result ∷ [],
       appended_node _ _ _ _ _ c.loop-index.invariant.1 c.in_ok-push.ensures.items,
       so_far_more (context_of c.args.scale.now) c.args.columns.now _ _ _ _ _ c.requires.ready inside c.loop-index.invariant.2 c.node_at-node.ensures.node

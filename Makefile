@@ -1,0 +1,19 @@
+# make: proves and builds the program. make test: all that CI runs. make bench: measures it.
+.PHONY: all test gate e2e bench clean
+
+all:
+	./pbfrow --build-only
+
+test: gate e2e
+
+gate:
+	rt ci
+
+e2e: all
+	e2e/run
+
+bench: all
+	bench/run
+
+clean:
+	rm -rf crates/*/out

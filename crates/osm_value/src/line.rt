@@ -1,0 +1,208 @@
+//! An element as a line of text:
+//!
+//! - `n ID LAT LON [INFO] {TAGS}`
+//! - `w ID (REF,REF) [INFO] {TAGS}`
+//! - `r ID (nID@ROLE,wID@ROLE) [INFO] {TAGS}`
+//!
+//! INFO is what is there of `v=` version, `t=` time, `c=` changeset, `i=` uid and `u=` user, TAGS are `KEY=VALUE`.
+
+ghost use Rattle.std.specs.Prelude.{◌≡◌, ℕ, ◌+◌, ◌<◌, ◌≤◌, List, ◌++◌, length, Option, map, option_map, option_to_list, option_copied, IsTrue, OnOk, OnErr, IsErr, ◌↔◌};
+ghost use Rattle.std.specs.Io.KnownBytes.{Appends};
+ghost use Rattle.std.specs.Fmt.{signed_decimal};
+ghost use Rattle.osm_value.specs.declared.element.Element.TheVariants as elements;
+ghost use Rattle.osm_value.specs.Sink.{AppendsFront, Wrote, Writes};
+ghost use Rattle.osm_value.specs.Line.{commas, comma_before, tag_text, line, tail_text, info_texts, number_info, user_info, letter_of, member_text};
+
+use crate::element::{Element, Info, Member, MemberKind, Node, Relation, Way};
+use crate::fault::LineFault;
+use crate::pieces::{put, put_escaped, put_number};
+use crate::sink::Sink;
+
+/// Writes the line of an element, with its line feed.
+pub fn write_line<S: Sink>(element: &Element, sink: &mut S) -> Result<(), LineFault>
+    ensures line { OnOk result (Appends (S.written sink.old) (S.written sink.new) (line element.now)) }
+    // What went out is a front of the line.
+    ensures front { OnErr result (AppendsFront (S.written sink.old) (S.written sink.new) (line element.now)) }
+    ensures failed { IsErr result ↔ IsTrue (S.has_failed sink.new) }
+    ensures writes { Writes (S.written sink.old) (S.has_failed sink.old) (S.written sink.new) (S.has_failed sink.new) (line element.now) }
+{
+    put_line(sink, element);
+    if sink.failed() {
+        return Err(LineFault::WriteFailed);
+    }
+    Ok(())
+}
+
+fn put_line<S: Sink>(sink: &mut S, element: &Element)
+    ensures { Writes (S.written sink.old) (S.has_failed sink.old) (S.written sink.new) (S.has_failed sink.new) (line element.now) }
+{
+    match element {
+        Element::Node(node) => put_node(sink, node),
+        Element::Way(way) => put_way(sink, way),
+        Element::Relation(relation) => put_relation(sink, relation),
+    }
+}
+
+fn put_node<S: Sink>(sink: &mut S, node: &Node)
+    ensures { Writes (S.written sink.old) (S.has_failed sink.old) (S.written sink.new) (S.has_failed sink.new) (line (elements.Node node.now)) }
+{
+    put(sink, b"n ");
+    put_number(sink, node.id());
+    put(sink, b" ");
+    put_number(sink, node.lat());
+    put(sink, b" ");
+    put_number(sink, node.lon());
+    put_tail(sink, node.info(), node.tags());
+}
+
+fn put_way<S: Sink>(sink: &mut S, way: &Way)
+    ensures { Writes (S.written sink.old) (S.has_failed sink.old) (S.written sink.new) (S.has_failed sink.new) (line (elements.Way way.now)) }
+{
+    put(sink, b"w ");
+    put_number(sink, way.id());
+    put(sink, b" (");
+    put_refs(sink, way.refs());
+    put(sink, b")");
+    put_tail(sink, way.info(), way.tags());
+}
+
+fn put_relation<S: Sink>(sink: &mut S, relation: &Relation)
+    ensures { Writes (S.written sink.old) (S.has_failed sink.old) (S.written sink.new) (S.has_failed sink.new) (line (elements.Relation relation.now)) }
+{
+    put(sink, b"r ");
+    put_number(sink, relation.id());
+    put(sink, b" (");
+    put_members(sink, relation.members());
+    put(sink, b")");
+    put_tail(sink, relation.info(), relation.tags());
+}
+
+/// Writes info and tags, and the line feed.
+fn put_tail<S: Sink>(sink: &mut S, info: &Info, tags: &[(&str, &str)])
+    ensures { Writes (S.written sink.old) (S.has_failed sink.old) (S.written sink.new) (S.has_failed sink.new) (tail_text info.now (map (λ t. (t.0.now, t.1.now)) tags.now)) }
+{
+    put(sink, b" [");
+    put_info(sink, info);
+    put(sink, b"] {");
+    put_tags(sink, tags);
+    put(sink, b"}\n");
+}
+
+/// Writes a comma, but before the first piece.
+fn put_comma<S: Sink>(sink: &mut S, at: usize)
+    ensures { Writes (S.written sink.old) (S.has_failed sink.old) (S.written sink.new) (S.has_failed sink.new) (comma_before at) }
+{
+    if at == 0 {
+        return;
+    }
+    put(sink, b",");
+}
+
+/// Writes the references of a way, joined by commas.
+fn put_refs<S: Sink>(sink: &mut S, refs: &[i64])
+    ensures { Writes (S.written sink.old) (S.has_failed sink.old) (S.written sink.new) (S.has_failed sink.new) (commas (map signed_decimal refs.now)) }
+{
+    for (at, id) in refs.iter().enumerate() {
+        put_comma(sink, at);
+        put_number(sink, *id);
+    }
+}
+
+/// Writes the members of a relation, joined by commas.
+fn put_members<S: Sink>(sink: &mut S, members: &[Member])
+    ensures { Writes (S.written sink.old) (S.has_failed sink.old) (S.written sink.new) (S.has_failed sink.new) (commas (map member_text members.now)) }
+{
+    for (at, member) in members.iter().enumerate() {
+        put_comma(sink, at);
+        put_member(sink, member);
+    }
+}
+
+fn put_member<S: Sink>(sink: &mut S, member: &Member)
+    ensures { Writes (S.written sink.old) (S.has_failed sink.old) (S.written sink.new) (S.has_failed sink.new) (member_text member.now) }
+{
+    put(sink, &[letter_of(member.kind())]);
+    put_number(sink, member.id());
+    put(sink, b"@");
+    put_escaped(sink, member.role());
+}
+
+fn letter_of(kind: MemberKind) -> u8
+    ensures { result ≡ letter_of kind }
+{
+    match kind {
+        MemberKind::Node => b'n',
+        MemberKind::Way => b'w',
+        MemberKind::Relation => b'r',
+    }
+}
+
+/// Writes the tags, joined by commas.
+fn put_tags<S: Sink>(sink: &mut S, tags: &[(&str, &str)])
+    ensures { Writes (S.written sink.old) (S.has_failed sink.old) (S.written sink.new) (S.has_failed sink.new) (commas (map tag_text (map (λ t. (t.0.now, t.1.now)) tags.now))) }
+{
+    for (at, tag) in tags.iter().enumerate() {
+        put_comma(sink, at);
+        put_tag(sink, tag.0, tag.1);
+    }
+}
+
+fn put_tag<S: Sink>(sink: &mut S, key: &str, value: &str)
+    ensures { Writes (S.written sink.old) (S.has_failed sink.old) (S.written sink.new) (S.has_failed sink.new) (tag_text (key.now, value.now)) }
+{
+    put_escaped(sink, key);
+    put(sink, b"=");
+    put_escaped(sink, value);
+}
+
+/// Writes what is there of the info, joined by commas.
+fn put_info<S: Sink>(sink: &mut S, info: &Info)
+    ensures { Writes (S.written sink.old) (S.has_failed sink.old) (S.written sink.new) (S.has_failed sink.new) (commas (info_texts info.now)) }
+{
+    let at = put_info_number(sink, 0, b'v', widened(info.version()));
+    let at = put_info_number(sink, at, b't', info.time());
+    let at = put_info_number(sink, at, b'c', info.changeset());
+    let at = put_info_number(sink, at, b'i', widened(info.uid()));
+    put_info_user(sink, at, info.user());
+}
+
+/// Writes a number of the info, if it is there, as the piece at that place, and says the next place.
+fn put_info_number<S: Sink>(sink: &mut S, at: usize, letter: u8, number: Option<i64>) -> usize
+    requires { at < 100 }
+    ensures text { (start : Option (List ℕ)) (before : List ℕ) (pieces : List (List ℕ)) → length pieces ≡ at
+        → Wrote start (before ++ commas pieces) (S.written sink.old) (S.has_failed sink.old)
+        → Wrote start (before ++ commas (pieces ++ option_to_list (option_map (number_info letter) number))) (S.written sink.new) (S.has_failed sink.new) }
+    ensures place { result ≡ at + length (option_to_list (option_map (number_info letter) number)) }
+    ensures next { result ≤ at + 1 }
+{
+    let Some(number) = number else {
+        return at;
+    };
+    put_comma(sink, at);
+    put(sink, &[letter, b'=']);
+    put_number(sink, number);
+    at + 1
+}
+
+/// Writes the user, if it is there, as the piece at that place.
+fn put_info_user<S: Sink>(sink: &mut S, at: usize, user: Option<&str>)
+    ensures { (start : Option (List ℕ)) (before : List ℕ) (pieces : List (List ℕ)) → length pieces ≡ at
+        → Wrote start (before ++ commas pieces) (S.written sink.old) (S.has_failed sink.old)
+        → Wrote start (before ++ commas (pieces ++ option_to_list (option_map user_info (option_copied user.entry)))) (S.written sink.new) (S.has_failed sink.new) }
+{
+    let Some(user) = user else {
+        return;
+    };
+    put_comma(sink, at);
+    put(sink, b"u=");
+    put_escaped(sink, user);
+}
+
+fn widened(number: Option<i32>) -> Option<i64>
+    ensures { result ≡ number }
+{
+    match number {
+        None => None,
+        Some(number) => Some(i64::from(number)),
+    }
+}

@@ -1,0 +1,114 @@
+//! Bytes, numbers and texts written to a sink. Each call goes on where a sink has failed and then writes nothing,
+//! so that one look at the sink after the last call suffices.
+
+ghost use Rattle.std.specs.Prelude.{◌≡◌, ◌<◌, ◌≤◌, drop};
+ghost use Rattle.std.specs.Fmt.{decimal, signed_decimal};
+ghost use Rattle.osm_value.specs.Sink.{Writes};
+ghost use Rattle.osm_value.specs.Escape.{is_escaped, escaped, hex_digit};
+
+use crate::sink::Sink;
+
+/// Writes all of the piece, unless the sink fails or has failed.
+pub fn put<S: Sink>(sink: &mut S, piece: &[u8])
+    ensures { Writes (S.written sink.old) (S.has_failed sink.old) (S.written sink.new) (S.has_failed sink.new) piece.now }
+{
+    let mut at = 0;
+    while at < piece.len() {
+        if sink.failed() {
+            return;
+        }
+        let taken = match sink.write(&piece[at..]) {
+            Ok(taken) => taken,
+            Err(_) => return,
+        };
+        if taken == 0 {
+            return;
+        }
+        at += taken;
+    }
+}
+
+/// Writes a number in decimal.
+pub fn put_number<S: Sink>(sink: &mut S, number: i64)
+    ensures { Writes (S.written sink.old) (S.has_failed sink.old) (S.written sink.new) (S.has_failed sink.new) (signed_decimal number) }
+{
+    if number < 0 {
+        put(sink, b"-");
+        put_digits(sink, number.unsigned_abs());
+    } else {
+        put_digits(sink, number as u64);
+    }
+}
+
+/// Writes a number that isn't negative in decimal.
+pub fn put_digits<S: Sink>(sink: &mut S, number: u64)
+    ensures { Writes (S.written sink.old) (S.has_failed sink.old) (S.written sink.new) (S.has_failed sink.new) (decimal number) }
+{
+    let mut digits = [0u8; 20];
+    let start = fill_digits(number, &mut digits);
+    put(sink, &digits[start..]);
+}
+
+/// Writes the digits of a number at the end, and says where they begin.
+fn fill_digits(number: u64, digits: &mut [u8; 20]) -> usize
+    ensures begins { result ≤ 20 }
+    ensures digits { drop result digits.new ≡ decimal number }
+{
+    let mut at = 19;
+    let mut rest = number;
+    while rest >= 10 && at > 0 {
+        digits[at] = 48 + (rest % 10) as u8;
+        rest /= 10;
+        at -= 1;
+    }
+    digits[at] = 48 + (rest % 10) as u8;
+    at
+}
+
+/// Writes a text; each byte that separates or isn't printed is `%` and two upper-case hexadecimal digits.
+pub fn put_escaped<S: Sink>(sink: &mut S, text: &str)
+    ensures { Writes (S.written sink.old) (S.has_failed sink.old) (S.written sink.new) (S.has_failed sink.new) (escaped text.now) }
+{
+    let bytes = text.as_bytes();
+    let mut plain = 0;
+    for at in 0..bytes.len() {
+        let byte = bytes[at];
+        if !is_escaped(byte) {
+            continue;
+        }
+        put(sink, &bytes[plain..at]);
+        put(sink, &[b'%', hex_digit(byte / 16), hex_digit(byte % 16)]);
+        plain = at + 1;
+    }
+    put(sink, &bytes[plain..]);
+}
+
+/// Whether the byte is written as `%` and two digits.
+fn is_escaped(byte: u8) -> bool
+    ensures { result ≡ is_escaped byte }
+{
+    byte < 33
+        || byte == 127
+        || byte == b'%'
+        || byte == b'='
+        || byte == b','
+        || byte == b'@'
+        || byte == b'['
+        || byte == b']'
+        || byte == b'{'
+        || byte == b'}'
+        || byte == b'('
+        || byte == b')'
+}
+
+/// A hexadecimal digit, in upper case.
+fn hex_digit(number: u8) -> u8
+    requires { number < 16 }
+    ensures { result ≡ hex_digit number }
+{
+    if number < 10 {
+        number + 48
+    } else {
+        number + 55
+    }
+}

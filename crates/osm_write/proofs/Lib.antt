@@ -1,0 +1,9 @@
+pub mod Deltas
+pub mod TextsLemmas
+pub mod RunsLemmas
+pub mod Joined
+pub mod FirstUses
+pub mod BlockJoined
+pub mod TextsRead
+pub mod GroupsJoin
+pub mod NumbersRead

@@ -1,0 +1,115 @@
+//! The whole block.
+
+ghost use Rattle.std.specs.Prelude.{◌≡◌, ◌++◌, ◌≤◌, ◌<◌, ◌∷◌, OnOk, IfOk, MatchResult, map, List, [], length};
+ghost use Rattle.std.specs.List.{flat_map};
+ghost use Rattle.osm_value.specs.Value.{Text};
+ghost use Rattle.osm_write.specs.Scale.{view};
+ghost use Rattle.osm_write.specs.Canon.{bytes_field, group_bytes, groups_of, granularity_field, block_bytes, canon};
+ghost use Rattle.osm_write.specs.Write.{IsFault};
+
+use crate::append::{append_bytes, append_number};
+use crate::collect::scale_of;
+use crate::fault::WriteFault;
+use crate::group::append_group;
+use crate::groups::run_len;
+use crate::message::Scratch;
+use crate::scale::Scale;
+use osm_value::Element;
+use std::alloc::{AllocError, Global};
+
+/// What a raw payload may hold.
+const MAX_BLOCK_LEN: usize = 33_554_431;
+
+fn append_texts(texts: &[&str], out: &mut Vec<u8>) -> Result<(), AllocError>
+    ensures { OnOk result (out.new.items ≡ out.old.items ++ flat_map (bytes_field 1) ([] ∷ map (λ s. s.now) texts.now)) }
+{
+    append_bytes(1, &[], out)?;
+    for text in texts {
+        append_bytes(1, text.as_bytes(), out)?;
+    }
+    Ok(())
+}
+
+fn append_table(alloc: Global, scale: &Scale, out: &mut Vec<u8>) -> Result<(), AllocError>
+    ensures { OnOk result (out.new.items ≡ out.old.items ++ bytes_field 1 (flat_map (bytes_field 1) ([] ∷ (view scale.now).texts))) }
+{
+    let mut table = Vec::new(alloc);
+    append_texts(scale.texts.texts(), &mut table)?;
+    append_bytes(1, &table, out)
+}
+
+fn append_groups(
+    alloc: Global,
+    scale: &Scale,
+    elements: &[Element],
+    scratch: &mut Scratch,
+    out: &mut Vec<u8>,
+) -> Result<(), AllocError>
+    ensures { OnOk result (out.new.items ≡ out.old.items ++ flat_map (λ g. bytes_field 2 (group_bytes (view scale.now) g)) (groups_of elements.now)) }
+{
+    let mut group = Vec::new(alloc);
+    let mut at = 0;
+    while at < elements.len() {
+        let rest = &elements[at..];
+        let len = run_len(rest);
+        group.clear();
+        append_group(alloc, scale, &rest[..len], scratch, &mut group)?;
+        append_bytes(2, &group, out)?;
+        at += len;
+    }
+    Ok(())
+}
+
+fn append_granularity(
+    field: u64,
+    default: u64,
+    granularity: u64,
+    out: &mut Vec<u8>,
+) -> Result<(), AllocError>
+    requires { field < 4294967296 }
+    ensures { OnOk result (out.new.items ≡ out.old.items ++ granularity_field field default granularity) }
+{
+    if granularity == default {
+        Ok(())
+    } else {
+        append_number(field, granularity, out)
+    }
+}
+
+fn append_granularities(scale: &Scale, out: &mut Vec<u8>) -> Result<(), AllocError>
+    ensures { OnOk result (out.new.items ≡ out.old.items ++ granularity_field 17 100 (view scale.now).granularity ++ granularity_field 18 1000 (view scale.now).date_granularity) }
+{
+    append_granularity(17, 100, if scale.hundreds { 100 } else { 1 }, out)?;
+    append_granularity(18, 1000, if scale.thousands { 1000 } else { 1 }, out)
+}
+
+#[tactic(auto, unfolding(crate::specs::Canon::canon))]
+fn bytes_of(alloc: Global, elements: &[Element]) -> Result<Vec<u8>, AllocError>
+    ensures { IfOk result (λ v. v.items ≡ canon elements.now) }
+{
+    let scale = scale_of(alloc, elements)?;
+    let mut scratch = Scratch::new(alloc);
+    let mut out = Vec::new(alloc);
+    append_table(alloc, &scale, &mut out)?;
+    append_groups(alloc, &scale, elements, &mut scratch, &mut out)?;
+    append_granularities(&scale, &mut out)?;
+    Ok(out)
+}
+
+/// The block of the one element, whatever its length.
+pub fn encode_one(alloc: Global, element: &Element) -> Result<Vec<u8>, AllocError>
+    ensures { IfOk result (λ v. v.items ≡ canon (element.now ∷ [])) }
+{
+    bytes_of(alloc, std::slice::from_ref(element))
+}
+
+/// The block of the elements.
+pub fn encode_block(alloc: Global, elements: &[Element]) -> Result<Vec<u8>, WriteFault>
+    ensures { MatchResult result (λ v. (v.items ≡ canon elements.now) × (length v.items ≤ 33554431)) (λ e. IsFault (canon elements.now) e) }
+{
+    let bytes = bytes_of(alloc, elements)?;
+    if bytes.len() > MAX_BLOCK_LEN {
+        return Err(WriteFault::BlockTooLarge);
+    }
+    Ok(bytes)
+}

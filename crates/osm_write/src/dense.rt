@@ -1,0 +1,306 @@
+//! Nodes as one message of columns.
+
+ghost use Rattle.std.specs.Prelude.{◌≡◌, ◌++◌, ◌∷◌, [], OnOk, map, List, pos, option_map};
+ghost use Rattle.std.specs.List.{filter_map, flat_map, list_any};
+ghost use Rattle.std.specs.Int.{w64, cast_unsigned};
+ghost use Rattle.osm_value.specs.Value.{NodeValue, InfoValue};
+ghost use Rattle.osm_write.specs.Arrays.{AllWide};
+ghost use Rattle.osm_write.specs.Scale.{view};
+ghost use Rattle.osm_write.specs.Canon.{dense_bytes, dense_info_bytes, raw_place, times_of, index_of, keys_vals_of, has_tags, tag_indexes, packed_field, delta_field, message_field};
+
+use crate::append::{append_deltas, append_message, append_packed};
+use crate::message::Scratch;
+use crate::parts::{uid_of, version_number};
+use crate::scale::Scale;
+use osm_value::Node;
+use std::alloc::{AllocError, Global};
+
+#[tactic(auto, using(crate::proofs::Deltas::wide_push))]
+fn id_column(nodes: &[&Node], column: &mut Vec<i64>) -> Result<(), AllocError>
+    ensures exact { OnOk result (column.new.items ≡ map (λ (n : NodeValue). n.id) (map (λ n. n.now) nodes.now)) }
+    ensures in_range { AllWide column.new.items }
+{
+    column.clear();
+    for node in nodes {
+        column.push(node.id())?;
+    }
+    Ok(())
+}
+
+#[tactic(auto, using(crate::proofs::Deltas::wide_push))]
+fn lat_column(scale: &Scale, nodes: &[&Node], column: &mut Vec<i64>) -> Result<(), AllocError>
+    ensures exact { OnOk result (column.new.items ≡ map (λ (n : NodeValue). raw_place (view scale.now) n.lat) (map (λ n. n.now) nodes.now)) }
+    ensures in_range { AllWide column.new.items }
+{
+    column.clear();
+    for node in nodes {
+        column.push(scale.raw_place(node.lat()))?;
+    }
+    Ok(())
+}
+
+#[tactic(auto, using(crate::proofs::Deltas::wide_push))]
+fn lon_column(scale: &Scale, nodes: &[&Node], column: &mut Vec<i64>) -> Result<(), AllocError>
+    ensures exact { OnOk result (column.new.items ≡ map (λ (n : NodeValue). raw_place (view scale.now) n.lon) (map (λ n. n.now) nodes.now)) }
+    ensures in_range { AllWide column.new.items }
+{
+    column.clear();
+    for node in nodes {
+        column.push(scale.raw_place(node.lon()))?;
+    }
+    Ok(())
+}
+
+#[tactic(auto, using(crate::proofs::Deltas::wide_push))]
+fn time_column(scale: &Scale, nodes: &[&Node], column: &mut Vec<i64>) -> Result<(), AllocError>
+    ensures exact { OnOk result (column.new.items ≡ filter_map (λ (i : InfoValue). times_of (view scale.now) i.time) (map (λ n. n.now.info) nodes.now)) }
+    ensures in_range { AllWide column.new.items }
+{
+    column.clear();
+    for node in nodes {
+        if let Some(value) = scale.raw_time(node.info().time()) {
+            column.push(value)?;
+        }
+    }
+    Ok(())
+}
+
+#[tactic(auto, using(crate::proofs::Deltas::wide_push))]
+fn changeset_column(nodes: &[&Node], column: &mut Vec<i64>) -> Result<(), AllocError>
+    ensures exact { OnOk result (column.new.items ≡ filter_map (λ (i : InfoValue). i.changeset) (map (λ n. n.now.info) nodes.now)) }
+    ensures in_range { AllWide column.new.items }
+{
+    column.clear();
+    for node in nodes {
+        if let Some(value) = node.info().changeset() {
+            column.push(value)?;
+        }
+    }
+    Ok(())
+}
+
+#[tactic(auto, using(crate::proofs::Deltas::wide_push))]
+fn uid_column(nodes: &[&Node], column: &mut Vec<i64>) -> Result<(), AllocError>
+    ensures exact { OnOk result (column.new.items ≡ filter_map (λ (i : InfoValue). i.uid) (map (λ n. n.now.info) nodes.now)) }
+    ensures in_range { AllWide column.new.items }
+{
+    column.clear();
+    for node in nodes {
+        if let Some(uid) = uid_of(node.info()) {
+            column.push(uid)?;
+        }
+    }
+    Ok(())
+}
+
+#[tactic(auto, using(crate::proofs::Deltas::wide_push))]
+fn user_column(scale: &Scale, nodes: &[&Node], column: &mut Vec<i64>) -> Result<(), AllocError>
+    ensures exact { OnOk result (column.new.items ≡ filter_map (λ (i : InfoValue). option_map (λ t. pos (index_of (view scale.now) t)) i.user) (map (λ n. n.now.info) nodes.now)) }
+    ensures in_range { AllWide column.new.items }
+{
+    column.clear();
+    for node in nodes {
+        if let Some(user) = node.info().user() {
+            column.push(scale.index_of(user) as i64)?;
+        }
+    }
+    Ok(())
+}
+
+fn version_column(nodes: &[&Node], numbers: &mut Vec<u64>) -> Result<(), AllocError>
+    ensures { OnOk result (numbers.new.items ≡ filter_map (λ (i : InfoValue). option_map (cast_unsigned w64) i.version) (map (λ n. n.now.info) nodes.now)) }
+{
+    numbers.clear();
+    for node in nodes {
+        if let Some(version) = version_number(node.info()) {
+            numbers.push(version)?;
+        }
+    }
+    Ok(())
+}
+
+fn any_tags(nodes: &[&Node]) -> bool
+    ensures { result ≡ list_any has_tags (map (λ n. n.now) nodes.now) }
+{
+    for node in nodes {
+        if !node.tags().is_empty() {
+            return true;
+        }
+    }
+    false
+}
+
+/// Appends the indexes of keys and values.
+fn push_tags(scale: &Scale, tags: &[(&str, &str)], numbers: &mut Vec<u64>) -> Result<(), AllocError>
+    ensures { OnOk result (numbers.new.items ≡ numbers.old.items ++ tag_indexes (view scale.now) (map (λ t. (t.0.now, t.1.now)) tags.now)) }
+{
+    for tag in tags {
+        numbers.push(scale.index_of(tag.0))?;
+        numbers.push(scale.index_of(tag.1))?;
+    }
+    Ok(())
+}
+
+/// Each node's pairs and a 0.
+fn push_all_tags(scale: &Scale, nodes: &[&Node], numbers: &mut Vec<u64>) -> Result<(), AllocError>
+    ensures { OnOk result (numbers.new.items ≡ numbers.old.items ++ flat_map (λ (n : NodeValue). tag_indexes (view scale.now) n.tags ++ 0 ∷ []) (map (λ n. n.now) nodes.now)) }
+{
+    for node in nodes {
+        push_tags(scale, node.tags(), numbers)?;
+        numbers.push(0)?;
+    }
+    Ok(())
+}
+
+fn keys_vals(scale: &Scale, nodes: &[&Node], numbers: &mut Vec<u64>) -> Result<(), AllocError>
+    ensures { OnOk result (numbers.new.items ≡ keys_vals_of (view scale.now) (map (λ n. n.now) nodes.now)) }
+{
+    numbers.clear();
+    if any_tags(nodes) {
+        push_all_tags(scale, nodes, numbers)
+    } else {
+        Ok(())
+    }
+}
+
+fn append_versions(
+    nodes: &[&Node],
+    scratch: &mut Scratch,
+    out: &mut Vec<u8>,
+) -> Result<(), AllocError>
+    ensures { OnOk result (out.new.items ≡ out.old.items ++ packed_field 1 (filter_map (λ (i : InfoValue). option_map (cast_unsigned w64) i.version) (map (λ n. n.now.info) nodes.now))) }
+{
+    version_column(nodes, &mut scratch.numbers)?;
+    append_packed(1, &scratch.numbers, &mut scratch.array, out)
+}
+
+fn append_times(
+    scale: &Scale,
+    nodes: &[&Node],
+    scratch: &mut Scratch,
+    out: &mut Vec<u8>,
+) -> Result<(), AllocError>
+    ensures { OnOk result (out.new.items ≡ out.old.items ++ delta_field 2 (filter_map (λ (i : InfoValue). times_of (view scale.now) i.time) (map (λ n. n.now.info) nodes.now))) }
+{
+    time_column(scale, nodes, &mut scratch.column)?;
+    append_deltas(2, &scratch.column, &mut scratch.array, out)
+}
+
+fn append_changesets(
+    nodes: &[&Node],
+    scratch: &mut Scratch,
+    out: &mut Vec<u8>,
+) -> Result<(), AllocError>
+    ensures { OnOk result (out.new.items ≡ out.old.items ++ delta_field 3 (filter_map (λ (i : InfoValue). i.changeset) (map (λ n. n.now.info) nodes.now))) }
+{
+    changeset_column(nodes, &mut scratch.column)?;
+    append_deltas(3, &scratch.column, &mut scratch.array, out)
+}
+
+fn append_uids(nodes: &[&Node], scratch: &mut Scratch, out: &mut Vec<u8>) -> Result<(), AllocError>
+    ensures { OnOk result (out.new.items ≡ out.old.items ++ delta_field 4 (filter_map (λ (i : InfoValue). i.uid) (map (λ n. n.now.info) nodes.now))) }
+{
+    uid_column(nodes, &mut scratch.column)?;
+    append_deltas(4, &scratch.column, &mut scratch.array, out)
+}
+
+fn append_users(
+    scale: &Scale,
+    nodes: &[&Node],
+    scratch: &mut Scratch,
+    out: &mut Vec<u8>,
+) -> Result<(), AllocError>
+    ensures { OnOk result (out.new.items ≡ out.old.items ++ delta_field 5 (filter_map (λ (i : InfoValue). option_map (λ t. pos (index_of (view scale.now) t)) i.user) (map (λ n. n.now.info) nodes.now))) }
+{
+    user_column(scale, nodes, &mut scratch.column)?;
+    append_deltas(5, &scratch.column, &mut scratch.array, out)
+}
+
+fn append_ids(nodes: &[&Node], scratch: &mut Scratch, out: &mut Vec<u8>) -> Result<(), AllocError>
+    ensures { OnOk result (out.new.items ≡ out.old.items ++ delta_field 1 (map (λ (n : NodeValue). n.id) (map (λ n. n.now) nodes.now))) }
+{
+    id_column(nodes, &mut scratch.column)?;
+    append_deltas(1, &scratch.column, &mut scratch.array, out)
+}
+
+fn append_lats(
+    scale: &Scale,
+    nodes: &[&Node],
+    scratch: &mut Scratch,
+    out: &mut Vec<u8>,
+) -> Result<(), AllocError>
+    ensures { OnOk result (out.new.items ≡ out.old.items ++ delta_field 8 (map (λ (n : NodeValue). raw_place (view scale.now) n.lat) (map (λ n. n.now) nodes.now))) }
+{
+    lat_column(scale, nodes, &mut scratch.column)?;
+    append_deltas(8, &scratch.column, &mut scratch.array, out)
+}
+
+fn append_lons(
+    scale: &Scale,
+    nodes: &[&Node],
+    scratch: &mut Scratch,
+    out: &mut Vec<u8>,
+) -> Result<(), AllocError>
+    ensures { OnOk result (out.new.items ≡ out.old.items ++ delta_field 9 (map (λ (n : NodeValue). raw_place (view scale.now) n.lon) (map (λ n. n.now) nodes.now))) }
+{
+    lon_column(scale, nodes, &mut scratch.column)?;
+    append_deltas(9, &scratch.column, &mut scratch.array, out)
+}
+
+fn append_dense_info(
+    scale: &Scale,
+    nodes: &[&Node],
+    scratch: &mut Scratch,
+    out: &mut Vec<u8>,
+) -> Result<(), AllocError>
+    ensures { OnOk result (out.new.items ≡ out.old.items ++ dense_info_bytes (view scale.now) (map (λ n. n.now.info) nodes.now)) }
+{
+    append_versions(nodes, scratch, out)?;
+    append_times(scale, nodes, scratch, out)?;
+    append_changesets(nodes, scratch, out)?;
+    append_uids(nodes, scratch, out)?;
+    append_users(scale, nodes, scratch, out)
+}
+
+#[tactic(auto, using(crate::proofs::Joined::infos_of))]
+fn append_dense_info_message(
+    alloc: Global,
+    scale: &Scale,
+    nodes: &[&Node],
+    scratch: &mut Scratch,
+    out: &mut Vec<u8>,
+) -> Result<(), AllocError>
+    ensures { OnOk result (out.new.items ≡ out.old.items ++ message_field 5 (dense_info_bytes (view scale.now) (map (λ (n : NodeValue). n.info) (map (λ n. n.now) nodes.now)))) }
+{
+    let mut message = Vec::new(alloc);
+    append_dense_info(scale, nodes, scratch, &mut message)?;
+    append_message(5, &message, out)
+}
+
+fn append_keys_vals(
+    scale: &Scale,
+    nodes: &[&Node],
+    scratch: &mut Scratch,
+    out: &mut Vec<u8>,
+) -> Result<(), AllocError>
+    ensures { OnOk result (out.new.items ≡ out.old.items ++ packed_field 10 (keys_vals_of (view scale.now) (map (λ n. n.now) nodes.now))) }
+{
+    keys_vals(scale, nodes, &mut scratch.numbers)?;
+    append_packed(10, &scratch.numbers, &mut scratch.array, out)
+}
+
+pub(crate) fn append_dense(
+    alloc: Global,
+    scale: &Scale,
+    nodes: &[&Node],
+    scratch: &mut Scratch,
+    out: &mut Vec<u8>,
+) -> Result<(), AllocError>
+    ensures { OnOk result (out.new.items ≡ out.old.items ++ dense_bytes (view scale.now) (map (λ n. n.now) nodes.now)) }
+{
+    append_ids(nodes, scratch, out)?;
+    append_dense_info_message(alloc, scale, nodes, scratch, out)?;
+    append_lats(scale, nodes, scratch, out)?;
+    append_lons(scale, nodes, scratch, out)?;
+    append_keys_vals(scale, nodes, scratch, out)
+}

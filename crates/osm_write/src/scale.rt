@@ -1,0 +1,50 @@
+//! What a block says for all its elements: its texts and its granularities.
+
+ghost use Rattle.std.specs.Prelude.{◌≡◌, ◌<◌, ◌^◌, ◌-◌, ◌≤ℤ◌, pos, int_div};
+ghost use Rattle.osm_value.specs.Ranges.{IsWide};
+ghost use Rattle.osm_write.specs.Arrays.{IsWideOrNone};
+ghost use Rattle.osm_write.specs.Canon.{index_of, raw_place, times_of};
+ghost use Rattle.osm_write.specs.Scale.{view};
+
+use crate::texts::TextTable;
+
+#[derive(Drop)]
+pub(crate) struct Scale<'a> {
+    pub(crate) texts: TextTable<'a>,
+    /// All places are divisible by 100.
+    pub(crate) hundreds: bool,
+    /// All times are divisible by 1000.
+    pub(crate) thousands: bool,
+}
+
+impl<'a> Scale<'a> {
+    pub(crate) fn index_of(&self, text: &str) -> u64
+        ensures exact { result ≡ index_of (view self.now) text.now }
+        ensures small { result < 2 ^ 62 - 1 }
+    {
+        self.texts.place_of(text) as u64 + 1
+    }
+
+    /// The number that stands for a place.
+    pub(crate) fn raw_place(&self, nanodegrees: i64) -> i64
+        requires { IsWide nanodegrees }
+        ensures exact { result ≡ raw_place (view self.now) nanodegrees }
+        ensures in_range { IsWide result }
+    {
+        let granularity = if self.hundreds { 100 } else { 1 };
+        nanodegrees / granularity
+    }
+
+    /// The number that stands for a time.
+    pub(crate) fn raw_time(&self, milliseconds: Option<i64>) -> Option<i64>
+        requires { IsWideOrNone milliseconds }
+        ensures exact { result ≡ times_of (view self.now) milliseconds }
+        ensures in_range { IsWideOrNone result }
+    {
+        let granularity = if self.thousands { 1000 } else { 1 };
+        match milliseconds {
+            Some(time) => Some(time / granularity),
+            None => None,
+        }
+    }
+}

@@ -1,0 +1,67 @@
+//! The texts of a block, each once, in order of first use.
+
+ghost use Rattle.std.specs.Prelude.{◌≡◌, ◌+◌, ◌<◌, ◌^◌, List, [], map, suc, OnOk, length};
+ghost use Rattle.osm_value.specs.Value.{Text};
+ghost use Rattle.osm_write.specs.Texts.{Knows, with_text};
+ghost use Rattle.osm_write.specs.Canon.{place_of};
+
+use std::alloc::{AllocError, Global};
+use std::collections::HashMap;
+use std::marker::Model;
+
+#[derive(Drop)]
+pub struct TextTable<'a> {
+    texts: Vec<&'a str>,
+    places: HashMap<&'a str, usize>,
+}
+
+impl<'a> Model for TextTable<'a> {
+    ghost Value = { List Text };
+
+    ghost view = { λ t. map (λ s. s.now) t.texts.items };
+
+    ghost invariant = { λ t. Knows t.places (map (λ s. s.now) t.texts.items) };
+}
+
+impl<'a> TextTable<'a> {
+    pub fn new(alloc: Global) -> Self
+        ensures { result ≡ [] }
+    {
+        TextTable {
+            texts: Vec::new(alloc),
+            places: HashMap::new(alloc),
+        }
+    }
+
+    pub fn texts(&self) -> &[&'a str]
+        ensures { map (λ s. s.now) result.now ≡ self.now }
+    {
+        &self.texts
+    }
+
+    /// Adds the text at the end, unless it is there already.
+    pub fn add(&mut self, text: &'a str) -> Result<(), AllocError>
+        ensures { OnOk result (self.new ≡ with_text self.old text.now) }
+    {
+        if self.places.get(text).is_some() {
+            return Ok(());
+        }
+        let place = self.texts.len();
+        self.texts.reserve(1)?;
+        self.places.insert(text, place)?;
+        self.texts.push(text)?;
+        Ok(())
+    }
+
+    /// The place of the text; the number of texts where it isn't there.
+    pub fn place_of(&self, text: &str) -> usize
+        ensures exact { result ≡ place_of text.now self.now }
+        ensures small { result < 2 ^ 61 }
+    {
+        let count = self.texts.as_slice().len();
+        match self.places.get(text) {
+            Some(place) => *place,
+            None => count,
+        }
+    }
+}

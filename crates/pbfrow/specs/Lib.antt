@@ -1,0 +1,6 @@
+pub mod Definition
+pub mod Element
+pub mod FaultLine
+pub mod Listing
+pub mod Reading
+pub mod Words

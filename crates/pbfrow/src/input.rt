@@ -1,0 +1,57 @@
+//! The whole input of a command.
+
+ghost use Rattle.std.specs.Prelude.{◌≡◌, IfOk, IfSome};
+
+use std::alloc::Global;
+use std::io::Read;
+
+/// Why an input was not read.
+#[derive(Clone, Copy, Debug, PartialEq, Eq)]
+pub enum InputFault {
+    Memory,
+    ReadFailed,
+}
+
+impl InputFault {
+    /// The number that this fault has in every message of the program.
+    pub fn number(self) -> u8 {
+        match self {
+            InputFault::Memory => 65,
+            InputFault::ReadFailed => 68,
+        }
+    }
+
+    /// The name that this fault has in every message of the program.
+    pub fn name(self) -> &'static str {
+        match self {
+            InputFault::Memory => "Memory",
+            InputFault::ReadFailed => "ReadFailed",
+        }
+    }
+}
+
+/// The most bytes that an input may have: 2^62.
+const MAX_INPUT: u64 = 1 << 62;
+
+/// How many bytes are asked of a reader at a time.
+const PIECE: usize = 65_536;
+
+/// All bytes that the reader gives. Any read error, an interrupted read too, is `ReadFailed`.
+pub fn read_all<R: Read>(alloc: Global, input: &mut R) -> Result<Vec<u8>, InputFault>
+    ensures { IfOk result (λ bytes. IfSome (R.remaining input.old) (λ xs. bytes.items ≡ xs)) }
+{
+    let mut bytes = Vec::new(alloc);
+    let mut piece = [0u8; PIECE];
+    for _ in 0..MAX_INPUT {
+        let Ok(count) = input.read(&mut piece) else {
+            return Err(InputFault::ReadFailed);
+        };
+        if count == 0 {
+            return Ok(bytes);
+        }
+        if bytes.extend_from_slice(&piece[..count]).is_err() {
+            return Err(InputFault::Memory);
+        }
+    }
+    Err(InputFault::ReadFailed)
+}

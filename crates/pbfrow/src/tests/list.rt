@@ -1,0 +1,141 @@
+use crate::list::list;
+use std::alloc::Global;
+use std::io;
+use std::io::{Cursor, Read, Write};
+use std::process::Abort;
+use std::test::*;
+
+/// A header frame of 47 bytes and a data frame of 37.
+const TWO_NODES: &[u8; 84] =
+    b"\x00\x00\x00\x0D\x0A\x09OSMHeader\x18\x1E\x0A\x1C\x22\x0EOsmSchema-V0.6\x22\x0ADenseNodes\x00\x00\x00\x0B\x0A\x07OSMData\x18\x16\x0A\x14\x0A\x02\x0A\x00\x12\x0E\x12\x0C\x0A\x02\x02\x02\x42\x02\x14\x01\x4A\x02\x01\x00";
+
+/// A reader that gives some bytes and then fails.
+#[derive(Drop)]
+struct Breaking<'a> {
+    given: &'a [u8],
+}
+
+impl Read for Breaking<'_> {
+    fn read(&mut self, buf: &mut [u8]) -> io::Result<usize> {
+        if self.given.is_empty() {
+            return Err(io::Error::from(io::ErrorKind::Interrupted));
+        }
+        self.given.read(buf)
+    }
+}
+
+/// A writer that takes nothing.
+#[derive(Drop)]
+struct Closed;
+
+impl Write for Closed {
+    fn write(&mut self, _buf: &[u8]) -> io::Result<usize> {
+        Err(io::Error::from(io::ErrorKind::BrokenPipe))
+    }
+
+    fn flush(&mut self) -> io::Result<()> {
+        Ok(())
+    }
+}
+
+fn expect_list<R: Read>(
+    rt: &(impl Abort + Alloc<A = Global>),
+    input: &mut R,
+    status: u8,
+    text: &[u8],
+) {
+    let mut out = Vec::new(rt.alloc());
+    assert_eq!(rt; list(rt.alloc(), input, &mut out), status);
+    assert!(rt; out.as_slice() == text);
+}
+
+#[test]
+fn lists_two_frames(rt: HostRuntime) {
+    expect_list(
+        &rt,
+        &mut Cursor::new(&TWO_NODES[..]),
+        0,
+        b"0 OSMHeader 30\n47 OSMData 22\n",
+    );
+    expect_list(&rt, &mut Cursor::new(&TWO_NODES[..0]), 0, b"");
+}
+
+#[test]
+fn stops_at_a_fault(rt: HostRuntime) {
+    expect_list(
+        &rt,
+        &mut Cursor::new(&TWO_NODES[..83]),
+        1,
+        b"0 OSMHeader 30\nfault 18 BlobCut at 47\n",
+    );
+    expect_list(
+        &rt,
+        &mut Cursor::new(&[0u8; 3][..]),
+        1,
+        b"fault 10 LengthCut at 0\n",
+    );
+    expect_list(
+        &rt,
+        &mut Cursor::new(&[0u8, 1, 0, 0][..]),
+        1,
+        b"fault 11 HeaderTooLong at 0\n",
+    );
+    expect_list(
+        &rt,
+        &mut Cursor::new(&[0u8, 0, 255, 255][..]),
+        1,
+        b"fault 12 HeaderCut at 0\n",
+    );
+    expect_list(
+        &rt,
+        &mut Cursor::new(&[0u8; 4][..]),
+        1,
+        b"fault 14 NoType at 0\n",
+    );
+}
+
+#[test]
+fn escapes_types(rt: HostRuntime) {
+    expect_list(
+        &rt,
+        &mut Cursor::new(&b"\x00\x00\x00\x09\x0A\x05a %~\x7F\x18\x00"[..]),
+        0,
+        b"0 a%20%25~%7F 0\n",
+    );
+    expect_list(
+        &rt,
+        &mut Cursor::new(&b"\x00\x00\x00\x06\x0A\x02!\xFF\x18\x00"[..]),
+        0,
+        b"0 !%FF 0\n",
+    );
+}
+
+#[test]
+fn reports_a_read_error_alone(rt: HostRuntime) {
+    expect_list(
+        &rt,
+        &mut Breaking { given: b"" },
+        1,
+        b"fault 68 ReadFailed at 0\n",
+    );
+    expect_list(
+        &rt,
+        &mut Breaking {
+            given: &TWO_NODES[..60],
+        },
+        1,
+        b"fault 68 ReadFailed at 0\n",
+    );
+}
+
+#[test]
+fn reports_a_write_error(rt: HostRuntime) {
+    assert_eq!(rt;
+        list(rt.alloc(), &mut Cursor::new(&TWO_NODES[..]), &mut Closed),
+        1
+    );
+    assert_eq!(rt;
+        list(rt.alloc(), &mut Cursor::new(&TWO_NODES[..0]), &mut Closed),
+        0
+    );
+}
