@@ -29,3 +29,4 @@ pub mod DensePhaseLemmas
 pub mod DenseFieldLemmas
 pub mod NodeComplete
 pub mod RelationComplete
+pub mod DenseComplete

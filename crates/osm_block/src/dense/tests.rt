@@ -1,15 +1,7 @@
 use crate::read_block;
-use osm_value::{Element, Node};
+use osm_value::Element;
 use std::alloc::AllocError;
 use std::test::*;
-
-/// The nodes of a block that has two of them.
-fn two<'e, 'a>(elements: &'e [Element<'a>]) -> Option<(&'e Node<'a>, &'e Node<'a>)> {
-    match elements {
-        [Element::Node(first), Element::Node(second)] => Some((first, second)),
-        _ => None,
-    }
-}
 
 /// The number of the fault that the block is refused with.
 fn fault_of(rt: &HostRuntime, block: &[u8]) -> Option<u8> {
@@ -27,7 +19,10 @@ fn places(rt: HostRuntime) -> Result<(), Fail> {
         0x01, 0x4A, 0x02, 0x01, 0x00,
     ];
     let elements = read_block(rt.alloc(), &block)?;
-    let (first, second) = two(&elements).ok_or("two nodes")?;
+    assert!(rt; elements.len() == 2);
+    let (Element::Node(first), Element::Node(second)) = (&elements[0], &elements[1]) else {
+        return Err("another kind".into());
+    };
     assert!(rt; first.id() == 1);
     assert!(rt; first.lat() == 1000);
     assert!(rt; first.lon() == -100);
@@ -55,19 +50,28 @@ fn tagged(rt: &HostRuntime, keys_vals: &[u8]) -> Result<Vec<u8>, AllocError> {
 fn tags(rt: HostRuntime) -> Result<(), Fail> {
     let block = tagged(&rt, &[0x01, 0x02, 0x00, 0x00])?;
     let elements = read_block(rt.alloc(), &block)?;
-    let (first, second) = two(&elements).ok_or("two nodes")?;
+    assert!(rt; elements.len() == 2);
+    let (Element::Node(first), Element::Node(second)) = (&elements[0], &elements[1]) else {
+        return Err("another kind".into());
+    };
     assert!(rt; first.tags().len() == 1);
     assert!(rt; first.tags()[0].0 == "a");
     assert!(rt; first.tags()[0].1 == "b");
     assert!(rt; second.tags().is_empty());
     let block = tagged(&rt, &[0x00, 0x00])?;
     let elements = read_block(rt.alloc(), &block)?;
-    let (first, second) = two(&elements).ok_or("two nodes")?;
+    assert!(rt; elements.len() == 2);
+    let (Element::Node(first), Element::Node(second)) = (&elements[0], &elements[1]) else {
+        return Err("another kind".into());
+    };
     assert!(rt; first.tags().is_empty());
     assert!(rt; second.tags().is_empty());
     let block = tagged(&rt, &[])?;
     let elements = read_block(rt.alloc(), &block)?;
-    let (first, second) = two(&elements).ok_or("two nodes")?;
+    assert!(rt; elements.len() == 2);
+    let (Element::Node(first), Element::Node(second)) = (&elements[0], &elements[1]) else {
+        return Err("another kind".into());
+    };
     assert!(rt; first.tags().is_empty());
     assert!(rt; second.tags().is_empty());
     // No 0 behind the pair of the first node, and none for the second.
@@ -115,7 +119,10 @@ fn infos(rt: HostRuntime) -> Result<(), Fail> {
         0x02, 0x0E, 0x00, 0x2A, 0x02, 0x02, 0x00, 0x42, 0x02, 0x00, 0x00, 0x4A, 0x02, 0x00, 0x00,
     ];
     let elements = read_block(rt.alloc(), &block)?;
-    let (first, second) = two(&elements).ok_or("two nodes")?;
+    assert!(rt; elements.len() == 2);
+    let (Element::Node(first), Element::Node(second)) = (&elements[0], &elements[1]) else {
+        return Err("another kind".into());
+    };
     assert!(rt; first.info().version() == Some(1));
     assert!(rt; first.info().time() == Some(1000));
     assert!(rt; first.info().changeset() == Some(5));
@@ -133,7 +140,10 @@ fn infos(rt: HostRuntime) -> Result<(), Fail> {
         0x00, 0x4A, 0x02, 0x00, 0x00,
     ];
     let elements = read_block(rt.alloc(), &versions)?;
-    let (first, second) = two(&elements).ok_or("two nodes")?;
+    assert!(rt; elements.len() == 2);
+    let (Element::Node(first), Element::Node(second)) = (&elements[0], &elements[1]) else {
+        return Err("another kind".into());
+    };
     assert!(rt; first.info().version() == Some(3));
     assert!(rt; second.info().version().is_none());
     assert!(rt; first.info().time().is_none());
@@ -153,7 +163,10 @@ fn each_group_begins_at_0(rt: HostRuntime) -> Result<(), Fail> {
         0x01, 0x00, 0x12, 0x0B, 0x12, 0x09, 0x0A, 0x01, 0x02, 0x42, 0x01, 0x00, 0x4A, 0x01, 0x00,
     ];
     let elements = read_block(rt.alloc(), &block)?;
-    let (first, second) = two(&elements).ok_or("two nodes")?;
+    assert!(rt; elements.len() == 2);
+    let (Element::Node(first), Element::Node(second)) = (&elements[0], &elements[1]) else {
+        return Err("another kind".into());
+    };
     assert!(rt; first.id() == 1);
     assert!(rt; second.id() == 1);
     Ok(())
@@ -167,7 +180,10 @@ fn pieces_are_one_message(rt: HostRuntime) -> Result<(), Fail> {
         0x14, 0x01, 0x12, 0x04, 0x4A, 0x02, 0x01, 0x00,
     ];
     let elements = read_block(rt.alloc(), &block)?;
-    let (first, second) = two(&elements).ok_or("two nodes")?;
+    assert!(rt; elements.len() == 2);
+    let (Element::Node(first), Element::Node(second)) = (&elements[0], &elements[1]) else {
+        return Err("another kind".into());
+    };
     assert!(rt; first.id() == 1);
     assert!(rt; second.id() == 2);
     assert!(rt; second.lat() == 900);
