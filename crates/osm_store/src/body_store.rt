@@ -239,9 +239,9 @@ impl<S: Alter> Keeper for BodyStore<S> {
         self.failures
     }
 
-    ghost settled = { λ store held left holds may. leaves_held_alone (state S.Store store.connection) held holds (λ db there. S.settled store.connection.store db there) left may };
+    ghost settled = { λ store held left holds may. leaves_held_alone _ held holds (λ db there. S.settled store.connection.store db there) left may };
 
-    ghost leaves_held = { λ store held holds. leaves_held (state S.Store store.connection) held holds (λ db there. S.settled store.connection.store db there) };
+    ghost leaves_held = { λ store held holds. leaves_held _ held holds (λ db there. S.settled store.connection.store db there) };
 
     ghost is_apart = { λ store held holds. holds.kept.apart };
 }
