@@ -10,3 +10,8 @@ pub mod Runs
 pub mod Step
 pub mod Faults
 pub mod Pending
+pub mod Inlets
+pub mod Lines
+pub mod StopFaults
+pub mod Streams
+pub mod StreamSteps

@@ -10,6 +10,7 @@ mod fault;
 mod gap;
 pub mod laws;
 mod pending;
+mod stream;
 
 pub use answer::{Answer, Conflict};
 pub use deliveries::{Delivery, deliver_all, deliver_until_fault};
@@ -18,3 +19,4 @@ pub use examination::{ExamineFault, Good, examine};
 pub use export::{ExportFault, export_lines};
 pub use fault::Fault;
 pub use gap::gaps;
+pub use stream::{Inlet, Source, SourceFailed, Stop, StreamFault, Summary, import_stream};

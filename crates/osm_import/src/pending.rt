@@ -3,10 +3,10 @@
 ghost use Rattle.std.specs.Prelude.{◌≡◌, List, IfOk};
 ghost use Rattle.osm_value.specs.declared.element.Element.{Element as ElementValue};
 ghost use Rattle.osm_store.specs.Loading.{HasRowsOf};
-ghost use Rattle.osm_import.specs.Pending.{number_of, name_of};
+ghost use Rattle.osm_import.specs.Pending.{number_of, name_of, store_number_of, store_name_of};
 
 use osm_block::BlockFault;
-use osm_store::Loaded;
+use osm_store::{Loaded, StoreFault};
 use osm_value::Element;
 use std::alloc::{AllocError, Global};
 
@@ -60,5 +60,28 @@ pub fn block_name(fault: BlockFault) -> &'static str
         BlockFault::TagsUneven => "TagsUneven",
         BlockFault::BadMemberType => "BadMemberType",
         BlockFault::VisibleNotKnown => "VisibleNotKnown",
+    }
+}
+
+/// STAND-IN, to be replaced by `StoreFault::number`.
+pub fn store_number(fault: StoreFault) -> u8
+    ensures { result ≡ store_number_of fault }
+{
+    match fault {
+        StoreFault::NotThisStore(_) => 66,
+        _ => 65,
+    }
+}
+
+/// STAND-IN, to be replaced by `StoreFault::name`.
+pub fn store_name(fault: StoreFault) -> &'static str
+    ensures { result.now ≡ store_name_of fault }
+{
+    match fault {
+        StoreFault::Memory => "Memory",
+        StoreFault::Full => "Full",
+        StoreFault::Interrupted => "Interrupted",
+        StoreFault::Disk => "Disk",
+        StoreFault::NotThisStore(_) => "NotThisStore",
     }
 }
