@@ -2,8 +2,9 @@
 
 ghost use Rattle.std.specs.Prelude.{◌≡◌, IfOk, IfSome};
 
+use crate::fault::print_fault;
 use std::alloc::Global;
-use std::io::Read;
+use std::io::{Read, Write};
 
 /// Why an input was not read.
 #[derive(Clone, Copy, Debug, PartialEq, Eq)]
@@ -54,4 +55,12 @@ pub fn read_all<R: Read>(alloc: Global, input: &mut R) -> Result<Vec<u8>, InputF
         }
     }
     Err(InputFault::ReadFailed)
+}
+
+/// Writes the line of a fault of the whole input, and answers the exit status.
+pub fn refuse_input<W: Write>(fault: InputFault, out: &mut W) -> u8
+    ensures { result ≡ 1 }
+{
+    let _printed = print_fault(fault.number(), fault.name(), 0, out);
+    1
 }

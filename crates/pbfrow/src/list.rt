@@ -7,7 +7,7 @@ ghost use Rattle.pbfrow.specs.Listing.{Lists, hex_digit, byte_text, frame_line};
 ghost use Rattle.pbfrow.specs.Reading.{listing};
 
 use crate::fault::print_fault;
-use crate::input::read_all;
+use crate::input::{read_all, refuse_input};
 use pbf_frame::{Frame, read_frame};
 use std::alloc::Global;
 use std::io;
@@ -25,10 +25,7 @@ pub fn list<R: Read, W: Write>(alloc: Global, input: &mut R, out: &mut W) -> u8
             Ok(true) => 0,
             Ok(false) | Err(_) => 1,
         },
-        Err(fault) => {
-            let _printed = print_fault(fault.number(), fault.name(), 0, out);
-            1
-        }
+        Err(fault) => refuse_input(fault, out),
     }
 }
 
@@ -61,7 +58,8 @@ fn print_frame<W: Write>(at: u64, frame: &Frame, out: &mut W) -> io::Result<()>
     writeln!(out, " {size}")
 }
 
-fn print_type<W: Write>(type_name: &[u8], out: &mut W) -> io::Result<()>
+/// Writes a type; each byte below 33 or above 126, and `%`, is `%` and two upper-case hexadecimal digits.
+pub(crate) fn print_type<W: Write>(type_name: &[u8], out: &mut W) -> io::Result<()>
     ensures { OnOk result (Appends (W.contents out.old) (W.contents out.new) (flat_map byte_text type_name.now)) }
 {
     for byte in type_name {

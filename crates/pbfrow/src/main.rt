@@ -1,20 +1,25 @@
 //! The program pbfrow: reads and checks OpenStreetMap PBF files.
 #![tactic(auto)]
 
+mod blob;
+mod check;
 mod definition;
 mod element;
 mod fault;
 mod input;
 pub mod laws;
 mod list;
+mod show;
 mod words;
 
+use check::check;
 use clap::Error;
-use fault::print_fault;
-use input::InputFault;
+use input::{InputFault, refuse_input};
 use list::list;
+use show::show;
+use std::alloc::Global;
 use std::fs::File;
-use std::io::{BufWriter, Write};
+use std::io::{BufWriter, Read, Write};
 use std::process::ExitCode;
 use std::{env, io};
 use words::{Words, read_words};
@@ -59,7 +64,9 @@ fn refuse(rt: HostRuntime, error: Error) -> io::Result<u8> {
 
 fn run(rt: HostRuntime, words: Words) -> io::Result<u8> {
     match words {
-        Words::List { file } => run_list(rt, file),
+        Words::List { file } => run_on_file(rt, Reading::List, file),
+        Words::Check { file } => run_on_file(rt, Reading::Check, file),
+        Words::Show { file } => run_on_file(rt, Reading::Show, file),
         _ => {
             eprintln!(rt; "pbfrow: this command isn't built yet")?;
             Ok(BAD_WORDS)
@@ -67,23 +74,34 @@ fn run(rt: HostRuntime, words: Words) -> io::Result<u8> {
     }
 }
 
-fn run_list(rt: HostRuntime, file: Option<&str>) -> io::Result<u8> {
+/// The commands that read a PBF file and nothing else.
+#[derive(Clone, Copy, Debug, PartialEq, Eq)]
+enum Reading {
+    List,
+    Check,
+    Show,
+}
+
+/// Runs a command on the file, or where there is none on standard input.
+fn run_on_file(rt: HostRuntime, reading: Reading, file: Option<&str>) -> io::Result<u8> {
     let mut out = BufWriter::new(rt.alloc(), io::writer(&rt))?;
     let status = match file {
-        None => list(rt.alloc(), &mut rt.stdin(), &mut out),
+        None => read_with(rt.alloc(), reading, &mut rt.stdin(), &mut out),
         Some(name) => match File::open(&rt, name) {
-            Ok(mut file) => list(rt.alloc(), &mut file, &mut out),
-            Err(_) => print_input_fault(InputFault::ReadFailed, &mut out),
+            Ok(mut file) => read_with(rt.alloc(), reading, &mut file, &mut out),
+            Err(_) => refuse_input(InputFault::ReadFailed, &mut out),
         },
     };
     out.flush()?;
     Ok(status)
 }
 
-/// Writes the line of a fault of the whole input, and answers the exit status.
-fn print_input_fault<W: Write>(fault: InputFault, out: &mut W) -> u8 {
-    let _printed = print_fault(fault.number(), fault.name(), 0, out);
-    FAULTY
+fn read_with<R: Read, W: Write>(alloc: Global, reading: Reading, input: &mut R, out: &mut W) -> u8 {
+    match reading {
+        Reading::List => list(alloc, input, out),
+        Reading::Check => check(alloc, input, out),
+        Reading::Show => show(alloc, input, out),
+    }
 }
 
 #[cfg(test)]

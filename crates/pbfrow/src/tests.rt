@@ -1,2 +1,5 @@
+mod check;
 mod list;
+mod show;
+mod support;
 mod words;

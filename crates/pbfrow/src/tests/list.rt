@@ -1,42 +1,9 @@
+use super::support::{Breaking, Closed, TWO_NODES};
 use crate::list::list;
 use std::alloc::Global;
-use std::io;
-use std::io::{Cursor, Read, Write};
+use std::io::{Cursor, Read};
 use std::process::Abort;
 use std::test::*;
-
-/// A header frame of 47 bytes and a data frame of 37.
-const TWO_NODES: &[u8; 84] =
-    b"\x00\x00\x00\x0D\x0A\x09OSMHeader\x18\x1E\x0A\x1C\x22\x0EOsmSchema-V0.6\x22\x0ADenseNodes\x00\x00\x00\x0B\x0A\x07OSMData\x18\x16\x0A\x14\x0A\x02\x0A\x00\x12\x0E\x12\x0C\x0A\x02\x02\x02\x42\x02\x14\x01\x4A\x02\x01\x00";
-
-/// A reader that gives some bytes and then fails.
-#[derive(Drop)]
-struct Breaking<'a> {
-    given: &'a [u8],
-}
-
-impl Read for Breaking<'_> {
-    fn read(&mut self, buf: &mut [u8]) -> io::Result<usize> {
-        if self.given.is_empty() {
-            return Err(io::Error::from(io::ErrorKind::Interrupted));
-        }
-        self.given.read(buf)
-    }
-}
-
-/// A writer that takes nothing.
-#[derive(Drop)]
-struct Closed;
-
-impl Write for Closed {
-    fn write(&mut self, _buf: &[u8]) -> io::Result<usize> {
-        Err(io::Error::from(io::ErrorKind::BrokenPipe))
-    }
-
-    fn flush(&mut self) -> io::Result<()> {
-        Ok(())
-    }
-}
 
 fn expect_list<R: Read>(
     rt: &(impl Abort + Alloc<A = Global>),

@@ -1,0 +1,18 @@
+# Words that the program can't read, help, and the version.
+two=$top/data/two-nodes.osm.pbf
+nl='
+'
+expect "the version" 0 "pbfrow 0.1.0${nl}" --version
+for command in list check show import status export find; do
+  "$pbfrow" "$command" --help > help.txt
+  if [ $? = 0 ] && grep -q "^Exit status: 0" help.txt && grep -q "^  pbfrow $command " help.txt; then
+    pass "help of $command"
+  else
+    fail "help of $command"
+  fi
+done
+expect "an offset above 2^62" 2 "" import "$two" words.db --from 4611686018427387905
+expect "an element that can't be read" 2 "" find words.db x2
+expect "a form that isn't there" 2 "" export words.db --form xml
+expect "words of two commands" 2 "" status words.db --partial
+[ -e words.db ] && fail "words that can't be read touch no file" || pass "words that can't be read touch no file"
