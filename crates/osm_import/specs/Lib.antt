@@ -9,7 +9,6 @@ pub mod Histories
 pub mod Runs
 pub mod Step
 pub mod Faults
-pub mod Pending
 pub mod Inlets
 pub mod Lines
 pub mod StopFaults

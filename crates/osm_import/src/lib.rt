@@ -9,7 +9,6 @@ mod export;
 mod fault;
 mod gap;
 pub mod laws;
-mod pending;
 mod stream;
 
 pub use answer::{Answer, Conflict};

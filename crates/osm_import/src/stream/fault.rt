@@ -3,7 +3,6 @@
 ghost use Rattle.std.specs.Prelude.{◌≡◌};
 ghost use Rattle.osm_import.specs.StopFaults.{stop_number_of, stop_name_of};
 
-use crate::pending::{store_name, store_number};
 use osm_store::StoreFault;
 use pbf_frame::FrameFault;
 use thiserror::Error;
@@ -37,7 +36,7 @@ impl Stop {
             Stop::Frame(fault) => fault.number(),
             Stop::NoHeaderFirst => 61,
             Stop::WriteFailed => 24,
-            Stop::Store(fault) => store_number(fault),
+            Stop::Store(fault) => fault.number(),
             Stop::ReadFailed => 68,
             Stop::BlobLimit => 69,
         }
@@ -51,7 +50,7 @@ impl Stop {
             Stop::Frame(fault) => fault.name(),
             Stop::NoHeaderFirst => "NoHeaderFirst",
             Stop::WriteFailed => "WriteFailed",
-            Stop::Store(fault) => store_name(fault),
+            Stop::Store(fault) => fault.name(),
             Stop::ReadFailed => "ReadFailed",
             Stop::BlobLimit => "BlobLimit",
         }
