@@ -7,7 +7,7 @@ use Rattle.pbf_wire.specs.declared.fault.WireFault.{WireFault}
 use Rattle.osm_value.specs.declared.element.Element.{Element}
 use Rattle.osm_block.specs.declared.fault.BlockFault.TheVariants as faults
 use Rattle.pbf_wire.specs.Readings.{fields, wire}
-use Rattle.osm_block.specs.Message.{Context, Message, Plain, Way, Relation, wires, messages, node_message, way_message, relation_message, context}
+use Rattle.osm_block.specs.Message.{Context, Message, Plain, Dense, Way, Relation, wires, messages, node_message, way_message, relation_message, context}
 use Rattle.pbf_wire.specs.Readings.{each}
 use Rattle.osm_block.specs.Block.{Block, Joins, GroupOf, kinds_in}
 use Rattle.osm_value.specs.Ranges.{IsText}
@@ -20,6 +20,7 @@ use Rattle.osm_block.proofs.BlockLemmas.{split, groups_phases}
 use Rattle.osm_block.proofs.NodeComplete.{NodeOf-no_phase}
 use Rattle.osm_block.proofs.WayComplete.{WayOf-no_phase}
 use Rattle.osm_block.proofs.RelationComplete.{RelationOf-no_phase}
+use Rattle.osm_block.proofs.DenseComplete.{dense_none}
 
 pub wires_none : (ws : List (Option WireFault)) → AllByRecursion IsNone ws → first (wire_phases ws) ≡ None
 wires_none [] h = refl
@@ -91,3 +92,15 @@ unfolding fault
 block_none w es none h =
     ap first (split w) ∙ first-append_none (head_phases w) (groups_phases w) (head_none w es h)
     ∙ joins_none (GroupOf (context (fields w))) (group_phases (context (fields w))) (group_none (context (fields w)) none) es (each (fields w) 2) h.elements_are
+
+-- ---- every message, and so the block
+
+pub message_none : (b : Context) (es : List Element) (m : Message) → Says b es m → first (message_phases b m) ≡ None
+message_none b es (Plain p) h = node_none b es p h
+message_none b es (Dense ps) h = dense_none b es ps h (wires_none (wires (Dense ps)) h.0)
+message_none b es (Way p) h = way_none b es p h
+message_none b es (Relation p) h = relation_none b es p h
+
+-- a block that says elements has no fault
+pub no_fault : (es : List Element) (w : List ℕ) → Block es w → fault w ≡ None
+no_fault es w says = block_none w es (message_none (context (fields w))) says

@@ -1,9 +1,10 @@
 //! What holds of the definitions, over all inputs.
 
-ghost use Rattle.std.specs.Prelude.{◌≡◌, ℕ, ℤ, List};
+ghost use Rattle.std.specs.Prelude.{◌≡◌, ℕ, ℤ, List, None};
 ghost use Rattle.osm_value.specs.declared.element.Element.{Element};
 ghost use Rattle.osm_block.specs.Block.{Block};
 ghost use Rattle.osm_block.specs.Differences.{Diff};
+ghost use Rattle.osm_block.specs.Phases.{fault};
 
 /// A block says one list of elements.
 pub fn one_list_of_elements()
@@ -13,4 +14,9 @@ pub fn one_list_of_elements()
 /// Differences are those of one list of numbers.
 pub fn one_list_of_numbers()
     ensures { (us vs ds : List ℤ) → Diff us ds → Diff vs ds → us ≡ vs }
+{}
+
+/// A block that says some elements has no fault.
+pub fn elements_or_a_fault()
+    ensures { (es : List Element) (w : List ℕ) → Block es w → fault w ≡ None }
 {}
