@@ -16,3 +16,4 @@ pub mod Moves
 pub mod StreamLists
 pub mod StreamTakes
 pub mod StreamLemmas
+pub mod StreamFiles

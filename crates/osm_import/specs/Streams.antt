@@ -8,7 +8,8 @@ use Rattle.osm_store.specs.Held.{HeldMap}
 use Rattle.osm_store.specs.declared.fault.StoreFault.{StoreFault}
 use Rattle.osm_store.specs.declared.fault.StoreFault.TheVariants.{Memory}
 use Rattle.osm_import.specs.Good.{IsFrame}
-use Rattle.osm_import.specs.Files.{AreFrames, joined}
+use Rattle.osm_import.specs.Files.{AreFrames, joined, IsFile, IsHeldOfFile}
+use Rattle.osm_import.specs.Gaps.{Tiles}
 use Rattle.osm_import.specs.Deliveries.{DeliveryValue}
 use Rattle.osm_import.specs.Exports.{Known}
 use Rattle.osm_import.specs.Step.{Delivers, CrashLeaves, FaultHasCause, HasCause, IsOwn}
@@ -161,3 +162,8 @@ pub record Stops (from limit : ℕ) (left_old left_new written_old written_new :
 abbrev pub Streams : ℕ → ℕ → Known → Known → Known → Known → Bool → Bool → (List DeliveryValue → List Answer → Type 0) → Result Summary StreamFault → Type 0
 Streams from limit left_old left_new written_old written_new source_failed sink_failed Took (Ok summary) = EndsWell from limit left_old left_new written_old written_new Took summary
 Streams from limit left_old left_new written_old written_new source_failed sink_failed Took (Err stop) = Stops from limit left_old left_new written_old written_new source_failed sink_failed Took stop
+
+-- the bytes are a file; and where nothing but entries of it was held and no blob was bad, what is held now tiles it
+abbrev pub ImportsFile : (HeldMap → Type 0) → List ℕ → HeldMap → Summary → Type 0
+ImportsFile holds file start summary = (frames : List (List ℕ)) × IsFile file frames
+    × (IsHeldOfFile frames start → summary.bad ≡ 0 → (held : HeldMap) × holds held × Tiles held (length file) × IsHeldOfFile frames held)

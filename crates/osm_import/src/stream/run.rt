@@ -1,8 +1,9 @@
 //! The run over a stream.
 
-ghost use Rattle.std.specs.Prelude.{◌≡◌, ◌≤◌, ◌<◌, ◌+◌, ◌^◌, []};
+ghost use Rattle.std.specs.Prelude.{◌≡◌, ◌≤◌, ◌<◌, ◌+◌, [], ℕ, List, Some, IfOk};
 ghost use Rattle.std.specs.Io.KnownBytes.{prepend_known};
-ghost use Rattle.osm_import.specs.Streams.{Streams, Takes, TakesOne, ended_at};
+ghost use Rattle.osm_store.specs.Held.{HeldMap};
+ghost use Rattle.osm_import.specs.Streams.{Streams, Takes, TakesOne, ended_at, ImportsFile};
 ghost use Rattle.osm_import.specs.StreamSteps.{FrameStep, Gave};
 
 use super::fault::{Stop, StreamFault};
@@ -96,17 +97,8 @@ fn ended(from: u64, summary: Summary) -> Result<Summary, StreamFault>
     Ok(summary)
 }
 
-/// Imports the frames of a reader that stands at the offset `from`, each with one line: `OFFSET stored COUNT`,
-/// `OFFSET held`, or `fault NUMBER NAME at OFFSET` for a blob that is bad or refused, and goes on. At `Ok` nothing is
-/// left in the reader. It stops, with the offset of the frame that was being read or delivered:
-///
-/// - at a fault of a frame, and with `NoHeaderFirst` where the input is empty and `from` is 0;
-/// - with `Store` where a call of the store has failed or memory was refused, and with no line for that frame;
-/// - with `WriteFailed` where the output has failed, and with `ReadFailed` where the reader has;
-/// - with `BlobLimit` where `max_blobs` frames were delivered and a further byte came.
-///
-/// The blobs that were answered before a stop stay.
-pub fn import_stream<K: Keeper, R: Source, S: Sink>(
+/// The same as `import_stream`.
+fn import_all<K: Keeper, R: Source, S: Sink>(
     alloc: Global,
     keeper: &mut K,
     reader: &mut R,
@@ -155,4 +147,34 @@ pub fn import_stream<K: Keeper, R: Source, S: Sink>(
             at: summary.next,
         }),
     }
+}
+
+/// Imports the frames of a reader that stands at the offset `from`, each with one line: `OFFSET stored COUNT`,
+/// `OFFSET held`, or `fault NUMBER NAME at OFFSET` for a blob that is bad or refused, and goes on. At `Ok` nothing is
+/// left in the reader. It stops, with the offset of the frame that was being read or delivered:
+///
+/// - at a fault of a frame, and with `NoHeaderFirst` where the input is empty and `from` is 0;
+/// - with `Store` where a call of the store has failed or memory was refused, and with no line for that frame;
+/// - with `WriteFailed` where the output has failed, and with `ReadFailed` where the reader has;
+/// - with `BlobLimit` where `max_blobs` frames were delivered and a further byte came.
+///
+/// The blobs that were answered before a stop stay.
+///
+/// Over the bytes of a whole reader, from 0, `Ok` says that they are a file; and where the store held nothing but entries
+/// of that file and no blob was bad, what it holds now tiles the file.
+pub fn import_stream<K: Keeper, R: Source, S: Sink>(
+    alloc: Global,
+    keeper: &mut K,
+    reader: &mut R,
+    from: u64,
+    max_blobs: u32,
+    out: &mut S,
+) -> Result<Summary, StreamFault>
+    requires { from ≤ 4611686018427387904 }
+    ensures streams { Streams from max_blobs (R.bytes_left reader.old) (R.bytes_left reader.new) (S.written out.old) (S.written out.new) (R.has_failed reader.new) (S.has_failed out.new)
+        (λ deliveries answers. Takes K.holds K.leaves K.leaves_a_map K.is_honest K.is_open K.failures keeper.old keeper.new deliveries answers) result }
+    ensures one_file { (file : List ℕ) (held : HeldMap) → R.bytes_left reader.old ≡ Some file → from ≡ 0 → K.holds keeper.old held → K.is_honest keeper.new
+        → IfOk result (λ summary. ImportsFile (K.holds keeper.new) file held summary) }
+{
+    import_all(alloc, keeper, reader, from, max_blobs, out)
 }

@@ -1,7 +1,7 @@
 use Rattle.std.specs.Io.KnownBytes.{prepend_known}
 use Rattle.osm_import.specs.Streams.{Takes}
 use Rattle.osm_import.proofs.StreamLemmas.{InStream}
-use Rattle.osm_import.proofs.stream.run.import_stream.Given as goal
+use Rattle.osm_import.proofs.stream.run.import_all.Given as goal
 
 abbrev pub invariant-loop-blobs : goal.invariant-loop-blobs
 invariant-loop-blobs g l =
