@@ -21,3 +21,4 @@ pub mod GroupRead
 pub mod BlockRead
 pub mod Bounds
 pub mod HeaderRead
+pub mod TextsFew

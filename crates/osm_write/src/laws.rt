@@ -1,7 +1,8 @@
 //! What the canonical block promises to its readers: theorems, with no code.
 
-ghost use Rattle.std.specs.Prelude.{◌≤◌, List, length};
+ghost use Rattle.std.specs.Prelude.{ℕ, ◌≤◌, List, length};
 ghost use Rattle.osm_value.specs.declared.element.Element.{Element};
+ghost use Rattle.osm_block.specs.Block.{Block};
 ghost use Rattle.osm_write.specs.Canon.{canon};
 ghost use Rattle.osm_write.specs.Laws.{ReadsBack, IsReadOnly, FewTexts};
 
@@ -20,4 +21,9 @@ pub fn canonical_block_says_one_list()
 /// two bytes or more.
 pub fn block_that_fits_has_few_texts()
     ensures { (es : List Element) → length (canon es) ≤ 33554431 → FewTexts es }
+{}
+
+/// So does each list that is read from a raw payload.
+pub fn list_that_is_read_has_few_texts()
+    ensures { (es : List Element) (w : List ℕ) → Block es w → length w ≤ 33554431 → FewTexts es }
 {}

@@ -5,6 +5,8 @@ ghost use Rattle.pbf_frame.specs.declared.fault.FrameFault.{FrameFault};
 ghost use Rattle.pbf_frame.specs.declared.fault.FrameFault.TheVariants.{Trailing};
 ghost use Rattle.pbf_frame.specs.declared.blob.BlobFault.{BlobFault};
 ghost use Rattle.pbf_frame.specs.Write.{blob_bytes, frame_bytes};
+ghost use Rattle.pbf_frame.specs.Fault.{number_of};
+ghost use Rattle.pbf_frame.specs.Parts.{EndsTooFar};
 ghost use Rattle.pbf_frame.specs.Framer.{Framing, FrameWaits, FaultStands, ended, fed, let_go, taken, waiting};
 ghost use Rattle.pbf_frame.specs.Blob.{Raw, IsBlobFault, raw_at};
 ghost use Rattle.pbf_frame.specs.Frame.{Frame, FirstFault, Stands, Found, found_at, frame_at, whole_at};
@@ -60,6 +62,8 @@ pub fn frame_waits()
 pub fn fault_stands()
     ensures stands { (f : Framing) (fault : FrameFault) → FaultStands fault f → waiting f ≡ Err fault }
     ensures read { (f : Framing) (fault : FrameFault) → waiting f ≡ Err fault → FaultStands fault f }
+    // Where a frame would end too far, no fault of its length, its header or its datasize stands.
+    ensures last { (offset : ℕ) (w : List ℕ) (fault : FrameFault) → EndsTooFar offset w → number_of fault < 18 → Stands fault w → ⊥ }
 {}
 
 /// A fault that stands in a framer stays: nothing more is taken, and each later call answers it again.
