@@ -17,6 +17,7 @@ use Rattle.pbf_frame.proofs.BlobLaws.{raw_takes, raw_again, blob_faults, blob_fa
 use Rattle.osm_block.specs.declared.fault.BlockFault.{BlockFault}
 use Rattle.osm_block.specs.Block.{Block}
 use Rattle.osm_block.proofs.UniqueDense.{Block-unique}
+use Rattle.osm_block.proofs.Complete.{no_fault}
 use Rattle.osm_block.specs.Phases.{fault as block_fault}
 use Rattle.osm_block.specs.declared.header.fault.HeaderFault.{HeaderFault}
 use Rattle.osm_block.specs.HeaderBlock.{header_fault}
@@ -146,7 +147,7 @@ header-none blob block None r h e = ([], (block, r, h, refl))
 header-none blob block (Some fault) r h e = absurd cc
 
 block-none : FaultlessBlocksSay → (blob block : List ℕ) (o : Option BlockFault) → Raw blob block → block_fault block ≡ o → option_map faults.Block o ≡ None → HasSome OsmData blob
-block-none say blob block None r h e = let it = say block h in (it.0, (block, r, it.1, h))
+block-none say blob block None r h e = let it = say block h in (it.0, (block, r, it.1))
 block-none say blob block (Some fault) r h e = absurd cc
 
 header-content : (blob : List ℕ) (r : Result (List ℕ) BlobFault) → raw_at blob ≡ r → raw_then of_header r ≡ None → HasSome OsmHeader blob
@@ -186,7 +187,7 @@ content-some OsmData blob fault e = block-faults blob fault (raw_at blob) refl e
 has-content : (kind : Kind) (blob : List ℕ) (es : List Element) → HasElements kind blob es → content kind blob ≡ None
 has-content Other blob es h = refl
 has-content OsmHeader blob es h = ap (raw_then of_header) (raw_again blob h.0 h.1) ∙ ap (option_map faults.Header) h.2
-has-content OsmData blob es h = ap (raw_then of_block) (raw_again blob h.0 h.1) ∙ ap (option_map faults.Block) h.3
+has-content OsmData blob es h = ap (raw_then of_block) (raw_again blob h.0 h.1) ∙ ap (option_map faults.Block) (no_fault es h.0 h.2)
 
 blob-content : (kind : Kind) (blob : List ℕ) (other : BlobFault) → kind ≢ Other → IsBlobFault other blob → content kind blob ≡ Some (faults.Blob other)
 blob-content Other blob other some h = absurd (some refl)

@@ -10,3 +10,10 @@ pub mod RunsLemmas
 pub mod StepLaws
 pub mod Touching
 pub mod WritingLemmas
+pub mod AnswerLines
+pub mod FrameLemmas
+pub mod Moves
+pub mod StreamLists
+pub mod StreamTakes
+pub mod StreamLemmas
+pub mod StreamFiles

@@ -2,7 +2,7 @@
 use Rattle.std.specs.Prelude.{ℕ, List, codes}
 use Rattle.pbf_frame.specs.Fault as frames
 use Rattle.osm_block.specs.HeaderBlock as headers
-use Rattle.osm_import.specs.Pending as blocks
+use Rattle.osm_block.specs.Fault as blocks
 use Rattle.osm_import.specs.declared.fault.Fault.{Fault}
 use Rattle.osm_import.specs.declared.fault.Fault.TheVariants.{Frame, NoHeaderFirst, HeaderNotFirst, Blob, Header, Block}
 use Rattle.osm_import.specs.declared.answer.Conflict.{Conflict}

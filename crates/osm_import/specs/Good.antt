@@ -19,10 +19,10 @@ pub record IsPlaced (off : ℕ) (type blob w : List ℕ) : Type 0 where
   pub limit : off + length w ≤ 2 ^ 62
   pub header_first : (off ≡ 0) ↔ (kind_of type ≡ OsmHeader)
 
--- the elements of a blob of that kind: those of an OSMData's block, in which no fault stands; none of an OSMHeader, whose header block
+-- the elements of a blob of that kind: those of an OSMData's block; none of an OSMHeader, whose header block
 -- has no fault; and none of another kind, whose blob isn't read
 abbrev pub HasElements : Kind → List ℕ → List Element → Type 0
-HasElements OsmData blob es = (block : List ℕ) × Raw blob block × Block es block × (fault block ≡ None)
+HasElements OsmData blob es = (block : List ℕ) × Raw blob block × Block es block
 HasElements OsmHeader blob es = (block : List ℕ) × Raw blob block × (header_fault block ≡ None) × (es ≡ [])
 HasElements Other blob es = es ≡ []
 

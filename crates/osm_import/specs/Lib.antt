@@ -9,4 +9,8 @@ pub mod Histories
 pub mod Runs
 pub mod Step
 pub mod Faults
-pub mod Pending
+pub mod Inlets
+pub mod Lines
+pub mod StopFaults
+pub mod Streams
+pub mod StreamSteps

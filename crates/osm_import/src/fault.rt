@@ -3,7 +3,6 @@
 ghost use Rattle.std.specs.Prelude.{◌≡◌};
 ghost use Rattle.osm_import.specs.Faults.{number_of, name_of};
 
-use crate::pending::{block_name, block_number};
 use osm_block::{BlockFault, HeaderFault};
 use pbf_frame::{BlobFault, FrameFault};
 use thiserror::Error;
@@ -22,7 +21,7 @@ pub enum Fault {
     Blob(BlobFault),
     #[error("{0}")]
     Header(HeaderFault),
-    #[error("{0:?}")]
+    #[error("{0}")]
     Block(BlockFault),
 }
 
@@ -37,7 +36,7 @@ impl Fault {
             Fault::HeaderNotFirst => 62,
             Fault::Blob(fault) => fault.number(),
             Fault::Header(fault) => fault.number(),
-            Fault::Block(fault) => block_number(fault),
+            Fault::Block(fault) => fault.number(),
         }
     }
 
@@ -51,7 +50,7 @@ impl Fault {
             Fault::HeaderNotFirst => "HeaderNotFirst",
             Fault::Blob(fault) => fault.name(),
             Fault::Header(fault) => fault.name(),
-            Fault::Block(fault) => block_name(fault),
+            Fault::Block(fault) => fault.name(),
         }
     }
 }

@@ -9,7 +9,7 @@ mod export;
 mod fault;
 mod gap;
 pub mod laws;
-mod pending;
+mod stream;
 
 pub use answer::{Answer, Conflict};
 pub use deliveries::{Delivery, deliver_all, deliver_until_fault};
@@ -18,3 +18,4 @@ pub use examination::{ExamineFault, Good, examine};
 pub use export::{ExportFault, export_lines};
 pub use fault::Fault;
 pub use gap::gaps;
+pub use stream::{Inlet, Source, SourceFailed, Stop, StreamFault, Summary, import_stream};

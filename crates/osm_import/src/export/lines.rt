@@ -13,7 +13,6 @@ ghost use Rattle.osm_import.specs.ExportCauses.{ExportHasCause, ExportIsOwn};
 
 use super::ExportFault;
 use super::refusal::refused;
-use crate::pending::elements_of;
 use osm_store::{Extent, Keeper, StoreFault};
 use osm_value::{Element, LineFault, Sink, write_line};
 use std::alloc::Global;
@@ -50,7 +49,7 @@ fn write_blob<K: Keeper, S: Sink>(
         Ok(loaded) => loaded,
         Err(fault) => return Err(ExportFault::Store(fault)),
     };
-    let elements = match elements_of(alloc, &loaded) {
+    let elements = match loaded.elements(alloc) {
         Ok(elements) => elements,
         Err(_) => return Err(ExportFault::Store(StoreFault::Memory)),
     };

@@ -7,7 +7,7 @@ returns-in-Err-clause-err c = ((λ (e : OsmData ≡ Other). cc), c.in-Err.ensure
 
 pub returns-in-Ok-read_block-clause-ok : goal.returns-in-Ok-read_block-clause-ok
 returns-in-Ok-read_block-clause-ok c =
-    (c.in-Ok.block.now, c.in-Ok.ensures.payload, c.in-Ok-read_block.ensures.1, c.in-Ok-read_block.ensures.0)
+    (c.in-Ok.block.now, c.in-Ok.ensures.payload, c.in-Ok-read_block.ensures.1)
 
 pub returns-in-Err-Fault-clause-err : goal.returns-in-Err-Fault-clause-err
 returns-in-Err-Fault-clause-err c =

@@ -1,0 +1,172 @@
+-- A stream that ended well, over the bytes of a file.
+use Rattle.std.proofs.Common.{◌≡◌, ◌≢◌, ◌⊎◌, ℕ, ◌+◌, ◌<◌, ◌≤◌, List, [], ◌∷◌, ◌++◌, length, Bool, Option, Some, None, Result, Ok, Err, refl, sym, ap, subst, ◌∙◌, inl, inr, arith, append-nil, length-append}
+use Rattle.std.specs.Prelude.{IfOk}
+use Rattle.std.specs.FinMap.{get}
+use Rattle.std.proofs.lemmas.Bool.{cases_lt}
+use Rattle.std.specs.Io.KnownBytes.{Consumes, IsAtEnd}
+use Rattle.osm_store.specs.Held.{Blob, HeldMap}
+use Rattle.osm_store.specs.HeldLaws.{get-insert_here}
+use Rattle.osm_import.specs.Deliveries.{DeliveryValue}
+use Rattle.osm_import.specs.Files.{AreFrames, joined, IsFile, StandsAt, IsFrameAt, AreOfFile, IsHeldOfFile}
+use Rattle.osm_import.specs.Gaps.{AreGaps, IsCovered, Tiles}
+use Rattle.osm_import.specs.Step.{IsStep, IsEntry}
+use Rattle.osm_import.specs.Runs.{IsRun, Runs, IsFault, IsRefused, IsNone}
+use Rattle.osm_import.specs.Exports.{Known}
+use Rattle.osm_import.specs.Streams.{Reply, frames_of, answers_of, deliveries_at, counted, summary_from, nothing_at, EndsWell, Streams, ImportsFile}
+use Rattle.osm_import.specs.declared.answer.Answer.{Answer}
+use Rattle.osm_import.specs.declared.answer.Answer.TheVariants.{Stored, AlreadyHeld, Bad, Refused, Fault}
+use Rattle.osm_import.specs.declared.stream.summary.Summary.{Summary}
+use Rattle.osm_import.specs.declared.stream.fault.StreamFault.{StreamFault}
+use Rattle.osm_import.proofs.FilesLemmas.{stands-from, stands-same}
+use Rattle.osm_import.proofs.GoodLaws.{frame-filled}
+use Rattle.osm_import.proofs.RunsLemmas.{run-keep, run-imports}
+
+-- ---- the input was a file
+
+all-read : (file : List ℕ) (left : Known) (x : List ℕ) → Consumes (Some file) left x → IsAtEnd left → file ≡ x
+all-read file None x read end = absurd read
+all-read file (Some ys) x read end = read ∙ ap (λ (v : List ℕ). x ++ v) end ∙ append-nil x
+
+no-replies : (rs : List Reply) → frames_of rs ≡ [] → rs ≡ []
+no-replies [] e = refl
+no-replies (r ∷ rs) e = absurd cc
+
+pub stream-file : (limit : ℕ) (file : List ℕ) (left written_old written_new : Known) (Took : List DeliveryValue → List Answer → Type 0) (summary : Summary) → (end : EndsWell 0 limit (Some file) left written_old written_new Took summary)
+    → IsFile file (frames_of end.replies)
+stream-file limit file left written_old written_new Took summary end = record {
+  some = λ none. end.some refl (no-replies end.replies none);
+  whole = end.frames;
+  is_joined = all-read file left (joined (frames_of end.replies)) end.read end.ended;
+}
+
+-- ---- and its frames were delivered at their offsets
+
+of-file : (frames : List (List ℕ)) (off : ℕ) (rs : List Reply) → ((o : ℕ) (w : List ℕ) → StandsAt off (frames_of rs) o w → IsFrameAt frames o w) → AreOfFile frames (deliveries_at off rs)
+of-file frames off [] stands = tt
+of-file frames off (r ∷ rs) stands = (stands off r.0 (inl (refl, refl)), of-file frames (off + length r.0) rs (λ o w later. stands o w (inr later)))
+
+-- ---- each frame is held
+
+-- stored or held already
+abbrev IsKept : Answer → Type 0
+IsKept (Stored count) = Unit {0}
+IsKept AlreadyHeld = Unit {0}
+IsKept _ = ⊥
+
+abbrev AreKept : List Reply → Type 0
+AreKept [] = Unit {0}
+AreKept (r ∷ rs) = IsKept r.1 × AreKept rs
+
+bad-grows : (s : Summary) (off : ℕ) (rs : List Reply) → s.bad ≤ (summary_from s off rs).bad
+bad-grows s off [] = omega arith
+bad-grows s off ((w, Stored count) ∷ rs) = bad-grows (record s { stored = s.stored + 1; next = off + length w }) (off + length w) rs
+bad-grows s off ((w, AlreadyHeld) ∷ rs) = bad-grows (record s { held = s.held + 1; next = off + length w }) (off + length w) rs
+bad-grows s off ((w, Bad fault) ∷ rs) = let h : s.bad + 1 ≤ (summary_from (counted s (Bad fault) (off + length w)) (off + length w) rs).bad = bad-grows (counted s (Bad fault) (off + length w)) (off + length w) rs in omega arith
+bad-grows s off ((w, Refused conflict) ∷ rs) = bad-grows (record s { refused = s.refused + 1; next = off + length w }) (off + length w) rs
+bad-grows s off ((w, Fault fault) ∷ rs) = bad-grows s (off + length w) rs
+
+all-kept : (s : Summary) (off : ℕ) (rs : List Reply) → IsNone IsFault (answers_of rs) → IsNone IsRefused (answers_of rs) → (summary_from s off rs).bad ≡ 0 → AreKept rs
+all-kept s off [] sound unrefused none = tt
+all-kept s off ((w, Stored count) ∷ rs) sound unrefused none = (tt, all-kept (counted s (Stored count) (off + length w)) (off + length w) rs sound.1 unrefused.1 none)
+all-kept s off ((w, AlreadyHeld) ∷ rs) sound unrefused none = (tt, all-kept (counted s AlreadyHeld (off + length w)) (off + length w) rs sound.1 unrefused.1 none)
+all-kept s off ((w, Bad fault) ∷ rs) sound unrefused none =
+    let h : s.bad + 1 ≤ (summary_from (counted s (Bad fault) (off + length w)) (off + length w) rs).bad = bad-grows (counted s (Bad fault) (off + length w)) (off + length w) rs in absurd (omega arith)
+all-kept s off ((w, Refused conflict) ∷ rs) sound unrefused none = absurd (unrefused.0 tt)
+all-kept s off ((w, Fault fault) ∷ rs) sound unrefused none = absurd (sound.0 tt)
+
+kept-step : (held : HeldMap) (off : ℕ) (w : List ℕ) (a : Answer) (next : HeldMap) → IsKept a → IsStep held off w a next → (blob : Blob) × (get next off ≡ Some blob)
+kept-step held off w (Stored count) next kept step = (step.entry, ap (λ (m : HeldMap). get m off) step.added ∙ get-insert_here held off step.entry)
+kept-step held off w AlreadyHeld next kept step = (step.0.blob, ap (λ (m : HeldMap). get m off) step.1 ∙ step.0.found)
+kept-step held off w (Bad fault) next kept step = absurd kept
+kept-step held off w (Refused conflict) next kept step = absurd kept
+kept-step held off w (Fault fault) next kept step = absurd kept
+
+frame-held : (off : ℕ) (rs : List Reply) (held after : HeldMap) → IsRun held (deliveries_at off rs) (answers_of rs) after → AreKept rs → (o : ℕ) (w : List ℕ) → StandsAt off (frames_of rs) o w → (blob : Blob) × (get after o ≡ Some blob)
+frame-held off [] held after run kept o w stands = absurd stands
+frame-held off (r ∷ rs) held after run kept o w stands = elim stands [
+  | inl (here, _) ↦
+      (let it = kept-step held off r.0 r.1 run.0 kept.0 run.1 in
+        (it.0, ap (get after) here ∙ run-keep run.0 (deliveries_at (off + length r.0) rs) (answers_of rs) after run.2 off it.0 it.1))
+  | inr later ↦ frame-held (off + length r.0) rs run.0 after run.2 kept.1 o w later
+]
+
+-- ---- each byte is covered
+
+-- the frame that has the byte
+record HasByte (start : ℕ) (frames : List (List ℕ)) (byte : ℕ) : Type 0 where
+  pub off : ℕ
+  pub frame : List ℕ
+  pub stands : StandsAt start frames off frame
+  pub from : off ≤ byte
+  pub to : byte < off + length frame
+
+byte-in : (start : ℕ) (frames : List (List ℕ)) (byte : ℕ) → start ≤ byte → byte < start + length (joined frames) → HasByte start frames byte
+byte-in start [] byte low high = absurd (omega arith)
+byte-in start (w ∷ ws) byte low high =
+    let both : length (w ++ joined ws) ≡ length w + length (joined ws) = length-append w (joined ws) in
+    elim (cases_lt byte (start + length w)) [
+      | inl inside ↦ record { off = start; frame = w; stands = inl (refl, refl); from = low; to = inside }
+      | inr behind ↦ (let it = byte-in (start + length w) ws byte behind (omega arith) in record { off = it.off; frame = it.frame; stands = inr it.stands; from = it.from; to = it.to })
+    ]
+
+stands-within : (start : ℕ) (frames : List (List ℕ)) (off : ℕ) (w : List ℕ) → StandsAt start frames off w → off + length w ≤ start + length (joined frames)
+stands-within start [] off w stands = absurd stands
+stands-within start (x ∷ ws) off w stands =
+    let both : length (x ++ joined ws) ≡ length x + length (joined ws) = length-append x (joined ws) in
+    elim stands [
+      | inl (here, same) ↦ omega (arith, ap length same)
+      | inr later ↦ (let h : off + length w ≤ start + length x + length (joined ws) = stands-within (start + length x) ws off w later in omega arith)
+    ]
+
+entry-ends : (frames : List (List ℕ)) → AreFrames frames → (after : HeldMap) → IsHeldOfFile frames after → (off : ℕ) (w : List ℕ) (blob : Blob) → IsFrameAt frames off w → get after off ≡ Some blob → blob.fin ≡ off + length w
+entry-ends frames whole after of_file off w blob stands found =
+    let it = of_file off blob found in
+    it.2.ends ∙ ap (λ (v : List ℕ). off + length v) (stands-same 0 frames whole off it.0 w it.1 stands)
+
+covers : (frames : List (List ℕ)) → AreFrames frames → (after : HeldMap) → IsHeldOfFile frames after → ((o : ℕ) (w : List ℕ) → IsFrameAt frames o w → (blob : Blob) × (get after o ≡ Some blob))
+    → (byte : ℕ) → byte < length (joined frames) → IsCovered after byte
+covers frames whole after of_file all byte high =
+    let it = byte-in 0 frames byte (omega arith) (omega arith) in
+    let blob = all it.off it.frame it.stands in
+    let ends : blob.0.fin ≡ it.off + length it.frame = entry-ends frames whole after of_file it.off it.frame blob.0 it.stands blob.1 in
+    record { at = it.off; blob = blob.0; found = blob.1; starts = it.from; ends = subst (λ n. byte < n) (sym ends) it.to }
+
+first-held : (frames : List (List ℕ)) (after : HeldMap) → frames ≢ [] → ((o : ℕ) (w : List ℕ) → IsFrameAt frames o w → (blob : Blob) × (get after o ≡ Some blob)) → (at : ℕ) × (blob : Blob) × (get after at ≡ Some blob)
+first-held [] after some all = absurd (some refl)
+first-held (w ∷ ws) after some all = let it = all 0 w (inl (refl, refl)) in (0, it.0, it.1)
+
+pub stream-tiles : (limit : ℕ) (file : List ℕ) (left written_old written_new : Known) (Took : List DeliveryValue → List Answer → Type 0) (summary : Summary) (start after : HeldMap) → (end : EndsWell 0 limit (Some file) left written_old written_new Took summary)
+    → IsHeldOfFile (frames_of end.replies) start → IsRun start (deliveries_at 0 end.replies) (answers_of end.replies) after → summary.bad ≡ 0
+    → Tiles after (length file) × IsHeldOfFile (frames_of end.replies) after
+stream-tiles limit file left written_old written_new Took summary start after end of_file run none =
+    let frames : List (List ℕ) = frames_of end.replies in
+    let is_file = stream-file limit file left written_old written_new Took summary end in
+    let import = run-imports frames end.frames start (deliveries_at 0 end.replies) (answers_of end.replies) after run (of-file frames 0 end.replies (λ o w stands. stands)) of_file in
+    let kept = all-kept (nothing_at 0) 0 end.replies end.answered import.unrefused (sym (ap (λ (s : Summary). s.bad) end.sums) ∙ none) in
+    let all = frame-held 0 end.replies start after run kept in
+    let size : length file ≡ length (joined frames) = ap length is_file.is_joined in
+    (
+      record {
+        some = first-held frames after is_file.some all;
+        whole = record {
+          ranges = tt;
+          all = λ byte low. inl (covers frames end.frames after import.of_file all byte (omega arith));
+          only = λ byte in_range covered. in_range;
+        };
+        within = λ at blob found.
+            (let it = import.of_file at blob found in
+              let fits : at + length it.0 ≤ 0 + length (joined frames) = stands-within 0 frames at it.0 it.1 in
+              let ends = it.2.ends in omega arith);
+      },
+      import.of_file,
+    )
+
+pub stream-one-file : (limit : ℕ) (file : List ℕ) (left written_old written_new : Known) (source_failed sink_failed : Bool) (Took : List DeliveryValue → List Answer → Type 0) (now : HeldMap → Type 0) (start : HeldMap)
+    → ((ds : List DeliveryValue) (rs : List Answer) → Took ds rs → IsNone IsFault rs → Runs now start ds rs) → (result : Result Summary StreamFault)
+    → Streams 0 limit (Some file) left written_old written_new source_failed sink_failed Took result → IfOk result (λ summary. ImportsFile now file start summary)
+stream-one-file limit file left written_old written_new source_failed sink_failed Took now start runs (Err stop) end = tt
+stream-one-file limit file left written_old written_new source_failed sink_failed Took now start runs (Ok summary) end =
+    let run = runs (deliveries_at 0 end.replies) (answers_of end.replies) end.took end.answered in
+    (frames_of end.replies, stream-file limit file left written_old written_new Took summary end, λ of_file none.
+      (let it = stream-tiles limit file left written_old written_new Took summary start run.0 end of_file run.1 none in (run.0, run.2, it.0, it.1)))
+

@@ -1,0 +1,324 @@
+-- From frame to frame of a stream.
+use Rattle.std.proofs.Common.{◌≡◌, ◌≢◌, ◌⊎◌, ℕ, ◌+◌, ◌^◌, ◌<◌, ◌≤◌, ◌&&◌, eqb, cond, Bool, true, false, List, [], ◌∷◌, ◌++◌, length, Option, Some, None, Result, Ok, Err, refl, sym, ap, subst, ◌∙◌, inl, inr, arith, append_assoc, append-nil, length-append}
+use Rattle.std.proofs.lemmas.Bool.Decides.{nat_tests}
+use Rattle.std.specs.Io.KnownBytes.{Appends, Consumes, IsAtEnd, prepend_known}
+use Rattle.std.proofs.KnownBytes.{Appends-trans, Consumes-trans, prepend_known-nil, Consumes-nil, Appends-nil}
+use Rattle.pbf_frame.specs.declared.fault.FrameFault.{FrameFault}
+use Rattle.pbf_frame.specs.Framer.{Framing, FrameWaits, FaultStands, IsUnfinished, MayEnd, given, let_go, waiting}
+use Rattle.pbf_frame.proofs.WaitingLaws.{waiting_again, waiting_read, waiting_faults, waiting_faulted, fault_read}
+use Rattle.pbf_wire.proofs.Choices.{ok_is, not_both}
+use Rattle.osm_value.specs.Sink.{AppendsFront}
+use Rattle.osm_store.specs.declared.fault.StoreFault.{StoreFault}
+use Rattle.osm_store.specs.declared.fault.StoreFault.TheVariants.{Memory}
+use Rattle.osm_import.specs.Good.{IsFrame}
+use Rattle.osm_import.specs.Files.{AreFrames, joined}
+use Rattle.osm_import.specs.Deliveries.{DeliveryValue}
+use Rattle.osm_import.specs.Exports.{Known}
+use Rattle.osm_import.specs.Runs.{IsFault, IsNone}
+use Rattle.osm_import.specs.Lines.{answer_line}
+use Rattle.osm_import.specs.Streams.{Reply, frames_of, answers_of, deliveries_at, lines_at, end_at, counted, summary_from, nothing_at, ended_at, Moved, HasRoom, IsStop, EndsWell, Stops, Streams}
+use Rattle.osm_import.specs.StreamSteps.{IsFull, FrameAnswered, FrameStop}
+use Rattle.osm_import.specs.declared.answer.Answer.{Answer}
+use Rattle.osm_import.specs.declared.answer.Answer.TheVariants as answers
+use Rattle.osm_import.specs.declared.stream.summary.Summary.{Summary}
+use Rattle.osm_import.specs.declared.stream.run.Delivered.{Delivered}
+use Rattle.osm_import.specs.declared.stream.fault.Stop.{Stop}
+use Rattle.osm_import.specs.declared.stream.fault.Stop.TheVariants.{Frame, NoHeaderFirst, WriteFailed, Store, ReadFailed, BlobLimit}
+use Rattle.osm_import.specs.declared.stream.fault.StreamFault.{StreamFault}
+use Rattle.osm_import.proofs.RunsLemmas.{none-push}
+use Rattle.osm_import.proofs.GoodLaws.{frame-filled}
+use Rattle.osm_import.proofs.WritingLemmas.{front-of-piece}
+use Rattle.osm_import.proofs.StreamLists.{frames-push, answers-push, delivery_of, deliveries-push, lines-push, end-push, summary-push, frames-more, joined-push, Small, small-more}
+
+-- ---- one frame
+
+abbrev nothing_given : Option (ℕ × List ℕ)
+nothing_given = None
+
+pub none-waits : (f : Framing) → waiting f ≡ Ok None → FrameWaits f → ⊥
+none-waits f none waits = let e : nothing_given ≡ Some (f.offset, f.rest) = ok_is {E = FrameFault} nothing_given (Some (f.offset, f.rest)) (sym none ∙ waiting_again f waits) in cc
+
+-- a frame waits where the input has ended, or the framer was full, and none was given
+pub at-end-unless-full : (f : Framing) (b : Bool) (AtEnd : Type 0) → (b ≡ true → IsFull f) → (b ≡ false → AtEnd) → waiting f ≡ Ok None → AtEnd
+at-end-unless-full f false AtEnd full end none = end refl
+at-end-unless-full f true AtEnd full end none = elim (full refl) [
+  | inl waits ↦ absurd (none-waits f none waits)
+  | inr (fault, stands) ↦ not_both {A = Option (ℕ × List ℕ)} None fault (sym none ∙ waiting_faulted f fault stands)
+]
+
+nil-of-both : (xs ys : List ℕ) → xs ++ ys ≡ [] → ys ≡ []
+nil-of-both [] ys e = e
+nil-of-both (x ∷ xs) ys e = absurd cc
+
+-- nothing is left, and nothing of the last piece
+pub at-end : (before : Known) (piece : List ℕ) (left : Known) (x : List ℕ) → IsAtEnd (prepend_known piece left) → Consumes before (prepend_known piece left) x → IsAtEnd left × Consumes before left x
+at-end None piece None x end h = (tt, tt)
+at-end None piece (Some ys) x end h = (nil-of-both piece ys end, tt)
+at-end (Some bs) piece None x end h = absurd h
+at-end (Some bs) piece (Some ys) x end h = (nil-of-both piece ys end, h ∙ ap (λ (v : List ℕ). x ++ v) (end ∙ sym (nil-of-both piece ys end)))
+
+-- what was read of the reader, with what of the last piece wasn't given on
+pub unread : (before : Known) (piece : List ℕ) (left : Known) (x : List ℕ) → Consumes before (prepend_known piece left) x → Consumes before left (x ++ piece)
+unread None piece left x h = tt
+unread (Some bs) piece None x h = h
+unread (Some bs) piece (Some ys) x h = h ∙ sym (append_assoc x piece ys)
+
+-- ---- the frames so far
+
+pub record InStream (from count : ℕ) (f : Framing) (before now written_old written_now : Known) (summary : Summary) (Took : List DeliveryValue → List Answer → Type 0) : Type 0 where
+  pub replies : List Reply
+  pub frames : AreFrames (frames_of replies)
+  pub took : Took (deliveries_at from replies) (answers_of replies)
+  pub answered : IsNone IsFault (answers_of replies)
+  pub many : length replies ≡ count
+  pub stands : f.offset ≡ end_at from replies
+  pub inside : f.offset ≤ 4611686018427387904
+  pub empty : f.rest ≡ []
+  pub read : Consumes before now (joined (frames_of replies))
+  pub lines : Appends written_old written_now (lines_at from replies)
+  pub sums : summary ≡ summary_from (nothing_at from) from replies
+  pub next : summary.next ≡ f.offset
+  pub small : Small summary count
+
+-- the same after one more delivery
+abbrev pub Grows : (List DeliveryValue → List Answer → Type 0) → (ℕ → List ℕ → Answer → Type 0) → (List DeliveryValue → List Answer → Type 0) → Type 0
+Grows Then One Now = (ds : List DeliveryValue) (rs : List Answer) (off : ℕ) (bytes : List ℕ) (a : Answer) → IsNone IsFault rs → Then ds rs → One off bytes a → Now (ds ++ delivery_of off bytes ∷ []) (rs ++ a ∷ [])
+
+took-push : (from : ℕ) (rs : List Reply) (w : List ℕ) (a : Answer) (Then Now : List DeliveryValue → List Answer → Type 0) (One : ℕ → List ℕ → Answer → Type 0) → Grows Then One Now
+    → IsNone IsFault (answers_of rs) → Then (deliveries_at from rs) (answers_of rs) → (off : ℕ) → off ≡ end_at from rs → One off w a
+    → Now (deliveries_at from (rs ++ (w, a) ∷ [])) (answers_of (rs ++ (w, a) ∷ []))
+took-push from rs w a Then Now One grows answered took off here one =
+    subst (λ (ds : List DeliveryValue). Now ds (answers_of (rs ++ (w, a) ∷ []))) (sym (deliveries-push from rs (w, a)))
+    (subst (λ (xs : List Answer). Now (deliveries_at from rs ++ delivery_of (end_at from rs) w ∷ []) xs) (sym (answers-push rs (w, a)))
+    (subst (λ n. Now (deliveries_at from rs ++ delivery_of n w ∷ []) (answers_of rs ++ a ∷ [])) here
+    (grows (deliveries_at from rs) (answers_of rs) off w a answered took one)))
+
+counted-next : (s : Summary) (a : Answer) (next : ℕ) → ¬ (IsFault a) → (counted s a next).next ≡ next
+counted-next s (answers.Stored count) next sound = refl
+counted-next s answers.AlreadyHeld next sound = refl
+counted-next s (answers.Bad fault) next sound = refl
+counted-next s (answers.Refused conflict) next sound = refl
+counted-next s (answers.Fault fault) next sound = absurd (sound tt)
+
+pub stream-more : (from count : ℕ) (f g : Framing) (before mid now written_old written_mid written_now : Known) (summary next : Summary) (Then Now : List DeliveryValue → List Answer → Type 0) (One : ℕ → List ℕ → Answer → Type 0) (blob : Delivered)
+    → InStream from count f before mid written_old written_mid summary Then → FrameAnswered f g mid now written_mid written_now One blob → Grows Then One Now → next ≡ counted summary blob.answer blob.fin
+    → InStream from (count + 1) g before now written_old written_now next Now
+stream-more from count f g before mid now written_old written_mid written_now summary next Then Now One blob so_far one grows is =
+    let rs = so_far.replies in
+    let r : Reply = (one.frame, blob.answer) in
+    let fin : blob.fin ≡ end_at from rs + length one.frame = one.ends ∙ ap (λ n. n + length one.frame) so_far.stands in
+    record {
+      replies = rs ++ r ∷ [];
+      frames = subst AreFrames (sym (frames-push rs r)) (frames-more (frames_of rs) one.frame so_far.frames one.whole);
+      took = took-push from rs one.frame blob.answer Then Now One grows so_far.answered so_far.took f.offset so_far.stands one.took;
+      answered = subst (IsNone IsFault) (sym (answers-push rs r)) (none-push IsFault (answers_of rs) blob.answer so_far.answered one.answered);
+      many = length-append rs (r ∷ []) ∙ ap (λ n. n + 1) so_far.many;
+      stands = one.moved ∙ ap (λ n. n + length one.frame) so_far.stands ∙ sym (end-push from rs r);
+      inside = (let fits = one.fits in let moved = one.moved in omega arith);
+      empty = one.empty;
+      read = subst (λ (v : List ℕ). Consumes before now v) (sym (ap joined (frames-push rs r) ∙ joined-push (frames_of rs) one.frame)) (Consumes-trans before mid now (joined (frames_of rs)) one.frame so_far.read one.read);
+      lines = subst (λ (v : List ℕ). Appends written_old written_now v) (sym (lines-push from rs r))
+          (Appends-trans written_old written_mid written_now (lines_at from rs) (answer_line (end_at from rs) blob.answer) so_far.lines (subst (λ n. Appends written_mid written_now (answer_line n blob.answer)) so_far.stands one.line));
+      sums = is ∙ ap (λ (s : Summary). counted s blob.answer blob.fin) so_far.sums ∙ ap (λ n. counted (summary_from (nothing_at from) from rs) blob.answer n) fin ∙ sym (summary-push (nothing_at from) from rs r);
+      next = ap (λ (s : Summary). s.next) is ∙ counted-next summary blob.answer blob.fin one.answered ∙ one.ends ∙ sym one.moved;
+      small = subst (λ (s : Summary). Small s (count + 1)) (sym is) (small-more summary blob.answer blob.fin count so_far.small);
+    }
+
+pub has-room : (s : Summary) (n : ℕ) → Small s n → n < 2 ^ 32 → HasRoom s
+has-room s n h lt = let a = h.stored in let b = h.held in let c = h.bad in let d = h.refused in
+    record { stored = omega arith; held = omega arith; bad = omega arith; refused = omega arith }
+
+-- ---- the end of the input
+
+end-le : (off : ℕ) (rs : List Reply) → off ≤ end_at off rs
+end-le off [] = omega arith
+end-le off (r ∷ rs) = let h : off + length r.0 ≤ end_at (off + length r.0) rs = end-le (off + length r.0) rs in omega arith
+
+no-frames : (off : ℕ) (rs : List Reply) → AreFrames (frames_of rs) → end_at off rs ≡ off → rs ≡ []
+no-frames off [] frames e = refl
+no-frames off (r ∷ rs) frames e =
+    let long : 4 ≤ length r.0 = frame-filled frames.0.0 frames.0.1 r.0 frames.0.2 in
+    let behind : off + length r.0 ≤ end_at (off + length r.0) rs = end-le (off + length r.0) rs in absurd (omega arith)
+
+both-zero : (a b : ℕ) → (eqb a 0 && eqb b 0) ≡ true → (a ≡ 0) × (b ≡ 0)
+both-zero a b e = grind (arith, nat_tests)
+
+not-both-zero : (a b : ℕ) → (eqb a 0 && eqb b 0) ≡ false → a ≡ 0 → b ≡ 0 → ⊥
+not-both-zero a b e x y = grind (arith, nat_tests)
+
+pub stream-ends : (from limit count : ℕ) (f : Framing) (left_old : Known) (piece : List ℕ) (left_new written_old written_now : Known) (source_failed sink_failed : Bool) (summary : Summary) (Took : List DeliveryValue → List Answer → Type 0)
+    → InStream from count f left_old (prepend_known piece left_new) written_old written_now summary Took → IsAtEnd (prepend_known piece left_new) → count ≤ limit
+    → Streams from limit left_old left_new written_old written_now source_failed sink_failed Took (ended_at from summary)
+stream-ends from limit count f left_old piece left_new written_old written_now source_failed sink_failed summary Took so_far end few = by (eqb from 0 && eqb summary.next 0) refl
+  where
+    rs : List Reply
+    rs = so_far.replies
+
+    left : IsAtEnd left_new × Consumes left_old left_new (joined (frames_of rs))
+    left = at-end left_old piece left_new (joined (frames_of rs)) end so_far.read
+
+    all : rs ++ [] ≡ rs
+    all = append-nil rs
+
+    by : (b : Bool) → (eqb from 0 && eqb summary.next 0) ≡ b → Streams from limit left_old left_new written_old written_now source_failed sink_failed Took (cond b (Err (record { fault = NoHeaderFirst; at = 0 })) (Ok summary))
+    by false e = record {
+      replies = rs;
+      frames = so_far.frames;
+      took = so_far.took;
+      answered = so_far.answered;
+      few = (let many = so_far.many in omega arith);
+      read = left.1;
+      ended = left.0;
+      lines = so_far.lines;
+      sums = so_far.sums;
+      some = λ zero_from none. not-both-zero from summary.next e zero_from (so_far.next ∙ so_far.stands ∙ ap (end_at from) none ∙ zero_from);
+    }
+    by true e =
+        let zeros = both-zero from summary.next e in
+        let none : rs ≡ [] = no-frames from rs so_far.frames (sym so_far.stands ∙ sym so_far.next ∙ zeros.1 ∙ sym zeros.0) in
+        record {
+          replies = rs;
+          last = [];
+          rest = [];
+          frames = subst (λ (xs : List Reply). AreFrames (frames_of xs)) (sym all) so_far.frames;
+          took = subst (λ (xs : List Reply). Took (deliveries_at from xs) (answers_of xs)) (sym all) so_far.took;
+          answered = so_far.answered;
+          few = (let many = so_far.many in let len = ap length all in omega arith);
+          stands = sym zeros.0 ∙ sym (ap (end_at from) none);
+          read = subst (λ (v : List ℕ). Consumes left_old left_new v) (sym (append-nil (joined (frames_of (rs ++ []))) ∙ ap (λ (xs : List Reply). joined (frames_of xs)) all)) left.1;
+          why = (refl, zeros.0, none, refl, left.0, subst (λ (xs : List Reply). Appends written_old written_now (lines_at from xs)) none so_far.lines);
+        }
+
+-- ---- a stop
+
+abbrev pub Stays : (List DeliveryValue → List Answer → Type 0) → Type 0 → (List DeliveryValue → List Answer → Type 0) → Type 0
+Stays Then Same Now = (ds : List DeliveryValue) (rs : List Answer) → Same → Then ds rs → Now ds rs
+
+-- a stop at which no frame was being delivered
+pub stop-between : (from limit count : ℕ) (f : Framing) (left_old : Known) (piece : List ℕ) (mid left_new written_old written_mid written_now : Known) (source_failed sink_failed : Bool) (summary : Summary) (Then Now : List DeliveryValue → List Answer → Type 0) (Same : Type 0) (stop : Stop) (got : List ℕ)
+    → InStream from count f left_old mid written_old written_mid summary Then → Consumes mid (prepend_known piece left_new) got → Stays Then Same Now → Same → count ≤ limit
+    → ((rs : List Reply) → length rs ≡ count → f.offset ≡ end_at from rs → Appends written_old written_mid (lines_at from rs) → IsStop from limit left_new written_old written_now source_failed sink_failed rs [] (got ++ piece) stop)
+    → Stops from limit left_old left_new written_old written_now source_failed sink_failed Now (record { fault = stop; at = summary.next })
+stop-between from limit count f left_old piece mid left_new written_old written_mid written_now source_failed sink_failed summary Then Now Same stop got so_far read stays same few why =
+    let rs = so_far.replies in
+    let all : rs ++ [] ≡ rs = append-nil rs in
+    let both : Consumes left_old left_new ((joined (frames_of rs) ++ got) ++ piece) = unread left_old piece left_new (joined (frames_of rs) ++ got) (Consumes-trans left_old mid (prepend_known piece left_new) (joined (frames_of rs)) got so_far.read read) in
+    record {
+      replies = rs;
+      last = [];
+      rest = got ++ piece;
+      frames = subst (λ (xs : List Reply). AreFrames (frames_of xs)) (sym all) so_far.frames;
+      took = subst (λ (xs : List Reply). Now (deliveries_at from xs) (answers_of xs)) (sym all) (stays (deliveries_at from rs) (answers_of rs) same so_far.took);
+      answered = so_far.answered;
+      few = (let many = so_far.many in let len = ap length all in omega arith);
+      stands = so_far.next ∙ so_far.stands;
+      read = subst (λ (v : List ℕ). Consumes left_old left_new v) (append_assoc (joined (frames_of rs)) got piece ∙ ap (λ (xs : List Reply). joined (frames_of xs) ++ (got ++ piece)) (sym all)) both;
+      why = why rs so_far.many so_far.stands so_far.lines;
+    }
+
+-- a stop at a frame that was being delivered
+pub stop-at : (from limit count : ℕ) (f : Framing) (left_old : Known) (piece : List ℕ) (mid left_new written_old written_mid written_now : Known) (source_failed sink_failed : Bool) (summary : Summary) (Then Now : List DeliveryValue → List Answer → Type 0) (One : ℕ → List ℕ → Answer → Type 0) (stop : Stop) (w : List ℕ) (a : Answer)
+    → InStream from count f left_old mid written_old written_mid summary Then → Consumes mid (prepend_known piece left_new) w → Grows Then One Now → IsFrame w → One f.offset w a → count < limit
+    → ((rs : List Reply) → f.offset ≡ end_at from rs → Appends written_old written_mid (lines_at from rs) → IsStop from limit left_new written_old written_now source_failed sink_failed rs ((w, a) ∷ []) piece stop)
+    → Stops from limit left_old left_new written_old written_now source_failed sink_failed Now (record { fault = stop; at = summary.next })
+stop-at from limit count f left_old piece mid left_new written_old written_mid written_now source_failed sink_failed summary Then Now One stop w a so_far read grows whole one few why =
+    let rs = so_far.replies in
+    let r : Reply = (w, a) in
+    let all : joined (frames_of (rs ++ r ∷ [])) ≡ joined (frames_of rs) ++ w = ap joined (frames-push rs r) ∙ joined-push (frames_of rs) w in
+    record {
+      replies = rs;
+      last = r ∷ [];
+      rest = piece;
+      frames = subst AreFrames (sym (frames-push rs r)) (frames-more (frames_of rs) w so_far.frames whole);
+      took = took-push from rs w a Then Now One grows so_far.answered so_far.took f.offset so_far.stands one;
+      answered = so_far.answered;
+      few = (let many = so_far.many in let len = length-append rs (r ∷ []) in omega arith);
+      stands = so_far.next ∙ so_far.stands;
+      read = subst (λ (v : List ℕ). Consumes left_old left_new (v ++ piece)) (sym all) (unread left_old piece left_new (joined (frames_of rs) ++ w) (Consumes-trans left_old mid (prepend_known piece left_new) (joined (frames_of rs)) w so_far.read read));
+      why = why rs so_far.stands so_far.lines;
+    }
+
+-- what the call for a frame stopped at, after the frames so far
+pub stream-stops : (from limit count : ℕ) (f : Framing) (left_old : Known) (piece : List ℕ) (mid left_new written_old written_mid written_now : Known) (source_failed sink_failed : Bool) (summary : Summary) (Then Now : List DeliveryValue → List Answer → Type 0) (One : ℕ → List ℕ → Answer → Type 0) (Same : Type 0) (stop : Stop)
+    → InStream from count f left_old mid written_old written_mid summary Then → FrameStop f mid (prepend_known piece left_new) written_mid written_now source_failed sink_failed Same One stop
+    → Stays Then Same Now → Grows Then One Now → count < limit
+    → Stops from limit left_old left_new written_old written_now source_failed sink_failed Now (record { fault = stop; at = summary.next })
+stream-stops from limit count f left_old piece mid left_new written_old written_mid written_now source_failed sink_failed summary Then Now One Same (Frame fault) so_far h stays grows few =
+    let it = h.2 in
+    stop-between from limit count f left_old piece mid left_new written_old written_mid written_now source_failed sink_failed summary Then Now Same (Frame fault) it.0 so_far it.2 stays h.1 (omega arith)
+    (λ rs many here lines. (refl, subst (λ (o : Known). Appends written_old o (lines_at from rs)) (sym h.0) lines,
+      (it.0, piece, it.1, refl, subst (λ n. FaultStands fault (record { offset = n; rest = it.0; lent = it.1 }) ⊎ (IsUnfinished fault (record { offset = n; rest = it.0; lent = it.1 }) × IsAtEnd (prepend_known piece left_new))) here it.3)))
+stream-stops from limit count f left_old piece mid left_new written_old written_mid written_now source_failed sink_failed summary Then Now One Same ReadFailed so_far h stays grows few =
+    stop-between from limit count f left_old piece mid left_new written_old written_mid written_now source_failed sink_failed summary Then Now Same ReadFailed h.3.0 so_far h.3.1 stays h.1 (omega arith)
+    (λ rs many here lines. (h.2, refl, subst (λ (o : Known). Appends written_old o (lines_at from rs)) (sym h.0) lines))
+stream-stops from limit count f left_old piece mid left_new written_old written_mid written_now source_failed sink_failed summary Then Now One Same (Store fault) so_far h stays grows few = elim h.1 [
+  | inl own ↦
+      stop-between from limit count f left_old piece mid left_new written_old written_mid written_now source_failed sink_failed summary Then Now Same (Store fault) own.2.0 so_far own.2.1 stays own.0 (omega arith)
+      (λ rs many here lines. (subst (λ (o : Known). Appends written_old o (lines_at from rs)) (sym h.0) lines, inl (refl, own.1)))
+  | inr one ↦
+      stop-at from limit count f left_old piece mid left_new written_old written_mid written_now source_failed sink_failed summary Then Now One (Store fault) one.0 (answers.Fault fault) so_far one.2 grows one.1 one.3 few
+      (λ rs here lines. (subst (λ (o : Known). Appends written_old o (lines_at from rs)) (sym h.0) lines, inr refl))
+]
+stream-stops from limit count f left_old piece mid left_new written_old written_mid written_now source_failed sink_failed summary Then Now One Same WriteFailed so_far h stays grows few =
+    let it = h.1 in
+    stop-at from limit count f left_old piece mid left_new written_old written_mid written_now source_failed sink_failed summary Then Now One WriteFailed it.0 it.1 so_far it.3 grows it.2 it.4 few
+    (λ rs here lines. (h.0, refl, (it.5, tt),
+      front-of-piece written_old written_mid written_now (lines_at from rs) (answer_line f.offset it.1) [] (lines_at from (rs ++ (it.0, it.1) ∷ [])) lines
+      (append-nil (lines_at from rs ++ answer_line f.offset it.1) ∙ ap (λ n. lines_at from rs ++ answer_line n it.1) here ∙ sym (lines-push from rs (it.0, it.1))) it.6))
+stream-stops from limit count f left_old piece mid left_new written_old written_mid written_now source_failed sink_failed summary Then Now One Same NoHeaderFirst so_far h stays grows few = absurd h
+stream-stops from limit count f left_old piece mid left_new written_old written_mid written_now source_failed sink_failed summary Then Now One Same BlobLimit so_far h stays grows few = absurd h
+
+-- nothing was read yet
+pub stream-begins : (from : ℕ) (left written : Known) (f : Framing) (summary : Summary) (Took : List DeliveryValue → List Answer → Type 0) → f.offset ≡ from → f.rest ≡ [] → from ≤ 4611686018427387904 → summary ≡ nothing_at from → Took [] []
+    → InStream from 0 f left (prepend_known [] left) written written summary Took
+stream-begins from left written f summary Took here empty inside is took = record {
+  replies = [];
+  frames = tt;
+  took = took;
+  answered = tt;
+  many = refl;
+  stands = here;
+  inside = (let is_at = here in omega arith);
+  empty = empty;
+  read = subst (λ (o : Known). Consumes left o []) (sym (prepend_known-nil left)) (Consumes-nil left);
+  lines = Appends-nil written;
+  sums = is;
+  next = ap (λ (s : Summary). s.next) is ∙ sym here;
+  small = subst (λ (s : Summary). Small s 0) (sym is) (record { stored = omega arith; held = omega arith; bad = omega arith; refused = omega arith });
+}
+
+-- no memory for a piece
+pub never-begun : (from limit : ℕ) (left written : Known) (source_failed sink_failed : Bool) (Took : List DeliveryValue → List Answer → Type 0) → Took [] []
+    → Stops from limit left left written written source_failed sink_failed Took (record { fault = Store Memory; at = from })
+never-begun from limit left written source_failed sink_failed Took took = record {
+  replies = [];
+  last = [];
+  rest = [];
+  frames = tt;
+  took = took;
+  answered = tt;
+  few = omega arith;
+  stands = refl;
+  read = Consumes-nil left;
+  why = (Appends-nil written, inl (refl, refl));
+}
+
+-- a call that read no frame
+pub stream-stays : (from count : ℕ) (f : Framing) (before mid now written_old written_mid written_now : Known) (summary : Summary) (Then Now : List DeliveryValue → List Answer → Type 0) (Same : Type 0)
+    → InStream from count f before mid written_old written_mid summary Then → Consumes mid now [] → written_now ≡ written_mid → Stays Then Same Now → Same
+    → InStream from count f before now written_old written_now summary Now
+stream-stays from count f before mid now written_old written_mid written_now summary Then Now Same so_far read wrote stays same = record {
+  replies = so_far.replies;
+  frames = so_far.frames;
+  took = stays (deliveries_at from so_far.replies) (answers_of so_far.replies) same so_far.took;
+  answered = so_far.answered;
+  many = so_far.many;
+  stands = so_far.stands;
+  inside = so_far.inside;
+  empty = so_far.empty;
+  read = subst (λ (v : List ℕ). Consumes before now v) (append-nil (joined (frames_of so_far.replies))) (Consumes-trans before mid now (joined (frames_of so_far.replies)) [] so_far.read read);
+  lines = subst (λ (o : Known). Appends written_old o (lines_at from so_far.replies)) (sym wrote) so_far.lines;
+  sums = so_far.sums;
+  next = so_far.next;
+  small = so_far.small;
+}

@@ -1,0 +1,169 @@
+-- What the import of a stream does: to its input, its output and the store.
+use Rattle.std.specs.Prelude.{◌≡◌, ◌≢◌, ◌⊎◌, ℕ, ◌+◌, ◌^◌, ◌==◌, ◌&&◌, if◌then◌else◌, ◌<◌, ◌≤◌, Bool, true, List, [], ◌∷◌, ◌++◌, length, Option, Some, None, Result, Ok, Err}
+use Rattle.std.specs.Io.KnownBytes.{Appends, Consumes, IsAtEnd, prepend_known}
+use Rattle.pbf_frame.specs.declared.fault.FrameFault.{FrameFault}
+use Rattle.pbf_frame.specs.Framer.{Framing, FaultStands, IsUnfinished, TakesNothing, waiting}
+use Rattle.osm_value.specs.Sink.{AppendsFront}
+use Rattle.osm_store.specs.Held.{HeldMap}
+use Rattle.osm_store.specs.declared.fault.StoreFault.{StoreFault}
+use Rattle.osm_store.specs.declared.fault.StoreFault.TheVariants.{Memory}
+use Rattle.osm_import.specs.Good.{IsFrame}
+use Rattle.osm_import.specs.Files.{AreFrames, joined, IsFile, IsHeldOfFile}
+use Rattle.osm_import.specs.Gaps.{Tiles}
+use Rattle.osm_import.specs.Deliveries.{DeliveryValue}
+use Rattle.osm_import.specs.Exports.{Known}
+use Rattle.osm_import.specs.Step.{Delivers, CrashLeaves, FaultHasCause, HasCause, IsOwn}
+use Rattle.osm_import.specs.Runs.{Runs, LeavesAfter, HaveCauses, AreOwn, IsFault, IsNone}
+use Rattle.osm_import.specs.Lines.{answer_line}
+use Rattle.osm_import.specs.declared.answer.Answer.{Answer}
+use Rattle.osm_import.specs.declared.answer.Answer.TheVariants as answers
+use Rattle.osm_import.specs.declared.stream.summary.Summary.{Summary}
+use Rattle.osm_import.specs.declared.stream.fault.Stop.{Stop}
+use Rattle.osm_import.specs.declared.stream.fault.Stop.TheVariants.{Frame, NoHeaderFirst, WriteFailed, Store, ReadFailed, BlobLimit}
+use Rattle.osm_import.specs.declared.stream.fault.StreamFault.{StreamFault}
+
+-- ---- frames and their answers
+
+-- a whole frame, and what it was answered with
+abbrev pub Reply : Type 0
+Reply = List ℕ × Answer
+
+abbrev pub frames_of : List Reply → List (List ℕ)
+frames_of [] = []
+frames_of (reply ∷ replies) = reply.0 ∷ frames_of replies
+
+abbrev pub answers_of : List Reply → List Answer
+answers_of [] = []
+answers_of (reply ∷ replies) = reply.1 ∷ answers_of replies
+
+-- the frames as deliveries, one behind the other from this offset on
+abbrev pub deliveries_at : ℕ → List Reply → List DeliveryValue
+deliveries_at off [] = []
+deliveries_at off (reply ∷ replies) = record { off = off; bytes = reply.0 } ∷ deliveries_at (off + length reply.0) replies
+
+-- their lines
+abbrev pub lines_at : ℕ → List Reply → List ℕ
+lines_at off [] = []
+lines_at off (reply ∷ replies) = answer_line off reply.1 ++ lines_at (off + length reply.0) replies
+
+-- the offset behind them
+abbrev pub end_at : ℕ → List Reply → ℕ
+end_at off [] = off
+end_at off (reply ∷ replies) = end_at (off + length reply.0) replies
+
+-- the count with one more blob
+abbrev pub counted : Summary → Answer → ℕ → Summary
+counted s (answers.Stored count) next = record s { stored = s.stored + 1; next = next }
+counted s answers.AlreadyHeld next = record s { held = s.held + 1; next = next }
+counted s (answers.Bad fault) next = record s { bad = s.bad + 1; next = next }
+counted s (answers.Refused conflict) next = record s { refused = s.refused + 1; next = next }
+counted s (answers.Fault fault) next = s
+
+-- no count is at its end
+pub record HasRoom (s : Summary) : Type 0 where
+  pub stored : s.stored < 2 ^ 63
+  pub held : s.held < 2 ^ 63
+  pub bad : s.bad < 2 ^ 63
+  pub refused : s.refused < 2 ^ 63
+
+abbrev pub nothing_at : ℕ → Summary
+nothing_at off = record { stored = 0; held = 0; bad = 0; refused = 0; next = off }
+
+abbrev pub summary_from : Summary → ℕ → List Reply → Summary
+summary_from s off [] = s
+summary_from s off (reply ∷ replies) = summary_from (counted s reply.1 (off + length reply.0)) (off + length reply.0) replies
+
+-- what is said at the end of an input that stood at `from` at its start
+abbrev pub ended_at : ℕ → Summary → Result Summary StreamFault
+ended_at from summary = if from == 0 && summary.next == 0 then Err (record { fault = NoHeaderFirst; at = 0 }) else Ok summary
+
+-- ---- what deliveries do to a store
+
+-- what one delivery has done
+pub record TakesOne {S : Type 0} (holds leaves : S → HeldMap → Type 0) (leaves_a_map is_honest is_open : S → Type 0) (failures : S → ℕ) (old new : S) (off : ℕ) (bytes : List ℕ) (answer : Answer) : Type 0 where
+  pub step : (held : HeldMap) → holds old held → is_honest new → Delivers (is_open new) (holds new) held off bytes answer
+  pub crash : (held : HeldMap) → holds old held → is_honest new → CrashLeaves (leaves new) held off bytes
+  pub whole : (held : HeldMap) → holds old held → is_honest new → leaves_a_map new
+  pub own : (held : HeldMap) → holds old held → is_honest new → IsOwn answer
+  pub cause : FaultHasCause (failures old) (failures new) answer
+  pub honest : is_honest new → is_honest old
+  pub open_if : is_open new → is_open old
+  pub counted : failures old ≤ failures new
+
+-- What deliveries in turn have done, of which the last alone may be answered with a fault: each is a step, and a crash
+-- leaves the map after the answered ones, or after a fault alone that map with the blob at fault.
+pub record Takes {S : Type 0} (holds leaves : S → HeldMap → Type 0) (leaves_a_map is_honest is_open : S → Type 0) (failures : S → ℕ) (old new : S) (deliveries : List DeliveryValue) (replies : List Answer) : Type 0 where
+  pub run : (held : HeldMap) → holds old held → is_honest new → is_open new → Runs (holds new) held deliveries replies
+  pub unbroken : (held : HeldMap) → holds old held → is_honest new → IsNone IsFault replies → Runs (holds new) held deliveries replies
+  pub crash : (held : HeldMap) → holds old held → is_honest new → LeavesAfter (leaves new) held deliveries replies
+  pub whole : (held : HeldMap) → holds old held → is_honest new → leaves_a_map new
+  pub own : (held : HeldMap) → holds old held → is_honest new → AreOwn replies
+  pub causes : HaveCauses (failures old) (failures new) replies
+  pub honest : is_honest new → is_honest old
+  pub open_if : is_open new → is_open old
+  pub counted : failures old ≤ failures new
+
+-- ---- what is read
+
+-- the framer's rest grew by the bytes that the input lost
+abbrev pub Moved : Framing → Framing → Known → Known → Type 0
+Moved f g before after = (x : List ℕ) × (g.offset ≡ f.offset) × (g.rest ≡ f.rest ++ x) × Consumes before after x
+
+-- why a piece isn't read: a read failed, or memory was refused
+abbrev pub ReadHasCause : Bool → Stop → Type 0
+ReadHasCause failed ReadFailed = failed ≡ true
+ReadHasCause failed (Store fault) = fault ≡ Memory
+ReadHasCause failed _ = ⊥
+
+-- ---- how the import of a stream ends
+
+-- All frames of the input were answered: nothing is left of it.
+pub record EndsWell (from limit : ℕ) (left_old left_new written_old written_new : Known) (Took : List DeliveryValue → List Answer → Type 0) (summary : Summary) : Type 0 where
+  pub replies : List Reply
+  pub frames : AreFrames (frames_of replies)
+  pub took : Took (deliveries_at from replies) (answers_of replies)
+  pub answered : IsNone IsFault (answers_of replies)
+  pub few : length replies ≤ limit
+  pub read : Consumes left_old left_new (joined (frames_of replies))
+  pub ended : IsAtEnd left_new
+  pub lines : Appends written_old written_new (lines_at from replies)
+  pub sums : summary ≡ summary_from (nothing_at from) from replies
+  pub some : from ≡ 0 → replies ≢ []
+
+-- Why it stopped behind these answered frames, with this frame being delivered if there is one, and these bytes read behind it.
+abbrev pub IsStop : ℕ → ℕ → Known → Known → Known → Bool → Bool → List Reply → List Reply → List ℕ → Stop → Type 0
+IsStop from limit left_new written_old written_new source_failed sink_failed replies last rest (Frame fault) =
+    (last ≡ []) × Appends written_old written_new (lines_at from replies)
+    × ((got more lent : List ℕ) × (rest ≡ got ++ more) × (FaultStands fault (record { offset = end_at from replies; rest = got; lent = lent })
+    ⊎ (IsUnfinished fault (record { offset = end_at from replies; rest = got; lent = lent }) × IsAtEnd (prepend_known more left_new))))
+IsStop from limit left_new written_old written_new source_failed sink_failed replies last rest NoHeaderFirst =
+    (last ≡ []) × (from ≡ 0) × (replies ≡ []) × (rest ≡ []) × IsAtEnd left_new × Appends written_old written_new []
+IsStop from limit left_new written_old written_new source_failed sink_failed replies last rest WriteFailed =
+    (sink_failed ≡ true) × (length last ≡ 1) × IsNone IsFault (answers_of last) × AppendsFront written_old written_new (lines_at from (replies ++ last))
+IsStop from limit left_new written_old written_new source_failed sink_failed replies last rest (Store fault) =
+    Appends written_old written_new (lines_at from replies) × (((last ≡ []) × (fault ≡ Memory)) ⊎ (answers_of last ≡ answers.Fault fault ∷ []))
+IsStop from limit left_new written_old written_new source_failed sink_failed replies last rest ReadFailed =
+    (source_failed ≡ true) × (last ≡ []) × Appends written_old written_new (lines_at from replies)
+IsStop from limit left_new written_old written_new source_failed sink_failed replies last rest BlobLimit =
+    (last ≡ []) × (length replies ≡ limit) × (0 < length rest) × Appends written_old written_new (lines_at from replies)
+
+pub record Stops (from limit : ℕ) (left_old left_new written_old written_new : Known) (source_failed sink_failed : Bool) (Took : List DeliveryValue → List Answer → Type 0) (stop : StreamFault) : Type 0 where
+  pub replies : List Reply
+  pub last : List Reply
+  pub rest : List ℕ
+  pub frames : AreFrames (frames_of (replies ++ last))
+  pub took : Took (deliveries_at from (replies ++ last)) (answers_of (replies ++ last))
+  pub answered : IsNone IsFault (answers_of replies)
+  pub few : length (replies ++ last) ≤ limit
+  pub stands : stop.at ≡ end_at from replies
+  pub read : Consumes left_old left_new (joined (frames_of (replies ++ last)) ++ rest)
+  pub why : IsStop from limit left_new written_old written_new source_failed sink_failed replies last rest stop.fault
+
+abbrev pub Streams : ℕ → ℕ → Known → Known → Known → Known → Bool → Bool → (List DeliveryValue → List Answer → Type 0) → Result Summary StreamFault → Type 0
+Streams from limit left_old left_new written_old written_new source_failed sink_failed Took (Ok summary) = EndsWell from limit left_old left_new written_old written_new Took summary
+Streams from limit left_old left_new written_old written_new source_failed sink_failed Took (Err stop) = Stops from limit left_old left_new written_old written_new source_failed sink_failed Took stop
+
+-- the bytes are a file; and where nothing but entries of it was held and no blob was bad, what is held now tiles it
+abbrev pub ImportsFile : (HeldMap → Type 0) → List ℕ → HeldMap → Summary → Type 0
+ImportsFile holds file start summary = (frames : List (List ℕ)) × IsFile file frames
+    × (IsHeldOfFile frames start → summary.bad ≡ 0 → (held : HeldMap) × holds held × Tiles held (length file) × IsHeldOfFile frames held)

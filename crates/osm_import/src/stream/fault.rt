@@ -1,0 +1,66 @@
+//! Why a stream ends early.
+
+ghost use Rattle.std.specs.Prelude.{◌≡◌};
+ghost use Rattle.osm_import.specs.StopFaults.{stop_number_of, stop_name_of};
+
+use osm_store::StoreFault;
+use pbf_frame::FrameFault;
+use thiserror::Error;
+
+/// Why a stream ends early.
+#[derive(Clone, Copy, Debug, PartialEq, Eq, Error)]
+pub enum Stop {
+    /// The input isn't a row of frames.
+    #[error("{0}")]
+    Frame(FrameFault),
+    #[error("the input has no first blob")]
+    NoHeaderFirst,
+    #[error("a write failed")]
+    WriteFailed,
+    /// A call of the store has failed, or memory was refused.
+    #[error("{0}")]
+    Store(StoreFault),
+    #[error("a read failed")]
+    ReadFailed,
+    /// The input has bytes behind the last blob that was asked for.
+    #[error("the input has more blobs")]
+    BlobLimit,
+}
+
+impl Stop {
+    /// The number that this fault has in every message of the program.
+    pub fn number(self) -> u8
+        ensures { result ≡ stop_number_of self }
+    {
+        match self {
+            Stop::Frame(fault) => fault.number(),
+            Stop::NoHeaderFirst => 61,
+            Stop::WriteFailed => 24,
+            Stop::Store(fault) => fault.number(),
+            Stop::ReadFailed => 68,
+            Stop::BlobLimit => 69,
+        }
+    }
+
+    /// The name that this fault has in every message of the program.
+    pub fn name(self) -> &'static str
+        ensures { result.now ≡ stop_name_of self }
+    {
+        match self {
+            Stop::Frame(fault) => fault.name(),
+            Stop::NoHeaderFirst => "NoHeaderFirst",
+            Stop::WriteFailed => "WriteFailed",
+            Stop::Store(fault) => fault.name(),
+            Stop::ReadFailed => "ReadFailed",
+            Stop::BlobLimit => "BlobLimit",
+        }
+    }
+}
+
+/// Why a stream ends early, and the offset of the frame that was being read or delivered then.
+#[derive(Clone, Copy, Debug, PartialEq, Eq, Error)]
+#[error("{fault} (at {at})")]
+pub struct StreamFault {
+    pub fault: Stop,
+    pub at: u64,
+}

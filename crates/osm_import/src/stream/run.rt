@@ -1,0 +1,180 @@
+//! The run over a stream.
+
+ghost use Rattle.std.specs.Prelude.{◌≡◌, ◌≤◌, ◌<◌, ◌+◌, [], ℕ, List, Some, IfOk};
+ghost use Rattle.std.specs.Io.KnownBytes.{prepend_known};
+ghost use Rattle.osm_store.specs.Held.{HeldMap};
+ghost use Rattle.osm_import.specs.Streams.{Streams, Takes, TakesOne, ended_at, ImportsFile};
+ghost use Rattle.osm_import.specs.StreamSteps.{FrameStep, Gave};
+
+use super::fault::{Stop, StreamFault};
+use super::line::write_answer;
+use super::piece::Piece;
+use super::reading::{fill, has_more};
+use super::source::Source;
+use super::summary::Summary;
+use crate::answer::Answer;
+use crate::delivery::deliver;
+use osm_store::{Keeper, StoreFault};
+use osm_value::Sink;
+use pbf_frame::{FrameFault, Framer};
+use std::alloc::Global;
+
+/// A frame that was delivered: where it stands and ends, and what it was answered with.
+#[derive(Clone, Copy)]
+struct Delivered {
+    off: u64,
+    fin: u64,
+    answer: Answer,
+}
+
+/// Delivers the frame that waits, if one does.
+fn deliver_waiting<K: Keeper>(
+    alloc: Global,
+    keeper: &mut K,
+    framer: &mut Framer,
+) -> Result<Option<Delivered>, FrameFault>
+    ensures { Gave framer.old framer.new (keeper.new ≡ keeper.old)
+        (λ off bytes answer. TakesOne K.holds K.leaves K.leaves_a_map K.is_honest K.is_open K.failures keeper.old keeper.new off bytes answer) result }
+{
+    let lent = match framer.next_frame() {
+        Err(fault) => return Err(fault),
+        Ok(None) => return Ok(None),
+        Ok(Some(lent)) => lent,
+    };
+    let (off, frame) = lent;
+    let fin = off + frame.len() as u64;
+    let answer = deliver(alloc, keeper, off, frame);
+    Ok(Some(Delivered { off, fin, answer }))
+}
+
+/// Reads the next frame, delivers it and writes its line. None where the input has ended.
+fn import_frame<K: Keeper, R: Source, S: Sink>(
+    alloc: Global,
+    keeper: &mut K,
+    framer: &mut Framer,
+    piece: &mut Piece,
+    reader: &mut R,
+    out: &mut S,
+) -> Result<Option<Delivered>, Stop>
+    requires { framer.old.rest ≡ [] }
+    ensures { FrameStep framer.old framer.new (prepend_known piece.old (R.bytes_left reader.old)) (prepend_known piece.new (R.bytes_left reader.new))
+        (S.written out.old) (S.written out.new) (R.has_failed reader.new) (S.has_failed out.new) (keeper.new ≡ keeper.old)
+        (λ off bytes answer. TakesOne K.holds K.leaves K.leaves_a_map K.is_honest K.is_open K.failures keeper.old keeper.new off bytes answer) result }
+{
+    match fill(framer, piece, reader) {
+        Ok(_) => {}
+        Err(stop) => return Err(stop),
+    }
+    let blob = match deliver_waiting(alloc, keeper, framer) {
+        Err(fault) => return Err(Stop::Frame(fault)),
+        Ok(Some(blob)) => blob,
+        Ok(None) => {
+            return match framer.end() {
+                Ok(()) => Ok(None),
+                Err(fault) => Err(Stop::Frame(fault)),
+            };
+        }
+    };
+    if let Answer::Fault(fault) = blob.answer {
+        return Err(Stop::Store(fault));
+    }
+    match write_answer(out, blob.off, &blob.answer) {
+        Ok(()) => Ok(Some(blob)),
+        Err(_) => Err(Stop::WriteFailed),
+    }
+}
+
+/// What is said at the end of an input that stood at `from` at its start.
+fn ended(from: u64, summary: Summary) -> Result<Summary, StreamFault>
+    ensures { result ≡ ended_at from summary }
+{
+    if from == 0 && summary.next == 0 {
+        return Err(StreamFault {
+            fault: Stop::NoHeaderFirst,
+            at: 0,
+        });
+    }
+    Ok(summary)
+}
+
+/// The same as `import_stream`.
+fn import_all<K: Keeper, R: Source, S: Sink>(
+    alloc: Global,
+    keeper: &mut K,
+    reader: &mut R,
+    from: u64,
+    max_blobs: u32,
+    out: &mut S,
+) -> Result<Summary, StreamFault>
+    requires { from ≤ 4611686018427387904 }
+    ensures { Streams from max_blobs (R.bytes_left reader.old) (R.bytes_left reader.new) (S.written out.old) (S.written out.new) (R.has_failed reader.new) (S.has_failed out.new)
+        (λ deliveries answers. Takes K.holds K.leaves K.leaves_a_map K.is_honest K.is_open K.failures keeper.old keeper.new deliveries answers) result }
+{
+    let mut summary = Summary {
+        stored: 0,
+        held: 0,
+        bad: 0,
+        refused: 0,
+        next: from,
+    };
+    let Ok(mut piece) = Piece::new(alloc) else {
+        return Err(StreamFault {
+            fault: Stop::Store(StoreFault::Memory),
+            at: from,
+        });
+    };
+    let mut framer = Framer::new(alloc, from);
+    for _blobs in 0..max_blobs {
+        match import_frame(alloc, keeper, &mut framer, &mut piece, reader, out) {
+            Ok(Some(blob)) => summary.add(&blob.answer, blob.fin),
+            Ok(None) => return ended(from, summary),
+            Err(fault) => {
+                return Err(StreamFault {
+                    fault,
+                    at: summary.next,
+                });
+            }
+        }
+    }
+    match has_more(&mut piece, reader) {
+        Ok(false) => ended(from, summary),
+        Ok(true) => Err(StreamFault {
+            fault: Stop::BlobLimit,
+            at: summary.next,
+        }),
+        Err(_) => Err(StreamFault {
+            fault: Stop::ReadFailed,
+            at: summary.next,
+        }),
+    }
+}
+
+/// Imports the frames of a reader that stands at the offset `from`, each with one line: `OFFSET stored COUNT`,
+/// `OFFSET held`, or `fault NUMBER NAME at OFFSET` for a blob that is bad or refused, and goes on. At `Ok` nothing is
+/// left in the reader. It stops, with the offset of the frame that was being read or delivered:
+///
+/// - at a fault of a frame, and with `NoHeaderFirst` where the input is empty and `from` is 0;
+/// - with `Store` where a call of the store has failed or memory was refused, and with no line for that frame;
+/// - with `WriteFailed` where the output has failed, and with `ReadFailed` where the reader has;
+/// - with `BlobLimit` where `max_blobs` frames were delivered and a further byte came.
+///
+/// The blobs that were answered before a stop stay.
+///
+/// Over the bytes of a whole reader, from 0, `Ok` says that they are a file; and where the store held nothing but entries
+/// of that file and no blob was bad, what it holds now tiles the file.
+pub fn import_stream<K: Keeper, R: Source, S: Sink>(
+    alloc: Global,
+    keeper: &mut K,
+    reader: &mut R,
+    from: u64,
+    max_blobs: u32,
+    out: &mut S,
+) -> Result<Summary, StreamFault>
+    requires { from ≤ 4611686018427387904 }
+    ensures streams { Streams from max_blobs (R.bytes_left reader.old) (R.bytes_left reader.new) (S.written out.old) (S.written out.new) (R.has_failed reader.new) (S.has_failed out.new)
+        (λ deliveries answers. Takes K.holds K.leaves K.leaves_a_map K.is_honest K.is_open K.failures keeper.old keeper.new deliveries answers) result }
+    ensures one_file { (file : List ℕ) (held : HeldMap) → R.bytes_left reader.old ≡ Some file → from ≡ 0 → K.holds keeper.old held → K.is_honest keeper.new
+        → IfOk result (λ summary. ImportsFile (K.holds keeper.new) file held summary) }
+{
+    import_all(alloc, keeper, reader, from, max_blobs, out)
+}

@@ -1,0 +1,34 @@
+//! What a stream's blobs were answered with.
+
+ghost use Rattle.std.specs.Prelude.{◌≡◌};
+
+use crate::answer::Answer;
+
+/// How many blobs of a stream were stored, were held already, were bad and were refused, and the offset behind the last.
+#[derive(Clone, Copy, Debug, PartialEq, Eq)]
+pub struct Summary {
+    pub stored: u64,
+    pub held: u64,
+    pub bad: u64,
+    pub refused: u64,
+    pub next: u64,
+}
+
+impl Summary {
+    ghost use Rattle.osm_import.specs.Streams.{counted, HasRoom};
+
+    /// Counts a blob that ends at this offset.
+    pub(super) fn add(&mut self, answer: &Answer, fin: u64)
+        requires { HasRoom self.old }
+        ensures { self.new ≡ counted self.old answer.now fin }
+    {
+        match answer {
+            Answer::Stored(_) => self.stored += 1,
+            Answer::AlreadyHeld => self.held += 1,
+            Answer::Bad(_) => self.bad += 1,
+            Answer::Refused(_) => self.refused += 1,
+            Answer::Fault(_) => return,
+        }
+        self.next = fin;
+    }
+}
