@@ -20,7 +20,10 @@ fn places(rt: HostRuntime) -> Result<(), Fail> {
     ];
     let elements = read_block(rt.alloc(), &block)?;
     assert!(rt; elements.len() == 2);
-    let (Element::Node(first), Element::Node(second)) = (&elements[0], &elements[1]) else {
+    let Element::Node(first) = &elements[0] else {
+        return Err("another kind".into());
+    };
+    let Element::Node(second) = &elements[1] else {
         return Err("another kind".into());
     };
     assert!(rt; first.id() == 1);
@@ -36,7 +39,7 @@ fn places(rt: HostRuntime) -> Result<(), Fail> {
 
 /// A table of "", "a" and "b", and two nodes at 0, 0 with these pairs of indexes.
 fn tagged(rt: &HostRuntime, keys_vals: &[u8]) -> Result<Vec<u8>, AllocError> {
-    let len = keys_vals.len() as u8 % 8;
+    let len = (keys_vals.len() % 8) as u8;
     let mut block = [0x0A, 0x08, 0x0A, 0x00, 0x0A, 0x01, 0x61, 0x0A, 0x01, 0x62].to_vec(
         rt.alloc(),
     )?;
@@ -51,7 +54,10 @@ fn tags(rt: HostRuntime) -> Result<(), Fail> {
     let block = tagged(&rt, &[0x01, 0x02, 0x00, 0x00])?;
     let elements = read_block(rt.alloc(), &block)?;
     assert!(rt; elements.len() == 2);
-    let (Element::Node(first), Element::Node(second)) = (&elements[0], &elements[1]) else {
+    let Element::Node(first) = &elements[0] else {
+        return Err("another kind".into());
+    };
+    let Element::Node(second) = &elements[1] else {
         return Err("another kind".into());
     };
     assert!(rt; first.tags().len() == 1);
@@ -61,7 +67,10 @@ fn tags(rt: HostRuntime) -> Result<(), Fail> {
     let block = tagged(&rt, &[0x00, 0x00])?;
     let elements = read_block(rt.alloc(), &block)?;
     assert!(rt; elements.len() == 2);
-    let (Element::Node(first), Element::Node(second)) = (&elements[0], &elements[1]) else {
+    let Element::Node(first) = &elements[0] else {
+        return Err("another kind".into());
+    };
+    let Element::Node(second) = &elements[1] else {
         return Err("another kind".into());
     };
     assert!(rt; first.tags().is_empty());
@@ -69,7 +78,10 @@ fn tags(rt: HostRuntime) -> Result<(), Fail> {
     let block = tagged(&rt, &[])?;
     let elements = read_block(rt.alloc(), &block)?;
     assert!(rt; elements.len() == 2);
-    let (Element::Node(first), Element::Node(second)) = (&elements[0], &elements[1]) else {
+    let Element::Node(first) = &elements[0] else {
+        return Err("another kind".into());
+    };
+    let Element::Node(second) = &elements[1] else {
         return Err("another kind".into());
     };
     assert!(rt; first.tags().is_empty());
@@ -120,7 +132,10 @@ fn infos(rt: HostRuntime) -> Result<(), Fail> {
     ];
     let elements = read_block(rt.alloc(), &block)?;
     assert!(rt; elements.len() == 2);
-    let (Element::Node(first), Element::Node(second)) = (&elements[0], &elements[1]) else {
+    let Element::Node(first) = &elements[0] else {
+        return Err("another kind".into());
+    };
+    let Element::Node(second) = &elements[1] else {
         return Err("another kind".into());
     };
     assert!(rt; first.info().version() == Some(1));
@@ -141,7 +156,10 @@ fn infos(rt: HostRuntime) -> Result<(), Fail> {
     ];
     let elements = read_block(rt.alloc(), &versions)?;
     assert!(rt; elements.len() == 2);
-    let (Element::Node(first), Element::Node(second)) = (&elements[0], &elements[1]) else {
+    let Element::Node(first) = &elements[0] else {
+        return Err("another kind".into());
+    };
+    let Element::Node(second) = &elements[1] else {
         return Err("another kind".into());
     };
     assert!(rt; first.info().version() == Some(3));
@@ -164,7 +182,10 @@ fn each_group_begins_at_0(rt: HostRuntime) -> Result<(), Fail> {
     ];
     let elements = read_block(rt.alloc(), &block)?;
     assert!(rt; elements.len() == 2);
-    let (Element::Node(first), Element::Node(second)) = (&elements[0], &elements[1]) else {
+    let Element::Node(first) = &elements[0] else {
+        return Err("another kind".into());
+    };
+    let Element::Node(second) = &elements[1] else {
         return Err("another kind".into());
     };
     assert!(rt; first.id() == 1);
@@ -181,7 +202,10 @@ fn pieces_are_one_message(rt: HostRuntime) -> Result<(), Fail> {
     ];
     let elements = read_block(rt.alloc(), &block)?;
     assert!(rt; elements.len() == 2);
-    let (Element::Node(first), Element::Node(second)) = (&elements[0], &elements[1]) else {
+    let Element::Node(first) = &elements[0] else {
+        return Err("another kind".into());
+    };
+    let Element::Node(second) = &elements[1] else {
         return Err("another kind".into());
     };
     assert!(rt; first.id() == 1);
