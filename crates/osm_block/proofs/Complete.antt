@@ -1,4 +1,4 @@
--- A block that stands to some elements has no phase that stands, where this holds of each message (proved for ways).
+-- A block that stands to some elements has no phase that stands, where this holds of each message.
 use Rattle.std.proofs.Common.{◌≡◌, ℕ, List, [], ◌∷◌, ◌++◌, map, refl, sym, ap, ◌∙◌, Option, Some, None, Bool, true, false, not, ◌≤◌, arith, ℤ, pos, ◌&&◌, T}
 use Rattle.std.specs.Prelude.{option_map, nat_le, IsNone, int_le, ◌≤ℤ◌}
 use Rattle.std.specs.List.{flat_map, AllByRecursion}
@@ -7,17 +7,19 @@ use Rattle.pbf_wire.specs.declared.fault.WireFault.{WireFault}
 use Rattle.osm_value.specs.declared.element.Element.{Element}
 use Rattle.osm_block.specs.declared.fault.BlockFault.TheVariants as faults
 use Rattle.pbf_wire.specs.Readings.{fields, wire}
-use Rattle.osm_block.specs.Message.{Context, Message, Way, wires, messages, way_message, context}
+use Rattle.osm_block.specs.Message.{Context, Message, Plain, Way, Relation, wires, messages, node_message, way_message, relation_message, context}
 use Rattle.pbf_wire.specs.Readings.{each}
 use Rattle.osm_block.specs.Block.{Block, Joins, GroupOf, kinds_in}
 use Rattle.osm_value.specs.Ranges.{IsText}
 use Rattle.osm_block.specs.Reads.{Says}
-use Rattle.osm_block.specs.Phases.{Phase, first, when, wire_phases, message_phases, group_phases, way_phases, text_phases, fault}
+use Rattle.osm_block.specs.Phases.{Phase, first, when, wire_phases, message_phases, group_phases, node_phases, way_phases, relation_phases, text_phases, fault}
 use Rattle.osm_block.proofs.ReadingLemmas.{first-append_none}
 use Rattle.osm_block.specs.Head.{head_phases}
 use Rattle.osm_block.proofs.HeadLemmas.{tables, texts, scales, past_table, past_texts, good_scales, text_of_utf8}
 use Rattle.osm_block.proofs.BlockLemmas.{split, groups_phases}
+use Rattle.osm_block.proofs.NodeComplete.{NodeOf-no_phase}
 use Rattle.osm_block.proofs.WayComplete.{WayOf-no_phase}
+use Rattle.osm_block.proofs.RelationComplete.{RelationOf-no_phase}
 
 pub wires_none : (ws : List (Option WireFault)) → AllByRecursion IsNone ws → first (wire_phases ws) ≡ None
 wires_none [] h = refl
@@ -28,6 +30,16 @@ pub way_none : (b : Context) (es : List Element) (p : List ℕ) → Says b es (W
 way_none b es p h =
     first-append_none (wire_phases (wires (Way p))) (way_phases b (way_message (fields p))) (wires_none (wires (Way p)) h.0)
     ∙ WayOf-no_phase b h.1.0 (way_message (fields p)) h.1.2
+
+pub node_none : (b : Context) (es : List Element) (p : List ℕ) → Says b es (Plain p) → first (message_phases b (Plain p)) ≡ None
+node_none b es p h =
+    first-append_none (wire_phases (wires (Plain p))) (node_phases b (node_message (fields p))) (wires_none (wires (Plain p)) h.0)
+    ∙ NodeOf-no_phase b h.1.0 (node_message (fields p)) h.1.2
+
+pub relation_none : (b : Context) (es : List Element) (p : List ℕ) → Says b es (Relation p) → first (message_phases b (Relation p)) ≡ None
+relation_none b es p h =
+    first-append_none (wire_phases (wires (Relation p))) (relation_phases b (relation_message (fields p))) (wires_none (wires (Relation p)) h.0)
+    ∙ RelationOf-no_phase b h.1.0 (relation_message (fields p)) h.1.2
 
 -- lists joined of parts for which nothing stands
 pub joins_none : {A B : Type 0} (R : List A → B → Type 0) (phases : B → List Phase) → ((es : List A) (x : B) → R es x → first (phases x) ≡ None) →

@@ -1,41 +1,54 @@
 -- Tests of indexes, as the code makes them and as the phases do.
-use Rattle.std.proofs.Common.{◌≡◌, ℕ, zero, suc, arith, ◌+◌, ◌<◌, List, [], ◌∷◌, ◌++◌, map, length, get_or, refl, sym, ap, ◌∙◌, ℤ, pos, Option, Some, None, Bool, true, false, ◌&&◌, ltb}
+use Rattle.std.proofs.Common.{◌≡◌, ℕ, zero, suc, arith, ◌%◌, ◌^◌, ◌<◌, List, [], ◌∷◌, ◌++◌, map, length, get_or, refl, sym, ap, ◌∙◌, ℤ, pos, Option, Some, None, Bool, true, false, ◌&&◌, ltb}
 use Rattle.std.specs.Prelude.{option_map, option_to_list, nat_lt}
 use Rattle.std.specs.List.{list_all}
 use Rattle.std.proofs.lemmas.List.Folds.{list_all-append}
 use Rattle.std.proofs.lemmas.Bool.{true≢false}
 use Rattle.std.proofs.lemmas.Bool.Decides.{nat_tests}
-use Rattle.osm_value.specs.Value.{Text}
-use Rattle.osm_value.specs.Ranges.{passes}
-use Rattle.osm_block.specs.Phases.{all_in, is_index}
+use Rattle.pbf_wire.specs.Readings.{uint32, int32}
+use Rattle.osm_block.specs.Phases.{is_index}
+use Rattle.osm_block.specs.Columns.{all_below, user_in, tag_indexes_in, indexes_in}
 
-as_numbers : (n : ℕ) (ks : List ℕ) → list_all (is_index n) (map pos ks) ≡ list_all (λ i. nat_lt i n) ks
+as_numbers : (n : ℕ) (ks : List ℕ) → list_all (is_index n) (map uint32 ks) ≡ all_below n ks
 as_numbers n [] = refl
-as_numbers n (k ∷ ks) = ap (λ b. nat_lt k n && b) (as_numbers n ks)
+as_numbers n (k ∷ ks) = ap (λ b. nat_lt (k % 2 ^ 32) n && b) (as_numbers n ks)
 
 true_right : (b : Bool) → (b && true) ≡ b
 true_right true = refl
 true_right false = refl
 
-as_option : (n : ℕ) (u : Option ℕ) → list_all (is_index n) (option_to_list (option_map pos u)) ≡ passes (λ i. nat_lt i n) u
+as_option : (n : ℕ) (u : Option ℕ) → list_all (is_index n) (option_to_list (option_map uint32 u)) ≡ user_in n u
 as_option n None = refl
-as_option n (Some i) = true_right (nat_lt i n)
+as_option n (Some i) = true_right (nat_lt (i % 2 ^ 32) n)
 
-regroup : (a b c : Bool) → ((a && b) && c) ≡ (a && (b && c))
-regroup true b c = refl
-regroup false b c = refl
-
-pub indexes_fit : (n : ℕ) (ks vs : List ℕ) (u : Option ℕ) (k v w : Bool) →
-    k ≡ list_all (λ i. nat_lt i n) ks → v ≡ list_all (λ i. nat_lt i n) vs → w ≡ passes (λ i. nat_lt i n) u →
-    (k && v && w) ≡ list_all (is_index n) (map pos ks ++ map pos vs ++ option_to_list (option_map pos u))
-indexes_fit n ks vs u k v w is_k is_v is_w =
+-- the test of all indexes, part by part
+pub indexes_are : (n : ℕ) (ks vs : List ℕ) (u : Option ℕ) → indexes_in n ks vs u ≡ list_all (is_index n) (map uint32 ks ++ map uint32 vs ++ option_to_list (option_map uint32 u))
+indexes_are n ks vs u =
     let p : ℤ → Bool = is_index n in
-    let parts : list_all p ((map pos ks ++ map pos vs) ++ option_to_list (option_map pos u)) ≡ ((list_all p (map pos ks) && list_all p (map pos vs)) && list_all p (option_to_list (option_map pos u))) =
-    list_all-append p (map pos ks ++ map pos vs) _ ∙ ap (λ b. b && list_all p (option_to_list (option_map pos u))) (list_all-append p (map pos ks) (map pos vs)) in
-    let kk : k ≡ list_all p (map pos ks) = is_k ∙ sym (as_numbers n ks) in
-    let vv : v ≡ list_all p (map pos vs) = is_v ∙ sym (as_numbers n vs) in
-    let ww : w ≡ list_all p (option_to_list (option_map pos u)) = is_w ∙ sym (as_option n u) in
-    ap (λ b. b && v && w) kk ∙ ap (λ b. list_all p (map pos ks) && b && w) vv ∙ ap (λ b. (list_all p (map pos ks) && list_all p (map pos vs)) && b) ww ∙ sym parts
+    let users : List ℤ = option_to_list (option_map uint32 u) in
+    sym (list_all-append p (map uint32 ks ++ map uint32 vs) users
+    ∙ ap (λ b. b && list_all p users) (list_all-append p (map uint32 ks) (map uint32 vs))
+    ∙ ap (λ b. (b && list_all p (map uint32 vs)) && list_all p users) (as_numbers n ks)
+    ∙ ap (λ b. (all_below n ks && b) && list_all p users) (as_numbers n vs)
+    ∙ ap (λ b. (all_below n ks && all_below n vs) && b) (as_option n u))
+
+as_roles : (n : ℕ) (rs : List ℕ) → list_all (is_index n) (map int32 rs) ≡ list_all (λ r. is_index n (int32 r)) rs
+as_roles n [] = refl
+as_roles n (r ∷ rs) = ap (λ b. is_index n (int32 r) && b) (as_roles n rs)
+
+pub role_indexes_are : (n : ℕ) (ks vs rs : List ℕ) (u : Option ℕ) →
+    (tag_indexes_in n ks vs && list_all (λ r. is_index n (int32 r)) rs && user_in n u) ≡ list_all (is_index n) (map uint32 ks ++ map uint32 vs ++ map int32 rs ++ option_to_list (option_map uint32 u))
+role_indexes_are n ks vs rs u =
+    let p : ℤ → Bool = is_index n in
+    let users : List ℤ = option_to_list (option_map uint32 u) in
+    let roles : List ℤ = map int32 rs in
+    sym (list_all-append p ((map uint32 ks ++ map uint32 vs) ++ roles) users
+    ∙ ap (λ b. b && list_all p users) (list_all-append p (map uint32 ks ++ map uint32 vs) roles)
+    ∙ ap (λ b. (b && list_all p roles) && list_all p users) (list_all-append p (map uint32 ks) (map uint32 vs))
+    ∙ ap (λ b. ((b && list_all p (map uint32 vs)) && list_all p roles) && list_all p users) (as_numbers n ks)
+    ∙ ap (λ b. ((all_below n ks && b) && list_all p roles) && list_all p users) (as_numbers n vs)
+    ∙ ap (λ b. ((all_below n ks && all_below n vs) && b) && list_all p users) (as_roles n rs)
+    ∙ ap (λ b. ((all_below n ks && all_below n vs) && list_all (λ r. is_index n (int32 r)) rs) && b) (as_option n u))
 
 pub and_left : (a b : Bool) → (a && b) ≡ true → a ≡ true
 and_left true b h = refl
@@ -49,14 +62,7 @@ by_ltb : (x n : ℕ) → nat_lt x n ≡ true → x < n
 by_ltb x n h = grind (arith, nat_tests)
 
 -- from the test of all to each
-pub each_index : (n : ℕ) (ks : List ℕ) → list_all (is_index n) (map pos ks) ≡ true → (k d : ℕ) → k < length ks → get_or ks k d < n
+pub each_index : (n : ℕ) (ks : List ℕ) → all_below n ks ≡ true → (k d : ℕ) → k < length ks → get_or ks k d % 2 ^ 32 < n
 each_index n [] h k d inside = absurd (omega arith)
-each_index n (x ∷ ks) h zero d inside = by_ltb x n (and_left _ _ h)
+each_index n (x ∷ ks) h zero d inside = by_ltb (x % 2 ^ 32) n (and_left _ _ h)
 each_index n (x ∷ ks) h (suc k) d inside = each_index n ks (and_right _ _ h) k d (omega arith)
-
--- the indexes of keys, of values and of the user, from the test of all
-pub all_of_three : (p : ℤ → Bool) (a b c : List ℤ) → list_all p (a ++ b ++ c) ≡ true → (list_all p a ≡ true) × (list_all p b ≡ true) × (list_all p c ≡ true)
-all_of_three p a b c h =
-    let outer : (list_all p (a ++ b) && list_all p c) ≡ true = sym (list_all-append p (a ++ b) c) ∙ h in
-    let inner : (list_all p a && list_all p b) ≡ true = sym (list_all-append p a b) ∙ and_left _ _ outer in
-    (and_left _ _ inner, and_right _ _ inner, and_right _ _ outer)

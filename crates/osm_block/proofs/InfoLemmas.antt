@@ -1,6 +1,7 @@
 -- What an Info says is in its range where its fields are.
 use Rattle.std.proofs.Common.{◌≡◌, ℕ, List, map, Bool, true, ◌&&◌, refl, sym, ap, ◌∙◌, ℤ, pos, Option, Some, None, IsTrue}
 use Rattle.std.specs.Prelude.{option_map, unwrap_or}
+use Rattle.pbf_wire.specs.Readings.{uint32}
 use Rattle.osm_value.specs.Value.{Text}
 use Rattle.osm_value.specs.Ranges.{passes, is_version, is_wide, is_uid}
 use Rattle.osm_block.specs.Block.{version, time, text_at}
@@ -19,7 +20,7 @@ info_passes g v t c u h =
     sym (ap (λ b. b && passes (λ t. is_wide (time g t)) t && passes is_wide c && passes is_uid u) (version_passes v)
     ∙ ap (λ b. passes is_version (unwrap_or (option_map version v) None) && b && passes is_wide c && passes is_uid u) (time_passes g t)) ∙ h
 
-pub user_text : (table : List Text) (u : Option ℕ) → option_map (λ i. text_at table (pos i)) u ≡ option_map (text_at table) (option_map pos u)
+pub user_text : (table : List Text) (u : Option ℕ) → option_map (λ i. text_at table (uint32 i)) u ≡ option_map (text_at table) (option_map uint32 u)
 user_text table None = refl
 user_text table (Some i) = refl
 

@@ -1,7 +1,7 @@
 pub mod HeaderLemmas
 pub mod RowLemmas
 pub mod ReadingLemmas
-pub mod CommonLemmas
+pub mod FieldLemmas
 pub mod LoopLemmas
 pub mod Complete
 pub mod DenseLemmas
@@ -12,10 +12,16 @@ pub mod TagsLemmas
 pub mod TextsLemmas
 pub mod IndexesLemmas
 pub mod PhaseLemmas
+pub mod NodePhases
+pub mod RelationPhases
 pub mod InfoLemmas
 pub mod RangeLemmas
 pub mod RangeTests
+pub mod PlaceLemmas
+pub mod MemberLemmas
 pub mod Unique
 pub mod UniqueDense
 pub mod VectorBlocks
 pub mod WayComplete
+pub mod NodeComplete
+pub mod RelationComplete

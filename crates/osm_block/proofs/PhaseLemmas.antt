@@ -5,6 +5,7 @@ use Rattle.osm_block.specs.Differences.{Diff}
 use Rattle.osm_block.proofs.IndexesLemmas.{and_left}
 use Rattle.osm_block.proofs.DifferencesLemmas.{Diff-are_sums}
 use Rattle.std.specs.List.{list_all}
+use Rattle.pbf_wire.specs.Readings.{uint32}
 use Rattle.osm_block.specs.declared.fault.BlockFault.{BlockFault}
 use Rattle.osm_block.specs.declared.fault.BlockFault.TheVariants as faults
 use Rattle.osm_block.specs.Message.{Context, WayMessage}
@@ -83,7 +84,7 @@ pub no_phase : (b : Context) (m : WayMessage) (id : ℤ) (refs : List ℤ) (t : 
 no_phase b m id refs t n u r is passed len fits fine =
     late b m id refs r ∙ pass (ways_range b m) faults.OutOfRange _ (sym is ∙ passed) ∙ pass (all_in b.table (m.keys ++ m.vals ++ user_indexes m.info)) faults.BadIndex [] (sym (index_is b m n u len fits) ∙ fine)
 
-pub even_from : (ks vs : List ℕ) → length ks ≡ length vs → same_length (map pos ks) (map pos vs) ≡ true
+pub even_from : (ks vs : List ℕ) → length ks ≡ length vs → same_length (map uint32 ks) (map uint32 vs) ≡ true
 even_from ks vs e =
-    let same : length (map pos ks) ≡ length (map pos vs) = length-map ks pos ∙ e ∙ sym (length-map vs pos) in
+    let same : length (map uint32 ks) ≡ length (map uint32 vs) = length-map ks uint32 ∙ e ∙ sym (length-map vs uint32) in
     eq-eqb _ _ same

@@ -40,6 +40,14 @@ pub still_refused : (p q : Phase) (e : BlockError) → ((f : BlockFault) → p �
 still_refused p q errors.Memory h g = tt
 still_refused p q (errors.Fault f) h g = h f g
 
+-- what was found of a message, of the same message as it stands in the payload
+pub Gives-along : {A M : Type 0} (R : A → M → Type 0) (phase : M → Phase) (found message : M) (whole : Phase) (r : Result A BlockError) → found ≡ message → whole ≡ phase message →
+    Gives (λ x. R x found) (phase found) r → Gives (λ x. R x message) whole r
+Gives-along {A} {M} R phase found message whole r e w g =
+    let P : M → Type 0 = λ m. Gives (λ x. R x m) (phase m) r in
+    let Q : Phase → Type 0 = λ p. Gives (λ x. R x message) p r in
+    subst Q (sym w) (subst P e g)
+
 -- the same phase, written otherwise
 pub as_it_is : (p q : Phase) (r : Result (Unit {0}) BlockError) → p ≡ q → Gives {A = Unit {0}} (λ _. ⊤) p r → Gives {A = Unit {0}} (λ _. ⊤) q r
 as_it_is p q r e g = let P : Phase → Type 0 = λ s. Gives {A = Unit {0}} (λ _. ⊤) s r in subst P e g
@@ -125,38 +133,3 @@ pub changed-step : (f : ℕ → ℕ) (xs ys : List ℕ) (i : ℕ) → i < length
 changed-step f xs ys i h e =
     let next : suc i ≡ i + 1 = omega arith in
     ap (λ l. set l i (f (get_or l i 0))) e ∙ changed f ys i h ∙ ap (λ k. map f (take k ys) ++ drop k ys) next
-
--- ---- scalars
-
-pub last_is_some : (x : ℕ) (xs : List ℕ) → is_some (last_or (Some x) xs) ≡ true
-last_is_some x [] = refl
-last_is_some x (y ∷ ys) = last_is_some y ys
-
-pub last_there : (xs : List ℕ) → is_some (last_or None xs) ≡ is_there xs
-last_there [] = refl
-last_there (x ∷ xs) = last_is_some x xs
-
-pub indexes_are : (old new ns : List ℕ) → old ≡ ns → new ≡ map (λ n. n % 2 ^ 32) old → map pos new ≡ map uint32 ns
-indexes_are old new ns e f = ap (map pos) (f ∙ ap (map (λ n. n % 2 ^ 32)) e) ∙ twice ns
-  where
-    twice : (ns : List ℕ) → map pos (map (λ n. n % 2 ^ 32) ns) ≡ map uint32 ns
-    twice [] = refl
-    twice (n ∷ ns) = ap (λ l. pos (n % 2 ^ 32) ∷ l) (twice ns)
-
-pub info_is : (fs : List Entry) (v : Option ℤ) (t : Option ℤ) (c : Option ℤ) (u : Option ℤ) (s : Option ℕ) (h : Bool) →
-    v ≡ option_map int32 (last fs 1) → t ≡ option_map int64 (last fs 2) → c ≡ option_map int64 (last fs 3) → u ≡ option_map int32 (last fs 4) →
-    s ≡ option_map (λ n. n % 2 ^ 32) (last fs 5) → h ≡ is_some (last fs 6) →
-    record { version = v; timestamp = t; changeset = c; uid = u; user_sid = option_map pos s; is_visible_there = h } ≡ info_message fs
-info_is fs v t c u s h ev et ec eu es eh =
-    let user : option_map pos s ≡ option_map uint32 (last fs 5) = ap (option_map pos) es ∙ low (last fs 5) in
-    let visible : h ≡ is_there (fitting number_of 6 fs) = eh ∙ last_there (fitting number_of 6 fs) in
-    ap (λ x. record { version = x; timestamp = t; changeset = c; uid = u; user_sid = option_map pos s; is_visible_there = h }) ev
-    ∙ ap (λ x. record { version = option_map int32 (last fs 1); timestamp = x; changeset = c; uid = u; user_sid = option_map pos s; is_visible_there = h }) et
-    ∙ ap (λ x. record { version = option_map int32 (last fs 1); timestamp = option_map int64 (last fs 2); changeset = x; uid = u; user_sid = option_map pos s; is_visible_there = h }) ec
-    ∙ ap (λ x. record { version = option_map int32 (last fs 1); timestamp = option_map int64 (last fs 2); changeset = option_map int64 (last fs 3); uid = x; user_sid = option_map pos s; is_visible_there = h }) eu
-    ∙ ap (λ x. record { version = option_map int32 (last fs 1); timestamp = option_map int64 (last fs 2); changeset = option_map int64 (last fs 3); uid = option_map int32 (last fs 4); user_sid = x; is_visible_there = h }) user
-    ∙ ap (λ x. record { version = option_map int32 (last fs 1); timestamp = option_map int64 (last fs 2); changeset = option_map int64 (last fs 3); uid = option_map int32 (last fs 4); user_sid = option_map uint32 (last fs 5); is_visible_there = x }) visible
-  where
-    low : (o : Option ℕ) → option_map pos (option_map (λ n. n % 2 ^ 32) o) ≡ option_map uint32 o
-    low None = refl
-    low (Some n) = refl

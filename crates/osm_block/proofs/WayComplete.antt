@@ -28,7 +28,7 @@ index_of_text : (table : List Text) (k : ℤ) (t : Text) → text_at table k ≡
 index_of_text table (pos i) t e = there_is_index table i t e
 index_of_text table (negsuc i) t e = cc
 
-all_indexes_there : {A : Type 0} (get : A → Text) (table : List Text) (xs : List A) (ks : List ℤ) → map (λ x. Some (get x)) xs ≡ map (text_at table) ks → list_all (is_index (length table)) ks ≡ true
+pub all_indexes_there : {A : Type 0} (get : A → Text) (table : List Text) (xs : List A) (ks : List ℤ) → map (λ x. Some (get x)) xs ≡ map (text_at table) ks → list_all (is_index (length table)) ks ≡ true
 all_indexes_there get table xs [] e = refl
 all_indexes_there get table [] (k ∷ ks) e = cc
 all_indexes_there get table (x ∷ xs) (k ∷ ks) e =
@@ -36,14 +36,14 @@ all_indexes_there get table (x ∷ xs) (k ∷ ks) e =
     let rest : map (λ x. Some (get x)) xs ≡ map (text_at table) ks = cc in
     ap (λ b. b && list_all (is_index (length table)) ks) (index_of_text table k (get x) here) ∙ all_indexes_there get table xs ks rest
 
-user_there : (table : List Text) (u : Option Text) (k : Option ℤ) → option_map Some u ≡ option_map (text_at table) k → list_all (is_index (length table)) (option_to_list k) ≡ true
+pub user_there : (table : List Text) (u : Option Text) (k : Option ℤ) → option_map Some u ≡ option_map (text_at table) k → list_all (is_index (length table)) (option_to_list k) ≡ true
 user_there table u None e = refl
 user_there table None (Some k) e = cc
 user_there table (Some t) (Some k) e =
     let here : text_at table k ≡ Some t = cc in
     ap (λ b. b && true) (index_of_text table k t here)
 
-info_range : (b : Context) (i : InfoValue) (m : InfoMessage) → InfoOf b i m → info_in_range b m ≡ true
+pub info_range : (b : Context) (i : InfoValue) (m : InfoMessage) → InfoOf b i m → info_in_range b m ≡ true
 info_range b i m h =
     ap (λ x. x && passes (λ t. is_wide (time b.date_granularity t)) m.timestamp && passes is_wide m.changeset && passes is_uid m.uid) (version_passes m.version ∙ ap (passes is_version) (sym h.version_is))
     ∙ ap (λ x. passes is_version i.version && x && passes is_wide m.changeset && passes is_uid m.uid) (time_passes b.date_granularity m.timestamp ∙ ap (passes is_wide) (sym h.time_is))

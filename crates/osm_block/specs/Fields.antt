@@ -1,24 +1,53 @@
 -- What the code keeps of a message while it reads it, as the message.
-use Rattle.std.specs.Prelude.{map, option_map, pos}
-use Rattle.osm_block.specs.declared.message.Scale.{Scale}
-use Rattle.osm_block.specs.declared.message.InfoFields.{InfoFields}
-use Rattle.osm_block.specs.declared.message.WayArrays.{WayArrays}
-use Rattle.osm_block.specs.declared.message.NodeArrays.{NodeArrays}
-use Rattle.osm_block.specs.declared.message.RelationArrays.{RelationArrays}
+use Rattle.std.specs.Prelude.{map, option_map}
+use Rattle.std.specs.Option.{is_some}
+use Rattle.osm_block.specs.declared.scale.Scale.{Scale}
+use Rattle.osm_block.specs.declared.info.InfoNumbers.{InfoNumbers}
+use Rattle.osm_block.specs.declared.node.NodeFields.{NodeFields}
+use Rattle.osm_block.specs.declared.way.WayFields.{WayFields}
+use Rattle.osm_block.specs.declared.relation.RelationFields.{RelationFields}
 use Rattle.osm_block.specs.Message.{Context, InfoMessage, NodeMessage, WayMessage, RelationMessage}
-use Rattle.pbf_wire.specs.Readings.{sint64, int32}
+use Rattle.pbf_wire.specs.Readings.{sint64, int32, int64, uint32}
 
 abbrev pub context_of : Scale → Context
-context_of f = record { table = map (λ t. t.now) f.table.items; granularity = f.granularity; date_granularity = f.date_granularity; lat_offset = f.lat_offset; lon_offset = f.lon_offset }
+context_of s = record { table = map (λ t. t.now) s.table.items; granularity = s.granularity; date_granularity = s.date_granularity; lat_offset = s.lat_offset; lon_offset = s.lon_offset }
 
-abbrev pub info_message_of : InfoFields → InfoMessage
-info_message_of i = record { version = i.version; timestamp = i.timestamp; changeset = i.changeset; uid = i.uid; user_sid = option_map pos i.user_sid; is_visible_there = i.is_visible_there }
+abbrev pub info_message_of : InfoNumbers → InfoMessage
+info_message_of i = record {
+  version = option_map int32 i.version;
+  timestamp = option_map int64 i.timestamp;
+  changeset = option_map int64 i.changeset;
+  uid = option_map int32 i.uid;
+  user_sid = option_map uint32 i.user_sid;
+  is_visible_there = is_some i.visible;
+}
 
-abbrev pub way_message_of : WayArrays → InfoFields → WayMessage
-way_message_of w i = record { id = w.id; keys = map pos w.keys.now; vals = map pos w.vals.now; info = info_message_of i; refs = map sint64 w.refs.now }
+abbrev pub node_message_of : NodeFields → NodeMessage
+node_message_of n = record {
+  id = option_map sint64 n.id;
+  keys = map uint32 n.keys.numbers.items;
+  vals = map uint32 n.vals.numbers.items;
+  info = info_message_of n.info.numbers;
+  lat = option_map sint64 n.lat;
+  lon = option_map sint64 n.lon;
+}
 
-abbrev pub node_message_of : NodeArrays → InfoFields → NodeMessage
-node_message_of n i = record { id = n.id; keys = map pos n.keys.now; vals = map pos n.vals.now; info = info_message_of i; lat = n.lat; lon = n.lon }
+abbrev pub way_message_of : WayFields → WayMessage
+way_message_of w = record {
+  id = option_map int64 w.id;
+  keys = map uint32 w.keys.numbers.items;
+  vals = map uint32 w.vals.numbers.items;
+  info = info_message_of w.info.numbers;
+  refs = map sint64 w.refs.numbers.items;
+}
 
-abbrev pub relation_message_of : RelationArrays → InfoFields → RelationMessage
-relation_message_of r i = record { id = r.id; keys = map pos r.keys.now; vals = map pos r.vals.now; info = info_message_of i; roles_sid = map int32 r.roles.now; memids = map sint64 r.memids.now; types = map int32 r.types.now }
+abbrev pub relation_message_of : RelationFields → RelationMessage
+relation_message_of r = record {
+  id = option_map int64 r.id;
+  keys = map uint32 r.keys.numbers.items;
+  vals = map uint32 r.vals.numbers.items;
+  info = info_message_of r.info.numbers;
+  roles_sid = map int32 r.roles.numbers.items;
+  memids = map sint64 r.memids.numbers.items;
+  types = map int32 r.types.numbers.items;
+}

@@ -14,3 +14,6 @@ pub mod Reads
 pub mod Parts
 pub mod Head
 pub mod Texts
+pub mod Columns
+pub mod Members
+pub mod Fault

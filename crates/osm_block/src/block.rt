@@ -11,11 +11,11 @@ ghost use Rattle.osm_block.specs.Head.{HeadRead, head_phases};
 ghost use Rattle.osm_block.specs.Fields.{context_of};
 ghost use Rattle.osm_block.specs.Phases.{Gives, first, fault, text_phases};
 
-use crate::common::{Common, optional_i32, optional_i64, read_payloads};
 use crate::fault::{BlockError, BlockFault};
 use crate::group::{Parts, Scratch, read_groups, some_there};
-use crate::message::Scale;
-use crate::readings::{check_all, each, each_of_all, last_number, wire_of};
+use crate::info::{optional_i32, optional_i64};
+use crate::readings::{check_all, each, each_of_all, last_number, read_payloads, wire_of};
+use crate::scale::Scale;
 use crate::texts::read_texts;
 use osm_value::Element;
 use std::alloc::{AllocError, Global};
@@ -108,22 +108,8 @@ pub fn read_block<'a>(alloc: Global, bytes: &'a [u8]) -> Result<Vec<Element<'a>>
     let scale = read_scale(alloc, bytes)?;
     let mut groups = Vec::new(alloc);
     each(bytes, 2, &mut groups)?;
-    let mut parts = Parts {
-        nodes: Vec::new(alloc),
-        dense: Vec::new(alloc),
-        ways: Vec::new(alloc),
-        relations: Vec::new(alloc),
-    };
-    let mut scratch = Scratch {
-        common: Common {
-            infos: Vec::new(alloc),
-            keys: Vec::new(alloc),
-            vals: Vec::new(alloc),
-        },
-        refs: Vec::new(alloc),
-        roles: Vec::new(alloc),
-        types: Vec::new(alloc),
-    };
+    let mut parts = Parts::new(alloc);
+    let mut scratch = Scratch::new(alloc);
     let mut out = Vec::new(alloc);
     read_groups(alloc, &scale, &groups, &mut parts, &mut scratch, &mut out)?;
     Ok(out)

@@ -1,6 +1,6 @@
 //! Delta coded arrays.
 
-ghost use Rattle.std.specs.Prelude.{◌≡◌, map, not};
+ghost use Rattle.std.specs.Prelude.{◌≡◌, map, not, option_map};
 ghost use Rattle.std.specs.List.{list_all};
 ghost use Rattle.osm_block.specs.declared.fault.BlockFault.TheVariants as faults;
 ghost use Rattle.pbf_wire.specs.Readings.{sint64};
@@ -16,6 +16,15 @@ pub fn unzigzag(n: u64) -> i64
 {
     let half = (n / 2) as i64;
     if n % 2 == 0 { half } else { -half - 1 }
+}
+
+pub fn optional_unzigzag(number: Option<u64>) -> Option<i64>
+    ensures { result ≡ option_map sint64 number }
+{
+    match number {
+        None => None,
+        Some(number) => Some(unzigzag(number)),
+    }
 }
 
 /// The numbers whose differences these are.

@@ -7,7 +7,7 @@ ghost use Rattle.osm_block.specs.Phases.{Gives, first, message_phases};
 ghost use Rattle.osm_block.specs.Reads.{Appended};
 
 use crate::fault::BlockError;
-use crate::message::Scale;
+use crate::scale::Scale;
 use osm_value::Element;
 use std::alloc::Global;
 

@@ -1,34 +1,43 @@
 //! The messages of a group.
 
-ghost use Rattle.std.specs.Prelude.{◌≡◌, map, OnOk, ⊤, not, nat_le, ◌∷◌, []};
+ghost use Rattle.std.specs.Prelude.{◌≡◌, map, option_map, OnOk, ⊤, not, nat_le, ◌∷◌, []};
 ghost use Rattle.std.specs.List.{flat_map, count_by};
-ghost use Rattle.pbf_wire.specs.Readings.{fields};
+ghost use Rattle.pbf_wire.specs.Readings.{fields, wire};
 ghost use Rattle.osm_block.specs.Message.{Plain, Way, Relation};
 ghost use Rattle.pbf_wire.specs.Readings.{each, is_there};
 ghost use Rattle.osm_block.specs.Block.{GroupOf};
 ghost use Rattle.osm_block.specs.Parts.{messages_of};
 ghost use Rattle.osm_block.specs.Fields.{context_of};
+ghost use Rattle.osm_block.specs.declared.fault.BlockFault.TheVariants as faults;
 ghost use Rattle.osm_block.specs.Phases.{Gives, first, message_phases, group_phases};
 ghost use Rattle.osm_block.specs.Reads.{Appended, AppendedOne, AppendedGroups};
 
-use crate::common::{Common, read_payloads};
 use crate::dense::read_dense;
 use crate::fault::{BlockError, BlockFault};
-use crate::message::Scale;
-use crate::node::read_node;
-use crate::read_way::read_way;
-use crate::readings::wire_of;
-use crate::relation::read_relation;
+use crate::node::{NodeFields, read_node};
+use crate::relation::{RelationFields, read_relation};
+use crate::scale::Scale;
+use crate::way::{WayFields, read_way};
 use osm_value::Element;
-use std::alloc::{AllocError, Global};
+use pbf_wire::{Fields, Value};
+use std::alloc::Global;
 
 /// What messages are read into. It is used again for each one.
 #[derive(Drop)]
-pub struct Scratch<'a> {
-    pub common: Common<'a>,
-    pub refs: Vec<u64>,
-    pub roles: Vec<u64>,
-    pub types: Vec<u64>,
+pub struct Scratch {
+    pub node: NodeFields,
+    pub way: WayFields,
+    pub relation: RelationFields,
+}
+
+impl Scratch {
+    pub fn new(alloc: Global) -> Scratch {
+        Scratch {
+            node: NodeFields::new(alloc),
+            way: WayFields::new(alloc),
+            relation: RelationFields::new(alloc),
+        }
+    }
 }
 
 /// Appends the ways of the payloads.
@@ -36,20 +45,14 @@ fn read_ways<'a>(
     alloc: Global,
     scale: &Scale<'a>,
     payloads: &[&'a [u8]],
-    scratch: &mut Scratch<'a>,
+    scratch: &mut Scratch,
     out: &mut Vec<Element<'a>>,
 ) -> Result<(), BlockError>
     ensures phase { Gives (λ _. ⊤) (first (flat_map (message_phases (context_of scale.now)) (map Way (map (λ p. p.now) payloads.now)))) result }
     ensures read { OnOk result (Appended (context_of scale.now) out.old.items out.new.items (map Way (map (λ p. p.now) payloads.now))) }
 {
     for payload in payloads {
-        let way = read_way(
-            alloc,
-            scale,
-            payload,
-            &mut scratch.common,
-            &mut scratch.refs,
-        )?;
+        let way = read_way(alloc, scale, payload, &mut scratch.way)?;
         out.push(Element::Way(way))?;
     }
     Ok(())
@@ -60,14 +63,14 @@ fn read_nodes<'a>(
     alloc: Global,
     scale: &Scale<'a>,
     payloads: &[&'a [u8]],
-    scratch: &mut Scratch<'a>,
+    scratch: &mut Scratch,
     out: &mut Vec<Element<'a>>,
 ) -> Result<(), BlockError>
     ensures phase { Gives (λ _. ⊤) (first (flat_map (message_phases (context_of scale.now)) (map Plain (map (λ p. p.now) payloads.now)))) result }
     ensures read { OnOk result (Appended (context_of scale.now) out.old.items out.new.items (map Plain (map (λ p. p.now) payloads.now))) }
 {
     for payload in payloads {
-        let node = read_node(alloc, scale, payload, &mut scratch.common)?;
+        let node = read_node(alloc, scale, payload, &mut scratch.node)?;
         out.push(Element::Node(node))?;
     }
     Ok(())
@@ -78,13 +81,14 @@ fn read_relations<'a>(
     alloc: Global,
     scale: &Scale<'a>,
     payloads: &[&'a [u8]],
+    scratch: &mut Scratch,
     out: &mut Vec<Element<'a>>,
 ) -> Result<(), BlockError>
     ensures phase { Gives (λ _. ⊤) (first (flat_map (message_phases (context_of scale.now)) (map Relation (map (λ p. p.now) payloads.now)))) result }
     ensures read { OnOk result (Appended (context_of scale.now) out.old.items out.new.items (map Relation (map (λ p. p.now) payloads.now))) }
 {
     for payload in payloads {
-        let relation = read_relation(alloc, scale, payload)?;
+        let relation = read_relation(alloc, scale, payload, &mut scratch.relation)?;
         out.push(Element::Relation(relation))?;
     }
     Ok(())
@@ -97,6 +101,17 @@ pub struct Parts<'a> {
     pub dense: Vec<&'a [u8]>,
     pub ways: Vec<&'a [u8]>,
     pub relations: Vec<&'a [u8]>,
+}
+
+impl<'a> Parts<'a> {
+    pub fn new(alloc: Global) -> Parts<'a> {
+        Parts {
+            nodes: Vec::new(alloc),
+            dense: Vec::new(alloc),
+            ways: Vec::new(alloc),
+            relations: Vec::new(alloc),
+        }
+    }
 }
 
 pub fn some_there(payloads: &[&[u8]]) -> bool
@@ -122,16 +137,28 @@ fn is_mixed(parts: &Parts) -> bool
 }
 
 /// Reads the payloads of a group.
-fn read_parts<'a>(group: &'a [u8], parts: &mut Parts<'a>) -> Result<(), AllocError>
+fn read_parts<'a>(group: &'a [u8], parts: &mut Parts<'a>) -> Result<(), BlockError>
+    ensures phase { Gives (λ _. ⊤) (option_map faults.Wire (wire group.now)) result }
     ensures nodes { OnOk result (map (λ p. p.now) parts.new.nodes.items ≡ each (fields group.now) 1) }
     ensures dense { OnOk result (map (λ p. p.now) parts.new.dense.items ≡ each (fields group.now) 2) }
     ensures ways { OnOk result (map (λ p. p.now) parts.new.ways.items ≡ each (fields group.now) 3) }
     ensures relations { OnOk result (map (λ p. p.now) parts.new.relations.items ≡ each (fields group.now) 4) }
 {
-    read_payloads(group, 1, &mut parts.nodes)?;
-    read_payloads(group, 2, &mut parts.dense)?;
-    read_payloads(group, 3, &mut parts.ways)?;
-    read_payloads(group, 4, &mut parts.relations)
+    parts.nodes.clear();
+    parts.dense.clear();
+    parts.ways.clear();
+    parts.relations.clear();
+    for field in Fields::new(group) {
+        let field = field?;
+        match (field.number, field.value) {
+            (1, Value::Bytes(node)) => parts.nodes.push(node)?,
+            (2, Value::Bytes(dense)) => parts.dense.push(dense)?,
+            (3, Value::Bytes(way)) => parts.ways.push(way)?,
+            (4, Value::Bytes(relation)) => parts.relations.push(relation)?,
+            _ => {}
+        }
+    }
+    Ok(())
 }
 
 /// Appends the elements of the parts, in order.
@@ -139,7 +166,7 @@ fn read_messages<'a>(
     alloc: Global,
     scale: &Scale<'a>,
     parts: &Parts<'a>,
-    scratch: &mut Scratch<'a>,
+    scratch: &mut Scratch,
     out: &mut Vec<Element<'a>>,
 ) -> Result<(), BlockError>
     ensures phase { Gives (λ _. ⊤) (first (flat_map (message_phases (context_of scale.now)) (messages_of parts.now))) result }
@@ -148,7 +175,7 @@ fn read_messages<'a>(
     read_nodes(alloc, scale, &parts.nodes, scratch, out)?;
     read_dense(alloc, scale, &parts.dense, out)?;
     read_ways(alloc, scale, &parts.ways, scratch, out)?;
-    read_relations(alloc, scale, &parts.relations, out)
+    read_relations(alloc, scale, &parts.relations, scratch, out)
 }
 
 /// Appends the elements of a group.
@@ -157,15 +184,12 @@ pub fn read_group<'a>(
     scale: &Scale<'a>,
     group: &'a [u8],
     parts: &mut Parts<'a>,
-    scratch: &mut Scratch<'a>,
+    scratch: &mut Scratch,
     out: &mut Vec<Element<'a>>,
 ) -> Result<(), BlockError>
     ensures phase { Gives (λ _. ⊤) (first (group_phases (context_of scale.now) group.now)) result }
     ensures read { OnOk result (AppendedOne (GroupOf (context_of scale.now)) out.old.items out.new.items group.now) }
 {
-    if let Some(fault) = wire_of(group) {
-        return Err(BlockError::Fault(BlockFault::Wire(fault)));
-    }
     read_parts(group, parts)?;
     if is_mixed(parts) {
         return Err(BlockError::Fault(BlockFault::MixedGroup));
@@ -179,7 +203,7 @@ pub fn read_groups<'a>(
     scale: &Scale<'a>,
     groups: &[&'a [u8]],
     parts: &mut Parts<'a>,
-    scratch: &mut Scratch<'a>,
+    scratch: &mut Scratch,
     out: &mut Vec<Element<'a>>,
 ) -> Result<(), BlockError>
     ensures phase { Gives (λ _. ⊤) (first (flat_map (group_phases (context_of scale.now)) (map (λ p. p.now) groups.now))) result }

@@ -2,18 +2,20 @@
 #![tactic(auto)]
 
 mod block;
-mod common;
+mod column;
 mod deltas;
 mod dense;
 mod fault;
 mod group;
 mod header;
+mod info;
 pub mod laws;
-mod message;
 mod node;
-mod read_way;
+mod ranges;
 mod readings;
 mod relation;
+mod scale;
+mod tag_list;
 mod tags;
 mod texts;
 mod way;
@@ -21,3 +23,6 @@ mod way;
 pub use block::read_block;
 pub use fault::{BlockError, BlockFault};
 pub use header::{BBox, HeaderBlock, HeaderFault, Texts, read_header_block};
+
+#[cfg(test)]
+mod tests;

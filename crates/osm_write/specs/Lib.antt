@@ -6,5 +6,6 @@ pub mod Scale
 pub mod Runs
 pub mod Arrays
 pub mod Laws
+pub mod Header
 pub mod VectorCanon
 pub mod Fault

@@ -1,11 +1,14 @@
 //! The whole block.
 
 ghost use Rattle.std.specs.Prelude.{◌≡◌, ◌++◌, ◌≤◌, ◌<◌, ◌∷◌, OnOk, IfOk, MatchResult, map, List, [], length};
-ghost use Rattle.std.specs.List.{flat_map};
+ghost use Rattle.std.specs.List.{flat_map, AllByRecursion};
 ghost use Rattle.osm_value.specs.Value.{Text};
 ghost use Rattle.osm_write.specs.Scale.{view};
 ghost use Rattle.osm_write.specs.Canon.{bytes_field, group_bytes, groups_of, granularity_field, block_bytes, canon};
 ghost use Rattle.osm_write.specs.Write.{IsFault};
+ghost use Rattle.osm_write.specs.Laws.{FewTexts};
+ghost use Rattle.osm_block.specs.Block.{Block};
+ghost use Rattle.osm_value.specs.Elements.{IsElement};
 
 use crate::append::{append_bytes, append_number};
 use crate::collect::scale_of;
@@ -85,7 +88,8 @@ fn append_granularities(scale: &Scale, out: &mut Vec<u8>) -> Result<(), AllocErr
 
 #[tactic(auto, unfolding(crate::specs::Canon::canon))]
 fn bytes_of(alloc: Global, elements: &[Element]) -> Result<Vec<u8>, AllocError>
-    ensures { IfOk result (λ v. v.items ≡ canon elements.now) }
+    ensures exact { IfOk result (λ v. v.items ≡ canon elements.now) }
+    ensures in_range { OnOk result (AllByRecursion IsElement elements.now) }
 {
     let scale = scale_of(alloc, elements)?;
     let mut scratch = Scratch::new(alloc);
@@ -96,16 +100,20 @@ fn bytes_of(alloc: Global, elements: &[Element]) -> Result<Vec<u8>, AllocError>
     Ok(out)
 }
 
-/// The block of the one element, whatever its length.
+/// The canonical block of the one element, whatever its length.
 pub fn encode_one(alloc: Global, element: &Element) -> Result<Vec<u8>, AllocError>
-    ensures { IfOk result (λ v. v.items ≡ canon (element.now ∷ [])) }
+    ensures exact { IfOk result (λ v. v.items ≡ canon (element.now ∷ [])) }
+    ensures read_back { IfOk result (λ v. FewTexts (element.now ∷ []) → Block (element.now ∷ []) v.items) }
 {
     bytes_of(alloc, std::slice::from_ref(element))
 }
 
-/// The block of the elements.
+/// The canonical block of the elements, in their order. `BlockTooLarge` exactly where it has more
+/// than 33,554,431 bytes, the most that a raw payload may have. What is given says these elements
+/// to every reader.
 pub fn encode_block(alloc: Global, elements: &[Element]) -> Result<Vec<u8>, WriteFault>
-    ensures { MatchResult result (λ v. (v.items ≡ canon elements.now) × (length v.items ≤ 33554431)) (λ e. IsFault (canon elements.now) e) }
+    ensures exact { MatchResult result (λ v. (v.items ≡ canon elements.now) × (length v.items ≤ 33554431)) (λ e. IsFault (canon elements.now) e) }
+    ensures read_back { IfOk result (λ v. Block elements.now v.items) }
 {
     let bytes = bytes_of(alloc, elements)?;
     if bytes.len() > MAX_BLOCK_LEN {

@@ -2,7 +2,8 @@
 
 ghost use Rattle.std.specs.Prelude.{◌≡◌, ◌<◌, ◌%◌, ◌==◌, OnOk, IfOk, map, List, option_to_list, unsigned_abs, ◌++◌};
 ghost use Rattle.std.specs.Option.{option_copied};
-ghost use Rattle.std.specs.List.{flat_map, list_all};
+ghost use Rattle.std.specs.List.{flat_map, list_all, AllByRecursion};
+ghost use Rattle.osm_value.specs.Elements.{IsElement};
 ghost use Rattle.osm_value.specs.Value.{Text};
 ghost use Rattle.osm_write.specs.Texts.{with_texts};
 ghost use Rattle.osm_write.specs.Scale.{view};
@@ -43,7 +44,8 @@ fn add_roles<'a>(table: &mut TextTable<'a>, members: &[Member<'a>]) -> Result<()
 
 #[tactic(auto, using(crate::proofs::FirstUses::with_texts_append))]
 fn add_element<'a>(table: &mut TextTable<'a>, element: &Element<'a>) -> Result<(), AllocError>
-    ensures { OnOk result (table.new ≡ with_texts table.old (texts_of element.now)) }
+    ensures exact { OnOk result (table.new ≡ with_texts table.old (texts_of element.now)) }
+    ensures in_range { OnOk result (IsElement element.now) }
 {
     match element {
         Element::Node(node) => {
@@ -64,7 +66,8 @@ fn add_element<'a>(table: &mut TextTable<'a>, element: &Element<'a>) -> Result<(
 
 #[tactic(auto, using(crate::proofs::FirstUses::with_texts_append))]
 fn add_elements<'a>(table: &mut TextTable<'a>, elements: &[Element<'a>]) -> Result<(), AllocError>
-    ensures { OnOk result (table.new ≡ with_texts table.old (flat_map texts_of elements.now)) }
+    ensures exact { OnOk result (table.new ≡ with_texts table.old (flat_map texts_of elements.now)) }
+    ensures in_range { OnOk result (AllByRecursion IsElement elements.now) }
 {
     for element in elements {
         add_element(table, element)?;
@@ -123,7 +126,8 @@ fn times_are_whole(elements: &[Element]) -> bool
 
 #[tactic(auto, using(crate::proofs::FirstUses::table_is), unfolding(crate::specs::Canon::scale_of))]
 pub(crate) fn scale_of<'a>(alloc: Global, elements: &[Element<'a>]) -> Result<Scale<'a>, AllocError>
-    ensures { IfOk result (λ s. view s ≡ scale_of elements.now) }
+    ensures exact { IfOk result (λ s. view s ≡ scale_of elements.now) }
+    ensures in_range { OnOk result (AllByRecursion IsElement elements.now) }
 {
     let mut texts = TextTable::new(alloc);
     add_elements(&mut texts, elements)?;

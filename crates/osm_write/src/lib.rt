@@ -9,6 +9,8 @@ mod dense;
 mod fault;
 mod group;
 mod groups;
+mod header;
+pub mod laws;
 mod message;
 mod parts;
 mod scale;
@@ -17,3 +19,7 @@ mod texts;
 pub use block::{encode_block, encode_one};
 pub use cutter::BlobCutter;
 pub use fault::WriteFault;
+pub use header::encode_header;
+
+#[cfg(test)]
+mod tests;

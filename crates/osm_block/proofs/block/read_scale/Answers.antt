@@ -2,7 +2,7 @@ use Rattle.std.proofs.Common.{rules, ◌≡◌, ◌∙◌, ◌++◌, ap, sym, su
 use Rattle.std.proofs.lemmas.Int.{to_z-of_z}
 use Rattle.std.specs.Prelude.{⊤, ◌≤ℤ◌}
 use Rattle.std.specs.List.{flat_map, AllByRecursion}
-use Rattle.osm_block.specs.declared.message.Scale.{Scale}
+use Rattle.osm_block.specs.declared.scale.Scale.{Scale}
 use Rattle.pbf_wire.specs.Readings.{fields, wire}
 use Rattle.pbf_wire.specs.Readings.{each, is_there}
 use Rattle.osm_block.specs.Message.{context}

@@ -13,10 +13,10 @@ loop-number-preserved c =
     let wide : IsWide c.loop-number.before = rw (sym c.loop-number.before-is) c.loop-number.invariant.wide in
     let is : to_z w64 (of_z w64 x) ≡ x = to_z-of_z w64 x (wide_fits x first.0) in
     let gap : to_z w64 (of_z w64 (x -ℤ c.loop-number.before)) ≡ x -ℤ c.loop-number.before = to_z-of_z w64 _ (difference_fits x c.loop-number.before first.0 wide) in
-    let spelled : c.zigzag.result ≡ zigzag (x -ℤ c.loop-number.before) = rw (c.zigzag.ensures, is, c.loop-number.before-is, gap) refl in
+    let spelled : c.zigzag.result ≡ zigzag (x -ℤ c.loop-number.before) = rw (c.zigzag.ensures.exact, is, c.loop-number.before-is, gap) refl in
     record {
       spelled = rw is (delta_more c.args.numbers.now c.loop-number.number-index c.loop-number.before x c.loop-number.array.items c.write_number.new.out.items _
-          c.loop-number-test.true refl (rw (sym spelled) c.in_ok-write_number.ensures) (rw (sym c.loop-number.before-is) c.loop-number.invariant.spelled));
+          c.loop-number-test.true refl (rw (sym spelled) c.in_ok-write_number.ensures.exact) (rw (sym c.loop-number.before-is) c.loop-number.invariant.spelled));
       wide = rw is first.0;
       all_wide = first.1;
     }

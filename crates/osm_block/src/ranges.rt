@@ -1,0 +1,120 @@
+//! Tests of numbers by their ranges, and of indexes by the table.
+
+ghost use Rattle.std.specs.Prelude.{◌≡◌, ◌≤ℤ◌, ◌+ℤ◌, ◌-ℤ◌, ◌*ℤ◌, nat_lt, pos, negsuc, true, ◌%◌, ◌^◌};
+ghost use Rattle.std.specs.List.{list_all};
+ghost use Rattle.osm_value.specs.Ranges.{is_wide, is_version, is_uid, passes};
+ghost use Rattle.osm_block.specs.Block.{place, time, version as version_of};
+ghost use Rattle.osm_block.specs.Phases.{place_in_range};
+
+use osm_value::{uid_in_range, version_in_range, wide_in_range};
+
+/// Whether all of the numbers are ids, references or places.
+pub fn all_wide(numbers: &[i64]) -> bool
+    ensures { result ≡ list_all is_wide numbers.now }
+{
+    numbers.iter().all(|number| wide_in_range(*number))
+}
+
+/// Whether a table of that many texts has all of the indexes, which are numbers of 32 bits.
+pub fn all_indexes(indexes: &[u64], texts: usize) -> bool
+    ensures { result ≡ list_all (λ i. nat_lt (i % 2 ^ 32) texts) indexes.now }
+{
+    indexes
+        .iter()
+        .all(|index| *index % (1 << 32) < texts as u64)
+}
+
+/// Whether a time of that many units is in the range.
+pub fn time_in_range(date_granularity: i32, units: i64) -> bool
+    ensures { result ≡ is_wide (time date_granularity units) }
+{
+    let time = i128::from(units) * i128::from(date_granularity);
+    -4611686018427387903 <= time && time <= 4611686018427387903
+}
+
+pub fn optional_wide(number: Option<i64>) -> bool
+    ensures { result ≡ passes is_wide number }
+{
+    match number {
+        None => true,
+        Some(number) => wide_in_range(number),
+    }
+}
+
+/// Whether a version is in its range or -1, which says nothing.
+pub fn optional_version(number: Option<i32>) -> bool
+    ensures { result ≡ passes (λ v. passes is_version (version_of v)) number }
+{
+    match number {
+        None | Some(-1) => true,
+        Some(number) => version_in_range(number),
+    }
+}
+
+pub fn optional_uid(number: Option<i32>) -> bool
+    ensures { result ≡ passes is_uid number }
+{
+    match number {
+        None => true,
+        Some(number) => uid_in_range(number),
+    }
+}
+
+pub fn optional_time(date_granularity: i32, units: Option<i64>) -> bool
+    ensures { result ≡ passes (λ t. is_wide (time date_granularity t)) units }
+{
+    match units {
+        None => true,
+        Some(units) => time_in_range(date_granularity, units),
+    }
+}
+
+/// That many units, as nanodegrees.
+fn scaled(granularity: i32, units: i64) -> i128
+    ensures { result ≡ granularity *ℤ units }
+{
+    i128::from(granularity) * i128::from(units)
+}
+
+/// How far a place may lie below the offset.
+fn least_from(offset: i64) -> i128
+    ensures { result ≡ negsuc 4611686018427387902 -ℤ offset }
+{
+    -4611686018427387903 - i128::from(offset)
+}
+
+/// How far a place may lie above the offset.
+fn most_from(offset: i64) -> i128
+    ensures { result ≡ pos 4611686018427387903 -ℤ offset }
+{
+    4611686018427387903 - i128::from(offset)
+}
+
+fn sum_in_range(offset: i64, moved: i128) -> bool
+    ensures { result ≡ is_wide (offset +ℤ moved) }
+{
+    (least_from(offset) <= moved) & (moved <= most_from(offset))
+}
+
+/// Whether a place of that many units is in the range.
+pub fn place_in_range(offset: i64, granularity: i32, units: i64) -> bool
+    ensures { result ≡ place_in_range offset granularity units }
+{
+    sum_in_range(offset, scaled(granularity, units))
+}
+
+fn narrow_sum(offset: i64, moved: i128) -> i64
+    requires low { negsuc 4611686018427387902 ≤ℤ (offset +ℤ moved) }
+    requires high { (offset +ℤ moved) ≤ℤ pos 4611686018427387903 }
+    ensures { result ≡ offset +ℤ moved }
+{
+    (i128::from(offset) + moved) as i64
+}
+
+/// The place of that many units, in nanodegrees.
+pub fn place_of(offset: i64, granularity: i32, units: i64) -> i64
+    requires { place_in_range offset granularity units ≡ true }
+    ensures { result ≡ place offset granularity units }
+{
+    narrow_sum(offset, scaled(granularity, units))
+}

@@ -1,0 +1,15 @@
+mod blocks;
+mod failing;
+mod frames;
+
+use osm_value::{Element, Outlet, write_line};
+use std::test::*;
+
+/// The lines of elements.
+fn lines_of(rt: &HostRuntime, elements: &[Element]) -> Result<Vec<u8>, Fail> {
+    let mut outlet = Outlet::new(Vec::new(rt.alloc()));
+    for element in elements {
+        write_line(element, &mut outlet)?;
+    }
+    Ok(outlet.into_inner())
+}

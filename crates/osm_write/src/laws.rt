@@ -1,0 +1,23 @@
+//! What the canonical block promises to its readers: theorems, with no code.
+
+ghost use Rattle.std.specs.Prelude.{◌≤◌, List, length};
+ghost use Rattle.osm_value.specs.declared.element.Element.{Element};
+ghost use Rattle.osm_write.specs.Canon.{canon};
+ghost use Rattle.osm_write.specs.Laws.{ReadsBack, IsReadOnly, FewTexts};
+
+/// The canonical block of a list of elements says that list: for elements inside their ranges,
+/// of fewer than 2^31 - 1 different texts, whose canonical block has fewer than 2^64 bytes.
+pub fn canonical_block_is_read_back()
+    ensures { (es : List Element) → ReadsBack es }
+{}
+
+/// What is read from the canonical block of a list is that list and no other.
+pub fn canonical_block_says_one_list()
+    ensures { (es : List Element) → IsReadOnly es }
+{}
+
+/// A list whose canonical block fits a raw payload uses few texts: each stands in the table with
+/// two bytes or more.
+pub fn block_that_fits_has_few_texts()
+    ensures { (es : List Element) → length (canon es) ≤ 33554431 → FewTexts es }
+{}
