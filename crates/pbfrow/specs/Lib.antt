@@ -1,3 +1,4 @@
+pub mod ContentFault
 pub mod Definition
 pub mod Element
 pub mod FaultLine

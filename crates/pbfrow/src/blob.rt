@@ -1,6 +1,10 @@
 //! What a blob of a file holds, read by itself.
 
-ghost use Rattle.std.specs.Prelude.{◌≡◌, ◌≤◌, IfOk};
+ghost use Rattle.std.specs.Prelude.{◌≡◌, ◌≢◌, ◌<◌, Ok, Err};
+ghost use Rattle.pbf_frame.specs.declared.kind.Kind.TheVariants as kinds;
+ghost use Rattle.pbfrow.specs.ContentFault.{number_of, name_of};
+ghost use Rattle.pbfrow.specs.declared.blob.ContentFault.TheVariants.{NoHeaderFirst, HeaderNotFirst};
+ghost use Rattle.pbfrow.specs.declared.blob.Content.TheVariants as contents;
 
 use osm_block::{BlockError, BlockFault, HeaderBlock, HeaderFault, read_block, read_header_block};
 use osm_value::Element;
@@ -29,65 +33,31 @@ pub enum ContentFault {
 
 impl ContentFault {
     /// The number that this fault has in every message of the program.
-    pub fn number(self) -> u8 {
+    pub fn number(self) -> u8
+        ensures { result ≡ number_of self }
+    {
         match self {
             ContentFault::NoHeaderFirst => 61,
             ContentFault::HeaderNotFirst => 62,
             ContentFault::Blob(fault) => fault.number(),
             ContentFault::Header(fault) => fault.number(),
-            ContentFault::Block(fault) => block_number(fault),
+            ContentFault::Block(fault) => fault.number(),
             ContentFault::Memory => 65,
         }
     }
 
     /// The name that this fault has in every message of the program.
-    pub fn name(self) -> &'static str {
+    pub fn name(self) -> &'static str
+        ensures { result.now ≡ name_of self }
+    {
         match self {
             ContentFault::NoHeaderFirst => "NoHeaderFirst",
             ContentFault::HeaderNotFirst => "HeaderNotFirst",
             ContentFault::Blob(fault) => fault.name(),
             ContentFault::Header(fault) => fault.name(),
-            ContentFault::Block(fault) => block_name(fault),
+            ContentFault::Block(fault) => fault.name(),
             ContentFault::Memory => "Memory",
         }
-    }
-}
-
-fn block_number(fault: BlockFault) -> u8 {
-    match fault {
-        BlockFault::Wire(_) => 40,
-        BlockFault::NoStringTable => 41,
-        BlockFault::TextNotUtf8 => 42,
-        BlockFault::TextHasNul => 43,
-        BlockFault::BadGranularity => 44,
-        BlockFault::MixedGroup => 45,
-        BlockFault::Missing => 46,
-        BlockFault::LengthsDiffer => 47,
-        BlockFault::BadIndex => 48,
-        BlockFault::SumTooLarge => 49,
-        BlockFault::OutOfRange => 50,
-        BlockFault::TagsUneven => 51,
-        BlockFault::BadMemberType => 52,
-        BlockFault::VisibleNotKnown => 54,
-    }
-}
-
-fn block_name(fault: BlockFault) -> &'static str {
-    match fault {
-        BlockFault::Wire(_) => "BlockWire",
-        BlockFault::NoStringTable => "NoStringTable",
-        BlockFault::TextNotUtf8 => "TextNotUtf8",
-        BlockFault::TextHasNul => "TextHasNul",
-        BlockFault::BadGranularity => "BadGranularity",
-        BlockFault::MixedGroup => "MixedGroup",
-        BlockFault::Missing => "Missing",
-        BlockFault::LengthsDiffer => "LengthsDiffer",
-        BlockFault::BadIndex => "BadIndex",
-        BlockFault::SumTooLarge => "SumTooLarge",
-        BlockFault::OutOfRange => "OutOfRange",
-        BlockFault::TagsUneven => "TagsUneven",
-        BlockFault::BadMemberType => "BadMemberType",
-        BlockFault::VisibleNotKnown => "VisibleNotKnown",
     }
 }
 
@@ -96,7 +66,11 @@ pub fn read_content<'a>(
     alloc: Global,
     at: u64,
     frame: &Frame<'a>,
-) -> Result<Content<'a>, ContentFault> {
+) -> Result<Content<'a>, ContentFault>
+    ensures first { at ≡ 0 → frame.now.kind ≢ kinds.OsmHeader → result ≡ Err NoHeaderFirst }
+    ensures header { 0 < at → frame.now.kind ≡ kinds.OsmHeader → result ≡ Err HeaderNotFirst }
+    ensures other { 0 < at → frame.now.kind ≡ kinds.Other → result ≡ Ok contents.Other }
+{
     match frame.kind {
         Kind::OsmHeader if at == 0 => read_header(frame.blob),
         Kind::OsmHeader => Err(ContentFault::HeaderNotFirst),

@@ -1,6 +1,7 @@
 //! The whole input of a command.
 
 ghost use Rattle.std.specs.Prelude.{◌≡◌, IfOk, IfSome};
+ghost use Rattle.pbfrow.specs.ContentFault.{input_number_of, input_name_of};
 
 use crate::fault::print_fault;
 use std::alloc::Global;
@@ -15,7 +16,9 @@ pub enum InputFault {
 
 impl InputFault {
     /// The number that this fault has in every message of the program.
-    pub fn number(self) -> u8 {
+    pub fn number(self) -> u8
+        ensures { result ≡ input_number_of self }
+    {
         match self {
             InputFault::Memory => 65,
             InputFault::ReadFailed => 68,
@@ -23,7 +26,9 @@ impl InputFault {
     }
 
     /// The name that this fault has in every message of the program.
-    pub fn name(self) -> &'static str {
+    pub fn name(self) -> &'static str
+        ensures { result.now ≡ input_name_of self }
+    {
         match self {
             InputFault::Memory => "Memory",
             InputFault::ReadFailed => "ReadFailed",

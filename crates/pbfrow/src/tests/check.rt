@@ -107,3 +107,43 @@ fn reports_a_write_error(rt: HostRuntime) {
         1
     );
 }
+
+#[test]
+fn counts_a_plain_node(rt: HostRuntime) -> Result<(), AllocError> {
+    let bytes = file_of(
+        rt.alloc(),
+        b"\x0A\x02\x0A\x00\x12\x08\x0A\x06\x08\x02\x40\x02\x48\x02",
+    )?;
+    expect_check(
+        &rt,
+        &bytes,
+        0,
+        b"blobs 2 nodes 1 ways 0 relations 0 faults 0\n",
+    );
+    Ok(())
+}
+
+#[test]
+fn names_the_faults_of_nodes(rt: HostRuntime) -> Result<(), AllocError> {
+    let no_lon = file_of(
+        rt.alloc(),
+        b"\x0A\x02\x0A\x00\x12\x06\x0A\x04\x08\x02\x40\x02",
+    )?;
+    expect_check(
+        &rt,
+        &no_lon,
+        1,
+        b"fault 46 Missing at 47\nblobs 2 nodes 0 ways 0 relations 0 faults 1\n",
+    );
+    let visible = file_of(
+        rt.alloc(),
+        b"\x0A\x02\x0A\x00\x12\x0C\x0A\x0A\x08\x02\x22\x02\x30\x01\x40\x02\x48\x02",
+    )?;
+    expect_check(
+        &rt,
+        &visible,
+        1,
+        b"fault 54 VisibleNotKnown at 47\nblobs 2 nodes 0 ways 0 relations 0 faults 1\n",
+    );
+    Ok(())
+}

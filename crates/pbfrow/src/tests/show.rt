@@ -83,3 +83,43 @@ fn reports_a_write_error(rt: HostRuntime) {
         1
     );
 }
+
+#[test]
+fn shows_a_plain_node(rt: HostRuntime) -> Result<(), AllocError> {
+    let bytes = file_of(
+        rt.alloc(),
+        b"\x0A\x02\x0A\x00\x12\x08\x0A\x06\x08\x02\x40\x02\x48\x02",
+    )?;
+    expect_show(&rt, &bytes, 0, b"blob 47 OSMData 31\nn 1 100 100 [] {}\n");
+    Ok(())
+}
+
+#[test]
+fn shows_a_relation(rt: HostRuntime) -> Result<(), AllocError> {
+    let bytes = file_of(
+        rt.alloc(),
+        b"\x0A\x18\x0A\x00\x0A\x04name\x0A\x05a b,c\x0A\x05outer\x0A\x00\x12\x16\x22\x14\x08\x09\x12\x01\x01\x1A\x01\x02\x42\x02\x03\x04\x4A\x02\x02\x05\x52\x02\x00\x01",
+    )?;
+    expect_show(
+        &rt,
+        &bytes,
+        0,
+        b"blob 47 OSMData 67\nr 9 (n1@outer,w-2@) [] {name=a%20b%2Cc}\n",
+    );
+    Ok(())
+}
+
+#[test]
+fn shows_the_info_of_a_way(rt: HostRuntime) -> Result<(), AllocError> {
+    let bytes = file_of(
+        rt.alloc(),
+        b"\x0A\x05\x0A\x00\x0A\x01u\x12\x19\x1A\x17\x08\x07\x22\x13\x08\x02\x10\x03\x18\x04\x20\xFF\xFF\xFF\xFF\xFF\xFF\xFF\xFF\xFF\x01\x28\x01",
+    )?;
+    expect_show(
+        &rt,
+        &bytes,
+        0,
+        b"blob 47 OSMData 51\nw 7 () [v=2,t=3000,c=4,i=-1,u=u] {}\n",
+    );
+    Ok(())
+}
