@@ -23,5 +23,10 @@ pub mod Unique
 pub mod UniqueDense
 pub mod VectorBlocks
 pub mod WayComplete
+pub mod NodeTagsLemmas
+pub mod DenseColumnLemmas
+pub mod DensePhaseLemmas
+pub mod DenseFieldLemmas
 pub mod NodeComplete
 pub mod RelationComplete
+pub mod DenseComplete

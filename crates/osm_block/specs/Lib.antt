@@ -15,5 +15,9 @@ pub mod Parts
 pub mod Head
 pub mod Texts
 pub mod Columns
+pub mod NodeTags
+pub mod Dense
+pub mod DenseRead
+pub mod DenseFieldsRead
 pub mod Members
 pub mod Fault

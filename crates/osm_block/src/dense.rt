@@ -1,15 +1,59 @@
 //! Dense nodes.
 
-ghost use Rattle.std.specs.Prelude.{◌≡◌, map, OnOk, ⊤, ◌∷◌, []};
+ghost use Rattle.std.specs.Prelude.{◌≡◌, ◌++◌, ◌∷◌, [], map, List, OnOk, ⊤};
+ghost use Rattle.osm_value.specs.Value.{NodeValue};
+ghost use Rattle.osm_value.specs.declared.element.Element.TheVariants as elements;
 ghost use Rattle.osm_block.specs.Message.{Dense};
+ghost use Rattle.osm_block.specs.Block.{DenseOf};
+ghost use Rattle.osm_block.specs.Dense.{dense_message_of};
 ghost use Rattle.osm_block.specs.Fields.{context_of};
-ghost use Rattle.osm_block.specs.Phases.{Gives, first, message_phases};
+ghost use Rattle.osm_block.specs.Phases.{Gives, first, dense_phases, message_phases};
 ghost use Rattle.osm_block.specs.Reads.{Appended};
 
-use crate::fault::BlockError;
+use crate::fault::{BlockError, BlockFault};
 use crate::scale::Scale;
+use crate::tags::check_tags;
+use columns::{all_users, columns_in_range, columns_of, lengths_fit};
+use fields::{DenseFields, read_fields};
+use nodes::nodes_of;
 use osm_value::Element;
 use std::alloc::Global;
+
+mod columns;
+mod fields;
+mod nodes;
+mod tags;
+
+/// Appends the nodes that the message stands to.
+fn dense_of<'a>(
+    alloc: Global,
+    scale: &Scale<'a>,
+    dense: &DenseFields,
+    out: &mut Vec<Element<'a>>,
+) -> Result<(), BlockError>
+    ensures phase { Gives (λ _. ⊤) (first (dense_phases (context_of scale.now) (dense_message_of dense.now))) result }
+    ensures read { OnOk result ((ns : List NodeValue) × (out.new.items ≡ out.old.items ++ map elements.Node ns) × DenseOf (context_of scale.now) ns (dense_message_of dense.now)) }
+{
+    if dense.info.has_visible {
+        return Err(BlockError::Fault(BlockFault::VisibleNotKnown));
+    }
+    if !lengths_fit(dense) {
+        return Err(BlockError::Fault(BlockFault::LengthsDiffer));
+    }
+    let columns = columns_of(alloc, dense)?;
+    if !columns_in_range(scale, &columns) {
+        return Err(BlockError::Fault(BlockFault::OutOfRange));
+    }
+    let texts = scale.table.len();
+    if let Err(fault) = check_tags(&columns.keys_vals, columns.ids.len(), texts) {
+        return Err(BlockError::Fault(fault));
+    }
+    if !all_users(&columns.users, texts) {
+        return Err(BlockError::Fault(BlockFault::BadIndex));
+    }
+    nodes_of(alloc, scale, &columns, out)?;
+    Ok(())
+}
 
 /// Appends the nodes that the payloads together stand to.
 pub fn read_dense<'a>(
@@ -24,6 +68,10 @@ pub fn read_dense<'a>(
     if payloads.is_empty() {
         return Ok(());
     }
-    // STUB: always out of memory.
-    Err(BlockError::Memory)
+    let mut dense = DenseFields::new(alloc);
+    read_fields(alloc, payloads, &mut dense)?;
+    dense_of(alloc, scale, &dense, out)
 }
+
+#[cfg(test)]
+mod tests;

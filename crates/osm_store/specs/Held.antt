@@ -14,9 +14,12 @@ pub record Blob : Type 0 where
   pub kind : Kind
   pub elements : List Element
 
--- each element uses fewer than 2 ^ 31 - 1 different texts, so that it has a block of its own
+-- the element uses fewer than 2 ^ 31 - 1 different texts, so that it has a block of its own
+abbrev pub HasFewTexts : Element → Type 0
+HasFewTexts e = length (first_uses (texts_of e)) < 2 ^ 31 - 1
+
 abbrev pub HaveFewTexts : List Element → Type 0
-HaveFewTexts elements = AllByRecursion (λ e. length (first_uses (texts_of e)) < 2 ^ 31 - 1) elements
+HaveFewTexts elements = AllByRecursion HasFewTexts elements
 
 -- the held blobs by the offsets of their frames
 abbrev pub HeldMap : Type 0

@@ -2,3 +2,13 @@ pub mod Held
 pub mod Keeping
 pub mod HeldLaws
 pub mod Loading
+pub mod Tables
+pub mod Rows
+pub mod Steps
+pub mod Faults
+pub mod Holding
+pub mod Asking
+pub mod Selects
+pub mod Finding
+pub mod Store
+pub mod StoreLaws

@@ -14,10 +14,14 @@ use std::alloc::Global;
 /// Where a held blob stands.
 #[derive(Clone, Copy, Debug, PartialEq, Eq)]
 pub struct Extent {
+    /// The offset of the blob's frame in its file.
     pub off: u64,
+    /// The offset after the frame, 2^62 at most.
     pub fin: u64,
+    /// The frame's SHA-256 (FIPS 180-4).
     pub digest: [u8; 32],
     pub kind: Kind,
+    /// The number of its elements.
     pub n: u64,
 }
 

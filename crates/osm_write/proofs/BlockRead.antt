@@ -1,24 +1,23 @@
 -- A block is read back: the law of the canonical block.
-use Rattle.std.proofs.Common.{◌≡◌, ℕ, zero, suc, ◌+◌, ◌-◌, ◌*◌, ◌%◌, ◌^◌, ◌<◌, ◌≤◌, ◌==◌, List, [], ◌∷◌, ◌++◌, length, map, filter, refl, ap, ◌∙◌, sym, arith, ℤ, pos, ◌≤ℤ◌, Bool, true, false, not, ◌||◌, if◌then◌else◌, Option, Some, None, option_map, append_assoc, append-nil, subst, bytes_eq, IsTrue}
+use Rattle.std.proofs.Common.{◌≡◌, ℕ, suc, ◌-◌, ◌%◌, ◌^◌, ◌<◌, ◌==◌, List, [], ◌∷◌, ◌++◌, length, map, filter, refl, ap, ◌∙◌, sym, arith, ℤ, pos, Bool, true, false, not, ◌||◌, if◌then◌else◌, Option, Some, None, option_map, append_assoc, append-nil, subst, bytes_eq}
 use Rattle.std.specs.Prelude.{option_to_list, unsigned_abs, unwrap_or}
-use Rattle.std.specs.List.{AllByRecursion, flat_map, list_all, list_any}
+use Rattle.std.specs.List.{AllByRecursion, flat_map, list_all}
 use Rattle.std.proofs.lemmas.List.{length-append}
 use Rattle.std.proofs.lemmas.Int.{ints}
 use Rattle.std.proofs.lemmas.Str.{IsUtf8-nil}
 use Rattle.std.proofs.lemmas.Slice.Eq.{bytes_eq-Decides}
 use Rattle.std.proofs.lemmas.Bool.{and_parts, true≢false, eqb-true}
 use Rattle.pbf_wire.specs.Field.{Entry}
-use Rattle.pbf_wire.specs.Readings.{fields, wire, int32, int64, last, each, sub, is_there}
+use Rattle.pbf_wire.specs.Readings.{fields, wire, int32, int64, last, each, sub}
 use Rattle.osm_value.specs.declared.element.Element.{Element}
 use Rattle.osm_value.specs.declared.element.Element.TheVariants as elements
 use Rattle.osm_value.specs.Elements.{IsElement}
-use Rattle.osm_value.specs.Value.{Text, InfoValue, NodeValue, MemberValue}
+use Rattle.osm_value.specs.Value.{Text, InfoValue, MemberValue}
 use Rattle.osm_value.specs.Ranges.{IsText, IsTextOrNone, IsInfo, AreTags, IsMember}
 use Rattle.osm_value.proofs.Ranges.{all_append, all_front, all_back, all_mapped, all_weaker}
 use Rattle.osm_block.specs.Message.{Context, context}
-use Rattle.osm_block.specs.Block.{Block, GroupOf, Joins, text_at}
-use Rattle.osm_write.specs.Canon as canons
-use Rattle.osm_write.specs.Canon.{Scale, number, number_field, bytes_field, optional, tag_texts, texts_of, first_uses, place_of, index_of, places_of, info_of, divisor, scale_of, groups_of, group_bytes, granularity_field, block_bytes, canon}
+use Rattle.osm_block.specs.Block.{Block, GroupOf, Joins}
+use Rattle.osm_write.specs.Canon.{Scale, number_field, bytes_field, optional, tag_texts, texts_of, first_uses, place_of, places_of, info_of, divisor, scale_of, groups_of, group_bytes, granularity_field, block_bytes, canon}
 use Rattle.osm_write.specs.Texts.{has}
 use Rattle.osm_write.specs.Laws.{FewTexts, ReadsBack}
 use Rattle.osm_write.proofs.TextsRead.{text_at_index, first_uses_has}
@@ -26,7 +25,7 @@ use Rattle.osm_write.proofs.GroupsJoin.{groups_join}
 use Rattle.osm_write.proofs.Values.{int32_read, Whole, whole_one, whole_of}
 use Rattle.osm_write.proofs.Known.{context_of, IsKnown, IsScale, keys_known, values_known}
 use Rattle.osm_write.proofs.Pieces.{bytes_entry}
-use Rattle.osm_write.proofs.Segments.{Segment, IsSegment, IsMessage, optional_segment, optional_entries, is_optional_segment, optional_last, repeated_segment, is_repeated_segment, repeated_each, message_read, entries_of, entries_at, bytes_in, each_at, last_at}
+use Rattle.osm_write.proofs.Segments.{Segment, IsSegment, optional_segment, optional_entries, is_optional_segment, optional_last, repeated_segment, is_repeated_segment, repeated_each, message_read, entries_of, bytes_in, each_at, last_at}
 use Rattle.osm_write.proofs.InfoRead.{IsWritten}
 use Rattle.osm_write.proofs.GroupRead.{ElementIsKnown, each_short, group_read}
 use Rattle.osm_write.proofs.RunsRead.{IsRun, groups_are_runs}

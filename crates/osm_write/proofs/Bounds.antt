@@ -1,5 +1,5 @@
 -- A block that isn't too large uses few texts.
-use Rattle.std.proofs.Common.{◌≡◌, ℕ, ◌+◌, ◌-◌, ◌*◌, ◌^◌, ◌<◌, ◌≤◌, List, [], ◌∷◌, ◌++◌, length, take, get_or, refl, ap, ◌∙◌, sym, arith, subst, Vec, Result, Ok, Err, IfOk, OnOk}
+use Rattle.std.proofs.Common.{◌≡◌, ℕ, ◌+◌, ◌*◌, ◌^◌, ◌<◌, ◌≤◌, List, [], ◌∷◌, ◌++◌, length, take, get_or, ap, ◌∙◌, sym, arith, subst, Vec, Result, Ok, Err, IfOk, OnOk}
 use Rattle.std.specs.List.{AllByRecursion, flat_map}
 use Rattle.std.proofs.lemmas.List.{length-append, take_more}
 use Rattle.osm_value.specs.declared.element.Element.{Element}
@@ -7,7 +7,7 @@ use Rattle.osm_value.specs.Elements.{IsElement}
 use Rattle.osm_value.specs.Value.{Text}
 use Rattle.osm_value.proofs.Ranges.{all_push}
 use Rattle.osm_block.specs.Block.{Block}
-use Rattle.osm_write.specs.Canon.{Scale, number, bytes_field, granularity_field, group_bytes, groups_of, texts_of, first_uses, scale_of, block_bytes, canon}
+use Rattle.osm_write.specs.Canon.{Scale, number, bytes_field, granularity_field, group_bytes, groups_of, scale_of, block_bytes, canon}
 use Rattle.osm_write.specs.Laws.{FewTexts}
 use Rattle.osm_write.proofs.Pieces.{number_starts}
 use Rattle.osm_write.proofs.BlockRead.{reads_back, texts_are}

@@ -1,5 +1,5 @@
 -- Columns of a message of nodes are read back.
-use Rattle.std.proofs.Common.{◌≡◌, ℕ, suc, ◌+◌, ◌<◌, List, [], ◌∷◌, ◌++◌, length, map, refl, ap, ◌∙◌, sym, Bool, true, false, ℤ, pos, Option, Some, None, is_some, option_map}
+use Rattle.std.proofs.Common.{◌≡◌, ℕ, List, [], ◌∷◌, length, map, refl, ap, ◌∙◌, Bool, true, false, ℤ, Option, Some, None, is_some, option_map}
 use Rattle.std.specs.Prelude.{replicate}
 use Rattle.std.specs.List.{AllByRecursion, filter_map}
 use Rattle.osm_block.specs.Differences.{Diff}

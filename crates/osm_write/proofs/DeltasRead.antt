@@ -1,5 +1,5 @@
 -- Arrays of differences are read back.
-use Rattle.std.proofs.Common.{◌≡◌, ℕ, ◌^◌, ◌<◌, List, [], ◌∷◌, map, refl, sym, ℤ, pos, ◌-ℤ◌, FitsSigned, w64, w32, IsTrue, arith}
+use Rattle.std.proofs.Common.{◌≡◌, ◌^◌, ◌<◌, List, [], ◌∷◌, map, refl, sym, ℤ, pos, ◌-ℤ◌, FitsSigned, w64, w32, IsTrue, arith}
 use Rattle.std.proofs.lemmas.Int.{ints}
 use Rattle.std.specs.List.{AllByRecursion}
 use Rattle.pbf_wire.specs.Readings.{sint64, sint32}

@@ -1,5 +1,5 @@
 -- The infos of a message of nodes are read back.
-use Rattle.std.proofs.Common.{◌≡◌, ℕ, ◌+◌, ◌-◌, ◌*◌, ◌^◌, ◌<◌, ◌≤◌, List, [], ◌∷◌, ◌++◌, length, map, refl, ap, ◌∙◌, sym, arith, ℤ, pos, ◌*ℤ◌, Bool, true, false, Option, Some, None, is_some, option_map, IsTrue, w64, append_assoc, append-nil, subst}
+use Rattle.std.proofs.Common.{◌≡◌, ℕ, ◌^◌, ◌<◌, List, [], ◌∷◌, ◌++◌, length, map, refl, ap, ◌∙◌, sym, arith, ℤ, pos, Bool, Option, Some, None, option_map, IsTrue, w64, append-nil, subst}
 use Rattle.std.specs.Prelude.{option_to_list, int_div, IsNone}
 use Rattle.std.specs.List.{AllByRecursion, filter_map, flat_map}
 use Rattle.std.specs.Int.{cast_unsigned}
@@ -7,19 +7,17 @@ use Rattle.std.proofs.lemmas.Int.{ints}
 use Rattle.std.proofs.lemmas.List.{length-append}
 use Rattle.pbf_wire.specs.declared.fault.WireFault.{WireFault}
 use Rattle.pbf_wire.specs.Field.{Entry}
-use Rattle.pbf_wire.specs.Readings.{fields, wire, packed, int32, sint64, sint32, fitting, each, nums}
-use Rattle.pbf_wire.specs.Write.{zigzag}
+use Rattle.pbf_wire.specs.Readings.{fields, wire, packed, int32, sint64, sint32, fitting, each}
 use Rattle.osm_value.specs.Value.{Text, InfoValue}
 use Rattle.osm_value.specs.Ranges.{IsInfo, IsWide, passes, is_wide, is_version, is_uid}
-use Rattle.osm_value.proofs.Ranges.{wide_fits, uid_within, all_append, passes_some}
-use Rattle.osm_block.specs.Differences.{differences}
+use Rattle.osm_value.proofs.Ranges.{uid_within, all_append, passes_some}
 use Rattle.osm_block.specs.Message.{dense_info_message, some_visible}
-use Rattle.osm_block.specs.Block.{DenseInfoOf, version, time, text_at, column}
-use Rattle.osm_write.specs.Canon.{Scale, index_of, number, message_field, packed_field, delta_field, times_of, dense_info_bytes}
+use Rattle.osm_block.specs.Block.{DenseInfoOf, version, time, text_at}
+use Rattle.osm_write.specs.Canon.{Scale, index_of, number, packed_field, delta_field, times_of, dense_info_bytes}
 use Rattle.osm_write.proofs.Values.{int64_small, version_read, version_fits, version_is, Whole, quotient_is_wide}
 use Rattle.osm_write.proofs.DeltasRead.{deltas_fit, diff_read, diff_read_32, small_is_wide}
 use Rattle.osm_write.proofs.Known.{context_of, IsKnown, IsScale}
-use Rattle.osm_write.proofs.Segments.{Segment, IsSegment, IsMessage, IsPacked, message_segment, message_entries, is_message_segment, message_read, five_parts, entries_of, entries_at, bytes_in, fitting_at, packed_at}
+use Rattle.osm_write.proofs.Segments.{Segment, IsSegment, IsMessage, message_segment, is_message_segment, message_read, five_parts, entries_of, fitting_at, packed_at}
 use Rattle.osm_write.proofs.InfoRead.{IsWritten}
 use Rattle.osm_write.proofs.ElementRead.{message_long, deltas_of}
 use Rattle.osm_write.proofs.Columns.{read_of, IsUniform, column_of, stands, all_filter_map, is_some-option_map}

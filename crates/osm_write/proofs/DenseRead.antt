@@ -1,26 +1,26 @@
 -- Nodes are read back from their one message.
-use Rattle.std.proofs.Common.{◌≡◌, ◌≢◌, ℕ, zero, suc, ◌+◌, ◌-◌, ◌*◌, ◌^◌, ◌<◌, ◌≤◌, List, [], ◌∷◌, ◌++◌, length, map, refl, ap, ◌∙◌, sym, arith, ℤ, pos, Bool, true, false, if◌then◌else◌, ◌||◌, Option, Some, None, append_assoc, append-nil, subst, inl, inr}
-use Rattle.std.specs.Prelude.{IsNone, int_div, nat_lt}
+use Rattle.std.proofs.Common.{◌≡◌, ℕ, suc, ◌^◌, ◌<◌, List, [], ◌∷◌, ◌++◌, length, map, refl, ◌∙◌, sym, arith, ℤ, pos, Bool, true, false, if◌then◌else◌, ◌||◌, None, append-nil, subst, inl, inr}
+use Rattle.std.specs.Prelude.{IsNone, nat_lt}
 use Rattle.std.specs.List.{AllByRecursion, flat_map, list_any}
 use Rattle.std.proofs.lemmas.List.{length-append, map-append}
 use Rattle.std.proofs.lemmas.Bool.{lt-ltb, true≢false}
 use Rattle.pbf_wire.specs.declared.fault.WireFault.{WireFault}
 use Rattle.pbf_wire.specs.Field.{Entry}
-use Rattle.pbf_wire.specs.Readings.{fields, wire, packed, int32, each, nums, sub}
+use Rattle.pbf_wire.specs.Readings.{fields, wire, packed, int32, each, sub}
 use Rattle.osm_value.specs.Value.{Text, InfoValue, NodeValue}
 use Rattle.osm_value.specs.Ranges.{IsWide, IsNode}
 use Rattle.osm_value.proofs.Ranges.{all_append}
 use Rattle.osm_block.specs.DenseTags.{Pair, Tags, pairs_and_zero, KeysAreNotZero}
 use Rattle.osm_block.specs.Message.{dense_message}
-use Rattle.osm_block.specs.Block.{DenseOf, Stands, place, texts_at, all_there}
+use Rattle.osm_block.specs.Block.{DenseOf, place, texts_at, all_there}
 use Rattle.osm_write.specs.Canon.{Scale, index_of, number, message_field, packed_field, delta_field, raw_place, tag_indexes, has_tags, keys_vals_of, dense_info_bytes, dense_bytes}
 use Rattle.osm_write.proofs.Values.{int32_read, Whole, place_read, quotient_is_wide}
 use Rattle.osm_write.proofs.DeltasRead.{deltas_fit, diff_read}
-use Rattle.osm_write.proofs.Known.{context_of, IsKnown, IsScale, known_int32}
-use Rattle.osm_write.proofs.Segments.{Segment, IsSegment, IsMessage, IsPacked, message_segment, message_entries, is_message_segment, message_each, message_sub, payloads_of, message_read, five_parts, entries_of, entries_at, bytes_in, each_at, packed_at}
+use Rattle.osm_write.proofs.Known.{context_of, IsKnown, IsScale}
+use Rattle.osm_write.proofs.Segments.{Segment, IsSegment, message_segment, message_entries, is_message_segment, message_each, message_sub, payloads_of, message_read, five_parts, entries_of, each_at, packed_at}
 use Rattle.osm_write.proofs.InfoRead.{IsWritten}
 use Rattle.osm_write.proofs.ElementRead.{message_long, deltas_of, payloads_sound}
-use Rattle.osm_write.proofs.DenseInfoRead.{IsSame, IsDenseInfo, dense_info_read, all_of, map_two}
+use Rattle.osm_write.proofs.DenseInfoRead.{IsSame, dense_info_read, all_of}
 
 -- what a node that is written is
 pub record NodeIsWritten (s : Scale) (n : NodeValue) : Type 0 where

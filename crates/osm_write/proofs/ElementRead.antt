@@ -1,26 +1,26 @@
 -- Ways and relations are read back from their messages.
-use Rattle.std.proofs.Common.{◌≡◌, ℕ, ◌+◌, ◌*◌, ◌^◌, ◌<◌, ◌≤◌, List, [], ◌∷◌, ◌++◌, length, map, refl, ap, ◌∙◌, sym, arith, ℤ, pos, Option, Some, None, option_map, w64, append_assoc, append-nil, subst}
-use Rattle.std.specs.Prelude.{option_to_list, IsNone}
+use Rattle.std.proofs.Common.{◌≡◌, ℕ, ◌+◌, ◌*◌, ◌^◌, ◌<◌, ◌≤◌, List, [], ◌∷◌, ◌++◌, length, map, refl, ap, ◌∙◌, sym, arith, ℤ, pos, Some, None, w64, append_assoc, append-nil, subst}
+use Rattle.std.specs.Prelude.{IsNone}
 use Rattle.std.specs.List.{AllByRecursion, flat_map}
 use Rattle.std.specs.Int.{cast_unsigned}
 use Rattle.std.proofs.lemmas.List.{length-append}
 use Rattle.pbf_wire.specs.declared.fault.WireFault.{WireFault}
 use Rattle.pbf_wire.specs.Field.{Entry}
-use Rattle.pbf_wire.specs.Readings.{fields, wire, packed, int32, int64, last, each, nums, sub}
+use Rattle.pbf_wire.specs.Readings.{fields, wire, packed, int32, last, each, sub}
 use Rattle.pbf_wire.specs.Write.{zigzag}
 use Rattle.osm_value.specs.declared.element.MemberKind.{MemberKind}
 use Rattle.osm_value.specs.declared.element.MemberKind.TheVariants as kinds
 use Rattle.osm_value.specs.Value.{Text, InfoValue, MemberValue, WayValue, RelationValue}
 use Rattle.osm_value.specs.Ranges.{IsWide, IsMember, IsWay, IsRelation}
-use Rattle.osm_value.proofs.Ranges.{wide_fits, all_append, all_map, all_weaker}
+use Rattle.osm_value.proofs.Ranges.{wide_fits, all_append}
 use Rattle.osm_block.specs.Differences.{differences}
-use Rattle.osm_block.specs.Message.{way_message, relation_message, wires, Message, Way, Relation}
+use Rattle.osm_block.specs.Message.{way_message, relation_message, Message, Way, Relation}
 use Rattle.osm_block.specs.Block.{WayOf, RelationOf, AllAreWire, kind}
-use Rattle.osm_write.specs.Canon.{Scale, index_of, number, bytes_field, message_field, packed_field, info_bytes, head_bytes, way_bytes, members_bytes, relation_bytes, number_of_kind}
+use Rattle.osm_write.specs.Canon.{Scale, index_of, number, message_field, packed_field, info_bytes, head_bytes, way_bytes, members_bytes, relation_bytes, number_of_kind}
 use Rattle.osm_write.proofs.Values.{int64_read, int64_small, int32_read}
 use Rattle.osm_write.proofs.DeltasRead.{deltas_fit, diff_read}
 use Rattle.osm_write.proofs.Known.{context_of, IsKnown, IsScale, indexes_fit, texts_uint32, texts_int32}
-use Rattle.osm_write.proofs.Segments.{Segment, IsSegment, IsMessage, IsPacked, number_segment, message_segment, message_entries, is_number_segment, is_message_segment, number_last, message_each, message_sub, payloads_of, message_read, five_parts, entries_of, entries_at, bytes_in, last_at, each_at, packed_at}
+use Rattle.osm_write.proofs.Segments.{Segment, IsSegment, IsMessage, IsPacked, number_segment, message_segment, message_entries, is_number_segment, is_message_segment, number_last, message_each, message_sub, payloads_of, message_read, five_parts, entries_of, entries_at, last_at, each_at, packed_at}
 use Rattle.osm_write.proofs.Pieces.{number_entry}
 use Rattle.osm_write.proofs.InfoRead.{IsWritten, info_read, info_sound}
 

@@ -2,7 +2,7 @@
 use Rattle.std.proofs.Common.{◌≡◌, ℕ, List, [], ◌∷◌, ◌++◌, refl, ap, Bool, true, false, not, ◌&&◌, ◌||◌, if◌then◌else◌, ◌∙◌, sym, filter, append_assoc, bytes_eq, append-nil, subst, ◌+◌, ◌<◌, length, drop, get_or}
 use Rattle.std.proofs.lemmas.List.{drop_more}
 use Rattle.osm_value.specs.declared.element.Element.{Element}
-use Rattle.std.specs.List.{list_any, flat_map}
+use Rattle.std.specs.List.{flat_map}
 use Rattle.std.proofs.lemmas.Slice.Eq.{bytes_eq-Decides}
 use Rattle.osm_value.specs.Value.{Text}
 use Rattle.osm_write.specs.Texts.{has, with_text, with_texts}

@@ -1,5 +1,5 @@
 -- A group is read back from its message.
-use Rattle.std.proofs.Common.{◌≡◌, ℕ, ◌+◌, ◌-◌, ◌*◌, ◌^◌, ◌<◌, ◌≤◌, List, [], ◌∷◌, ◌++◌, length, map, refl, ap, ◌∙◌, sym, arith, pos, Bool, true, false, cond, Option, Some, None, append_assoc, append-nil, subst, inl, inr}
+use Rattle.std.proofs.Common.{◌≡◌, ℕ, ◌+◌, ◌*◌, ◌^◌, ◌<◌, ◌≤◌, List, [], ◌∷◌, ◌++◌, length, map, refl, ap, ◌∙◌, sym, arith, Bool, true, false, cond, append-nil, subst, inl}
 use Rattle.std.specs.Prelude.{IsNone}
 use Rattle.std.specs.List.{AllByRecursion, flat_map, filter_map}
 use Rattle.std.proofs.lemmas.List.{length-append}
@@ -11,17 +11,17 @@ use Rattle.osm_value.specs.declared.element.Element.TheVariants as elements
 use Rattle.osm_value.specs.Value.{Text, NodeValue, MemberValue, WayValue, RelationValue}
 use Rattle.osm_value.specs.Ranges.{IsWay, IsRelation}
 use Rattle.osm_value.proofs.Ranges.{all_append}
-use Rattle.osm_block.specs.Message.{Context, Message, Plain, Dense, Way, Relation, messages, wires, dense_message}
+use Rattle.osm_block.specs.Message.{Context, Message, Dense, Way, Relation, messages, dense_message}
 use Rattle.osm_block.specs.Block.{AllAreWire, MessageOf, Joins, GroupOf, kinds_in, DenseOf}
-use Rattle.osm_write.specs.Canon.{Scale, number, bytes_field, message_field, head_bytes, way_bytes, relation_bytes, members_bytes, packed_field, delta_field, dense_bytes, node_of, way_or_relation, group_bytes}
+use Rattle.osm_write.specs.Canon.{Scale, number, bytes_field, message_field, head_bytes, way_bytes, relation_bytes, members_bytes, delta_field, dense_bytes, node_of, way_or_relation, group_bytes}
 use Rattle.osm_write.proofs.Known.{context_of, IsKnown, IsScale}
-use Rattle.osm_write.proofs.Segments.{Segment, IsSegment, IsMessage, message_segment, message_entries, repeated_segment, is_message_segment, is_repeated_segment, message_each, message_sub, repeated_each, payloads_of, message_read, entries_of, entries_at, bytes_in, each_at}
+use Rattle.osm_write.proofs.Segments.{Segment, IsSegment, message_segment, message_entries, repeated_segment, is_message_segment, is_repeated_segment, message_each, message_sub, repeated_each, payloads_of, message_read, entries_of, each_at}
 use Rattle.osm_write.proofs.Pieces.{bytes_entry}
 use Rattle.osm_write.proofs.InfoRead.{IsWritten}
-use Rattle.osm_write.proofs.ElementRead.{message_long, payloads_sound, IsElementOf, HeadIsWritten, WayIsWritten, RelationIsWritten, way_read, relation_read}
+use Rattle.osm_write.proofs.ElementRead.{message_long, payloads_sound, WayIsWritten, RelationIsWritten, way_read, relation_read}
 use Rattle.osm_write.proofs.DenseRead.{NodeIsWritten, IsDense, dense_read}
 use Rattle.osm_write.proofs.DenseInfoRead.{IsSame}
-use Rattle.osm_write.proofs.RunsRead.{IsRun, Nodes, Ways, Relations, OneKind, AllNodes, AllWays, AllRelations, one_kind}
+use Rattle.osm_write.proofs.RunsRead.{IsRun, OneKind, AllNodes, AllWays, AllRelations, one_kind}
 
 -- ---- elements that are written
 

@@ -1,5 +1,5 @@
 -- The groups joined are the elements.
-use Rattle.std.proofs.Common.{◌≡◌, List, [], ◌∷◌, ◌++◌, refl, ap, Bool, true, false, if◌then◌else◌, ◌∙◌}
+use Rattle.std.proofs.Common.{◌≡◌, List, [], ◌∷◌, refl, ap, Bool, true, false, if◌then◌else◌, ◌∙◌}
 use Rattle.std.specs.List.{flat_map}
 use Rattle.osm_value.specs.declared.element.Element.{Element}
 use Rattle.osm_write.specs.Canon.{fit_together, put_before, groups_of}

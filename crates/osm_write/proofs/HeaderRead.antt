@@ -1,9 +1,9 @@
 -- The parts of the header block, one after the other.
-use Rattle.std.proofs.Common.{◌≡◌, ℕ, List, [], ◌∷◌, ◌++◌, codes, Bool, false, refl, sym, ap, ◌∙◌, None, append_assoc, append-nil, subst}
+use Rattle.std.proofs.Common.{◌≡◌, ℕ, List, [], ◌++◌, codes, Bool, false, None, append_assoc, append-nil}
 use Rattle.pbf_wire.specs.Readings.{fields}
 use Rattle.osm_block.specs.HeaderBlock.{header_fault, header_value}
 use Rattle.osm_write.specs.Canon.{bytes_field}
-use Rattle.osm_write.specs.Header.{header_block, written_value, plain_header, plain_header_is, plain_header_fault, plain_header_value}
+use Rattle.osm_write.specs.Header.{header_block, written_value, plain_header_is, plain_header_fault, plain_header_value}
 
 pub header_joined : (history : Bool) (o0 o1 o2 o3 : List ℕ) → history ≡ false → o0 ≡ [] → o1 ≡ o0 ++ bytes_field 4 (codes "OsmSchema-V0.6") → o2 ≡ o1 ++ bytes_field 4 (codes "DenseNodes")
     → o3 ≡ o2 ++ bytes_field 16 (codes "pbfrow") → o3 ≡ header_block history

@@ -1,17 +1,17 @@
 -- An info is read back from its message.
-use Rattle.std.proofs.Common.{◌≡◌, ℕ, ◌+◌, ◌^◌, ◌<◌, ◌≤◌, List, [], ◌∷◌, ◌++◌, length, refl, ap, ◌∙◌, sym, arith, ℤ, pos, ◌*ℤ◌, Bool, true, false, Option, Some, None, option_map, IsTrue, w64, FitsSigned, append_assoc, append-nil, subst}
+use Rattle.std.proofs.Common.{◌≡◌, ℕ, ◌^◌, ◌<◌, List, [], ◌∷◌, refl, ap, ◌∙◌, sym, arith, ℤ, pos, Option, Some, None, option_map, IsTrue, w64, append-nil, subst}
 use Rattle.std.specs.Prelude.{option_to_list, int_div, unwrap_or}
 use Rattle.std.specs.List.{AllByRecursion}
 use Rattle.std.specs.Int.{cast_unsigned}
 use Rattle.std.proofs.lemmas.Int.{ints, quot_fits}
 use Rattle.pbf_wire.specs.Field.{Entry}
-use Rattle.pbf_wire.specs.Readings.{fields, wire, int32, int64, uint32, last, fitting, number_of, is_there}
+use Rattle.pbf_wire.specs.Readings.{fields, wire, int32, int64, uint32, last, fitting, number_of}
 use Rattle.osm_value.specs.Value.{Text, InfoValue}
-use Rattle.osm_value.specs.Ranges.{IsInfo, IsWide, passes, is_wide, is_version, is_uid}
+use Rattle.osm_value.specs.Ranges.{IsInfo, passes, is_wide, is_version, is_uid}
 use Rattle.osm_value.proofs.Ranges.{wide_fits}
 use Rattle.osm_block.specs.Message.{info_message}
 use Rattle.osm_block.specs.Block.{InfoOf, version, time, text_at}
-use Rattle.osm_write.specs.Canon.{Scale, index_of, number_field, int_field, optional, times_of, info_bytes}
+use Rattle.osm_write.specs.Canon.{Scale, index_of, number_field, optional, times_of, info_bytes}
 use Rattle.osm_write.proofs.Values.{int64_read, int64_small, uid_read, uid_fits, version_read, version_fits, version_is, Whole}
 use Rattle.osm_write.proofs.Known.{context_of, IsKnown, IsScale, known_uint32}
 use Rattle.osm_write.proofs.Segments.{Segment, IsSegment, IsMessage, optional_segment, optional_entries, is_optional_segment, optional_last, message_read, five_parts, entries_of, bytes_in, last_at, fitting_at}

@@ -1,5 +1,5 @@
 -- What calls append one after the other.
-use Rattle.std.proofs.Common.{◌≡◌, List, ◌++◌, Result, Ok, Err, append_assoc, ◌∙◌, OnOk, map, [], ◌∷◌, Bor, refl, ap}
+use Rattle.std.proofs.Common.{◌≡◌, List, ◌++◌, Result, Ok, Err, append_assoc, OnOk, map, [], ◌∷◌, Bor, refl, ap}
 use Rattle.osm_value.specs.Value.{NodeValue}
 
 pub on_ok : {T E P Q : Type 0} (r : Result T E) → (P → Q) → OnOk r P → OnOk r Q

@@ -1,14 +1,11 @@
 -- What a scale has to hold for the elements that are written with it.
-use Rattle.std.proofs.Common.{◌≡◌, ℕ, suc, ◌+◌, ◌-◌, ◌^◌, ◌<◌, ◌≤◌, List, [], ◌∷◌, ◌++◌, map, length, refl, ap, ◌∙◌, sym, arith, ℤ, pos, Option, Some, None, option_map, w64, FitsSigned, subst}
-use Rattle.std.specs.Prelude.{option_to_list, int_div}
-use Rattle.std.specs.List.{AllByRecursion, flat_map}
-use Rattle.std.specs.Int.{cast_unsigned}
+use Rattle.std.proofs.Common.{◌≡◌, ◌-◌, ◌^◌, ◌<◌, List, [], ◌∷◌, map, refl, ap, ◌∙◌, arith, pos, Some}
+use Rattle.std.specs.List.{AllByRecursion}
 use Rattle.pbf_wire.specs.Readings.{uint32, int32}
 use Rattle.osm_value.specs.Value.{Text}
-use Rattle.osm_value.specs.Ranges.{IsWide}
 use Rattle.osm_block.specs.Message.{Context}
-use Rattle.osm_block.specs.Block.{text_at, TagsAt}
-use Rattle.osm_write.specs.Canon.{Scale, index_of, number, optional, tag_texts}
+use Rattle.osm_block.specs.Block.{text_at}
+use Rattle.osm_write.specs.Canon.{Scale, index_of, tag_texts}
 use Rattle.osm_write.proofs.Values.{uint32_read, int32_read}
 
 -- what the block of the scale says for all its elements

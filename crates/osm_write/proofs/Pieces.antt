@@ -1,21 +1,15 @@
 -- What the pieces of a written message are read as.
-use Rattle.std.proofs.Common.{◌≡◌, ℕ, zero, suc, ◌+◌, ◌-◌, ◌*◌, ◌/◌, ◌%◌, ◌^◌, ◌<◌, ◌≤◌, ◌==◌, eqb, List, [], ◌∷◌, ◌++◌, length, take, drop, refl, ap, Bool, true, false, cond, if◌then◌else◌, ◌∙◌, sym, subst, arith, append_assoc, append-nil, Result, Ok, Err, Option, Some, None, map, option_map, IsNone}
-use Rattle.std.specs.Prelude.{option_to_list, nat_lt}
-use Rattle.std.specs.List.{AllByRecursion, flat_map, filter_map}
+use Rattle.std.proofs.Common.{◌≡◌, ℕ, zero, suc, ◌+◌, ◌-◌, ◌*◌, ◌/◌, ◌%◌, ◌^◌, ◌<◌, ◌≤◌, List, [], ◌∷◌, ◌++◌, length, drop, refl, ap, Bool, true, false, if◌then◌else◌, ◌∙◌, sym, arith, append_assoc, append-nil, Ok, None, map}
+use Rattle.std.specs.Prelude.{nat_lt}
+use Rattle.std.specs.List.{AllByRecursion, flat_map}
 use Rattle.std.proofs.lemmas.List.{length-append}
-use Rattle.std.proofs.lemmas.List.Elements.{filter_map-append}
-use Rattle.std.proofs.lemmas.Grind.{flat_map-append}
-use Rattle.std.proofs.Math.Seq.{take-append_seam}
-use Rattle.pbf_wire.specs.declared.fault.WireFault.{WireFault}
-use Rattle.pbf_wire.specs.Fault.{placed}
 use Rattle.pbf_wire.specs.Number.{number_at}
-use Rattle.pbf_wire.specs.Field.{Content, Number, Bytes, Entry, Fields, Spells, is_field_number}
+use Rattle.pbf_wire.specs.Field.{Number, Bytes, Entry, Fields, Spells, is_field_number}
 use Rattle.pbf_wire.specs.Write.{shortest_within, shortest}
-use Rattle.pbf_wire.specs.Readings.{front, first_fault, fields, wire, number_and, row_within, row, numbers, packed, number_of, bytes_of, numbers_of, fitting, each, nums}
+use Rattle.pbf_wire.specs.Readings.{front, first_fault, row_within, numbers, packed}
 use Rattle.pbf_wire.proofs.FieldLaws.{number_at_again}
-use Rattle.pbf_wire.proofs.ReadingLaws.{list_read}
 use Rattle.pbf_wire.proofs.WriteLaws.{number_spelled, field_spelled}
-use Rattle.osm_write.specs.Canon.{number, number_field, bytes_field, message_field, packed_field, optional}
+use Rattle.osm_write.specs.Canon.{number, number_field, bytes_field}
 
 -- ---- numbers and fields
 

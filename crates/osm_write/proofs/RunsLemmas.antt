@@ -1,5 +1,5 @@
 -- The first group, counted from the front.
-use Rattle.std.proofs.Common.{◌≡◌, ℕ, suc, ◌+◌, ◌-◌, ◌<◌, ◌≤◌, List, [], ◌∷◌, length, take, drop, refl, ap, Bool, true, false, if◌then◌else◌, arith, ◌∙◌, sym, get_or}
+use Rattle.std.proofs.Common.{◌≡◌, ℕ, suc, ◌+◌, ◌<◌, List, [], ◌∷◌, length, take, drop, refl, ap, Bool, true, false, if◌then◌else◌, arith, ◌∙◌, sym, get_or}
 use Rattle.std.proofs.lemmas.List.{drop_more, drop_all}
 use Rattle.osm_value.specs.declared.element.Element.{Element}
 use Rattle.osm_write.specs.Canon.{fit_together, put_before, groups_of}

@@ -1,5 +1,5 @@
 -- A group holds elements of one kind, and nodes with the same fields of info.
-use Rattle.std.proofs.Common.{◌≡◌, ℕ, suc, List, [], ◌∷◌, ◌++◌, map, refl, ap, ◌∙◌, sym, Bool, true, false, if◌then◌else◌, ◌&&◌, Option, is_some, IsTrue}
+use Rattle.std.proofs.Common.{◌≡◌, List, [], ◌∷◌, map, refl, ap, ◌∙◌, sym, Bool, true, false, if◌then◌else◌, ◌&&◌, Option, is_some}
 use Rattle.std.specs.List.{AllByRecursion}
 use Rattle.std.proofs.lemmas.Bool.{and_parts, true≢false}
 use Rattle.osm_value.specs.declared.element.Element.{Element}

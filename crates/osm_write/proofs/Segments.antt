@@ -1,15 +1,12 @@
 -- A message as segments: the fields of one number, and their bytes.
-use Rattle.std.proofs.Common.{◌≡◌, ℕ, ◌+◌, ◌*◌, ◌^◌, ◌<◌, ◌≤◌, ◌==◌, eqb, List, [], ◌∷◌, ◌++◌, length, refl, ap, Bool, true, false, cond, if◌then◌else◌, ◌∙◌, sym, subst, arith, append_assoc, append-nil, Option, Some, None, map, option_map, eq-eqb, eqb→eq}
+use Rattle.std.proofs.Common.{◌≡◌, ℕ, ◌^◌, ◌<◌, ◌==◌, eqb, List, [], ◌∷◌, ◌++◌, length, refl, ap, Bool, true, false, cond, ◌∙◌, sym, append_assoc, append-nil, Option, Some, None, map, eq-eqb}
 use Rattle.std.specs.Prelude.{option_to_list, IsNone}
-use Rattle.std.specs.List.{AllByRecursion, flat_map, filter_map}
-use Rattle.std.proofs.lemmas.List.{length-append}
+use Rattle.std.specs.List.{AllByRecursion, flat_map}
 use Rattle.std.proofs.lemmas.List.Elements.{filter_map-append}
-use Rattle.std.proofs.lemmas.Grind.{flat_map-append}
-use Rattle.pbf_wire.specs.declared.fault.WireFault.{WireFault}
-use Rattle.pbf_wire.specs.Field.{Content, Number, Bytes, Entry, Fields, Spells, is_field_number}
+use Rattle.pbf_wire.specs.Field.{Content, Entry, Fields, is_field_number}
 use Rattle.pbf_wire.specs.Readings.{fields, wire, numbers, packed, number_of, bytes_of, numbers_of, fitting, each, nums, last}
 use Rattle.pbf_wire.proofs.ReadingLaws.{list_read}
-use Rattle.osm_write.specs.Canon.{number, number_field, bytes_field, message_field, packed_field, optional}
+use Rattle.osm_write.specs.Canon.{number, number_field, bytes_field, message_field, optional}
 use Rattle.osm_write.proofs.Pieces.{number_starts, number_entry, bytes_entry, number_field_spelled, bytes_field_spelled, one_field, fields_join, numbers_read, packed_read}
 
 pub record Segment : Type 0 where

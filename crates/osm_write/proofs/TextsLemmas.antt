@@ -1,14 +1,12 @@
 -- Places of texts in a table.
-use Rattle.std.proofs.Common.{◌≡◌, ◌≢◌, ℕ, suc, List, [], ◌∷◌, ◌++◌, length, map, Option, Some, None, is_some, option_map, unwrap_or, Bool, true, false, refl, ap, sym, if◌then◌else◌, ◌∙◌, bytes_eq, not, ◌||◌, Bor, ◌<◌, arith}
-use Rattle.std.specs.List.{list_any}
-use Rattle.std.specs.Bool.{Decides}
+use Rattle.std.proofs.Common.{◌≡◌, ℕ, suc, List, [], ◌∷◌, ◌++◌, length, map, Option, Some, None, is_some, option_map, unwrap_or, Bool, true, false, refl, ap, sym, if◌then◌else◌, ◌∙◌, bytes_eq, ◌||◌, Bor, ◌<◌, arith}
 use Rattle.std.specs.HashMap as hash
 use Rattle.std.proofs.lemmas.Slice.Eq.{bytes_eq-Decides}
 use Rattle.std.proofs.lemmas.Map.Text.{hash_map_updates_str}
 use Rattle.std.proofs.lemmas.List.{map-append}
 use Rattle.std.specs.Option.{option_copied}
 use Rattle.osm_value.specs.Value.{Text}
-use Rattle.osm_write.specs.Texts.{has, Knows, find_text, with_text, with_texts}
+use Rattle.osm_write.specs.Texts.{has, Knows, find_text, with_text}
 use Rattle.osm_write.specs.Canon.{place_of}
 
 pub place_is : (ts : List Text) (t : Text) → place_of t ts ≡ unwrap_or (find_text ts t) (length ts)

@@ -1,6 +1,5 @@
 -- The text at an index of the table is the text that was given it.
-use Rattle.std.proofs.Common.{◌≡◌, ◌≢◌, ℕ, suc, ◌+◌, ◌<◌, List, [], ◌∷◌, ◌++◌, refl, ap, Bool, true, false, not, ◌||◌, if◌then◌else◌, ◌∙◌, sym, filter, bytes_eq, Option, Some, None, slice_get, pos, map}
-use Rattle.std.specs.List.{list_any, flat_map}
+use Rattle.std.proofs.Common.{◌≡◌, suc, List, [], ◌∷◌, refl, ap, Bool, true, false, not, ◌||◌, if◌then◌else◌, ◌∙◌, sym, filter, bytes_eq, Some, slice_get, pos}
 use Rattle.std.proofs.lemmas.Slice.Eq.{bytes_eq-Decides}
 use Rattle.osm_value.specs.Value.{Text}
 use Rattle.osm_write.specs.Texts.{has}

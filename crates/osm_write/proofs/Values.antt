@@ -1,15 +1,13 @@
 -- Numbers that were written are read back.
-use Rattle.std.proofs.Common.{◌≡◌, ℕ, zero, suc, ◌+◌, ◌-◌, ◌*◌, ◌/◌, ◌%◌, ◌^◌, ◌<◌, ◌≤◌, ◌==◌, List, [], ◌∷◌, refl, ap, Bool, true, false, ◌∙◌, sym, arith, map, ℤ, pos, negsuc, ◌+ℤ◌, ◌*ℤ◌, ◌-ℤ◌, cond, if◌then◌else◌, FitsSigned, w32, w64, eq-eqb, eqb→eq, IsTrue, Option, Some, None, option_map, option_to_list}
-use Rattle.std.specs.Prelude.{int_div, unsigned_abs, unwrap_or}
-use Rattle.std.specs.List.{AllByRecursion, list_all, flat_map}
-use Rattle.std.specs.Int.{cast_signed, cast_unsigned}
-use Rattle.std.proofs.lemmas.Int.{ints, to_z-of_z, quot-rem, quot_fits, rem_below}
-use Rattle.std.proofs.lemmas.Bool.{and_parts}
+use Rattle.std.proofs.Common.{◌≡◌, ℕ, zero, suc, ◌+◌, ◌*◌, ◌/◌, ◌%◌, ◌^◌, ◌<◌, ◌==◌, refl, ap, true, false, ◌∙◌, sym, arith, ℤ, pos, negsuc, ◌*ℤ◌, FitsSigned, w32, w64, IsTrue, Some}
+use Rattle.std.specs.Prelude.{int_div, unsigned_abs}
+use Rattle.std.specs.Int.{cast_unsigned}
+use Rattle.std.proofs.lemmas.Int.{ints, to_z-of_z, quot-rem, rem_below}
 use Rattle.std.proofs.Math.Nat.{mod-eq_of_lt, div-le_self}
 use Rattle.pbf_wire.specs.Readings.{int32, int64, uint32, sint64, sint32}
 use Rattle.pbf_wire.specs.Write.{zigzag}
 use Rattle.osm_value.specs.Ranges.{IsWide, is_version, is_uid}
-use Rattle.osm_value.proofs.Ranges.{wide_bounds, wide_within, wide_fits, version_bounds, uid_bounds, difference_fits}
+use Rattle.osm_value.proofs.Ranges.{wide_bounds, wide_within, version_bounds, uid_bounds}
 use Rattle.osm_block.specs.Block as block
 
 pub int64_read : (z : ℤ) → FitsSigned w64 z → int64 (cast_unsigned w64 z) ≡ z

@@ -1,6 +1,6 @@
 -- The one block that is written for a list of elements (a choice among the blocks that osmformat.proto allows).
 -- Fields ascend by number, numbers are shortest, arrays are packed, what is empty is left out.
-use Rattle.std.specs.Prelude.{◌≡◌, ℕ, zero, suc, ◌+◌, ◌*◌, ◌/◌, ◌%◌, List, [], ◌∷◌, ◌++◌, map, length, filter, filter_map, flat_map, ℤ, pos, negsuc, Option, Some, None, option_map, option_to_list, Bool, true, false, not, ◌&&◌, ◌||◌, nat_lt, ◌==◌, is_some, if◌then◌else◌, int_div, unsigned_abs, bytes_eq}
+use Rattle.std.specs.Prelude.{ℕ, suc, ◌+◌, ◌*◌, ◌%◌, List, [], ◌∷◌, ◌++◌, map, length, filter, filter_map, flat_map, ℤ, pos, Option, Some, None, option_map, option_to_list, Bool, true, false, not, ◌&&◌, nat_lt, ◌==◌, is_some, if◌then◌else◌, int_div, unsigned_abs, bytes_eq}
 use Rattle.std.specs.List.{list_all, list_any}
 use Rattle.std.specs.Int.{w64, cast_unsigned}
 use Rattle.osm_value.specs.declared.element.MemberKind.{MemberKind}
@@ -10,7 +10,6 @@ use Rattle.osm_value.specs.declared.element.Element.TheVariants.{Node, Way, Rela
 use Rattle.osm_value.specs.Value.{Text, InfoValue, MemberValue, NodeValue, WayValue, RelationValue}
 use Rattle.osm_block.specs.Differences.{differences}
 use Rattle.pbf_wire.specs.Write.{shortest, zigzag}
-use Rattle.osm_block.specs.DenseTags.{Pair, pairs_and_zero}
 
 -- ---- spellings (Protocol Buffers encoding guide)
 

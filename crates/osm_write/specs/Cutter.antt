@@ -1,5 +1,5 @@
 -- How a list of elements is cut into blocks: the next 8,000 elements, or all that are left, and half as many while their block is too large.
-use Rattle.std.specs.Prelude.{◌≡◌, ℕ, zero, suc, ◌/◌, ◌<◌, ◌≤◌, nat_lt, List, [], ◌∷◌, length, take, drop, min, Option, Some, None, if◌then◌else◌}
+use Rattle.std.specs.Prelude.{◌≡◌, ℕ, ◌/◌, ◌<◌, ◌≤◌, List, [], length, take, drop, min, Option, Some, None}
 use Rattle.osm_value.specs.declared.element.Element.{Element}
 use Rattle.osm_write.specs.declared.fault.WriteFault.{WriteFault}
 use Rattle.osm_write.specs.declared.fault.WriteFault.TheVariants.{BlockTooLarge, Memory}

@@ -1,5 +1,5 @@
 -- What the canonical block of a list promises to its readers.
-use Rattle.std.specs.Prelude.{◌≡◌, ℕ, ◌-◌, ◌^◌, ◌<◌, ◌≤◌, List, length}
+use Rattle.std.specs.Prelude.{◌≡◌, ◌-◌, ◌^◌, ◌<◌, List, length}
 use Rattle.std.specs.List.{AllByRecursion, flat_map}
 use Rattle.osm_value.specs.declared.element.Element.{Element}
 use Rattle.osm_value.specs.Elements.{IsElement}

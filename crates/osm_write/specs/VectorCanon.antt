@@ -1,6 +1,5 @@
 -- The canonical blocks of the vectors' elements, computed.
-use Rattle.std.specs.Prelude.{◌≡◌, List, [], ◌∷◌, refl}
-use Rattle.osm_value.specs.declared.element.Element.{Element}
+use Rattle.std.specs.Prelude.{◌≡◌, [], ◌∷◌, refl}
 use Rattle.pbf_wire.specs.Write.{shortest_within, shortest}
 use Rattle.osm_block.specs.Vectors.{v1, v2, v3_canon, v5, v7, v8, v10, p2_canon, p4}
 use Rattle.osm_block.specs.VectorElements.{v1_elements, v2_elements, v3_elements, v5_elements, v6_elements, v7_elements, v8_elements, v10_elements, p2_elements, p4_elements}

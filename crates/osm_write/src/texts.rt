@@ -9,8 +9,11 @@ use std::alloc::{AllocError, Global};
 use std::collections::HashMap;
 use std::marker::Model;
 
+/// The texts of a block without the empty text at index 0. A text is found by its hash, so the
+/// whole block is written in one pass over its texts. The map hashes with a fixed seed: texts that
+/// were chosen to collide would make the look-ups slow, and nothing else.
 #[derive(Drop)]
-pub struct TextTable<'a> {
+pub(crate) struct TextTable<'a> {
     texts: Vec<&'a str>,
     places: HashMap<&'a str, usize>,
 }

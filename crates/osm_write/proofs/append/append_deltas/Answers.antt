@@ -1,6 +1,6 @@
-use Rattle.std.proofs.Common.{◌≡◌, ◌-ℤ◌, ℤ, pos, to_z, of_z, w64, FitsSigned, get_or, refl, sym}
+use Rattle.std.proofs.Common.{◌≡◌, ◌-ℤ◌, ℤ, pos, to_z, of_z, w64, get_or, refl, sym}
 use Rattle.std.proofs.lemmas.Int.{to_z-of_z}
-use Rattle.pbf_wire.specs.Write.{shortest, zigzag}
+use Rattle.pbf_wire.specs.Write.{zigzag}
 use Rattle.osm_value.specs.Ranges.{IsWide}
 use Rattle.osm_value.proofs.Ranges.{wide_fits, difference_fits}
 use Rattle.osm_write.proofs.Deltas.{delta_more, wide_first}

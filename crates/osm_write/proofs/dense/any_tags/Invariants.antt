@@ -1,10 +1,6 @@
-use Rattle.std.proofs.Common.{◌≡◌, ◌++◌, ◌∷◌, [], map, take, drop, pos, option_map}
-use Rattle.std.specs.List.{filter_map, flat_map, list_any}
-use Rattle.std.specs.Int.{w64, cast_unsigned}
-use Rattle.osm_value.specs.Value.{NodeValue, InfoValue, Text}
-use Rattle.osm_write.specs.Arrays.{AllWide}
-use Rattle.osm_write.specs.Canon.{index_of, tag_indexes, has_tags}
-use Rattle.osm_write.specs.Scale.{view}
+use Rattle.std.proofs.Common.{◌≡◌, map, drop}
+use Rattle.std.specs.List.{list_any}
+use Rattle.osm_write.specs.Canon.{has_tags}
 use Rattle.osm_write.proofs.dense.any_tags.Given as goal
 
 abbrev pub invariant-loop-node : goal.invariant-loop-node

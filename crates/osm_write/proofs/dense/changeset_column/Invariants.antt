@@ -2,8 +2,6 @@ use Rattle.std.proofs.Common.{◌≡◌, ◌++◌, map, drop}
 use Rattle.std.specs.List.{filter_map}
 use Rattle.osm_value.specs.Value.{InfoValue}
 use Rattle.osm_write.specs.Arrays.{AllWide}
-use Rattle.osm_write.specs.Canon.{times_of}
-use Rattle.osm_write.specs.Scale.{view}
 use Rattle.osm_write.proofs.dense.changeset_column.Given as goal
 
 abbrev pub invariant-loop-node : goal.invariant-loop-node

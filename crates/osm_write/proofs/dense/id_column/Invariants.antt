@@ -1,8 +1,6 @@
 use Rattle.std.proofs.Common.{◌≡◌, map, take}
 use Rattle.osm_value.specs.Value.{NodeValue}
 use Rattle.osm_write.specs.Arrays.{AllWide}
-use Rattle.osm_write.specs.Canon.{raw_place}
-use Rattle.osm_write.specs.Scale.{view}
 use Rattle.osm_write.proofs.dense.id_column.Given as goal
 
 abbrev pub invariant-loop-node : goal.invariant-loop-node

@@ -1,9 +1,8 @@
-use Rattle.std.proofs.Common.{◌≡◌, ◌++◌, ◌∷◌, [], map, take, drop, pos, option_map}
-use Rattle.std.specs.List.{filter_map, flat_map, list_any}
-use Rattle.std.specs.Int.{w64, cast_unsigned}
-use Rattle.osm_value.specs.Value.{NodeValue, InfoValue, Text}
+use Rattle.std.proofs.Common.{◌≡◌, ◌++◌, map, drop, pos, option_map}
+use Rattle.std.specs.List.{filter_map}
+use Rattle.osm_value.specs.Value.{InfoValue}
 use Rattle.osm_write.specs.Arrays.{AllWide}
-use Rattle.osm_write.specs.Canon.{index_of, tag_indexes, has_tags}
+use Rattle.osm_write.specs.Canon.{index_of}
 use Rattle.osm_write.specs.Scale.{view}
 use Rattle.osm_write.proofs.dense.user_column.Given as goal
 

@@ -1,7 +1,6 @@
 use Rattle.std.proofs.Common.{◌≡◌, map, take}
 use Rattle.osm_value.specs.Value.{MemberValue}
-use Rattle.osm_write.specs.Arrays.{AllWide}
-use Rattle.osm_write.specs.Canon.{index_of, number_of_kind}
+use Rattle.osm_write.specs.Canon.{index_of}
 use Rattle.osm_write.specs.Scale.{view}
 use Rattle.osm_write.proofs.message.index_roles.Given as goal
 

@@ -1,8 +1,6 @@
 use Rattle.std.proofs.Common.{◌≡◌, map, take}
 use Rattle.osm_value.specs.Value.{MemberValue}
-use Rattle.osm_write.specs.Arrays.{AllWide}
-use Rattle.osm_write.specs.Canon.{index_of, number_of_kind}
-use Rattle.osm_write.specs.Scale.{view}
+use Rattle.osm_write.specs.Canon.{number_of_kind}
 use Rattle.osm_write.proofs.message.number_kinds.Given as goal
 
 abbrev pub invariant-loop-member : goal.invariant-loop-member

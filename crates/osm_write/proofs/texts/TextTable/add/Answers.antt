@@ -1,10 +1,7 @@
-use Rattle.std.proofs.Common.{◌≡◌, Some, None, sym, ◌∙◌, ap, map, length, is_some, true, false, rules, List, ◌++◌, ◌∷◌, [], Bor, ℕ}
-use Rattle.std.specs.Option.{option_copied}
-use Rattle.std.specs.HashMap.{get_by}
-use Rattle.std.specs.Str.{bytes_eq}
+use Rattle.std.proofs.Common.{◌≡◌, sym, ◌∙◌, ap, map, length, is_some, true, false, List, ◌++◌, ◌∷◌, [], Bor}
 use Rattle.std.proofs.lemmas.List.{length-map}
 use Rattle.osm_value.specs.Value.{Text}
-use Rattle.osm_write.specs.Texts.{find_text, with_text}
+use Rattle.osm_write.specs.Texts.{find_text}
 use Rattle.osm_write.proofs.TextsLemmas.{text_found, text_missing, knows_push, now_push, copied_some}
 use Rattle.osm_write.proofs.texts.TextTable.add.Goals as goal
 

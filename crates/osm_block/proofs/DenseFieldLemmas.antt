@@ -1,0 +1,222 @@
+-- Reading the arrays of dense nodes: one field, one payload, all of them.
+use Rattle.std.proofs.Common.{◌≡◌, ℕ, zero, suc, ◌+◌, ◌<◌, List, [], ◌∷◌, ◌++◌, map, length, drop, get_or, Bool, true, false, refl, sym, ap, ◌∙◌, Option, Some, None, Result, Ok, Err, append_assoc, append-nil, ◌%◌, ◌^◌}
+use Rattle.std.specs.Prelude.{option_map, cond, ◌==◌, ◌||◌}
+use Rattle.std.specs.List.{flat_map, cons_option}
+use Rattle.std.specs.Option.{option_or, is_some}
+use Rattle.std.proofs.lemmas.List.{map-append, drop_more}
+use Rattle.std.proofs.lemmas.List.Elements.{filter_map-append}
+use Rattle.pbf_wire.specs.declared.fault.WireFault.{WireFault}
+use Rattle.pbf_wire.specs.declared.field.Field.{Field}
+use Rattle.pbf_wire.specs.Field.{Content, Number, Fixed64, Bytes, Fixed32, Entry, content_of}
+use Rattle.pbf_wire.specs.FieldList.{view_item}
+use Rattle.pbf_wire.specs.Readings.{front, fields, wire, packed, fitting, numbers_of, bytes_of, each, nums, sub, is_there, sint64, sint32, int32}
+use Rattle.osm_block.specs.declared.fault.BlockFault.TheVariants as faults
+use Rattle.osm_block.specs.declared.column.Column.{Column}
+use Rattle.osm_block.specs.declared.dense.fields.DenseFields.{DenseFields}
+use Rattle.osm_block.specs.Message.{Dense, wires, arrays, some_visible, dense_message}
+use Rattle.osm_block.specs.Columns.{numbers_in, fault_in, first_there}
+use Rattle.osm_block.specs.Dense.{dense_message_of}
+use Rattle.osm_block.specs.DenseFieldsRead.{ColumnRead, ColumnRead32, DenseInfoRead}
+use Rattle.osm_block.specs.Phases.{Phase, first, wire_phases}
+use Rattle.osm_block.proofs.ReadingLemmas.{each-append}
+
+-- ---- one field
+
+module _ {A : Type 0} (read : Content → Option A) (items rest : List (Result Entry WireFault)) (item : Result Field WireFault) (field : Field) (k : ℕ) (e : items ≡ view_item item ∷ rest) (is : item ≡ Ok field) where
+  in_front : fitting read k (front items) ≡ cons_option (cond (field.number == k) (read (content_of field.value)) None) (fitting read k (front rest))
+  in_front = ap (λ l. fitting read k (front l)) e ∙ ap (λ r. fitting read k (front (view_item r ∷ rest))) is
+
+  pub fitting_at : (field.number == k) ≡ true → fitting read k (front items) ≡ cons_option (read (content_of field.value)) (fitting read k (front rest))
+  fitting_at h = in_front ∙ ap (λ b. cons_option (cond b (read (content_of field.value)) None) (fitting read k (front rest))) h
+
+  pub fitting_past : (field.number == k) ≡ false → fitting read k (front items) ≡ fitting read k (front rest)
+  fitting_past h = in_front ∙ ap (λ b. cons_option (cond b (read (content_of field.value)) None) (fitting read k (front rest))) h
+
+numbers_any : (x : Content) (rest : List (List ℕ)) → flat_map (λ ns. ns) (cons_option (numbers_of x) rest) ≡ numbers_in x ++ flat_map (λ ns. ns) rest
+numbers_any (Number n) rest = refl
+numbers_any (Fixed64 bs) rest = refl
+numbers_any (Bytes bs) rest = refl
+numbers_any (Fixed32 bs) rest = refl
+
+faults_any : (x : Content) (rest : List (List ℕ)) → first_there (map packed (cons_option (bytes_of x) rest)) ≡ option_or (fault_in x) (first_there (map packed rest))
+faults_any (Number n) rest = refl
+faults_any (Fixed64 bs) rest = refl
+faults_any (Bytes bs) rest = refl
+faults_any (Fixed32 bs) rest = refl
+
+there_any : {A : Type 0} (o : Option A) (rest : List A) → is_there (cons_option o rest) ≡ (is_some o || is_there rest)
+there_any None rest = refl
+there_any (Some x) rest = refl
+
+option_or-assoc : {A : Type 0} (x y z : Option A) → option_or (option_or x y) z ≡ option_or x (option_or y z)
+option_or-assoc None y z = refl
+option_or-assoc (Some a) y z = refl
+
+option_or-none : {A : Type 0} (x : Option A) → option_or x None ≡ x
+option_or-none None = refl
+option_or-none (Some a) = refl
+
+-- what a field of the array adds
+pub numbers_taken : (old new total : List ℕ) (items rest : List (Result Entry WireFault)) (item : Result Field WireFault) (field : Field) (k : ℕ) → items ≡ view_item item ∷ rest → item ≡ Ok field → (field.number == k) ≡ true →
+    new ≡ old ++ numbers_in (content_of field.value) → old ++ nums (front items) k ≡ total → new ++ nums (front rest) k ≡ total
+numbers_taken old new total items rest item field k e is h pushed so_far =
+    ap (λ l. l ++ nums (front rest) k) pushed ∙ append_assoc old (numbers_in (content_of field.value)) (nums (front rest) k)
+    ∙ sym (ap (λ l. old ++ l) (ap (flat_map (λ ns. ns)) (fitting_at numbers_of items rest item field k e is h) ∙ numbers_any (content_of field.value) (fitting numbers_of k (front rest)))) ∙ so_far
+
+pub faults_taken : (old new total : Option WireFault) (items rest : List (Result Entry WireFault)) (item : Result Field WireFault) (field : Field) (k : ℕ) → items ≡ view_item item ∷ rest → item ≡ Ok field → (field.number == k) ≡ true →
+    new ≡ option_or old (fault_in (content_of field.value)) → option_or old (first_there (map packed (each (front items) k))) ≡ total → option_or new (first_there (map packed (each (front rest) k))) ≡ total
+faults_taken old new total items rest item field k e is h taken so_far =
+    ap (λ f. option_or f (first_there (map packed (each (front rest) k)))) taken ∙ option_or-assoc old (fault_in (content_of field.value)) (first_there (map packed (each (front rest) k)))
+    ∙ sym (ap (option_or old) (ap (λ l. first_there (map packed l)) (fitting_at bytes_of items rest item field k e is h) ∙ faults_any (content_of field.value) (each (front rest) k))) ∙ so_far
+
+-- another field adds nothing
+pub numbers_past : (old total : List ℕ) (items rest : List (Result Entry WireFault)) (item : Result Field WireFault) (field : Field) (k : ℕ) → items ≡ view_item item ∷ rest → item ≡ Ok field → (field.number == k) ≡ false →
+    old ++ nums (front items) k ≡ total → old ++ nums (front rest) k ≡ total
+numbers_past old total items rest item field k e is h so_far = sym (ap (λ l. old ++ flat_map (λ ns. ns) l) (fitting_past numbers_of items rest item field k e is h)) ∙ so_far
+
+pub faults_past : (old total : Option WireFault) (items rest : List (Result Entry WireFault)) (item : Result Field WireFault) (field : Field) (k : ℕ) → items ≡ view_item item ∷ rest → item ≡ Ok field → (field.number == k) ≡ false →
+    option_or old (first_there (map packed (each (front items) k))) ≡ total → option_or old (first_there (map packed (each (front rest) k))) ≡ total
+faults_past old total items rest item field k e is h so_far = sym (ap (λ l. option_or old (first_there (map packed l))) (fitting_past bytes_of items rest item field k e is h)) ∙ so_far
+
+-- nothing is left behind a fault, nor at the end
+pub numbers_end : (old total : List ℕ) (items : List (Result Entry WireFault)) (k : ℕ) → front items ≡ [] → old ++ nums (front items) k ≡ total → old ≡ total
+numbers_end old total items k e so_far = sym (append-nil old) ∙ sym (ap (λ l. old ++ nums l k) e) ∙ so_far
+
+pub faults_end : (old total : Option WireFault) (items : List (Result Entry WireFault)) (k : ℕ) → front items ≡ [] → option_or old (first_there (map packed (each (front items) k))) ≡ total → old ≡ total
+faults_end old total items k e so_far = sym (option_or-none old) ∙ sym (ap (λ l. option_or old (first_there (map packed (each l k)))) e) ∙ so_far
+
+pub front_at_fault : (items rest : List (Result Entry WireFault)) (item : Result Field WireFault) (fault : WireFault) → items ≡ view_item item ∷ rest → item ≡ Err fault → front items ≡ []
+front_at_fault items rest item fault e is = ap front e ∙ ap (λ r. front (view_item r ∷ rest)) is
+
+-- a field of the flags
+pub visible_at : (items rest : List (Result Entry WireFault)) (item : Result Field WireFault) (field : Field) (k : ℕ) (flag : Bool) → items ≡ view_item item ∷ rest → item ≡ Ok field → (field.number == k) ≡ true →
+    flag ≡ is_some (some_visible (content_of field.value)) → is_there (fitting some_visible k (front items)) ≡ (flag || is_there (fitting some_visible k (front rest)))
+visible_at items rest item field k flag e is h f =
+    ap is_there (fitting_at some_visible items rest item field k e is h) ∙ there_any (some_visible (content_of field.value)) (fitting some_visible k (front rest)) ∙ ap (λ b. b || is_there (fitting some_visible k (front rest))) (sym f)
+
+pub visible_past : (items rest : List (Result Entry WireFault)) (item : Result Field WireFault) (field : Field) (k : ℕ) → items ≡ view_item item ∷ rest → item ≡ Ok field → (field.number == k) ≡ false →
+    is_there (fitting some_visible k (front items)) ≡ is_there (fitting some_visible k (front rest))
+visible_past items rest item field k e is h = ap is_there (fitting_past some_visible items rest item field k e is h)
+
+-- ---- one payload
+
+there-append : {A : Type 0} (xs ys : List A) → is_there (xs ++ ys) ≡ (is_there xs || is_there ys)
+there-append [] ys = refl
+there-append (x ∷ xs) ys = refl
+
+pub first_there-append : {A : Type 0} (xs ys : List (Option A)) → first_there (xs ++ ys) ≡ option_or (first_there xs) (first_there ys)
+first_there-append [] ys = refl
+first_there-append (None ∷ xs) ys = first_there-append xs ys
+first_there-append (Some x ∷ xs) ys = refl
+
+pub faults_more : {B : Type 0} (now : B → List ℕ) (ps : List B) (i : ℕ) (d : B) (k : ℕ) (old new total : Option WireFault) → i < length ps →
+    new ≡ option_or old (first_there (map packed (each (fields (now (get_or ps i d))) k))) →
+    option_or old (first_there (map packed (each (flat_map fields (map now (drop i ps))) k))) ≡ total →
+    option_or new (first_there (map packed (each (flat_map fields (map now (drop (i + 1) ps))) k))) ≡ total
+faults_more now ps i d k old new total h is so_far =
+    let p : List Entry = fields (now (get_or ps i d)) in
+    let rest : List Entry = flat_map fields (map now (drop (i + 1) ps)) in
+    ap (λ f. option_or f (first_there (map packed (each rest k)))) is ∙ option_or-assoc old (first_there (map packed (each p k))) (first_there (map packed (each rest k)))
+    ∙ sym (ap (option_or old) (ap (λ l. first_there (map packed l)) (each-append k p rest) ∙ ap first_there (map-append packed (each p k) (each rest k)) ∙ first_there-append (map packed (each p k)) (map packed (each rest k))))
+    ∙ ap (λ l. option_or old (first_there (map packed (each (flat_map fields (map now l)) k)))) (sym (drop_more ps i d h)) ∙ so_far
+
+pub visible_more : {B : Type 0} (now : B → List ℕ) (ps : List B) (i : ℕ) (d : B) (k : ℕ) (here : Bool) → i < length ps → here ≡ is_there (fitting some_visible k (fields (now (get_or ps i d)))) →
+    is_there (fitting some_visible k (flat_map fields (map now (drop i ps)))) ≡ (here || is_there (fitting some_visible k (flat_map fields (map now (drop (i + 1) ps)))))
+visible_more now ps i d k here h is =
+    let p : List Entry = fields (now (get_or ps i d)) in
+    let rest : List Entry = flat_map fields (map now (drop (i + 1) ps)) in
+    ap (λ l. is_there (fitting some_visible k (flat_map fields (map now l)))) (drop_more ps i d h)
+    ∙ ap is_there (filter_map-append _ p rest) ∙ there-append (fitting some_visible k p) (fitting some_visible k rest) ∙ ap (λ b. b || is_there (fitting some_visible k rest)) (sym is)
+
+pub wire_more : {B : Type 0} (now : B → List ℕ) (ps : List B) (i : ℕ) (d : B) (here : Option WireFault) → i < length ps → here ≡ wire (now (get_or ps i d)) →
+    first_there (map wire (map now (drop i ps))) ≡ option_or here (first_there (map wire (map now (drop (i + 1) ps))))
+wire_more now ps i d here h is =
+    ap (λ l. first_there (map wire (map now l))) (drop_more ps i d h) ∙ ap (λ o. option_or o (first_there (map wire (map now (drop (i + 1) ps))))) (sym is)
+
+-- ---- the message
+
+low_are : (ns : List ℕ) → map sint64 (map (λ n. n % 2 ^ 32) ns) ≡ map sint32 ns
+low_are [] = refl
+low_are (n ∷ ns) = ap (λ l. sint32 n ∷ l) (low_are ns)
+
+-- what was read of a message
+pub record DenseRead (d : DenseFields) (fs : List Entry) : Type 0 where
+  pub ids : ColumnRead d.ids 1 fs
+  pub lats : ColumnRead d.lats 8 fs
+  pub lons : ColumnRead d.lons 9 fs
+  pub keys_vals : ColumnRead d.keys_vals 10 fs
+  pub info : DenseInfoRead d.info (sub fs 5)
+
+pub message_is : (d : DenseFields) (fs : List Entry) → DenseRead d fs → dense_message_of d ≡ dense_message fs
+message_is d fs r =
+    let i = r.info in
+    let a = ap (map sint64) r.ids.numbers in
+    let b = ap (map sint64) r.lats.numbers in
+    let c = ap (map sint64) r.lons.numbers in
+    let e = ap (map int32) r.keys_vals.numbers in
+    let v = ap (map int32) i.versions.numbers in
+    let t = ap (map sint64) i.timestamps.numbers in
+    let s = ap (map sint64) i.changesets.numbers in
+    let u = ap (map sint64) i.uids.numbers ∙ low_are (nums (sub fs 5) 4) in
+    let w = ap (map sint64) i.users.numbers ∙ low_are (nums (sub fs 5) 5) in
+    cc (a, b, c, e, v, t, s, u, w, i.visible)
+
+first_wires : (fs : List (Option WireFault)) → first (wire_phases fs) ≡ option_map faults.Wire (first_there fs)
+first_wires [] = refl
+first_wires (None ∷ fs) = first_wires fs
+first_wires (Some f ∷ fs) = refl
+
+abbrev array_fault : ℕ → List Entry → Option WireFault
+array_fault k fs = first_there (map packed (each fs k))
+
+plain_arrays : (fs : List Entry) → first_there (arrays (1 ∷ 8 ∷ 9 ∷ 10 ∷ []) fs) ≡ option_or (array_fault 1 fs) (option_or (array_fault 8 fs) (option_or (array_fault 9 fs) (array_fault 10 fs)))
+plain_arrays fs =
+    first_there-append (map packed (each fs 1)) _ ∙ ap (option_or (array_fault 1 fs)) (first_there-append (map packed (each fs 8)) _ ∙ ap (option_or (array_fault 8 fs))
+    (first_there-append (map packed (each fs 9)) _ ∙ ap (option_or (array_fault 9 fs)) (first_there-append (map packed (each fs 10)) [] ∙ option_or-none (array_fault 10 fs))))
+
+info_arrays : (fs : List Entry) → first_there (arrays (1 ∷ 2 ∷ 3 ∷ 4 ∷ 5 ∷ []) fs) ≡ option_or (array_fault 1 fs) (option_or (array_fault 2 fs) (option_or (array_fault 3 fs) (option_or (array_fault 4 fs) (array_fault 5 fs))))
+info_arrays fs =
+    first_there-append (map packed (each fs 1)) _ ∙ ap (option_or (array_fault 1 fs)) (first_there-append (map packed (each fs 2)) _ ∙ ap (option_or (array_fault 2 fs))
+    (first_there-append (map packed (each fs 3)) _ ∙ ap (option_or (array_fault 3 fs)) (first_there-append (map packed (each fs 4)) _ ∙ ap (option_or (array_fault 4 fs))
+    (first_there-append (map packed (each fs 5)) [] ∙ option_or-none (array_fault 5 fs)))))
+
+-- the faults, as they were read
+pub faults_are : (d : DenseFields) (ps infos : List (List ℕ)) (w i a n : Option WireFault) → DenseRead d (flat_map fields ps) → infos ≡ each (flat_map fields ps) 5 →
+    w ≡ first_there (map wire ps) → i ≡ first_there (map wire infos) →
+    a ≡ option_or d.ids.fault (option_or d.lats.fault (option_or d.lons.fault d.keys_vals.fault)) →
+    n ≡ option_or d.info.versions.fault (option_or d.info.timestamps.fault (option_or d.info.changesets.fault (option_or d.info.uids.fault d.info.users.fault))) →
+    first (wire_phases (wires (Dense ps))) ≡ option_map faults.Wire (option_or (option_or (option_or w i) a) n)
+faults_are d ps infos w i a n r are ew ei ea en =
+    let fs : List Entry = flat_map fields ps in
+    let j = r.info in
+    let plain : a ≡ first_there (arrays (1 ∷ 8 ∷ 9 ∷ 10 ∷ []) fs) =
+    ea ∙ ap (λ x. option_or x (option_or d.lats.fault (option_or d.lons.fault d.keys_vals.fault))) r.ids.fault
+    ∙ ap (λ x. option_or (array_fault 1 fs) (option_or x (option_or d.lons.fault d.keys_vals.fault))) r.lats.fault
+    ∙ ap (λ x. option_or (array_fault 1 fs) (option_or (array_fault 8 fs) (option_or x d.keys_vals.fault))) r.lons.fault
+    ∙ ap (λ x. option_or (array_fault 1 fs) (option_or (array_fault 8 fs) (option_or (array_fault 9 fs) x))) r.keys_vals.fault ∙ sym (plain_arrays fs) in
+    let gs : List Entry = sub fs 5 in
+    let info : n ≡ first_there (arrays (1 ∷ 2 ∷ 3 ∷ 4 ∷ 5 ∷ []) gs) =
+    en ∙ ap (λ x. option_or x (option_or d.info.timestamps.fault (option_or d.info.changesets.fault (option_or d.info.uids.fault d.info.users.fault)))) j.versions.fault
+    ∙ ap (λ x. option_or (array_fault 1 gs) (option_or x (option_or d.info.changesets.fault (option_or d.info.uids.fault d.info.users.fault)))) j.timestamps.fault
+    ∙ ap (λ x. option_or (array_fault 1 gs) (option_or (array_fault 2 gs) (option_or x (option_or d.info.uids.fault d.info.users.fault)))) j.changesets.fault
+    ∙ ap (λ x. option_or (array_fault 1 gs) (option_or (array_fault 2 gs) (option_or (array_fault 3 gs) (option_or x d.info.users.fault)))) j.uids.fault
+    ∙ ap (λ x. option_or (array_fault 1 gs) (option_or (array_fault 2 gs) (option_or (array_fault 3 gs) (option_or (array_fault 4 gs) x)))) j.users.fault ∙ sym (info_arrays gs) in
+    let first_two : option_or w i ≡ first_there (map wire ps ++ map wire (each fs 5)) =
+    ap (λ x. option_or x i) ew ∙ ap (option_or (first_there (map wire ps))) (ei ∙ ap (λ l. first_there (map wire l)) are) ∙ sym (first_there-append (map wire ps) (map wire (each fs 5))) in
+    let three : option_or (option_or w i) a ≡ first_there (map wire ps ++ map wire (each fs 5) ++ arrays (1 ∷ 8 ∷ 9 ∷ 10 ∷ []) fs) =
+    ap (λ x. option_or x a) first_two ∙ ap (option_or (first_there (map wire ps ++ map wire (each fs 5)))) plain ∙ sym (first_there-append (map wire ps ++ map wire (each fs 5)) (arrays (1 ∷ 8 ∷ 9 ∷ 10 ∷ []) fs)) in
+    let all : option_or (option_or (option_or w i) a) n ≡ first_there (wires (Dense ps)) =
+    ap (λ x. option_or x n) three ∙ ap (option_or (first_there (map wire ps ++ map wire (each fs 5) ++ arrays (1 ∷ 8 ∷ 9 ∷ 10 ∷ []) fs))) info
+    ∙ sym (first_there-append (map wire ps ++ map wire (each fs 5) ++ arrays (1 ∷ 8 ∷ 9 ∷ 10 ∷ []) fs) (arrays (1 ∷ 2 ∷ 3 ∷ 4 ∷ 5 ∷ []) gs)) in
+    first_wires (wires (Dense ps)) ∙ sym (ap (option_map faults.Wire) all)
+
+-- a payload that has a flag, and one that has none
+pub visible_here : {B : Type 0} (now : B → List ℕ) (ps : List B) (i : ℕ) (d : B) (k : ℕ) (here : Bool) → i < length ps → here ≡ is_there (fitting some_visible k (fields (now (get_or ps i d)))) → here ≡ true →
+    is_there (fitting some_visible k (flat_map fields (map now (drop i ps)))) ≡ true
+visible_here now ps i d k here h is e =
+    visible_more now ps i d k here h is ∙ ap (λ b. b || is_there (fitting some_visible k (flat_map fields (map now (drop (i + 1) ps))))) e
+
+pub visible_not_here : {B : Type 0} (now : B → List ℕ) (ps : List B) (i : ℕ) (d : B) (k : ℕ) (here : Bool) → i < length ps → here ≡ is_there (fitting some_visible k (fields (now (get_or ps i d)))) → here ≡ false →
+    is_there (fitting some_visible k (flat_map fields (map now (drop i ps)))) ≡ is_there (fitting some_visible k (flat_map fields (map now (drop (i + 1) ps))))
+visible_not_here now ps i d k here h is e =
+    visible_more now ps i d k here h is ∙ ap (λ b. b || is_there (fitting some_visible k (flat_map fields (map now (drop (i + 1) ps))))) e

@@ -1,0 +1,15 @@
+use Rattle.std.proofs.Common.{◌≡◌, ◌++◌, map, drop}
+use Rattle.std.specs.List.{flat_map}
+use Rattle.std.specs.Option.{option_or}
+use Rattle.pbf_wire.specs.Walk.{items_left}
+use Rattle.pbf_wire.specs.Readings.{front, fields, wire, packed, each, nums, fitting, is_there}
+use Rattle.osm_block.specs.Message.{some_visible}
+use Rattle.osm_block.specs.Columns.{first_there}
+use Rattle.osm_block.proofs.dense.fields.payload_has_visible.Given as goal
+
+abbrev pub invariant-loop-field : goal.invariant-loop-field
+invariant-loop-field l = record {
+  can : (goal.iterator-loop-field).can_next l.field-iterator;
+  ends : (goal.iterator-loop-field).is_finite l.field-iterator;
+  so_far : is_there (fitting some_visible 6 (front (items_left l.field-iterator))) ≡ is_there (fitting some_visible 6 (fields l.payload));
+}

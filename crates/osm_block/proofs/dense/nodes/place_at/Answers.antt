@@ -1,0 +1,22 @@
+use Rattle.std.proofs.Common.{rules, ◌≡◌, ap, ◌∙◌, get_or, pos, FitsSigned, to_z, of_z, w32, w64}
+use Rattle.std.proofs.lemmas.Int.{to_z-of_z}
+use Rattle.osm_block.specs.Block.{place}
+use Rattle.osm_block.specs.Phases.{place_in_range}
+use Rattle.osm_block.proofs.DenseColumnLemmas.{each_at}
+use Rattle.osm_block.proofs.dense.nodes.place_at.Goals as goal
+
+pub place_of-requires : goal.place_of-requires
+place_of-requires c =
+    let offset : FitsSigned w64 c.args.offset = search rules in
+    let granularity : FitsSigned w32 c.args.granularity = search rules in
+    let units : FitsSigned w64 (get_or c.args.units.now c.args.index (pos 0)) = search rules in
+    simp to_z-of_z (each_at (place_in_range c.args.offset c.args.granularity) c.args.units.now c.args.index (pos 0) c.requires.within c.requires.in_range)
+
+pub returns : goal.returns
+returns c =
+    let offset : FitsSigned w64 c.args.offset = search rules in
+    let granularity : FitsSigned w32 c.args.granularity = search rules in
+    let units : FitsSigned w64 (get_or c.args.units.now c.args.index (pos 0)) = search rules in
+    let result : FitsSigned w64 c.place_of.result = search rules in
+    let is : c.place_of.result ≡ place c.args.offset c.args.granularity (get_or c.args.units.now c.args.index (pos 0)) = simp to_z-of_z at c.place_of.ensures in
+    to_z-of_z w64 _ result ∙ is

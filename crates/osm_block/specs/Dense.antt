@@ -1,0 +1,88 @@
+-- Dense nodes while they are read: their columns, and what each node takes of them.
+use Rattle.std.specs.Prelude.{◌≡◌, ℕ, zero, suc, List, [], ◌∷◌, ◌++◌, map, length, ℤ, pos, negsuc, Bool, true, false, ◌&&◌, slice_index_or, Option, Some, None, option_map}
+use Rattle.std.specs.List.{flat_map, list_all}
+use Rattle.pbf_wire.specs.Readings.{int32, sint64}
+use Rattle.osm_value.specs.Value.{Text, InfoValue, NodeValue}
+use Rattle.osm_value.specs.Ranges.{is_wide, is_version, is_uid, passes, IsInfo, IsNode}
+use Rattle.osm_block.specs.declared.dense.fields.DenseFields.{DenseFields}
+use Rattle.osm_block.specs.declared.dense.columns.Columns.{Columns}
+use Rattle.osm_block.specs.Message.{Context, DenseMessage}
+use Rattle.osm_block.specs.Differences.{Diff}
+use Rattle.osm_block.specs.DenseTags.{Pair}
+use Rattle.osm_block.specs.Block.{place, time, version, text_at, texts_at, all_there, column}
+use Rattle.osm_block.specs.Phases.{is_index, place_in_range, fits_ids}
+use Rattle.osm_block.specs.NodeTags.{node_pairs}
+use Rattle.osm_block.specs.DenseTags.{indexes_of}
+
+-- the arrays as they stand in the message; those of 32 bits are cut to 32 bits
+abbrev pub dense_message_of : DenseFields → DenseMessage
+dense_message_of d = record {
+  id = map sint64 d.ids.numbers.items;
+  info = record {
+    version = map int32 d.info.versions.numbers.items;
+    timestamp = map sint64 d.info.timestamps.numbers.items;
+    changeset = map sint64 d.info.changesets.numbers.items;
+    uid = map sint64 d.info.uids.numbers.items;
+    user_sid = map sint64 d.info.users.numbers.items;
+    is_visible_there = d.info.has_visible;
+  };
+  lat = map sint64 d.lats.numbers.items;
+  lon = map sint64 d.lons.numbers.items;
+  keys_vals = map int32 d.keys_vals.numbers.items;
+}
+
+-- the absolute numbers of a message
+pub record AreColumns (c : Columns) (m : DenseMessage) : Type 0 where
+  pub ids : Diff c.ids.items m.id
+  pub lats : Diff c.lats.items m.lat
+  pub lons : Diff c.lons.items m.lon
+  pub timestamps : Diff c.timestamps.items m.info.timestamp
+  pub changesets : Diff c.changesets.items m.info.changeset
+  pub uids : Diff c.uids.items m.info.uid
+  pub users : Diff c.users.items m.info.user_sid
+  pub versions : c.versions.items ≡ m.info.version
+  pub keys_vals : c.keys_vals.items ≡ m.keys_vals
+
+abbrev pub columns_in_range : Context → Columns → Bool
+columns_in_range b c =
+    list_all is_wide c.ids.items
+    && list_all (place_in_range b.lat_offset b.granularity) c.lats.items
+    && list_all (place_in_range b.lon_offset b.granularity) c.lons.items
+    && (list_all (λ v. passes is_version (version v)) c.versions.items
+    && list_all (λ t. is_wide (time b.date_granularity t)) c.timestamps.items
+    && list_all is_wide c.changesets.items
+    && list_all is_uid c.uids.items)
+
+-- the columns are as long as they should be, and their numbers in their ranges and their indexes in the table
+pub record AreReady (b : Context) (c : Columns) : Type 0 where
+  pub lats : length c.lats.items ≡ length c.ids.items
+  pub lons : length c.lons.items ≡ length c.ids.items
+  pub versions : fits_ids c.ids.items c.versions.items ≡ true
+  pub timestamps : fits_ids c.ids.items c.timestamps.items ≡ true
+  pub changesets : fits_ids c.ids.items c.changesets.items ≡ true
+  pub uids : fits_ids c.ids.items c.uids.items ≡ true
+  pub users : fits_ids c.ids.items c.users.items ≡ true
+  pub in_range : columns_in_range b c ≡ true
+  pub tags_in_table : list_all (is_index (length b.table)) (indexes_of (node_pairs (length c.ids.items) c.keys_vals.items)) ≡ true
+  pub users_in_table : list_all (is_index (length b.table)) c.users.items ≡ true
+
+-- what stands at a place of a column that may be empty
+abbrev pub at_place : {A : Type 0} → ℕ → (ℤ → Option A) → List ℤ → ℕ → Option A
+at_place n meaning xs k = slice_index_or (column n (map meaning xs)) k None
+
+-- the info of the node at that place
+pub record InfoAt (b : Context) (c : Columns) (k : ℕ) (i : InfoValue) : Type 0 where
+  pub version : i.version ≡ at_place (length c.ids.items) version c.versions.items k
+  pub time : i.time ≡ at_place (length c.ids.items) (λ t. Some (time b.date_granularity t)) c.timestamps.items k
+  pub changeset : i.changeset ≡ at_place (length c.ids.items) (λ v. Some v) c.changesets.items k
+  pub uid : i.uid ≡ at_place (length c.ids.items) (λ v. Some v) c.uids.items k
+  pub user : option_map Some i.user ≡ at_place (length c.ids.items) (λ v. Some (text_at b.table v)) c.users.items k
+  pub in_range : IsInfo i
+
+-- the node at that place, but for its tags
+pub record NodeAt (b : Context) (c : Columns) (k : ℕ) (n : NodeValue) : Type 0 where
+  pub id : n.id ≡ slice_index_or c.ids.items k (pos 0)
+  pub lat : n.lat ≡ place b.lat_offset b.granularity (slice_index_or c.lats.items k (pos 0))
+  pub lon : n.lon ≡ place b.lon_offset b.granularity (slice_index_or c.lons.items k (pos 0))
+  pub info : InfoAt b c k n.info
+  pub in_range : IsNode n

@@ -1,0 +1,203 @@
+//! The arrays of dense nodes, as they stand in the message.
+
+ghost use Rattle.std.specs.Prelude.{◌≡◌, ◌++◌, map, OnOk, ⊤, ◌%◌, ◌^◌};
+ghost use Rattle.std.specs.List.{flat_map};
+ghost use Rattle.std.specs.Option.{option_or, is_some};
+ghost use Rattle.pbf_wire.specs.Field.{content_of};
+ghost use Rattle.pbf_wire.specs.Readings.{fields, wire, packed, each, nums, fitting, is_there};
+ghost use Rattle.osm_block.specs.Message.{Dense, dense_message, some_visible, wires};
+ghost use Rattle.osm_block.specs.Columns.{first_there};
+ghost use Rattle.osm_block.specs.Dense.{dense_message_of};
+ghost use Rattle.osm_block.specs.DenseFieldsRead.{ColumnRead, ColumnRead32, DenseInfoRead};
+ghost use Rattle.osm_block.specs.Phases.{Gives, first, wire_phases};
+
+use crate::column::Column;
+use crate::fault::{BlockError, BlockFault};
+use crate::readings::{each_of_all, low_32, wire_of};
+use pbf_wire::{Fields, Value, WireFault};
+use std::alloc::{AllocError, Global};
+
+/// The arrays of a DenseInfo. They are read into again for each message.
+#[derive(Drop)]
+pub struct DenseInfoFields {
+    pub versions: Column,
+    pub timestamps: Column,
+    pub changesets: Column,
+    pub uids: Column,
+    pub users: Column,
+    pub has_visible: bool,
+}
+
+/// The arrays of a message of dense nodes. They are read into again for each message.
+#[derive(Drop)]
+pub struct DenseFields {
+    pub ids: Column,
+    pub lats: Column,
+    pub lons: Column,
+    pub keys_vals: Column,
+    pub info: DenseInfoFields,
+}
+
+impl DenseInfoFields {
+    fn new(alloc: Global) -> DenseInfoFields {
+        DenseInfoFields {
+            versions: Column::new(alloc),
+            timestamps: Column::new(alloc),
+            changesets: Column::new(alloc),
+            uids: Column::new(alloc),
+            users: Column::new(alloc),
+            has_visible: false,
+        }
+    }
+
+    /// The first fault of the arrays, by field number.
+    fn fault(&self) -> Option<WireFault>
+        ensures { result ≡ option_or self.now.versions.fault (option_or self.now.timestamps.fault (option_or self.now.changesets.fault (option_or self.now.uids.fault self.now.users.fault))) }
+    {
+        let users = self.uids.fault.or(self.users.fault);
+        let times = self.timestamps.fault.or(self.changesets.fault.or(users));
+        self.versions.fault.or(times)
+    }
+}
+
+impl DenseFields {
+    pub fn new(alloc: Global) -> DenseFields {
+        DenseFields {
+            ids: Column::new(alloc),
+            lats: Column::new(alloc),
+            lons: Column::new(alloc),
+            keys_vals: Column::new(alloc),
+            info: DenseInfoFields::new(alloc),
+        }
+    }
+
+    /// The first fault of the arrays outside the DenseInfo, by field number.
+    fn fault(&self) -> Option<WireFault>
+        ensures { result ≡ option_or self.now.ids.fault (option_or self.now.lats.fault (option_or self.now.lons.fault self.now.keys_vals.fault)) }
+    {
+        let places = self.lats.fault.or(self.lons.fault.or(self.keys_vals.fault));
+        self.ids.fault.or(places)
+    }
+}
+
+/// Appends the numbers of the fields `number` of one payload.
+fn take_fields(payload: &[u8], number: u32, column: &mut Column) -> Result<(), AllocError>
+    ensures numbers { OnOk result (column.new.numbers.items ≡ column.old.numbers.items ++ nums (fields payload.now) number) }
+    ensures fault { OnOk result (column.new.fault ≡ option_or column.old.fault (first_there (map packed (each (fields payload.now) number)))) }
+{
+    for field in Fields::new(payload) {
+        let Ok(field) = field else {
+            return Ok(());
+        };
+        if field.number == number {
+            column.take(field.value)?;
+        }
+    }
+    Ok(())
+}
+
+/// Reads the numbers of the fields `number` of all payloads.
+fn read_column(payloads: &[&[u8]], number: u32, column: &mut Column) -> Result<(), AllocError>
+    ensures { OnOk result (ColumnRead column.new number (flat_map fields (map (λ p. p.now) payloads.now))) }
+{
+    column.clear();
+    for payload in payloads {
+        take_fields(payload, number, column)?;
+    }
+    Ok(())
+}
+
+/// The same of numbers of 32 bits.
+fn read_column_32(payloads: &[&[u8]], number: u32, column: &mut Column) -> Result<(), AllocError>
+    ensures { OnOk result (ColumnRead32 column.new number (flat_map fields (map (λ p. p.now) payloads.now))) }
+{
+    read_column(payloads, number, column)?;
+    low_32(&mut column.numbers);
+    Ok(())
+}
+
+/// Whether a field holds a flag of visibility: a number, or a packed row that isn't empty.
+fn is_flag(value: Value) -> bool
+    ensures { result ≡ is_some (some_visible (content_of value.entry)) }
+{
+    match value {
+        Value::Number(_) => true,
+        Value::Bytes(flags) => !flags.is_empty(),
+        Value::Fixed64(_) | Value::Fixed32(_) => false,
+    }
+}
+
+fn payload_has_visible(payload: &[u8]) -> bool
+    ensures { result ≡ is_there (fitting some_visible 6 (fields payload.now)) }
+{
+    for field in Fields::new(payload) {
+        let Ok(field) = field else {
+            return false;
+        };
+        if field.number == 6 {
+            if is_flag(field.value) {
+                return true;
+            }
+        }
+    }
+    false
+}
+
+fn has_visible(payloads: &[&[u8]]) -> bool
+    ensures { result ≡ is_there (fitting some_visible 6 (flat_map fields (map (λ p. p.now) payloads.now))) }
+{
+    for payload in payloads {
+        if payload_has_visible(payload) {
+            return true;
+        }
+    }
+    false
+}
+
+/// The first wire fault of the payloads.
+fn first_wire(payloads: &[&[u8]]) -> Option<WireFault>
+    ensures { result ≡ first_there (map wire (map (λ p. p.now) payloads.now)) }
+{
+    for payload in payloads {
+        if let Some(fault) = wire_of(payload) {
+            return Some(fault);
+        }
+    }
+    None
+}
+
+/// Reads the arrays of the DenseInfo that the payloads are.
+fn read_infos(payloads: &[&[u8]], info: &mut DenseInfoFields) -> Result<(), AllocError>
+    ensures { OnOk result (DenseInfoRead info.new (flat_map fields (map (λ p. p.now) payloads.now))) }
+{
+    read_column(payloads, 1, &mut info.versions)?;
+    read_column(payloads, 2, &mut info.timestamps)?;
+    read_column(payloads, 3, &mut info.changesets)?;
+    read_column_32(payloads, 4, &mut info.uids)?;
+    read_column_32(payloads, 5, &mut info.users)?;
+    info.has_visible = has_visible(payloads);
+    Ok(())
+}
+
+/// Reads the arrays of the message that the payloads are, or answers the first fault of its wire.
+pub fn read_fields<'a>(
+    alloc: Global,
+    payloads: &[&'a [u8]],
+    dense: &mut DenseFields,
+) -> Result<(), BlockError>
+    ensures phase { Gives (λ _. ⊤) (first (wire_phases (wires (Dense (map (λ p. p.now) payloads.now))))) result }
+    ensures read { OnOk result (dense_message_of dense.new ≡ dense_message (flat_map fields (map (λ p. p.now) payloads.now))) }
+{
+    let mut infos = Vec::new(alloc);
+    each_of_all(payloads, 5, &mut infos)?;
+    read_column(payloads, 1, &mut dense.ids)?;
+    read_column(payloads, 8, &mut dense.lats)?;
+    read_column(payloads, 9, &mut dense.lons)?;
+    read_column(payloads, 10, &mut dense.keys_vals)?;
+    read_infos(&infos, &mut dense.info)?;
+    let wires = first_wire(payloads).or(first_wire(&infos));
+    match wires.or(dense.fault()).or(dense.info.fault()) {
+        Some(fault) => Err(BlockError::Fault(BlockFault::Wire(fault))),
+        None => Ok(()),
+    }
+}

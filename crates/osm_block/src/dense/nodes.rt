@@ -1,0 +1,130 @@
+//! Dense nodes, built from their columns.
+
+ghost use Rattle.std.specs.Prelude.{◌≡◌, ◌*ℤ◌, ◌<◌, length, true, pos, IfOk, OnOk, Some, None, option_map, option_and_then, option_copied, slice_get, slice_index_or, map, ◌++◌};
+ghost use Rattle.std.specs.List.{list_all};
+ghost use Rattle.osm_value.specs.Ranges.{is_wide, is_uid, passes, AreTags};
+ghost use Rattle.osm_block.specs.Phases.{is_index, place_in_range};
+ghost use Rattle.osm_block.specs.Block.{place, time, version as version_of, text_at};
+ghost use Rattle.osm_block.specs.Dense.{AreReady, InfoAt, NodeAt};
+ghost use Rattle.osm_block.specs.DenseRead.{AppendedNodes};
+ghost use Rattle.osm_block.specs.Fields.{context_of};
+
+use super::columns::Columns;
+use super::tags::{index_of, node_tags};
+use crate::ranges::place_of;
+use crate::scale::Scale;
+use osm_value::{Element, Info, Node};
+use std::alloc::{AllocError, Global};
+
+fn version_at(versions: &[i32], index: usize) -> Option<i32>
+    ensures { result ≡ option_and_then version_of (slice_get versions.now index) }
+{
+    match versions.get(index) {
+        None | Some(-1) => None,
+        Some(version) => Some(*version),
+    }
+}
+
+fn number_at(column: &[i64], index: usize) -> Option<i64>
+    ensures { result ≡ slice_get column.now index }
+{
+    column.get(index).copied()
+}
+
+fn time_of(date_granularity: i32, units: Option<i64>) -> Option<i64>
+    requires { passes (λ t. is_wide (time date_granularity t)) units ≡ true }
+    ensures { result ≡ option_map (time date_granularity) units }
+{
+    match units {
+        None => None,
+        Some(units) => Some(units * i64::from(date_granularity)),
+    }
+}
+
+fn uid_of(uid: Option<i64>) -> Option<i32>
+    requires { passes is_uid uid ≡ true }
+    ensures { result ≡ uid }
+{
+    match uid {
+        None => None,
+        Some(uid) => Some(uid as i32),
+    }
+}
+
+fn user_of<'a>(table: &[&'a str], index: Option<i64>) -> Option<&'a str>
+    requires { passes (is_index (length table.now)) index ≡ true }
+    ensures { option_map Some (option_copied result) ≡ option_map (text_at (map (λ t. t.now) table.now)) index }
+{
+    match index {
+        None => None,
+        Some(index) => Some(table[index_of(index, table.len())]),
+    }
+}
+
+/// The info of the node at the place.
+fn info_at<'a>(scale: &Scale<'a>, columns: &Columns, index: usize) -> Info<'a>
+    requires ready { AreReady (context_of scale.now) columns.now }
+    requires within { index < length columns.now.ids.items }
+    ensures { InfoAt (context_of scale.now) columns.now index result }
+{
+    let version = version_at(&columns.versions, index);
+    let time = time_of(
+        scale.date_granularity,
+        number_at(&columns.timestamps, index),
+    );
+    let changeset = number_at(&columns.changesets, index);
+    let uid = uid_of(number_at(&columns.uids, index));
+    let user = user_of(&scale.table, number_at(&columns.users, index));
+    Info::new(version, time, changeset, uid, user, None)
+}
+
+/// A place of that column, in nanodegrees.
+fn place_at(offset: i64, granularity: i32, units: &[i64], index: usize) -> i64
+    requires within { index < length units.now }
+    requires in_range { list_all (place_in_range offset granularity) units.now ≡ true }
+    ensures { result ≡ place offset granularity (slice_index_or units.now index (pos 0)) }
+{
+    place_of(offset, granularity, units[index])
+}
+
+/// The node at the place, with these tags.
+fn node_at<'a>(
+    scale: &Scale<'a>,
+    columns: &Columns,
+    index: usize,
+    tags: Vec<(&'a str, &'a str)>,
+) -> Node<'a>
+    requires ready { AreReady (context_of scale.now) columns.now }
+    requires within { index < length columns.now.ids.items }
+    requires tags { AreTags (map (λ t. (t.0.now, t.1.now)) tags.items) }
+    ensures node { NodeAt (context_of scale.now) columns.now index result }
+    ensures tags { result.tags ≡ map (λ t. (t.0.now, t.1.now)) tags.entry.items }
+{
+    let ids: &[i64] = &columns.ids;
+    let info = info_at(scale, columns, index);
+    let lat = place_at(scale.lat_offset, scale.granularity, &columns.lats, index);
+    let lon = place_at(scale.lon_offset, scale.granularity, &columns.lons, index);
+    Node::new(ids[index], lat, lon, tags, info)
+}
+
+/// Appends the nodes that the columns stand for.
+pub fn nodes_of<'a>(
+    alloc: Global,
+    scale: &Scale<'a>,
+    columns: &Columns,
+    out: &mut Vec<Element<'a>>,
+) -> Result<(), AllocError>
+    requires ready { AreReady (context_of scale.now) columns.now }
+    ensures { OnOk result (AppendedNodes (context_of scale.now) columns.now out.old.items out.new.items) }
+{
+    let count = columns.ids.len();
+    out.reserve(count)?;
+    let mut at = 0;
+    for index in 0..count {
+        let (tags, next) = node_tags(alloc, &scale.table, &columns.keys_vals, at)?;
+        let node = node_at(scale, columns, index, tags);
+        out.push(Element::Node(node))?;
+        at = next;
+    }
+    Ok(())
+}

@@ -1,0 +1,192 @@
+use crate::read_block;
+use osm_value::Element;
+use std::alloc::AllocError;
+use std::test::*;
+
+/// The number of the fault that the block is refused with.
+fn fault_of(rt: &HostRuntime, block: &[u8]) -> Option<u8> {
+    match read_block(rt.alloc(), block) {
+        Ok(_) => None,
+        Err(error) => Some(error.number()),
+    }
+}
+
+#[test]
+fn places(rt: HostRuntime) -> Result<(), Fail> {
+    // Two nodes at 10 and 9, -1 and -1, in units of 100.
+    let block = [
+        0x0A, 0x02, 0x0A, 0x00, 0x12, 0x0E, 0x12, 0x0C, 0x0A, 0x02, 0x02, 0x02, 0x42, 0x02, 0x14,
+        0x01, 0x4A, 0x02, 0x01, 0x00,
+    ];
+    let elements = read_block(rt.alloc(), &block)?;
+    assert!(rt; elements.len() == 2);
+    let (Element::Node(first), Element::Node(second)) = (&elements[0], &elements[1]) else {
+        return Err("another kind".into());
+    };
+    assert!(rt; first.id() == 1);
+    assert!(rt; first.lat() == 1000);
+    assert!(rt; first.lon() == -100);
+    assert!(rt; second.id() == 2);
+    assert!(rt; second.lat() == 900);
+    assert!(rt; second.lon() == -100);
+    assert!(rt; first.tags().is_empty());
+    assert!(rt; first.info().version().is_none());
+    Ok(())
+}
+
+/// A table of "", "a" and "b", and two nodes at 0, 0 with these pairs of indexes.
+fn tagged(rt: &HostRuntime, keys_vals: &[u8]) -> Result<Vec<u8>, AllocError> {
+    let len = keys_vals.len() as u8 % 8;
+    let mut block = [0x0A, 0x08, 0x0A, 0x00, 0x0A, 0x01, 0x61, 0x0A, 0x01, 0x62].to_vec(
+        rt.alloc(),
+    )?;
+    block.extend_from_slice(&[0x12, 16 + len, 0x12, 14 + len, 0x0A, 0x02, 0x02, 0x02])?;
+    block.extend_from_slice(&[0x42, 0x02, 0x00, 0x00, 0x4A, 0x02, 0x00, 0x00, 0x52, len])?;
+    block.extend_from_slice(keys_vals)?;
+    Ok(block)
+}
+
+#[test]
+fn tags(rt: HostRuntime) -> Result<(), Fail> {
+    let block = tagged(&rt, &[0x01, 0x02, 0x00, 0x00])?;
+    let elements = read_block(rt.alloc(), &block)?;
+    assert!(rt; elements.len() == 2);
+    let (Element::Node(first), Element::Node(second)) = (&elements[0], &elements[1]) else {
+        return Err("another kind".into());
+    };
+    assert!(rt; first.tags().len() == 1);
+    assert!(rt; first.tags()[0].0 == "a");
+    assert!(rt; first.tags()[0].1 == "b");
+    assert!(rt; second.tags().is_empty());
+    let block = tagged(&rt, &[0x00, 0x00])?;
+    let elements = read_block(rt.alloc(), &block)?;
+    assert!(rt; elements.len() == 2);
+    let (Element::Node(first), Element::Node(second)) = (&elements[0], &elements[1]) else {
+        return Err("another kind".into());
+    };
+    assert!(rt; first.tags().is_empty());
+    assert!(rt; second.tags().is_empty());
+    let block = tagged(&rt, &[])?;
+    let elements = read_block(rt.alloc(), &block)?;
+    assert!(rt; elements.len() == 2);
+    let (Element::Node(first), Element::Node(second)) = (&elements[0], &elements[1]) else {
+        return Err("another kind".into());
+    };
+    assert!(rt; first.tags().is_empty());
+    assert!(rt; second.tags().is_empty());
+    // No 0 behind the pair of the first node, and none for the second.
+    assert!(rt; fault_of(&rt, &tagged(&rt, &[0x01, 0x02])?) == Some(51));
+    assert!(rt; fault_of(&rt, &tagged(&rt, &[0x01, 0x02, 0x00])?) == Some(51));
+    // A key that the table hasn't.
+    assert!(rt; fault_of(&rt, &tagged(&rt, &[0x03, 0x02, 0x00, 0x00])?) == Some(48));
+    Ok(())
+}
+
+#[test]
+fn ranges(rt: HostRuntime) -> Result<(), Fail> {
+    // A node at 0 units of 1, where the offset of latitudes is 2^62.
+    let mut block = [
+        0x0A, 0x02, 0x0A, 0x00, 0x12, 0x0B, 0x12, 0x09, 0x0A, 0x01, 0x02, 0x42, 0x01, 0x00, 0x4A,
+        0x01, 0x00, 0x88, 0x01, 0x01, 0x98, 0x01, 0x80, 0x80, 0x80, 0x80, 0x80, 0x80, 0x80, 0x80,
+        0x40,
+    ];
+    assert!(rt; fault_of(&rt, &block) == Some(50));
+    // One unit lower.
+    block[13] = 0x01;
+    let elements = read_block(rt.alloc(), &block)?;
+    assert!(rt; elements.len() == 1);
+    let Element::Node(node) = &elements[0] else {
+        return Err("another kind".into());
+    };
+    assert!(rt; node.id() == 1);
+    assert!(rt; node.lat() == 4611686018427387903);
+    assert!(rt; node.lon() == 0);
+    // The ids 2^63 - 1, then one more, then one less.
+    let sums = [
+        0x0A, 0x02, 0x0A, 0x00, 0x12, 0x1A, 0x12, 0x18, 0x0A, 0x0C, 0xFE, 0xFF, 0xFF, 0xFF, 0xFF,
+        0xFF, 0xFF, 0xFF, 0xFF, 0x01, 0x02, 0x01, 0x42, 0x03, 0x00, 0x00, 0x00, 0x4A, 0x03, 0x00,
+        0x00, 0x00,
+    ];
+    assert!(rt; fault_of(&rt, &sums) == Some(49));
+    Ok(())
+}
+
+#[test]
+fn infos(rt: HostRuntime) -> Result<(), Fail> {
+    let block = [
+        0x0A, 0x05, 0x0A, 0x00, 0x0A, 0x01, 0x75, 0x12, 0x24, 0x12, 0x22, 0x0A, 0x02, 0x02, 0x02,
+        0x2A, 0x14, 0x0A, 0x02, 0x01, 0x02, 0x12, 0x02, 0x02, 0x02, 0x1A, 0x02, 0x0A, 0x00, 0x22,
+        0x02, 0x0E, 0x00, 0x2A, 0x02, 0x02, 0x00, 0x42, 0x02, 0x00, 0x00, 0x4A, 0x02, 0x00, 0x00,
+    ];
+    let elements = read_block(rt.alloc(), &block)?;
+    assert!(rt; elements.len() == 2);
+    let (Element::Node(first), Element::Node(second)) = (&elements[0], &elements[1]) else {
+        return Err("another kind".into());
+    };
+    assert!(rt; first.info().version() == Some(1));
+    assert!(rt; first.info().time() == Some(1000));
+    assert!(rt; first.info().changeset() == Some(5));
+    assert!(rt; first.info().uid() == Some(7));
+    assert!(rt; first.info().user() == Some("u"));
+    assert!(rt; second.info().version() == Some(2));
+    assert!(rt; second.info().time() == Some(2000));
+    assert!(rt; second.info().changeset() == Some(5));
+    assert!(rt; second.info().uid() == Some(7));
+    assert!(rt; second.info().user() == Some("u"));
+    // The versions 3 and -1 alone.
+    let versions = [
+        0x0A, 0x02, 0x0A, 0x00, 0x12, 0x1D, 0x12, 0x1B, 0x0A, 0x02, 0x02, 0x02, 0x2A, 0x0D, 0x0A,
+        0x0B, 0x03, 0xFF, 0xFF, 0xFF, 0xFF, 0xFF, 0xFF, 0xFF, 0xFF, 0xFF, 0x01, 0x42, 0x02, 0x00,
+        0x00, 0x4A, 0x02, 0x00, 0x00,
+    ];
+    let elements = read_block(rt.alloc(), &versions)?;
+    assert!(rt; elements.len() == 2);
+    let (Element::Node(first), Element::Node(second)) = (&elements[0], &elements[1]) else {
+        return Err("another kind".into());
+    };
+    assert!(rt; first.info().version() == Some(3));
+    assert!(rt; second.info().version().is_none());
+    assert!(rt; first.info().time().is_none());
+    // One flag of visibility.
+    let visible = [
+        0x0A, 0x02, 0x0A, 0x00, 0x12, 0x13, 0x12, 0x11, 0x0A, 0x02, 0x02, 0x02, 0x2A, 0x03, 0x32,
+        0x01, 0x01, 0x42, 0x02, 0x00, 0x00, 0x4A, 0x02, 0x00, 0x00,
+    ];
+    assert!(rt; fault_of(&rt, &visible) == Some(54));
+    Ok(())
+}
+
+#[test]
+fn each_group_begins_at_0(rt: HostRuntime) -> Result<(), Fail> {
+    let block = [
+        0x0A, 0x02, 0x0A, 0x00, 0x12, 0x0B, 0x12, 0x09, 0x0A, 0x01, 0x02, 0x42, 0x01, 0x00, 0x4A,
+        0x01, 0x00, 0x12, 0x0B, 0x12, 0x09, 0x0A, 0x01, 0x02, 0x42, 0x01, 0x00, 0x4A, 0x01, 0x00,
+    ];
+    let elements = read_block(rt.alloc(), &block)?;
+    assert!(rt; elements.len() == 2);
+    let (Element::Node(first), Element::Node(second)) = (&elements[0], &elements[1]) else {
+        return Err("another kind".into());
+    };
+    assert!(rt; first.id() == 1);
+    assert!(rt; second.id() == 1);
+    Ok(())
+}
+
+#[test]
+fn pieces_are_one_message(rt: HostRuntime) -> Result<(), Fail> {
+    // The first two nodes again: ids and latitudes in one payload, longitudes in another; the ids in two pieces.
+    let block = [
+        0x0A, 0x02, 0x0A, 0x00, 0x12, 0x11, 0x12, 0x09, 0x0A, 0x01, 0x02, 0x08, 0x02, 0x42, 0x02,
+        0x14, 0x01, 0x12, 0x04, 0x4A, 0x02, 0x01, 0x00,
+    ];
+    let elements = read_block(rt.alloc(), &block)?;
+    assert!(rt; elements.len() == 2);
+    let (Element::Node(first), Element::Node(second)) = (&elements[0], &elements[1]) else {
+        return Err("another kind".into());
+    };
+    assert!(rt; first.id() == 1);
+    assert!(rt; second.id() == 2);
+    assert!(rt; second.lat() == 900);
+    assert!(rt; second.lon() == -100);
+    Ok(())
+}

@@ -1,0 +1,12 @@
+pub mod Delivering
+pub mod ExamineLemmas
+pub mod ExportLemmas
+pub mod FewTexts
+pub mod FilesLemmas
+pub mod GapsLemmas
+pub mod GoodLaws
+pub mod HistoryLemmas
+pub mod RunsLemmas
+pub mod StepLaws
+pub mod Touching
+pub mod WritingLemmas

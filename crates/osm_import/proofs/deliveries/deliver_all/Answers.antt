@@ -1,0 +1,66 @@
+use Rattle.std.proofs.Common.{◌≡◌, ◌++◌, ◌∷◌, [], List, refl, sym, subst, arith, rules}
+use Rattle.std.proofs.lemmas.Grind.{common_steps}
+use Rattle.osm_import.specs.declared.answer.Answer.{Answer}
+use Rattle.osm_import.specs.Runs.{AreOwn, IsNone, IsFault}
+use Rattle.osm_import.proofs.RunsLemmas.{run-imports, cause-wider, causes-push, runs-more, runs-step, runs-all, none-split, delivers-sound, own-push}
+use Rattle.osm_import.proofs.deliveries.deliver_all.Goals as goal
+
+pub loop-delivery-init : goal.loop-delivery-init
+loop-delivery-init g c = record {
+  room = search rules;
+  count = search rules;
+  honest = λ h. h;
+  open_if = λ h. h;
+  counted = omega arith;
+  caused = rw c.in_ok-answers.ensures.items tt;
+  own = λ held holds honest is_open. rw c.in_ok-answers.ensures.items tt;
+  run = λ held holds honest is_open. rw c.in_ok-answers.ensures.items (held, refl, holds);
+  unbroken = λ held holds honest sound. rw c.in_ok-answers.ensures.items (held, refl, holds);
+}
+
+pub loop-delivery-preserved : goal.loop-delivery-preserved
+loop-delivery-preserved g c =
+    let K = g.K.Keeper in
+    let inv = c.loop-delivery.invariant in
+    let made = c.deliver-answer.ensures in
+    let pushed : c.push.new.self.items ≡ c.loop-delivery.answers.items ++ c.deliver-answer.result ∷ [] = rw c.unwrap.ensures at c.push.ensures.items in
+    record {
+      room = search rules;
+      count = grind (arith, common_steps);
+      honest = λ h. inv.honest (made.honest h);
+      open_if = λ h. inv.open_if (made.open_if h);
+      counted = omega (arith, inv.counted, made.counted);
+      caused = rw pushed (causes-push (K.failures c.args.keeper.now) (K.failures c.loop-delivery.keeper) (K.failures c.deliver-answer.new.keeper) c.loop-delivery.answers.items c.deliver-answer.result made.counted inv.caused
+          (cause-wider (K.failures c.args.keeper.now) (K.failures c.loop-delivery.keeper) (K.failures c.deliver-answer.new.keeper) (K.failures c.deliver-answer.new.keeper) c.deliver-answer.result inv.counted (omega arith) made.cause));
+      own = λ held holds honest is_open.
+          (let so_far = inv.run held holds (made.honest honest) (made.open_if is_open) in
+          subst (λ (rs : List Answer). AreOwn rs) (sym pushed) (own-push c.loop-delivery.answers.items c.deliver-answer.result
+          (inv.own held holds (made.honest honest) (made.open_if is_open)) (made.own so_far.0 so_far.2 honest)));
+      run = λ held holds honest is_open.
+          runs-more (K.holds c.loop-delivery.keeper) (K.holds c.deliver-answer.new.keeper) (K.is_open c.deliver-answer.new.keeper) held c.args.deliveries.now c.loop-delivery.delivery-index _ c.delivery-item.result
+          c.loop-delivery.answers.items c.push.new.self.items c.deliver-answer.result (omega arith) c.delivery.view_is c.delivery-item.is pushed
+          (inv.run held holds (made.honest honest) (made.open_if is_open)) (λ now holds_now. made.step now holds_now honest) is_open;
+      unbroken = λ held holds honest sound.
+          let parts = none-split IsFault c.loop-delivery.answers.items c.deliver-answer.result (subst (λ (rs : List Answer). IsNone IsFault rs) pushed sound) in
+          runs-step (K.holds c.loop-delivery.keeper) (K.holds c.deliver-answer.new.keeper) held c.args.deliveries.now c.loop-delivery.delivery-index _ c.delivery-item.result
+          c.loop-delivery.answers.items c.push.new.self.items c.deliver-answer.result (omega arith) c.delivery.view_is c.delivery-item.is pushed
+          (inv.unbroken held holds (made.honest honest) parts.0)
+          (λ now holds_now. delivers-sound (K.is_open c.deliver-answer.new.keeper) (K.holds c.deliver-answer.new.keeper) now c.delivery.inside.off c.delivery.inside.bytes.now c.deliver-answer.result parts.1
+          (made.step now holds_now honest));
+    }
+
+pub returns-clause-run : goal.returns-clause-run
+returns-clause-run g c = λ held holds honest is_open.
+    runs-all (g.K.Keeper.holds c.loop-delivery.keeper) held c.args.deliveries.now c.loop-delivery.delivery-index c.loop-delivery.answers.items (omega arith) (c.loop-delivery.invariant.run held holds honest is_open)
+
+pub returns-clause-own : goal.returns-clause-own
+returns-clause-own g c = λ held holds honest is_open. c.loop-delivery.invariant.own held holds honest is_open
+
+pub returns-clause-unbroken : goal.returns-clause-unbroken
+returns-clause-unbroken g c = λ held holds honest sound.
+    runs-all (g.K.Keeper.holds c.loop-delivery.keeper) held c.args.deliveries.now c.loop-delivery.delivery-index c.loop-delivery.answers.items (omega arith) (c.loop-delivery.invariant.unbroken held holds honest sound)
+
+pub returns-clause-one_file : goal.returns-clause-one_file
+returns-clause-one_file g c = λ held frames holds honest is_open whole of_files of_file.
+    let run = runs-all (g.K.Keeper.holds c.loop-delivery.keeper) held c.args.deliveries.now c.loop-delivery.delivery-index c.loop-delivery.answers.items (omega arith) (c.loop-delivery.invariant.run held holds honest is_open) in
+    (run.0, run-imports frames whole held c.args.deliveries.now c.loop-delivery.answers.items run.0 run.1 of_files of_file, run.2)

@@ -1,0 +1,20 @@
+-- Why an export fails.
+use Rattle.std.specs.Prelude.{◌≡◌, ℕ, Bool, IsTrue, Result, Ok, Err}
+use Rattle.osm_store.specs.Keeping.{IsForeign}
+use Rattle.osm_import.specs.Step.{HasCause}
+use Rattle.osm_import.specs.declared.export.fault.ExportFault.{ExportFault}
+use Rattle.osm_import.specs.declared.export.fault.ExportFault.TheVariants.{Incomplete, PastEnd, WriteFailed, BlockTooLarge, Store}
+
+-- a write that fails is told only where the sink has failed, and a store fault only where it has a cause
+abbrev pub ExportHasCause : ℕ → ℕ → Bool → Result (Unit {0}) ExportFault → Type 0
+ExportHasCause before now failed (Err WriteFailed) = IsTrue failed
+ExportHasCause before now failed (Err (Store fault)) = HasCause before now fault
+ExportHasCause before now failed (Err BlockTooLarge) = Unit {0}
+ExportHasCause before now failed (Err (Incomplete from to)) = Unit {0}
+ExportHasCause before now failed (Err (PastEnd fin)) = Unit {0}
+ExportHasCause before now failed (Ok _) = Unit {0}
+
+-- no store fault that is answered says that the tables are another store's
+abbrev pub ExportIsOwn : Result (Unit {0}) ExportFault → Type 0
+ExportIsOwn (Err (Store fault)) = ¬ (IsForeign fault)
+ExportIsOwn _ = Unit {0}

@@ -1,0 +1,12 @@
+pub mod Bad
+pub mod Deliveries
+pub mod ExportCauses
+pub mod Exports
+pub mod Files
+pub mod Gaps
+pub mod Good
+pub mod Histories
+pub mod Runs
+pub mod Step
+pub mod Faults
+pub mod Pending

@@ -1,0 +1,92 @@
+-- Any list of deliveries, and what the store holds after it.
+use Rattle.std.specs.Prelude.{◌≡◌, ◌⊎◌, ◌↔◌, ℕ, List, [], ◌∷◌, Some}
+use Rattle.std.specs.FinMap.{get}
+use Rattle.osm_store.specs.Held.{Blob, HeldMap}
+use Rattle.osm_import.specs.Deliveries.{DeliveryValue}
+use Rattle.osm_import.specs.Files.{IsHeldOfFile}
+use Rattle.osm_import.specs.Step.{IsStep, IsEntry, IsOwn, CrashLeaves, FaultHasCause}
+use Rattle.osm_import.specs.declared.answer.Answer.{Answer}
+use Rattle.osm_import.specs.declared.answer.Answer.TheVariants.{Stored, Refused, Fault}
+
+-- the deliveries are answered one after the other, each by its step
+abbrev pub IsRun : HeldMap → List DeliveryValue → List Answer → HeldMap → Type 0
+IsRun held [] [] after = after ≡ held
+IsRun held [] (answer ∷ answers) after = ⊥
+IsRun held (delivery ∷ deliveries) [] after = ⊥
+IsRun held (delivery ∷ deliveries) (answer ∷ answers) after = (next : HeldMap) × IsStep held delivery.off delivery.bytes answer next × IsRun next deliveries answers after
+
+abbrev pub IsStored : Answer → Type 0
+IsStored (Stored _) = Unit {0}
+IsStored _ = ⊥
+
+abbrev pub IsRefused : Answer → Type 0
+IsRefused (Refused _) = Unit {0}
+IsRefused _ = ⊥
+
+abbrev pub IsFault : Answer → Type 0
+IsFault (Fault _) = Unit {0}
+IsFault _ = ⊥
+
+-- the blob is the entry of a delivery at off that is answered Stored
+abbrev pub IsStoredIn : List DeliveryValue → List Answer → ℕ → Blob → Type 0
+IsStoredIn [] answers off blob = ⊥
+IsStoredIn (delivery ∷ deliveries) [] off blob = ⊥
+IsStoredIn (delivery ∷ deliveries) (answer ∷ answers) off blob = (IsStored answer × (off ≡ delivery.off) × IsEntry off delivery.bytes blob) ⊎ IsStoredIn deliveries answers off blob
+
+-- the blob is the entry of a good delivery at off
+abbrev pub IsGoodIn : List DeliveryValue → ℕ → Blob → Type 0
+IsGoodIn [] off blob = ⊥
+IsGoodIn (delivery ∷ deliveries) off blob = ((off ≡ delivery.off) × IsEntry off delivery.bytes blob) ⊎ IsGoodIn deliveries off blob
+
+-- the union: what was held at the start and the entries of the deliveries answered Stored, and nothing else
+abbrev pub IsUnion : HeldMap → List DeliveryValue → List Answer → HeldMap → Type 0
+IsUnion start deliveries answers held = (off : ℕ) (blob : Blob) → (get held off ≡ Some blob) ↔ ((get start off ≡ Some blob) ⊎ IsStoredIn deliveries answers off blob)
+
+-- the same of all good deliveries
+abbrev pub IsAll : HeldMap → List DeliveryValue → HeldMap → Type 0
+IsAll start deliveries held = (off : ℕ) (blob : Blob) → (get held off ≡ Some blob) ↔ ((get start off ≡ Some blob) ⊎ IsGoodIn deliveries off blob)
+
+-- no offset is answered Stored twice
+abbrev pub AreStoredOnce : List DeliveryValue → List Answer → Type 0
+AreStoredOnce [] answers = Unit {0}
+AreStoredOnce (delivery ∷ deliveries) [] = Unit {0}
+AreStoredOnce (delivery ∷ deliveries) (answer ∷ answers) = (IsStored answer → (blob : Blob) → ¬ (IsStoredIn deliveries answers delivery.off blob)) × AreStoredOnce deliveries answers
+
+-- no answer is one of these
+abbrev pub IsNone : (Answer → Type 0) → List Answer → Type 0
+IsNone P [] = Unit {0}
+IsNone P (answer ∷ answers) = ¬ (P answer) × IsNone P answers
+
+-- what deliveries of one file do, to a store that holds nothing but blobs of that file
+pub record IsImport (frames : List (List ℕ)) (start : HeldMap) (deliveries : List DeliveryValue) (answers : List Answer) (held : HeldMap) : Type 0 where
+  pub run : IsRun start deliveries answers held
+  pub union : IsUnion start deliveries answers held
+  pub once : AreStoredOnce deliveries answers
+  pub unrefused : IsNone IsRefused answers
+  pub all : IsNone IsFault answers → IsAll start deliveries held
+  pub of_file : IsHeldOfFile frames held
+
+-- the same over a store, of which nothing else is known
+abbrev pub Runs : (HeldMap → Type 0) → HeldMap → List DeliveryValue → List Answer → Type 0
+Runs holds start deliveries answers = (held : HeldMap) × IsRun start deliveries answers held × holds held
+
+abbrev pub Imports : (HeldMap → Type 0) → List (List ℕ) → HeldMap → List DeliveryValue → List Answer → Type 0
+Imports holds frames start deliveries answers = (held : HeldMap) × IsImport frames start deliveries answers held × holds held
+
+-- each fault among the answers has a cause
+abbrev pub HaveCauses : ℕ → ℕ → List Answer → Type 0
+HaveCauses before now [] = Unit {0}
+HaveCauses before now (answer ∷ answers) = FaultHasCause before now answer × HaveCauses before now answers
+
+-- What a crash may leave after deliveries up to the first fault: the map after the answered ones, and after a fault
+-- alone that map with the entry of the delivery at fault.
+abbrev pub LeavesAfter : (HeldMap → Type 0) → HeldMap → List DeliveryValue → List Answer → Type 0
+LeavesAfter leaves held deliveries [] = (left : HeldMap) → leaves left → left ≡ held
+LeavesAfter leaves held [] (answer ∷ answers) = ⊥
+LeavesAfter leaves held (delivery ∷ deliveries) (Fault fault ∷ answers) = CrashLeaves leaves held delivery.off delivery.bytes
+LeavesAfter leaves held (delivery ∷ deliveries) (answer ∷ answers) = (next : HeldMap) × IsStep held delivery.off delivery.bytes answer next × LeavesAfter leaves next deliveries answers
+
+-- no fault among the answers says that the tables are another store's
+abbrev pub AreOwn : List Answer → Type 0
+AreOwn [] = Unit {0}
+AreOwn (answer ∷ answers) = IsOwn answer × AreOwn answers

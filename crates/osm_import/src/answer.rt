@@ -1,0 +1,54 @@
+//! What a delivery is answered with.
+
+ghost use Rattle.std.specs.Prelude.{◌≡◌};
+ghost use Rattle.osm_import.specs.Faults.{conflict_number_of, conflict_name_of};
+
+use crate::fault::Fault;
+use osm_store::StoreFault;
+use thiserror::Error;
+
+/// Why a good blob is refused.
+#[derive(Clone, Copy, Debug, PartialEq, Eq, Error)]
+pub enum Conflict {
+    #[error("another blob is held at this offset")]
+    Differs,
+    #[error("the blob's extent meets that of a held one")]
+    Overlap,
+}
+
+impl Conflict {
+    /// The number that this fault has in every message of the program.
+    pub fn number(self) -> u8
+        ensures { result ≡ conflict_number_of self }
+    {
+        match self {
+            Conflict::Differs => 63,
+            Conflict::Overlap => 64,
+        }
+    }
+
+    /// The name that this fault has in every message of the program.
+    pub fn name(self) -> &'static str
+        ensures { result.now ≡ conflict_name_of self }
+    {
+        match self {
+            Conflict::Differs => "Differs",
+            Conflict::Overlap => "Overlap",
+        }
+    }
+}
+
+/// What a delivery is answered with. Every answer but `Stored` has changed nothing.
+#[derive(Clone, Copy, Debug, PartialEq, Eq)]
+pub enum Answer {
+    /// The blob is held now, with so many elements.
+    Stored(u64),
+    /// This blob was held already.
+    AlreadyHeld,
+    /// The delivery isn't good.
+    Bad(Fault),
+    /// The delivery is good, but what is held is in its way.
+    Refused(Conflict),
+    /// The store has failed. It may have to be opened again.
+    Fault(StoreFault),
+}

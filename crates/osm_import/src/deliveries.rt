@@ -1,0 +1,90 @@
+//! Any list of deliveries.
+
+ghost use Rattle.std.specs.Prelude.{◌≡◌, ◌≤◌, ℕ, List, length, IfOk, OnErr, vec_len};
+ghost use Rattle.osm_store.specs.Held.{HeldMap};
+ghost use Rattle.osm_import.specs.Files.{AreFrames, AreOfFile, IsHeldOfFile};
+ghost use Rattle.osm_import.specs.Runs.{Runs, Imports, HaveCauses, AreOwn, LeavesAfter, IsNone, IsFault};
+
+use crate::answer::Answer;
+use crate::delivery::deliver;
+use osm_store::Keeper;
+use std::alloc::{AllocError, Global};
+use std::marker::Model;
+
+/// Bytes that are delivered as the blob at an offset.
+#[derive(Debug, Drop)]
+pub struct Delivery<'a> {
+    pub off: u64,
+    pub bytes: &'a [u8],
+}
+
+impl<'a> Model for Delivery<'a> {
+    ghost use Rattle.osm_import.specs.Deliveries.{DeliveryValue};
+
+    ghost Value = { DeliveryValue };
+
+    ghost view = { λ d. record { off = d.off; bytes = d.bytes.now } };
+}
+
+/// Delivers each in turn, and goes on after every answer. `Err` has changed nothing: the answers' memory is reserved
+/// before the first delivery.
+///
+/// Over any list of deliveries of whole blobs of one file at their offsets, lost, repeated, reordered and broken off
+/// at any call of the store, to a store that holds nothing or entries of that file alone, the store then holds exactly
+/// the union: the entries that it held and those of the deliveries that were answered `Stored`, none of them twice.
+/// Nothing is `Refused`. Where no answer is a `Fault`, all good deliveries are held.
+pub fn deliver_all<K: Keeper>(
+    alloc: Global,
+    keeper: &mut K,
+    deliveries: &[Delivery<'_>],
+) -> Result<Vec<Answer>, AllocError>
+    ensures answered { IfOk result (λ answers. vec_len answers ≡ length deliveries.now) }
+
+    // Each answer is that of its step, and the store holds what the steps leave.
+    ensures run { (held : HeldMap) → K.holds keeper.old held → K.is_honest keeper.new → K.is_open keeper.new
+        → IfOk result (λ answers. Runs (K.holds keeper.new) held deliveries.now answers.items) }
+
+    // Over one file the store holds the union of what was answered Stored, each once, and nothing is refused.
+    ensures one_file { (held : HeldMap) (frames : List (List ℕ)) → K.holds keeper.old held → K.is_honest keeper.new → K.is_open keeper.new
+        → AreFrames frames → AreOfFile frames deliveries.now → IsHeldOfFile frames held
+        → IfOk result (λ answers. Imports (K.holds keeper.new) frames held deliveries.now answers.items) }
+
+    // Where no answer is a fault, the store holds that map even if nothing is known of its being open.
+    ensures unbroken { (held : HeldMap) → K.holds keeper.old held → K.is_honest keeper.new
+        → IfOk result (λ answers. IsNone IsFault answers.items → Runs (K.holds keeper.new) held deliveries.now answers.items) }
+
+    // Why faults are answered.
+    ensures own { (held : HeldMap) → K.holds keeper.old held → K.is_honest keeper.new → K.is_open keeper.new → IfOk result (λ answers. AreOwn answers.items) }
+    ensures cause { IfOk result (λ answers. HaveCauses (K.failures keeper.old) (K.failures keeper.new) answers.items) }
+    ensures honest { K.is_honest keeper.new → K.is_honest keeper.old }
+    ensures open_if { K.is_open keeper.new → K.is_open keeper.old }
+    ensures err { OnErr result (keeper.new ≡ keeper.old) }
+{
+    let mut answers = Vec::with_capacity(alloc, deliveries.len())?;
+    for delivery in deliveries {
+        let answer = deliver(alloc, keeper, delivery.off, delivery.bytes);
+        answers.push(answer).unwrap();
+    }
+    Ok(answers)
+}
+
+/// The same, up to the first fault.
+pub fn deliver_until_fault<K: Keeper>(
+    alloc: Global,
+    keeper: &mut K,
+    deliveries: &[Delivery<'_>],
+) -> Result<Vec<Answer>, AllocError>
+    // What a crash may leave: the map after the answered deliveries; and, after a fault alone, that map with the blob at fault.
+    ensures crash { (held : HeldMap) → K.holds keeper.old held → K.is_honest keeper.new
+        → IfOk result (λ answers. LeavesAfter (K.leaves keeper.new) held deliveries.now answers.items) }
+{
+    let mut answers = Vec::with_capacity(alloc, deliveries.len())?;
+    for delivery in deliveries {
+        let answer = deliver(alloc, keeper, delivery.off, delivery.bytes);
+        answers.push(answer).unwrap();
+        if let Answer::Fault(_) = answer {
+            return Ok(answers);
+        }
+    }
+    Ok(answers)
+}

@@ -1,0 +1,120 @@
+//! What a delivery is: a good blob, or its first fault.
+
+ghost use Rattle.std.specs.Prelude.{◌≡◌, [], length, IfOk, IfErr, OnOk, MatchOption};
+ghost use Rattle.pbf_frame.specs.declared.kind.Kind.TheVariants.{OsmHeader, OsmData};
+ghost use Rattle.osm_import.specs.Good.{IsGood, HasElements};
+ghost use Rattle.osm_import.specs.Bad.{IsFinding, CanStand, IsMisplaced, IsBadBlob, IsBlobFinding};
+
+use crate::fault::Fault;
+use osm_block::{BlockError, read_block, read_header_block};
+use osm_value::Element;
+use pbf_frame::{FrameFault, Kind, raw, whole_frame};
+use std::alloc::Global;
+use thiserror::Error;
+
+/// The greatest offset at which a frame ends: 2^62.
+pub(crate) const MAX_OFFSET: u64 = 4_611_686_018_427_387_904;
+
+/// Why a delivery isn't found good: its first fault, or want of memory.
+#[derive(Clone, Copy, Debug, PartialEq, Eq, Error)]
+pub enum ExamineFault {
+    #[error("{0}")]
+    Bad(Fault),
+    #[error("memory was refused")]
+    Memory,
+}
+
+/// A good delivery: the kind of its frame, how many bytes the frame has, and its elements, whose texts lie in it.
+#[derive(Debug, Drop)]
+pub struct Good<'a> {
+    pub kind: Kind,
+    pub length: u64,
+    pub elements: Vec<Element<'a>>,
+}
+
+/// Why a frame of this kind and length may not stand at this offset.
+fn placing_fault(off: u64, kind: Kind, length: u64) -> Option<Fault>
+    ensures { MatchOption result (CanStand off kind length) (IsMisplaced off kind length) }
+{
+    if off > MAX_OFFSET || length > MAX_OFFSET - off {
+        return Some(Fault::Frame(FrameFault::OffsetTooLarge));
+    }
+    match kind {
+        Kind::OsmHeader if off != 0 => Some(Fault::HeaderNotFirst),
+        Kind::OsmData | Kind::Other if off == 0 => Some(Fault::NoHeaderFirst),
+        _ => None,
+    }
+}
+
+/// Whether the blob of an OSMHeader holds a header block without a fault.
+fn check_header(blob: &[u8]) -> Result<(), Fault>
+    ensures ok { OnOk result (HasElements OsmHeader blob.now []) }
+    ensures err { IfErr result (IsBadBlob OsmHeader blob.now) }
+{
+    let block = match raw(blob) {
+        Ok(block) => block,
+        Err(fault) => return Err(Fault::Blob(fault)),
+    };
+    match read_header_block(block) {
+        Ok(_) => Ok(()),
+        Err(fault) => Err(Fault::Header(fault)),
+    }
+}
+
+/// The elements of the blob of an OSMData.
+fn read_data(alloc: Global, blob: &[u8]) -> Result<Vec<Element<'_>>, ExamineFault>
+    ensures ok { IfOk result (λ es. HasElements OsmData blob.now es.items) }
+    ensures err { IfErr result (IsBlobFinding OsmData blob.now) }
+{
+    let block = match raw(blob) {
+        Ok(block) => block,
+        Err(fault) => return Err(ExamineFault::Bad(Fault::Blob(fault))),
+    };
+    match read_block(alloc, block) {
+        Ok(elements) => Ok(elements),
+        Err(BlockError::Fault(fault)) => Err(ExamineFault::Bad(Fault::Block(fault))),
+        Err(BlockError::Memory) => Err(ExamineFault::Memory),
+    }
+}
+
+/// The elements of a blob of this kind.
+fn read_elements(alloc: Global, kind: Kind, blob: &[u8]) -> Result<Vec<Element<'_>>, ExamineFault>
+    ensures ok { IfOk result (λ es. HasElements kind blob.now es.items) }
+    ensures err { IfErr result (IsBlobFinding kind blob.now) }
+{
+    match kind {
+        Kind::OsmData => read_data(alloc, blob),
+        Kind::Other => Ok(Vec::new(alloc)),
+        Kind::OsmHeader => match check_header(blob) {
+            Ok(()) => Ok(Vec::new(alloc)),
+            Err(fault) => Err(ExamineFault::Bad(fault)),
+        },
+    }
+}
+
+/// The kind, the length and the elements of a good delivery, or its first fault.
+///
+/// A delivery is good where the bytes are one whole frame that ends at 2^62 at most and stands at offset 0 exactly
+/// where it is an OSMHeader; where an OSMHeader's header block has no fault; and where an OSMData's block says these
+/// elements. The blob of another type isn't read.
+pub fn examine(alloc: Global, off: u64, bytes: &[u8]) -> Result<Good<'_>, ExamineFault>
+    ensures good { IfOk result (λ good. IsGood off bytes.now good.kind good.elements.items) }
+    ensures length { IfOk result (λ good. good.length ≡ length bytes.now) }
+    ensures bad { IfErr result (IsFinding off bytes.now) }
+{
+    let frame = match whole_frame(bytes) {
+        Ok(frame) => frame,
+        Err(fault) => return Err(ExamineFault::Bad(Fault::Frame(fault))),
+    };
+    if let Some(fault) = placing_fault(off, frame.kind, frame.length) {
+        return Err(ExamineFault::Bad(fault));
+    }
+    match read_elements(alloc, frame.kind, frame.blob) {
+        Ok(elements) => Ok(Good {
+            kind: frame.kind,
+            length: frame.length,
+            elements,
+        }),
+        Err(fault) => Err(fault),
+    }
+}

@@ -1,0 +1,8 @@
+//! Exports of what is held, as lines or as a PBF file.
+
+mod fault;
+mod lines;
+mod refusal;
+
+pub use fault::ExportFault;
+pub use lines::export_lines;

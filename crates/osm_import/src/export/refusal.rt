@@ -1,0 +1,49 @@
+//! Why what is held isn't a whole file.
+
+ghost use Rattle.std.specs.Prelude.{◌≡◌, slice_get, MatchOption};
+ghost use Rattle.osm_import.specs.Gaps.{ranges_between};
+ghost use Rattle.osm_import.specs.Exports.{greatest_end, size_of, IsRefusalOf, AreTiling};
+
+use super::ExportFault;
+use osm_store::Extent;
+
+fn first_gap(extents: &[Extent], size: u64) -> Option<(u64, u64)>
+    ensures { result ≡ slice_get (ranges_between 0 size extents.now) 0 }
+{
+    let mut end = 0;
+    for extent in extents {
+        if end < extent.off && end < size {
+            return Some((end, extent.off.min(size)));
+        }
+        end = end.max(extent.fin);
+    }
+    if end < size { Some((end, size)) } else { None }
+}
+
+fn greatest(extents: &[Extent]) -> u64
+    ensures { result ≡ greatest_end extents.now }
+{
+    let mut end = 0;
+    for extent in extents {
+        end = end.max(extent.fin);
+    }
+    end
+}
+
+/// Why these extents don't tile the size, or else the greatest end.
+pub(super) fn refused(extents: &[Extent], size: Option<u64>) -> Option<ExportFault>
+    ensures { MatchOption result (AreTiling extents.now (size_of size extents.now)) (IsRefusalOf extents.now (size_of size extents.now)) }
+{
+    let greatest = greatest(extents);
+    let size = size.unwrap_or(greatest);
+    if let Some((from, to)) = first_gap(extents, size) {
+        return Some(ExportFault::Incomplete(from, to));
+    }
+    if extents.is_empty() {
+        return Some(ExportFault::Incomplete(0, 0));
+    }
+    if size < greatest {
+        return Some(ExportFault::PastEnd(greatest));
+    }
+    None
+}

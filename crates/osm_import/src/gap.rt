@@ -1,0 +1,43 @@
+//! What no held extent covers.
+
+ghost use Rattle.std.specs.Prelude.{◌≡◌, IfOk, IfErr};
+ghost use Rattle.osm_store.specs.Held.{HeldMap};
+ghost use Rattle.osm_store.specs.Keeping.{Rereads, IsForeign};
+ghost use Rattle.osm_import.specs.Gaps.{AreGaps, ranges_between};
+ghost use Rattle.osm_import.specs.Step.{HasCause};
+
+use osm_store::{Extent, Keeper, StoreFault};
+use std::alloc::{AllocError, Global};
+
+fn gaps_between(alloc: Global, extents: &[Extent], size: u64) -> Result<Vec<(u64, u64)>, AllocError>
+    ensures { IfOk result (λ gaps. gaps.items ≡ ranges_between 0 size extents.now) }
+{
+    let mut gaps = Vec::new(alloc);
+    let mut end = 0;
+    for extent in extents {
+        if end < extent.off && end < size {
+            gaps.push((end, extent.off.min(size)))?;
+        }
+        end = end.max(extent.fin);
+    }
+    if end < size {
+        gaps.push((end, size))?;
+    }
+    Ok(gaps)
+}
+
+/// The maximal ranges within `0..size` that no held extent covers, ascending. What is held stays.
+pub fn gaps<K: Keeper>(
+    alloc: Global,
+    keeper: &mut K,
+    size: u64,
+) -> Result<Vec<(u64, u64)>, StoreFault>
+    ensures gaps { (held : HeldMap) → K.holds keeper.old held → K.is_honest keeper.new → IfOk result (λ gaps. AreGaps held size gaps.items) }
+    ensures rereads { Rereads K.holds K.leaves K.leaves_a_map K.is_honest K.is_open keeper.old result keeper.new }
+    ensures own { (held : HeldMap) → K.holds keeper.old held → K.is_honest keeper.new → IfErr result (λ fault. ¬ (IsForeign fault)) }
+    ensures cause { IfErr result (HasCause (K.failures keeper.old) (K.failures keeper.new)) }
+{
+    let extents = keeper.extents(alloc)?;
+    let gaps = gaps_between(alloc, &extents, size)?;
+    Ok(gaps)
+}

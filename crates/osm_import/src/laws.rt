@@ -1,0 +1,36 @@
+//! What the definitions imply: theorems, with no code.
+
+ghost use Rattle.std.specs.Prelude.{◌≡◌, ◌⊎◌, ℕ, List};
+ghost use Rattle.osm_value.specs.declared.element.Element.{Element};
+ghost use Rattle.pbf_frame.specs.declared.kind.Kind.{Kind};
+ghost use Rattle.osm_store.specs.Held.{HeldMap};
+ghost use Rattle.osm_import.specs.Step.{IsStep};
+ghost use Rattle.osm_import.specs.Runs.{IsFault};
+ghost use Rattle.osm_import.specs.declared.answer.Answer.{Answer};
+ghost use Rattle.osm_import.specs.Good.{IsGood, FaultlessBlocksSay};
+ghost use Rattle.osm_import.specs.Bad.{IsBad};
+ghost use Rattle.osm_import.specs.declared.fault.Fault.{Fault};
+ghost use Rattle.osm_import.specs.Histories.{HistoriesRestart};
+
+/// A delivery has a fault exactly where it isn't good for any kind and elements; it has one fault, or one kind and one
+/// list of elements.
+pub fn delivery_is_good_or_bad()
+    ensures some { FaultlessBlocksSay → (off : ℕ) (w : List ℕ) → ((kind : Kind) × (es : List Element) × IsGood off w kind es) ⊎ ((fault : Fault) × IsBad off w fault) }
+    ensures apart { (off : ℕ) (w : List ℕ) (kind : Kind) (es : List Element) → IsGood off w kind es → (fault : Fault) → IsBad off w fault → ⊥ }
+    ensures one_fault { (off : ℕ) (w : List ℕ) (fault other : Fault) → IsBad off w fault → IsBad off w other → fault ≡ other }
+    ensures one_blob { (off : ℕ) (w : List ℕ) (kind other : Kind) (es fs : List Element) → IsGood off w kind es → IsGood off w other fs → (kind ≡ other) × (es ≡ fs) }
+{}
+
+/// To a delivery there is one answer that is no fault, and one map after it.
+pub fn step_is_one()
+    ensures some { FaultlessBlocksSay → (held : HeldMap) (off : ℕ) (bytes : List ℕ) → (answer : Answer) × (after : HeldMap) × IsStep held off bytes answer after × ¬ (IsFault answer) }
+    ensures one { (held : HeldMap) (off : ℕ) (bytes : List ℕ) (answer answer' : Answer) (after after' : HeldMap) → IsStep held off bytes answer after → IsStep held off bytes answer' after'
+        → ¬ (IsFault answer) → ¬ (IsFault answer') → (answer ≡ answer') × (after ≡ after') }
+{}
+
+/// Restart after a crash at any moment: after any history of deliveries of one file to a new store, of crashes and of
+/// faults, it holds the entries answered `Stored`, with or without each of those in whose delivery a crash or a fault
+/// fell; and delivering the whole list again without a fault gives all of it, as one unbroken run does.
+pub fn restart_law()
+    ensures { HistoriesRestart }
+{}

@@ -1,0 +1,20 @@
+//! The importer, over any store of blobs: one delivery, any list of them, gaps, exports and streams.
+#![tactic(auto)]
+
+mod answer;
+mod deliveries;
+mod delivery;
+mod examination;
+mod export;
+mod fault;
+mod gap;
+pub mod laws;
+mod pending;
+
+pub use answer::{Answer, Conflict};
+pub use deliveries::{Delivery, deliver_all, deliver_until_fault};
+pub use delivery::deliver;
+pub use examination::{ExamineFault, Good, examine};
+pub use export::{ExportFault, export_lines};
+pub use fault::Fault;
+pub use gap::gaps;

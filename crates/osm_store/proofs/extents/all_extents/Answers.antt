@@ -1,0 +1,19 @@
+use Rattle.std.proofs.Common.{◌≡◌, refl, ◌∙◌, sym, ap, subst}
+use Rattle.std.proofs.lemmas.Result.{MatchResult-weaker}
+use Rattle.sqlite_tied.specs.Compute.{everything}
+use Rattle.sqlite.specs.Held.{state}
+use Rattle.osm_store.specs.Keeping.{extents_of, IsForeign}
+use Rattle.osm_store.proofs.HeldLemmas.{has_extents, digests_of}
+use Rattle.osm_store.proofs.ReadLemmas.{extents_read}
+use Rattle.osm_store.proofs.extents.all_extents.Goals as goal
+
+pub answer-requires : goal.answer-requires
+unfolding everything
+answer-requires g c = refl
+
+pub returns-clause-held : goal.returns-clause-held
+returns-clause-held g c clean held holds =
+    let old = state g.S.Store c.args.connection.now in
+    let answered = c.in_ok-rows.ensures.rows clean in
+    let read = extents_read old (state g.S.Store c.answer.new.connection) _ (extents_of held) (has_extents old.now held holds.schema holds.tables) answered.shown in
+    MatchResult-weaker c.read_extents.result (c.read_extents.ensures (extents_of held) (digests_of held holds.kept) (c.deref.ensures.value ∙ read)) (λ v same. (same, answered.is_open)) (λ fault is foreign. subst IsForeign is foreign)

@@ -1,0 +1,7 @@
+use Rattle.std.proofs.Common.{◌≡◌, List, length, map, take, All}
+use Rattle.osm_store.specs.declared.keeper.Extent.{Extent}
+use Rattle.osm_store.specs.Rows.{extent_columns}
+use Rattle.osm_store.proofs.extents.read_extents.Given as goal
+
+abbrev pub invariant-loop-row : goal.invariant-loop-row
+invariant-loop-row l = (held : List Extent) → All (λ extent. length extent.digest ≡ 32) held → l.rows ≡ map extent_columns held → l.extents.items ≡ take l.row-index held

@@ -1,0 +1,88 @@
+-- The rows that a held map stands for.
+use Rattle.std.specs.Prelude.{ℕ, ◌+◌, ◌^◌, ◌<◌, ◌==◌, ◌&&◌, Bool, ℤ, pos, List, [], ◌∷◌, flat_map, length}
+use Rattle.std.specs.Ordering.{int_eq}
+use Rattle.std.specs.FinMap.{entries}
+use Rattle.sqlite.specs.declared.types.Value.TheVariants.{Null, Int, Blob as Octets}
+use Rattle.sqlite.specs.Order.{Row}
+use Rattle.osm_value.specs.declared.element.Element.{Element}
+use Rattle.osm_value.specs.declared.element.Element.TheVariants as elements
+use Rattle.osm_value.specs.declared.element.MemberKind.{MemberKind}
+use Rattle.osm_value.specs.declared.element.MemberKind.TheVariants.{Node, Way, Relation}
+use Rattle.osm_value.specs.Elements.{IsElement}
+use Rattle.osm_write.specs.Canon.{canon}
+use Rattle.pbf_frame.specs.declared.kind.Kind.{Kind}
+use Rattle.pbf_frame.specs.declared.kind.Kind.TheVariants.{OsmHeader, OsmData, Other}
+use Rattle.osm_store.specs.declared.keeper.Extent.{Extent}
+use Rattle.osm_store.specs.Held.{Blob, HeldMap, HasFewTexts}
+
+abbrev pub blob_code : Kind → ℕ
+blob_code OsmHeader = 0
+blob_code OsmData = 1
+blob_code Other = 2
+
+abbrev pub element_code : MemberKind → ℕ
+element_code Node = 0
+element_code Way = 1
+element_code Relation = 2
+
+abbrev pub kind_of : Element → MemberKind
+kind_of (elements.Node n) = Node
+kind_of (elements.Way w) = Way
+kind_of (elements.Relation r) = Relation
+
+abbrev pub id_of : Element → ℤ
+id_of (elements.Node n) = n.id
+id_of (elements.Way w) = w.id
+id_of (elements.Relation r) = r.id
+
+-- an element in its blob: the blob's offset, its position there, and the element
+abbrev pub Placed : Type 0
+Placed = ℕ × ℕ × Element
+
+-- the elements of one blob, each at its position, from this one on
+abbrev pub placed : ℕ → ℕ → List Element → List Placed
+placed off position [] = []
+placed off position (e ∷ es) = (off, position, e) ∷ placed off (position + 1) es
+
+-- all held elements, by offset and position
+abbrev pub placed_in : HeldMap → List Placed
+placed_in held = flat_map (λ (entry : ℕ × Blob). placed entry.0 0 entry.1.elements) (entries held)
+
+abbrev pub version_row : Row
+version_row = Int (pos 1) ∷ Null ∷ []
+
+-- the rowid, and then the columns, of which the INTEGER PRIMARY KEY is kept as NULL
+abbrev pub extent_row : Extent → Row
+extent_row e = Int (pos e.off) ∷ Null ∷ Int (pos e.fin) ∷ Octets e.digest ∷ Int (pos (blob_code e.kind)) ∷ Int (pos e.n) ∷ []
+
+-- the columns, without the rowid, which `sqlite` chooses
+abbrev pub body_columns : ℕ → ℕ → MemberKind → ℤ → List ℕ → Row
+body_columns off position kind id block = Int (pos off) ∷ Int (pos position) ∷ Int (pos (element_code kind)) ∷ Int id ∷ Octets block ∷ []
+
+-- an element is kept as the canonical block of itself alone
+abbrev pub body_row : Placed → Row
+body_row p = body_columns p.0 p.1 (kind_of p.2) (id_of p.2) (canon (p.2 ∷ []))
+
+-- what a query shows of an extent
+abbrev pub extent_columns : Extent → Row
+extent_columns e = Int (pos e.off) ∷ Int (pos e.fin) ∷ Octets e.digest ∷ Int (pos (blob_code e.kind)) ∷ Int (pos e.n) ∷ []
+
+-- what a query on one blob shows of an element, and what one on all blobs shows
+abbrev pub block_row : Element → Row
+block_row e = Octets (canon (e ∷ [])) ∷ []
+
+abbrev pub found_row : Placed → Row
+found_row p = Int (pos p.0) ∷ Int (pos p.1) ∷ Octets (canon (p.2 ∷ [])) ∷ []
+
+-- whether the element has this kind and this id
+abbrev pub is_of : MemberKind → ℤ → Placed → Bool
+is_of kind id p = (element_code (kind_of p.2) == element_code kind) && int_eq (id_of p.2) id
+
+-- inside its ranges, and its block has a length
+pub record HasBlock (e : Element) : Type 0 where
+  pub in_range : IsElement e
+  pub short : length (canon (e ∷ [])) < 2 ^ 64
+
+-- what is known of each stored element
+abbrev pub IsStored : Element → Type 0
+IsStored e = HasBlock e × HasFewTexts e

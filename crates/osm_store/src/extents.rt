@@ -1,0 +1,91 @@
+//! The extents of the held blobs.
+
+ghost use Rattle.std.specs.Prelude.{◌≡◌, ◌<◌, ◌≤◌, ◌^◌, ℕ, pos, Bool, true, filter, if◌then◌else◌, Some, None, List, map, length, IsTrue, MatchResult, All};
+ghost use Rattle.sqlite.specs.State.{HasCleanDisk};
+ghost use Rattle.sqlite.specs.Held.{state};
+ghost use Rattle.osm_store.specs.Asking.{JustAsks};
+ghost use Rattle.osm_store.specs.Held.{HeldMap};
+ghost use Rattle.osm_store.specs.Holding.{Holds};
+ghost use Rattle.osm_store.specs.Keeping.{IsForeign, extents_of, touches};
+ghost use Rattle.osm_store.specs.Rows.{blob_code, extent_columns};
+
+use crate::answer::{answer, number};
+use crate::fault::{StoreFault, unread};
+use crate::keeper::Extent;
+use crate::sql::{SELECT_EXTENTS, SELECT_TOUCHING};
+use pbf_frame::Kind;
+use sqlite::{Alter, Connection, Row};
+use std::alloc::Global;
+
+/// The kind of blob that a row names by this number.
+fn blob_kind(code: u64) -> Option<Kind>
+    ensures { (kind : Kind) → code ≡ blob_code kind → result ≡ Some kind }
+{
+    match code {
+        0 => Some(Kind::OsmHeader),
+        1 => Some(Kind::OsmData),
+        2 => Some(Kind::Other),
+        _ => None,
+    }
+}
+
+/// The extent that a row stands for.
+fn extent_of(row: &Row) -> Result<Extent, StoreFault>
+    ensures { (extent : Extent) → length extent.digest ≡ 32 → row.now ≡ extent_columns extent → MatchResult result (λ found. found ≡ extent) (λ fault. fault ≡ StoreFault.Memory) }
+{
+    let off: u64 = row.get(0).map_err(unread)?;
+    let fin: u64 = row.get(1).map_err(unread)?;
+    let digest: Vec<u8> = row.get(2).map_err(unread)?;
+    let code: u64 = row.get(3).map_err(unread)?;
+    let n: u64 = row.get(4).map_err(unread)?;
+    let (Some(digest), Some(kind)) = (digest.as_array(), blob_kind(code)) else {
+        return Err(StoreFault::NotThisStore(None));
+    };
+    Ok(Extent {
+        off,
+        fin,
+        digest: *digest,
+        kind,
+        n,
+    })
+}
+
+/// The extents that the rows stand for.
+fn read_extents(alloc: Global, rows: &[Row]) -> Result<Vec<Extent>, StoreFault>
+    ensures { (extents : List Extent) → All (λ extent. length extent.digest ≡ 32) extents → rows.now ≡ map extent_columns extents → MatchResult result (λ found. found.items ≡ extents) (λ fault. fault ≡ StoreFault.Memory) }
+{
+    let mut extents = Vec::new(alloc);
+    for row in rows {
+        extents.push(extent_of(row)?)?;
+    }
+    Ok(extents)
+}
+
+/// All extents, ascending by their offsets.
+pub(crate) fn all_extents<S: Alter>(
+    alloc: Global,
+    connection: &mut Connection<S>,
+) -> Result<Vec<Extent>, StoreFault>
+    ensures held { HasCleanDisk (state S.Store connection.new) → (held : HeldMap) → Holds (state S.Store connection.old) held
+        → MatchResult result (λ extents. (extents.items ≡ extents_of held) × IsTrue (state S.Store connection.new).is_open) (λ fault. ¬ (IsForeign fault)) }
+    ensures asks { JustAsks (state S.Store connection.old) (state S.Store connection.new) }
+{
+    let rows = answer(connection, SELECT_EXTENTS, &[])?;
+    read_extents(alloc, &rows)
+}
+
+/// The extents that share a byte with `from..to`, ascending by their offsets.
+pub(crate) fn touched_extents<S: Alter>(
+    alloc: Global,
+    connection: &mut Connection<S>,
+    from: u64,
+    to: u64,
+) -> Result<Vec<Extent>, StoreFault>
+    requires { (from < to) × (to ≤ 2 ^ 62) }
+    ensures held { HasCleanDisk (state S.Store connection.new) → (held : HeldMap) → Holds (state S.Store connection.old) held
+        → MatchResult result (λ extents. (extents.items ≡ filter (touches from to) (extents_of held)) × IsTrue (state S.Store connection.new).is_open) (λ fault. ¬ (IsForeign fault)) }
+    ensures asks { JustAsks (state S.Store connection.old) (state S.Store connection.new) }
+{
+    let rows = answer(connection, SELECT_TOUCHING, &[number(to), number(from)])?;
+    read_extents(alloc, &rows)
+}

@@ -1,0 +1,209 @@
+//! The rows of a blob, written in one transaction.
+
+ghost use Rattle.std.specs.Prelude.{◌≡◌, ◌≤◌, ◌^◌, ℕ, pos, false, length, IsTrue, OnOk, OnErr, IfErr, map};
+ghost use Rattle.std.specs.List.{AllByRecursion};
+ghost use Rattle.sqlite.specs.State.{HasCleanDisk, IsUnchanged, IsRolledBack, KeepsCommit, Survives};
+ghost use Rattle.sqlite.specs.Held.{state};
+ghost use Rattle.osm_value.specs.Elements.{IsElement};
+ghost use Rattle.osm_store.specs.Tables.{store_schema};
+ghost use Rattle.osm_store.specs.Keeping.{IsForeign};
+ghost use Rattle.osm_store.specs.Rows.{blob_code, element_code, kind_of, id_of, placed, body_columns, body_row, extent_row, HasBlock};
+ghost use Rattle.osm_store.specs.Steps.{IsWriting, AddsBody, AddsBodies, AddsExtent, Puts, Writes};
+
+use crate::fault::StoreFault;
+use crate::keeper::Extent;
+use crate::sql::{INSERT_BLOB, INSERT_BODY};
+use osm_value::{Element, MemberKind};
+use osm_write::encode_one;
+use pbf_frame::Kind;
+use sqlite::{Alter, Connection, Transaction, params};
+use std::alloc::Global;
+
+/// The number that a row has for a kind of blob.
+fn blob_code(kind: Kind) -> u32
+    ensures { result ≡ blob_code kind }
+{
+    match kind {
+        Kind::OsmHeader => 0,
+        Kind::OsmData => 1,
+        Kind::Other => 2,
+    }
+}
+
+/// The number that a row has for a kind of element.
+pub(crate) fn element_code(kind: MemberKind) -> u32
+    ensures { result ≡ element_code kind }
+{
+    match kind {
+        MemberKind::Node => 0,
+        MemberKind::Way => 1,
+        MemberKind::Relation => 2,
+    }
+}
+
+fn kind_of(element: &Element) -> MemberKind
+    ensures { result ≡ kind_of element.now }
+{
+    match element {
+        Element::Node(_) => MemberKind::Node,
+        Element::Way(_) => MemberKind::Way,
+        Element::Relation(_) => MemberKind::Relation,
+    }
+}
+
+fn id_of(element: &Element) -> i64
+    ensures exact { result ≡ id_of element.now }
+    ensures in_range { IsElement element.now }
+{
+    match element {
+        Element::Node(node) => node.id(),
+        Element::Way(way) => way.id(),
+        Element::Relation(relation) => relation.id(),
+    }
+}
+
+fn add_extent<S: Alter>(
+    transaction: &mut Transaction<'_, S>,
+    extent: &Extent,
+) -> Result<(), StoreFault>
+    requires inside { IsTrue (state S.Store transaction.old.conn.now).in_transaction }
+    requires bounds { (extent.now.off ≤ 2 ^ 62) × (extent.now.fin ≤ 2 ^ 62) × (extent.now.n ≤ 2 ^ 62) }
+    ensures same_reference { transaction.new.conn.ghost_name ≡ transaction.old.conn.ghost_name }
+    ensures added { HasCleanDisk (state S.Store transaction.new.conn.now) → IsWriting (state S.Store transaction.old.conn.now)
+        → OnOk result (AddsExtent (state S.Store transaction.old.conn.now) (state S.Store transaction.new.conn.now) (extent_row extent.now)) }
+    ensures inside { HasCleanDisk (state S.Store transaction.new.conn.now) → OnOk result (IsTrue (state S.Store transaction.new.conn.now).in_transaction × IsTrue (state S.Store transaction.old.conn.now).is_open) }
+    ensures kept { HasCleanDisk (state S.Store transaction.new.conn.now) → KeepsCommit (state S.Store transaction.old.conn.now) (state S.Store transaction.new.conn.now) }
+    ensures ours { IfErr result (λ fault. ¬ (IsForeign fault)) }
+    ensures survives { Survives (state S.Store transaction.old.conn.now) (state S.Store transaction.new.conn.now) (λ _. ⊥) }
+{
+    let kind = blob_code(extent.kind);
+    transaction.execute(
+        INSERT_BLOB,
+        params![
+            extent.off as i64,
+            extent.fin as i64,
+            extent.digest.as_slice(),
+            kind,
+            extent.n as i64,
+        ],
+    )?;
+    Ok(())
+}
+
+fn add_body<S: Alter>(
+    transaction: &mut Transaction<'_, S>,
+    off: u64,
+    position: u64,
+    kind: MemberKind,
+    id: i64,
+    block: &[u8],
+) -> Result<(), StoreFault>
+    requires bounds { (off ≤ 2 ^ 62) × (position ≤ 2 ^ 62) }
+    ensures same_reference { transaction.new.conn.ghost_name ≡ transaction.old.conn.ghost_name }
+    ensures added { HasCleanDisk (state S.Store transaction.new.conn.now) → IsWriting (state S.Store transaction.old.conn.now)
+        → OnOk result (AddsBody (state S.Store transaction.old.conn.now) (state S.Store transaction.new.conn.now) (body_columns off position kind id block.now)) }
+    ensures inside { HasCleanDisk (state S.Store transaction.new.conn.now) → IsTrue (state S.Store transaction.old.conn.now).in_transaction → OnOk result (IsTrue (state S.Store transaction.new.conn.now).in_transaction) }
+    ensures kept { HasCleanDisk (state S.Store transaction.new.conn.now) → KeepsCommit (state S.Store transaction.old.conn.now) (state S.Store transaction.new.conn.now) }
+    ensures ours { IfErr result (λ fault. ¬ (IsForeign fault)) }
+    ensures survives { Survives (state S.Store transaction.old.conn.now) (state S.Store transaction.new.conn.now) (λ _. ⊥) }
+{
+    let code = element_code(kind);
+    transaction.execute(
+        INSERT_BODY,
+        params![off as i64, position as i64, code, id, block],
+    )?;
+    Ok(())
+}
+
+fn add_element<S: Alter>(
+    alloc: Global,
+    transaction: &mut Transaction<'_, S>,
+    off: u64,
+    position: u64,
+    element: &Element,
+) -> Result<(), StoreFault>
+    requires bounds { (off ≤ 2 ^ 62) × (position ≤ 2 ^ 62) }
+    ensures same_reference { transaction.new.conn.ghost_name ≡ transaction.old.conn.ghost_name }
+    ensures added { HasCleanDisk (state S.Store transaction.new.conn.now) → IsWriting (state S.Store transaction.old.conn.now)
+        → OnOk result (AddsBody (state S.Store transaction.old.conn.now) (state S.Store transaction.new.conn.now) (body_row (off, position, element.now))) }
+    ensures has_block { OnOk result (HasBlock element.now) }
+    ensures inside { HasCleanDisk (state S.Store transaction.new.conn.now) → IsTrue (state S.Store transaction.old.conn.now).in_transaction → OnOk result (IsTrue (state S.Store transaction.new.conn.now).in_transaction) }
+    ensures kept { HasCleanDisk (state S.Store transaction.new.conn.now) → KeepsCommit (state S.Store transaction.old.conn.now) (state S.Store transaction.new.conn.now) }
+    ensures ours { IfErr result (λ fault. ¬ (IsForeign fault)) }
+    ensures survives { Survives (state S.Store transaction.old.conn.now) (state S.Store transaction.new.conn.now) (λ _. ⊥) }
+{
+    let kind = kind_of(element);
+    let id = id_of(element);
+    let block = encode_one(alloc, element)?;
+    add_body(transaction, off, position, kind, id, &block)
+}
+
+fn add_elements<S: Alter>(
+    alloc: Global,
+    transaction: &mut Transaction<'_, S>,
+    off: u64,
+    elements: &[Element],
+) -> Result<(), StoreFault>
+    requires bounds { off ≤ 2 ^ 62 }
+    ensures same_reference { transaction.new.conn.ghost_name ≡ transaction.old.conn.ghost_name }
+    ensures added { HasCleanDisk (state S.Store transaction.new.conn.now) → IsWriting (state S.Store transaction.old.conn.now)
+        → OnOk result (AddsBodies (state S.Store transaction.old.conn.now) (state S.Store transaction.new.conn.now) (map body_row (placed off 0 elements.now))) }
+    ensures have_blocks { OnOk result (AllByRecursion HasBlock elements.now) }
+    ensures inside { HasCleanDisk (state S.Store transaction.new.conn.now) → IsTrue (state S.Store transaction.old.conn.now).in_transaction → OnOk result (IsTrue (state S.Store transaction.new.conn.now).in_transaction) }
+    ensures kept { HasCleanDisk (state S.Store transaction.new.conn.now) → KeepsCommit (state S.Store transaction.old.conn.now) (state S.Store transaction.new.conn.now) }
+    ensures ours { IfErr result (λ fault. ¬ (IsForeign fault)) }
+    ensures survives { Survives (state S.Store transaction.old.conn.now) (state S.Store transaction.new.conn.now) (λ _. ⊥) }
+{
+    for (position, element) in elements.iter().enumerate() {
+        add_element(alloc, transaction, off, position as u64, element)?;
+    }
+    Ok(())
+}
+
+fn write_rows<S: Alter>(
+    alloc: Global,
+    transaction: &mut Transaction<'_, S>,
+    extent: &Extent,
+    elements: &[Element],
+) -> Result<(), StoreFault>
+    requires inside { IsTrue (state S.Store transaction.old.conn.now).in_transaction }
+    requires bounds { (extent.now.off ≤ 2 ^ 62) × (extent.now.fin ≤ 2 ^ 62) × (extent.now.n ≤ 2 ^ 62) }
+    ensures same_reference { transaction.new.conn.ghost_name ≡ transaction.old.conn.ghost_name }
+    ensures written { HasCleanDisk (state S.Store transaction.new.conn.now)
+        → OnOk result (Writes (state S.Store transaction.old.conn.now) (state S.Store transaction.new.conn.now) extent.now (map body_row (placed extent.now.off 0 elements.now))) }
+    ensures have_blocks { OnOk result (AllByRecursion HasBlock elements.now) }
+    ensures kept { HasCleanDisk (state S.Store transaction.new.conn.now) → KeepsCommit (state S.Store transaction.old.conn.now) (state S.Store transaction.new.conn.now) }
+    ensures ours { IfErr result (λ fault. ¬ (IsForeign fault)) }
+    ensures survives { Survives (state S.Store transaction.old.conn.now) (state S.Store transaction.new.conn.now) (λ _. ⊥) }
+{
+    add_extent(transaction, extent)?;
+    add_elements(alloc, transaction, extent.off, elements)
+}
+
+/// One transaction adds the blob and its elements, or nothing.
+pub(crate) fn put_rows<S: Alter>(
+    alloc: Global,
+    connection: &mut Connection<S>,
+    extent: &Extent,
+    elements: &[Element],
+) -> Result<(), StoreFault>
+    requires autocommit { (state S.Store connection.old).in_transaction ≡ false }
+    requires bounds { (extent.now.off ≤ 2 ^ 62) × (extent.now.fin ≤ 2 ^ 62) × (extent.now.n ≤ 2 ^ 62) }
+    ensures added { HasCleanDisk (state S.Store connection.new) → (state S.Store connection.old).now.schema ≡ store_schema
+        → OnOk result (((state S.Store connection.new).now.schema ≡ store_schema) × Puts (state S.Store connection.old).now.trees (state S.Store connection.new).now.trees extent.now (map body_row (placed extent.now.off 0 elements.now))) }
+    ensures have_blocks { OnOk result (AllByRecursion HasBlock elements.now) }
+    ensures committed { HasCleanDisk (state S.Store connection.new) → OnOk result (IsTrue (state S.Store connection.old).is_open × IsTrue (state S.Store connection.new).is_open × ((state S.Store connection.new).committed ≡ (state S.Store connection.new).now)) }
+    ensures autocommit { (state S.Store connection.new).in_transaction ≡ false }
+    ensures unchanged { HasCleanDisk (state S.Store connection.new) → IsTrue (state S.Store connection.new).is_open
+        → OnErr result (IsTrue (state S.Store connection.old).is_open × ((state S.Store connection.new).now ≡ (state S.Store connection.old).now) × ((state S.Store connection.new).committed ≡ (state S.Store connection.old).committed)) }
+    ensures ours { IfErr result (λ fault. ¬ (IsForeign fault)) }
+    ensures crash { Survives (state S.Store connection.old) (state S.Store connection.new) (λ trees. IsTrue (state S.Store connection.old).is_open
+        × AllByRecursion HasBlock elements.now
+        × ((state S.Store connection.old).now.schema ≡ store_schema → Puts (state S.Store connection.old).now.trees trees extent.now (map body_row (placed extent.now.off 0 elements.now)))) }
+{
+    let _settled = connection.is_autocommit();
+    let mut transaction = connection.transaction();
+    write_rows(alloc, &mut transaction, extent, elements)?;
+    transaction.commit()?;
+    Ok(())
+}

@@ -1,0 +1,29 @@
+//! Every statement of the store, as text.
+
+pub(crate) const CREATE_META: &str = "CREATE TABLE meta (version INTEGER PRIMARY KEY) STRICT";
+
+pub(crate) const CREATE_BLOB: &str = "CREATE TABLE blob (off INTEGER PRIMARY KEY, fin INTEGER NOT NULL, digest BLOB NOT NULL, kind INTEGER NOT NULL, n INTEGER NOT NULL) STRICT";
+
+pub(crate) const CREATE_BODY: &str = "CREATE TABLE body (off INTEGER NOT NULL, pos INTEGER NOT NULL, kind INTEGER NOT NULL, id INTEGER NOT NULL, data BLOB NOT NULL, PRIMARY KEY (off, pos)) STRICT";
+
+pub(crate) const CREATE_INDEX: &str = "CREATE INDEX body_element ON body (kind, id)";
+
+pub(crate) const INSERT_VERSION: &str = "INSERT INTO meta (version) VALUES (1)";
+
+pub(crate) const INSERT_BLOB: &str =
+    "INSERT INTO blob (off, fin, digest, kind, n) VALUES (?1, ?2, ?3, ?4, ?5)";
+
+pub(crate) const INSERT_BODY: &str =
+    "INSERT INTO body (off, pos, kind, id, data) VALUES (?1, ?2, ?3, ?4, ?5)";
+
+pub(crate) const SELECT_VERSION: &str = "SELECT version FROM meta";
+
+pub(crate) const SELECT_EXTENTS: &str = "SELECT off, fin, digest, kind, n FROM blob ORDER BY off";
+
+pub(crate) const SELECT_TOUCHING: &str =
+    "SELECT off, fin, digest, kind, n FROM blob WHERE off < ?1 AND fin > ?2 ORDER BY off";
+
+pub(crate) const SELECT_ROWS: &str = "SELECT data FROM body WHERE off = ?1 ORDER BY pos";
+
+pub(crate) const SELECT_ELEMENT: &str =
+    "SELECT off, pos, data FROM body WHERE kind = ?1 AND id = ?2 ORDER BY off, pos";
