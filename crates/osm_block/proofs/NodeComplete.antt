@@ -36,20 +36,20 @@ NodeOf-no_phase b n m h =
     let vals : length n.tags ≡ length m.vals = sym (length-map n.tags (λ t. Some t.1)) ∙ ap length h.tags_are.vals_are ∙ length-map m.vals (text_at b.table) in
     let even : same_length m.keys m.vals ≡ true = eq-eqb _ _ (sym keys ∙ vals) in
     let missing : (is_none m.id || is_none m.lat || is_none m.lon) ≡ false =
-        nothing_missing (is_none m.id) (is_none m.lat) (is_none m.lon) (ap is_none (sym h.id_is)) (there lat m.lat n.lat h.lat_is) (there lon m.lon n.lon h.lon_is) in
+    nothing_missing (is_none m.id) (is_none m.lat) (is_none m.lon) (ap is_none (sym h.id_is)) (there lat m.lat n.lat h.lat_is) (there lon m.lon n.lon h.lon_is) in
     let id_wide : passes is_wide m.id ≡ true = ap (passes is_wide) (sym h.id_is) ∙ h.in_range.id in
     let lat_wide : passes (place_in_range b.lat_offset b.granularity) m.lat ≡ true = placed lat m.lat n.lat h.lat_is h.in_range.lat in
     let lon_wide : passes (place_in_range b.lon_offset b.granularity) m.lon ≡ true = placed lon m.lon n.lon h.lon_is h.in_range.lon in
     let two = both (passes is_wide m.id) (passes (place_in_range b.lat_offset b.granularity) m.lat) id_wide lat_wide in
     let three = both (passes is_wide m.id && passes (place_in_range b.lat_offset b.granularity) m.lat) (passes (place_in_range b.lon_offset b.granularity) m.lon) two lon_wide in
     let range : nodes_range b m ≡ true =
-        both (passes is_wide m.id && passes (place_in_range b.lat_offset b.granularity) m.lat && passes (place_in_range b.lon_offset b.granularity) m.lon) (info_in_range b m.info) three (info_range b n.info m.info h.info_is) in
+    both (passes is_wide m.id && passes (place_in_range b.lat_offset b.granularity) m.lat && passes (place_in_range b.lon_offset b.granularity) m.lon) (info_in_range b m.info) three (info_range b n.info m.info h.info_is) in
     let p : ℤ → Bool = is_index (length b.table) in
     let index : nodes_index b m ≡ true =
-        list_all-append p (m.keys ++ m.vals) (user_indexes m.info) ∙
-        both (list_all p (m.keys ++ m.vals)) (list_all p (user_indexes m.info))
-        (list_all-append p m.keys m.vals ∙ both (list_all p m.keys) (list_all p m.vals) (all_indexes_there (λ t. t.0) b.table n.tags m.keys h.tags_are.keys_are) (all_indexes_there (λ t. t.1) b.table n.tags m.vals h.tags_are.vals_are))
-        (user_there b.table n.info.user m.info.user_sid h.info_is.user_is) in
+    list_all-append p (m.keys ++ m.vals) (user_indexes m.info) ∙
+    both (list_all p (m.keys ++ m.vals)) (list_all p (user_indexes m.info))
+    (list_all-append p m.keys m.vals ∙ both (list_all p m.keys) (list_all p m.vals) (all_indexes_there (λ t. t.0) b.table n.tags m.keys h.tags_are.keys_are) (all_indexes_there (λ t. t.1) b.table n.tags m.vals h.tags_are.vals_are))
+    (user_there b.table n.info.user m.info.user_sid h.info_is.user_is) in
     skip (when m.info.is_visible_there faults.VisibleNotKnown) _ (ap (λ v. when v faults.VisibleNotKnown) h.info_is.no_visible)
     ∙ skip (when (is_none m.id || is_none m.lat || is_none m.lon) faults.Missing) _ (ap (λ v. when v faults.Missing) missing)
     ∙ pass (same_length m.keys m.vals) faults.LengthsDiffer _ even

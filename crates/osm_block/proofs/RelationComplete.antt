@@ -50,21 +50,21 @@ RelationOf-no_phase b r m h =
     let even_roles : same_length m.roles_sid m.memids ≡ true = eq-eqb _ _ (sym roles ∙ ids) in
     let even_types : same_length m.types m.memids ≡ true = eq-eqb _ _ (sym types ∙ ids) in
     let even : lengths m ≡ true = both (same_length m.keys m.vals && same_length m.roles_sid m.memids) (same_length m.types m.memids)
-        (both (same_length m.keys m.vals) (same_length m.roles_sid m.memids) even_tags even_roles) even_types in
+    (both (same_length m.keys m.vals) (same_length m.roles_sid m.memids) even_tags even_roles) even_types in
     let id_wide : passes is_wide m.id ≡ true = ap (passes is_wide) (sym h.id_is) ∙ h.in_range.id in
     let ids_in : list_all is_wide (front_sums m.memids) ≡ true = ap (list_all is_wide) (sym sums) ∙ ids_wide r.members h.in_range.members in
     let range : relations_range b m ≡ true = both (passes is_wide m.id && list_all is_wide (front_sums m.memids)) (info_in_range b m.info)
-        (both (passes is_wide m.id) (list_all is_wide (front_sums m.memids)) id_wide ids_in) (info_range b r.info m.info h.info_is) in
+    (both (passes is_wide m.id) (list_all is_wide (front_sums m.memids)) id_wide ids_in) (info_range b r.info m.info h.info_is) in
     let p : ℤ → Bool = is_index (length b.table) in
     let keys_in : list_all p m.keys ≡ true = all_indexes_there (λ t. t.0) b.table r.tags m.keys h.tags_are.keys_are in
     let vals_in : list_all p m.vals ≡ true = all_indexes_there (λ t. t.1) b.table r.tags m.vals h.tags_are.vals_are in
     let roles_in : list_all p m.roles_sid ≡ true = all_indexes_there (λ x. x.role) b.table r.members m.roles_sid h.roles_are in
     let index : all_in b.table (indexes m) ≡ true =
-        list_all-append p ((m.keys ++ m.vals) ++ m.roles_sid) (user_indexes m.info) ∙
-        both (list_all p ((m.keys ++ m.vals) ++ m.roles_sid)) (list_all p (user_indexes m.info))
-        (list_all-append p (m.keys ++ m.vals) m.roles_sid ∙ both (list_all p (m.keys ++ m.vals)) (list_all p m.roles_sid)
-          (list_all-append p m.keys m.vals ∙ both (list_all p m.keys) (list_all p m.vals) keys_in vals_in) roles_in)
-        (user_there b.table r.info.user m.info.user_sid h.info_is.user_is) in
+    list_all-append p ((m.keys ++ m.vals) ++ m.roles_sid) (user_indexes m.info) ∙
+    both (list_all p ((m.keys ++ m.vals) ++ m.roles_sid)) (list_all p (user_indexes m.info))
+    (list_all-append p (m.keys ++ m.vals) m.roles_sid ∙ both (list_all p (m.keys ++ m.vals)) (list_all p m.roles_sid)
+    (list_all-append p m.keys m.vals ∙ both (list_all p m.keys) (list_all p m.vals) keys_in vals_in) roles_in)
+    (user_there b.table r.info.user m.info.user_sid h.info_is.user_is) in
     skip (when m.info.is_visible_there faults.VisibleNotKnown) _ (ap (λ v. when v faults.VisibleNotKnown) h.info_is.no_visible)
     ∙ skip (when (is_none m.id) faults.Missing) _ (ap (λ o. when (is_none o) faults.Missing) (sym h.id_is))
     ∙ pass (lengths m) faults.LengthsDiffer _ even

@@ -66,16 +66,23 @@ fn unpack(payload: &[u8], out: &mut Vec<u64>) -> Result<Option<WireFault>, Alloc
     out.try_reserve(count_numbers(payload))?;
     let mut at = 0;
     while at < payload.len() {
-        match read_number(&payload[at..]) {
-            Ok((number, len)) => {
-                out.push(number)?;
-                at += len;
-            }
-            Err(fault) => {
-                return Ok(Some(WireFault {
-                    kind: fault.kind,
-                    at,
-                }));
+        // Most numbers take one byte.
+        let byte = payload[at];
+        if byte < 128 {
+            out.push(u64::from(byte))?;
+            at += 1;
+        } else {
+            match read_number(&payload[at..]) {
+                Ok((number, len)) => {
+                    out.push(number)?;
+                    at += len;
+                }
+                Err(fault) => {
+                    return Ok(Some(WireFault {
+                        kind: fault.kind,
+                        at,
+                    }));
+                }
             }
         }
     }
