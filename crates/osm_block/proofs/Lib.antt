@@ -22,6 +22,8 @@ pub mod MemberLemmas
 pub mod Unique
 pub mod UniqueDense
 pub mod VectorBlocks
+pub mod TextsUsedLemmas
+pub mod TableLemmas
 pub mod WayComplete
 pub mod NodeComplete
 pub mod RelationComplete

@@ -17,3 +17,4 @@ pub mod Texts
 pub mod Columns
 pub mod Members
 pub mod Fault
+pub mod TextsUsed
