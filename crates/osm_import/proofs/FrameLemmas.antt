@@ -32,9 +32,16 @@ fill-stopped f before after written source_failed sink_failed Same One g BlobLim
 
 pub frame-stopped : (f : Framing) (before after written : Known) (source_failed sink_failed : Bool) (Same : Type 0) (One : ℕ → List ℕ → Answer → Type 0) (g : Framing) (fault : FrameFault) → Got f g before after
     → FaultStands fault g ⊎ (IsUnfinished fault g × IsAtEnd after) → Same → FrameStop f before after written written source_failed sink_failed Same One (Frame fault)
-frame-stopped f before after written source_failed sink_failed Same One g fault got why same =
-    (refl, same, (g.rest, g.lent, got.1,
-      subst (λ n. FaultStands fault (record { offset = n; rest = g.rest; lent = g.lent }) ⊎ (IsUnfinished fault (record { offset = n; rest = g.rest; lent = g.lent }) × IsAtEnd after)) got.0 why))
+frame-stopped f before after written source_failed sink_failed Same One g fault got why same = (
+  refl,
+  same,
+  (
+    g.rest,
+    g.lent,
+    got.1,
+    subst (λ n. FaultStands fault (record { offset = n; rest = g.rest; lent = g.lent }) ⊎ (IsUnfinished fault (record { offset = n; rest = g.rest; lent = g.lent }) × IsAtEnd after)) got.0 why,
+  ),
+)
 
 -- the framer after a call that gave none
 pub same-rest : (f g h : Framing) (before after : Known) → Got f g before after → h.offset ≡ g.offset → h.rest ≡ g.rest → Got f h before after

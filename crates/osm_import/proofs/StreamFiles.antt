@@ -86,7 +86,7 @@ frame-held off [] held after run kept o w stands = absurd stands
 frame-held off (r ∷ rs) held after run kept o w stands = elim stands [
   | inl (here, _) ↦
       (let it = kept-step held off r.0 r.1 run.0 kept.0 run.1 in
-        (it.0, ap (get after) here ∙ run-keep run.0 (deliveries_at (off + length r.0) rs) (answers_of rs) after run.2 off it.0 it.1))
+      (it.0, ap (get after) here ∙ run-keep run.0 (deliveries_at (off + length r.0) rs) (answers_of rs) after run.2 off it.0 it.1))
   | inr later ↦ frame-held (off + length r.0) rs run.0 after run.2 kept.1 o w later
 ]
 
@@ -144,8 +144,7 @@ stream-tiles limit file left written_old written_new Took summary start after en
     let import = run-imports frames end.frames start (deliveries_at 0 end.replies) (answers_of end.replies) after run (of-file frames 0 end.replies (λ o w stands. stands)) of_file in
     let kept = all-kept (nothing_at 0) 0 end.replies end.answered import.unrefused (sym (ap (λ (s : Summary). s.bad) end.sums) ∙ none) in
     let all = frame-held 0 end.replies start after run kept in
-    let size : length file ≡ length (joined frames) = ap length is_file.is_joined in
-    (
+    let size : length file ≡ length (joined frames) = ap length is_file.is_joined in (
       record {
         some = first-held frames after is_file.some all;
         whole = record {
@@ -155,8 +154,8 @@ stream-tiles limit file left written_old written_new Took summary start after en
         };
         within = λ at blob found.
             (let it = import.of_file at blob found in
-              let fits : at + length it.0 ≤ 0 + length (joined frames) = stands-within 0 frames at it.0 it.1 in
-              let ends = it.2.ends in omega arith);
+            let fits : at + length it.0 ≤ 0 + length (joined frames) = stands-within 0 frames at it.0 it.1 in
+            let ends = it.2.ends in omega arith);
       },
       import.of_file,
     )
@@ -166,7 +165,9 @@ pub stream-one-file : (limit : ℕ) (file : List ℕ) (left written_old written_
     → Streams 0 limit (Some file) left written_old written_new source_failed sink_failed Took result → IfOk result (λ summary. ImportsFile now file start summary)
 stream-one-file limit file left written_old written_new source_failed sink_failed Took now start runs (Err stop) end = tt
 stream-one-file limit file left written_old written_new source_failed sink_failed Took now start runs (Ok summary) end =
-    let run = runs (deliveries_at 0 end.replies) (answers_of end.replies) end.took end.answered in
-    (frames_of end.replies, stream-file limit file left written_old written_new Took summary end, λ of_file none.
-      (let it = stream-tiles limit file left written_old written_new Took summary start run.0 end of_file run.1 none in (run.0, run.2, it.0, it.1)))
-
+    let run = runs (deliveries_at 0 end.replies) (answers_of end.replies) end.took end.answered in (
+      frames_of end.replies,
+      stream-file limit file left written_old written_new Took summary end,
+      λ of_file none.
+          (let it = stream-tiles limit file left written_old written_new Took summary start run.0 end of_file run.1 none in (run.0, run.2, it.0, it.1)),
+    )

@@ -246,8 +246,11 @@ pub stream-stops : (from limit count : ℕ) (f : Framing) (left_old : Known) (pi
 stream-stops from limit count f left_old piece mid left_new written_old written_mid written_now source_failed sink_failed summary Then Now One Same (Frame fault) so_far h stays grows few =
     let it = h.2 in
     stop-between from limit count f left_old piece mid left_new written_old written_mid written_now source_failed sink_failed summary Then Now Same (Frame fault) it.0 so_far it.2 stays h.1 (omega arith)
-    (λ rs many here lines. (refl, subst (λ (o : Known). Appends written_old o (lines_at from rs)) (sym h.0) lines,
-      (it.0, piece, it.1, refl, subst (λ n. FaultStands fault (record { offset = n; rest = it.0; lent = it.1 }) ⊎ (IsUnfinished fault (record { offset = n; rest = it.0; lent = it.1 }) × IsAtEnd (prepend_known piece left_new))) here it.3)))
+    (λ rs many here lines. (
+      refl,
+      subst (λ (o : Known). Appends written_old o (lines_at from rs)) (sym h.0) lines,
+      (it.0, piece, it.1, refl, subst (λ n. FaultStands fault (record { offset = n; rest = it.0; lent = it.1 }) ⊎ (IsUnfinished fault (record { offset = n; rest = it.0; lent = it.1 }) × IsAtEnd (prepend_known piece left_new))) here it.3),
+    ))
 stream-stops from limit count f left_old piece mid left_new written_old written_mid written_now source_failed sink_failed summary Then Now One Same ReadFailed so_far h stays grows few =
     stop-between from limit count f left_old piece mid left_new written_old written_mid written_now source_failed sink_failed summary Then Now Same ReadFailed h.3.0 so_far h.3.1 stays h.1 (omega arith)
     (λ rs many here lines. (h.2, refl, subst (λ (o : Known). Appends written_old o (lines_at from rs)) (sym h.0) lines))
@@ -262,9 +265,13 @@ stream-stops from limit count f left_old piece mid left_new written_old written_
 stream-stops from limit count f left_old piece mid left_new written_old written_mid written_now source_failed sink_failed summary Then Now One Same WriteFailed so_far h stays grows few =
     let it = h.1 in
     stop-at from limit count f left_old piece mid left_new written_old written_mid written_now source_failed sink_failed summary Then Now One WriteFailed it.0 it.1 so_far it.3 grows it.2 it.4 few
-    (λ rs here lines. (h.0, refl, (it.5, tt),
+    (λ rs here lines. (
+      h.0,
+      refl,
+      (it.5, tt),
       front-of-piece written_old written_mid written_now (lines_at from rs) (answer_line f.offset it.1) [] (lines_at from (rs ++ (it.0, it.1) ∷ [])) lines
-      (append-nil (lines_at from rs ++ answer_line f.offset it.1) ∙ ap (λ n. lines_at from rs ++ answer_line n it.1) here ∙ sym (lines-push from rs (it.0, it.1))) it.6))
+          (append-nil (lines_at from rs ++ answer_line f.offset it.1) ∙ ap (λ n. lines_at from rs ++ answer_line n it.1) here ∙ sym (lines-push from rs (it.0, it.1))) it.6,
+    ))
 stream-stops from limit count f left_old piece mid left_new written_old written_mid written_now source_failed sink_failed summary Then Now One Same NoHeaderFirst so_far h stays grows few = absurd h
 stream-stops from limit count f left_old piece mid left_new written_old written_mid written_now source_failed sink_failed summary Then Now One Same BlobLimit so_far h stays grows few = absurd h
 

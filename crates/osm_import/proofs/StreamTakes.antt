@@ -41,20 +41,20 @@ pub took-more : {S : Type 0} (holds leaves : S → HeldMap → Type 0) (leaves_a
 took-more holds leaves leaves_a_map is_honest is_open failures settled old mid new ds rs off bytes a sound all one = record {
   run = λ held is honest is_open_now.
       (let before = all.unbroken held is (one.honest honest) sound in
-        let step = delivers-step (is_open new) (holds new) before.0 off bytes a (one.step before.0 before.2 honest) is_open_now in
-        (step.0, run-push held ds rs before.0 (delivery_of off bytes) a step.0 before.1 step.1, step.2));
+      let step = delivers-step (is_open new) (holds new) before.0 off bytes a (one.step before.0 before.2 honest) is_open_now in
+      (step.0, run-push held ds rs before.0 (delivery_of off bytes) a step.0 before.1 step.1, step.2));
   unbroken = λ held is honest none.
       (let before = all.unbroken held is (one.honest honest) sound in
-        let step = delivers-sound (is_open new) (holds new) before.0 off bytes a (none-split IsFault rs a none).1 (one.step before.0 before.2 honest) in
-        (step.0, run-push held ds rs before.0 (delivery_of off bytes) a step.0 before.1 step.1, step.2));
+      let step = delivers-sound (is_open new) (holds new) before.0 off bytes a (none-split IsFault rs a none).1 (one.step before.0 before.2 honest) in
+      (step.0, run-push held ds rs before.0 (delivery_of off bytes) a step.0 before.1 step.1, step.2));
   crash = λ held is honest.
       (let before = all.unbroken held is (one.honest honest) sound in
-        elim (fault-or-not a) [
-          | inl fault ↦ leaves-fault (leaves new) held ds rs before.0 (delivery_of off bytes) [] a before.1 sound fault (one.crash before.0 before.2 honest)
-          | inr none ↦ (let step = delivers-sound (is_open new) (holds new) before.0 off bytes a none (one.step before.0 before.2 honest) in
+      elim (fault-or-not a) [
+        | inl fault ↦ leaves-fault (leaves new) held ds rs before.0 (delivery_of off bytes) [] a before.1 sound fault (one.crash before.0 before.2 honest)
+        | inr none ↦ (let step = delivers-sound (is_open new) (holds new) before.0 off bytes a none (one.step before.0 before.2 honest) in
             leaves-run (leaves new) held (ds ++ delivery_of off bytes ∷ []) (rs ++ a ∷ []) step.0 (run-push held ds rs before.0 (delivery_of off bytes) a step.0 before.1 step.1)
-                (none-push IsFault rs a sound none) (λ left it. settled new step.0 left step.2 it))
-        ]);
+            (none-push IsFault rs a sound none) (λ left it. settled new step.0 left step.2 it))
+      ]);
   whole = λ held is honest. (let before = all.unbroken held is (one.honest honest) sound in one.whole before.0 before.2 honest);
   own = λ held is honest. (let before = all.unbroken held is (one.honest honest) sound in own-push rs a (all.own held is (one.honest honest)) (one.own before.0 before.2 honest));
   causes = causes-push (failures old) (failures mid) (failures new) rs a one.counted all.causes (cause-wider (failures old) (failures mid) (failures new) (failures new) a all.counted (omega arith) one.cause);

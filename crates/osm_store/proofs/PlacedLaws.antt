@@ -82,4 +82,3 @@ by_position entry = placed_rise entry.0 0 entry.1.elements
 
 pub placed_in_rise : (held : HeldMap) → IsAscending IsBefore (placed_in held)
 placed_in_rise held = nested_rise (λ (e : Entry). e.0) (λ (p : Placed). p.0) (λ (a b : Placed). a.1 < b.1) within here by_position (entries held) (entries_rise held)
-

@@ -110,9 +110,7 @@ impl<S: Alter> BodyStore<S> {
     ///
     /// A fault hands the connection back. It is `NotThisStore` with the version where that is another one,
     /// and `NotThisStore(None)` where the database isn't a store.
-    pub fn adopt(
-        mut connection: Connection<S>,
-    ) -> Result<BodyStore<S>, (StoreFault, Connection<S>)>
+    pub fn adopt(mut connection: Connection<S>) -> Result<BodyStore<S>, (StoreFault, Connection<S>)>
         requires { (state S.Store connection).in_transaction ≡ false }
         ensures held { (held : HeldMap) → Holds (state S.Store connection) held
             → MatchResult result (λ store. HasCleanDisk (state S.Store store.connection) → Holds (state S.Store store.connection) held) (λ e. HasCleanDisk (state S.Store e.1) → ¬ (IsForeign e.0)) }
@@ -156,12 +154,7 @@ impl<S: Alter> BodyStore<S> {
     }
 
     /// All held elements of this kind and id, each after the offset of its blob and its position there.
-    pub fn find(
-        &mut self,
-        alloc: Global,
-        kind: MemberKind,
-        id: i64,
-    ) -> Result<Found, StoreFault>
+    pub fn find(&mut self, alloc: Global, kind: MemberKind, id: i64) -> Result<Found, StoreFault>
         ensures found { (held : HeldMap) → Holds (state S.Store self.old.connection) held → HasCleanDisk (state S.Store self.new.connection)
             → IfOk result (λ found. AreMatches found (filter (is_of kind id) (placed_in held))) }
         ensures reads { JustReads S.Store self.old result self.new }

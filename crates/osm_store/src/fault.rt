@@ -29,10 +29,8 @@ impl StoreFault {
         ensures { result ≡ number_of self }
     {
         match self {
-            StoreFault::Memory
-            | StoreFault::Full
-            | StoreFault::Interrupted
-            | StoreFault::Disk => 65,
+            StoreFault::Memory | StoreFault::Full | StoreFault::Interrupted | StoreFault::Disk =>
+                65,
             StoreFault::NotThisStore(_) => 66,
         }
     }
@@ -84,10 +82,8 @@ fn fault_of_code(code: ErrorCode) -> StoreFault
 {
     match code {
         ErrorCode::OutOfMemory => StoreFault::Memory,
-        ErrorCode::DiskFull
-        | ErrorCode::TooBig
-        | ErrorCode::SchemaTooBig
-        | ErrorCode::NoRowid => StoreFault::Full,
+        ErrorCode::DiskFull | ErrorCode::TooBig | ErrorCode::SchemaTooBig | ErrorCode::NoRowid =>
+            StoreFault::Full,
         ErrorCode::OperationInterrupted => StoreFault::Interrupted,
         _ => StoreFault::Disk,
     }

@@ -93,4 +93,3 @@ pub(crate) fn element_at(
         None => Ok(None),
     }
 }
-

@@ -2,9 +2,11 @@
 
 pub(crate) const CREATE_META: &str = "CREATE TABLE meta (version INTEGER PRIMARY KEY) STRICT";
 
-pub(crate) const CREATE_BLOB: &str = "CREATE TABLE blob (off INTEGER PRIMARY KEY, fin INTEGER NOT NULL, digest BLOB NOT NULL, kind INTEGER NOT NULL, n INTEGER NOT NULL) STRICT";
+pub(crate) const CREATE_BLOB: &str =
+    "CREATE TABLE blob (off INTEGER PRIMARY KEY, fin INTEGER NOT NULL, digest BLOB NOT NULL, kind INTEGER NOT NULL, n INTEGER NOT NULL) STRICT";
 
-pub(crate) const CREATE_BODY: &str = "CREATE TABLE body (off INTEGER NOT NULL, pos INTEGER NOT NULL, kind INTEGER NOT NULL, id INTEGER NOT NULL, data BLOB NOT NULL, PRIMARY KEY (off, pos)) STRICT";
+pub(crate) const CREATE_BODY: &str =
+    "CREATE TABLE body (off INTEGER NOT NULL, pos INTEGER NOT NULL, kind INTEGER NOT NULL, id INTEGER NOT NULL, data BLOB NOT NULL, PRIMARY KEY (off, pos)) STRICT";
 
 pub(crate) const CREATE_INDEX: &str = "CREATE INDEX body_element ON body (kind, id)";
 

@@ -57,7 +57,11 @@ fn put_answer<S: Sink>(out: &mut S, off: u64, answer: &Answer)
 pub(super) struct NotWritten;
 
 /// Writes the line of an answered blob, and none for a fault of the store.
-pub(super) fn write_answer<S: Sink>(out: &mut S, off: u64, answer: &Answer) -> Result<(), NotWritten>
+pub(super) fn write_answer<S: Sink>(
+    out: &mut S,
+    off: u64,
+    answer: &Answer,
+) -> Result<(), NotWritten>
     ensures line { OnOk result (Appends (S.written out.old) (S.written out.new) (answer_line off answer.now)) }
     ensures front { OnErr result (AppendsFront (S.written out.old) (S.written out.new) (answer_line off answer.now)) }
     ensures failed { OnErr result (IsTrue (S.has_failed out.new)) }

@@ -18,11 +18,13 @@ unfolding everything
 answer-requires g c = refl
 
 pub returns-then-off-ge-OFFSET_LIMIT-clause-held : goal.returns-then-off-ge-OFFSET_LIMIT-clause-held
-returns-then-off-ge-OFFSET_LIMIT-clause-held g c clean held holds =
-    (λ blob is.
-        let below : c.args.off < blob.fin = holds.kept.apart.filled c.args.off blob is in
-        let limit : blob.fin ≤ 2 ^ 62 = holds.kept.apart.limit c.args.off blob is in
-        absurd (omega (arith, c.if-off-ge-OFFSET_LIMIT.true)), holds.opened)
+returns-then-off-ge-OFFSET_LIMIT-clause-held g c clean held holds = (
+  λ blob is.
+      let below : c.args.off < blob.fin = holds.kept.apart.filled c.args.off blob is in
+      let limit : blob.fin ≤ 2 ^ 62 = holds.kept.apart.limit c.args.off blob is in
+      absurd (omega (arith, c.if-off-ge-OFFSET_LIMIT.true)),
+  holds.opened,
+)
 
 pub returns-in-Ok-clause-held : goal.returns-in-Ok-clause-held
 returns-in-Ok-clause-held g c clean held holds =
@@ -30,11 +32,13 @@ returns-in-Ok-clause-held g c clean held holds =
     let answered = c.in_ok-rows.ensures.rows clean in
     let shown = rw c.number.ensures at answered.shown in
     let read = rows_read old (state g.S.Store c.answer.new.connection) _ (placed_in held) (has_elements old.now held holds.schema holds.tables) c.args.off shown in
-    let blocks = read ∙ sym (map-map block_row (λ (p : Placed). p.2) (filter (is_in c.args.off) (placed_in held))) in
-    (λ blob is. record {
-      rows = blocks ∙ ap (map block_row) (elements_at held c.args.off blob is);
-      stored = blob_stored blob (all_held (λ (entry : Entry). IsBlob entry.1) held c.args.off blob holds.kept.blobs is);
-    }, answered.is_open)
+    let blocks = read ∙ sym (map-map block_row (λ (p : Placed). p.2) (filter (is_in c.args.off) (placed_in held))) in (
+      λ blob is. record {
+        rows = blocks ∙ ap (map block_row) (elements_at held c.args.off blob is);
+        stored = blob_stored blob (all_held (λ (entry : Entry). IsBlob entry.1) held c.args.off blob holds.kept.blobs is);
+      },
+      answered.is_open,
+    )
 
 pub returns-in-Err-clause-held : goal.returns-in-Err-clause-held
 returns-in-Err-clause-held g c clean held holds foreign =

@@ -13,7 +13,7 @@ returns-clause-crash g c =
     let rows = map body_row (placed c.args.extent.now.off 0 c.args.elements.now) in
     let begun = c.transaction-transaction.ensures.begun in
     let whole = put_survives g.S.Store old c.write_rows.new.transaction.conn.now c.commit.new.self.0 c.args.extent.now (AllByRecursion HasBlock c.args.elements.now) rows
-        (rw begun at c.write_rows.ensures.survives) (λ clean. rw begun at c.in_ok-write_rows.ensures.written clean) c.in_ok-write_rows.ensures.have_blocks c.commit.ensures.survives in
+    (rw begun at c.write_rows.ensures.survives) (λ clean. rw begun at c.in_ok-write_rows.ensures.written clean) c.in_ok-write_rows.ensures.have_blocks c.commit.ensures.survives in
     let same : c.commit.new.self.0 ≡ c.connection-2-1.given.0 = search rules in
     subst (λ h. Survives (state g.S.Store old) (state g.S.Store h) (MayPut g.S.Store old old h c.args.extent.now (AllByRecursion HasBlock c.args.elements.now) rows)) same whole
 
@@ -23,7 +23,7 @@ returns-in_err-commit-clause-crash g c =
     let rows = map body_row (placed c.args.extent.now.off 0 c.args.elements.now) in
     let begun = c.transaction-transaction.ensures.begun in
     let whole = put_survives g.S.Store old c.write_rows.new.transaction.conn.now c.commit.new.self.0 c.args.extent.now (AllByRecursion HasBlock c.args.elements.now) rows
-        (rw begun at c.write_rows.ensures.survives) (λ clean. rw begun at c.in_ok-write_rows.ensures.written clean) c.in_ok-write_rows.ensures.have_blocks c.commit.ensures.survives in
+    (rw begun at c.write_rows.ensures.survives) (λ clean. rw begun at c.in_ok-write_rows.ensures.written clean) c.in_ok-write_rows.ensures.have_blocks c.commit.ensures.survives in
     let same : c.commit.new.self.0 ≡ c.connection-2-1.given.0 = search rules in
     subst (λ h. Survives (state g.S.Store old) (state g.S.Store h) (MayPut g.S.Store old old h c.args.extent.now (AllByRecursion HasBlock c.args.elements.now) rows)) same whole
 

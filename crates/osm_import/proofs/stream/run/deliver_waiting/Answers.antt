@@ -15,8 +15,20 @@ returns g c =
     let read = waiting_read f (lent.0, lent.1.now) (sym shown_is) in
     let off : lent.0 ≡ f.offset = ap (λ (x : ℕ × List ℕ). x.0) read.0 in
     let bytes : lent.1.now ≡ f.rest = ap (λ (x : ℕ × List ℕ). x.1) read.0 in
-    let is : c.next_frame.follows.lender-at-none ≡ given f (Ok (Some (lent.0, lent.1.now))) = state ∙ ap (given f) (sym shown_is) in
-    (read.1, off, ap (λ (x : ℕ × List ℕ). x.0 + length x.1) read.0, ap (λ (h : Framing). h.offset) is, ap (λ (h : Framing). h.rest) is,
+    let is : c.next_frame.follows.lender-at-none ≡ given f (Ok (Some (lent.0, lent.1.now))) = state ∙ ap (given f) (sym shown_is) in (
+      read.1,
+      off,
+      ap (λ (x : ℕ × List ℕ). x.0 + length x.1) read.0,
+      ap (λ (h : Framing). h.offset) is,
+      ap (λ (h : Framing). h.rest) is,
       subst (λ (x : ℕ × List ℕ). TakesOne K.holds K.leaves K.leaves_a_map K.is_honest K.is_open K.failures c.args.keeper.now c.deliver-answer.new.keeper x.0 x.1 c.deliver-answer.result) read.0 (record {
-        step = made.step; crash = made.crash; whole = made.whole; own = made.own; cause = made.cause; honest = made.honest; open_if = made.open_if; counted = made.counted;
-      }))
+        step = made.step;
+        crash = made.crash;
+        whole = made.whole;
+        own = made.own;
+        cause = made.cause;
+        honest = made.honest;
+        open_if = made.open_if;
+        counted = made.counted;
+      }),
+    )

@@ -23,11 +23,11 @@ loop-blobs-init g c =
     let left = g.R.Source.bytes_left c.args.reader.now in
     let written = g.S.Sink.written c.args.out.now in
     subst (λ (piece : List ℕ). InStream c.args.from 0 c.new-framer.result left (prepend_known piece left) written written (nothing_at c.args.from)
-      (λ deliveries answers. Takes K.holds K.leaves K.leaves_a_map K.is_honest K.is_open K.failures c.args.keeper.now c.args.keeper.now deliveries answers)) (sym c.in-Ok.ensures)
+    (λ deliveries answers. Takes K.holds K.leaves K.leaves_a_map K.is_honest K.is_open K.failures c.args.keeper.now c.args.keeper.now deliveries answers)) (sym c.in-Ok.ensures)
     (stream-begins c.args.from left written c.new-framer.result (nothing_at c.args.from)
-      (λ deliveries answers. Takes K.holds K.leaves K.leaves_a_map K.is_honest K.is_open K.failures c.args.keeper.now c.args.keeper.now deliveries answers)
-      (ap (λ (f : Framing). f.offset) c.new-framer.ensures) (ap (λ (f : Framing). f.rest) c.new-framer.ensures) c.requires refl
-      (took-none K.holds K.leaves K.leaves_a_map K.is_honest K.is_open K.failures g.met.K.Keeper.settled g.met.K.Keeper.leaves_held c.args.keeper.now))
+    (λ deliveries answers. Takes K.holds K.leaves K.leaves_a_map K.is_honest K.is_open K.failures c.args.keeper.now c.args.keeper.now deliveries answers)
+    (ap (λ (f : Framing). f.offset) c.new-framer.ensures) (ap (λ (f : Framing). f.rest) c.new-framer.ensures) c.requires refl
+    (took-none K.holds K.leaves K.leaves_a_map K.is_honest K.is_open K.failures g.met.K.Keeper.settled g.met.K.Keeper.leaves_held c.args.keeper.now))
 
 pub loop-blobs-preserved : goal.loop-blobs-preserved
 loop-blobs-preserved g c =
@@ -51,16 +51,16 @@ returns-in-Ok-None g c =
     let left = g.R.Source.bytes_left c.import_frame.new.reader in
     let within : c.loop-blobs._blobs < c.args.max_blobs = omega arith in
     subst (λ (r : Result Summary StreamFault). Streams c.args.from c.args.max_blobs before left (g.S.Sink.written c.args.out.now) (g.S.Sink.written c.import_frame.new.out) (g.R.Source.has_failed c.import_frame.new.reader) (g.S.Sink.has_failed c.import_frame.new.out)
-      (λ deliveries answers. Takes K.holds K.leaves K.leaves_a_map K.is_honest K.is_open K.failures c.args.keeper.now c.import_frame.new.keeper deliveries answers) r) (sym c.ended.ensures)
+    (λ deliveries answers. Takes K.holds K.leaves K.leaves_a_map K.is_honest K.is_open K.failures c.args.keeper.now c.import_frame.new.keeper deliveries answers) r) (sym c.ended.ensures)
     (stream-ends c.args.from c.args.max_blobs c.loop-blobs._blobs c.loop-blobs.framer before c.import_frame.new.piece left (g.S.Sink.written c.args.out.now) (g.S.Sink.written c.import_frame.new.out) (g.R.Source.has_failed c.import_frame.new.reader) (g.S.Sink.has_failed c.import_frame.new.out) c.loop-blobs.summary
-      (λ deliveries answers. Takes K.holds K.leaves K.leaves_a_map K.is_honest K.is_open K.failures c.args.keeper.now c.import_frame.new.keeper deliveries answers)
-      (stream-stays c.args.from c.loop-blobs._blobs c.loop-blobs.framer before (prepend_known c.loop-blobs.piece (g.R.Source.bytes_left c.loop-blobs.reader)) (prepend_known c.import_frame.new.piece left)
-        (g.S.Sink.written c.args.out.now) (g.S.Sink.written c.loop-blobs.out) (g.S.Sink.written c.import_frame.new.out) c.loop-blobs.summary
-        (λ deliveries answers. Takes K.holds K.leaves K.leaves_a_map K.is_honest K.is_open K.failures c.args.keeper.now c.loop-blobs.keeper deliveries answers)
-        (λ deliveries answers. Takes K.holds K.leaves K.leaves_a_map K.is_honest K.is_open K.failures c.args.keeper.now c.import_frame.new.keeper deliveries answers)
-        (c.import_frame.new.keeper ≡ c.loop-blobs.keeper) c.loop-blobs.invariant none.0 none.2
-        (λ ds rs same took. subst (λ (k : g.row.K.Denot). Takes K.holds K.leaves K.leaves_a_map K.is_honest K.is_open K.failures c.args.keeper.now k ds rs) (sym same) took) none.3)
-      none.1 (omega arith))
+    (λ deliveries answers. Takes K.holds K.leaves K.leaves_a_map K.is_honest K.is_open K.failures c.args.keeper.now c.import_frame.new.keeper deliveries answers)
+    (stream-stays c.args.from c.loop-blobs._blobs c.loop-blobs.framer before (prepend_known c.loop-blobs.piece (g.R.Source.bytes_left c.loop-blobs.reader)) (prepend_known c.import_frame.new.piece left)
+    (g.S.Sink.written c.args.out.now) (g.S.Sink.written c.loop-blobs.out) (g.S.Sink.written c.import_frame.new.out) c.loop-blobs.summary
+    (λ deliveries answers. Takes K.holds K.leaves K.leaves_a_map K.is_honest K.is_open K.failures c.args.keeper.now c.loop-blobs.keeper deliveries answers)
+    (λ deliveries answers. Takes K.holds K.leaves K.leaves_a_map K.is_honest K.is_open K.failures c.args.keeper.now c.import_frame.new.keeper deliveries answers)
+    (c.import_frame.new.keeper ≡ c.loop-blobs.keeper) c.loop-blobs.invariant none.0 none.2
+    (λ ds rs same took. subst (λ (k : g.row.K.Denot). Takes K.holds K.leaves K.leaves_a_map K.is_honest K.is_open K.failures c.args.keeper.now k ds rs) (sym same) took) none.3)
+    none.1 (omega arith))
 
 pub returns-in-Err : goal.returns-in-Err
 returns-in-Err g c =
@@ -95,15 +95,15 @@ returns-in-Ok-false g c =
     let before = g.R.Source.bytes_left c.args.reader.now in
     let left = g.R.Source.bytes_left c.has_more.new.reader in
     subst (λ (r : Result Summary StreamFault). Streams c.args.from c.args.max_blobs before left (g.S.Sink.written c.args.out.now) (g.S.Sink.written c.loop-blobs.out) (g.R.Source.has_failed c.has_more.new.reader) (g.S.Sink.has_failed c.loop-blobs.out)
-      (λ deliveries answers. Takes K.holds K.leaves K.leaves_a_map K.is_honest K.is_open K.failures c.args.keeper.now c.loop-blobs.keeper deliveries answers) r) (sym c.ended-in-Ok-false.ensures)
+    (λ deliveries answers. Takes K.holds K.leaves K.leaves_a_map K.is_honest K.is_open K.failures c.args.keeper.now c.loop-blobs.keeper deliveries answers) r) (sym c.ended-in-Ok-false.ensures)
     (stream-ends c.args.from c.args.max_blobs c.loop-blobs._blobs c.loop-blobs.framer before c.has_more.new.piece left (g.S.Sink.written c.args.out.now) (g.S.Sink.written c.loop-blobs.out) (g.R.Source.has_failed c.has_more.new.reader) (g.S.Sink.has_failed c.loop-blobs.out) c.loop-blobs.summary
-      (λ deliveries answers. Takes K.holds K.leaves K.leaves_a_map K.is_honest K.is_open K.failures c.args.keeper.now c.loop-blobs.keeper deliveries answers)
-      (stream-stays c.args.from c.loop-blobs._blobs c.loop-blobs.framer before (prepend_known c.loop-blobs.piece (g.R.Source.bytes_left c.loop-blobs.reader)) (prepend_known c.has_more.new.piece left)
-        (g.S.Sink.written c.args.out.now) (g.S.Sink.written c.loop-blobs.out) (g.S.Sink.written c.loop-blobs.out) c.loop-blobs.summary
-        (λ deliveries answers. Takes K.holds K.leaves K.leaves_a_map K.is_honest K.is_open K.failures c.args.keeper.now c.loop-blobs.keeper deliveries answers)
-        (λ deliveries answers. Takes K.holds K.leaves K.leaves_a_map K.is_honest K.is_open K.failures c.args.keeper.now c.loop-blobs.keeper deliveries answers)
-        (Unit {0}) c.loop-blobs.invariant c.in-Ok-false.ensures.kept refl (λ ds rs same took. took) tt)
-      (end-known c.has_more.new.piece left (c.in-Ok-false.ensures.ended c.in-Ok-false.field-0-test)) (omega arith))
+    (λ deliveries answers. Takes K.holds K.leaves K.leaves_a_map K.is_honest K.is_open K.failures c.args.keeper.now c.loop-blobs.keeper deliveries answers)
+    (stream-stays c.args.from c.loop-blobs._blobs c.loop-blobs.framer before (prepend_known c.loop-blobs.piece (g.R.Source.bytes_left c.loop-blobs.reader)) (prepend_known c.has_more.new.piece left)
+    (g.S.Sink.written c.args.out.now) (g.S.Sink.written c.loop-blobs.out) (g.S.Sink.written c.loop-blobs.out) c.loop-blobs.summary
+    (λ deliveries answers. Takes K.holds K.leaves K.leaves_a_map K.is_honest K.is_open K.failures c.args.keeper.now c.loop-blobs.keeper deliveries answers)
+    (λ deliveries answers. Takes K.holds K.leaves K.leaves_a_map K.is_honest K.is_open K.failures c.args.keeper.now c.loop-blobs.keeper deliveries answers)
+    (Unit {0}) c.loop-blobs.invariant c.in-Ok-false.ensures.kept refl (λ ds rs same took. took) tt)
+    (end-known c.has_more.new.piece left (c.in-Ok-false.ensures.ended c.in-Ok-false.field-0-test)) (omega arith))
 
 pub returns : goal.returns
 returns g c =

@@ -18,10 +18,12 @@ returns-in-Ok-end g c =
     let after = prepend_known c.fill.new.piece (g.R.Source.bytes_left c.fill.new.reader) in
     let gave = rw c.in-Ok-None.field-0-is at c.in-Ok-None.ensures in
     let got = same-rest c.args.framer.now c.fill.new.framer c.deliver_waiting.new.framer before after (got-of c.args.framer.now c.fill.new.framer before after c.fill.ensures.moved c.requires) gave.1 gave.2 in
-    let empty = ended-empty c.fill.new.framer c.deliver_waiting.new.framer gave.0 gave.1 gave.2 (c.in-Ok-end.ensures.fine.0 refl) in
-    (subst (Consumes before after) empty got.1,
+    let empty = ended-empty c.fill.new.framer c.deliver_waiting.new.framer gave.0 gave.1 gave.2 (c.in-Ok-end.ensures.fine.0 refl) in (
+      subst (Consumes before after) empty got.1,
       at-end-unless-full c.fill.new.framer c.in-Ok.field-0 (IsAtEnd after) c.in-Ok.ensures.full (λ e. end-known c.fill.new.piece (g.R.Source.bytes_left c.fill.new.reader) (c.in-Ok.ensures.ended e)) gave.0,
-      refl, gave.3)
+      refl,
+      gave.3,
+    )
 
 pub returns-in-Err-end : goal.returns-in-Err-end
 returns-in-Err-end g c =

@@ -10,6 +10,6 @@ returns-clause-one_file g c = λ file held left zero holds honest.
     (λ deliveries answers. Takes K.holds K.leaves K.leaves_a_map K.is_honest K.is_open K.failures c.args.keeper.now c.import_all.new.keeper deliveries answers) (K.holds c.import_all.new.keeper) held
     (λ ds rs took none. took.unbroken held holds honest none) c.import_all.result
     (subst (λ (o : Option (List ℕ)). Streams 0 c.args.max_blobs o (g.R.Source.bytes_left c.import_all.new.reader) (g.S.Sink.written c.args.out.now) (g.S.Sink.written c.import_all.new.out) (g.R.Source.has_failed c.import_all.new.reader) (g.S.Sink.has_failed c.import_all.new.out)
-      (λ deliveries answers. Takes K.holds K.leaves K.leaves_a_map K.is_honest K.is_open K.failures c.args.keeper.now c.import_all.new.keeper deliveries answers) c.import_all.result) left
+    (λ deliveries answers. Takes K.holds K.leaves K.leaves_a_map K.is_honest K.is_open K.failures c.args.keeper.now c.import_all.new.keeper deliveries answers) c.import_all.result) left
     (subst (λ n. Streams n c.args.max_blobs (g.R.Source.bytes_left c.args.reader.now) (g.R.Source.bytes_left c.import_all.new.reader) (g.S.Sink.written c.args.out.now) (g.S.Sink.written c.import_all.new.out) (g.R.Source.has_failed c.import_all.new.reader) (g.S.Sink.has_failed c.import_all.new.out)
-      (λ deliveries answers. Takes K.holds K.leaves K.leaves_a_map K.is_honest K.is_open K.failures c.args.keeper.now c.import_all.new.keeper deliveries answers) c.import_all.result) zero c.import_all.ensures))
+    (λ deliveries answers. Takes K.holds K.leaves K.leaves_a_map K.is_honest K.is_open K.failures c.args.keeper.now c.import_all.new.keeper deliveries answers) c.import_all.result) zero c.import_all.ensures))
