@@ -211,8 +211,8 @@ module _ (held : HeldMap) (off : ℕ) (blob : Blob) (old new : State) (holds : H
   ]
 
 -- the connection shows the same
-pub holds_still : (held : HeldMap) (old new : State) → Holds old held → HasCleanDisk new → IsTrue new.is_open → new.now ≡ old.now → new.committed ≡ old.committed → Holds new held
-holds_still held old new holds clean there now committed = record {
+pub holds_still : (held : HeldMap) (old later : State) → Holds old held → HasCleanDisk later → IsTrue later.is_open → later.now ≡ old.now → later.committed ≡ old.committed → Holds later held
+holds_still held old later holds clean there now committed = record {
   clean = clean;
   opened = there;
   settled = now ∙ holds.settled ∙ sym committed;
