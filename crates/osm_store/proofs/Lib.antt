@@ -26,3 +26,4 @@ pub mod PlacedLaws
 pub mod OneElement
 pub mod OneMap
 pub mod VersionLemmas
+pub mod ExtentLaws

@@ -12,3 +12,4 @@ pub mod Selects
 pub mod Finding
 pub mod Store
 pub mod StoreLaws
+pub mod Starting
