@@ -1,4 +1,4 @@
-use Rattle.std.proofs.Common.{◌≡◌, sym, subst, List, Option, ℕ}
+use Rattle.std.proofs.Common.{sym, subst}
 use Rattle.std.specs.Io.KnownBytes.{Appends}
 use Rattle.osm_import.specs.FrameReads.{Reading, GivesFrame, Halts}
 use Rattle.osm_import.specs.StopFaults.{stop_number_of, stop_name_of}
