@@ -15,6 +15,7 @@ pub mod AnswerLines
 pub mod FrameLemmas
 pub mod Moves
 pub mod Filling
+pub mod Begun
 pub mod NextFrame
 pub mod StreamLists
 pub mod StreamTakes
