@@ -12,6 +12,8 @@ pub mod Faults
 pub mod Inlets
 pub mod Lines
 pub mod StopFaults
+pub mod ExportFaults
+pub mod ExamineFaults
 pub mod Streams
 pub mod StreamSteps
 pub mod FrameReads
