@@ -13,6 +13,8 @@ pub mod Inlets
 pub mod Lines
 pub mod Pbf
 pub mod StopFaults
+pub mod ExportFaults
+pub mod ExamineFaults
 pub mod Streams
 pub mod StreamSteps
 pub mod FrameReads
