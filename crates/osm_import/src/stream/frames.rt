@@ -1,12 +1,13 @@
 //! The frames of a source, one after the other.
 
-ghost use Rattle.std.specs.Prelude.{◌≡◌, ◌≤◌, ◌++◌, IfOk, IfErr};
+ghost use Rattle.std.specs.Prelude.{◌≡◌, ◌≤◌, ◌++◌, [], true, IfOk, IfErr};
 ghost use Rattle.std.specs.Borrow.{sem};
 ghost use Rattle.std.specs.Io.BufRead.{Rests};
 ghost use Rattle.std.specs.Io.KnownBytes.{prepend_known};
 ghost use Rattle.osm_store.specs.declared.fault.StoreFault.TheVariants.{Memory};
 ghost use Rattle.osm_import.specs.declared.stream.fault.Stop.TheVariants.{Store};
-ghost use Rattle.osm_import.specs.FrameReads.{Reading, ReadsFrame};
+ghost use Rattle.osm_import.specs.FrameReads.{Reading, ReadsFrame, IsReady};
+ghost use Rattle.osm_import.specs.StreamSteps.{IsBegun};
 
 use super::fault::{Stop, StreamFault};
 use super::piece::Piece;
@@ -29,9 +30,9 @@ pub struct FrameReader<R: Source> {
 impl<R: Source> Model for FrameReader<R> {
     ghost Value = { Reading };
 
-    ghost view = { λ r. record { offset = r.framer.offset; left = prepend_known (r.framer.rest ++ r.piece) (R.bytes_left r.reader); has_failed = R.has_failed r.reader } };
+    ghost view = { λ r. record { offset = r.framer.offset; left = prepend_known (r.framer.rest ++ r.piece) (R.bytes_left r.reader); has_failed = R.has_failed r.reader; read = r.framer.rest ++ r.piece; behind = R.bytes_left r.reader } };
 
-    ghost invariant = { λ r. (r.next_at ≡ r.framer.offset) × (r.next_at ≤ 4611686018427387904) };
+    ghost invariant = { λ r. (r.next_at ≡ r.framer.offset) × (r.next_at ≤ 4611686018427387904) × IsBegun r.framer };
 }
 
 impl<R: Source> FrameReader<R> {
@@ -42,7 +43,7 @@ impl<R: Source> FrameReader<R> {
     where
         R: Drop,
         requires { from ≤ 4611686018427387904 }
-        ensures ok { IfOk result (λ r. r ≡ record { offset = from; left = R.bytes_left reader; has_failed = R.has_failed reader }) }
+        ensures ok { IfOk result (λ r. r ≡ record { offset = from; left = R.bytes_left reader; has_failed = R.has_failed reader; read = []; behind = R.bytes_left reader }) }
         ensures err { IfErr result (λ stop. stop ≡ record { fault = Store Memory; at = from }) }
     {
         let Ok(piece) = Piece::new(alloc) else {
@@ -59,11 +60,13 @@ impl<R: Source> FrameReader<R> {
         })
     }
 
-    /// Whether the next call of `next` answers without a read of the reader.
+    /// Whether a whole frame was read, or bytes at whose fault `next` stops: the next call of `next` then answers without
+    /// a read of the reader. False is answered also where memory was refused.
     pub fn is_ready(&mut self) -> bool
-        ensures { self.new ≡ self.old }
+        ensures kept { self.new ≡ self.old }
+        ensures ready { result ≡ true → IsReady self.new }
     {
-        absorb(&mut self.framer, &mut self.piece).unwrap_or(false)
+        matches!(absorb(&mut self.framer, &mut self.piece), Ok(true))
     }
 
     /// Lends the next frame, with its offset, and gives none where the input has ended behind the frame before. The
@@ -71,7 +74,10 @@ impl<R: Source> FrameReader<R> {
     /// being read:
     ///
     /// - at a fault of a frame, also where the input ends inside one, and answers that fault again from then on;
-    /// - with `ReadFailed` where a read failed, and with `Store` where memory was refused; nothing is lost then.
+    /// - with `ReadFailed` where a read failed, and then no whole frame is among the bytes that were read;
+    /// - with `Store` where memory was refused.
+    ///
+    /// At the last two nothing is lost.
     pub fn next(&mut self) -> Result<Option<(u64, &[u8])>, StreamFault>
         ensures* after { sem 𝓛 (Rests (the_row R.row R.Source) self.entry (λ new. ReadsFrame self.old new result)) }
     {

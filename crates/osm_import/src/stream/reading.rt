@@ -106,6 +106,8 @@ pub(super) fn read_frame<R: Source>(
 ) -> Result<(), Stop>
     ensures moved { Moved framer.old framer.new (prepend_known piece.old (R.bytes_left reader.old)) (prepend_known piece.new (R.bytes_left reader.new)) }
     ensures ok { OnOk result (HasFrame framer.new (prepend_known piece.new (R.bytes_left reader.new))) }
+    ensures spent { IfErr result (λ stop. stop ≡ Stop.ReadFailed → piece.new ≡ []) }
+    ensures begun { IsBegun framer.old → IsBegun framer.new }
     ensures err { IfErr result (LacksFrame framer.new (prepend_known piece.new (R.bytes_left reader.new)) (R.has_failed reader.new)) }
     ensures let_go { framer.new.lent ≡ [] }
 {

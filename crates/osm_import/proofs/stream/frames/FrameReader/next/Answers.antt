@@ -14,7 +14,7 @@ returns-in-Err g c =
     let was = g.R.Source.has_failed s.reader in
     let is = g.R.Source.has_failed r.reader in
     let fact = halts s.framer r.framer s.piece r.piece (g.R.Source.bytes_left s.reader) (g.R.Source.bytes_left r.reader) was is s.next_at c.in-Err.fault
-    c.read_frame.ensures.moved c.read_frame.ensures.let_go c.self.invariant.0 c.in-Err.ensures.err in (
+    c.read_frame.ensures.moved c.read_frame.ensures.let_go c.self.invariant.0 c.in-Err.ensures.err (c.read_frame.ensures.begun c.self.invariant.2) c.in-Err.ensures.spent in (
       (refl, λ x. tt, subst (λ (old : Reading). Halts old (before r.framer r.piece (g.R.Source.bytes_left r.reader) is) (record { fault = c.in-Err.fault; at = s.next_at })) c.self.view_is fact),
       record { after = tt },
     )
