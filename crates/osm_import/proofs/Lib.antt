@@ -1,6 +1,7 @@
 pub mod Delivering
 pub mod ExamineLemmas
 pub mod PbfLemmas
+pub mod PbfFile
 pub mod ExportLemmas
 pub mod FewTexts
 pub mod FilesLemmas

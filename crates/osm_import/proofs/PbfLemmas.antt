@@ -1,5 +1,5 @@
 -- From what a cutter gives for one blob to what an export as PBF writes.
-use Rattle.std.proofs.Common.{◌≡◌, ℕ, suc, zero, ◌+◌, ◌<◌, ◌≤◌, Bool, true, false, List, [], ◌∷◌, ◌++◌, map, length, take, drop, get_or, Some, Result, Ok, Err, refl, sym, ◌∙◌, ap, subst, inl, arith, append_assoc, append-nil, add-one}
+use Rattle.std.proofs.Common.{◌≡◌, ℕ, suc, zero, ◌+◌, ◌<◌, ◌≤◌, Bool, true, false, List, [], ◌∷◌, ◌++◌, map, length, take, drop, get_or, Some, Result, Ok, Err, refl, sym, ◌∙◌, ap, subst, inl, inr, arith, append_assoc, append-nil, add-one}
 use Rattle.std.specs.FinMap as finite
 use Rattle.std.specs.FinMap.{get, entries, get-entries, entries_sorted, is_sorted}
 use Rattle.std.specs.Ordering.{nat_cmp}
@@ -8,7 +8,7 @@ use Rattle.std.specs.Io.KnownBytes.{Appends}
 use Rattle.std.proofs.KnownBytes.{Appends-trans, Appends-nil}
 use Rattle.osm_value.specs.declared.element.Element.{Element}
 use Rattle.osm_value.specs.Sink.{AppendsFront}
-use Rattle.osm_write.specs.Cutter.{StepOk, is_too_large}
+use Rattle.osm_write.specs.Cutter.{StepOk, ComesToOne}
 use Rattle.osm_write.specs.Header.{header_block, plain_header, plain_header_is}
 use Rattle.osm_store.specs.Held.{Blob, HeldMap}
 use Rattle.osm_store.specs.Keeping.{extents_of, extent_of, IsForeign}
@@ -87,7 +87,7 @@ cut-more before middle after es rest block count so_far step wrote = record {
 pub cut-all : (before after : Known) (es rest : List Element) → CutSoFar before after es rest → rest ≡ [] → WritesBlocks before es after (Ok tt)
 cut-all before after es rest so_far none = (so_far.blocks, subst (λ (xs : List Element). Cuts es so_far.blocks xs) none so_far.cut, so_far.wrote)
 
-pub cut-large : (before after : Known) (es rest : List Element) → CutSoFar before after es rest → is_too_large rest 1 → WritesBlocks before es after (Err BlockTooLarge)
+pub cut-large : (before after : Known) (es rest : List Element) → CutSoFar before after es rest → ComesToOne rest → WritesBlocks before es after (Err BlockTooLarge)
 cut-large before after es rest so_far large = (so_far.blocks, rest, so_far.cut, large, so_far.wrote)
 
 pub cut-fault : (before after : Known) (es rest : List Element) (fault : StoreFault) → CutSoFar before after es rest → WritesBlocks before es after (Err (Store fault))
@@ -232,7 +232,7 @@ pbf-refused held size text (Store fault) refusal = absurd refusal
 
 -- a store fault before any byte
 pub pbf-none : (held : HeldMap) (size : ℕ) (partial : Bool) (text : Known) (fault : StoreFault) → IsPbfExport held size partial text text (Err (Store fault))
-pbf-none held size partial text fault = ([], elements_at (entries held) 0, none-yet held, ([], header_frame ++ [], refl, Appends-nil text))
+pbf-none held size partial text fault = ([], elements_at (entries held) 0, none-yet held, ([], header_frame ++ [], refl, Appends-nil text), λ whole. inr refl)
 
 -- the header frame didn't go out whole
 pub pbf-no_header : (held : HeldMap) (size : ℕ) (partial : Bool) (before after : Known) (fault : ExportFault) → WritesBlob before header_frame after (Err fault) → (partial ≡ false → Tiles held size) → IsPbfExport held size partial before after (Err fault)
@@ -253,6 +253,7 @@ pbf-exported held size partial before middle after (Ok _) header wrote tiles = (
 pbf-exported held size partial before middle after (Err WriteFailed) header wrote tiles = (wrote.0, wrote.1, wrote.2, behind-header before middle after wrote.0 header wrote.3, tiles)
 pbf-exported held size partial before middle after (Err BlockTooLarge) header wrote tiles =
     (wrote.0, wrote.1, wrote.2, wrote.3, Appends-trans before middle after header_frame wrote.0 header wrote.4, tiles)
-pbf-exported held size partial before middle after (Err (Store fault)) header wrote tiles = (wrote.0, wrote.1, wrote.2, behind-header before middle after wrote.0 header wrote.3)
+pbf-exported held size partial before middle after (Err (Store fault)) header wrote tiles =
+    (wrote.0, wrote.1, wrote.2, behind-header before middle after wrote.0 header wrote.3, λ whole. inl (tiles whole))
 pbf-exported held size partial before middle after (Err (Incomplete from to)) header wrote tiles = absurd wrote
 pbf-exported held size partial before middle after (Err (PastEnd fin)) header wrote tiles = absurd wrote

@@ -1,15 +1,16 @@
 -- What an export as PBF writes: the frame of a header, and then, blob by blob, the frames of the blocks that the
 -- blob's elements are cut into (OpenStreetMap Wiki, "PBF Format").
-use Rattle.std.specs.Prelude.{◌≡◌, ℕ, zero, suc, Bool, false, List, [], ◌∷◌, ◌++◌, take, drop, codes, Result, Ok, Err}
+use Rattle.std.specs.Prelude.{◌≡◌, ℕ, zero, suc, ◌^◌, ◌≤◌, Bool, false, List, [], ◌∷◌, ◌++◌, length, take, drop, codes, Result, Ok, Err}
 use Rattle.std.specs.FinMap.{entries}
 use Rattle.std.specs.Io.KnownBytes.{Appends}
 use Rattle.pbf_frame.specs.Write.{frame_bytes}
 use Rattle.osm_value.specs.declared.element.Element.{Element}
 use Rattle.osm_value.specs.Sink.{AppendsFront}
-use Rattle.osm_write.specs.Cutter.{StepOk, is_too_large}
+use Rattle.osm_write.specs.Cutter.{StepOk, ComesToOne}
 use Rattle.osm_write.specs.Header.{header_block}
 use Rattle.osm_store.specs.Held.{Blob, HeldMap}
-use Rattle.osm_import.specs.Exports.{Known, IsRefusal}
+use Rattle.osm_import.specs.Exports.{Known, AreElements, IsGuarded, IsRefusal}
+use Rattle.osm_import.specs.Files.{IsFile}
 use Rattle.osm_import.specs.Gaps.{Tiles}
 use Rattle.osm_import.specs.declared.export.fault.ExportFault.{ExportFault}
 use Rattle.osm_import.specs.declared.export.fault.ExportFault.TheVariants.{Incomplete, PastEnd, WriteFailed, BlockTooLarge, Store}
@@ -55,7 +56,7 @@ pub record AreFirstFrames (entries : List (ℕ × Blob)) (bytes : List ℕ) (res
 abbrev pub WritesBlocks : Known → List Element → Known → Result (Unit {0}) ExportFault → Type 0
 WritesBlocks before elements after (Ok _) = (blocks : List (List ℕ)) × Cuts elements blocks [] × Appends before after (data_frames blocks)
 WritesBlocks before elements after (Err WriteFailed) = (blocks : List (List ℕ)) × (rest : List Element) × Cuts elements blocks rest × AppendsFront before after (data_frames blocks)
-WritesBlocks before elements after (Err BlockTooLarge) = (blocks : List (List ℕ)) × (rest : List Element) × Cuts elements blocks rest × is_too_large rest 1 × Appends before after (data_frames blocks)
+WritesBlocks before elements after (Err BlockTooLarge) = (blocks : List (List ℕ)) × (rest : List Element) × Cuts elements blocks rest × ComesToOne rest × Appends before after (data_frames blocks)
 WritesBlocks before elements after (Err (Store fault)) = (blocks : List (List ℕ)) × (rest : List Element) × Cuts elements blocks rest × AppendsFront before after (data_frames blocks)
 WritesBlocks before elements after (Err (Incomplete from to)) = ⊥
 WritesBlocks before elements after (Err (PastEnd fin)) = ⊥
@@ -64,22 +65,32 @@ WritesBlocks before elements after (Err (PastEnd fin)) = ⊥
 abbrev pub WritesFrames : Known → List (ℕ × Blob) → Known → Result (Unit {0}) ExportFault → Type 0
 WritesFrames before entries after (Ok _) = (bytes : List ℕ) × AreFramesOf entries bytes × Appends before after bytes
 WritesFrames before entries after (Err WriteFailed) = (bytes : List ℕ) × (rest : List Element) × AreFirstFrames entries bytes rest × AppendsFront before after bytes
-WritesFrames before entries after (Err BlockTooLarge) = (bytes : List ℕ) × (rest : List Element) × AreFirstFrames entries bytes rest × is_too_large rest 1 × Appends before after bytes
+WritesFrames before entries after (Err BlockTooLarge) = (bytes : List ℕ) × (rest : List Element) × AreFirstFrames entries bytes rest × ComesToOne rest × Appends before after bytes
 WritesFrames before entries after (Err (Store fault)) = (bytes : List ℕ) × (rest : List Element) × AreFirstFrames entries bytes rest × AppendsFront before after bytes
 WritesFrames before entries after (Err (Incomplete from to)) = ⊥
 WritesFrames before entries after (Err (PastEnd fin)) = ⊥
 
 -- What an export as PBF has done: the header frame and the frames of all held blobs went out; or those up to the place
 -- where a cutter came to an element whose block alone is too large; or a front of that where a write failed or at a
--- store fault; nothing where it is refused. Unless partial, what is held tiles the size.
+-- store fault; nothing where it is refused. Unless partial, what is held tiles the size, or a store fault came before any byte.
 abbrev pub IsPbfExport : HeldMap → ℕ → Bool → Known → Known → Result (Unit {0}) ExportFault → Type 0
 IsPbfExport held size partial before after (Ok _) =
     (bytes : List ℕ) × AreFramesOf (entries held) bytes × Appends before after (header_frame ++ bytes) × (partial ≡ false → Tiles held size)
 IsPbfExport held size partial before after (Err WriteFailed) =
     (bytes : List ℕ) × (rest : List Element) × AreFirstFrames (entries held) bytes rest × AppendsFront before after (header_frame ++ bytes) × (partial ≡ false → Tiles held size)
 IsPbfExport held size partial before after (Err BlockTooLarge) =
-    (bytes : List ℕ) × (rest : List Element) × AreFirstFrames (entries held) bytes rest × is_too_large rest 1 × Appends before after (header_frame ++ bytes) × (partial ≡ false → Tiles held size)
+    (bytes : List ℕ) × (rest : List Element) × AreFirstFrames (entries held) bytes rest × ComesToOne rest × Appends before after (header_frame ++ bytes) × (partial ≡ false → Tiles held size)
 IsPbfExport held size partial before after (Err (Store fault)) =
-    (bytes : List ℕ) × (rest : List Element) × AreFirstFrames (entries held) bytes rest × AppendsFront before after (header_frame ++ bytes)
+    (bytes : List ℕ) × (rest : List Element) × AreFirstFrames (entries held) bytes rest × AppendsFront before after (header_frame ++ bytes) × IsGuarded held size partial before after
 IsPbfExport held size partial before after (Err (Incomplete from to)) = (partial ≡ false) × (after ≡ before) × IsRefusal held size (Incomplete from to)
 IsPbfExport held size partial before after (Err (PastEnd fin)) = (partial ≡ false) × (after ≡ before) × IsRefusal held size (PastEnd fin)
+
+-- At Ok the bytes that are written are a file, and where they are 2^62 at most, its elements are the file's; and it isn't refused.
+abbrev pub WritesPbfFile : List (List ℕ) → Known → Known → Result (Unit {0}) ExportFault → Type 0
+WritesPbfFile frames before after (Ok _) = (bytes : List ℕ) × (written : List (List ℕ)) × (elements : List Element)
+    × AreElements 0 frames elements × Appends before after bytes × IsFile bytes written × (length bytes ≤ 2 ^ 62 → AreElements 0 written elements)
+WritesPbfFile frames before after (Err WriteFailed) = Unit {0}
+WritesPbfFile frames before after (Err (Store fault)) = Unit {0}
+WritesPbfFile frames before after (Err BlockTooLarge) = Unit {0}
+WritesPbfFile frames before after (Err (Incomplete from to)) = ⊥
+WritesPbfFile frames before after (Err (PastEnd fin)) = ⊥

@@ -1,14 +1,16 @@
 //! The export as a PBF file.
 
-ghost use Rattle.std.specs.Prelude.{◌≡◌, ◌≢◌, ◌≤◌, Some, length};
+ghost use Rattle.std.specs.Prelude.{◌≡◌, ◌≢◌, ◌≤◌, ℕ, List, Some, length};
 ghost use Rattle.std.specs.FinMap.{get, entries};
 ghost use Rattle.pbf_frame.specs.declared.kind.Kind.TheVariants.{Other};
 ghost use Rattle.pbf_frame.specs.Write.{frame_bytes, type_name_of};
 ghost use Rattle.osm_store.specs.Held.{Blob, HeldMap};
 ghost use Rattle.osm_store.specs.Keeping.{Rereads, extents_of};
-ghost use Rattle.osm_import.specs.Exports.{WritesBlob, size_of};
+ghost use Rattle.osm_import.specs.Gaps.{Tiles};
+ghost use Rattle.osm_import.specs.Files.{IsFile, IsHeldOfFile};
+ghost use Rattle.osm_import.specs.Exports.{WritesBlob, IsAskedFor, size_of};
 ghost use Rattle.osm_import.specs.ExportCauses.{ExportHasCause, ExportIsOwn, WriteHasCause};
-ghost use Rattle.osm_import.specs.Pbf.{header_frame, WritesBlocks, WritesFrames, IsPbfExport};
+ghost use Rattle.osm_import.specs.Pbf.{header_frame, WritesBlocks, WritesFrames, WritesPbfFile, IsPbfExport};
 
 use super::ExportFault;
 use super::refusal::refused;
@@ -127,8 +129,12 @@ fn write_blobs<K: Keeper, S: Sink>(
 /// Writes all held elements as a PBF file: a header frame, and then, for each held blob by offset, the frames of the
 /// blocks that `BlobCutter` gives for its elements. What is held stays.
 ///
-/// It is refused as `export_lines` is, before any byte. After `BlockTooLarge` the frames before an element whose block
-/// alone is too large went out; after `WriteFailed` and `Store` a front of what was to be written.
+/// It is refused as `export_lines` is, before any byte; unless `partial`, a map that doesn't tile the size gets no byte before
+/// `Store` either. `BlockTooLarge` comes where halving a blob's elements comes to one whose block alone is too large: the
+/// frames before that element went out. After `WriteFailed` and `Store` a front of what was to be written.
+///
+/// Over a map that tiles a file and holds the entries of that file alone it isn't refused, with the file's size or with
+/// none, and at `Ok` it has written a file: one of the same elements, in the same order, where that is 2^62 bytes at most.
 pub fn export_pbf<K: Keeper, S: Sink>(
     alloc: Global,
     keeper: &mut K,
@@ -138,6 +144,11 @@ pub fn export_pbf<K: Keeper, S: Sink>(
 ) -> Result<(), ExportFault>
     ensures export { (held : HeldMap) → K.holds keeper.old held → K.is_honest keeper.new
         → IsPbfExport held (size_of size (extents_of held)) partial (S.written out.old) (S.written out.new) result }
+
+    // Over a map that tiles a file, with its size or with none, it isn't refused, and writes a file of the same elements.
+    ensures one_file { (held : HeldMap) (file : List ℕ) (frames : List (List ℕ)) → K.holds keeper.old held → K.is_honest keeper.new
+        → IsFile file frames → IsHeldOfFile frames held → Tiles held (length file) → IsAskedFor size (length file) → WritesPbfFile frames (S.written out.old) (S.written out.new) result }
+
     ensures rereads { Rereads K.holds K.leaves K.leaves_a_map K.is_honest K.is_open keeper.old result keeper.new }
     ensures own { (held : HeldMap) → K.holds keeper.old held → K.is_honest keeper.new → ExportIsOwn result }
     ensures cause { ExportHasCause (K.failures keeper.old) (K.failures keeper.new) (S.has_failed out.new) result }

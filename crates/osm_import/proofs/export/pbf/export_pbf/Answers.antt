@@ -2,9 +2,11 @@ use Rattle.std.proofs.Common.{◌≡◌, ◌∙◌, sym, subst, Bool, true, fals
 use Rattle.osm_import.specs.Exports.{size_of}
 use Rattle.osm_import.specs.Pbf.{IsPbfExport}
 use Rattle.osm_import.specs.Gaps.{Tiles}
+use Rattle.osm_import.specs.declared.export.fault.ExportFault.TheVariants.{Store}
 use Rattle.osm_store.specs.Keeping.{extents_of}
 use Rattle.osm_import.proofs.ExportLemmas.{refusal-held, tiles-held}
 use Rattle.osm_import.proofs.PbfLemmas.{pbf-refused, pbf-none, pbf-no_header, pbf-exported}
+use Rattle.osm_import.proofs.PbfFile.{pbf-file}
 use Rattle.osm_import.proofs.export.pbf.export_pbf.Goals as goal
 use Rattle.osm_import.proofs.export.pbf.export_pbf.Goals.{then-not-partial+in_default, else-not-partial}
 
@@ -39,3 +41,23 @@ returns-clause-export g c = λ held holds honest.
     ] in
     pbf-no_header held (size_of c.args.size (extents_of held)) c.args.partial (g.S.Sink.written c.args.out.now) (g.S.Sink.written c.write_header.new.out) c.in-Err-write_header.fault
     c.in-Err-write_header.ensures.wrote tiles
+
+pub returns-in-Err-clause-one_file : goal.returns-in-Err-clause-one_file
+returns-in-Err-clause-one_file g c = λ held file frames holds honest is_file of_file tiles asked.
+    pbf-file held file frames c.args.size c.args.partial (g.S.Sink.written c.args.out.now) (g.S.Sink.written c.args.out.now) (Err (Store c.in-Err.fault)) (g.met.K.Keeper.is_apart _ held holds) is_file of_file tiles asked
+    (returns-in-Err-clause-export g c held holds honest)
+
+pub returns-in-Some-clause-one_file : goal.returns-in-Some-clause-one_file
+returns-in-Some-clause-one_file g c = λ held file frames holds honest is_file of_file tiles asked.
+    pbf-file held file frames c.args.size c.args.partial (g.S.Sink.written c.args.out.now) (g.S.Sink.written c.args.out.now) (Err c.in-Some.fault) (g.met.K.Keeper.is_apart _ held holds) is_file of_file tiles asked
+    (returns-in-Some-clause-export g c held holds honest)
+
+pub returns-in-Ok-write_header-clause-one_file : goal.returns-in-Ok-write_header-clause-one_file
+returns-in-Ok-write_header-clause-one_file g c = λ held file frames holds honest is_file of_file tiles asked.
+    pbf-file held file frames c.args.size c.args.partial (g.S.Sink.written c.args.out.now) (g.S.Sink.written c.write_blobs.new.out) c.write_blobs.result (g.met.K.Keeper.is_apart _ held holds) is_file of_file tiles asked
+    (returns-in-Ok-write_header-clause-export g c held holds honest)
+
+pub returns-clause-one_file : goal.returns-clause-one_file
+returns-clause-one_file g c = λ held file frames holds honest is_file of_file tiles asked.
+    pbf-file held file frames c.args.size c.args.partial (g.S.Sink.written c.args.out.now) (g.S.Sink.written c.write_header.new.out) (Err c.in-Err-write_header.fault) (g.met.K.Keeper.is_apart _ held holds) is_file of_file tiles asked
+    (returns-clause-export g c held holds honest)
