@@ -1,3 +1,6 @@
+pub mod CommandTexts
 pub mod ElementLaws
+pub mod ImportLemmas
 pub mod ListingLaws
 pub mod ListingSteps
+pub mod StatusLemmas
