@@ -1,6 +1,7 @@
 -- From what was skipped, streamed and told to what an import has done.
-use Rattle.std.proofs.Common.{◌≡◌, ◌≢◌, ℕ, ◌+◌, ◌<◌, ◌≤◌, List, [], ◌∷◌, ◌++◌, length, take, Bool, true, false, ◌||◌, Option, Some, None, Result, Ok, Err, refl, sym, ap, subst, ◌∙◌, inl, inr, arith, length-append, zero-add}
+use Rattle.std.proofs.Common.{◌≡◌, ◌≢◌, ℕ, ◌+◌, ◌<◌, ◌≤◌, List, [], ◌∷◌, ◌++◌, length, take, Bool, true, false, ◌&&◌, ◌==◌, not, cond, Some, None, Ok, Err, refl, sym, ap, subst, ◌∙◌, inl, inr, arith, length-append, zero-add}
 use Rattle.std.proofs.lemmas.List.{length-take, nil_from_length}
+use Rattle.std.proofs.lemmas.Bool.Decides.{nat_tests}
 use Rattle.std.proofs.KnownBytes.{Consumes-nil, Consumes-trans}
 use Rattle.std.specs.Io.KnownBytes.{Consumes, IsAtEnd}
 use Rattle.osm_store.specs.Held.{HeldMap}
@@ -13,7 +14,7 @@ use Rattle.osm_import.specs.declared.stream.fault.Stop.{Stop}
 use Rattle.osm_import.specs.declared.stream.fault.Stop.TheVariants.{Frame, NoHeaderFirst, WriteFailed, Store, ReadFailed, BlobLimit}
 use Rattle.osm_import.specs.declared.stream.fault.StreamFault.{StreamFault}
 use Rattle.osm_value.specs.Sink.{Wrote}
-use Rattle.pbfrow.specs.Importing.{Skips, IsShort, Imports, HoldsFile, EndsStop, stop_line}
+use Rattle.pbfrow.specs.Importing.{Skips, IsShort, Imports, HoldsFile, EndsStop, import_status, stop_line}
 
 -- ---- skipping
 
@@ -52,20 +53,20 @@ skips-nothing file old (Some ys) is h =
     let whole : file ≡ h.bytes ++ ys = subst (λ (k : Known). Consumes k (Some ys) h.bytes) is h.read in
     ap (λ (v : List ℕ). Some v) (sym (whole ∙ ap (λ (v : List ℕ). v ++ ys) none))
 
--- ---- the output goes on after a stop
+-- ---- the output goes on after a stop, but for a failed write
 
-stop-on : (from limit : ℕ) (left written_old written_new : Known) (source_failed a b : Bool) (replies last : List Reply) (rest : List ℕ) (fault : Stop) → fault ≢ WriteFailed
+stop-on : (from limit : ℕ) (left written_old written_new : Known) (source_failed a b : Bool) (replies last : List Reply) (rest : List ℕ) (fault : Stop) → (fault ≡ WriteFailed → b ≡ a)
     → IsStop from limit left written_old written_new source_failed a replies last rest fault → IsStop from limit left written_old written_new source_failed b replies last rest fault
-stop-on from limit left written_old written_new source_failed a b replies last rest (Frame fault) other why = why
-stop-on from limit left written_old written_new source_failed a b replies last rest NoHeaderFirst other why = why
-stop-on from limit left written_old written_new source_failed a b replies last rest WriteFailed other why = absurd (other refl)
-stop-on from limit left written_old written_new source_failed a b replies last rest (Store fault) other why = why
-stop-on from limit left written_old written_new source_failed a b replies last rest ReadFailed other why = why
-stop-on from limit left written_old written_new source_failed a b replies last rest BlobLimit other why = why
+stop-on from limit left written_old written_new source_failed a b replies last rest (Frame fault) same why = why
+stop-on from limit left written_old written_new source_failed a b replies last rest NoHeaderFirst same why = why
+stop-on from limit left written_old written_new source_failed a b replies last rest WriteFailed same why = (same refl ∙ why.0, why.1, why.2, why.3)
+stop-on from limit left written_old written_new source_failed a b replies last rest (Store fault) same why = why
+stop-on from limit left written_old written_new source_failed a b replies last rest ReadFailed same why = why
+stop-on from limit left written_old written_new source_failed a b replies last rest BlobLimit same why = why
 
-stops-on : (from limit : ℕ) (left_old left_new written_old written_new : Known) (source_failed a b : Bool) (Took : List DeliveryValue → List Answer → Type 0) (stop : StreamFault) → stop.fault ≢ WriteFailed
+stops-on : (from limit : ℕ) (left_old left_new written_old written_new : Known) (source_failed a b : Bool) (Took : List DeliveryValue → List Answer → Type 0) (stop : StreamFault) → (stop.fault ≡ WriteFailed → b ≡ a)
     → Stops from limit left_old left_new written_old written_new source_failed a Took stop → Stops from limit left_old left_new written_old written_new source_failed b Took stop
-stops-on from limit left_old left_new written_old written_new source_failed a b Took stop other h = record {
+stops-on from limit left_old left_new written_old written_new source_failed a b Took stop same h = record {
   replies = h.replies;
   last = h.last;
   rest = h.rest;
@@ -75,19 +76,24 @@ stops-on from limit left_old left_new written_old written_new source_failed a b 
   few = h.few;
   stands = h.stands;
   read = h.read;
-  why = stop-on from limit left_new written_old written_new source_failed a b h.replies h.last h.rest stop.fault other h.why;
+  why = stop-on from limit left_new written_old written_new source_failed a b h.replies h.last h.rest stop.fault same h.why;
 }
 
-pub imports-stop : (from : ℕ) (left_old left_new written_old written_new : Known) (source_failed a b : Bool) (Same : Type 0) (Took : List DeliveryValue → List Answer → Type 0) (stop : StreamFault) → stop.fault ≢ WriteFailed
+pub imports-stop : (from : ℕ) (left_old left_new written_old written_new : Known) (source_failed a b : Bool) (Same : Type 0) (Took : List DeliveryValue → List Answer → Type 0) (stop : StreamFault) → (stop.fault ≡ WriteFailed → b ≡ a)
     → Imports from left_old left_new written_old written_new source_failed a Same Took (Err stop) → Imports from left_old left_new written_old written_new source_failed b Same Took (Err stop)
-imports-stop from left_old left_new written_old written_new source_failed a b Same Took stop other (inl h) =
-    inl (h.0, h.1, stops-on from 4294967295 h.0 left_new written_old written_new source_failed a b Took stop other h.2)
-imports-stop from left_old left_new written_old written_new source_failed a b Same Took stop other (inr h) = inr h
+imports-stop from left_old left_new written_old written_new source_failed a b Same Took stop same (inl h) =
+    inl (h.0, h.1, stops-on from 4294967295 h.0 left_new written_old written_new source_failed a b Took stop same h.2)
+imports-stop from left_old left_new written_old written_new source_failed a b Same Took stop same (inr h) = inr h
 
-pub imports-end : (from : ℕ) (left_old left_new written_old written_new : Known) (source_failed a b : Bool) (Same : Type 0) (Took : List DeliveryValue → List Answer → Type 0) (summary : Summary)
-    → Imports from left_old left_new written_old written_new source_failed a Same Took (Ok summary) → Imports from left_old left_new written_old written_new source_failed b Same Took (Ok summary)
-imports-end from left_old left_new written_old written_new source_failed a b Same Took summary (inl h) = inl h
-imports-end from left_old left_new written_old written_new source_failed a b Same Took summary (inr h) = absurd (cc (h.1))
+zero-first : (b c d : Bool) (n : ℕ) → n ≡ cond ((b && c) && d) 0 1 → n ≡ 0 → b ≡ true
+zero-first true c d n is zero = refl
+zero-first false c d n is zero = absurd (omega arith)
+
+is-none : (n : ℕ) → (n == 0) ≡ true → n ≡ 0
+is-none n h = grind (arith, nat_tests)
+
+pub none-bad : (summary : Summary) (failed : Bool) (status : ℕ) → status ≡ import_status (Ok summary) failed → status ≡ 0 → summary.bad ≡ 0
+none-bad summary failed status is zero = is-none summary.bad (zero-first (summary.bad == 0) (summary.refused == 0) (not failed) status is zero)
 
 -- no blob was bad
 pub file-held : (holds : HeldMap → Type 0) (file : List ℕ) (start : HeldMap) (summary : Summary) → summary.bad ≡ 0 → ImportsFile holds file start summary → HoldsFile holds file start

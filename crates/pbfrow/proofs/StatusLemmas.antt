@@ -1,13 +1,17 @@
 -- What the reads of a command leave, and what it told.
-use Rattle.std.proofs.Common.{◌≡◌, ℕ, ◌+◌, ◌<◌, ◌≤◌, List, [], ◌∷◌, ◌++◌, take, get_or, length, Bool, true, false, Result, Ok, Err, refl, sym, ap, ◌∙◌, inl, inr, append-nil}
+use Rattle.std.proofs.Common.{◌≡◌, ℕ, ◌+◌, ◌<◌, ◌≤◌, List, [], ◌∷◌, ◌++◌, take, get_or, length, Bool, true, false, Option, Result, Ok, Err, refl, sym, ap, ◌∙◌, inl, inr, append-nil}
 use Rattle.std.specs.List.{flat_map}
 use Rattle.std.proofs.lemmas.List.{flat_map_more, take_all, take_more}
 use Rattle.osm_value.specs.Sink.{Wrote}
 use Rattle.osm_value.proofs.SinkLemmas.{Wrote-text, whole_text, front_text}
 use Rattle.osm_store.specs.Held.{HeldMap}
 use Rattle.osm_store.specs.Keeping.{Rereads}
-use Rattle.osm_import.specs.Exports.{Known}
-use Rattle.pbfrow.specs.Status.{Stays, Tells}
+use Rattle.std.specs.FinMap.{entries}
+use Rattle.osm_store.specs.Keeping.{extents_of}
+use Rattle.osm_import.specs.Exports.{Known, greatest_end}
+use Rattle.pbfrow.specs.CommandLines.{counts_line, gap_lines}
+use Rattle.pbfrow.specs.Status.{IsSurvey, Stays, Tells, status_text}
+use Rattle.pbfrow.specs.declared.status.Holdings.{Holdings}
 
 pub stays-from : {S T E : Type 0} (holds leaves : S → HeldMap → Type 0) (leaves_a_map is_honest is_open : S → Type 0) (old : S) (result : Result T E) (new : S)
     → Rereads holds leaves leaves_a_map is_honest is_open old result new → Stays holds leaves leaves_a_map is_honest is_open old new
@@ -49,3 +53,14 @@ lines-more {X} line start before xs i x written failed within at h =
 pub lines-all : {X : Type 0} (line : X → List ℕ) (start : Known) (before : List ℕ) (xs : List X) (i : ℕ) (written : Known) (failed : Bool) → length xs ≤ i
     → Wrote start (before ++ flat_map line (take i xs)) written failed → Wrote start (before ++ flat_map line xs) written failed
 lines-all {X} line start before xs i written failed all h = Wrote-text start _ _ written failed (ap (λ (ys : List X). before ++ flat_map line ys) (take_all i xs all)) h
+
+-- ---- the whole text of a status
+
+pub status-line : (held : HeldMap) (size : Option ℕ) (h : Holdings) (gaps : List (ℕ × ℕ)) (count : ℕ) (start written : Known) (failed : Bool) → IsSurvey held size h → gaps ≡ h.gaps.items → count ≡ length h.gaps.items
+    → Wrote start (gap_lines gaps ++ counts_line h.blobs h.end count) written failed → Wrote start (status_text held h.gaps.items) written failed
+status-line held size h gaps count start written failed survey are many wrote =
+    Wrote-text start _ _ written failed
+    (ap (λ (gs : List (ℕ × ℕ)). gap_lines gs ++ counts_line h.blobs h.end count) are
+    ∙ ap (λ n. gap_lines h.gaps.items ++ counts_line n h.end count) survey.blobs
+    ∙ ap (λ n. gap_lines h.gaps.items ++ counts_line (length (entries held)) n count) survey.end
+    ∙ ap (λ n. gap_lines h.gaps.items ++ counts_line (length (entries held)) (greatest_end (extents_of held)) n) many) wrote

@@ -6,7 +6,7 @@ ghost use Rattle.osm_import.specs.Exports.{Known};
 ghost use Rattle.osm_import.specs.Streams.{Takes, ImportsFile};
 ghost use Rattle.osm_import.specs.declared.stream.summary.Summary.{Summary as SummaryValue};
 ghost use Rattle.osm_import.specs.declared.stream.fault.StreamFault.{StreamFault as StreamFaultValue};
-ghost use Rattle.pbfrow.specs.Importing.{Skips, IsShort, Imports, EndsLine, import_status, HoldsFile};
+ghost use Rattle.pbfrow.specs.Importing.{Skips, IsShort, Imports, EndsLine, EndsStop, import_status, HoldsFile};
 
 use crate::report::{put_fault_at, put_summary};
 use osm_import::{Source, Stop, StreamFault, Summary, import_stream};
@@ -81,6 +81,17 @@ fn finish<S: Sink>(out: &mut S, summary: &Summary) -> u8
     }
 }
 
+/// Writes the line of the fault at which an import stopped. Where the output has failed nothing is written.
+fn put_stop<S: Sink>(out: &mut S, stop: StreamFault)
+    ensures line { EndsStop (S.written out.old) (S.written out.new) (S.has_failed out.new) stop.at stop.fault }
+    ensures kept { stop.fault ≡ Stop.WriteFailed → S.has_failed out.new ≡ S.has_failed out.old }
+{
+    match stop.fault {
+        Stop::WriteFailed => {}
+        fault => put_fault_at(out, fault.number(), fault.name(), stop.at),
+    }
+}
+
 /// Imports the blobs of a reader into a store, from the offset `from` on; the bytes before it are read and dropped.
 /// Writes a line for each blob, and last the counts, or the line of the fault at which it stopped. Answers the exit
 /// status: 0 where all blobs are held, and 1 where a blob was bad or refused, it stopped, or the output failed.
@@ -103,12 +114,8 @@ pub fn import<R: Source, K: Keeper, S: Sink>(
 {
     match import_from(alloc, reader, store, from, out) {
         Ok(summary) => finish(out, &summary),
-        Err(StreamFault {
-            fault: Stop::WriteFailed,
-            at: _,
-        }) => 1,
-        Err(StreamFault { fault, at }) => {
-            put_fault_at(out, fault.number(), fault.name(), at);
+        Err(stop) => {
+            put_stop(out, stop);
             1
         }
     }
