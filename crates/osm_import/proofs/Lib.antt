@@ -1,5 +1,6 @@
 pub mod Delivering
 pub mod ExamineLemmas
+pub mod PbfLemmas
 pub mod ExportLemmas
 pub mod FewTexts
 pub mod FilesLemmas

@@ -11,6 +11,7 @@ pub mod Step
 pub mod Faults
 pub mod Inlets
 pub mod Lines
+pub mod Pbf
 pub mod StopFaults
 pub mod Streams
 pub mod StreamSteps
