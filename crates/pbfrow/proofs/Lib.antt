@@ -1,5 +1,7 @@
 pub mod CommandTexts
 pub mod ElementLaws
+pub mod ExportLemmas
+pub mod FindLemmas
 pub mod ImportLemmas
 pub mod ListingLaws
 pub mod ListingSteps

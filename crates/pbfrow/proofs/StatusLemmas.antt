@@ -44,11 +44,16 @@ pub lines-none : (start : Known) (before : List ℕ) (written : Known) (failed :
 lines-none start before written failed h = Wrote-text start before (before ++ []) written failed (sym (append-nil before)) h
 
 -- one line more
-pub lines-more : {X : Type 0} (line : X → List ℕ) (start : Known) (before : List ℕ) (xs : List X) (i : ℕ) (x : X) (written : Known) (failed : Bool) → i < length xs → x ≡ get_or xs i x
+pub lines-more : {X : Type 0} (line : X → List ℕ) (start : Known) (before : List ℕ) (xs : List X) (i : ℕ) (d : X) (written : Known) (failed : Bool) → i < length xs
+    → Wrote start ((before ++ flat_map line (take i xs)) ++ line (get_or xs i d)) written failed → Wrote start (before ++ flat_map line (take (i + 1) xs)) written failed
+lines-more {X} line start before xs i d written failed within h =
+    Wrote-text start _ _ written failed (flat_map_more line before (take i xs) (get_or xs i d) ∙ ap (λ (ys : List X). before ++ flat_map line ys) (sym (take_more xs i d within))) h
+
+-- the same, of an item that was lent
+pub lines-more-at : {X : Type 0} (line : X → List ℕ) (start : Known) (before : List ℕ) (xs : List X) (i : ℕ) (x : X) (written : Known) (failed : Bool) → i < length xs → x ≡ get_or xs i x
     → Wrote start ((before ++ flat_map line (take i xs)) ++ line x) written failed → Wrote start (before ++ flat_map line (take (i + 1) xs)) written failed
-lines-more {X} line start before xs i x written failed within at h =
-    let one : take (i + 1) xs ≡ take i xs ++ x ∷ [] = take_more xs i x within ∙ ap (λ (y : X). take i xs ++ y ∷ []) (sym at) in
-    Wrote-text start _ _ written failed (flat_map_more line before (take i xs) x ∙ ap (λ (ys : List X). before ++ flat_map line ys) (sym one)) h
+lines-more-at {X} line start before xs i x written failed within at h =
+    lines-more line start before xs i x written failed within (Wrote-text start _ _ written failed (ap (λ (y : X). (before ++ flat_map line (take i xs)) ++ line y) at) h)
 
 pub lines-all : {X : Type 0} (line : X → List ℕ) (start : Known) (before : List ℕ) (xs : List X) (i : ℕ) (written : Known) (failed : Bool) → length xs ≤ i
     → Wrote start (before ++ flat_map line (take i xs)) written failed → Wrote start (before ++ flat_map line xs) written failed
@@ -56,11 +61,11 @@ lines-all {X} line start before xs i written failed all h = Wrote-text start _ _
 
 -- ---- the whole text of a status
 
-pub status-line : (held : HeldMap) (size : Option ℕ) (h : Holdings) (gaps : List (ℕ × ℕ)) (count : ℕ) (start written : Known) (failed : Bool) → IsSurvey held size h → gaps ≡ h.gaps.items → count ≡ length h.gaps.items
+pub status-line : (held : HeldMap) (size : Option ℕ) (h : Holdings) (gaps : List (ℕ × ℕ)) (count : ℕ) (start written : Known) (failed : Bool) → IsSurvey held size h → gaps ≡ h.gaps.items → count ≡ length gaps
     → Wrote start (gap_lines gaps ++ counts_line h.blobs h.end count) written failed → Wrote start (status_text held h.gaps.items) written failed
 status-line held size h gaps count start written failed survey are many wrote =
     Wrote-text start _ _ written failed
     (ap (λ (gs : List (ℕ × ℕ)). gap_lines gs ++ counts_line h.blobs h.end count) are
     ∙ ap (λ n. gap_lines h.gaps.items ++ counts_line n h.end count) survey.blobs
     ∙ ap (λ n. gap_lines h.gaps.items ++ counts_line (length (entries held)) n count) survey.end
-    ∙ ap (λ n. gap_lines h.gaps.items ++ counts_line (length (entries held)) (greatest_end (extents_of held)) n) many) wrote
+    ∙ ap (λ n. gap_lines h.gaps.items ++ counts_line (length (entries held)) (greatest_end (extents_of held)) n) (many ∙ ap length are)) wrote

@@ -1,18 +1,17 @@
 //! The command `export`: the elements of a store.
 
-ghost use Rattle.std.specs.Prelude.{◌≡◌, ◌≢◌, List, ℕ, Result};
-ghost use Rattle.osm_value.specs.Sink.{Writes};
+ghost use Rattle.std.specs.Prelude.{◌≡◌, Err, Result};
 ghost use Rattle.osm_store.specs.Held.{HeldMap};
 ghost use Rattle.osm_store.specs.Keeping.{extents_of};
-ghost use Rattle.osm_import.specs.ExportCauses.{ExportHasCause};
 ghost use Rattle.osm_import.specs.Exports.{IsExport, Known, size_of};
+ghost use Rattle.osm_import.specs.Pbf.{IsPbfExport};
 ghost use Rattle.osm_import.specs.declared.export.fault.ExportFault.{ExportFault as ExportFaultValue};
-ghost use Rattle.pbfrow.specs.Exporting.{EndsExport, export_fault_line, export_name_of, export_number_of};
+ghost use Rattle.pbfrow.specs.Exporting.{EndsExport, export_name_of, export_number_of};
 ghost use Rattle.pbfrow.specs.Status.{Stays};
 
 use crate::report::put_plain_fault;
 use crate::words::Form;
-use osm_import::{ExportFault, export_lines};
+use osm_import::{ExportFault, export_lines, export_pbf};
 use osm_store::Keeper;
 use osm_value::Sink;
 use std::alloc::Global;
@@ -43,22 +42,31 @@ fn name_of(fault: ExportFault) -> &'static str
     }
 }
 
-/// Writes the line of the fault at which an export stopped, where the output can take it, and answers the exit status.
+/// Writes the line of the fault at which an export stopped. Where the output has failed nothing is written.
+fn put_export_fault<S: Sink>(out: &mut S, fault: ExportFault)
+    ensures { EndsExport (S.written out.old) (S.written out.new) (S.has_failed out.new) 1 (Err fault) }
+{
+    match fault {
+        ExportFault::WriteFailed => {}
+        fault => put_plain_fault(out, number_of(fault), name_of(fault)),
+    }
+}
+
+/// Writes what follows the exported text, and answers the exit status.
 fn finish<S: Sink>(out: &mut S, answer: Result<(), ExportFault>) -> u8
     ensures { EndsExport (S.written out.old) (S.written out.new) (S.has_failed out.new) result answer }
 {
     match answer {
         Ok(()) => 0,
-        Err(ExportFault::WriteFailed) => 1,
         Err(fault) => {
-            put_plain_fault(out, number_of(fault), name_of(fault));
+            put_export_fault(out, fault);
             1
         }
     }
 }
 
-/// Writes the elements of a store, or the line of the fault at which it stopped. Answers the exit status: 0 where all
-/// was written, else 1.
+/// Writes the elements of a store as lines or as a PBF file, or the line of the fault at which it stopped. Answers the
+/// exit status: 0 where all was written, else 1.
 pub fn export<K: Keeper, S: Sink>(
     alloc: Global,
     store: &mut K,
@@ -70,11 +78,19 @@ pub fn export<K: Keeper, S: Sink>(
     ensures lines { (held : HeldMap) → K.holds store.old held → K.is_honest store.new → form ≡ Form.Lines
         → (answer : Result (Unit {0}) ExportFaultValue) × (text : Known) × IsExport held (size_of size (extents_of held)) partial (S.written out.old) text answer
         × EndsExport text (S.written out.new) (S.has_failed out.new) result answer }
+    ensures pbf { (held : HeldMap) → K.holds store.old held → K.is_honest store.new → form ≡ Form.Pbf
+        → (answer : Result (Unit {0}) ExportFaultValue) × (text : Known) × IsPbfExport held (size_of size (extents_of held)) partial (S.written out.old) text answer
+        × EndsExport text (S.written out.new) (S.has_failed out.new) result answer }
     ensures stays { Stays K.holds K.leaves K.leaves_a_map K.is_honest K.is_open store.old store.new }
 {
-    let answer = match form {
-        Form::Lines => export_lines(alloc, store, size, partial, out),
-        Form::Pbf => return 1,
-    };
-    finish(out, answer)
+    match form {
+        Form::Lines => {
+            let answer = export_lines(alloc, store, size, partial, out);
+            finish(out, answer)
+        }
+        Form::Pbf => {
+            let answer = export_pbf(alloc, store, size, partial, out);
+            finish(out, answer)
+        }
+    }
 }

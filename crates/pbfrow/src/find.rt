@@ -72,11 +72,11 @@ pub fn find<A: Alter, S: Sink>(
         }
     };
     match write_found(alloc, &found, out) {
-        Ok(()) if out.failed() => 1,
-        Ok(()) => 0,
+        Ok(()) => {}
         Err(_) => {
             put_store_fault(out, StoreFault::Memory);
-            1
+            return 1;
         }
     }
+    if out.failed() { 1 } else { 0 }
 }

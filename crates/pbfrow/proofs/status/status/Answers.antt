@@ -1,5 +1,4 @@
-use Rattle.std.proofs.Common.{◌++◌, [], List, ℕ, inl, inr, refl, sym, ap, ◌∙◌, length}
-use Rattle.osm_value.specs.Sink.{Wrote}
+use Rattle.std.proofs.Common.{[], inl, inr, refl, sym, ◌∙◌}
 use Rattle.osm_value.proofs.SinkLemmas.{started}
 use Rattle.pbfrow.proofs.StatusLemmas.{status-line, tells-front, tells-whole}
 use Rattle.pbfrow.proofs.status.status.Goals as goal
@@ -15,7 +14,7 @@ returns-then-failed-clause-told g c = λ held holds honest.
       c.in-Ok.holdings.gaps.items,
       survey.gaps,
       tells-front _ (g.S.Sink.written c.args.out.now) (g.S.Sink.written c.put_counts.new.out) (g.S.Sink.has_failed c.put_counts.new.out) (sym c.if-failed.ensures)
-      (status-line held c.args.size c.in-Ok.holdings c.deref.result.now c.len.result (g.S.Sink.written c.args.out.now) (g.S.Sink.written c.put_counts.new.out) (g.S.Sink.has_failed c.put_counts.new.out) survey c.deref.ensures.value c.len.ensures
+      (status-line held c.args.size c.in-Ok.holdings c.deref.result.now c.len.result (g.S.Sink.written c.args.out.now) (g.S.Sink.written c.put_counts.new.out) (g.S.Sink.has_failed c.put_counts.new.out) survey c.deref.ensures.value (c.len.ensures ∙ sym c.deref.ensures.len)
       (c.put_counts.ensures _ _ (c.put_gaps.ensures _ [] (started _ _)))),
     )
 
@@ -26,6 +25,6 @@ returns-clause-told g c = λ held holds honest.
       c.in-Ok.holdings.gaps.items,
       survey.gaps,
       tells-whole _ (g.S.Sink.written c.args.out.now) (g.S.Sink.written c.put_counts.new.out) (g.S.Sink.has_failed c.put_counts.new.out) (sym c.if-failed.ensures)
-      (status-line held c.args.size c.in-Ok.holdings c.deref.result.now c.len.result (g.S.Sink.written c.args.out.now) (g.S.Sink.written c.put_counts.new.out) (g.S.Sink.has_failed c.put_counts.new.out) survey c.deref.ensures.value c.len.ensures
+      (status-line held c.args.size c.in-Ok.holdings c.deref.result.now c.len.result (g.S.Sink.written c.args.out.now) (g.S.Sink.written c.put_counts.new.out) (g.S.Sink.has_failed c.put_counts.new.out) survey c.deref.ensures.value (c.len.ensures ∙ sym c.deref.ensures.len)
       (c.put_counts.ensures _ _ (c.put_gaps.ensures _ [] (started _ _)))),
     )
