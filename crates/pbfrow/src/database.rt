@@ -51,11 +51,13 @@ fn open_or_create(rt: &HostRuntime, database: &str) -> Result<FileBodies, StoreF
         Ok(connection) => connection,
         Err(error) => return Err(unopened(error)),
     };
-    let connection = match BodyStore::adopt(connection) {
+    let (fault, connection) = match BodyStore::adopt(connection) {
         Ok(store) => return Ok(store),
-        Err((StoreFault::NotThisStore(None), connection)) => connection,
-        Err((fault, _)) => return Err(fault),
+        Err(refused) => refused,
     };
+    if fault != StoreFault::NotThisStore(None) {
+        return Err(fault);
+    }
     match BodyStore::create(connection) {
         Ok(store) => Ok(store),
         Err((fault, _)) => Err(fault),
@@ -95,7 +97,12 @@ pub(crate) fn fill(rt: &HostRuntime, file: &str, database: &str, from: u64) -> i
     // each line goes out before more is read
     let mut out = Outlet::new(LineWriter::new(rt.alloc(), io::writer(rt))?);
     let Ok(input) = std::fs::File::open(rt, file) else {
-        put_fault_at(&mut out, Stop::ReadFailed.number(), Stop::ReadFailed.name(), from);
+        put_fault_at(
+            &mut out,
+            Stop::ReadFailed.number(),
+            Stop::ReadFailed.name(),
+            from,
+        );
         return Ok(FAULTY);
     };
     let mut store = match open_or_create(rt, database) {
@@ -107,7 +114,13 @@ pub(crate) fn fill(rt: &HostRuntime, file: &str, database: &str, from: u64) -> i
     };
     // the words say no offset above the greatest
     let from = from.min(MAX_OFFSET);
-    let status = import(rt.alloc(), &mut Inlet::new(input), &mut store, from, &mut out);
+    let status = import(
+        rt.alloc(),
+        &mut Inlet::new(input),
+        &mut store,
+        from,
+        &mut out,
+    );
     close(store);
     Ok(status)
 }

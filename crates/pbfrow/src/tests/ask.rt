@@ -36,7 +36,10 @@ fn expect_lines<A: Alter>(
     text: &[u8],
 ) {
     let mut out = Outlet::new(Vec::new(rt.alloc()));
-    assert_eq!(rt; export(rt.alloc(), store, size, partial, Form::Lines, &mut out), ended);
+    assert_eq!(rt;
+        export(rt.alloc(), store, size, partial, Form::Lines, &mut out),
+        ended
+    );
     assert!(rt; out.into_inner().as_slice() == text);
 }
 
@@ -91,12 +94,7 @@ fn a_gap_is_told_and_refuses_an_export(rt: HostRuntime) -> Result<(), Fail> {
         0,
         b"47 stored 2\nblobs stored 1 held 0 bad 0 refused 0\n",
     );
-    expect_status(
-        &rt,
-        &mut store,
-        None,
-        b"gap 0 47\nblobs 1 end 84 gaps 1\n",
-    );
+    expect_status(&rt, &mut store, None, b"gap 0 47\nblobs 1 end 84 gaps 1\n");
     expect_lines(&rt, &mut store, None, false, 1, b"fault 67 Incomplete\n");
     expect_lines(&rt, &mut store, None, true, 0, BOTH_NODES);
     Ok(())
@@ -171,13 +169,29 @@ fn finds_an_element_in_two_blobs(rt: HostRuntime) -> Result<(), Fail> {
 fn a_write_that_fails_ends_with_1(rt: HostRuntime) -> Result<(), Fail> {
     let mut store = new_store(rt.alloc()).ok_or("a store")?;
     import_two_nodes(&rt, &mut store);
-    assert_eq!(rt; status(rt.alloc(), &mut store, None, &mut Outlet::new(Closed)), 1);
     assert_eq!(rt;
-        find(rt.alloc(), &mut store, MemberKind::Node, 2, &mut Outlet::new(Closed)),
+        status(rt.alloc(), &mut store, None, &mut Outlet::new(Closed)),
         1
     );
     assert_eq!(rt;
-        export(rt.alloc(), &mut store, None, false, Form::Lines, &mut Outlet::new(Closed)),
+        find(
+            rt.alloc(),
+            &mut store,
+            MemberKind::Node,
+            2,
+            &mut Outlet::new(Closed)
+        ),
+        1
+    );
+    assert_eq!(rt;
+        export(
+            rt.alloc(),
+            &mut store,
+            None,
+            false,
+            Form::Lines,
+            &mut Outlet::new(Closed)
+        ),
         1
     );
     Ok(())

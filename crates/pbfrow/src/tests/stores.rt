@@ -35,10 +35,7 @@ pub fn expect_import<A: Alter, R: Read>(
 }
 
 /// Imports the file of two nodes.
-pub fn import_two_nodes<A: Alter>(
-    rt: &(impl Abort + Alloc<A = Global>),
-    store: &mut BodyStore<A>,
-) {
+pub fn import_two_nodes<A: Alter>(rt: &(impl Abort + Alloc<A = Global>), store: &mut BodyStore<A>) {
     expect_import(
         rt,
         store,

@@ -14,8 +14,8 @@ returns-in-Err-clause-imports g c =
       Err c.in-Err.stop,
       g.S.Sink.written c.import_from.new.out,
       imports-stop c.args.from (g.R.Source.bytes_left c.args.reader.now) (g.R.Source.bytes_left c.import_from.new.reader) (g.S.Sink.written c.args.out.now) (g.S.Sink.written c.import_from.new.out) (g.R.Source.has_failed c.import_from.new.reader) (g.S.Sink.has_failed c.import_from.new.out) (g.S.Sink.has_failed c.put_stop.new.out) (c.import_from.new.store ≡ c.args.store.now)
-      (λ deliveries answers. Takes K.holds K.leaves K.leaves_a_map K.is_honest K.is_open K.failures c.args.store.now c.import_from.new.store deliveries answers)
-      c.in-Err.stop c.put_stop.ensures.kept c.in-Err.ensures.imports,
+          (λ deliveries answers. Takes K.holds K.leaves K.leaves_a_map K.is_honest K.is_open K.failures c.args.store.now c.import_from.new.store deliveries answers)
+          c.in-Err.stop c.put_stop.ensures.kept c.in-Err.ensures.imports,
       c.put_stop.ensures.line,
       refl,
     )

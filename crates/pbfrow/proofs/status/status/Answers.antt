@@ -14,8 +14,8 @@ returns-then-failed-clause-told g c = λ held holds honest.
       c.in-Ok.holdings.gaps.items,
       survey.gaps,
       tells-front _ (g.S.Sink.written c.args.out.now) (g.S.Sink.written c.put_counts.new.out) (g.S.Sink.has_failed c.put_counts.new.out) (sym c.if-failed.ensures)
-      (status-line held c.args.size c.in-Ok.holdings c.deref.result.now c.len.result (g.S.Sink.written c.args.out.now) (g.S.Sink.written c.put_counts.new.out) (g.S.Sink.has_failed c.put_counts.new.out) survey c.deref.ensures.value (c.len.ensures ∙ sym c.deref.ensures.len)
-      (c.put_counts.ensures _ _ (c.put_gaps.ensures _ [] (started _ _)))),
+          (status-line held c.args.size c.in-Ok.holdings c.deref.result.now c.len.result (g.S.Sink.written c.args.out.now) (g.S.Sink.written c.put_counts.new.out) (g.S.Sink.has_failed c.put_counts.new.out) survey c.deref.ensures.value (c.len.ensures ∙ sym c.deref.ensures.len)
+          (c.put_counts.ensures _ _ (c.put_gaps.ensures _ [] (started _ _)))),
     )
 
 pub returns-clause-told : goal.returns-clause-told
@@ -25,6 +25,6 @@ returns-clause-told g c = λ held holds honest.
       c.in-Ok.holdings.gaps.items,
       survey.gaps,
       tells-whole _ (g.S.Sink.written c.args.out.now) (g.S.Sink.written c.put_counts.new.out) (g.S.Sink.has_failed c.put_counts.new.out) (sym c.if-failed.ensures)
-      (status-line held c.args.size c.in-Ok.holdings c.deref.result.now c.len.result (g.S.Sink.written c.args.out.now) (g.S.Sink.written c.put_counts.new.out) (g.S.Sink.has_failed c.put_counts.new.out) survey c.deref.ensures.value (c.len.ensures ∙ sym c.deref.ensures.len)
-      (c.put_counts.ensures _ _ (c.put_gaps.ensures _ [] (started _ _)))),
+          (status-line held c.args.size c.in-Ok.holdings c.deref.result.now c.len.result (g.S.Sink.written c.args.out.now) (g.S.Sink.written c.put_counts.new.out) (g.S.Sink.has_failed c.put_counts.new.out) survey c.deref.ensures.value (c.len.ensures ∙ sym c.deref.ensures.len)
+          (c.put_counts.ensures _ _ (c.put_gaps.ensures _ [] (started _ _)))),
     )
