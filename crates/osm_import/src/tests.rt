@@ -104,3 +104,12 @@ fn pbf_of(alloc: Global, store: &mut Store, size: Option<u64>, partial: bool) ->
     let result = export_pbf(alloc, store, size, partial, &mut out);
     (result, out.into_inner())
 }
+
+/// These pieces, one behind the other.
+fn joined(alloc: Global, pieces: &[&[u8]]) -> Result<Vec<u8>, Fail> {
+    let mut whole = Vec::new(alloc);
+    for piece in pieces {
+        whole.extend_from_slice(piece)?;
+    }
+    Ok(whole)
+}

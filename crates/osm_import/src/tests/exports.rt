@@ -1,7 +1,7 @@
 //! Gaps and exports.
 
 use super::{
-    FILE, LINES, WRITTEN_HEADER, answers_to, data_at, extra, file_store, header, lines_of,
+    FILE, LINES, WRITTEN_HEADER, answers_to, data_at, extra, file_store, header, joined, lines_of,
     new_store, pbf_of,
 };
 use crate::{Answer, ExportFault, deliver, export_lines, export_pbf, gaps};
@@ -79,12 +79,12 @@ fn a_file_as_pbf(rt: HostRuntime) -> Result<(), Fail> {
     let mut store = file_store(alloc)?;
     let (result, bytes) = pbf_of(alloc, &mut store, None, false);
     assert!(rt; result == Ok(()));
-    assert!(rt; bytes.len() == 93);
-    assert!(rt; &bytes[..56] == WRITTEN_HEADER.as_slice());
-    assert!(rt; &bytes[56..] == &FILE[47..]);
+    let expected = joined(alloc, &[WRITTEN_HEADER.as_slice(), &FILE[47..]])?;
+    assert!(rt; expected.len() == 93);
+    assert!(rt; bytes.as_slice() == expected.as_slice());
     let mut again = new_store(alloc)?;
-    assert!(rt; deliver(alloc, &mut again, 0, &bytes[..56]) == Answer::Stored(0));
-    assert!(rt; deliver(alloc, &mut again, 56, &bytes[56..]) == Answer::Stored(2));
+    assert!(rt; deliver(alloc, &mut again, 0, &WRITTEN_HEADER) == Answer::Stored(0));
+    assert!(rt; deliver(alloc, &mut again, 56, &FILE[47..]) == Answer::Stored(2));
     let (result, lines) = lines_of(alloc, &mut again, Some(93), false);
     assert!(rt; result == Ok(()));
     assert!(rt; lines.as_slice() == LINES);
@@ -99,10 +99,10 @@ fn a_file_with_another_type_as_pbf(rt: HostRuntime) -> Result<(), Fail> {
     let (_, mut store) = answers_to(alloc, &deliveries)?;
     let (result, bytes) = pbf_of(alloc, &mut store, Some(137), false);
     assert!(rt; result == Ok(()));
-    assert!(rt; bytes.len() == 130);
-    assert!(rt; &bytes[..56] == WRITTEN_HEADER.as_slice());
-    assert!(rt; &bytes[56..93] == &FILE[47..]);
-    assert!(rt; &bytes[93..] == &FILE[47..]);
+    let data = &FILE[47..];
+    let expected = joined(alloc, &[WRITTEN_HEADER.as_slice(), data, data])?;
+    assert!(rt; expected.len() == 130);
+    assert!(rt; bytes.as_slice() == expected.as_slice());
     Ok(())
 }
 

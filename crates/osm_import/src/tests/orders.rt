@@ -1,6 +1,8 @@
 //! Deliveries in any order, again, and in the way of one another.
 
-use super::{CHANGED, EXTRA, FILE, LINES, answers_to, data_at, extra, header, lines_of, new_store};
+use super::{
+    CHANGED, EXTRA, FILE, LINES, answers_to, data_at, extra, header, joined, lines_of, new_store,
+};
 use crate::{Answer, Conflict, Delivery, ExamineFault, Fault, deliver, examine};
 use osm_store::{Keeper, StoreFault};
 use pbf_frame::{FrameFault, Kind};
@@ -45,9 +47,8 @@ fn a_frame_of_another_type(rt: HostRuntime) -> Result<(), Fail> {
     assert!(rt; answers.as_slice() == expected.as_slice());
     let (result, lines) = lines_of(alloc, &mut store, Some(137), false);
     assert!(rt; result == Ok(()));
-    assert!(rt; lines.len() == 78);
-    assert!(rt; &lines[..39] == LINES);
-    assert!(rt; &lines[39..] == LINES);
+    let expected = joined(alloc, &[LINES, LINES])?;
+    assert!(rt; lines.as_slice() == expected.as_slice());
     Ok(())
 }
 
@@ -140,9 +141,8 @@ fn under_each_step_limit(rt: HostRuntime) -> Result<(), Fail> {
     assert!(rt; interrupted > 0);
     assert!(rt; deliver(alloc, &mut store, 100, &THREE_NODES) == Answer::AlreadyHeld);
     let (_, lines) = lines_of(alloc, &mut store, Some(140), false);
-    assert!(rt; lines.len() == 81);
-    assert!(rt; &lines[..39] == LINES);
     let three = b"n 1 0 0 [] {}\nn 2 0 0 [] {}\nn 3 0 0 [] {}\n";
-    assert!(rt; &lines[39..] == three.as_slice());
+    let expected = joined(alloc, &[LINES, three.as_slice()])?;
+    assert!(rt; lines.as_slice() == expected.as_slice());
     Ok(())
 }
