@@ -21,3 +21,6 @@ pub use gap::gaps;
 pub use stream::{
     FrameReader, Inlet, Source, SourceFailed, Stop, StreamFault, Summary, import_stream,
 };
+
+#[cfg(test)]
+mod tests;
