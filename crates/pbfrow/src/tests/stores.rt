@@ -19,7 +19,7 @@ pub fn new_store(alloc: Global) -> Option<BodyStore<MemStore>> {
 }
 
 /// Imports an input and expects this exit status and exactly this text.
-pub fn expect_import<A: Alter, R: Read>(
+pub fn expect_import<A: Alter, R: Read + Drop>(
     rt: &(impl Abort + Alloc<A = Global>),
     store: &mut BodyStore<A>,
     input: R,
