@@ -18,19 +18,19 @@ pub returns-in-Err-write_found-clause-told : goal.returns-in-Err-write_found-cla
 returns-in-Err-write_found-clause-told g c = λ held holds clean.
     let before = g.S.Sink.written c.args.out.now in
     let nothing : Wrote before [] (g.S.Sink.written c.write_found.new.out) (g.S.Sink.has_failed c.write_found.new.out) =
-        subst (λ o. Wrote before [] (g.S.Sink.written o) (g.S.Sink.has_failed o)) (sym c.in-Err-write_found.ensures.none) (started _ _) in
+    subst (λ o. Wrote before [] (g.S.Sink.written o) (g.S.Sink.has_failed o)) (sym c.in-Err-write_found.ensures.none) (started _ _) in
     inr (record { fault = Memory; cause = inl refl; line = c.put_store_fault-in-Err-write_found.ensures before [] nothing; one = refl })
 
 pub returns-then-failed-clause-told : goal.returns-then-failed-clause-told
 returns-then-failed-clause-told g c = λ held holds clean.
     let are : AreMatches c.in-Ok.found (filter (is_of c.args.kind c.args.id) (placed_in held)) =
-        subst (λ id. AreMatches c.in-Ok.found (filter (is_of c.args.kind id) (placed_in held))) (to_z-of_z w64 c.args.id c.ranges.id) (c.in-Ok.ensures.found held holds clean) in
+    subst (λ id. AreMatches c.in-Ok.found (filter (is_of c.args.kind id) (placed_in held))) (to_z-of_z w64 c.args.id c.ranges.id) (c.in-Ok.ensures.found held holds clean) in
     inl (tells-front _ (g.S.Sink.written c.args.out.now) (g.S.Sink.written c.write_found.new.out) (g.S.Sink.has_failed c.write_found.new.out) (sym c.if-failed.ensures)
-        (c.in-Ok-write_found.ensures.lines _ are _ [] (started _ _)))
+    (c.in-Ok-write_found.ensures.lines _ are _ [] (started _ _)))
 
 pub returns-clause-told : goal.returns-clause-told
 returns-clause-told g c = λ held holds clean.
     let are : AreMatches c.in-Ok.found (filter (is_of c.args.kind c.args.id) (placed_in held)) =
-        subst (λ id. AreMatches c.in-Ok.found (filter (is_of c.args.kind id) (placed_in held))) (to_z-of_z w64 c.args.id c.ranges.id) (c.in-Ok.ensures.found held holds clean) in
+    subst (λ id. AreMatches c.in-Ok.found (filter (is_of c.args.kind id) (placed_in held))) (to_z-of_z w64 c.args.id c.ranges.id) (c.in-Ok.ensures.found held holds clean) in
     inl (tells-whole _ (g.S.Sink.written c.args.out.now) (g.S.Sink.written c.write_found.new.out) (g.S.Sink.has_failed c.write_found.new.out) (sym c.if-failed.ensures)
-        (c.in-Ok-write_found.ensures.lines _ are _ [] (started _ _)))
+    (c.in-Ok-write_found.ensures.lines _ are _ [] (started _ _)))
