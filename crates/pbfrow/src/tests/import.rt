@@ -94,7 +94,7 @@ fn wants_a_header_first_and_only_there(rt: HostRuntime) -> Result<(), Fail> {
     expect_import(
         &rt,
         &mut store,
-        Cursor::new(&TWO_NODES[47..]),
+        Cursor::new(TWO_NODES.split_at(47).1),
         0,
         1,
         b"fault 61 NoHeaderFirst at 0\nblobs stored 0 held 0 bad 1 refused 0\n",

@@ -48,10 +48,11 @@ pub fn import_two_nodes<A: Alter>(rt: &(impl Abort + Alloc<A = Global>), store: 
 
 /// The file of two nodes, a blob of another type at 84, and the blob of two nodes again at 100.
 pub fn four_blobs(alloc: Global) -> Result<Vec<u8>, AllocError> {
+    let two_nodes = &TWO_NODES[..];
     let mut bytes = Vec::new(alloc);
-    bytes.extend_from_slice(&TWO_NODES[..])?;
+    bytes.extend_from_slice(two_nodes)?;
     bytes.extend_from_slice(EXTRA)?;
-    bytes.extend_from_slice(&TWO_NODES[47..])?;
+    bytes.extend_from_slice(&two_nodes[47..])?;
     Ok(bytes)
 }
 
