@@ -1,10 +1,12 @@
 pub mod WriteTexts
+pub mod ColumnTexts
 pub mod Parts
 pub mod Inserts
 pub mod Makes
 pub mod Adds
 pub mod MakeSteps
 pub mod RowSteps
+pub mod ColumnSteps
 pub mod Placing
 pub mod TableReads
 pub mod ReadTexts
@@ -23,6 +25,9 @@ pub mod SortedLists
 pub mod NestedLists
 pub mod NumberOrder
 pub mod PlacedLaws
+pub mod PartLaws
+pub mod StoredElements
+pub mod SameElements
 pub mod OneElement
 pub mod OneMap
 pub mod VersionLemmas

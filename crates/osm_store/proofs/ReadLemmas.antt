@@ -28,6 +28,9 @@ use Rattle.std.proofs.lemmas.List.Elements.{filter_passes, recursion_from_All}
 use Rattle.std.proofs.lemmas.Bool.Decides.{nat_tests}
 use Rattle.osm_value.specs.declared.element.MemberKind.{MemberKind}
 use Rattle.osm_store.specs.declared.keeper.Extent.{Extent}
+use Rattle.osm_store.specs.declared.layout.Layout.{Layout}
+use Rattle.osm_store.specs.declared.layout.Layout.TheVariants.{Blocks, Columns}
+use Rattle.osm_store.specs.Layouts.{schema_of}
 use Rattle.osm_store.specs.Keeping.{touches}
 use Rattle.osm_store.specs.Tables.{store_schema, select_version_text, select_extents_text, select_touching_text, select_rows_text, select_element_text}
 use Rattle.osm_store.specs.Rows.{Placed, body_row, extent_columns as shown_extent, block_row, found_row, element_code, kind_of, id_of, is_of}
@@ -44,8 +47,8 @@ abbrev pub columns_at : List ℕ → Row → Row
 columns_at places row = map (column row) places
 
 -- the table `blob` has the rows of these extents, which ascend; its key `off` is the rowid
-pub record HasExtents (db : Database) (held : List Extent) : Type 0 where
-  pub schema : db.schema ≡ store_schema
+pub record HasExtents (layout : Layout) (db : Database) (held : List Extent) : Type 0 where
+  pub schema : db.schema ≡ schema_of layout
   pub rows : IsPermutation (map (columns_at (0 ∷ 2 ∷ 3 ∷ 4 ∷ 5 ∷ [])) (db.trees 1)) (map shown_extent held)
   pub ascending : IsAscending (λ a b. a.off < b.off) held
 
@@ -56,8 +59,8 @@ pub record HasElements (db : Database) (held : List Placed) : Type 0 where
   pub ascending : IsAscending IsBefore held
 
 -- the table `meta` has one row, which names the version
-pub record HasVersion (db : Database) (version : ℤ) : Type 0 where
-  pub schema : db.schema ≡ store_schema
+pub record HasVersion (layout : Layout) (db : Database) (version : ℤ) : Type 0 where
+  pub schema : db.schema ≡ schema_of layout
   pub rows : IsPermutation (map (columns_at (0 ∷ [])) (db.trees 0)) ((Int version ∷ []) ∷ [])
 
 abbrev pub is_in : ℕ → Placed → Bool
@@ -86,10 +89,10 @@ extent_output v = (column v 0 ∷ [], column v 0 ∷ column v 1 ∷ column v 2 �
 by_offset : (x y : Extent) → x.off < y.off → ordering_then (value_cmp (Int (pos x.off)) (Int (pos y.off))) Equal ≡ Less
 by_offset x y low = ap (λ o. ordering_then o Equal) (numbers_below x.off y.off low)
 
-module _ (old new : State) (rows : List Row) (held : List Extent) (h : HasExtents old.now held) where
+module _ (layout : Layout) (old new : State) (rows : List Row) (held : List Extent) (h : HasExtents layout old.now held) where
   pub extents_read : Shown select_extents_text [] old new rows → rows ≡ map shown_extent held
   extents_read shown =
-      let read = reads_as select_extents_text [] old new store_schema h.schema _ extents_is.0 extents_is.2 extents_is.1 rows shown in
+      let read = reads_as select_extents_text [] old new (schema_of layout) h.schema _ (extents_is layout).0 (extents_is layout).2 (extents_is layout).1 rows shown in
       answer_is 1 [] extent_columns (col 1 0 ∷ []) (overlay old.now.trees []) [] rows (columns_at (0 ∷ 2 ∷ 3 ∷ 4 ∷ 5 ∷ [])) shown_extent held h.rows
       (λ _. true) (λ r. refl) extent_output (λ r. refl) (λ _. true) (λ x. refl)
       (ascending-filter _ (λ _. true) held (ascending_weaker _ _ by_offset held h.ascending)) (read.answer Null)
@@ -98,7 +101,7 @@ module _ (old new : State) (rows : List Row) (held : List Extent) (h : HasExtent
   pub touching_read : (from to : ℕ) → Shown select_touching_text (Int (pos to) ∷ Int (pos from) ∷ []) old new rows → rows ≡ map shown_extent (filter (touches from to) held)
   touching_read from to shown =
       let params = Int (pos to) ∷ Int (pos from) ∷ [] in
-      let read = reads_as select_touching_text params old new store_schema h.schema _ touching_is.0 touching_is.2 touching_is.1 rows shown in
+      let read = reads_as select_touching_text params old new (schema_of layout) h.schema _ (touching_is layout).0 (touching_is layout).2 (touching_is layout).1 rows shown in
       answer_is 1 (compares Lt (col 1 0) (col 0 0) ∷ compares Gt (col 1 2) (col 0 1) ∷ []) extent_columns (col 1 0 ∷ []) (overlay old.now.trees []) params rows
       (columns_at (0 ∷ 2 ∷ 3 ∷ 4 ∷ 5 ∷ [])) shown_extent held h.rows
       (λ v. is Lt (column v 0) (Int (pos to)) && (is Gt (column v 1) (Int (pos from)) && true)) (λ r. refl) extent_output (λ r. refl)
@@ -154,23 +157,25 @@ module _ (old new : State) (rows : List Row) (held : List Placed) (h : HasElemen
 abbrev version_output : Row → Output
 version_output v = ([], column v 0 ∷ [])
 
-pub version_read : (old new : State) (rows : List Row) (version : ℤ) → HasVersion old.now version → Shown select_version_text [] old new rows → rows ≡ (Int version ∷ []) ∷ []
-version_read old new rows version h shown =
-    let read = reads_as select_version_text [] old new store_schema h.schema _ version_is.0 version_is.2 version_is.1 rows shown in
+pub version_read : (layout : Layout) (old new : State) (rows : List Row) (version : ℤ) → HasVersion layout old.now version → Shown select_version_text [] old new rows → rows ≡ (Int version ∷ []) ∷ []
+version_read layout old new rows version h shown =
+    let read = reads_as select_version_text [] old new (schema_of layout) h.schema _ (version_is layout).0 (version_is layout).2 (version_is layout).1 rows shown in
     answer_is 0 [] (col 1 0 ∷ []) [] (overlay old.now.trees []) [] rows (columns_at (0 ∷ [])) (λ (v : ℤ). Int v ∷ []) (version ∷ []) h.rows
     (λ _. true) (λ r. refl) version_output (λ r. refl) (λ _. true) (λ x. refl) (tt, tt) (read.answer Null)
 
-version_takes : takes (understood store_schema select_version_text) (length select_version_text) 0 ≡ true
+version_takes : (layout : Layout) → takes (understood (schema_of layout) select_version_text) (length select_version_text) 0 ≡ true
 unfolding understood everything
-version_takes = refl
+version_takes Blocks = refl
+version_takes Columns = refl
 
-version_typed : accepts_program store_schema [] (select 0 [] (col 1 0 ∷ []) []) [] ≡ true
-version_typed = refl
+version_typed : (layout : Layout) → accepts_program (schema_of layout) [] (select 0 [] (col 1 0 ∷ []) []) [] ≡ true
+version_typed Blocks = refl
+version_typed Columns = refl
 
 version_selects : selects select_version_text ≡ true
 unfolding everything
 version_selects = refl
 
-pub version_fails : (old new : State) → old.now.schema ≡ store_schema → (e : Error) → FailsToQuery select_version_text [] old new e → IsCause e
-version_fails old new has e failed =
-    query_causes select_version_text [] old new store_schema has version_selects version_takes 0 [] (col 1 0 ∷ []) [] _ version_is.0 version_is.1 version_typed e failed
+pub version_fails : (layout : Layout) (old new : State) → old.now.schema ≡ schema_of layout → (e : Error) → FailsToQuery select_version_text [] old new e → IsCause e
+version_fails layout old new has e failed =
+    query_causes select_version_text [] old new (schema_of layout) has version_selects (version_takes layout) 0 [] (col 1 0 ∷ []) [] _ (version_is layout).0 (version_is layout).1 (version_typed layout) e failed

@@ -3,7 +3,11 @@ pub mod Keeping
 pub mod HeldLaws
 pub mod Loading
 pub mod Tables
+pub mod ColumnTables
+pub mod Layouts
 pub mod Rows
+pub mod ColumnRows
+pub mod WrittenRows
 pub mod Steps
 pub mod Faults
 pub mod Holding

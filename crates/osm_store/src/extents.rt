@@ -12,6 +12,7 @@ ghost use Rattle.osm_store.specs.Rows.{blob_code, extent_columns};
 use crate::answer::{answer, number};
 use crate::fault::{StoreFault, unread};
 use crate::keeper::Extent;
+use crate::layout::Layout;
 use crate::sql::{SELECT_EXTENTS, SELECT_TOUCHING};
 use pbf_frame::Kind;
 use sqlite::{Alter, Connection, Row};
@@ -66,7 +67,7 @@ pub(crate) fn all_extents<S: Alter>(
     alloc: Global,
     connection: &mut Connection<S>,
 ) -> Result<Vec<Extent>, StoreFault>
-    ensures held { HasCleanDisk (state S.Store connection.new) → (held : HeldMap) → Holds (state S.Store connection.old) held
+    ensures held { HasCleanDisk (state S.Store connection.new) → (layout : Layout) (held : HeldMap) → Holds layout (state S.Store connection.old) held
         → MatchResult result (λ extents. (extents.items ≡ extents_of held) × IsTrue (state S.Store connection.new).is_open) (λ fault. ¬ (IsForeign fault)) }
     ensures asks { JustAsks (state S.Store connection.old) (state S.Store connection.new) }
 {
@@ -82,7 +83,7 @@ pub(crate) fn touched_extents<S: Alter>(
     to: u64,
 ) -> Result<Vec<Extent>, StoreFault>
     requires { (from < to) × (to ≤ 2 ^ 62) }
-    ensures held { HasCleanDisk (state S.Store connection.new) → (held : HeldMap) → Holds (state S.Store connection.old) held
+    ensures held { HasCleanDisk (state S.Store connection.new) → (layout : Layout) (held : HeldMap) → Holds layout (state S.Store connection.old) held
         → MatchResult result (λ extents. (extents.items ≡ filter (touches from to) (extents_of held)) × IsTrue (state S.Store connection.new).is_open) (λ fault. ¬ (IsForeign fault)) }
     ensures asks { JustAsks (state S.Store connection.old) (state S.Store connection.new) }
 {

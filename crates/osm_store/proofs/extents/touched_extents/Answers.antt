@@ -14,10 +14,10 @@ unfolding everything
 answer-requires g c = refl
 
 pub returns-clause-held : goal.returns-clause-held
-returns-clause-held g c clean held holds =
+returns-clause-held g c clean layout held holds =
     let old = state g.S.Store c.args.connection.now in
     let answered = c.in_ok-rows.ensures.rows clean in
     let shown = rw (c.number.ensures, c.number-2.ensures) at answered.shown in
-    let read = touching_read old (state g.S.Store c.answer.new.connection) _ (extents_of held) (has_extents old.now held holds.schema holds.tables) c.args.from c.args.to shown in
-    let fit = All-filter _ (λ (extent : Extent). length extent.digest ≡ 32) (extents_of held) (digests_of held holds.kept) in
+    let read = touching_read layout old (state g.S.Store c.answer.new.connection) _ (extents_of held) (has_extents layout old.now held holds.schema holds.tables) c.args.from c.args.to shown in
+    let fit = All-filter _ (λ (extent : Extent). length extent.digest ≡ 32) (extents_of held) (digests_of layout held holds.kept) in
     MatchResult-weaker c.read_extents.result (c.read_extents.ensures _ fit (c.deref.ensures.value ∙ read)) (λ v same. (same, answered.is_open)) (λ fault is foreign. subst IsForeign is foreign)
