@@ -16,7 +16,7 @@ use Rattle.osm_value.specs.declared.element.Element.{Element}
 use Rattle.osm_store.specs.declared.keeper.Extent.{Extent}
 use Rattle.osm_store.specs.Held.{Blob, HeldMap}
 use Rattle.osm_store.specs.Keeping.{extent_of, extents_of}
-use Rattle.osm_store.specs.Rows.{Placed, placed, placed_in, body_row, extent_row, extent_columns}
+use Rattle.osm_store.specs.Rows.{Placed, placed, placed_in, is_in, body_row, extent_row, extent_columns}
 use Rattle.osm_store.specs.declared.layout.Layout.{Layout}
 use Rattle.osm_store.specs.declared.layout.Layout.TheVariants.{Blocks}
 use Rattle.osm_store.specs.Layouts.{schema_of, version_of}
@@ -24,7 +24,7 @@ use Rattle.osm_store.specs.Tables.{store_schema}
 use Rattle.osm_store.specs.Holding.{TablesHold, IsBlob, IsKept}
 use Rattle.osm_store.proofs.PlacedLaws.{Entry, within, entries_rise, placed_in_rise, here, by_position, all_held}
 use Rattle.osm_store.proofs.NestedLists.{nested_at}
-use Rattle.osm_store.proofs.ReadLemmas.{columns_at, HasExtents, HasElements, HasVersion, is_in}
+use Rattle.osm_store.proofs.ReadLemmas.{columns_at, HasExtents, HasElements, HasVersion}
 
 -- ---- the tables
 

@@ -17,6 +17,9 @@ pub mod CompareLemmas
 pub mod CauseLemmas
 pub mod ReadLemmas
 pub mod HeldLemmas
+pub mod ColumnReadTexts
+pub mod ColumnReadLemmas
+pub mod ColumnHeld
 pub mod PutLemmas
 pub mod StoredRows
 pub mod ReadingLemmas

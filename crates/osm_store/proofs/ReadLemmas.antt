@@ -33,7 +33,7 @@ use Rattle.osm_store.specs.declared.layout.Layout.TheVariants.{Blocks, Columns}
 use Rattle.osm_store.specs.Layouts.{schema_of}
 use Rattle.osm_store.specs.Keeping.{touches}
 use Rattle.osm_store.specs.Tables.{store_schema, select_version_text, select_extents_text, select_touching_text, select_rows_text, select_element_text}
-use Rattle.osm_store.specs.Rows.{Placed, body_row, extent_columns as shown_extent, block_row, found_row, element_code, kind_of, id_of, is_of}
+use Rattle.osm_store.specs.Rows.{Placed, body_row, extent_columns as shown_extent, block_row, found_row, element_code, kind_of, id_of, is_in, is_of}
 use Rattle.osm_store.specs.Selects.{selects}
 use Rattle.osm_store.proofs.CauseLemmas.{IsCause, takes, query_causes}
 use Rattle.osm_store.proofs.TableReads.{select, answer_is}
@@ -63,23 +63,20 @@ pub record HasVersion (layout : Layout) (db : Database) (version : ℤ) : Type 0
   pub schema : db.schema ≡ schema_of layout
   pub rows : IsPermutation (map (columns_at (0 ∷ [])) (db.trees 0)) ((Int version ∷ []) ∷ [])
 
-abbrev pub is_in : ℕ → Placed → Bool
-is_in off p = p.0 == off
-
 always : {X : Type 0} (xs : List X) → filter (λ _. true) xs ≡ xs
 always [] = refl
 always (x ∷ xs) = ap (λ ys. x ∷ ys) (always xs)
 
-and_true : (a b : Bool) → (a && (b && true)) ≡ (a && b)
+pub and_true : (a b : Bool) → (a && (b && true)) ≡ (a && b)
 and_true true true = refl
 and_true true false = refl
 and_true false b = refl
 
-alone : (b : Bool) → (b && true) ≡ b
+pub alone : (b : Bool) → (b && true) ≡ b
 alone true = refl
 alone false = refl
 
-abbrev is : CompareOp → Value → Value → Bool
+abbrev pub is : CompareOp → Value → Value → Bool
 is op a b = is_true (binary (Compare op Binary) a b)
 
 -- what a query on `blob` is sorted by, and what it shows
@@ -109,7 +106,7 @@ module _ (layout : Layout) (old new : State) (rows : List Row) (held : List Exte
       (ascending-filter _ (touches from to) held (ascending_weaker _ _ by_offset held h.ascending)) (read.answer Null)
 
 -- the keys of a query on `body` that is sorted by offset and position
-in_order : (x y : Placed) → IsBefore x y → ordering_then (value_cmp (Int (pos x.0)) (Int (pos y.0))) (ordering_then (value_cmp (Int (pos x.1)) (Int (pos y.1))) Equal) ≡ Less
+pub in_order : (x y : Placed) → IsBefore x y → ordering_then (value_cmp (Int (pos x.0)) (Int (pos y.0))) (ordering_then (value_cmp (Int (pos x.1)) (Int (pos y.1))) Equal) ≡ Less
 in_order x y (inl low) = ap (λ o. ordering_then o (ordering_then (value_cmp (Int (pos x.1)) (Int (pos y.1))) Equal)) (numbers_below x.0 y.0 low)
 in_order x y (inr h) =
     ap₂ (λ o p. ordering_then o (ordering_then p Equal)) (numbers_tied x.0 y.0 h.0) (numbers_below x.1 y.1 h.1)

@@ -8,6 +8,8 @@ pub mod Layouts
 pub mod Rows
 pub mod ColumnRows
 pub mod WrittenRows
+pub mod ColumnReads
+pub mod ColumnLoading
 pub mod Steps
 pub mod Faults
 pub mod Holding

@@ -77,6 +77,10 @@ block_row e = Octets (canon (e ∷ [])) ∷ []
 abbrev pub found_row : Placed → Row
 found_row p = Int (pos p.0) ∷ Int (pos p.1) ∷ Octets (canon (p.2 ∷ [])) ∷ []
 
+-- whether the element is of the blob at this offset
+abbrev pub is_in : ℕ → Placed → Bool
+is_in off p = p.0 == off
+
 -- whether the element has this kind and this id
 abbrev pub is_of : MemberKind → ℤ → Placed → Bool
 is_of kind id p = (element_code (kind_of p.2) == element_code kind) && int_eq (id_of p.2) id

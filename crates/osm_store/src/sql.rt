@@ -51,3 +51,12 @@ pub(crate) const SELECT_ROWS: &str = "SELECT data FROM body WHERE off = ?1 ORDER
 
 pub(crate) const SELECT_ELEMENT: &str =
     "SELECT off, pos, data FROM body WHERE kind = ?1 AND id = ?2 ORDER BY off, pos";
+
+pub(crate) const SELECT_ELEMENTS: &str =
+    "SELECT off, pos, kind, id, lat, lon, version, time, changeset, uid, user, visible FROM element WHERE off = ?1 ORDER BY off, pos";
+
+pub(crate) const SELECT_TAGS: &str =
+    "SELECT off, pos, k, key, val FROM tag WHERE off = ?1 ORDER BY off, pos, k";
+
+pub(crate) const SELECT_LINKS: &str =
+    "SELECT off, pos, k, kind, ref, role FROM link WHERE off = ?1 ORDER BY off, pos, k";

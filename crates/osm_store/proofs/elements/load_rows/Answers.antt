@@ -8,11 +8,11 @@ use Rattle.osm_store.specs.Held.{Blob}
 use Rattle.osm_store.specs.Holding.{IsBlob}
 use Rattle.osm_store.specs.Keeping.{IsForeign}
 use Rattle.osm_store.proofs.PlacedLaws.{Entry, all_held}
-use Rattle.osm_store.specs.Rows.{Placed, IsStored, placed_in, block_row}
+use Rattle.osm_store.specs.Rows.{Placed, IsStored, placed_in, is_in, block_row}
 use Rattle.osm_store.specs.declared.layout.Layout.TheVariants.{Blocks}
 use Rattle.osm_store.proofs.StoredElements.{all_stored, blob_stored}
 use Rattle.osm_store.proofs.HeldLemmas.{has_elements, elements_at}
-use Rattle.osm_store.proofs.ReadLemmas.{rows_read, is_in}
+use Rattle.osm_store.proofs.ReadLemmas.{rows_read}
 use Rattle.osm_store.proofs.elements.load_rows.Goals as goal
 
 pub answer-requires : goal.answer-requires
