@@ -7,6 +7,7 @@ pub mod ColumnTables
 pub mod Layouts
 pub mod Rows
 pub mod ColumnRows
+pub mod ColumnExamples
 pub mod WrittenRows
 pub mod ColumnReads
 pub mod ColumnLoading

@@ -62,7 +62,7 @@ fn match_at(alloc: Global, row: &Row) -> Result<Option<(u64, u64, Element<'_>)>,
 }
 
 /// The number in a column; None where no such number stands there.
-fn number_at(row: &Row, at: usize) -> Option<u64>
+pub(crate) fn number_at(row: &Row, at: usize) -> Option<u64>
     ensures { (n : ℕ) → at < length row.now → column row.now at ≡ Int (pos n) → result ≡ Some n }
 {
     match row.get_ref(at) {

@@ -3,8 +3,10 @@
 
 mod answer;
 mod body_store;
+mod column_parts;
 mod column_reads;
 mod column_rows;
+mod column_values;
 mod columns;
 mod create;
 mod elements;
