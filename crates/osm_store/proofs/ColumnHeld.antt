@@ -1,9 +1,8 @@
 -- What the tables of numbers and texts of a held map have, and which of their rows are those of one blob.
-use Rattle.std.proofs.Common.{◌≡◌, inl, inr, ℕ, Bool, true, false, cond, ◌==◌, List, [], ◌∷◌, ◌++◌, map, drop, refl, sym, ap, ap₂, subst, ◌∙◌, arith, IsPermutation}
+use Rattle.std.proofs.Common.{◌≡◌, inl, inr, ℕ, Bool, true, false, cond, ◌==◌, List, [], ◌∷◌, ◌++◌, map, drop, refl, sym, ap, ap₂, subst, ◌∙◌, IsPermutation}
 use Rattle.std.specs.Prelude.{flat_map, filter}
 use Rattle.std.specs.List.{AllByRecursion}
 use Rattle.std.proofs.lemmas.Bool.{cases_Bool}
-use Rattle.std.proofs.lemmas.Bool.Decides.{nat_tests}
 use Rattle.std.proofs.lemmas.List.Elements.{filter-append}
 use Rattle.std.proofs.lemmas.List.Sorted.{IsPermutation-sym}
 use Rattle.sqlite.specs.declared.types.Value.{Value}
@@ -20,7 +19,7 @@ use Rattle.osm_store.specs.Holding.{HasRows, TablesHold}
 use Rattle.osm_store.proofs.PlacedLaws.{placed_in_rise}
 use Rattle.osm_store.proofs.PartLaws.{parts_own, parts_in}
 use Rattle.osm_store.proofs.ReadLemmas.{columns_at}
-use Rattle.osm_store.proofs.ColumnReadLemmas.{twelve_places, five_places, six_places, HasColumns, is_part_in}
+use Rattle.osm_store.proofs.ColumnReadLemmas.{twelve_places, five_places, six_places, HasColumns}
 
 -- ---- a row without its rowid shows all its columns
 

@@ -1,12 +1,9 @@
 -- What each query on the tables of numbers and texts reads.
-use Rattle.std.proofs.Common.{◌≡◌, ◌⊎◌, inl, inr, ℕ, ℤ, pos, ◌<◌, Bool, true, false, ◌&&◌, ◌==◌, List, [], ◌∷◌, length, map, drop, refl, sym, ap, ap₂, subst, ◌∙◌, arith, Less, Equal, IsPermutation}
+use Rattle.std.proofs.Common.{◌≡◌, inl, inr, ℕ, ℤ, pos, Bool, true, ◌&&◌, ◌==◌, List, [], ◌∷◌, map, refl, ap, ap₂, ◌∙◌, Less, Equal, IsPermutation}
 use Rattle.std.specs.Prelude.{filter, flat_map}
-use Rattle.std.specs.Ordering.{ordering_then, int_eq}
-use Rattle.std.specs.List.{AllByRecursion}
-use Rattle.std.proofs.lemmas.List.Sorted.{IsPermutation-sym}
+use Rattle.std.specs.Ordering.{ordering_then}
 use Rattle.sqlite.specs.declared.types.Value.TheVariants.{Null, Int}
 use Rattle.sqlite.specs.Order.{Row, column}
-use Rattle.sqlite.specs.Term.{Term, col}
 use Rattle.sqlite.specs.Query.{Output}
 use Rattle.sqlite.specs.Program.{overlay}
 use Rattle.sqlite.specs.Effect.{Database}
@@ -15,21 +12,18 @@ use Rattle.sqlite.proofs.Callers.{reads_as}
 use Rattle.sqlite_sql.specs.declared.ops.CompareOp.TheVariants.{Eq}
 use Rattle.sqlite_value.specs.Order.{value_cmp}
 use Rattle.sqlite_trees.specs.Tree.{IsAscending}
-use Rattle.sqlite_trees.proofs.ListLemmas.{ascending_weaker, ascending-filter, all_from_map, all-permutation}
+use Rattle.sqlite_trees.proofs.ListLemmas.{ascending_weaker, ascending-filter}
 use Rattle.osm_value.specs.declared.element.MemberKind.{MemberKind}
 use Rattle.osm_value.specs.Value.{Text, MemberValue}
 use Rattle.osm_value.specs.Elements.{tags_of_element}
-use Rattle.osm_store.specs.declared.layout.Layout.TheVariants.{Columns}
-use Rattle.osm_store.specs.Held.{HeldMap}
 use Rattle.osm_store.specs.ColumnTables.{column_schema}
 use Rattle.osm_store.specs.ColumnReads.{select_elements_text, select_tags_text, select_links_text, select_found_text, select_its_tags_text, select_its_links_text}
-use Rattle.osm_store.specs.Rows.{Placed, placed_in, element_code, kind_of, id_of, is_in, is_of}
-use Rattle.osm_store.specs.ColumnRows.{Part, element_row, element_rows, tags_at, tag_row, links_at, links_of, link_row}
-use Rattle.osm_store.specs.Holding.{HasRows, TablesHold}
-use Rattle.osm_store.proofs.TableReads.{select, answer_is}
+use Rattle.osm_store.specs.Rows.{Placed, element_code, kind_of, id_of, is_in, is_of}
+use Rattle.osm_store.specs.ColumnRows.{Part, element_row, tags_at, tag_row, links_at, links_of, link_row}
+use Rattle.osm_store.proofs.TableReads.{answer_is}
 use Rattle.osm_store.proofs.CompareLemmas.{same_number, same_int}
 use Rattle.osm_store.proofs.NumberOrder.{numbers_below, numbers_tied}
-use Rattle.osm_store.proofs.PlacedLaws.{IsBefore, placed_in_rise}
+use Rattle.osm_store.proofs.PlacedLaws.{IsBefore}
 use Rattle.osm_store.proofs.PartLaws.{IsPartBefore, all_parts_rise}
 use Rattle.osm_store.proofs.ReadLemmas.{columns_at, and_true, alone, is, in_order}
 use Rattle.osm_store.proofs.ColumnReadTexts.{element_shown, tag_shown, link_shown, by_place, by_part, at_off, at_place, of_kind_and_id, elements_are, tags_are, links_are, found_are, its_tags_are, its_links_are}

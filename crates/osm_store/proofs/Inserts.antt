@@ -1,21 +1,21 @@
 -- What an INSERT of one row does to the tables.
-use Rattle.std.proofs.Common.{◌≡◌, ◌⊎◌, inl, inr, ℕ, pos, List, [], ◌∷◌, ◌++◌, append-nil, length, map, slice_get, Bool, true, false, MatchBool, if◌then◌else◌, Option, Some, None, Ok, Err, Result, refl, sym, ap, subst, ◌∙◌, arith, rules}
+use Rattle.std.proofs.Common.{◌≡◌, ℕ, pos, List, [], ◌∷◌, append-nil, length, slice_get, Bool, false, MatchBool, if◌then◌else◌, Option, Some, None, Ok, refl, sym, ap, subst, ◌∙◌}
 use Rattle.sqlite.specs.Order.{Row}
 use Rattle.sqlite.specs.Term.{Term}
 use Rattle.sqlite.specs.Table.{Table}
 use Rattle.sqlite.specs.Schema.{Schema}
 use Rattle.sqlite.specs.Source.TheVariants.{Values}
 use Rattle.sqlite.specs.Command.TheVariants.{Insert}
-use Rattle.sqlite.specs.Edit.{Edit, edit_of, edited, Applies}
+use Rattle.sqlite.specs.Edit.{Edit, edit_of, Applies}
 use Rattle.sqlite.specs.Rowids.TheVariants.{Chosen, Above}
 use Rattle.sqlite.specs.Effect.{Database, value_rows}
-use Rattle.std.proofs.Common.{ℤ, ◌/◌}
+use Rattle.std.proofs.Common.{◌/◌}
 use Rattle.sqlite_sql.specs.Term.{eval_all}
-use Rattle.sqlite.specs.Does.{Tally, Does, AtPlace, OnRows}
+use Rattle.sqlite.specs.Does.{Tally, Does, OnRows}
 use Rattle.sqlite.specs.declared.run.Mode.{Mode}
 use Rattle.sqlite_rules.specs.Action.{Writes}
 use Rattle.sqlite.specs.Command.{Command}
-use Rattle.sqlite.specs.Rows.{Written, Part, Outcome, stamped, count_of}
+use Rattle.sqlite.specs.Rows.{Written, stamped, count_of}
 use Rattle.sqlite.specs.Tree.{Trees}
 use Rattle.sqlite_schema.specs.declared.schema.Keys.TheVariants.{Enforced}
 use Rattle.sqlite_rules.specs.Edit.{taken_by}

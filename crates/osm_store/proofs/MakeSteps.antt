@@ -1,10 +1,9 @@
 -- What the functions that make the tables do, from what `sqlite` says of their statements.
-use Rattle.std.proofs.Common.{◌≡◌, ℕ, List, [], Ok, true, IsTrue, refl, ◌∙◌}
+use Rattle.std.proofs.Common.{◌≡◌, ℕ, [], Ok, true, refl, ◌∙◌}
 use Rattle.sqlite.specs.Schema.{Schema}
-use Rattle.sqlite.specs.Order.{Row}
 use Rattle.sqlite.specs.State.{State, Shows, ExecutesInside}
 use Rattle.sqlite_catalog.specs.Listing.{IsSound}
-use Rattle.osm_store.specs.Tables.{meta_text, blob_text, body_text, index_text, version_text, meta, blob, body, by_element, no_schema, one_table, two_tables, three_tables, store_schema}
+use Rattle.osm_store.specs.Tables.{meta_text, blob_text, body_text, index_text, meta, blob, body, by_element, no_schema, one_table, two_tables, three_tables, store_schema}
 use Rattle.osm_store.specs.declared.layout.Layout.{Layout}
 use Rattle.osm_store.specs.declared.layout.Layout.TheVariants.{Blocks, Columns}
 use Rattle.osm_store.specs.ColumnTables.{element_text, tag_text, link_text, element_index_text, element, tag, link, element_by_id, with_element, with_tag, with_link, column_schema}

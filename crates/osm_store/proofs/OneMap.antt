@@ -1,12 +1,11 @@
 -- The rows of a map are those of no other.
-use Rattle.std.proofs.Common.{◌≡◌, ◌≢◌, ◌⊎◌, inl, inr, ℕ, suc, ℤ, pos, ◌+◌, ◌-◌, ◌^◌, ◌<◌, List, [], ◌∷◌, ◌++◌, length, map, drop, refl, sym, ap, ap₂, subst, ◌∙◌, arith, Less, Equal, IsPermutation}
+use Rattle.std.proofs.Common.{◌≡◌, ◌⊎◌, inl, inr, ℕ, ◌+◌, List, [], ◌∷◌, ◌++◌, length, map, refl, sym, ap, ap₂, ◌∙◌, arith, Less, Equal}
 use Rattle.std.specs.Ordering.{ordering_reverse}
 use Rattle.std.specs.Prelude.{flat_map}
 use Rattle.std.specs.List.{AllByRecursion}
 use Rattle.std.specs.FinMap.{entries, same_entries_map}
 use Rattle.std.proofs.lemmas.List.Sorted.{IsPermutation-sym, IsPermutation-trans}
 use Rattle.sqlite.specs.declared.types.Value.{Value}
-use Rattle.sqlite.specs.declared.types.Value.TheVariants.{Int, Blob as Octets}
 use Rattle.sqlite.specs.Order.{Row, column}
 use Rattle.sqlite.specs.Tree.{Trees}
 use Rattle.sqlite_trees.specs.Tree.{IsAscending}
@@ -23,10 +22,10 @@ use Rattle.osm_store.specs.declared.keeper.Extent.{Extent}
 use Rattle.osm_store.specs.declared.layout.Layout.{Layout}
 use Rattle.osm_store.specs.declared.layout.Layout.TheVariants.{Blocks, Columns}
 use Rattle.osm_store.specs.Held.{Blob, HeldMap}
-use Rattle.osm_store.specs.Keeping.{extent_of, extents_of}
+use Rattle.osm_store.specs.Keeping.{extent_of}
 use Rattle.osm_store.specs.Rows.{Placed, placed, placed_in, IsStored, blob_code, body_row, extent_row}
-use Rattle.osm_store.specs.ColumnRows.{Part, element_row, element_rows, tags_at, links_at, links_of, tag_row, tag_rows, link_row, link_rows}
-use Rattle.osm_store.specs.Holding.{TablesHold, HoldElements, HasRows, IsBlob, IsKept}
+use Rattle.osm_store.specs.ColumnRows.{Part, element_row, tags_at, links_at, links_of, tag_row, tag_rows, link_row, link_rows}
+use Rattle.osm_store.specs.Holding.{TablesHold, HoldElements, HasRows, IsKept}
 use Rattle.osm_store.proofs.SortedLists.{same_elements, not_both}
 use Rattle.osm_store.proofs.NumberOrder.{numbers_below, numbers_tied}
 use Rattle.osm_store.proofs.PlacedLaws.{Entry, IsBefore, placed_in_rise, within}

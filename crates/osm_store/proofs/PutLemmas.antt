@@ -1,12 +1,12 @@
 -- A put adds one entry to the map, and a read leaves it.
-use Rattle.std.proofs.Common.{◌≡◌, ◌≢◌, ◌⊎◌, inl, inr, ℕ, pos, ◌+◌, ◌-◌, ◌^◌, ◌<◌, ◌≤◌, ◌==◌, List, [], ◌∷◌, ◌++◌, map, drop, length, Option, Some, None, Result, Ok, Err, IsTrue, cond, eqb, refl, sym, ap, subst, ◌∙◌, arith, Less, Greater, nat_lt, true, false}
-use Rattle.std.specs.Prelude.{flat_map, MatchResult}
+use Rattle.std.proofs.Common.{◌≡◌, ◌≢◌, ◌⊎◌, inl, inr, ℕ, pos, ◌^◌, ◌<◌, ◌≤◌, List, [], ◌∷◌, ◌++◌, map, drop, length, Option, Some, None, IsTrue, cond, eqb, refl, sym, ap, subst, ◌∙◌, arith, Less, Greater, nat_lt}
+use Rattle.std.specs.Prelude.{flat_map}
 use Rattle.std.specs.List.{AllByRecursion}
 use Rattle.std.specs.List.Sorted.{IsPermutation}
 use Rattle.std.specs.Ordering.{nat_cmp, match_ordering, ordering_reverse}
 use Rattle.std.specs.Cmp.{nat_cmp_is, nat_cmp_total, unsigned_tied}
 use Rattle.std.specs.FinMap.Entries.{by_order}
-use Rattle.std.specs.FinMap.{empty, entries, len-entries, len-empty, get, insert, find, put, get-entries, entries-insert}
+use Rattle.std.specs.FinMap.{empty, entries, len-entries, len-empty, get, find, put, get-entries, entries-insert}
 use Rattle.std.proofs.lemmas.Bool.{cases_Bool}
 use Rattle.std.proofs.lemmas.Bool.Decides.{eqb_tells, nat_tests}
 use Rattle.std.proofs.lemmas.List.{map-append}
@@ -19,10 +19,9 @@ use Rattle.sqlite.specs.Order.{Row}
 use Rattle.sqlite.specs.Tree.{Trees, put_row}
 use Rattle.sqlite.specs.Effect.{Database}
 use Rattle.sqlite.specs.State.{State, HasCleanDisk, Survives}
-use Rattle.osm_store.specs.declared.keeper.Extent.{Extent}
-use Rattle.osm_store.specs.Held.{Blob, HeldMap, IsFree, IsApart}
+use Rattle.osm_store.specs.Held.{Blob, HeldMap, IsFree}
 use Rattle.osm_store.specs.HeldLaws.{IsFree-unheld, IsApart-insert}
-use Rattle.osm_store.specs.Keeping.{extent_of, extents_of, with_blob}
+use Rattle.osm_store.specs.Keeping.{extent_of, with_blob}
 use Rattle.osm_store.specs.declared.layout.Layout.{Layout}
 use Rattle.osm_store.specs.declared.layout.Layout.TheVariants.{Blocks, Columns}
 use Rattle.osm_store.specs.Layouts.{schema_of}

@@ -1,5 +1,5 @@
 -- A put keeps what a keeper promises of it.
-use Rattle.std.proofs.Common.{◌≡◌, ◌⊎◌, ℕ, ◌-◌, ◌^◌, ◌<◌, ◌≤◌, List, map, length, IsTrue, Result, Ok, Err, arith}
+use Rattle.std.proofs.Common.{◌≡◌, ℕ, ◌^◌, ◌<◌, ◌≤◌, List, length, IsTrue, Result, Ok, Err, arith}
 use Rattle.std.specs.Prelude.{OnOk, OnErr, IfErr}
 use Rattle.std.specs.List.{AllByRecursion}
 use Rattle.sqlite.specs.Store.{Ghosts}
@@ -7,9 +7,9 @@ use Rattle.sqlite.specs.Held.{state}
 use Rattle.sqlite.specs.State.{State, HasCleanDisk, Survives}
 use Rattle.osm_store.specs.declared.keeper.Extent.{Extent}
 use Rattle.osm_store.specs.declared.fault.StoreFault.{StoreFault}
-use Rattle.osm_store.specs.Held.{Blob, HeldMap, HaveFewTexts, IsFree}
-use Rattle.osm_store.specs.Holding.{IsBlob, Holds, MayLeave, LeavesAMap}
-use Rattle.osm_store.specs.Keeping.{Adds, IsForeign, failures_after}
+use Rattle.osm_store.specs.Held.{Blob, HaveFewTexts}
+use Rattle.osm_store.specs.Holding.{IsBlob}
+use Rattle.osm_store.specs.Keeping.{IsForeign, failures_after}
 use Rattle.osm_store.specs.declared.layout.Layout.{Layout}
 use Rattle.osm_store.specs.Layouts.{schema_of}
 use Rattle.osm_store.specs.Rows.{Placed, CanStore, placed}

@@ -1,5 +1,5 @@
 -- A call that only asks leaves what the store holds.
-use Rattle.std.proofs.Common.{◌≡◌, IsTrue, Result, Ok, Err, arith}
+use Rattle.std.proofs.Common.{◌≡◌, IsTrue, Result, Ok, Err}
 use Rattle.std.specs.Prelude.{MatchResult, IfOk}
 use Rattle.sqlite.specs.Store.{Ghosts}
 use Rattle.sqlite.specs.Held.{state}

@@ -1,17 +1,15 @@
 -- What the row functions do, from what `sqlite` says of their statements.
-use Rattle.std.proofs.Common.{◌≡◌, ◌≢◌, ℕ, ℤ, List, [], ◌∷◌, ◌++◌, map, drop, Ok, true, IsTrue, refl, sym, subst, ◌∙◌, append-nil, append_assoc, inl, arith, ap, suc, ◌+◌, ◌<◌, length, take, get_or}
-use Rattle.std.proofs.Math.Seq.{take-suc}
-use Rattle.std.proofs.lemmas.List.{map-append}
+use Rattle.std.proofs.Common.{◌≡◌, ◌≢◌, ℕ, ℤ, List, [], ◌∷◌, ◌++◌, map, drop, Ok, true, IsTrue, refl, sym, subst, ◌∙◌, append-nil, append_assoc, inl, arith}
 use Rattle.std.specs.List.Sorted.{IsPermutation}
 use Rattle.std.proofs.lemmas.List.Sorted.{IsPermutation-refl, IsPermutation-trans, IsPermutation-append_left}
 use Rattle.sqlite.proofs.InsideLemmas.{keeps_then, inside_keeps}
 use Rattle.sqlite.specs.Order.{Row}
-use Rattle.std.proofs.Common.{Result, Bool, false, inr}
+use Rattle.std.proofs.Common.{Result, false, inr}
 use Rattle.std.proofs.lemmas.Bool.{cases_Bool}
 use Rattle.sqlite.specs.Store.{Ghosts}
 use Rattle.sqlite.specs.Held.{Held, state}
 use Rattle.sqlite.specs.declared.error.Error.{Error}
-use Rattle.sqlite.specs.State.{State, HasCleanDisk, Shows, KeepsCommit, Survives, ExecutesInside}
+use Rattle.sqlite.specs.State.{State, HasCleanDisk, KeepsCommit, Survives, ExecutesInside}
 use Rattle.sqlite.specs.Tree.{Trees}
 use Rattle.sqlite.proofs.StateLemmas.{survives_then}
 use Rattle.sqlite.proofs.Callers.{survives_begin}

@@ -1,10 +1,8 @@
 -- The rows of numbers and texts of an element are those of no other.
-use Rattle.std.proofs.Common.{◌≡◌, ℕ, ℤ, pos, List, [], ◌∷◌, map, Option, Some, None, Bool, true, false, refl, sym, ap, ap₂, subst, ◌∙◌, arith}
+use Rattle.std.proofs.Common.{◌≡◌, ℕ, ℤ, List, [], ◌∷◌, map, Option, Some, None, Bool, true, false, refl, sym, ap, ap₂, ◌∙◌, arith}
 use Rattle.std.specs.Prelude.{flat_map}
-use Rattle.std.specs.List.{AllByRecursion}
 use Rattle.sqlite.specs.declared.types.Value.{Value}
 use Rattle.sqlite.specs.declared.types.Value.TheVariants.{Null, Int, Text as Words}
-use Rattle.sqlite.specs.Order.{Row}
 use Rattle.sqlite.specs.Values.{or_null}
 use Rattle.sqlite_trees.specs.Tree.{IsAscending}
 use Rattle.osm_value.specs.declared.element.Element.{Element}

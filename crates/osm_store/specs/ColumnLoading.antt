@@ -1,5 +1,5 @@
 -- What rows of numbers and texts stand for.
-use Rattle.std.specs.Prelude.{◌≡◌, List, map, flat_map}
+use Rattle.std.specs.Prelude.{◌≡◌, List}
 use Rattle.osm_store.specs.declared.column_reads.ColumnRows.{ColumnRows}
 use Rattle.osm_store.specs.Rows.{Placed}
 use Rattle.osm_store.specs.ColumnRows.{element_rows, tag_rows, link_rows}

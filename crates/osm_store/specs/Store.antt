@@ -1,5 +1,5 @@
 -- What callers see of a store of rows.
-use Rattle.std.specs.Prelude.{◌≡◌, ℕ, refl, IsTrue, Result}
+use Rattle.std.specs.Prelude.{ℕ, refl, IsTrue, Result}
 use Rattle.std.specs.Coded.{Coded, code_by, coded×, coded_ℕ}
 use Rattle.sqlite.specs.Store.{Ghosts}
 use Rattle.sqlite.specs.Held.{Held, held_code, state}

@@ -1,5 +1,5 @@
 -- The columns of the rows that are to be written.
-use Rattle.std.specs.Prelude.{ℕ, pos, [], ◌∷◌}
+use Rattle.std.specs.Prelude.{pos, [], ◌∷◌}
 use Rattle.std.specs.Option.{option_copied}
 use Rattle.sqlite.specs.declared.types.Value.TheVariants.{Int, Text as Words}
 use Rattle.sqlite.specs.Order.{Row}

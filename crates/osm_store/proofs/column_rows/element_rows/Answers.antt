@@ -1,4 +1,4 @@
-use Rattle.std.proofs.Common.{◌≡◌, ◌∷◌, ◌++◌, ◌<◌, [], map, take, length, ◌∙◌, ap, sym, rules}
+use Rattle.std.proofs.Common.{◌∷◌, ◌++◌, ◌<◌, [], map, take, length, ◌∙◌, ap, sym, rules}
 use Rattle.std.proofs.lemmas.List.{map-append}
 use Rattle.osm_store.specs.Rows.{placed}
 use Rattle.osm_store.specs.ColumnRows.{element_row}

@@ -1,8 +1,8 @@
-use Rattle.std.proofs.Common.{◌≡◌, ◌+◌, ◌<◌, ℕ, List, Bor, map, take, length, arith, rules}
-use Rattle.std.proofs.lemmas.List.{length-map, length-take}
+use Rattle.std.proofs.Common.{◌≡◌, ◌+◌, ◌<◌, take, length, arith, rules}
+use Rattle.std.proofs.lemmas.List.{length-take}
 use Rattle.osm_store.specs.ColumnRows.{link_row}
 use Rattle.osm_store.specs.WrittenRows.{link_columns}
-use Rattle.osm_store.proofs.Placing.{mapped_more, next_taken, one_part_more}
+use Rattle.osm_store.proofs.Placing.{next_taken, one_part_more}
 use Rattle.osm_store.proofs.column_rows.push_members.Goals as goal
 
 pub loop-number-preserved : goal.loop-number-preserved

@@ -1,4 +1,4 @@
-use Rattle.std.proofs.Common.{◌≡◌, [], ◌∷◌, ◌∙◌, pos, ap, get_or, ◌+◌, ◌<◌, ℕ, List, Bor, map, take, length, arith, rules}
+use Rattle.std.proofs.Common.{◌≡◌, [], ◌∷◌, ◌∙◌, pos, ap, get_or, ◌+◌, ◌<◌, map, take, length, arith, rules}
 use Rattle.std.proofs.lemmas.List.{map-append, take_more, length-map, length-take}
 use Rattle.osm_store.specs.ColumnRows.{link_row, node_link}
 use Rattle.osm_store.specs.WrittenRows.{link_columns}

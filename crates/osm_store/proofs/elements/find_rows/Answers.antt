@@ -1,4 +1,4 @@
-use Rattle.std.proofs.Common.{◌≡◌, refl, ◌∙◌, ap, sym, subst, w64}
+use Rattle.std.proofs.Common.{◌≡◌, refl, ◌∙◌, ap, subst, w64}
 use Rattle.std.specs.Prelude.{filter}
 use Rattle.std.proofs.lemmas.Int.{to_z-of_z}
 use Rattle.std.proofs.lemmas.List.Elements.{All-from_recursion}
@@ -8,7 +8,7 @@ use Rattle.sqlite.specs.Held.{state}
 use Rattle.sqlite_tied.specs.Compute.{everything}
 use Rattle.sqlite_trees.proofs.ListLemmas.{all-filter}
 use Rattle.osm_store.specs.Keeping.{IsForeign}
-use Rattle.osm_store.specs.Rows.{Placed, IsStored, is_of, placed_in}
+use Rattle.osm_store.specs.Rows.{is_of, placed_in}
 use Rattle.osm_store.specs.declared.layout.Layout.TheVariants.{Blocks}
 use Rattle.osm_store.proofs.StoredElements.{all_stored}
 use Rattle.osm_store.proofs.HeldLemmas.{has_elements}

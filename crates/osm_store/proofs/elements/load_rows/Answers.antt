@@ -1,10 +1,9 @@
-use Rattle.std.proofs.Common.{◌≡◌, ◌<◌, ◌≤◌, ◌^◌, map, refl, ◌∙◌, ap, sym, subst, arith}
+use Rattle.std.proofs.Common.{◌<◌, ◌≤◌, ◌^◌, map, refl, ◌∙◌, ap, sym, subst, arith}
 use Rattle.std.specs.Prelude.{filter}
 use Rattle.std.proofs.lemmas.List.Elements.{All-from_recursion}
 use Rattle.sqlite.specs.Held.{state}
 use Rattle.sqlite_tied.specs.Compute.{everything}
 use Rattle.sqlite_trees.proofs.ListLemmas.{map-map, all-map, all-filter}
-use Rattle.osm_store.specs.Held.{Blob}
 use Rattle.osm_store.specs.Holding.{IsBlob}
 use Rattle.osm_store.specs.Keeping.{IsForeign}
 use Rattle.osm_store.proofs.PlacedLaws.{Entry, all_held}

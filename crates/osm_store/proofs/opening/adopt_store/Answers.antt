@@ -1,5 +1,4 @@
-use Rattle.std.proofs.Common.{◌≡◌, pos, ap, sym, subst, ◌∙◌, of_z, w64, ℤ}
-use Rattle.sqlite.specs.Held.{state}
+use Rattle.std.proofs.Common.{subst}
 use Rattle.osm_store.specs.Faults.{NamesNoVersion}
 use Rattle.osm_store.proofs.opening.adopt_store.Goals as goal
 

@@ -1,12 +1,12 @@
-use Rattle.std.proofs.Common.{◌≡◌, ◌∷◌, ◌++◌, [], ◌+◌, ◌<◌, map, take, length, rules, refl, ◌∙◌, subst, sym, arith}
-use Rattle.sqlite.specs.State.{HasCleanDisk, Survives}
+use Rattle.std.proofs.Common.{◌<◌, map, take, length, rules, refl, ◌∙◌, subst, sym, arith}
+use Rattle.sqlite.specs.State.{HasCleanDisk}
 use Rattle.sqlite.specs.Held.{state}
 use Rattle.sqlite.proofs.StateLemmas.{survives_then}
 use Rattle.sqlite.proofs.InsideLemmas.{keeps_then}
 use Rattle.osm_store.specs.Rows.{HasBlock, body_row, placed}
 use Rattle.osm_store.specs.declared.layout.Layout.TheVariants.{Blocks}
 use Rattle.osm_store.specs.Steps.{AddsRows}
-use Rattle.osm_store.proofs.RowSteps.{survives_nothing, no_rows, one_more, adds_blocks}
+use Rattle.osm_store.proofs.RowSteps.{survives_nothing, no_rows, one_more}
 use Rattle.osm_store.proofs.Placing.{rows_more, all_more}
 use Rattle.osm_store.proofs.rows.add_elements.Goals as goal
 

@@ -2,7 +2,7 @@ use Rattle.std.proofs.Common.{◌≡◌, length, rules, subst}
 use Rattle.osm_store.specs.declared.layout.Layout.TheVariants.{Blocks}
 use Rattle.osm_store.specs.Held.{Blob}
 use Rattle.osm_store.specs.Store.{Store, AddsBlob}
-use Rattle.osm_store.proofs.PuttingLemmas.{Wrote, put_adds}
+use Rattle.osm_store.proofs.PuttingLemmas.{put_adds}
 use Rattle.osm_store.proofs.body_store.BodyStoreKeeper.put.Goals as goal
 
 pub returns : goal.returns

@@ -1,4 +1,4 @@
-use Rattle.std.proofs.Common.{rules, arith, ap, refl, ◌≡◌, ◌∙◌, ℤ, Bool, pos, if◌then◌else◌, FitsSigned, w64}
+use Rattle.std.proofs.Common.{rules, ap, ◌∙◌, ℤ, Bool, pos, if◌then◌else◌, FitsSigned, w64}
 use Rattle.std.proofs.lemmas.Int.{to_z-of_z}
 use Rattle.std.specs.Option.{option_copied}
 use Rattle.sqlite.specs.declared.types.Value.TheVariants.{Int}

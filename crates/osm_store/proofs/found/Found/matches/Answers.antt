@@ -1,4 +1,4 @@
-use Rattle.std.proofs.Common.{◌≡◌, [], ◌∷◌, ◌++◌, ℕ, ap, sym, ◌∙◌, Vec, Global}
+use Rattle.std.proofs.Common.{◌≡◌, [], ◌∷◌, ◌++◌, ap, sym, ◌∙◌, Vec, Global}
 use Rattle.osm_store.specs.declared.layout.Layout.TheVariants.{Blocks}
 use Rattle.osm_store.specs.Rows.{Placed, IsStored, found_row}
 use Rattle.osm_store.proofs.RowLemmas.{row_at}

@@ -1,4 +1,4 @@
-use Rattle.std.proofs.Common.{◌≡◌, refl, ap, sym, subst, ◌∙◌, length, ◌<◌, arith}
+use Rattle.std.proofs.Common.{ap, sym, subst, ◌∙◌, length, ◌<◌, arith}
 use Rattle.sqlite.specs.Order.{Row, column}
 use Rattle.osm_store.specs.declared.layout.Layout.TheVariants.{Blocks}
 use Rattle.osm_store.specs.Rows.{IsStored, block_row}

@@ -1,4 +1,4 @@
-use Rattle.std.proofs.Common.{◌≡◌, [], ◌∷◌, ◌++◌, refl, ap, sym, subst, ◌∙◌, length, ◌<◌, arith, Vec, Global}
+use Rattle.std.proofs.Common.{◌≡◌, [], ◌∷◌, ◌++◌, ap, sym, subst, ◌∙◌, length, ◌<◌, arith, Vec, Global}
 use Rattle.osm_value.specs.declared.element.Element.{Element}
 use Rattle.sqlite.specs.Order.{Row, column}
 use Rattle.osm_store.specs.declared.layout.Layout.TheVariants.{Blocks}
