@@ -20,3 +20,8 @@ pub use fault::StoreFault;
 pub use found::Found;
 pub use keeper::{Extent, Keeper};
 pub use loaded::Loaded;
+
+#[cfg(test)]
+mod crash_tests;
+#[cfg(test)]
+mod tests;
