@@ -13,6 +13,8 @@ pub mod WritingLemmas
 pub mod AnswerLines
 pub mod FrameLemmas
 pub mod Moves
+pub mod Filling
+pub mod NextFrame
 pub mod StreamLists
 pub mod StreamTakes
 pub mod StreamLemmas

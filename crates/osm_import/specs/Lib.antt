@@ -14,3 +14,4 @@ pub mod Lines
 pub mod StopFaults
 pub mod Streams
 pub mod StreamSteps
+pub mod FrameReads

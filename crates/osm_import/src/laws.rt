@@ -7,7 +7,7 @@ ghost use Rattle.osm_store.specs.Held.{HeldMap};
 ghost use Rattle.osm_import.specs.Step.{IsStep};
 ghost use Rattle.osm_import.specs.Runs.{IsFault};
 ghost use Rattle.osm_import.specs.declared.answer.Answer.{Answer};
-ghost use Rattle.osm_import.specs.Good.{IsGood, FaultlessBlocksSay};
+ghost use Rattle.osm_import.specs.Good.{IsGood};
 ghost use Rattle.osm_import.specs.Bad.{IsBad};
 ghost use Rattle.osm_import.specs.declared.fault.Fault.{Fault};
 ghost use Rattle.osm_import.specs.Histories.{HistoriesRestart};
@@ -15,7 +15,7 @@ ghost use Rattle.osm_import.specs.Histories.{HistoriesRestart};
 /// A delivery has a fault exactly where it isn't good for any kind and elements; it has one fault, or one kind and one
 /// list of elements.
 pub fn delivery_is_good_or_bad()
-    ensures some { FaultlessBlocksSay → (off : ℕ) (w : List ℕ) → ((kind : Kind) × (es : List Element) × IsGood off w kind es) ⊎ ((fault : Fault) × IsBad off w fault) }
+    ensures some { (off : ℕ) (w : List ℕ) → ((kind : Kind) × (es : List Element) × IsGood off w kind es) ⊎ ((fault : Fault) × IsBad off w fault) }
     ensures apart { (off : ℕ) (w : List ℕ) (kind : Kind) (es : List Element) → IsGood off w kind es → (fault : Fault) → IsBad off w fault → ⊥ }
     ensures one_fault { (off : ℕ) (w : List ℕ) (fault other : Fault) → IsBad off w fault → IsBad off w other → fault ≡ other }
     ensures one_blob { (off : ℕ) (w : List ℕ) (kind other : Kind) (es fs : List Element) → IsGood off w kind es → IsGood off w other fs → (kind ≡ other) × (es ≡ fs) }
@@ -23,7 +23,7 @@ pub fn delivery_is_good_or_bad()
 
 /// To a delivery there is one answer that is no fault, and one map after it.
 pub fn step_is_one()
-    ensures some { FaultlessBlocksSay → (held : HeldMap) (off : ℕ) (bytes : List ℕ) → (answer : Answer) × (after : HeldMap) × IsStep held off bytes answer after × ¬ (IsFault answer) }
+    ensures some { (held : HeldMap) (off : ℕ) (bytes : List ℕ) → (answer : Answer) × (after : HeldMap) × IsStep held off bytes answer after × ¬ (IsFault answer) }
     ensures one { (held : HeldMap) (off : ℕ) (bytes : List ℕ) (answer answer' : Answer) (after after' : HeldMap) → IsStep held off bytes answer after → IsStep held off bytes answer' after'
         → ¬ (IsFault answer) → ¬ (IsFault answer') → (answer ≡ answer') × (after ≡ after') }
 {}

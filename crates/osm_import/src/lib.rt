@@ -18,4 +18,6 @@ pub use examination::{ExamineFault, Good, examine};
 pub use export::{ExportFault, export_lines};
 pub use fault::Fault;
 pub use gap::gaps;
-pub use stream::{Inlet, Source, SourceFailed, Stop, StreamFault, Summary, import_stream};
+pub use stream::{
+    FrameReader, Inlet, Source, SourceFailed, Stop, StreamFault, Summary, import_stream,
+};

@@ -1,3 +1,4 @@
 pub mod ElementLaws
+pub mod ListedInput
 pub mod ListingLaws
 pub mod ListingSteps

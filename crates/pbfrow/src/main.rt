@@ -1,7 +1,6 @@
 //! The program pbfrow: reads and checks OpenStreetMap PBF files.
 #![tactic(auto)]
 
-mod blob;
 mod check;
 mod definition;
 mod element;
@@ -14,7 +13,7 @@ mod words;
 
 use check::check;
 use clap::Error;
-use input::{InputFault, refuse_input};
+use input::refuse_input;
 use list::list;
 use show::show;
 use std::alloc::Global;
@@ -89,7 +88,7 @@ fn run_on_file(rt: HostRuntime, reading: Reading, file: Option<&str>) -> io::Res
         None => read_with(rt.alloc(), reading, &mut rt.stdin(), &mut out),
         Some(name) => match File::open(&rt, name) {
             Ok(mut file) => read_with(rt.alloc(), reading, &mut file, &mut out),
-            Err(_) => refuse_input(InputFault::ReadFailed, &mut out),
+            Err(_) => refuse_input(&mut out),
         },
     };
     out.flush()?;

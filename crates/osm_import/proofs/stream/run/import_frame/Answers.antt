@@ -1,9 +1,16 @@
-use Rattle.std.proofs.Common.{◌≡◌, List, ℕ, refl, subst, inl}
+use Rattle.std.proofs.Common.{◌≡◌, refl, subst, inl}
 use Rattle.std.specs.Io.KnownBytes.{Consumes, IsAtEnd, prepend_known}
 use Rattle.osm_import.specs.Streams.{TakesOne}
 use Rattle.osm_import.proofs.StreamLemmas.{at-end-unless-full}
-use Rattle.osm_import.proofs.FrameLemmas.{got-of, frame-stopped, same-rest, end-faulted, ended-empty, end-known}
+use Rattle.osm_import.proofs.FrameLemmas.{got-of, fill-stopped, frame-stopped, same-rest, end-faulted, ended-empty, end-known}
 use Rattle.osm_import.proofs.stream.run.import_frame.Goals as goal
+
+pub returns-in-Err : goal.returns-in-Err
+returns-in-Err g c =
+    let before = prepend_known c.args.piece.now (g.R.Source.bytes_left c.args.reader.now) in
+    let after = prepend_known c.fill.new.piece (g.R.Source.bytes_left c.fill.new.reader) in
+    fill-stopped c.args.framer.now before after (g.S.Sink.written c.args.out.now) (g.R.Source.has_failed c.fill.new.reader) (g.S.Sink.has_failed c.args.out.now) (c.args.keeper.now ≡ c.args.keeper.now) (λ off bytes answer. TakesOne g.K.Keeper.holds g.K.Keeper.leaves g.K.Keeper.leaves_a_map g.K.Keeper.is_honest g.K.Keeper.is_open g.K.Keeper.failures c.args.keeper.now c.args.keeper.now off bytes answer) c.fill.new.framer c.in-Err.stop
+    c.fill.ensures.moved c.in-Err.ensures.cause refl
 
 pub returns-in-Err-deliver_waiting : goal.returns-in-Err-deliver_waiting
 returns-in-Err-deliver_waiting g c =
