@@ -186,7 +186,7 @@ fn finds_node(alloc: Global, store: &mut BodyStore<MemStore>) -> bool {
         return false;
     };
     match matches.as_slice() {
-        [(47, 1, element)] => is_node(element, 2, 900, -100),
+        [only] => only.0 == 47 && only.1 == 1 && is_node(&only.2, 2, 900, -100),
         _ => false,
     }
 }
