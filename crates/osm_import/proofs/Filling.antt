@@ -10,8 +10,11 @@ use Rattle.pbf_frame.specs.Framer.{Framing, FaultStands, IsUnfinished, MayEnd, T
 use Rattle.pbf_frame.specs.Parts.{is_cut, is_early, part_end}
 use Rattle.pbf_frame.proofs.PartLaws.{empty_part, whole_long}
 use Rattle.pbf_frame.proofs.WaitingLaws.{fault_again, waits_again}
-use Rattle.osm_import.specs.Streams.{Moved}
+use Rattle.osm_import.specs.Streams.{Moved, ReadHasCause}
 use Rattle.osm_import.specs.StreamSteps.{IsFull}
+use Rattle.osm_import.specs.FrameReads.{LacksFrame}
+use Rattle.osm_import.specs.declared.stream.fault.Stop.{Stop}
+use Rattle.osm_import.specs.declared.stream.fault.Stop.TheVariants.{Frame, NoHeaderFirst, WriteFailed, Store, ReadFailed, BlobLimit}
 use Rattle.osm_import.proofs.Moves.{moved_both}
 
 -- ---- when it takes no more
@@ -71,6 +74,15 @@ lacks-frame f true left e full end (inr unfinished, others, may) = elim (full re
   | inl waits ↦ neither_both tt e (may (inr waits))
   | inr (fault, s) ↦ inl (subst (λ (x : FrameFault). FaultStands x f) (sym (err_is e fault (others fault s))) s)
 ]
+
+-- where it has stopped before that
+pub stopped-frame : (f : Framing) (left : Option (List ℕ)) (has_failed : Bool) (stop : Stop) → ReadHasCause has_failed stop → (stop ≡ ReadFailed → IsFull f → ⊥) → LacksFrame f left has_failed stop
+stopped-frame f left has_failed ReadFailed cause unfilled = (cause, unfilled refl)
+stopped-frame f left has_failed (Store fault) cause unfilled = cause
+stopped-frame f left has_failed (Frame fault) cause unfilled = absurd cause
+stopped-frame f left has_failed NoHeaderFirst cause unfilled = absurd cause
+stopped-frame f left has_failed WriteFailed cause unfilled = absurd cause
+stopped-frame f left has_failed BlobLimit cause unfilled = absurd cause
 
 -- ---- a piece
 

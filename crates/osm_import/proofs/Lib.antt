@@ -1,5 +1,6 @@
 pub mod Delivering
 pub mod ExamineLemmas
+pub mod PbfLemmas
 pub mod ExportLemmas
 pub mod FewTexts
 pub mod FilesLemmas
@@ -14,6 +15,7 @@ pub mod AnswerLines
 pub mod FrameLemmas
 pub mod Moves
 pub mod Filling
+pub mod Begun
 pub mod NextFrame
 pub mod StreamLists
 pub mod StreamTakes

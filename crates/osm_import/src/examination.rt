@@ -3,6 +3,7 @@
 ghost use Rattle.std.specs.Prelude.{◌≡◌, [], length, IfOk, IfErr, OnOk, MatchOption};
 ghost use Rattle.pbf_frame.specs.declared.kind.Kind.TheVariants.{OsmHeader, OsmData};
 ghost use Rattle.osm_import.specs.Good.{IsGood, HasElements};
+ghost use Rattle.osm_import.specs.ExamineFaults.{examine_number_of, examine_name_of};
 ghost use Rattle.osm_import.specs.Bad.{IsFinding, CanStand, IsMisplaced, IsBadBlob, IsBlobFinding};
 
 use crate::fault::Fault;
@@ -22,6 +23,28 @@ pub enum ExamineFault {
     Bad(Fault),
     #[error("memory was refused")]
     Memory,
+}
+
+impl ExamineFault {
+    /// The number that this fault has in every message of the program: that of the delivery's fault, or 65.
+    pub fn number(self) -> u8
+        ensures { result ≡ examine_number_of self }
+    {
+        match self {
+            ExamineFault::Bad(fault) => fault.number(),
+            ExamineFault::Memory => 65,
+        }
+    }
+
+    /// The name that this fault has in every message of the program.
+    pub fn name(self) -> &'static str
+        ensures { result.now ≡ examine_name_of self }
+    {
+        match self {
+            ExamineFault::Bad(fault) => fault.name(),
+            ExamineFault::Memory => "Memory",
+        }
+    }
 }
 
 /// A good delivery: the kind of its frame, how many bytes the frame has, and its elements, whose texts lie in it.

@@ -15,7 +15,7 @@ pub use answer::{Answer, Conflict};
 pub use deliveries::{Delivery, deliver_all, deliver_until_fault};
 pub use delivery::deliver;
 pub use examination::{ExamineFault, Good, examine};
-pub use export::{ExportFault, export_lines};
+pub use export::{ExportFault, export_lines, export_pbf};
 pub use fault::Fault;
 pub use gap::gaps;
 pub use stream::{

@@ -129,8 +129,15 @@ pub(crate) fn has_nodes<S: Alter>(connection: &mut Connection<S>) -> bool {
 
 /// Whether the blobs at 0 and at 47 have the digests that they were put with.
 fn has_digests<S: Alter>(connection: &mut Connection<S>) -> bool {
-    shows(connection, "SELECT digest FROM blob WHERE off = 0", &[1; 32])
-        && shows(connection, "SELECT digest FROM blob WHERE off = 47", &[2; 32])
+    shows(
+        connection,
+        "SELECT digest FROM blob WHERE off = 0",
+        &[1; 32],
+    ) && shows(
+        connection,
+        "SELECT digest FROM blob WHERE off = 47",
+        &[2; 32],
+    )
 }
 
 #[test]
@@ -141,8 +148,14 @@ fn rows_of_two_blobs(rt: HostRuntime) -> Result<(), Fail> {
         ("SELECT count(*) FROM meta", 1),
         ("SELECT version FROM meta", 1),
         ("SELECT count(*) FROM blob", 2),
-        ("SELECT count(*) FROM blob WHERE off = 0 AND fin = 47 AND kind = 0 AND n = 0", 1),
-        ("SELECT count(*) FROM blob WHERE off = 47 AND fin = 84 AND kind = 1 AND n = 2", 1),
+        (
+            "SELECT count(*) FROM blob WHERE off = 0 AND fin = 47 AND kind = 0 AND n = 0",
+            1,
+        ),
+        (
+            "SELECT count(*) FROM blob WHERE off = 47 AND fin = 84 AND kind = 1 AND n = 2",
+            1,
+        ),
         ("SELECT count(*) FROM body", 2),
     ] {
         assert_eq!(rt; number(&mut connection, sql), Some(wanted), "{sql}");
@@ -158,7 +171,10 @@ fn rows_of_another_type(rt: HostRuntime) -> Result<(), Fail> {
     let mut connection = store.into_connection();
     for (sql, wanted) in [
         ("SELECT count(*) FROM blob", 3),
-        ("SELECT count(*) FROM blob WHERE off = 84 AND fin = 100 AND kind = 2 AND n = 0", 1),
+        (
+            "SELECT count(*) FROM blob WHERE off = 84 AND fin = 100 AND kind = 2 AND n = 0",
+            1,
+        ),
         ("SELECT count(*) FROM body", 2),
         ("SELECT count(*) FROM body WHERE off = 84", 0),
     ] {
@@ -435,7 +451,10 @@ fn adopted_databases(rt: HostRuntime) -> Result<(), Fail> {
 #[test]
 fn a_table_stands_already(rt: HostRuntime) -> Result<(), Fail> {
     let store = two_blobs(rt.alloc()).ok_or("a store")?;
-    assert_eq!(rt; creating(store.into_connection()), Some(StoreFault::NotThisStore(None)));
+    assert_eq!(rt;
+        creating(store.into_connection()),
+        Some(StoreFault::NotThisStore(None))
+    );
     let other = with_note(rt.alloc()).ok_or("a table")?;
     assert_eq!(rt; creating(other), Some(StoreFault::NotThisStore(None)));
     Ok(())

@@ -4,7 +4,7 @@ ghost use Rattle.std.specs.Prelude.{◌≡◌, ◌≤◌, ◌<◌, ◌↔◌, []
 ghost use Rattle.std.specs.Io.KnownBytes.{Consumes, IsAtEnd, prepend_known};
 ghost use Rattle.pbf_frame.specs.Parts.{is_cut};
 ghost use Rattle.osm_import.specs.Streams.{Moved, ReadHasCause};
-ghost use Rattle.osm_import.specs.StreamSteps.{IsFull};
+ghost use Rattle.osm_import.specs.StreamSteps.{IsFull, IsBegun};
 ghost use Rattle.osm_import.specs.FrameReads.{HasFrame, LacksFrame};
 
 use super::fault::Stop;
@@ -20,6 +20,7 @@ pub(super) fn has_more<R: Source>(piece: &mut Piece, reader: &mut R) -> Result<b
     ensures more { IfOk result (λ more. more ≡ true → 0 < length piece.new) }
     ensures ended { IfOk result (λ more. more ≡ false → (piece.new ≡ []) × IsAtEnd (R.bytes_left reader.new)) }
     ensures failed { OnErr result (R.has_failed reader.new ≡ true) }
+    ensures empty { OnErr result (piece.new ≡ []) }
 {
     if !piece.unread().is_empty() {
         return Ok(true);
@@ -54,6 +55,7 @@ pub(super) fn absorb(framer: &mut Framer, piece: &mut Piece) -> Result<bool, All
     ensures moved { Moved framer.old framer.new (Some piece.old) (Some piece.new) }
     ensures full { IfOk result (λ is_full. (is_full ≡ true) ↔ IsFull framer.new) }
     ensures spent { IfOk result (λ is_full. is_full ≡ false → piece.new ≡ []) }
+    ensures begun { IsBegun framer.old → IsBegun framer.new }
     ensures let_go { framer.new.lent ≡ [] }
     ensures within { length framer.new.rest ≤ 33685507 }
 {
@@ -78,6 +80,8 @@ pub(super) fn fill<R: Source>(
     ensures ended { IfOk result (λ is_full. is_full ≡ false → (piece.new ≡ []) × IsAtEnd (R.bytes_left reader.new)) }
     ensures cause { IfErr result (ReadHasCause (R.has_failed reader.new)) }
     ensures unfilled { IfErr result (λ stop. stop ≡ Stop.ReadFailed → IsFull framer.new → ⊥) }
+    ensures spent { IfErr result (λ stop. stop ≡ Stop.ReadFailed → piece.new ≡ []) }
+    ensures begun { IsBegun framer.old → IsBegun framer.new }
     ensures let_go { framer.new.lent ≡ [] }
 {
     loop {

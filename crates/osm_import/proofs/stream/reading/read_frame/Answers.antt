@@ -1,7 +1,11 @@
 use Rattle.std.specs.Io.KnownBytes.{prepend_known}
-use Rattle.osm_import.proofs.Filling.{lacks-frame}
+use Rattle.osm_import.proofs.Filling.{lacks-frame, stopped-frame}
 use Rattle.osm_import.proofs.FrameLemmas.{end-known}
 use Rattle.osm_import.proofs.stream.reading.read_frame.Goals as goal
+
+pub returns-in-Err-clause-err : goal.returns-in-Err-clause-err
+returns-in-Err-clause-err g c =
+    stopped-frame c.fill.new.framer (prepend_known c.fill.new.piece (g.R.Source.bytes_left c.fill.new.reader)) (g.R.Source.has_failed c.fill.new.reader) c.in-Err.stop c.in-Err.ensures.cause c.in-Err.ensures.unfilled
 
 pub returns-in-Err-end-clause-err : goal.returns-in-Err-end-clause-err
 returns-in-Err-end-clause-err g c =
