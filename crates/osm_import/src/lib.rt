@@ -19,3 +19,6 @@ pub use export::{ExportFault, export_lines, export_pbf};
 pub use fault::Fault;
 pub use gap::gaps;
 pub use stream::{Inlet, Source, SourceFailed, Stop, StreamFault, Summary, import_stream};
+
+#[cfg(test)]
+mod tests;
