@@ -1,6 +1,7 @@
 pub mod Delivering
 pub mod ExamineLemmas
 pub mod PbfLemmas
+pub mod PbfFileLemmas
 pub mod ExportLemmas
 pub mod FewTexts
 pub mod FilesLemmas

@@ -12,6 +12,7 @@ pub mod Faults
 pub mod Inlets
 pub mod Lines
 pub mod Pbf
+pub mod PbfFiles
 pub mod StopFaults
 pub mod Streams
 pub mod StreamSteps

@@ -11,6 +11,7 @@ ghost use Rattle.osm_import.specs.Good.{IsGood, FaultlessBlocksSay};
 ghost use Rattle.osm_import.specs.Bad.{IsBad};
 ghost use Rattle.osm_import.specs.declared.fault.Fault.{Fault};
 ghost use Rattle.osm_import.specs.Histories.{HistoriesRestart};
+ghost use Rattle.osm_import.specs.PbfFiles.{FramesAreAFile};
 
 /// A delivery has a fault exactly where it isn't good for any kind and elements; it has one fault, or one kind and one
 /// list of elements.
@@ -33,4 +34,10 @@ pub fn step_is_one()
 /// fell; and delivering the whole list again without a fault gives all of it, as one unbroken run does.
 pub fn restart_law()
     ensures { HistoriesRestart }
+{}
+
+/// What an export as PBF writes of a map that tiles a file is a file too, where it has 2^62 bytes at most, and its
+/// elements are those of the first.
+pub fn pbf_export_is_a_file()
+    ensures { FramesAreAFile }
 {}
