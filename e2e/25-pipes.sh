@@ -40,6 +40,12 @@ same "show prints a blob's lines before it reads on" early.txt want.txt
 "$pbfrow" show "$two" > want.txt
 same "show of a slow writer" late.txt want.txt
 
+# import reads a pipe as it reads a file, and says of a blob what became of it before it reads on
+rm -f pipe.db
+cat "$two" | "$pbfrow" import /dev/stdin pipe.db > of-pipe.txt
+lines "0 stored 0" "47 stored 2" "blobs stored 2 held 0 bad 0 refused 0" > want.txt
+same "import of a pipe" of-pipe.txt want.txt
+
 # peak NAME KILOBYTES COMMAND: the command takes at most so much memory for the large file.
 peak() {
   local most
