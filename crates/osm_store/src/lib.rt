@@ -20,3 +20,6 @@ pub use fault::StoreFault;
 pub use found::Found;
 pub use keeper::{Extent, Keeper};
 pub use loaded::Loaded;
+
+#[cfg(test)]
+mod tests;
