@@ -22,4 +22,6 @@ pub use keeper::{Extent, Keeper};
 pub use loaded::Loaded;
 
 #[cfg(test)]
+mod crash_tests;
+#[cfg(test)]
 mod tests;

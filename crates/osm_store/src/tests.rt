@@ -59,7 +59,10 @@ fn new_store(alloc: Global) -> Option<BodyStore<MemStore>> {
     BodyStore::create(connection).ok()
 }
 
-fn put_header<S: Alter>(alloc: Global, store: &mut BodyStore<S>) -> Result<(), StoreFault> {
+pub(crate) fn put_header<S: Alter>(
+    alloc: Global,
+    store: &mut BodyStore<S>,
+) -> Result<(), StoreFault> {
     store.put(alloc, 0, 47, &[1; 32], Kind::OsmHeader, &[])
 }
 

@@ -1,0 +1,273 @@
+//! A stop at each call of either file of a database, and what the next opening finds.
+
+use crate::tests::{has_nodes, number, put_header, put_nodes};
+use crate::{BodyStore, Extent, Keeper, StoreFault};
+use pbf_frame::Kind;
+use sqlite::{Alter, Connection, FileStore, Files, Options};
+use sqlite_disk::{Crash, Disk, Fuse, Memory};
+use std::alloc::Global;
+use std::test::Fail;
+
+type Fused = Fuse<Memory>;
+
+type Database = Connection<FileStore<Fused>>;
+
+/// Few pages in memory and a short log, so that each call of a store makes many calls of both files.
+const OPTIONS: Options = Options {
+    cache_pages: 8,
+    spill_pages: 2,
+    checkpoint_frames: 8,
+    seed: 7,
+};
+
+const HEADER: Extent = Extent {
+    off: 0,
+    fin: 47,
+    digest: [1; 32],
+    kind: Kind::OsmHeader,
+    n: 0,
+};
+
+const NODES: Extent = Extent {
+    off: 47,
+    fin: 84,
+    digest: [2; 32],
+    kind: Kind::OsmData,
+    n: 2,
+};
+
+/// The file that stops.
+#[derive(Clone, Copy, Debug, PartialEq, Eq)]
+enum Stopped {
+    Log,
+    Db,
+}
+
+/// What becomes of bytes that were written and not synced.
+#[derive(Clone, Copy, Debug, PartialEq, Eq)]
+enum Unsynced {
+    /// They are lost, as where the machine stops.
+    Lost,
+    /// They stay, as where the process alone stops.
+    Kept,
+}
+
+/// The call of a store in which the file stops.
+#[derive(Clone, Copy, Debug, PartialEq, Eq)]
+enum Call {
+    /// In a database with no tables.
+    Create,
+    /// Of two nodes, into a store that holds a header.
+    Put,
+}
+
+/// What a database holds.
+#[derive(Clone, Copy, Debug, PartialEq, Eq)]
+enum Held {
+    NoStore,
+    Nothing,
+    Header,
+    HeaderAndNodes,
+}
+
+/// What the next opening found after a stop that a call did not outlive.
+#[derive(Clone, Copy, Debug, PartialEq, Eq)]
+struct Found {
+    before: bool,
+    whole: bool,
+}
+
+fn opened<D: Disk + Drop>(alloc: Global, files: Files<D>) -> Option<Connection<FileStore<D>>> {
+    if !files.may_be_used() {
+        return None;
+    }
+    match Connection::open_files(alloc, files, OPTIONS) {
+        Ok(connection) => Some(connection),
+        Err(_) => None,
+    }
+}
+
+/// The database of two new files, one of which stops after so many calls.
+fn fused(alloc: Global, stopped: Stopped, calls: u64) -> Option<Database> {
+    let (log_calls, db_calls) = match stopped {
+        Stopped::Log => (calls, u64::MAX),
+        Stopped::Db => (u64::MAX, calls),
+    };
+    let files = Files {
+        log: Fuse::new(Memory::new(alloc), log_calls),
+        db: Fuse::new(Memory::new(alloc), db_calls),
+    };
+    opened(alloc, files)
+}
+
+/// A file with the same bytes, which doesn't stop.
+fn copy(alloc: Global, file: &Fused) -> Option<Fused> {
+    let mut memory = Memory::new(alloc);
+    memory.write_at(0, file.inner().bytes()).ok()?;
+    Some(Fuse::new(memory, u64::MAX))
+}
+
+fn kept(alloc: Global, files: Files<Fused>) -> Option<Files<Fused>> {
+    let (log, db) = (copy(alloc, &files.log)?, copy(alloc, &files.db)?);
+    Some(Files { log, db })
+}
+
+fn lost(mut files: Files<Fused>) -> Files<Fused> {
+    files.log.crash();
+    files.db.crash();
+    files
+}
+
+/// What the next opening finds after a stop, in files that don't stop again.
+fn reopened(alloc: Global, database: Database, unsynced: Unsynced) -> Option<Database> {
+    let files = database.into_store().close();
+    let files = match unsynced {
+        Unsynced::Lost => lost(files),
+        Unsynced::Kept => kept(alloc, files)?,
+    };
+    opened(alloc, files)
+}
+
+/// Makes a store, and tells whether that was answered.
+fn create<S: Alter + Drop>(database: Connection<S>) -> Option<(bool, Connection<S>)> {
+    if !database.is_autocommit() {
+        return None;
+    }
+    match BodyStore::create(database) {
+        Ok(store) => Some((true, store.into_connection())),
+        Err((_, database)) => Some((false, database)),
+    }
+}
+
+/// Puts the nodes into a new store that holds a header, and tells whether that was answered.
+fn put<S: Alter + Drop>(alloc: Global, database: Connection<S>) -> Option<(bool, Connection<S>)> {
+    if !database.is_autocommit() {
+        return None;
+    }
+    let mut store = BodyStore::create(database).ok()?;
+    put_header(alloc, &mut store).ok()?;
+    let is_put = put_nodes(alloc, &mut store).is_ok();
+    Some((is_put, store.into_connection()))
+}
+
+/// The map of a store, where each extent and each row is one that was put.
+fn map<S: Alter + Drop>(alloc: Global, mut store: BodyStore<S>) -> Option<Held> {
+    let extents = store.extents(alloc).ok()?;
+    let mut database = store.into_connection();
+    let rows = number(&mut database, "SELECT count(*) FROM body")?;
+    match (extents.as_slice(), rows) {
+        ([], 0) => Some(Held::Nothing),
+        ([only], 0) if only == &HEADER => Some(Held::Header),
+        ([first, last], 2) if first == &HEADER && last == &NODES && has_nodes(&mut database) => {
+            Some(Held::HeaderAndNodes)
+        }
+        _ => None,
+    }
+}
+
+/// What a database holds, where it is the store or has no tables.
+fn adopted<S: Alter + Drop>(alloc: Global, database: Connection<S>) -> Option<Held> {
+    if !database.is_autocommit() {
+        return None;
+    }
+    match BodyStore::adopt(database) {
+        Ok(store) => map(alloc, store),
+        Err((StoreFault::NotThisStore(None), database)) => {
+            let (is_made, _) = create(database)?;
+            is_made.then_some(Held::NoStore)
+        }
+        Err(_) => None,
+    }
+}
+
+/// Whether a call was answered after which a file stopped, and what the next opening found.
+fn after_stop(
+    alloc: Global,
+    call: Call,
+    database: Database,
+    unsynced: Unsynced,
+) -> Option<(bool, Option<Held>)> {
+    let (is_answered, database) = match call {
+        Call::Create => create(database)?,
+        Call::Put => put(alloc, database)?,
+    };
+    let held = match reopened(alloc, database, unsynced) {
+        Some(database) => adopted(alloc, database),
+        None => None,
+    };
+    Some((is_answered, held))
+}
+
+/// Stops a file after each number of calls. The last numbers are more than are made.
+/// An error is the number after which the next opening found anything but the map before the call or the whole map
+/// after it, or not the latter although the call was answered.
+fn stops(alloc: Global, call: Call, stopped: Stopped, unsynced: Unsynced) -> Result<Found, u64> {
+    let (before, whole) = match call {
+        Call::Create => (Held::NoStore, Held::Nothing),
+        Call::Put => (Held::Header, Held::HeaderAndNodes),
+    };
+    let mut found = Found {
+        before: false,
+        whole: false,
+    };
+    for calls in 0u64..300 {
+        let Some(database) = fused(alloc, stopped, calls) else {
+            continue;
+        };
+        let Some((is_answered, held)) = after_stop(alloc, call, database, unsynced) else {
+            continue;
+        };
+        if !is_answered && held == Some(before) {
+            found.before = true;
+        } else if held != Some(whole) {
+            return Err(calls);
+        } else if !is_answered {
+            found.whole = true;
+        }
+    }
+    Ok(found)
+}
+
+#[test]
+fn stops_of_create(rt: HostRuntime) -> Result<(), Fail> {
+    let alloc = rt.alloc();
+    println!(rt;
+        "{:?}",
+        stops(alloc, Call::Create, Stopped::Log, Unsynced::Lost)
+    )?;
+    println!(rt;
+        "{:?}",
+        stops(alloc, Call::Create, Stopped::Log, Unsynced::Kept)
+    )?;
+    println!(rt;
+        "{:?}",
+        stops(alloc, Call::Create, Stopped::Db, Unsynced::Lost)
+    )?;
+    println!(rt;
+        "{:?}",
+        stops(alloc, Call::Create, Stopped::Db, Unsynced::Kept)
+    )?;
+    Ok(())
+}
+
+#[test]
+fn stops_of_put(rt: HostRuntime) -> Result<(), Fail> {
+    let alloc = rt.alloc();
+    println!(rt;
+        "{:?}",
+        stops(alloc, Call::Put, Stopped::Log, Unsynced::Lost)
+    )?;
+    println!(rt;
+        "{:?}",
+        stops(alloc, Call::Put, Stopped::Log, Unsynced::Kept)
+    )?;
+    println!(rt;
+        "{:?}",
+        stops(alloc, Call::Put, Stopped::Db, Unsynced::Lost)
+    )?;
+    println!(rt;
+        "{:?}",
+        stops(alloc, Call::Put, Stopped::Db, Unsynced::Kept)
+    )?;
+    Ok(())
+}
