@@ -11,12 +11,10 @@ use Rattle.osm_value.specs.Sink.{AppendsFront}
 use Rattle.osm_write.specs.Cutter.{StepOk, ComesToOne}
 use Rattle.osm_write.specs.Header.{header_block, plain_header, plain_header_is}
 use Rattle.osm_store.specs.Held.{Blob, HeldMap}
-use Rattle.osm_store.specs.Keeping.{extents_of, extent_of, IsForeign}
+use Rattle.osm_store.specs.Keeping.{extents_of, extent_of}
 use Rattle.osm_store.specs.declared.keeper.Extent.{Extent}
 use Rattle.osm_store.specs.declared.fault.StoreFault.{StoreFault}
-use Rattle.osm_store.specs.declared.fault.StoreFault.TheVariants as store
 use Rattle.osm_import.specs.Exports.{Known, WritesBlob, IsRefusal}
-use Rattle.osm_import.specs.ExportCauses.{ExportHasCause, ExportIsOwn, WriteHasCause}
 use Rattle.osm_import.specs.Gaps.{Tiles}
 use Rattle.osm_import.specs.Pbf.{header_frame, data_frame, data_frames, Cuts, AreFramesOf, elements_at, AreFirstFrames, WritesBlocks, WritesFrames, IsPbfExport}
 use Rattle.osm_import.specs.declared.export.fault.ExportFault.{ExportFault}
@@ -24,27 +22,6 @@ use Rattle.osm_import.specs.declared.export.fault.ExportFault.TheVariants.{Incom
 use Rattle.osm_import.proofs.Touching.{find-tail, find-head, sorted-tail}
 use Rattle.osm_import.proofs.Delivering.{true-of}
 use Rattle.osm_import.proofs.WritingLemmas.{front-of-piece}
-
--- ---- causes
-
-pub write-cause : (before now : ℕ) (failed : Bool) (result : Result (Unit {0}) ExportFault) → WriteHasCause failed result → ExportHasCause before now failed result
-write-cause before now failed (Ok _) h = tt
-write-cause before now failed (Err WriteFailed) h = h
-write-cause before now failed (Err (Store fault)) h = inl h
-write-cause before now failed (Err BlockTooLarge) h = tt
-write-cause before now failed (Err (Incomplete from to)) h = tt
-write-cause before now failed (Err (PastEnd fin)) h = tt
-
-memory-own : (fault : StoreFault) → fault ≡ store.Memory → ¬ (IsForeign fault)
-memory-own fault is = subst (λ (f : StoreFault). ¬ (IsForeign f)) (sym is) (λ bad. bad)
-
-pub write-own : (failed : Bool) (result : Result (Unit {0}) ExportFault) → WriteHasCause failed result → ExportIsOwn result
-write-own failed (Ok _) h = tt
-write-own failed (Err WriteFailed) h = tt
-write-own failed (Err (Store fault)) h = memory-own fault h
-write-own failed (Err BlockTooLarge) h = tt
-write-own failed (Err (Incomplete from to)) h = tt
-write-own failed (Err (PastEnd fin)) h = tt
 
 -- ---- one blob
 

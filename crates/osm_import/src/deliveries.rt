@@ -67,8 +67,9 @@ pub fn deliver_all<K: Keeper>(
 {
     let mut answers = Vec::with_capacity(alloc, deliveries.len())?;
     for delivery in deliveries {
-        let answer = deliver(alloc, keeper, delivery.off, delivery.bytes);
-        answers.push(answer).unwrap();
+        answers
+            .push(deliver(alloc, keeper, delivery.off, delivery.bytes))
+            .unwrap();
     }
     Ok(answers)
 }

@@ -22,30 +22,30 @@ pub loop-delivery-preserved : goal.loop-delivery-preserved
 loop-delivery-preserved g c =
     let K = g.K.Keeper in
     let inv = c.loop-delivery.invariant in
-    let made = c.deliver-answer.ensures in
-    let pushed : c.push.new.self.items ≡ c.loop-delivery.answers.items ++ c.deliver-answer.result ∷ [] = rw c.unwrap.ensures at c.push.ensures.items in
+    let made = c.deliver.ensures in
+    let pushed : c.push.new.self.items ≡ c.loop-delivery.answers.items ++ c.deliver.result ∷ [] = rw c.unwrap.ensures at c.push.ensures.items in
     record {
       room = search rules;
       count = grind (arith, common_steps);
       honest = λ h. inv.honest (made.honest h);
       open_if = λ h. inv.open_if (made.open_if h);
       counted = omega (arith, inv.counted, made.counted);
-      caused = rw pushed (causes-push (K.failures c.args.keeper.now) (K.failures c.loop-delivery.keeper) (K.failures c.deliver-answer.new.keeper) c.loop-delivery.answers.items c.deliver-answer.result made.counted inv.caused
-          (cause-wider (K.failures c.args.keeper.now) (K.failures c.loop-delivery.keeper) (K.failures c.deliver-answer.new.keeper) (K.failures c.deliver-answer.new.keeper) c.deliver-answer.result inv.counted (omega arith) made.cause));
+      caused = rw pushed (causes-push (K.failures c.args.keeper.now) (K.failures c.loop-delivery.keeper) (K.failures c.deliver.new.keeper) c.loop-delivery.answers.items c.deliver.result made.counted inv.caused
+          (cause-wider (K.failures c.args.keeper.now) (K.failures c.loop-delivery.keeper) (K.failures c.deliver.new.keeper) (K.failures c.deliver.new.keeper) c.deliver.result inv.counted (omega arith) made.cause));
       own = λ held holds honest is_open.
           (let so_far = inv.run held holds (made.honest honest) (made.open_if is_open) in
-          subst (λ (rs : List Answer). AreOwn rs) (sym pushed) (own-push c.loop-delivery.answers.items c.deliver-answer.result
+          subst (λ (rs : List Answer). AreOwn rs) (sym pushed) (own-push c.loop-delivery.answers.items c.deliver.result
           (inv.own held holds (made.honest honest) (made.open_if is_open)) (made.own so_far.0 so_far.2 honest)));
       run = λ held holds honest is_open.
-          runs-more (K.holds c.loop-delivery.keeper) (K.holds c.deliver-answer.new.keeper) (K.is_open c.deliver-answer.new.keeper) held c.args.deliveries.now c.loop-delivery.delivery-index _ c.delivery-item.result
-          c.loop-delivery.answers.items c.push.new.self.items c.deliver-answer.result (omega arith) c.delivery.view_is c.delivery-item.is pushed
+          runs-more (K.holds c.loop-delivery.keeper) (K.holds c.deliver.new.keeper) (K.is_open c.deliver.new.keeper) held c.args.deliveries.now c.loop-delivery.delivery-index _ c.delivery-item.result
+          c.loop-delivery.answers.items c.push.new.self.items c.deliver.result (omega arith) c.delivery.view_is c.delivery-item.is pushed
           (inv.run held holds (made.honest honest) (made.open_if is_open)) (λ now holds_now. made.step now holds_now honest) is_open;
       unbroken = λ held holds honest sound.
-          let parts = none-split IsFault c.loop-delivery.answers.items c.deliver-answer.result (subst (λ (rs : List Answer). IsNone IsFault rs) pushed sound) in
-          runs-step (K.holds c.loop-delivery.keeper) (K.holds c.deliver-answer.new.keeper) held c.args.deliveries.now c.loop-delivery.delivery-index _ c.delivery-item.result
-          c.loop-delivery.answers.items c.push.new.self.items c.deliver-answer.result (omega arith) c.delivery.view_is c.delivery-item.is pushed
+          let parts = none-split IsFault c.loop-delivery.answers.items c.deliver.result (subst (λ (rs : List Answer). IsNone IsFault rs) pushed sound) in
+          runs-step (K.holds c.loop-delivery.keeper) (K.holds c.deliver.new.keeper) held c.args.deliveries.now c.loop-delivery.delivery-index _ c.delivery-item.result
+          c.loop-delivery.answers.items c.push.new.self.items c.deliver.result (omega arith) c.delivery.view_is c.delivery-item.is pushed
           (inv.unbroken held holds (made.honest honest) parts.0)
-          (λ now holds_now. delivers-sound (K.is_open c.deliver-answer.new.keeper) (K.holds c.deliver-answer.new.keeper) now c.delivery.inside.off c.delivery.inside.bytes.now c.deliver-answer.result parts.1
+          (λ now holds_now. delivers-sound (K.is_open c.deliver.new.keeper) (K.holds c.deliver.new.keeper) now c.delivery.inside.off c.delivery.inside.bytes.now c.deliver.result parts.1
           (made.step now holds_now honest));
     }
 
