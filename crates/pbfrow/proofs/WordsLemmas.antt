@@ -1,5 +1,5 @@
 -- What the words say of where an import begins.
-use Rattle.std.proofs.Common.{◌≡◌, ◌≤◌, ℕ, List, Option, Some, None}
+use Rattle.std.proofs.Common.{◌≤◌, ℕ, List, Option, Some, None}
 use Rattle.std.specs.Prelude.{IfSome, IsSomeAnd}
 use Rattle.clap.specs.Words.{Row, Text}
 use Rattle.pbfrow.specs.Words.{BeginsWithin, IsNumber, Says}

@@ -1,5 +1,5 @@
 -- What the command `export` writes.
-use Rattle.std.specs.Prelude.{◌≡◌, ℕ, Bool, List, Option, Result, Ok, Err}
+use Rattle.std.specs.Prelude.{◌≡◌, ℕ, Bool, List, Result, Ok, Err}
 use Rattle.osm_value.specs.Sink.{Wrote}
 use Rattle.osm_import.specs.ExportFaults.{export_number_of, export_name_of}
 use Rattle.osm_import.specs.Exports.{Known}

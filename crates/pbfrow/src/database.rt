@@ -99,17 +99,13 @@ fn close(store: FileBodies) {
 pub(crate) fn fill(rt: &HostRuntime, file: &str, database: &str, from: u64) -> io::Result<u8>
     requires { from ≤ 4611686018427387904 }
 {
-    // each line goes out before more is read
     let meter = Meter::new(rt, true);
     let lines = BlobLines::new(MeteredOutput::new(io::writer(rt), &meter), &meter);
+    // each line goes out before more is read
     let mut out = Outlet::new(LineWriter::new(rt.alloc(), lines)?);
     let Ok(input) = std::fs::File::open(rt, file) else {
-        put_fault_at(
-            &mut out,
-            Stop::ReadFailed.number(),
-            Stop::ReadFailed.name(),
-            from,
-        );
+        let fault = Stop::ReadFailed;
+        put_fault_at(&mut out, fault.number(), fault.name(), from);
         return Ok(FAULTY);
     };
     let mut store = match open_or_create(rt, database) {

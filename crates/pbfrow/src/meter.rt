@@ -114,7 +114,9 @@ impl<'a> Meter<'a> {
             size: self.size.get(),
         };
         let mut line = Vec::new(self.rt.alloc());
-        let _composed = compose(&progress, &mut line);
+        if compose(&progress, &mut line).is_err() {
+            return;
+        }
         let _drawn = self.rt.stderr().write_all(&line);
         self.drawn_at.set(milliseconds);
         self.is_drawn.set(true);

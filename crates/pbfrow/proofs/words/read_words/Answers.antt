@@ -1,4 +1,4 @@
-use Rattle.std.proofs.Common.{◌≡◌, ◌∙◌, true, ap, refl, subst, map, List, ℕ}
+use Rattle.std.proofs.Common.{◌≡◌, ◌∙◌, true, ap, refl, subst, map, List}
 use Rattle.std.specs.Prelude.{Option, IsSomeAnd}
 use Rattle.clap.specs.Words.{Row, Text, app_of, is_simple, subcommand_of}
 use Rattle.pbfrow.specs.Definition.{program}
