@@ -1,5 +1,5 @@
 -- The line of the fault at which an export stopped.
-use Rattle.std.proofs.Common.{◌≡◌, ◌≢◌, Bool, Err, refl}
+use Rattle.std.proofs.Common.{◌≢◌, Bool, Err, refl}
 use Rattle.osm_value.specs.Sink.{Wrote}
 use Rattle.osm_import.specs.Exports.{Known}
 use Rattle.osm_import.specs.declared.export.fault.ExportFault.{ExportFault}

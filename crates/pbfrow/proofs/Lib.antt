@@ -7,3 +7,4 @@ pub mod ListedInput
 pub mod ListingLaws
 pub mod ListingSteps
 pub mod StatusLemmas
+pub mod WordsLemmas

@@ -1,18 +1,18 @@
 -- The plain reading of a listing against what a listing is.
-use Rattle.std.proofs.Common.{◌≡◌, ℕ, zero, suc, ◌+◌, ◌-◌, ◌<◌, ◌≤◌, Bool, true, false, List, [], ◌∷◌, ◌++◌, length, take, drop, Result, Ok, Err, refl, sym, ap, subst, inl, inr, ◌∙◌, arith, append_assoc, add_assoc, zero-add, add-zero}
+use Rattle.std.proofs.Common.{◌≡◌, ℕ, zero, suc, ◌+◌, ◌-◌, ◌<◌, ◌≤◌, Bool, true, false, List, [], ◌∷◌, ◌++◌, length, take, drop, Result, Ok, Err, refl, sym, ap, subst, inl, inr, ◌∙◌, arith, append_assoc, zero-add, add-zero}
 use Rattle.std.specs.List.{AllByRecursion}
 use Rattle.std.proofs.lemmas.Bool.{cases_lt}
 use Rattle.std.proofs.lemmas.List.{length-append, length-drop, length-take, take-append-drop, drop-drop}
 use Rattle.std.proofs.Math.Seq.{drop-append_seam}
 use Rattle.std.proofs.Math.ListN.{drop_of_length-le}
 use Rattle.pbf_frame.specs.declared.fault.FrameFault.{FrameFault}
-use Rattle.pbf_frame.specs.Frame.{Frame, FirstFault, Found, found_at, frame_at}
+use Rattle.pbf_frame.specs.Frame.{FirstFault, Found, found_at, frame_at}
 use Rattle.pbf_frame.proofs.FrameLaws.{frame_again, frame_takes, frame_faults, faults_again, frame_len}
 use Rattle.pbf_frame.specs.Fault.{number_of, name_of}
 use Rattle.pbfrow.specs.FaultLine.{fault_line}
 use Rattle.pbfrow.specs.Listing.{Part, IsPart, joined, lines_from, frame_line, EndsAs, Lists}
 use Rattle.pbfrow.specs.Reading.{Listing, line_and, listing_from, listing}
-use Rattle.pbfrow.proofs.ListingSteps.{nothing, listing_step, listing_end}
+use Rattle.pbfrow.proofs.ListingSteps.{listing_step, listing_end}
 
 -- the same of the bytes behind a place
 record ListsFrom (whole : Bool) (at : ℕ) (w text : List ℕ) : Type 0 where

@@ -1,5 +1,5 @@
 -- The program's commands, as clap's model of a command has them.
-use Rattle.std.specs.Prelude.{Some, None, [], ◌∷◌, codes, true}
+use Rattle.std.specs.Prelude.{Some, [], ◌∷◌, codes, true}
 use Rattle.clap.specs.Words.{App, Rule, Text, new_app, new_rule, with_rule, with_subcommand}
 use Rattle.clap.specs.declared.builder.action.ArgAction.TheVariants.{SetTrue}
 use Rattle.clap.specs.declared.builder.value_parser.ValueParser.TheVariants.{Unsigned}

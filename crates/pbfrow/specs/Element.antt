@@ -1,5 +1,5 @@
 -- The texts that name an element: its letter, then `-` or nothing, then decimal digits.
-use Rattle.std.specs.Prelude.{◌≡◌, ℕ, ℤ, ◌+◌, ◌-◌, ◌*◌, ◌<◌, ◌≤◌, ◌==◌, ◌⊎◌, List, [], ◌∷◌, Option, Some, None, Bool, ◌&&◌, if◌then◌else◌, nat_le, pos, neg_ℤ, option_map, option_and_then, length}
+use Rattle.std.specs.Prelude.{◌≡◌, ℕ, ℤ, ◌+◌, ◌-◌, ◌*◌, ◌≤◌, ◌==◌, ◌⊎◌, List, [], ◌∷◌, Option, Some, None, Bool, ◌&&◌, if◌then◌else◌, nat_le, pos, neg_ℤ, option_map, option_and_then, length}
 use Rattle.std.specs.Str.Parse.{IsNumeral, digits_value}
 use Rattle.osm_value.specs.declared.element.MemberKind.{MemberKind}
 use Rattle.osm_value.specs.declared.element.MemberKind.TheVariants.{Node, Way, Relation}

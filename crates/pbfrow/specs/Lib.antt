@@ -6,6 +6,7 @@ pub mod FaultLine
 pub mod Finding
 pub mod Importing
 pub mod Listing
+pub mod Progress
 pub mod Reading
 pub mod Status
 pub mod Words

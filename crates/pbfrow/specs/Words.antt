@@ -1,5 +1,5 @@
 -- What a command and its arguments say of the matches that clap's definition gives.
-use Rattle.std.specs.Prelude.{ℕ, ◌≡◌, ◌≤◌, ⊤, List, Option, Some, None, Bool, true, false, codes, option_map}
+use Rattle.std.specs.Prelude.{ℕ, ◌≡◌, ◌≤◌, List, Option, Some, None, IfSome, Bool, true, false, codes, option_map}
 use Rattle.std.specs.Borrow.{Bor}
 use Rattle.std.specs.Str.Parse.{IsNumeral, digits_value, without_leading_plus}
 use Rattle.clap.specs.Words.{Row, Text, first_of, one_of}
@@ -49,3 +49,8 @@ Says (command.Export database size partial how) name rows = (name ≡ codes "exp
 Says (command.Find database kind id) name rows = (name ≡ codes "find")
     × (Some database.now ≡ first_of (codes "DB") rows)
     × ((text : Text) × (Some text ≡ first_of (codes "ELEMENT") rows) × (element_at text ≡ Some (kind, id)))
+
+-- an import begins at 2^62 at most
+abbrev pub BeginsWithin : Words → Type 0
+BeginsWithin (command.Import file database from) = IfSome from (λ n. n ≤ 4611686018427387904)
+BeginsWithin _ = Unit {0}

@@ -4,6 +4,7 @@ ghost use Rattle.std.specs.Prelude.{◌≤◌};
 
 use crate::fault::{print_fault, print_finding, print_stop};
 use crate::input::flush_to_wait;
+use crate::meter::Watcher;
 use osm_import::{ExamineFault, Fault, FrameReader, Inlet, Source, Stop, examine};
 use osm_value::Element;
 use std::alloc::Global;
@@ -54,18 +55,28 @@ impl Counts {
 
 /// Writes a fault's line for each bad blob of the input, up to a frame fault, and last the counts; answers the exit
 /// status: 0 where there is no fault, and 1 where there is one, or the input or the output failed. The lines so far are
-/// flushed before more of the input is read.
-pub fn check<R: Read, W: Write>(alloc: Global, input: &mut R, out: &mut W) -> u8
+/// flushed before more of the input is read. The watcher is told of each blob that was checked.
+pub fn check<R: Read, P: Watcher, W: Write>(
+    alloc: Global,
+    input: &mut R,
+    watcher: &P,
+    out: &mut W,
+) -> u8
     ensures { result ≤ 1 }
 {
-    match print_check(alloc, input, out) {
+    match print_check(alloc, input, watcher, out) {
         Ok(true) => 0,
         Ok(false) | Err(_) => 1,
     }
 }
 
 /// Writes what `check` writes of this input, and answers whether there is no fault.
-fn print_check<R: Read, W: Write>(alloc: Global, input: &mut R, out: &mut W) -> io::Result<bool> {
+fn print_check<R: Read, P: Watcher, W: Write>(
+    alloc: Global,
+    input: &mut R,
+    watcher: &P,
+    out: &mut W,
+) -> io::Result<bool> {
     let mut frames = match FrameReader::new(alloc, 0, Inlet::new(input)) {
         Ok(frames) => frames,
         Err(stop) => {
@@ -74,7 +85,7 @@ fn print_check<R: Read, W: Write>(alloc: Global, input: &mut R, out: &mut W) -> 
         }
     };
     let mut counts = Counts::NONE;
-    if !count_blobs(alloc, &mut frames, &mut counts, out)? {
+    if !count_blobs(alloc, &mut frames, watcher, &mut counts, out)? {
         return Ok(false);
     }
     if counts.blobs == 0 && counts.faults == 0 {
@@ -88,9 +99,10 @@ fn print_check<R: Read, W: Write>(alloc: Global, input: &mut R, out: &mut W) -> 
 
 /// Writes the faults of the blobs and counts them, up to a frame fault; answers no where a read failed or memory was
 /// refused, which ends the output.
-fn count_blobs<R: Source, W: Write>(
+fn count_blobs<R: Source, P: Watcher, W: Write>(
     alloc: Global,
     frames: &mut FrameReader<R>,
+    watcher: &P,
     counts: &mut Counts,
     out: &mut W,
 ) -> io::Result<bool> {
@@ -101,6 +113,7 @@ fn count_blobs<R: Source, W: Write>(
                 if !count_blob(alloc, at, bytes, counts, out)? {
                     return Ok(false);
                 }
+                watcher.see_blob();
             }
             Ok(None) => return Ok(true),
             Err(stop) => {

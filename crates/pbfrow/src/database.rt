@@ -1,9 +1,12 @@
 //! The commands on a database: its file is opened, and the answer goes to standard output.
 
-use crate::definition::MAX_OFFSET;
+ghost use Rattle.std.specs.Prelude.{◌≤◌};
+
 use crate::export::export;
 use crate::find::find;
 use crate::import::import;
+use crate::meter::Meter;
+use crate::metered::{BlobLines, MeteredOutput, MeteredReader, MeteredStore};
 use crate::report::{put_fault_at, put_plain_fault};
 use crate::status::status;
 use crate::words::Form;
@@ -93,16 +96,16 @@ fn close(store: FileBodies) {
 }
 
 /// Imports a file into a database, from the offset `from` on, and answers the exit status.
-pub(crate) fn fill(rt: &HostRuntime, file: &str, database: &str, from: u64) -> io::Result<u8> {
+pub(crate) fn fill(rt: &HostRuntime, file: &str, database: &str, from: u64) -> io::Result<u8>
+    requires { from ≤ 4611686018427387904 }
+{
+    let meter = Meter::new(rt, true);
+    let lines = BlobLines::new(MeteredOutput::new(io::writer(rt), &meter), &meter);
     // each line goes out before more is read
-    let mut out = Outlet::new(LineWriter::new(rt.alloc(), io::writer(rt))?);
+    let mut out = Outlet::new(LineWriter::new(rt.alloc(), lines)?);
     let Ok(input) = std::fs::File::open(rt, file) else {
-        put_fault_at(
-            &mut out,
-            Stop::ReadFailed.number(),
-            Stop::ReadFailed.name(),
-            from,
-        );
+        let fault = Stop::ReadFailed;
+        put_fault_at(&mut out, fault.number(), fault.name(), from);
         return Ok(FAULTY);
     };
     let mut store = match open_or_create(rt, database) {
@@ -112,47 +115,55 @@ pub(crate) fn fill(rt: &HostRuntime, file: &str, database: &str, from: u64) -> i
             return Ok(FAULTY);
         }
     };
-    // the words say no offset above the greatest
-    let from = from.min(MAX_OFFSET);
+    meter.measure(&input);
     let status = import(
         rt.alloc(),
-        &mut Inlet::new(input),
+        &mut Inlet::new(MeteredReader::new(input, &meter)),
         &mut store,
         from,
         &mut out,
     );
+    meter.erase();
     close(store);
     Ok(status)
 }
 
 fn answer<W: Write>(
     rt: &HostRuntime,
-    store: &mut FileBodies,
+    mut store: FileBodies,
     question: Question,
+    meter: &Meter,
     out: &mut Outlet<W>,
 ) -> u8 {
     match question {
-        Question::Status { size } => status(rt.alloc(), store, size, out),
+        Question::Status { size } => status(rt.alloc(), &mut store, size, out),
         Question::Export {
             size,
             partial,
             form,
-        } => export(rt.alloc(), store, size, partial, form, out),
-        Question::Find { kind, id } => find(rt.alloc(), store, kind, id, out),
+        } => {
+            let mut store = MeteredStore::new(store, meter);
+            export(rt.alloc(), &mut store, size, partial, form, out)
+        }
+        Question::Find { kind, id } => find(rt.alloc(), &mut store, kind, id, out),
     }
 }
 
 /// Asks a question of a database, and answers the exit status.
 pub(crate) fn ask(rt: &HostRuntime, database: &str, question: Question) -> io::Result<u8> {
-    let mut out = Outlet::new(BufWriter::new(rt.alloc(), io::writer(rt))?);
+    let meter = Meter::new(rt, matches!(question, Question::Export { .. }));
+    let output = MeteredOutput::new(io::writer(rt), &meter);
+    let mut out = Outlet::new(BufWriter::new(rt.alloc(), output)?);
     let status = match open_store(rt, database) {
-        Ok(mut store) => answer(rt, &mut store, question, &mut out),
+        Ok(store) => answer(rt, store, question, &meter, &mut out),
         Err(fault) => {
             put_plain_fault(&mut out, fault.number(), fault.name());
             FAULTY
         }
     };
-    match out.flush() {
+    let flushed = out.flush();
+    meter.erase();
+    match flushed {
         Ok(()) => Ok(status),
         Err(_) => Ok(FAULTY),
     }

@@ -6,7 +6,7 @@ ghost use Rattle.osm_store.specs.Keeping.{extents_of};
 ghost use Rattle.osm_import.specs.Exports.{IsExport, Known, size_of};
 ghost use Rattle.osm_import.specs.Pbf.{IsPbfExport};
 ghost use Rattle.osm_import.specs.declared.export.fault.ExportFault.{ExportFault as ExportFaultValue};
-ghost use Rattle.pbfrow.specs.Exporting.{EndsExport, export_name_of, export_number_of};
+ghost use Rattle.pbfrow.specs.Exporting.{EndsExport};
 ghost use Rattle.pbfrow.specs.Status.{Stays};
 
 use crate::report::put_plain_fault;
@@ -16,39 +16,13 @@ use osm_store::Keeper;
 use osm_value::Sink;
 use std::alloc::Global;
 
-/// The number that a fault of an export has in every message of the program.
-fn number_of(fault: ExportFault) -> u8
-    ensures { result ≡ export_number_of fault }
-{
-    match fault {
-        ExportFault::Incomplete(_, _) => 67,
-        ExportFault::PastEnd(_) => 70,
-        ExportFault::WriteFailed => 24,
-        ExportFault::BlockTooLarge => 53,
-        ExportFault::Store(fault) => fault.number(),
-    }
-}
-
-/// The name that a fault of an export has in every message of the program.
-fn name_of(fault: ExportFault) -> &'static str
-    ensures { result.now ≡ export_name_of fault }
-{
-    match fault {
-        ExportFault::Incomplete(_, _) => "Incomplete",
-        ExportFault::PastEnd(_) => "PastEnd",
-        ExportFault::WriteFailed => "WriteFailed",
-        ExportFault::BlockTooLarge => "BlockTooLarge",
-        ExportFault::Store(fault) => fault.name(),
-    }
-}
-
 /// Writes the line of the fault at which an export stopped. Where the output has failed nothing is written.
 fn put_export_fault<S: Sink>(out: &mut S, fault: ExportFault)
     ensures { EndsExport (S.written out.old) (S.written out.new) (S.has_failed out.new) 1 (Err fault) }
 {
     match fault {
         ExportFault::WriteFailed => {}
-        fault => put_plain_fault(out, number_of(fault), name_of(fault)),
+        fault => put_plain_fault(out, fault.number(), fault.name()),
     }
 }
 

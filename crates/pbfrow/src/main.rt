@@ -1,6 +1,9 @@
 //! The program pbfrow: reads and checks OpenStreetMap PBF files.
 #![tactic(auto)]
 
+ghost use Rattle.std.specs.Prelude.{◌≤◌};
+ghost use Rattle.pbfrow.specs.Words.{BeginsWithin};
+
 mod check;
 mod database;
 mod definition;
@@ -12,6 +15,9 @@ mod import;
 mod input;
 pub mod laws;
 mod list;
+mod meter;
+mod metered;
+mod progress;
 mod report;
 mod show;
 mod status;
@@ -22,6 +28,8 @@ use clap::Error;
 use database::{Question, ask, fill};
 use input::refuse_input;
 use list::list;
+use meter::Meter;
+use metered::{MeteredOutput, MeteredReader};
 use show::show;
 use std::alloc::Global;
 use std::fs::File;
@@ -65,7 +73,9 @@ fn refuse(rt: HostRuntime, error: Error) -> io::Result<u8> {
     Ok(error.exit_code() as u8)
 }
 
-fn run(rt: HostRuntime, words: Words) -> io::Result<u8> {
+fn run(rt: HostRuntime, words: Words) -> io::Result<u8>
+    requires { BeginsWithin words }
+{
     match words {
         Words::List { file } => run_on_file(rt, Reading::List, file),
         Words::Check { file } => run_on_file(rt, Reading::Check, file),
@@ -104,23 +114,36 @@ enum Reading {
 
 /// Runs a command on the file, or where there is none on standard input.
 fn run_on_file(rt: HostRuntime, reading: Reading, file: Option<&str>) -> io::Result<u8> {
-    let mut out = BufWriter::new(rt.alloc(), io::writer(&rt))?;
+    let meter = Meter::new(&rt, reading == Reading::Check);
+    let mut out = BufWriter::new(rt.alloc(), MeteredOutput::new(io::writer(&rt), &meter))?;
     let status = match file {
-        None => read_with(rt.alloc(), reading, &mut rt.stdin(), &mut out),
+        None => read_with(rt.alloc(), reading, &mut rt.stdin(), &meter, &mut out),
         Some(name) => match File::open(&rt, name) {
-            Ok(mut file) => read_with(rt.alloc(), reading, &mut file, &mut out),
+            Ok(mut file) => {
+                meter.measure(&file);
+                read_with(rt.alloc(), reading, &mut file, &meter, &mut out)
+            }
             Err(_) => refuse_input(&mut out),
         },
     };
-    out.flush()?;
+    let flushed = out.flush();
+    meter.erase();
+    flushed?;
     Ok(status)
 }
 
-fn read_with<R: Read, W: Write>(alloc: Global, reading: Reading, input: &mut R, out: &mut W) -> u8 {
+fn read_with<R: Read, W: Write>(
+    alloc: Global,
+    reading: Reading,
+    input: &mut R,
+    meter: &Meter,
+    out: &mut W,
+) -> u8 {
+    let mut input = MeteredReader::new(input, meter);
     match reading {
-        Reading::List => list(alloc, input, out),
-        Reading::Check => check(alloc, input, out),
-        Reading::Show => show(alloc, input, out),
+        Reading::List => list(alloc, &mut input, out),
+        Reading::Check => check(alloc, &mut input, meter, out),
+        Reading::Show => show(alloc, &mut input, out),
     }
 }
 

@@ -2,6 +2,7 @@ mod ask;
 mod check;
 mod import;
 mod list;
+mod progress;
 mod show;
 mod stores;
 mod support;

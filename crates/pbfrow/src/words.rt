@@ -3,7 +3,7 @@
 ghost use Rattle.std.specs.Prelude.{◌≡◌, ◌≤◌, IfOk, IfSome, IsSomeAnd, map, codes};
 ghost use Rattle.clap.specs.Words.{found_of, rows_of, first_of, one_of, subcommand_of, subcommand_rows_of};
 ghost use Rattle.pbfrow.specs.Definition.{program};
-ghost use Rattle.pbfrow.specs.Words.{IsFlag, IsForm, IsNumber, Says, text_of};
+ghost use Rattle.pbfrow.specs.Words.{BeginsWithin, IsFlag, IsForm, IsNumber, Says, text_of};
 
 use crate::definition::{MAX_OFFSET, program};
 use crate::element::read_element;
@@ -165,7 +165,8 @@ fn entered_words<'a>(matches: &ArgMatches<'a>) -> Option<Words<'a>>
 
 /// The command that the words name, with its arguments. The first word is the program's name.
 pub fn read_words<'a>(alloc: Global, words: &'a [&'a str]) -> Result<Words<'a>, Error>
-    ensures { IfOk result (λ w. IsSomeAnd (subcommand_of program (map (λ s. s.now) words.entry.now)) (λ p. Says w p.0 p.1)) }
+    ensures named { IfOk result (λ w. IsSomeAnd (subcommand_of program (map (λ s. s.now) words.entry.now)) (λ p. Says w p.0 p.1)) }
+    ensures within { IfOk result BeginsWithin }
 {
     let mut command = program(alloc)?;
     let matches = command.try_get_matches_from_mut(words)?;

@@ -1,14 +1,21 @@
 use super::support::{Breaking, Closed, Dripping, EXTRA, TWO_NODES, file_of};
 use crate::check::check;
+use crate::meter::Watcher;
 use std::alloc::{AllocError, Global};
 use std::io::Cursor;
 use std::process::Abort;
 use std::test::*;
 
+struct Unwatched;
+
+impl Watcher for Unwatched {
+    fn see_blob(&self) {}
+}
+
 fn expect_check(rt: &(impl Abort + Alloc<A = Global>), input: &[u8], status: u8, text: &[u8]) {
     let mut out = Vec::new(rt.alloc());
     assert_eq!(rt;
-        check(rt.alloc(), &mut Cursor::new(input), &mut out),
+        check(rt.alloc(), &mut Cursor::new(input), &Unwatched, &mut out),
         status
     );
     assert!(rt; out.as_slice() == text);
@@ -98,7 +105,7 @@ fn checks_pieces_of_each_length(rt: HostRuntime) {
             given: &TWO_NODES[..],
             step,
         };
-        assert_eq!(rt; check(rt.alloc(), &mut input, &mut out), 0);
+        assert_eq!(rt; check(rt.alloc(), &mut input, &Unwatched, &mut out), 0);
         assert!(rt; out.as_slice() == b"blobs 2 nodes 2 ways 0 relations 0 faults 0\n".as_slice());
     }
 }
@@ -108,7 +115,7 @@ fn expect_broken(rt: &(impl Abort + Alloc<A = Global>), length: usize, text: &[u
     let mut input = Breaking {
         given: TWO_NODES.split_at(length.min(84)).0,
     };
-    assert_eq!(rt; check(rt.alloc(), &mut input, &mut out), 1);
+    assert_eq!(rt; check(rt.alloc(), &mut input, &Unwatched, &mut out), 1);
     assert!(rt; out.as_slice() == text);
 }
 
@@ -126,7 +133,12 @@ fn ends_with_a_read_error(rt: HostRuntime) {
 #[test]
 fn reports_a_write_error(rt: HostRuntime) {
     assert_eq!(rt;
-        check(rt.alloc(), &mut Cursor::new(&TWO_NODES[..47]), &mut Closed),
+        check(
+            rt.alloc(),
+            &mut Cursor::new(&TWO_NODES[..47]),
+            &Unwatched,
+            &mut Closed
+        ),
         1
     );
 }

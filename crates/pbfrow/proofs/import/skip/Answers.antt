@@ -1,4 +1,4 @@
-use Rattle.std.proofs.Common.{◌≤◌, arith, refl}
+use Rattle.std.proofs.Common.{◌≤◌, arith}
 use Rattle.std.proofs.lemmas.Grind.{common_steps}
 use Rattle.pbfrow.proofs.ImportLemmas.{skip-more}
 use Rattle.pbfrow.proofs.import.skip.Goals as goal

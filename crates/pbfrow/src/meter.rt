@@ -1,0 +1,167 @@
+//! How far a command has come, and the line on a terminal that tells it.
+
+ghost use Rattle.std.specs.Prelude.{◌≡◌, ◌<◌};
+
+use crate::progress::{Progress, print_progress};
+use std::cell::Cell;
+use std::fs::File;
+use std::io;
+use std::io::{IsTerminal, Write};
+use std::time::Instant;
+
+/// How long a command works before its line is drawn, in milliseconds.
+const PATIENCE: u64 = 1000;
+
+/// How long a line stands before it is drawn anew, in milliseconds.
+const PAUSE: u64 = 200;
+
+/// Back to the front of the line, and all behind it erased.
+const ERASURE: &[u8] = b"\r\x1b[K";
+
+/// Counts what a command has done, and draws a line about it on standard error where that is a terminal. A line that
+/// can't be drawn is left out.
+#[derive(Drop)]
+pub(crate) struct Meter<'a> {
+    rt: &'a HostRuntime,
+    /// When the command began; none where no line is drawn.
+    start: Option<Instant>,
+    /// Whether standard output is a terminal too, so that its lines and this one have to make room for each other.
+    shares_terminal: bool,
+    size: Cell<Option<u64>>,
+    bytes: Cell<u64>,
+    blobs: Cell<u64>,
+    /// When the line was drawn, in milliseconds since the start.
+    drawn_at: Cell<u64>,
+    is_drawn: Cell<bool>,
+    /// Whether standard output stands inside a line.
+    is_inside_line: Cell<bool>,
+}
+
+impl<'a> Meter<'a> {
+    /// A meter that begins now. Where it isn't shown it draws nothing.
+    pub(crate) fn new(rt: &'a HostRuntime, is_shown: bool) -> Meter<'a> {
+        let start = if is_shown && rt.stderr().is_terminal() {
+            Instant::now(rt).ok()
+        } else {
+            None
+        };
+        Meter {
+            rt,
+            start,
+            shares_terminal: rt.stdout().is_terminal(),
+            size: Cell::new(None),
+            bytes: Cell::new(0),
+            blobs: Cell::new(0),
+            drawn_at: Cell::new(0),
+            is_drawn: Cell::new(false),
+            is_inside_line: Cell::new(false),
+        }
+    }
+
+    /// Tells how many bytes there are in all.
+    pub(crate) fn set_size(&self, size: u64) {
+        self.size.set(Some(size));
+    }
+
+    /// Takes the size of a file where that says how many bytes it gives, which isn't so of a pipe.
+    pub(crate) fn measure(&self, file: &File) {
+        if let Ok(metadata) = file.metadata() {
+            if metadata.is_file() {
+                self.set_size(metadata.len());
+            }
+        }
+    }
+
+    /// Tells how many of the bytes are done.
+    pub(crate) fn set_bytes(&self, count: u64) {
+        self.bytes.set(count);
+        self.update();
+    }
+
+    pub(crate) fn add_bytes(&self, count: u64) {
+        self.bytes.set(self.bytes.get().saturating_add(count));
+        self.update();
+    }
+
+    pub(crate) fn add_blobs(&self, count: u64) {
+        self.blobs.set(self.blobs.get().saturating_add(count));
+        self.update();
+    }
+
+    /// Draws the line where it is due.
+    fn update(&self) {
+        let Some(start) = self.start else {
+            return;
+        };
+        let Ok(elapsed) = start.elapsed(self.rt) else {
+            return;
+        };
+        let milliseconds = u64::try_from(elapsed.as_millis()).unwrap_or(u64::MAX);
+        let pause = milliseconds.saturating_sub(self.drawn_at.get());
+        if milliseconds >= PATIENCE && pause >= PAUSE && !self.is_inside_line.get() {
+            self.draw(milliseconds);
+        }
+    }
+
+    /// Draws the line over the one before.
+    fn draw(&self, milliseconds: u64)
+        requires { 0 < milliseconds }
+    {
+        let progress = Progress {
+            bytes: self.bytes.get(),
+            blobs: self.blobs.get(),
+            milliseconds,
+            size: self.size.get(),
+        };
+        let mut line = Vec::new(self.rt.alloc());
+        if compose(&progress, &mut line).is_err() {
+            return;
+        }
+        let _drawn = self.rt.stderr().write_all(&line);
+        self.drawn_at.set(milliseconds);
+        self.is_drawn.set(true);
+    }
+
+    /// Makes room for what goes to standard output.
+    pub(crate) fn give_way(&self) {
+        if self.shares_terminal {
+            self.erase();
+        }
+    }
+
+    /// Sees what went to standard output.
+    pub(crate) fn see_output(&self, taken: &[u8]) {
+        if let Some(last) = taken.last() {
+            self.is_inside_line
+                .set(self.shares_terminal && *last != b'\n');
+        }
+    }
+
+    /// Erases the line.
+    pub(crate) fn erase(&self) {
+        if self.is_drawn.get() {
+            let _erased = self.rt.stderr().write_all(ERASURE);
+            self.is_drawn.set(false);
+        }
+    }
+}
+
+/// What is told of each blob that a command is done with.
+pub trait Watcher {
+    fn see_blob(&self);
+}
+
+impl Watcher for Meter<'_> {
+    fn see_blob(&self) {
+        self.add_blobs(1);
+    }
+}
+
+/// Writes what draws the line over the one before: in one piece, so that it doesn't flicker.
+fn compose(progress: &Progress, line: &mut Vec<u8>) -> io::Result<()>
+    requires { 0 < progress.now.milliseconds }
+{
+    line.write_all(b"\r")?;
+    print_progress(progress, line)?;
+    line.write_all(b"\x1b[K")
+}
