@@ -100,7 +100,12 @@ fn read_payloads_of_all<'a>(
     each_of_all(payloads, number, out)
 }
 
-/// The elements of a block.
+/// The elements of a primitive block, in the order of its groups and of their fields (osmformat.proto, PrimitiveBlock):
+/// plain nodes, dense nodes, ways and relations; changesets are skipped. Places are in nanodegrees, times in
+/// milliseconds since 1970. Texts are slices of `bytes`.
+///
+/// `Fault` is the first fault of the block, in the order of the block's parts and of the elements; then no element is
+/// given. `Memory` is answered only where memory was refused.
 #[tactic(auto, unfolding(crate::specs::Phases::fault))]
 pub fn read_block<'a>(alloc: Global, bytes: &'a [u8]) -> Result<Vec<Element<'a>>, BlockError>
     ensures { Gives (λ es. Block es.items bytes.now) (fault bytes.now) result }

@@ -61,7 +61,7 @@ impl<'a> Model for HeaderBlock<'a> {
 impl<'a> HeaderBlock<'a> {
     ghost use Rattle.osm_block.specs.HeaderTexts.{texts_left};
 
-    /// The area that the file covers.
+    /// The area that the file covers, its sides in nanodegrees, where the header tells it.
     pub fn bbox(&self) -> Option<BBox>
         ensures { result ≡ self.now.bbox }
     {
@@ -224,7 +224,11 @@ fn last_int(bytes: &[u8], number: u32) -> Option<i64>
     }
 }
 
-/// Reads a header block, and refuses one whose features aren't all known (osmformat.proto, HeaderBlock).
+/// Reads a header block, and refuses one whose required features aren't all known: `OsmSchema-V0.6` and `DenseNodes`
+/// (osmformat.proto, HeaderBlock). Texts are slices of `bytes`, and no memory is taken.
+///
+/// The fault is the first in the order of the numbers: `HeaderBlockWire`, `BBoxIncomplete`, `HeaderTextNotUtf8`,
+/// `UnknownFeature` with the feature's index among the required ones.
 #[tactic(auto, unfolding(crate::specs::HeaderBlock::header_fault))]
 pub fn read_header_block(bytes: &[u8]) -> Result<HeaderBlock<'_>, HeaderFault>
     // It is refused exactly where a fault stands, with the first.
