@@ -12,11 +12,12 @@ type Fused = Fuse<Memory>;
 
 type Database = Connection<FileStore<Fused>>;
 
-/// Few pages in memory and a short log, so that each call of a store makes many calls of both files.
+/// Few pages in memory, and each log is copied before the next commit, so that each call of a store makes many calls
+/// of both files.
 const OPTIONS: Options = Options {
     cache_pages: 8,
     spill_pages: 2,
-    checkpoint_frames: 8,
+    checkpoint_frames: 1,
     seed: 7,
 };
 
@@ -76,6 +77,15 @@ struct Found {
     before: bool,
     whole: bool,
 }
+
+/// Each kind of stop, and whether one leaves the whole map although the call wasn't answered: where the commit was
+/// written and stays, and the sync after it failed.
+const STOPS: [(Stopped, Unsynced, bool); 4] = [
+    (Stopped::Log, Unsynced::Lost, false),
+    (Stopped::Log, Unsynced::Kept, true),
+    (Stopped::Db, Unsynced::Lost, false),
+    (Stopped::Db, Unsynced::Kept, false),
+];
 
 fn opened<D: Disk + Drop>(alloc: Global, files: Files<D>) -> Option<Connection<FileStore<D>>> {
     if !files.may_be_used() {
@@ -198,9 +208,9 @@ fn after_stop(
     Some((is_answered, held))
 }
 
-/// Stops a file after each number of calls. The last numbers are more than are made.
+/// Stops a file after each number of its calls up to 299, which is more than are made.
 /// An error is the number after which the next opening found anything but the map before the call or the whole map
-/// after it, or not the latter although the call was answered.
+/// after it, or not the latter although the call was answered; 300 where the call was never answered.
 fn stops(alloc: Global, call: Call, stopped: Stopped, unsynced: Unsynced) -> Result<Found, u64> {
     let (before, whole) = match call {
         Call::Create => (Held::NoStore, Held::Nothing),
@@ -210,6 +220,7 @@ fn stops(alloc: Global, call: Call, stopped: Stopped, unsynced: Unsynced) -> Res
         before: false,
         whole: false,
     };
+    let mut is_done = false;
     for calls in 0u64..300 {
         let Some(database) = fused(alloc, stopped, calls) else {
             continue;
@@ -224,50 +235,33 @@ fn stops(alloc: Global, call: Call, stopped: Stopped, unsynced: Unsynced) -> Res
         } else if !is_answered {
             found.whole = true;
         }
+        is_done = is_answered;
     }
-    Ok(found)
+    if is_done { Ok(found) } else { Err(300) }
 }
 
 #[test]
 fn stops_of_create(rt: HostRuntime) -> Result<(), Fail> {
-    let alloc = rt.alloc();
-    println!(rt;
-        "{:?}",
-        stops(alloc, Call::Create, Stopped::Log, Unsynced::Lost)
-    )?;
-    println!(rt;
-        "{:?}",
-        stops(alloc, Call::Create, Stopped::Log, Unsynced::Kept)
-    )?;
-    println!(rt;
-        "{:?}",
-        stops(alloc, Call::Create, Stopped::Db, Unsynced::Lost)
-    )?;
-    println!(rt;
-        "{:?}",
-        stops(alloc, Call::Create, Stopped::Db, Unsynced::Kept)
-    )?;
+    for (stopped, unsynced, whole) in STOPS {
+        let found = stops(rt.alloc(), Call::Create, stopped, unsynced);
+        let wanted = Found {
+            before: true,
+            whole,
+        };
+        assert_eq!(rt; found, Ok(wanted), "{stopped:?} {unsynced:?}");
+    }
     Ok(())
 }
 
 #[test]
 fn stops_of_put(rt: HostRuntime) -> Result<(), Fail> {
-    let alloc = rt.alloc();
-    println!(rt;
-        "{:?}",
-        stops(alloc, Call::Put, Stopped::Log, Unsynced::Lost)
-    )?;
-    println!(rt;
-        "{:?}",
-        stops(alloc, Call::Put, Stopped::Log, Unsynced::Kept)
-    )?;
-    println!(rt;
-        "{:?}",
-        stops(alloc, Call::Put, Stopped::Db, Unsynced::Lost)
-    )?;
-    println!(rt;
-        "{:?}",
-        stops(alloc, Call::Put, Stopped::Db, Unsynced::Kept)
-    )?;
+    for (stopped, unsynced, whole) in STOPS {
+        let found = stops(rt.alloc(), Call::Put, stopped, unsynced);
+        let wanted = Found {
+            before: true,
+            whole,
+        };
+        assert_eq!(rt; found, Ok(wanted), "{stopped:?} {unsynced:?}");
+    }
     Ok(())
 }
