@@ -1,8 +1,10 @@
 use crate::progress::{Progress, print_progress};
+use std::alloc::Global;
+use std::process::Abort;
 use std::test::*;
 
 fn expect_progress(
-    rt: &HostRuntime,
+    rt: &(impl Abort + Alloc<A = Global>),
     done: (u64, u64),
     milliseconds: u64,
     size: Option<u64>,
