@@ -3,9 +3,17 @@ pub mod Keeping
 pub mod HeldLaws
 pub mod Loading
 pub mod Tables
+pub mod ColumnTables
+pub mod Layouts
 pub mod Rows
+pub mod ColumnRows
+pub mod ColumnExamples
+pub mod WrittenRows
+pub mod ColumnReads
+pub mod ColumnLoading
 pub mod Steps
 pub mod Faults
+pub mod LayoutHolding
 pub mod Holding
 pub mod Asking
 pub mod Selects

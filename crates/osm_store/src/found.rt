@@ -7,6 +7,7 @@ ghost use Rattle.osm_store.specs.Finding.{AreMatches};
 ghost use Rattle.osm_store.specs.Rows.{Placed, found_row, IsStored};
 
 use crate::fault::StoreFault;
+use crate::layout::Layout;
 use crate::loaded::element_at;
 use osm_value::Element;
 use sqlite::Row;
@@ -49,7 +50,7 @@ impl Found {
 
 /// The element that a row stands for; None where it stands for none.
 fn match_at(alloc: Global, row: &Row) -> Result<Option<(u64, u64, Element<'_>)>, AllocError>
-    ensures { (p : Placed) → IsStored p.2 → row.now ≡ found_row p → IfOk result (λ found. found ≡ Some p) }
+    ensures { (p : Placed) → IsStored Layout.Blocks p.2 → row.now ≡ found_row p → IfOk result (λ found. found ≡ Some p) }
 {
     let (Some(off), Some(position)) = (number_at(row, 0), number_at(row, 1)) else {
         return Ok(None);
@@ -61,7 +62,7 @@ fn match_at(alloc: Global, row: &Row) -> Result<Option<(u64, u64, Element<'_>)>,
 }
 
 /// The number in a column; None where no such number stands there.
-fn number_at(row: &Row, at: usize) -> Option<u64>
+pub(crate) fn number_at(row: &Row, at: usize) -> Option<u64>
     ensures { (n : ℕ) → at < length row.now → column row.now at ≡ Int (pos n) → result ≡ Some n }
 {
     match row.get_ref(at) {

@@ -3,6 +3,11 @@
 
 mod answer;
 mod body_store;
+mod column_parts;
+mod column_reads;
+mod column_rows;
+mod column_values;
+mod columns;
 mod create;
 mod elements;
 mod extents;
@@ -10,9 +15,12 @@ mod fault;
 mod found;
 mod keeper;
 pub mod laws;
+mod layout;
 mod loaded;
+mod opening;
 mod rows;
 mod sql;
+mod table_store;
 mod version;
 
 pub use body_store::BodyStore;
@@ -20,6 +28,7 @@ pub use fault::StoreFault;
 pub use found::Found;
 pub use keeper::{Extent, Keeper};
 pub use loaded::Loaded;
+pub use table_store::TableStore;
 
 #[cfg(test)]
 mod tests;

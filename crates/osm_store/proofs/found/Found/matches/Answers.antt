@@ -1,4 +1,5 @@
-use Rattle.std.proofs.Common.{◌≡◌, [], ◌∷◌, ◌++◌, ℕ, ap, sym, ◌∙◌, Vec, Global}
+use Rattle.std.proofs.Common.{◌≡◌, [], ◌∷◌, ◌++◌, ap, sym, ◌∙◌, Vec, Global}
+use Rattle.osm_store.specs.declared.layout.Layout.TheVariants.{Blocks}
 use Rattle.osm_store.specs.Rows.{Placed, IsStored, found_row}
 use Rattle.osm_store.proofs.RowLemmas.{row_at}
 use Rattle.osm_store.proofs.StoredRows.{some_is, some_or_none, all_taken}
@@ -9,7 +10,7 @@ pub loop-row-preserved : goal.loop-row-preserved
 loop-row-preserved c = record {
   rows = c.loop-row.invariant.rows;
   so_far = λ matches h.
-      let it = row_at (λ (p : Placed). IsStored p.2) found_row matches _ _ _ h.stored (c.loop-row.invariant.rows ∙ h.rows) c.loop-row-test.true c.row-item.is in
+      let it = row_at (λ (p : Placed). IsStored Blocks p.2) found_row matches _ _ _ h.stored (c.loop-row.invariant.rows ∙ h.rows) c.loop-row-test.true c.row-item.is in
       let found = c.in_ok-found.ensures it.item it.fits it.is in
       let before = c.loop-row.invariant.so_far matches h in
       elim c.match-branch-2.branch [

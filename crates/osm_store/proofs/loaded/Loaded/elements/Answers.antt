@@ -1,6 +1,7 @@
-use Rattle.std.proofs.Common.{◌≡◌, [], ◌∷◌, ◌++◌, refl, ap, sym, subst, ◌∙◌, length, ◌<◌, arith, Vec, Global}
+use Rattle.std.proofs.Common.{◌≡◌, [], ◌∷◌, ◌++◌, ap, sym, subst, ◌∙◌, length, ◌<◌, arith, Vec, Global}
 use Rattle.osm_value.specs.declared.element.Element.{Element}
 use Rattle.sqlite.specs.Order.{Row, column}
+use Rattle.osm_store.specs.declared.layout.Layout.TheVariants.{Blocks}
 use Rattle.osm_store.specs.Rows.{IsStored, block_row}
 use Rattle.osm_store.proofs.RowLemmas.{row_at}
 use Rattle.osm_store.proofs.StoredRows.{some_is, some_or_none, all_taken}
@@ -11,7 +12,7 @@ pub loop-row-preserved : goal.loop-row-preserved
 loop-row-preserved c = record {
   rows = c.loop-row.invariant.rows;
   so_far = λ elements h.
-      let it = row_at IsStored block_row elements _ _ _ h.stored (c.loop-row.invariant.rows ∙ h.rows) c.loop-row-test.true c.row-item.is in
+      let it = row_at (IsStored Blocks) block_row elements _ _ _ h.stored (c.loop-row.invariant.rows ∙ h.rows) c.loop-row-test.true c.row-item.is in
       let low = subst (λ (row : Row). 0 < length row) (sym it.is) (omega arith) in
       let block = ap (λ (row : Row). column row 0) it.is in
       let found = c.in_ok-element.ensures it.item it.fits.0 it.fits.1 low block in

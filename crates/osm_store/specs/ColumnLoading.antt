@@ -1,0 +1,11 @@
+-- What rows of numbers and texts stand for.
+use Rattle.std.specs.Prelude.{◌≡◌, List}
+use Rattle.osm_store.specs.declared.column_reads.ColumnRows.{ColumnRows}
+use Rattle.osm_store.specs.Rows.{Placed}
+use Rattle.osm_store.specs.ColumnRows.{element_rows, tag_rows, link_rows}
+
+-- the rows are those of these elements, by offset, position and number
+pub record AreRowsOf (rows : ColumnRows) (placed : List Placed) : Type 0 where
+  pub elements : rows.elements.items ≡ element_rows placed
+  pub tags : rows.tags.items ≡ tag_rows placed
+  pub links : rows.links.items ≡ link_rows placed
