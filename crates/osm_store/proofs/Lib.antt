@@ -29,6 +29,7 @@ pub mod NestedLists
 pub mod NumberOrder
 pub mod PlacedLaws
 pub mod PartLaws
+pub mod ColumnFindLemmas
 pub mod StoredElements
 pub mod SameElements
 pub mod OneElement
