@@ -30,3 +30,6 @@ pub mod DenseFieldLemmas
 pub mod NodeComplete
 pub mod RelationComplete
 pub mod DenseComplete
+pub mod FaultlessElements
+pub mod FaultlessNodes
+pub mod Faultless

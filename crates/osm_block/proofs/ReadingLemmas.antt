@@ -54,23 +54,8 @@ as_it_is p q r e g = let P : Phase → Type 0 = λ s. Gives {A = Unit {0}} (λ _
 
 -- ---- readings of joined field lists
 
-last_or-append : (b : Option ℕ) (xs ys : List ℕ) → last_or b (xs ++ ys) ≡ last_or (last_or b xs) ys
-last_or-append b [] ys = refl
-last_or-append b (x ∷ xs) ys = last_or-append (Some x) xs ys
-
 abbrev all : {B : Type 0} → (B → List ℕ) → List B → List Entry
 all now ps = flat_map fields (map now ps)
-
-pub last-step : {B : Type 0} (now : B → List ℕ) (ps : List B) (i : ℕ) (d : B) (k : ℕ) (old new : Option ℕ) → i < length ps →
-    new ≡ last_or old (fitting number_of k (fields (now (get_or ps i d)))) →
-    last_or new (fitting number_of k (flat_map fields (map now (drop (i + 1) ps)))) ≡ last_or old (fitting number_of k (flat_map fields (map now (drop i ps))))
-last-step now ps i d k old new h is =
-    let rest : List Entry = all now (drop (i + 1) ps) in
-    let p : List Entry = fields (now (get_or ps i d)) in
-    ap (λ b. last_or b (fitting number_of k rest)) is
-    ∙ sym (last_or-append old (fitting number_of k p) (fitting number_of k rest))
-    ∙ sym (ap (last_or old) (filter_map-append _ p rest))
-    ∙ ap (λ l. last_or old (fitting number_of k (all now l))) (sym (drop_more ps i d h))
 
 pub each-append : (k : ℕ) (xs ys : List Entry) → each (xs ++ ys) k ≡ each xs k ++ each ys k
 each-append k xs ys = filter_map-append _ xs ys
@@ -95,30 +80,6 @@ nums-step now ps i d k old new total h is so_far =
     let p : List Entry = fields (now (get_or ps i d)) in
     ap (λ l. l ++ nums rest k) is ∙ append_assoc old (nums p k) (nums rest k) ∙ sym (ap (λ l. old ++ l) (nums-append k p rest))
     ∙ ap (λ l. old ++ nums (all now l) k) (sym (drop_more ps i d h)) ∙ so_far
-
--- the packed payloads of an array
-abbrev pub array_phases : ℕ → List Entry → List Phase
-array_phases k fs = wire_phases (map packed (each fs k))
-
-array_phases-append : (k : ℕ) (xs ys : List Entry) → array_phases k (xs ++ ys) ≡ array_phases k xs ++ array_phases k ys
-array_phases-append k xs ys =
-    ap (λ l. wire_phases (map packed l)) (each-append k xs ys) ∙ ap wire_phases (map-append packed (each xs k) (each ys k)) ∙ map-append _ (map packed (each xs k)) (map packed (each ys k))
-
-array_phases-drop : {B : Type 0} (now : B → List ℕ) (ps : List B) (i : ℕ) (d : B) (k : ℕ) → i < length ps →
-    array_phases k (flat_map fields (map now (drop i ps))) ≡ array_phases k (fields (now (get_or ps i d))) ++ array_phases k (flat_map fields (map now (drop (i + 1) ps)))
-array_phases-drop now ps i d k h = ap (λ l. array_phases k (all now l)) (drop_more ps i d h) ∙ array_phases-append k (fields (now (get_or ps i d))) (all now (drop (i + 1) ps))
-
-pub array-step : {B : Type 0} (now : B → List ℕ) (ps : List B) (i : ℕ) (d : B) (k : ℕ) (whole : Phase) → i < length ps →
-    first (array_phases k (fields (now (get_or ps i d)))) ≡ None →
-    first (array_phases k (flat_map fields (map now (drop i ps)))) ≡ whole → first (array_phases k (flat_map fields (map now (drop (i + 1) ps)))) ≡ whole
-array-step now ps i d k whole h none so_far =
-    sym (first-append_none (array_phases k (fields (now (get_or ps i d)))) _ none) ∙ sym (ap first (array_phases-drop now ps i d k h)) ∙ so_far
-
-pub array-stop : {B : Type 0} (now : B → List ℕ) (ps : List B) (i : ℕ) (d : B) (k : ℕ) (whole : Phase) (f : BlockFault) → i < length ps →
-    first (array_phases k (flat_map fields (map now (drop i ps)))) ≡ whole →
-    first (array_phases k (fields (now (get_or ps i d)))) ≡ Some f → whole ≡ Some f
-array-stop now ps i d k whole f h so_far some =
-    sym so_far ∙ ap first (array_phases-drop now ps i d k h) ∙ first-append_some (array_phases k (fields (now (get_or ps i d)))) _ f some
 
 -- ---- a list changed from the front
 

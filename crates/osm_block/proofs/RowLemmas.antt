@@ -1,14 +1,17 @@
 -- The numbers of a packed payload, from a place on.
 use Rattle.std.proofs.Common.{◌≡◌, ℕ, zero, suc, ◌+◌, ◌-◌, ◌<◌, ◌≤◌, List, [], ◌∷◌, ◌++◌, length, drop, refl, sym, ap, ◌∙◌, arith, Option, Some, None, Result, Ok, Err}
+use Rattle.std.proofs.Common.{get_or, Bool, true, cond}
+use Rattle.std.specs.Prelude.{nat_lt}
+use Rattle.std.proofs.lemmas.Bool.Decides.{nat_tests}
 use native.Mathlib.Numerals.{unary_clauses}
 use Rattle.std.specs.Option.{option_map}
 use Rattle.pbf_wire.specs.Readings.{front, first_fault}
 use Rattle.std.proofs.Common.{append_assoc}
-use Rattle.std.proofs.lemmas.List.{length-drop, drop-drop, drop_all}
+use Rattle.std.proofs.lemmas.List.{length-drop, drop-drop, drop_all, drop_more}
 use Rattle.pbf_wire.specs.declared.fault.WireFault.{WireFault}
 use Rattle.pbf_wire.specs.declared.fault.WireFaultKind.{WireFaultKind}
 use Rattle.pbf_wire.specs.Fault.{placed}
-use Rattle.pbf_wire.specs.Number.{number_at, number_within}
+use Rattle.pbf_wire.specs.Number.{number_at, number_within, high_part}
 use Rattle.pbf_wire.specs.Readings.{number_and, row_within, row}
 
 behind : (r : Result (ℕ × ℕ) WireFault) (f g : ℕ → List (Result ℕ WireFault)) → ((k : ℕ) → f k ≡ g k) → number_and r f ≡ number_and r g
@@ -57,6 +60,18 @@ placed_err {A} (Err d) fault e =
 
 pub row_at_number : (at : ℕ) (w : List ℕ) (n len : ℕ) → 0 < len → Ok (n, len) ≡ placed 0 (number_at (drop at w)) → row_from at w ≡ Ok n ∷ row_from (at + len) w
 row_at_number at w n len p e = one_more (drop at w) at n len p (placed_ok (number_at (drop at w)) (n, len) e) ∙ ap (λ l. Ok n ∷ row_within (length l) (at + len) l) (drop-drop len at w)
+
+small : (b : ℕ) (bs : List ℕ) → nat_lt b 128 ≡ true → number_at (b ∷ bs) ≡ Ok (b, 1)
+unfolding number_at number_within
+small b bs h = ap (λ t. cond t (Ok (b, 1)) (high_part b (number_within 8 bs))) h
+
+-- a number of one byte
+pub row_at_byte : (at : ℕ) (w : List ℕ) → at < length w → get_or w at 0 < 128 → row_from at w ≡ Ok (get_or w at 0) ∷ row_from (at + 1) w
+row_at_byte at w inside h =
+    let b : ℕ = get_or w at 0 in
+    let test : nat_lt b 128 ≡ true = grind (arith, nat_tests) in
+    let first : drop at w ≡ b ∷ drop (at + 1) w = drop_more w at 0 inside in
+    one_more (drop at w) at b 1 (omega arith) (ap number_at first ∙ small b (drop (at + 1) w) test) ∙ ap (λ l. Ok b ∷ row_within (length l) (at + 1) l) (drop-drop 1 at w)
 
 pub row_at_fault : (at : ℕ) (w : List ℕ) (fault : WireFault) → at < length w → Err fault ≡ placed 0 (number_at (drop at w)) → row_from at w ≡ Err (record { kind = fault.kind; at = at }) ∷ []
 row_at_fault at w fault p e = stops (drop at w) at fault.kind (omega (arith, length-drop at w)) (placed_err (number_at (drop at w)) fault e)

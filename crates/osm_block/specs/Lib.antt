@@ -21,3 +21,4 @@ pub mod DenseRead
 pub mod DenseFieldsRead
 pub mod Members
 pub mod Fault
+pub mod Faultless

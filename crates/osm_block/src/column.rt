@@ -53,29 +53,32 @@ impl Column {
     }
 }
 
-/// How many numbers end in these bytes.
-fn count_numbers(payload: &[u8]) -> usize {
-    payload.iter().filter(|byte| **byte < 128).count()
-}
-
 /// Appends the numbers of a packed payload, up to its first fault, which it answers.
 fn unpack(payload: &[u8], out: &mut Vec<u64>) -> Result<Option<WireFault>, AllocError>
     ensures fault { IfOk result (λ f. f ≡ packed payload.now) }
     ensures numbers { OnOk result (out.new.items ≡ out.old.items ++ numbers payload.now) }
 {
-    out.try_reserve(count_numbers(payload))?;
+    // No number takes less than a byte.
+    out.try_reserve(payload.len())?;
     let mut at = 0;
     while at < payload.len() {
-        match read_number(&payload[at..]) {
-            Ok((number, len)) => {
-                out.push(number)?;
-                at += len;
-            }
-            Err(fault) => {
-                return Ok(Some(WireFault {
-                    kind: fault.kind,
-                    at,
-                }));
+        // Most numbers take one byte.
+        let byte = payload[at];
+        if byte < 128 {
+            out.push(u64::from(byte))?;
+            at += 1;
+        } else {
+            match read_number(&payload[at..]) {
+                Ok((number, len)) => {
+                    out.push(number)?;
+                    at += len;
+                }
+                Err(fault) => {
+                    return Ok(Some(WireFault {
+                        kind: fault.kind,
+                        at,
+                    }));
+                }
             }
         }
     }

@@ -4,6 +4,7 @@ ghost use Rattle.std.specs.Prelude.{◌≡◌, ℕ, ℤ, List, None};
 ghost use Rattle.osm_value.specs.declared.element.Element.{Element};
 ghost use Rattle.osm_block.specs.Block.{Block};
 ghost use Rattle.osm_block.specs.Differences.{Diff};
+ghost use Rattle.osm_block.specs.Faultless.{FaultlessBlocksSay};
 ghost use Rattle.osm_block.specs.Phases.{fault};
 
 /// A block says one list of elements.
@@ -19,4 +20,9 @@ pub fn one_list_of_numbers()
 /// A block that says some elements has no fault.
 pub fn elements_or_a_fault()
     ensures { (es : List Element) (w : List ℕ) → Block es w → fault w ≡ None }
+{}
+
+/// A block that has no fault says some elements.
+pub fn faultless_blocks_say()
+    ensures { FaultlessBlocksSay }
 {}

@@ -1,15 +1,13 @@
 //! What a message reads from its payloads.
 
-ghost use Rattle.std.specs.Prelude.{◌≡◌, ℕ, List, map, length, ◌++◌, Option, None, option_map, OnOk, ⊤, ◌%◌, ◌^◌};
+ghost use Rattle.std.specs.Prelude.{◌≡◌, map, ◌++◌, OnOk, ⊤, ◌%◌, ◌^◌};
 ghost use Rattle.std.specs.List.{flat_map};
-ghost use Rattle.osm_block.specs.declared.fault.BlockFault.TheVariants as faults;
 ghost use Rattle.pbf_wire.specs.FieldList.{last_or};
-ghost use Rattle.pbf_wire.specs.Readings.{fields, wire, numbers, packed};
-ghost use Rattle.pbf_wire.specs.Readings.{fitting, number_of, each, nums, last as last_number_of};
+ghost use Rattle.pbf_wire.specs.Readings.{fields, wire, fitting, number_of, each};
 ghost use Rattle.osm_block.specs.Phases.{Gives, first, wire_phases};
 
 use crate::fault::{BlockError, BlockFault};
-use pbf_wire::{Fields, Value, WireFault, read_number};
+use pbf_wire::{Fields, Value, WireFault};
 use std::alloc::AllocError;
 
 /// Why a payload is no field list.
@@ -57,48 +55,6 @@ pub fn each<'a>(payload: &'a [u8], number: u32, out: &mut Vec<&'a [u8]>) -> Resu
     Ok(())
 }
 
-/// Appends the numbers of a packed payload.
-fn unpack(payload: &[u8], out: &mut Vec<u64>) -> Result<(), BlockError>
-    ensures phase { Gives (λ _. ⊤) (option_map faults.Wire (packed payload.now)) result }
-    ensures read { OnOk result (out.new.items ≡ out.old.items ++ numbers payload.now) }
-{
-    let mut at = 0;
-    while at < payload.len() {
-        match read_number(&payload[at..]) {
-            Ok((number, len)) => {
-                out.push(number)?;
-                at += len;
-            }
-            Err(fault) => {
-                let fault = WireFault {
-                    kind: fault.kind,
-                    at,
-                };
-                return Err(BlockError::Fault(BlockFault::Wire(fault)));
-            }
-        }
-    }
-    Ok(())
-}
-
-/// Appends the numbers of the fields `number`, packed or not.
-pub fn numbers(payload: &[u8], number: u32, out: &mut Vec<u64>) -> Result<(), BlockError>
-    ensures phase { Gives (λ _. ⊤) (first (wire_phases (map packed (each (fields payload.now) number)))) result }
-    ensures read { OnOk result (out.new.items ≡ out.old.items ++ nums (fields payload.now) number) }
-{
-    for field in Fields::new(payload) {
-        let Ok(field) = field else {
-            return Ok(());
-        };
-        match field.value {
-            Value::Number(value) if field.number == number => out.push(value)?,
-            Value::Bytes(value) if field.number == number => unpack(value, out)?,
-            _ => {}
-        }
-    }
-    Ok(())
-}
-
 /// The first wire fault of the payloads.
 pub fn check_all(payloads: &[&[u8]]) -> Result<(), BlockError>
     ensures { Gives (λ _. ⊤) (first (wire_phases (map wire (map (λ p. p.now) payloads.now)))) result }
@@ -111,17 +67,6 @@ pub fn check_all(payloads: &[&[u8]]) -> Result<(), BlockError>
     Ok(())
 }
 
-/// The last number of the field `number` in all payloads.
-pub fn last_of_all(payloads: &[&[u8]], number: u32) -> Option<u64>
-    ensures { result ≡ last_number_of (flat_map fields (map (λ p. p.now) payloads.now)) number }
-{
-    let mut last = None;
-    for payload in payloads {
-        last = last_number(payload, number, last);
-    }
-    last
-}
-
 /// Appends the payloads of the fields `number` in all payloads.
 pub fn each_of_all<'a>(
     payloads: &[&'a [u8]],
@@ -132,17 +77,6 @@ pub fn each_of_all<'a>(
 {
     for payload in payloads {
         each(payload, number, out)?;
-    }
-    Ok(())
-}
-
-/// Appends the numbers of the fields `number` in all payloads.
-pub fn numbers_of_all(payloads: &[&[u8]], number: u32, out: &mut Vec<u64>) -> Result<(), BlockError>
-    ensures phase { Gives (λ _. ⊤) (first (wire_phases (map packed (each (flat_map fields (map (λ p. p.now) payloads.now)) number)))) result }
-    ensures read { OnOk result (out.new.items ≡ out.old.items ++ nums (flat_map fields (map (λ p. p.now) payloads.now)) number) }
-{
-    for payload in payloads {
-        numbers(payload, number, out)?;
     }
     Ok(())
 }

@@ -36,7 +36,7 @@ impl<'a> Model for Info<'a> {
 }
 
 impl<'a> Info<'a> {
-    /// An info of these parts. `time` is in milliseconds; `visible` isn't held yet.
+    /// An info of these parts, inside their ranges. `time` is in milliseconds since 1970; `visible` isn't held yet.
     pub fn new(
         version: Option<i32>,
         time: Option<i64>,
@@ -66,7 +66,7 @@ impl<'a> Info<'a> {
         self.version
     }
 
-    /// When it was changed, in milliseconds since 1970.
+    /// When it was changed, in milliseconds since 1970, at most 2^62 - 1 away from 0.
     pub fn time(&self) -> Option<i64>
         ensures exact { result ≡ self.now.time }
         ensures in_range { IsInfo self.now }
@@ -74,6 +74,7 @@ impl<'a> Info<'a> {
         self.time
     }
 
+    /// The changeset's number, at most 2^62 - 1 away from 0.
     pub fn changeset(&self) -> Option<i64>
         ensures exact { result ≡ self.now.changeset }
         ensures in_range { IsInfo self.now }
@@ -89,6 +90,7 @@ impl<'a> Info<'a> {
         self.uid
     }
 
+    /// The user's name, without U+0000.
     pub fn user(&self) -> Option<&'a str>
         ensures exact { option_copied result ≡ self.now.user }
         ensures in_range { IsInfo self.now }
@@ -122,6 +124,7 @@ impl<'a> Model for Member<'a> {
 }
 
 impl<'a> Member<'a> {
+    /// A member with an id at most 2^62 - 1 away from 0 and a role without U+0000.
     pub fn new(kind: MemberKind, id: i64, role: &'a str) -> Self
         requires in_range { IsMember (record { kind = kind; id = id; role = role.now }) }
         ensures { result ≡ record { kind = kind; id = id; role = role.now } }
@@ -129,6 +132,7 @@ impl<'a> Member<'a> {
         Member { kind, id, role }
     }
 
+    /// The kind of the element that is the member.
     pub fn kind(&self) -> MemberKind
         ensures exact { result ≡ self.now.kind }
         ensures in_range { IsMember self.now }
@@ -136,6 +140,7 @@ impl<'a> Member<'a> {
         self.kind
     }
 
+    /// The id, at most 2^62 - 1 away from 0.
     pub fn id(&self) -> i64
         ensures exact { result ≡ self.now.id }
         ensures in_range { IsMember self.now }
@@ -143,6 +148,7 @@ impl<'a> Member<'a> {
         self.id
     }
 
+    /// What the member is for in its relation, without U+0000; often empty.
     pub fn role(&self) -> &'a str
         ensures exact { result.now ≡ self.now.role }
         ensures in_range { IsMember self.now }
@@ -170,6 +176,7 @@ impl<'a> Model for Node<'a> {
 }
 
 impl<'a> Node<'a> {
+    /// A node at a place in nanodegrees. All numbers are at most 2^62 - 1 away from 0, and no text holds U+0000.
     pub fn new(id: i64, lat: i64, lon: i64, tags: Vec<(&'a str, &'a str)>, info: Info<'a>) -> Self
         requires in_range { IsNode (record { id = id; lat = lat; lon = lon; tags = map (λ t. (t.0.now, t.1.now)) tags.items; info = info }) }
         ensures { result ≡ record { id = id; lat = lat; lon = lon; tags = map (λ t. (t.0.now, t.1.now)) tags.entry.items; info = info.entry } }
@@ -183,6 +190,7 @@ impl<'a> Node<'a> {
         }
     }
 
+    /// The id, at most 2^62 - 1 away from 0.
     pub fn id(&self) -> i64
         ensures exact { result ≡ self.now.id }
         ensures in_range { IsNode self.now }
@@ -190,7 +198,7 @@ impl<'a> Node<'a> {
         self.id
     }
 
-    /// The latitude in nanodegrees.
+    /// The latitude in nanodegrees, at most 2^62 - 1 away from 0.
     pub fn lat(&self) -> i64
         ensures exact { result ≡ self.now.lat }
         ensures in_range { IsNode self.now }
@@ -198,7 +206,7 @@ impl<'a> Node<'a> {
         self.lat
     }
 
-    /// The longitude in nanodegrees.
+    /// The longitude in nanodegrees, at most 2^62 - 1 away from 0.
     pub fn lon(&self) -> i64
         ensures exact { result ≡ self.now.lon }
         ensures in_range { IsNode self.now }
@@ -206,6 +214,7 @@ impl<'a> Node<'a> {
         self.lon
     }
 
+    /// Its tags, keys with values, in the order of the input.
     pub fn tags(&self) -> &[(&'a str, &'a str)]
         ensures exact { map (λ t. (t.0.now, t.1.now)) result.now ≡ self.now.tags }
         ensures in_range { IsNode self.now }
@@ -213,6 +222,7 @@ impl<'a> Node<'a> {
         &self.tags
     }
 
+    /// What is known of its last change.
     pub fn info(&self) -> &Info<'a>
         ensures exact { result.now ≡ self.now.info }
         ensures in_range { IsNode self.now }
@@ -239,6 +249,7 @@ impl<'a> Model for Way<'a> {
 }
 
 impl<'a> Way<'a> {
+    /// A way through these nodes. All numbers are at most 2^62 - 1 away from 0, and no text holds U+0000.
     pub fn new(id: i64, refs: Vec<i64>, tags: Vec<(&'a str, &'a str)>, info: Info<'a>) -> Self
         requires in_range { IsWay (record { id = id; refs = refs.items; tags = map (λ t. (t.0.now, t.1.now)) tags.items; info = info }) }
         ensures { result ≡ record { id = id; refs = refs.items; tags = map (λ t. (t.0.now, t.1.now)) tags.entry.items; info = info.entry } }
@@ -251,6 +262,7 @@ impl<'a> Way<'a> {
         }
     }
 
+    /// The id, at most 2^62 - 1 away from 0.
     pub fn id(&self) -> i64
         ensures exact { result ≡ self.now.id }
         ensures in_range { IsWay self.now }
@@ -266,6 +278,7 @@ impl<'a> Way<'a> {
         &self.refs
     }
 
+    /// Its tags, keys with values, in the order of the input.
     pub fn tags(&self) -> &[(&'a str, &'a str)]
         ensures exact { map (λ t. (t.0.now, t.1.now)) result.now ≡ self.now.tags }
         ensures in_range { IsWay self.now }
@@ -273,6 +286,7 @@ impl<'a> Way<'a> {
         &self.tags
     }
 
+    /// What is known of its last change.
     pub fn info(&self) -> &Info<'a>
         ensures exact { result.now ≡ self.now.info }
         ensures in_range { IsWay self.now }
@@ -299,6 +313,7 @@ impl<'a> Model for Relation<'a> {
 }
 
 impl<'a> Relation<'a> {
+    /// A relation of these members. Its id is at most 2^62 - 1 away from 0, and no text holds U+0000.
     pub fn new(
         id: i64,
         members: Vec<Member<'a>>,
@@ -316,6 +331,7 @@ impl<'a> Relation<'a> {
         }
     }
 
+    /// The id, at most 2^62 - 1 away from 0.
     pub fn id(&self) -> i64
         ensures exact { result ≡ self.now.id }
         ensures in_range { IsRelation self.now }
@@ -323,6 +339,7 @@ impl<'a> Relation<'a> {
         self.id
     }
 
+    /// Its members, in order.
     pub fn members(&self) -> &[Member<'a>]
         ensures exact { result.now ≡ self.now.members }
         ensures in_range { IsRelation self.now }
@@ -330,6 +347,7 @@ impl<'a> Relation<'a> {
         &self.members
     }
 
+    /// Its tags, keys with values, in the order of the input.
     pub fn tags(&self) -> &[(&'a str, &'a str)]
         ensures exact { map (λ t. (t.0.now, t.1.now)) result.now ≡ self.now.tags }
         ensures in_range { IsRelation self.now }
@@ -337,6 +355,7 @@ impl<'a> Relation<'a> {
         &self.tags
     }
 
+    /// What is known of its last change.
     pub fn info(&self) -> &Info<'a>
         ensures exact { result.now ≡ self.now.info }
         ensures in_range { IsRelation self.now }
@@ -356,6 +375,7 @@ pub enum Element<'a> {
 impl<'a> Element<'a> {
     ghost use Rattle.osm_value.specs.Elements.{IsElement, kind_of_element, id_of_element, tags_of_element, info_of_element};
 
+    /// Whether it is a node, a way or a relation.
     pub fn kind(&self) -> MemberKind
         ensures { result ≡ kind_of_element self.now }
     {
@@ -366,6 +386,7 @@ impl<'a> Element<'a> {
         }
     }
 
+    /// The id, at most 2^62 - 1 away from 0.
     pub fn id(&self) -> i64
         ensures exact { result ≡ id_of_element self.now }
         ensures in_range { IsElement self.now }
@@ -377,6 +398,7 @@ impl<'a> Element<'a> {
         }
     }
 
+    /// Its tags, keys with values, in the order of the input.
     pub fn tags(&self) -> &[(&'a str, &'a str)]
         ensures exact { map (λ t. (t.0.now, t.1.now)) result.now ≡ tags_of_element self.now }
         ensures in_range { IsElement self.now }
@@ -388,6 +410,7 @@ impl<'a> Element<'a> {
         }
     }
 
+    /// What is known of its last change.
     pub fn info(&self) -> &Info<'a>
         ensures exact { result.now ≡ info_of_element self.now }
         ensures in_range { IsElement self.now }

@@ -25,9 +25,12 @@ pub record StepOk (es : List Element) (block : List ℕ) (count : ℕ) : Type 0 
   pub block_is : block ≡ canon (take count es)
   pub fits : length block ≤ 33554431
 
--- the first element alone is too large
+-- halving came to the first element alone, and its block is too large, too
+abbrev pub ComesToOne : List Element → Type 0
+ComesToOne es = Halved es (first_count es) 1 × is_too_large es 1
+
 abbrev pub StepErr : List Element → WriteFault → Type 0
-StepErr es BlockTooLarge = is_too_large es 1
+StepErr es BlockTooLarge = ComesToOne es
 StepErr es Memory = Unit {0}
 
 abbrev pub NextOk : {Z : Type 0} → List Element → List Element → Option (Vec ℕ Z) → Type 0

@@ -40,8 +40,8 @@ impl<'s, 'a> BlobCutter<'s, 'a> {
 
     /// The block of the next 8,000 elements, or of all that are left; while it has more than
     /// 33,554,431 bytes, of half as many, rounded down. None exactly where no element is left;
-    /// `BlockTooLarge` exactly where the next element alone has a block that is too large. An
-    /// error leaves the cutter as it was.
+    /// `BlockTooLarge` exactly where halving comes to the next element alone, and its block is too
+    /// large as well. An error leaves the cutter as it was.
     pub fn next(&mut self) -> Result<Option<Vec<u8>>, WriteFault>
         ensures { MatchResult result (λ block. NextOk self.old self.new block) (λ e. (self.new ≡ self.old) × StepErr self.old e) }
     {

@@ -31,8 +31,11 @@ impl<'a> Scale<'a> {
         ensures exact { result ≡ raw_place (view self.now) nanodegrees }
         ensures in_range { IsWide result }
     {
-        let granularity = if self.hundreds { 100 } else { 1 };
-        nanodegrees / granularity
+        if self.hundreds {
+            nanodegrees / 100
+        } else {
+            nanodegrees
+        }
     }
 
     /// The number that stands for a time.
@@ -41,10 +44,9 @@ impl<'a> Scale<'a> {
         ensures exact { result ≡ times_of (view self.now) milliseconds }
         ensures in_range { IsWideOrNone result }
     {
-        let granularity = if self.thousands { 1000 } else { 1 };
         match milliseconds {
-            Some(time) => Some(time / granularity),
-            None => None,
+            Some(time) if self.thousands => Some(time / 1000),
+            _ => milliseconds,
         }
     }
 }

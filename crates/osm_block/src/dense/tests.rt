@@ -95,6 +95,47 @@ fn tags(rt: HostRuntime) -> Result<(), Fail> {
 }
 
 #[test]
+fn no_array_of_tags(rt: HostRuntime) -> Result<(), Fail> {
+    let block = [
+        0x0A, 0x08, 0x0A, 0x00, 0x0A, 0x01, 0x61, 0x0A, 0x01, 0x62, 0x12, 0x0E, 0x12, 0x0C, 0x0A,
+        0x02, 0x02, 0x02, 0x42, 0x02, 0x00, 0x00, 0x4A, 0x02, 0x00, 0x00,
+    ];
+    let elements = read_block(rt.alloc(), &block)?;
+    assert!(rt; elements.len() == 2);
+    let Element::Node(first) = &elements[0] else {
+        return Err("another kind".into());
+    };
+    let Element::Node(second) = &elements[1] else {
+        return Err("another kind".into());
+    };
+    assert!(rt; first.tags().is_empty());
+    assert!(rt; second.tags().is_empty());
+    Ok(())
+}
+
+#[test]
+fn least_and_greatest_id(rt: HostRuntime) -> Result<(), Fail> {
+    let block = [
+        0x0A, 0x02, 0x0A, 0x00, 0x12, 0x1F, 0x12, 0x1D, 0x0A, 0x13, 0xFE, 0xFF, 0xFF, 0xFF, 0xFF,
+        0xFF, 0xFF, 0xFF, 0x7F, 0xFB, 0xFF, 0xFF, 0xFF, 0xFF, 0xFF, 0xFF, 0xFF, 0xFF, 0x01, 0x42,
+        0x02, 0x00, 0x00, 0x4A, 0x02, 0x00, 0x00,
+    ];
+    let elements = read_block(rt.alloc(), &block)?;
+    assert!(rt; elements.len() == 2);
+    let Element::Node(first) = &elements[0] else {
+        return Err("another kind".into());
+    };
+    let Element::Node(second) = &elements[1] else {
+        return Err("another kind".into());
+    };
+    assert!(rt; first.id() == 4611686018427387903);
+    assert!(rt; second.id() == -4611686018427387903);
+    assert!(rt; second.lat() == 0);
+    assert!(rt; second.lon() == 0);
+    Ok(())
+}
+
+#[test]
 fn ranges(rt: HostRuntime) -> Result<(), Fail> {
     // A node at 0 units of 1, where the offset of latitudes is 2^62.
     let mut block = [
@@ -165,6 +206,24 @@ fn infos(rt: HostRuntime) -> Result<(), Fail> {
     assert!(rt; first.info().version() == Some(3));
     assert!(rt; second.info().version().is_none());
     assert!(rt; first.info().time().is_none());
+    // The same nodes in two groups, the second without versions.
+    let groups = [
+        0x0A, 0x02, 0x0A, 0x00, 0x12, 0x10, 0x12, 0x0E, 0x0A, 0x01, 0x02, 0x2A, 0x03, 0x0A, 0x01,
+        0x03, 0x42, 0x01, 0x00, 0x4A, 0x01, 0x00, 0x12, 0x0B, 0x12, 0x09, 0x0A, 0x01, 0x04, 0x42,
+        0x01, 0x00, 0x4A, 0x01, 0x00,
+    ];
+    let elements = read_block(rt.alloc(), &groups)?;
+    assert!(rt; elements.len() == 2);
+    let Element::Node(first) = &elements[0] else {
+        return Err("another kind".into());
+    };
+    let Element::Node(second) = &elements[1] else {
+        return Err("another kind".into());
+    };
+    assert!(rt; first.id() == 1);
+    assert!(rt; first.info().version() == Some(3));
+    assert!(rt; second.id() == 2);
+    assert!(rt; second.info().version().is_none());
     // One flag of visibility.
     let visible = [
         0x0A, 0x02, 0x0A, 0x00, 0x12, 0x13, 0x12, 0x11, 0x0A, 0x02, 0x02, 0x02, 0x2A, 0x03, 0x32,

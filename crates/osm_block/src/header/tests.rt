@@ -74,6 +74,8 @@ fn other_faults(rt: HostRuntime) {
     assert!(rt; fault_of(b"\x22\x03ABC") == Some(HeaderFault::UnknownFeature(0)));
     let second = b"\x22\x0ADenseNodes\x22\x03ABC";
     assert!(rt; fault_of(second) == Some(HeaderFault::UnknownFeature(1)));
+    let third = b"\x22\x0EOsmSchema-V0.6\x22\x0ADenseNodes\x22\x15HistoricalInformation";
+    assert!(rt; fault_of(third) == Some(HeaderFault::UnknownFeature(2)));
     let header = read_header_block(&[0x80, 0x02, 0x05]).expect(&rt, "a timestamp alone");
     assert!(rt; header.timestamp() == Some(5));
 }

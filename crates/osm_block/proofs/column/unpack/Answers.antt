@@ -1,8 +1,19 @@
-use Rattle.std.proofs.Common.{rules, ◌≡◌, ℕ, List, [], ◌∷◌, ◌++◌, ◌+◌, length, sym, ap, ◌∙◌, Ok, Err, arith, append-nil}
+use Rattle.std.proofs.Common.{rules, ◌≡◌, ℕ, List, [], ◌∷◌, ◌++◌, ◌+◌, ◌<◌, get_or, length, sym, ap, ◌∙◌, Ok, Err, arith, append-nil}
 use Rattle.std.proofs.lemmas.List.{take_rest}
 use Rattle.pbf_wire.specs.Readings.{front, first_fault}
-use Rattle.osm_block.proofs.RowLemmas.{row_from, row_at_number, row_at_fault, row_at_end, grown}
+use Rattle.osm_block.proofs.RowLemmas.{row_from, row_at_number, row_at_byte, row_at_fault, row_at_end, grown}
 use Rattle.osm_block.proofs.column.unpack.Goals as goal
+
+pub loop-at-preserved-then-byte-lt128 : goal.loop-at-preserved-then-byte-lt128
+loop-at-preserved-then-byte-lt128 c =
+    let w = c.args.payload.now in
+    let inside : c.loop-at.at < length w = c.loop-at-test.true in
+    let e : row_from c.loop-at.at w ≡ Ok (get_or w c.loop-at.at 0) ∷ row_from (c.loop-at.at + 1) w = row_at_byte c.loop-at.at w inside c.if-byte-lt128.true in
+    record {
+      within = search rules;
+      so_far = grown _ _ _ _ _ _ (c.in_ok-push.ensures.items ∙ ap (λ n. c.loop-at.out.items ++ n ∷ []) c.from.ensures) e c.loop-at.invariant.so_far;
+      fault = sym (ap first_fault e) ∙ c.loop-at.invariant.fault;
+    }
 
 pub loop-at-preserved : goal.loop-at-preserved
 loop-at-preserved c =

@@ -1,5 +1,5 @@
 use Rattle.std.proofs.Common.{rules, ◌≡◌, ℕ, List, map, length, arith}
-use Rattle.osm_block.proofs.ReadingLemmas.{last-step, each-step, nums-step, array-step, array-stop, Gives-err}
+use Rattle.osm_block.proofs.ReadingLemmas.{each-step}
 use Rattle.osm_block.proofs.readings.each_of_all.Goals as goal
 
 pub loop-payload-preserved : goal.loop-payload-preserved

@@ -1,0 +1,51 @@
+# The commands import, status, export and find on the two-node file and on broken copies of it.
+two=$top/data/two-nodes.osm.pbf
+nl='
+'
+stored="0 stored 0${nl}47 stored 2${nl}blobs stored 2 held 0 bad 0 refused 0${nl}"
+held="0 held${nl}47 held${nl}blobs stored 0 held 2 bad 0 refused 0${nl}"
+nodes="n 1 1000 -100 [] {}${nl}n 2 900 -100 [] {}${nl}"
+
+rm -f two.db
+expect "an import" 0 "$stored" import "$two" two.db
+expect "the same import again" 0 "$held" import "$two" two.db
+expect "its status" 0 "blobs 2 end 84 gaps 0${nl}" status two.db
+expect "its status against a longer file" 0 "gap 84 85${nl}blobs 2 end 84 gaps 1${nl}" status two.db --size 85
+expect "its export" 0 "$nodes" export two.db
+expect "its export at the file's size" 0 "$nodes" export two.db --size 84
+expect "its export at a smaller size" 1 "fault 70 PastEnd${nl}" export two.db --size 83
+expect "its export at a larger size" 1 "fault 67 Incomplete${nl}" export two.db --size 85
+expect "an element that is held" 0 "47 1 n 2 900 -100 [] {}${nl}" find two.db n2
+expect "an element that isn't held" 0 "" find two.db w2
+expect "what is no element" 2 "" find two.db x2
+
+"$pbfrow" export two.db --form pbf > two-out.osm.pbf
+stat -c %s two-out.osm.pbf > size.txt
+echo 93 > want.txt
+same "an exported file has 93 bytes" size.txt want.txt
+tail -c 37 "$two" > data-frame
+tail -c 37 two-out.osm.pbf > data-frame-out
+same "its data frame is that of the input" data-frame data-frame-out
+expect "an exported file is listed" 0 "0 OSMHeader 39${nl}56 OSMData 22${nl}" list two-out.osm.pbf
+
+rm -f cut.db
+head -c 83 "$two" > cut.osm.pbf
+expect "an import of a file that is cut" 1 "0 stored 0${nl}fault 18 BlobCut at 47${nl}" import cut.osm.pbf cut.db
+expect "the whole file after it" 0 "0 held${nl}47 stored 2${nl}blobs stored 1 held 1 bad 0 refused 0${nl}" import "$two" cut.db
+expect "and its export" 0 "$nodes" export cut.db
+
+rm -f from.db
+expect "an import from the second frame" 0 "47 stored 2${nl}blobs stored 1 held 0 bad 0 refused 0${nl}" import "$two" from.db --from 47
+expect "the gap before it" 0 "gap 0 47${nl}blobs 1 end 84 gaps 1${nl}" status from.db
+expect "its export is refused" 1 "fault 67 Incomplete${nl}" export from.db
+expect "its partial export" 0 "$nodes" export from.db --partial
+rm -f past.db
+expect "an import from behind the end" 1 "fault 68 ReadFailed at 85${nl}" import "$two" past.db --from 85
+expect "a number above 2^62" 2 "" import "$two" past.db --from 4611686018427387905
+rm -f empty.db
+expect "an import of nothing" 1 "fault 61 NoHeaderFirst at 0${nl}" import /dev/null empty.db
+expect "an export of nothing" 1 "fault 67 Incomplete${nl}" export empty.db
+"$pbfrow" export empty.db --partial --form pbf > header-only.osm.pbf
+stat -c %s header-only.osm.pbf > size.txt
+echo 56 > want.txt
+same "a partial file of nothing is a header frame of 56 bytes" size.txt want.txt

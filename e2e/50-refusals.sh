@@ -1,0 +1,93 @@
+# What a user may get wrong, and disks that fill up: each run ends with a status and one line, and a later run completes the import.
+two=$top/data/two-nodes.osm.pbf
+country=$top/data/liechtenstein-raw.osm.pbf
+nl='
+'
+nodes="n 1 1000 -100 [] {}${nl}n 2 900 -100 [] {}${nl}"
+
+rm -f any.db
+expect "an input that isn't there" 1 "fault 68 ReadFailed at 0${nl}" import nowhere.osm.pbf any.db
+expect "an input that isn't there, from a place" 1 "fault 68 ReadFailed at 47${nl}" import nowhere.osm.pbf any.db --from 47
+[ ! -e any.db ] && pass "then no database is made" || fail "then no database is made"
+expect "a folder as input" 1 "fault 68 ReadFailed at 0${nl}" import . any.db
+expect "a database in a folder that isn't there" 1 "fault 65 Disk${nl}" import "$two" nowhere/any.db
+for command in status export; do
+  expect "$command of a database that isn't there" 1 "fault 66 NotThisStore${nl}" "$command" nowhere.db
+  rm -f nowhere.db
+done
+expect "find in a database that isn't there" 1 "fault 66 NotThisStore${nl}" find nowhere.db n1
+rm -f nowhere.db
+
+# one_fault NAME WORD..: the program with these words ends with 1 and one line of fault 65 or 66.
+one_fault() {
+  local name=$1 got ended
+  shift
+  got=$("$pbfrow" "$@" 2>/dev/null)
+  ended=$?
+  case "$ended $got" in
+    "1 fault 65 "*|"1 fault 66 "*) pass "$name" ;;
+    *) fail "$name"; echo "  got status $ended and: $got" ;;
+  esac
+}
+
+head -c 5000 "$top/README.md" > text.db
+cp text.db text-before.db
+one_fault "a text file as database" import "$two" text.db
+same "which stays as it was" text-before.db text.db
+one_fault "its status" status text.db
+
+if has sqlite3; then
+  rm -f other.db
+  sqlite3 other.db "CREATE TABLE blob (name TEXT); INSERT INTO blob VALUES ('mine')"
+  one_fault "a database of another program: status" status other.db
+  one_fault "a database of another program: import" import "$two" other.db
+  sqlite3 other.db "SELECT name FROM blob" > other.txt
+  echo mine > want.txt
+  same "whose row is still there" other.txt want.txt
+else
+  skip "a database of another program" "sqlite3 isn't installed"
+fi
+
+if [ "$(id -u)" = 0 ] && has setpriv; then
+  cp "$two" unreadable.osm.pbf
+  chmod 000 unreadable.osm.pbf
+  mkdir -p locked
+  chmod 755 locked "$work"
+  "$pbfrow" --build-only
+  as_nobody() { setpriv --reuid 65534 --regid 65534 --clear-groups "$top/crates/pbfrow/out/pbfrow" "$@"; }
+  if as_nobody --version > version.txt 2>&1; then
+    as_nobody import unreadable.osm.pbf /dev/shm/pbfrow-nobody.db > got.txt
+    echo "fault 68 ReadFailed at 0" > want.txt
+    same "an input that may not be read" got.txt want.txt
+    as_nobody import "$two" locked/any.db > got.txt
+    echo "fault 65 Disk" > want.txt
+    same "a database that may not be written" got.txt want.txt
+    rm -f /dev/shm/pbfrow-nobody.db
+  else
+    skip "inputs and databases without permission" "the program can't be run as another user here"
+  fi
+else
+  skip "inputs and databases without permission" "this shell isn't root, or setpriv isn't installed"
+fi
+
+# a file may grow to 600 kB: then writes fail as on a full disk
+rm -f full.db
+(ulimit -f 600; trap '' XFSZ; "$pbfrow" import "$country" full.db > full.txt 2>/dev/null)
+ended=$?
+tail -n 1 full.txt > last.txt
+case "$ended $(cat last.txt)" in
+  "1 fault 65 "*) pass "a full disk" ;;
+  *) fail "a full disk"; echo "  got status $ended and: $(cat last.txt)" ;;
+esac
+"$pbfrow" import "$country" full.db > again.txt && pass "the import after it" || fail "the import after it"
+"$pbfrow" export full.db > full-export.txt
+rm -f whole.db
+"$pbfrow" import "$country" whole.db > whole.txt
+"$pbfrow" export whole.db > whole-export.txt
+same "its export is that of an unbroken run" full-export.txt whole-export.txt
+
+"$pbfrow" export whole.db | head -n 1 > one.txt
+head -n 1 whole-export.txt > want.txt
+same "an export whose reader goes away" one.txt want.txt
+"$pbfrow" export whole.db > /dev/full 2>/dev/null
+[ $? = 1 ] && pass "an export to a full disk ends with 1" || fail "an export to a full disk ends with 1"

@@ -1,0 +1,30 @@
+# The database and the exports, read by sqlite3 and osmium.
+country=$top/data/liechtenstein-raw.osm.pbf
+rm -f country.db
+"$pbfrow" import "$country" country.db > imported.txt
+tail -n 1 imported.txt > last.txt
+echo "blobs stored 12 held 0 bad 0 refused 0" > want.txt
+same "a real extract is imported" last.txt want.txt
+
+if has sqlite3; then
+  sqlite3 country.db "PRAGMA integrity_check" > integrity.txt
+  echo ok > want.txt
+  same "sqlite3 finds the database whole" integrity.txt want.txt
+  sqlite3 country.db "SELECT count(*), sum(n), max(fin) FROM blob; SELECT version FROM meta" > counts.txt
+  printf '%s\n' "12|72967|1311970" "$(sqlite3 country.db 'SELECT version FROM meta')" > want.txt
+  same "sqlite3 counts its blobs and elements" counts.txt want.txt
+else
+  skip "the database under sqlite3" "sqlite3 isn't installed"
+fi
+
+if has osmium; then
+  "$pbfrow" export country.db --form pbf > country-out.osm.pbf
+  osmium cat -f opl "$country" -o want.opl --overwrite
+  osmium cat -f opl country-out.osm.pbf -o got.opl --overwrite
+  same "osmium reads the exported file to the same elements" got.opl want.opl
+  osmium fileinfo -e -g data.count.nodes country-out.osm.pbf > nodes.txt
+  echo 65733 > want.txt
+  same "osmium counts the nodes of the exported file" nodes.txt want.txt
+else
+  skip "the exported file under osmium" "osmium isn't installed"
+fi
