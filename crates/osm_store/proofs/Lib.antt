@@ -29,6 +29,9 @@ pub mod NestedLists
 pub mod NumberOrder
 pub mod PlacedLaws
 pub mod PartLaws
+pub mod ElementRows
+pub mod ElementsMade
+pub mod ElementKinds
 pub mod StoredElements
 pub mod SameElements
 pub mod OneElement

@@ -3,6 +3,7 @@
 
 mod answer;
 mod body_store;
+mod column_elements;
 mod column_parts;
 mod column_reads;
 mod column_rows;
