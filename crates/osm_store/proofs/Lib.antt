@@ -30,6 +30,9 @@ pub mod NumberOrder
 pub mod PlacedLaws
 pub mod PartLaws
 pub mod ColumnFindLemmas
+pub mod ElementKinds
+pub mod ElementRows
+pub mod ElementsMade
 pub mod StoredElements
 pub mod SameElements
 pub mod OneElement

@@ -10,15 +10,12 @@ use Rattle.sqlite_trees.specs.Tree.{IsAscending}
 use Rattle.sqlite_trees.proofs.ListLemmas.{all_weaker}
 use Rattle.osm_value.specs.declared.element.Element.{Element}
 use Rattle.osm_store.specs.Held.{Blob, HeldMap}
+pub use Rattle.osm_store.specs.Rows.{IsBefore}
 use Rattle.osm_store.specs.Rows.{Placed, placed, placed_in}
 use Rattle.osm_store.proofs.NestedLists.{nested_rise}
 
 abbrev pub Entry : Type 0
 Entry = ℕ × Blob
-
--- by offset and position
-abbrev pub IsBefore : Placed → Placed → Type 0
-IsBefore a b = (a.0 < b.0) ⊎ ((a.0 ≡ b.0) × (a.1 < b.1))
 
 -- ---- the entries of a map
 

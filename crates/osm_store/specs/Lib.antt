@@ -10,6 +10,7 @@ pub mod ColumnRows
 pub mod ColumnExamples
 pub mod WrittenRows
 pub mod ColumnReads
+pub mod ColumnElements
 pub mod ColumnFinding
 pub mod ColumnLoading
 pub mod Steps

@@ -1,5 +1,5 @@
 -- The rows that a held map stands for.
-use Rattle.std.specs.Prelude.{ℕ, ◌+◌, ◌^◌, ◌<◌, ◌==◌, ◌&&◌, Bool, ℤ, pos, List, [], ◌∷◌, flat_map, length}
+use Rattle.std.specs.Prelude.{◌≡◌, ◌⊎◌, ℕ, ◌+◌, ◌^◌, ◌<◌, ◌==◌, ◌&&◌, Bool, ℤ, pos, List, [], ◌∷◌, flat_map, length}
 use Rattle.std.specs.Ordering.{int_eq}
 use Rattle.std.specs.FinMap.{entries}
 use Rattle.sqlite.specs.declared.types.Value.TheVariants.{Null, Int, Blob as Octets}
@@ -50,6 +50,10 @@ placed off position (e ∷ es) = (off, position, e) ∷ placed off (position + 1
 -- all held elements, by offset and position
 abbrev pub placed_in : HeldMap → List Placed
 placed_in held = flat_map (λ (entry : ℕ × Blob). placed entry.0 0 entry.1.elements) (entries held)
+
+-- by offset and position
+abbrev pub IsBefore : Placed → Placed → Type 0
+IsBefore a b = (a.0 < b.0) ⊎ ((a.0 ≡ b.0) × (a.1 < b.1))
 
 abbrev pub version_row : Layout → Row
 version_row layout = Int (pos (version_of layout)) ∷ Null ∷ []

@@ -26,7 +26,8 @@ pub(crate) fn tag_of(row: &Row) -> Option<(&str, &str)>
 
 /// The member that a row stands for; a way's node is a member without a role.
 pub(crate) fn member_of(row: &Row) -> Option<Member<'_>>
-    ensures { (p : Part MemberValue) → IsMember p.item → row.now ≡ link_row p → result ≡ Some p.item }
+    ensures exact { (p : Part MemberValue) → IsMember p.item → row.now ≡ link_row p → result ≡ Some p.item }
+    ensures in_range { IfSome result IsMember }
 {
     match (kind_at(row, 3), wide_at(row, 4), text_at(row, 5)) {
         (Some(kind), Some(id), Some(role)) => Some(Member::new(kind, id, role)),

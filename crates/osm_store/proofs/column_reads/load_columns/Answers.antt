@@ -1,13 +1,17 @@
 use Rattle.std.proofs.Common.{refl, ◌∙◌, ap, map}
+use Rattle.std.proofs.lemmas.List.Elements.{All-from_recursion}
 use Rattle.sqlite.specs.State.{HasCleanDisk}
 use Rattle.sqlite.specs.Held.{state}
 use Rattle.sqlite_tied.specs.Compute.{everything}
+use Rattle.sqlite_trees.proofs.ListLemmas.{all-filter, ascending-filter}
 use Rattle.osm_value.specs.Elements.{tags_of_element}
 use Rattle.osm_store.specs.declared.layout.Layout.TheVariants.{Columns}
-use Rattle.osm_store.specs.Rows.{Placed, placed_in}
+use Rattle.osm_store.specs.Rows.{Placed, IsBefore, is_in, placed_in}
 use Rattle.osm_store.specs.ColumnRows.{links_of, tag_row, link_row}
 use Rattle.osm_store.proofs.PutLemmas.{clean_before, asks_holds, asks_then}
 use Rattle.osm_store.proofs.ColumnReadLemmas.{elements_read, tags_read, links_read}
+use Rattle.osm_store.proofs.PlacedLaws.{placed_in_rise}
+use Rattle.osm_store.proofs.StoredElements.{all_stored}
 use Rattle.osm_store.proofs.ColumnHeld.{has_columns, parts_of_blob}
 use Rattle.osm_store.proofs.column_reads.load_columns.Goals as goal
 
@@ -46,6 +50,8 @@ returns-clause-held g c clean held holds =
         elements = elements;
         tags = tags ∙ ap (map tag_row) (parts_of_blob (λ (p : Placed). tags_of_element p.2) c.args.off (placed_in held));
         links = links ∙ ap (map link_row) (parts_of_blob (λ (p : Placed). links_of p.2) c.args.off (placed_in held));
+        ascending = ascending-filter IsBefore (is_in c.args.off) (placed_in held) (placed_in_rise held);
+        stored = All-from_recursion _ _ (all-filter _ (is_in c.args.off) (placed_in held) (all_stored Columns held holds.kept));
       },
       third.is_open,
     )
