@@ -103,9 +103,11 @@ at_entry (e ∷ es) off blob is =
           (suc later.0, later.1)
     ]
 
--- the elements at an offset are those of the blob there
-pub elements_at : (held : HeldMap) (off : ℕ) (blob : Blob) → get held off ≡ Some blob → map (λ (p : Placed). p.2) (filter (is_in off) (placed_in held)) ≡ blob.elements
-elements_at held off blob is =
+-- the elements at an offset are those of the blob there, each at its position
+pub placed_at : (held : HeldMap) (off : ℕ) (blob : Blob) → get held off ≡ Some blob → filter (is_in off) (placed_in held) ≡ placed off 0 blob.elements
+placed_at held off blob is =
     let there = at_entry (entries held) off blob (sym (get-entries held off) ∙ is) in
-    ap (map (λ (p : Placed). p.2)) (nested_at (λ (e : Entry). e.0) (λ (p : Placed). p.0) (λ (a b : Placed). a.1 < b.1) within here by_position (entries held) there.0 (off, blob) (entries_rise held) there.1)
-    ∙ elements_of off 0 blob.elements
+    nested_at (λ (e : Entry). e.0) (λ (p : Placed). p.0) (λ (a b : Placed). a.1 < b.1) within here by_position (entries held) there.0 (off, blob) (entries_rise held) there.1
+
+pub elements_at : (held : HeldMap) (off : ℕ) (blob : Blob) → get held off ≡ Some blob → map (λ (p : Placed). p.2) (filter (is_in off) (placed_in held)) ≡ blob.elements
+elements_at held off blob is = ap (map (λ (p : Placed). p.2)) (placed_at held off blob is) ∙ elements_of off 0 blob.elements

@@ -22,6 +22,7 @@ mod loaded;
 mod opening;
 mod rows;
 mod sql;
+mod table_elements;
 mod table_store;
 mod version;
 

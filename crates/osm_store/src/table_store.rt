@@ -1,22 +1,28 @@
 //! A store that keeps each element as rows of numbers and texts, which users can query.
 
-ghost use Rattle.std.specs.Prelude.{◌≡◌, ◌≢◌, ◌⊎◌, ◌<◌, ◌≤◌, ◌^◌, ℤ, pos, Some, false, IsTrue, IfOk, IfErr, MatchResult};
+ghost use Rattle.std.specs.Prelude.{◌≡◌, ◌≢◌, ◌⊎◌, ℤ, pos, Some, filter, false, IsTrue, IfOk, IfErr, MatchResult};
 ghost use Rattle.std.specs.FinMap.{empty};
 ghost use Rattle.sqlite.specs.State.{HasCleanDisk};
 ghost use Rattle.sqlite.specs.Held.{state};
 ghost use Rattle.osm_store.specs.Asking.{JustAsks, NamesVersion};
 ghost use Rattle.osm_store.specs.Faults.{NamesNoVersion};
-ghost use Rattle.osm_store.specs.Held.{HeldMap, HaveFewTexts};
+ghost use Rattle.osm_store.specs.Finding.{AreMatches};
+ghost use Rattle.osm_store.specs.Held.{HeldMap};
 ghost use Rattle.osm_store.specs.LayoutHolding.{Holds, TablesHold};
 ghost use Rattle.osm_store.specs.Keeping.{IsForeign};
-ghost use Rattle.osm_store.specs.Store.{AddsBlob};
+ghost use Rattle.osm_store.specs.Rows.{is_of, placed_in};
+ghost use Rattle.osm_store.specs.Store.{JustReads};
 
+use crate::extents::{all_extents, touched_extents};
 use crate::fault::StoreFault;
-use crate::keeper::Extent;
+use crate::found::Found;
+use crate::keeper::{Extent, Keeper};
 use crate::layout::Layout;
+use crate::loaded::Loaded;
 use crate::opening::{adopt_store, create_store, failures_after};
 use crate::rows::put_rows;
-use osm_value::Element;
+use crate::table_elements::{find_elements, load_elements};
+use osm_value::{Element, MemberKind};
 use pbf_frame::Kind;
 use sqlite::{Alter, Connection};
 use std::alloc::Global;
@@ -115,8 +121,62 @@ impl<S: Alter> TableStore<S> {
         self.connection.set_step_limit(limit);
     }
 
-    /// Adds a blob where no held extent is touched.
-    pub fn put(
+    /// All held elements of this kind and id, each after the offset of its blob and its position there.
+    pub fn find(&mut self, alloc: Global, kind: MemberKind, id: i64) -> Result<Found, StoreFault>
+        ensures found { (held : HeldMap) → Holds Layout.Columns (state S.Store self.old.connection) held → HasCleanDisk (state S.Store self.new.connection)
+            → IfOk result (λ found. AreMatches found (filter (is_of kind id) (placed_in held))) }
+        ensures reads { JustReads Layout.Columns S.Store self.old result self.new }
+    {
+        let answer = find_elements(alloc, &mut self.connection, kind, id);
+        self.failures = failures_after(&answer, self.failures);
+        answer
+    }
+}
+
+impl<S: Alter> Keeper for TableStore<S> {
+    ghost use Rattle.osm_store.specs.declared.layout.Layout.{Layout};
+    ghost use Rattle.sqlite.specs.State.{HasCleanDisk};
+    ghost use Rattle.sqlite.specs.Held.{state};
+    ghost use Rattle.std.specs.Prelude.{IsTrue};
+    ghost use Rattle.osm_store.specs.LayoutHolding.{Holds, MayLeave, LeavesAMap};
+    ghost use Rattle.osm_store.specs.StoreLaws.{leaves_held_alone, leaves_held};
+
+    ghost holds = { λ s held. Holds Layout.Columns (state S.Store s.connection) held };
+
+    ghost leaves = { λ s left. MayLeave Layout.Columns (state S.Store s.connection) left };
+
+    ghost leaves_a_map = { λ s. LeavesAMap Layout.Columns (state S.Store s.connection) };
+
+    ghost is_honest = { λ s. HasCleanDisk (state S.Store s.connection) };
+
+    ghost is_open = { λ s. HasCleanDisk (state S.Store s.connection) × IsTrue (state S.Store s.connection).is_open };
+
+    ghost failures = { λ s. s.failures };
+
+    fn extents(&mut self, alloc: Global) -> Result<Vec<Extent>, StoreFault> {
+        let answer = all_extents(alloc, &mut self.connection);
+        self.failures = failures_after(&answer, self.failures);
+        answer
+    }
+
+    fn extents_touching(
+        &mut self,
+        alloc: Global,
+        from: u64,
+        to: u64,
+    ) -> Result<Vec<Extent>, StoreFault> {
+        let answer = touched_extents(alloc, &mut self.connection, from, to);
+        self.failures = failures_after(&answer, self.failures);
+        answer
+    }
+
+    fn load(&mut self, alloc: Global, off: u64) -> Result<Loaded, StoreFault> {
+        let answer = load_elements(alloc, &mut self.connection, off);
+        self.failures = failures_after(&answer, self.failures);
+        answer
+    }
+
+    fn put(
         &mut self,
         alloc: Global,
         off: u64,
@@ -124,12 +184,7 @@ impl<S: Alter> TableStore<S> {
         digest: &[u8; 32],
         kind: Kind,
         elements: &[Element],
-    ) -> Result<(), StoreFault>
-        requires order { off < fin }
-        requires limit { fin ≤ 2 ^ 62 }
-        requires texts { HaveFewTexts elements.now }
-        ensures adds { AddsBlob Layout.Columns S.Store off (record { fin = fin; digest = digest.now; kind = kind; elements = elements.now }) self.old result self.new }
-    {
+    ) -> Result<(), StoreFault> {
         let extent = Extent {
             off,
             fin,
@@ -147,4 +202,14 @@ impl<S: Alter> TableStore<S> {
         self.failures = failures_after(&answer, self.failures);
         answer
     }
+
+    fn failures(&self) -> u64 {
+        self.failures
+    }
+
+    ghost settled = { λ store held left holds may. leaves_held_alone Layout.Columns _ held holds (λ db there. S.settled store.connection.store db there) left may };
+
+    ghost leaves_held = { λ store held holds. leaves_held Layout.Columns _ held holds (λ db there. S.settled store.connection.store db there) };
+
+    ghost is_apart = { λ store held holds. holds.kept.apart };
 }

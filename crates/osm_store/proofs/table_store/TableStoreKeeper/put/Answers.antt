@@ -3,7 +3,7 @@ use Rattle.osm_store.specs.declared.layout.Layout.TheVariants.{Columns}
 use Rattle.osm_store.specs.Held.{Blob}
 use Rattle.osm_store.specs.Store.{Store, AddsBlob}
 use Rattle.osm_store.proofs.PuttingLemmas.{put_adds}
-use Rattle.osm_store.proofs.table_store.TableStore.put.Goals as goal
+use Rattle.osm_store.proofs.table_store.TableStoreKeeper.put.Goals as goal
 
 pub returns : goal.returns
 returns g c =
