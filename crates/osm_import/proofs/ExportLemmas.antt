@@ -7,18 +7,18 @@ use Rattle.std.specs.Ordering.{nat_cmp}
 use Rattle.std.proofs.lemmas.Bool.Decides.{eqb_tells}
 use Rattle.std.proofs.lemmas.List.{take-append-drop, take_all, length-map}
 use Rattle.std.specs.Io.KnownBytes.{Appends}
-use Rattle.std.proofs.KnownBytes.{Appends-trans}
+use Rattle.std.proofs.KnownBytes.{Appends-trans, Appends-nil}
 use Rattle.osm_value.specs.declared.element.Element.{Element}
-use Rattle.osm_value.specs.Sink.{AppendsFront}
 use Rattle.osm_import.proofs.WritingLemmas.{lines_of-append, front-of-piece}
 use Rattle.osm_import.proofs.GoodLaws.{frame-filled}
 use Rattle.osm_store.specs.Held.{Blob, HeldMap, IsApart}
 use Rattle.osm_store.specs.Keeping.{extents_of, extent_of}
 use Rattle.osm_store.specs.declared.keeper.Extent.{Extent}
+use Rattle.osm_store.specs.declared.fault.StoreFault.{StoreFault}
 use Rattle.osm_import.specs.Gaps.{AreGaps, Tiles, ranges_between}
 use Rattle.osm_import.specs.Files.{AreFrames, StandsAt, IsFile, IsHeldOfFile, joined}
 use Rattle.osm_import.specs.Step.{IsEntry}
-use Rattle.osm_import.specs.Exports.{Known, lines_of, IsBefore, blob_lines, AreElements, greatest_end, size_of, IsRefusalOf, AreTiling, IsRefusal, WritesBlob, WritesBlobs, WritesFile, IsExport, IsAskedFor}
+use Rattle.osm_import.specs.Exports.{Known, lines_of, blob_lines, AreElements, greatest_end, size_of, IsRefusalOf, AreTiling, IsRefusal, WritesBlob, WritesBlobs, WritesFile, IsExport, IsAskedFor}
 use Rattle.osm_import.specs.declared.export.fault.ExportFault.{ExportFault}
 use Rattle.osm_import.specs.declared.export.fault.ExportFault.TheVariants.{Incomplete, PastEnd, WriteFailed, BlockTooLarge, Store}
 use Rattle.osm_import.proofs.Touching.{find-cons, find-tail, find-head, sorted-tail}
@@ -276,7 +276,7 @@ end-le held asked size tiles is = elim is [
 ]
 
 -- an export over a map that tiles the size isn't refused
-unrefused : (held : HeldMap) (asked : Option ℕ) (size : ℕ) (fault : ExportFault) → Tiles held size → IsAskedFor asked size → IsRefusal held (size_of asked (extents_of held)) fault → ⊥
+pub unrefused : (held : HeldMap) (asked : Option ℕ) (size : ℕ) (fault : ExportFault) → Tiles held size → IsAskedFor asked size → IsRefusal held (size_of asked (extents_of held)) fault → ⊥
 unrefused held asked size (Incomplete from to) tiles is refusal = elim refusal [
   | inl (rest, gaps) ↦ (let low : size_of asked (extents_of held) ≤ size = asked-le held asked size tiles is in
       let filled : from < to = gaps.ranges.1 in let inside : to ≤ size_of asked (extents_of held) = gaps.ranges.2 in
@@ -311,7 +311,7 @@ file-lines held file frames before after (Err (PastEnd fin)) apart is_file of_fi
 pub exported : (held : HeldMap) (size : ℕ) (partial : Bool) (before after : Known) (result : Result (Unit {0}) ExportFault) → WritesBlobs before (entries held) after result → (partial ≡ false → Tiles held size) → IsExport held size partial before after result
 exported held size partial before after (Ok _) wrote tiles = (wrote, tiles)
 exported held size partial before after (Err WriteFailed) wrote tiles = (wrote, tiles)
-exported held size partial before after (Err (Store fault)) wrote tiles = wrote
+exported held size partial before after (Err (Store fault)) wrote tiles = (wrote.0, wrote.1, wrote.2, λ whole. inl (tiles whole))
 exported held size partial before after (Err BlockTooLarge) wrote tiles = wrote
 exported held size partial before after (Err (Incomplete from to)) wrote tiles = absurd wrote
 exported held size partial before after (Err (PastEnd fin)) wrote tiles = absurd wrote
@@ -322,3 +322,7 @@ refused held size text (PastEnd fin) refusal = (refl, refl, refusal)
 refused held size text WriteFailed refusal = absurd refusal
 refused held size text BlockTooLarge refusal = absurd refusal
 refused held size text (Store fault) refusal = absurd refusal
+
+-- a store fault before any byte
+pub export-none : (held : HeldMap) (size : ℕ) (partial : Bool) (text : Known) (fault : StoreFault) → IsExport held size partial text text (Err (Store fault))
+export-none held size partial text fault = (0, inr refl, Appends-nil text, λ whole. inr refl)

@@ -8,10 +8,11 @@ use Rattle.osm_store.specs.declared.fault.StoreFault.{StoreFault}
 use Rattle.osm_import.specs.Good.{IsFrame}
 use Rattle.osm_import.specs.Exports.{Known}
 use Rattle.osm_import.specs.Streams.{Moved, ReadHasCause}
-use Rattle.osm_import.specs.StreamSteps.{IsFull, FrameStop}
+use Rattle.osm_import.specs.StreamSteps.{IsFull, IsBegun, HasNoFrame, FrameStop}
 use Rattle.osm_import.specs.declared.answer.Answer.{Answer}
 use Rattle.osm_import.specs.declared.stream.fault.Stop.{Stop}
 use Rattle.osm_import.specs.declared.stream.fault.Stop.TheVariants.{Frame, NoHeaderFirst, WriteFailed, Store, ReadFailed, BlobLimit}
+use Rattle.osm_import.proofs.Begun.{no-frame}
 use Rattle.osm_import.proofs.StreamLemmas.{none-waits}
 
 -- what the framer has is what the input lost
@@ -21,14 +22,14 @@ Got f g before after = (g.offset ≡ f.offset) × Consumes before after g.rest
 pub got-of : (f g : Framing) (before after : Known) → Moved f g before after → f.rest ≡ [] → Got f g before after
 got-of f g before after moved empty = (moved.1, subst (Consumes before after) (sym (moved.2 ∙ ap (λ (v : List ℕ). v ++ moved.0) empty)) moved.3)
 
-pub fill-stopped : (f : Framing) (before after written : Known) (source_failed sink_failed : Bool) (Same : Type 0) (One : ℕ → List ℕ → Answer → Type 0) (g : Framing) (stop : Stop) → Moved f g before after → ReadHasCause source_failed stop → Same
+pub fill-stopped : (f : Framing) (before after written : Known) (source_failed sink_failed : Bool) (Same : Type 0) (One : ℕ → List ℕ → Answer → Type 0) (g : Framing) (stop : Stop) → Got f g before after → IsBegun g → (stop ≡ ReadFailed → IsFull g → ⊥) → ReadHasCause source_failed stop → Same
     → FrameStop f before after written written source_failed sink_failed Same One stop
-fill-stopped f before after written source_failed sink_failed Same One g ReadFailed moved cause same = (refl, same, cause, (moved.0, moved.3))
-fill-stopped f before after written source_failed sink_failed Same One g (Store fault) moved cause same = (refl, inl (same, cause, (moved.0, moved.3)))
-fill-stopped f before after written source_failed sink_failed Same One g (Frame fault) moved cause same = absurd cause
-fill-stopped f before after written source_failed sink_failed Same One g NoHeaderFirst moved cause same = absurd cause
-fill-stopped f before after written source_failed sink_failed Same One g WriteFailed moved cause same = absurd cause
-fill-stopped f before after written source_failed sink_failed Same One g BlobLimit moved cause same = absurd cause
+fill-stopped f before after written source_failed sink_failed Same One g ReadFailed got begun unfilled cause same = (refl, same, cause, (g.rest, got.1, subst (λ n. HasNoFrame n g.rest) got.0 (no-frame g begun (unfilled refl))))
+fill-stopped f before after written source_failed sink_failed Same One g (Store fault) got begun unfilled cause same = (refl, inl (same, cause, (g.rest, got.1)))
+fill-stopped f before after written source_failed sink_failed Same One g (Frame fault) got begun unfilled cause same = absurd cause
+fill-stopped f before after written source_failed sink_failed Same One g NoHeaderFirst got begun unfilled cause same = absurd cause
+fill-stopped f before after written source_failed sink_failed Same One g WriteFailed got begun unfilled cause same = absurd cause
+fill-stopped f before after written source_failed sink_failed Same One g BlobLimit got begun unfilled cause same = absurd cause
 
 pub frame-stopped : (f : Framing) (before after written : Known) (source_failed sink_failed : Bool) (Same : Type 0) (One : ℕ → List ℕ → Answer → Type 0) (g : Framing) (fault : FrameFault) → Got f g before after
     → FaultStands fault g ⊎ (IsUnfinished fault g × IsAtEnd after) → Same → FrameStop f before after written written source_failed sink_failed Same One (Frame fault)

@@ -18,10 +18,11 @@ use Rattle.osm_block.specs.declared.fault.BlockFault.{BlockFault}
 use Rattle.osm_block.specs.Block.{Block}
 use Rattle.osm_block.proofs.UniqueDense.{Block-unique}
 use Rattle.osm_block.proofs.Complete.{no_fault}
+use Rattle.osm_block.proofs.Faultless.{block_of}
 use Rattle.osm_block.specs.Phases.{fault as block_fault}
 use Rattle.osm_block.specs.declared.header.fault.HeaderFault.{HeaderFault}
 use Rattle.osm_block.specs.HeaderBlock.{header_fault}
-use Rattle.osm_import.specs.Good.{IsGood, IsPlaced, HasElements, FaultlessBlocksSay}
+use Rattle.osm_import.specs.Good.{IsGood, IsPlaced, HasElements}
 use Rattle.osm_import.specs.Bad.{IsBad, IsBadFrame, CanStand, IsMisplaced, IsBadBlob}
 use Rattle.osm_import.specs.declared.fault.Fault.{Fault}
 use Rattle.osm_import.specs.declared.fault.Fault.TheVariants as faults
@@ -146,22 +147,22 @@ header-none : (blob block : List ℕ) (o : Option HeaderFault) → Raw blob bloc
 header-none blob block None r h e = ([], (block, r, h, refl))
 header-none blob block (Some fault) r h e = absurd cc
 
-block-none : FaultlessBlocksSay → (blob block : List ℕ) (o : Option BlockFault) → Raw blob block → block_fault block ≡ o → option_map faults.Block o ≡ None → HasSome OsmData blob
-block-none say blob block None r h e = let it = say block h in (it.0, (block, r, it.1))
-block-none say blob block (Some fault) r h e = absurd cc
+block-none : (blob block : List ℕ) (o : Option BlockFault) → Raw blob block → block_fault block ≡ o → option_map faults.Block o ≡ None → HasSome OsmData blob
+block-none blob block None r h e = let it = block_of block h in (it.0, (block, r, it.1))
+block-none blob block (Some fault) r h e = absurd cc
 
 header-content : (blob : List ℕ) (r : Result (List ℕ) BlobFault) → raw_at blob ≡ r → raw_then of_header r ≡ None → HasSome OsmHeader blob
 header-content blob (Ok block) r e = header-none blob block (header_fault block) (raw_takes blob block r) refl e
 header-content blob (Err fault) r e = absurd cc
 
-block-content : FaultlessBlocksSay → (blob : List ℕ) (r : Result (List ℕ) BlobFault) → raw_at blob ≡ r → raw_then of_block r ≡ None → HasSome OsmData blob
-block-content say blob (Ok block) r e = block-none say blob block (block_fault block) (raw_takes blob block r) refl e
-block-content say blob (Err fault) r e = absurd cc
+block-content : (blob : List ℕ) (r : Result (List ℕ) BlobFault) → raw_at blob ≡ r → raw_then of_block r ≡ None → HasSome OsmData blob
+block-content blob (Ok block) r e = block-none blob block (block_fault block) (raw_takes blob block r) refl e
+block-content blob (Err fault) r e = absurd cc
 
-content-none : FaultlessBlocksSay → (kind : Kind) (blob : List ℕ) → content kind blob ≡ None → HasSome kind blob
-content-none say Other blob e = ([], refl)
-content-none say OsmHeader blob e = header-content blob (raw_at blob) refl e
-content-none say OsmData blob e = block-content say blob (raw_at blob) refl e
+content-none : (kind : Kind) (blob : List ℕ) → content kind blob ≡ None → HasSome kind blob
+content-none Other blob e = ([], refl)
+content-none OsmHeader blob e = header-content blob (raw_at blob) refl e
+content-none OsmData blob e = block-content blob (raw_at blob) refl e
 
 header-some : (blob block : List ℕ) (o : Option HeaderFault) (fault : Fault) → Raw blob block → header_fault block ≡ o → option_map faults.Header o ≡ Some fault → IsBadBlob OsmHeader blob fault
 header-some blob block None fault r h e = absurd cc
@@ -199,11 +200,11 @@ blob-content OsmData blob other some h = ap (raw_then of_block) (blob_faults_aga
 abbrev IsSomeGood : ℕ → List ℕ → Type 0
 IsSomeGood off w = (kind : Kind) × (es : List Element) × IsGood off w kind es
 
-none-in-frame : FaultlessBlocksSay → (off : ℕ) (w : List ℕ) (r : Result Found FrameFault) → whole_at w ≡ r → in_frame off r ≡ None → IsSomeGood off w
-none-in-frame say off w (Err fault) r e = absurd cc
-none-in-frame say off w (Ok f) r e =
+none-in-frame : (off : ℕ) (w : List ℕ) (r : Result Found FrameFault) → whole_at w ≡ r → in_frame off r ≡ None → IsSomeGood off w
+none-in-frame off w (Err fault) r e = absurd cc
+none-in-frame off w (Ok f) r e =
     let parts = or-none (placing off f.kind f.len) (content f.kind f.blob) e in
-    let has = content-none say f.kind f.blob parts.1 in
+    let has = content-none f.kind f.blob parts.1 in
     (f.kind, has.0, good-of off w f has.0 r (placing-none off f.kind f.len parts.0) has.1)
 
 some-in-frame : (off : ℕ) (w : List ℕ) (fault : Fault) (r : Result Found FrameFault) → whole_at w ≡ r → in_frame off r ≡ Some fault → IsBad off w fault
@@ -255,12 +256,12 @@ bad-verdict off w (faults.Block other) h =
 
 -- ---- the laws
 
-verdict-is : FaultlessBlocksSay → (off : ℕ) (w : List ℕ) (o : Option Fault) → verdict off w ≡ o → IsSomeGood off w ⊎ ((fault : Fault) × IsBad off w fault)
-verdict-is say off w None e = inl (none-in-frame say off w (whole_at w) refl e)
-verdict-is say off w (Some fault) e = inr (fault, some-in-frame off w fault (whole_at w) refl e)
+verdict-is : (off : ℕ) (w : List ℕ) (o : Option Fault) → verdict off w ≡ o → IsSomeGood off w ⊎ ((fault : Fault) × IsBad off w fault)
+verdict-is off w None e = inl (none-in-frame off w (whole_at w) refl e)
+verdict-is off w (Some fault) e = inr (fault, some-in-frame off w fault (whole_at w) refl e)
 
-pub good-or-bad : FaultlessBlocksSay → (off : ℕ) (w : List ℕ) → ((kind : Kind) × (es : List Element) × IsGood off w kind es) ⊎ ((fault : Fault) × IsBad off w fault)
-good-or-bad say off w = verdict-is say off w (verdict off w) refl
+pub good-or-bad : (off : ℕ) (w : List ℕ) → ((kind : Kind) × (es : List Element) × IsGood off w kind es) ⊎ ((fault : Fault) × IsBad off w fault)
+good-or-bad off w = verdict-is off w (verdict off w) refl
 
 pub good-not_bad : (off : ℕ) (w : List ℕ) (kind : Kind) (es : List Element) → IsGood off w kind es → (fault : Fault) → IsBad off w fault → ⊥
 good-not_bad off w kind es good fault bad =

@@ -1,5 +1,7 @@
 pub mod Delivering
 pub mod ExamineLemmas
+pub mod PbfLemmas
+pub mod PbfFile
 pub mod ExportLemmas
 pub mod FewTexts
 pub mod FilesLemmas
@@ -13,6 +15,9 @@ pub mod WritingLemmas
 pub mod AnswerLines
 pub mod FrameLemmas
 pub mod Moves
+pub mod Filling
+pub mod Begun
+pub mod NextFrame
 pub mod StreamLists
 pub mod StreamTakes
 pub mod StreamLemmas

@@ -1,14 +1,9 @@
 -- Moves of bytes from an input to a framer, one after the other.
-use Rattle.std.proofs.Common.{◌≡◌, ℕ, ◌+◌, ◌<◌, ◌≤◌, List, [], ◌++◌, length, take, drop, min, Option, Some, None, refl, sym, ap, subst, inl, inr, ◌∙◌, arith, append_assoc}
-use Rattle.std.proofs.lemmas.List.{append-nil, take-append-drop, length-take, nil_from_length}
+use Rattle.std.proofs.Common.{ℕ, List, [], ◌++◌, Option, Some, None, refl, sym, ap, ◌∙◌, append_assoc}
+use Rattle.std.proofs.lemmas.List.{append-nil}
 use Rattle.std.specs.Io.KnownBytes.{Consumes, Keeps, prepend_known}
-use Rattle.pbf_frame.specs.Framer.{Framing, fed, lacking, taken, let_go}
-use Rattle.pbf_frame.specs.Parts.{part_end}
-use Rattle.pbf_frame.proofs.FramerLaws.{taken_is}
-use Rattle.pbf_frame.specs.declared.fault.FrameFault.{FrameFault}
-use Rattle.pbf_frame.specs.Framer.{FrameWaits, FaultStands, TakesNothing}
+use Rattle.pbf_frame.specs.Framer.{Framing, let_go}
 use Rattle.osm_import.specs.Streams.{Moved}
-use Rattle.osm_import.specs.StreamSteps.{IsFull}
 
 consumes_none : (a : Option (List ℕ)) → Consumes a a []
 consumes_none None = tt
@@ -22,10 +17,6 @@ consumes_both (Some xs) (Some ys) (Some zs) x y p q = p ∙ ap (λ (v : List ℕ
 
 pub moved_none : (f : Framing) (a : Option (List ℕ)) → Moved f f a a
 moved_none f a = ([], refl, sym (append-nil f.rest), consumes_none a)
-
--- bytes that stay moved nowhere
-pub moved_same : (f g : Framing) (a b c : Option (List ℕ)) → Moved f g a b → Consumes b c [] → Moved f g a c
-moved_same f g a b c p h = (p.0, p.1, p.2, subst (Consumes a c) (append-nil p.0) (consumes_both a b c p.0 [] p.3 h))
 
 -- a framer that lets its frame go keeps its rest
 pub moved_let_go : (f g : Framing) (a b : Option (List ℕ)) → Moved f g a b → Moved f (let_go g) a b
@@ -66,31 +57,3 @@ moved_kept f left after h = ([], refl, sym (append-nil f.rest), go left after h)
     go None after h = tt
     go (Some xs) None h = h
     go (Some xs) (Some ys) h = sym h
-
--- a piece is fed
-pub moved_fed : (f : Framing) (left : Option (List ℕ)) (piece : List ℕ) (n : ℕ) → n ≡ length (taken f piece)
-    → Moved f (fed f piece) (prepend_known piece left) (prepend_known (drop n piece) left)
-moved_fed f left piece n e = (taken f piece, refl, refl, go left)
-  where
-    k : ℕ
-    k = lacking (length f.rest) (part_end f.offset f.rest)
-
-    count : n ≡ min k (length piece)
-    count = e ∙ length-take k piece
-
-    parts : taken f piece ++ drop n piece ≡ piece
-    parts = ap (λ (v : List ℕ). v ++ drop n piece) (sym (taken_is k n piece count)) ∙ take-append-drop n piece
-
-    go : (left : Option (List ℕ)) → Consumes (prepend_known piece left) (prepend_known (drop n piece) left) (taken f piece)
-    go None = tt
-    go (Some xs) = ap (λ (v : List ℕ). v ++ xs) (sym parts) ∙ append_assoc (taken f piece) (drop n piece) xs
-
--- nothing was taken of a piece that has bytes
-pub full_is : (f : Framing) (piece : List ℕ) (n : ℕ) → n ≡ length (taken f piece) → n ≡ 0 → 0 < length piece → TakesNothing f piece → IsFull (fed f piece)
-full_is f piece n count none some nothing =
-    let empty : taken f piece ≡ [] = nil_from_length (taken f piece) (sym count ∙ none) in
-    let same : f.rest ++ taken f piece ≡ f.rest = ap (λ (v : List ℕ). f.rest ++ v) empty ∙ append-nil f.rest in
-    elim nothing [
-      | inl no_piece ↦ absurd (omega (arith, ap length no_piece))
-      | inr full ↦ subst (λ (v : List ℕ). IsFull (record { offset = f.offset; rest = v; lent = [] })) (sym same) full
-    ]

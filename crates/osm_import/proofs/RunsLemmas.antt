@@ -1,5 +1,5 @@
 -- From single steps to whole runs.
-use Rattle.std.proofs.Common.{◌≡◌, ◌≢◌, ◌⊎◌, ℕ, ◌+◌, ◌<◌, ◌≤◌, List, [], ◌∷◌, ◌++◌, length, take, get_or, Some, None, refl, sym, ◌∙◌, ap, subst, inl, inr, arith, append_assoc, drop}
+use Rattle.std.proofs.Common.{◌≡◌, ◌≢◌, ◌⊎◌, ℕ, ◌+◌, ◌<◌, ◌≤◌, List, [], ◌∷◌, ◌++◌, length, take, get_or, Some, None, refl, sym, ◌∙◌, ap, subst, inl, inr, arith, append_assoc, length-append, drop}
 use Rattle.std.specs.FinMap.{get, insert}
 use Rattle.std.proofs.lemmas.Bool.Decides.{leb_tells}
 use Rattle.std.proofs.lemmas.List.{take_more, take_all, take-append-drop}
@@ -315,3 +315,26 @@ no-fault (Refused reason) none is = is
 pub own-push : (rs : List Answer) (a : Answer) → AreOwn rs → IsOwn a → AreOwn (rs ++ a ∷ [])
 own-push [] a all own = (own, tt)
 own-push (r ∷ rs) a all own = (all.0, own-push rs a all.1 own)
+
+-- where no answer is a fault
+pub own-sound : (rs : List Answer) → IsNone IsFault rs → AreOwn rs
+own-sound [] sound = tt
+own-sound (Fault fault ∷ rs) sound = absurd (sound.0 tt)
+own-sound (Stored count ∷ rs) sound = (tt, own-sound rs sound.1)
+own-sound (AlreadyHeld ∷ rs) sound = (tt, own-sound rs sound.1)
+own-sound (Bad fault ∷ rs) sound = (tt, own-sound rs sound.1)
+own-sound (Refused reason ∷ rs) sound = (tt, own-sound rs sound.1)
+
+-- the deliveries that were answered: one for each answer
+pub runs-answered : (holds : HeldMap → Type 0) (start : HeldMap) (ds : List DeliveryValue) (i n : ℕ) (rs : List Answer) → n ≡ i → Runs holds start (take i ds) rs → Runs holds start (take n ds) rs
+runs-answered holds start ds i n rs same run = subst (λ k. Runs holds start (take k ds) rs) (sym same) run
+
+pub answered-more : (rs items : List Answer) (a : Answer) (i : ℕ) → items ≡ rs ++ a ∷ [] → length rs ≡ i → length items ≡ i + 1
+answered-more rs items a i pushed many = ap length pushed ∙ length-append rs (a ∷ []) ∙ ap (λ n. n + 1) many
+
+pub fault-is : (a : Answer) → IsFault a → (fault : StoreFault) × (a ≡ Fault fault)
+fault-is (Fault fault) is = (fault, refl)
+fault-is (Stored count) is = absurd is
+fault-is AlreadyHeld is = absurd is
+fault-is (Bad fault) is = absurd is
+fault-is (Refused reason) is = absurd is

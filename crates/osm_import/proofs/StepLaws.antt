@@ -10,7 +10,7 @@ use Rattle.pbf_frame.specs.declared.kind.Kind.{Kind}
 use Rattle.osm_store.specs.Held.{Blob, HeldMap, IsFree, IsApart}
 use Rattle.osm_store.specs.Keeping.{touches, extents_of}
 use Rattle.osm_store.specs.declared.fault.StoreFault.{StoreFault}
-use Rattle.osm_import.specs.Good.{IsGood, FaultlessBlocksSay}
+use Rattle.osm_import.specs.Good.{IsGood}
 use Rattle.osm_import.specs.Bad.{IsBad}
 use Rattle.osm_import.specs.Step.{IsStep, IsEntry, IsHeldAlready, IsHeldOtherwise, IsOverlapping, IsStoring}
 use Rattle.osm_import.specs.Runs.{IsFault}
@@ -84,8 +84,8 @@ holding held off bytes kind es good (Some blob) is = elim (digest-tells blob.dig
   | inr other ↦ record { answer = Refused Differs; after = held; step = (record { entry = entry_at off bytes kind es; is_entry = entry_at-is off bytes kind es good; blob = blob; found = is; other = other }, refl); sound = λ h. h }
 ]
 
-pub some-step : FaultlessBlocksSay → (held : HeldMap) (off : ℕ) (bytes : List ℕ) → SomeStep held off bytes
-some-step say held off bytes = elim (good-or-bad say off bytes) [
+pub some-step : (held : HeldMap) (off : ℕ) (bytes : List ℕ) → SomeStep held off bytes
+some-step held off bytes = elim (good-or-bad off bytes) [
   | inl good ↦ holding held off bytes good.0 good.1 good.2 (get held off) refl
   | inr bad ↦ record { answer = Bad bad.0; after = held; step = (bad.1, refl); sound = λ h. h }
 ]

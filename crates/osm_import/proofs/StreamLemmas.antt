@@ -17,7 +17,7 @@ use Rattle.osm_import.specs.Exports.{Known}
 use Rattle.osm_import.specs.Runs.{IsFault, IsNone}
 use Rattle.osm_import.specs.Lines.{answer_line}
 use Rattle.osm_import.specs.Streams.{Reply, frames_of, answers_of, deliveries_at, lines_at, end_at, counted, summary_from, nothing_at, ended_at, Moved, HasRoom, IsStop, EndsWell, Stops, Streams}
-use Rattle.osm_import.specs.StreamSteps.{IsFull, FrameAnswered, FrameStop}
+use Rattle.osm_import.specs.StreamSteps.{IsFull, HasNoFrame, FrameAnswered, FrameStop}
 use Rattle.osm_import.specs.declared.answer.Answer.{Answer}
 use Rattle.osm_import.specs.declared.answer.Answer.TheVariants as answers
 use Rattle.osm_import.specs.declared.stream.summary.Summary.{Summary}
@@ -241,9 +241,9 @@ stop-at from limit count f left_old piece mid left_new written_old written_mid w
 -- what the call for a frame stopped at, after the frames so far
 pub stream-stops : (from limit count : ℕ) (f : Framing) (left_old : Known) (piece : List ℕ) (mid left_new written_old written_mid written_now : Known) (source_failed sink_failed : Bool) (summary : Summary) (Then Now : List DeliveryValue → List Answer → Type 0) (One : ℕ → List ℕ → Answer → Type 0) (Same : Type 0) (stop : Stop)
     → InStream from count f left_old mid written_old written_mid summary Then → FrameStop f mid (prepend_known piece left_new) written_mid written_now source_failed sink_failed Same One stop
-    → Stays Then Same Now → Grows Then One Now → count < limit
+    → Stays Then Same Now → Grows Then One Now → count < limit → (stop ≡ ReadFailed → piece ≡ [])
     → Stops from limit left_old left_new written_old written_now source_failed sink_failed Now (record { fault = stop; at = summary.next })
-stream-stops from limit count f left_old piece mid left_new written_old written_mid written_now source_failed sink_failed summary Then Now One Same (Frame fault) so_far h stays grows few =
+stream-stops from limit count f left_old piece mid left_new written_old written_mid written_now source_failed sink_failed summary Then Now One Same (Frame fault) so_far h stays grows few spent =
     let it = h.2 in
     stop-between from limit count f left_old piece mid left_new written_old written_mid written_now source_failed sink_failed summary Then Now Same (Frame fault) it.0 so_far it.2 stays h.1 (omega arith)
     (λ rs many here lines. (
@@ -251,10 +251,15 @@ stream-stops from limit count f left_old piece mid left_new written_old written_
       subst (λ (o : Known). Appends written_old o (lines_at from rs)) (sym h.0) lines,
       (it.0, piece, it.1, refl, subst (λ n. FaultStands fault (record { offset = n; rest = it.0; lent = it.1 }) ⊎ (IsUnfinished fault (record { offset = n; rest = it.0; lent = it.1 }) × IsAtEnd (prepend_known piece left_new))) here it.3),
     ))
-stream-stops from limit count f left_old piece mid left_new written_old written_mid written_now source_failed sink_failed summary Then Now One Same ReadFailed so_far h stays grows few =
+stream-stops from limit count f left_old piece mid left_new written_old written_mid written_now source_failed sink_failed summary Then Now One Same ReadFailed so_far h stays grows few spent =
     stop-between from limit count f left_old piece mid left_new written_old written_mid written_now source_failed sink_failed summary Then Now Same ReadFailed h.3.0 so_far h.3.1 stays h.1 (omega arith)
-    (λ rs many here lines. (h.2, refl, subst (λ (o : Known). Appends written_old o (lines_at from rs)) (sym h.0) lines))
-stream-stops from limit count f left_old piece mid left_new written_old written_mid written_now source_failed sink_failed summary Then Now One Same (Store fault) so_far h stays grows few = elim h.1 [
+    (λ rs many here lines. (
+      h.2,
+      refl,
+      subst (λ (o : Known). Appends written_old o (lines_at from rs)) (sym h.0) lines,
+      subst (λ n. HasNoFrame n (h.3.0 ++ piece)) here (subst (λ (v : List ℕ). HasNoFrame f.offset v) (sym (ap (λ (v : List ℕ). h.3.0 ++ v) (spent refl) ∙ append-nil h.3.0)) h.3.2),
+    ))
+stream-stops from limit count f left_old piece mid left_new written_old written_mid written_now source_failed sink_failed summary Then Now One Same (Store fault) so_far h stays grows few spent = elim h.1 [
   | inl own ↦
       stop-between from limit count f left_old piece mid left_new written_old written_mid written_now source_failed sink_failed summary Then Now Same (Store fault) own.2.0 so_far own.2.1 stays own.0 (omega arith)
       (λ rs many here lines. (subst (λ (o : Known). Appends written_old o (lines_at from rs)) (sym h.0) lines, inl (refl, own.1)))
@@ -262,7 +267,7 @@ stream-stops from limit count f left_old piece mid left_new written_old written_
       stop-at from limit count f left_old piece mid left_new written_old written_mid written_now source_failed sink_failed summary Then Now One (Store fault) one.0 (answers.Fault fault) so_far one.2 grows one.1 one.3 few
       (λ rs here lines. (subst (λ (o : Known). Appends written_old o (lines_at from rs)) (sym h.0) lines, inr refl))
 ]
-stream-stops from limit count f left_old piece mid left_new written_old written_mid written_now source_failed sink_failed summary Then Now One Same WriteFailed so_far h stays grows few =
+stream-stops from limit count f left_old piece mid left_new written_old written_mid written_now source_failed sink_failed summary Then Now One Same WriteFailed so_far h stays grows few spent =
     let it = h.1 in
     stop-at from limit count f left_old piece mid left_new written_old written_mid written_now source_failed sink_failed summary Then Now One WriteFailed it.0 it.1 so_far it.3 grows it.2 it.4 few
     (λ rs here lines. (
@@ -272,8 +277,8 @@ stream-stops from limit count f left_old piece mid left_new written_old written_
       front-of-piece written_old written_mid written_now (lines_at from rs) (answer_line f.offset it.1) [] (lines_at from (rs ++ (it.0, it.1) ∷ [])) lines
           (append-nil (lines_at from rs ++ answer_line f.offset it.1) ∙ ap (λ n. lines_at from rs ++ answer_line n it.1) here ∙ sym (lines-push from rs (it.0, it.1))) it.6,
     ))
-stream-stops from limit count f left_old piece mid left_new written_old written_mid written_now source_failed sink_failed summary Then Now One Same NoHeaderFirst so_far h stays grows few = absurd h
-stream-stops from limit count f left_old piece mid left_new written_old written_mid written_now source_failed sink_failed summary Then Now One Same BlobLimit so_far h stays grows few = absurd h
+stream-stops from limit count f left_old piece mid left_new written_old written_mid written_now source_failed sink_failed summary Then Now One Same NoHeaderFirst so_far h stays grows few spent = absurd h
+stream-stops from limit count f left_old piece mid left_new written_old written_mid written_now source_failed sink_failed summary Then Now One Same BlobLimit so_far h stays grows few spent = absurd h
 
 -- nothing was read yet
 pub stream-begins : (from : ℕ) (left written : Known) (f : Framing) (summary : Summary) (Took : List DeliveryValue → List Answer → Type 0) → f.offset ≡ from → f.rest ≡ [] → from ≤ 4611686018427387904 → summary ≡ nothing_at from → Took [] []

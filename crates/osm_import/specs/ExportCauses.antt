@@ -1,6 +1,7 @@
 -- Why an export fails.
 use Rattle.std.specs.Prelude.{◌≡◌, ℕ, Bool, IsTrue, Result, Ok, Err}
 use Rattle.osm_store.specs.Keeping.{IsForeign}
+use Rattle.osm_store.specs.declared.fault.StoreFault.TheVariants as store
 use Rattle.osm_import.specs.Step.{HasCause}
 use Rattle.osm_import.specs.declared.export.fault.ExportFault.{ExportFault}
 use Rattle.osm_import.specs.declared.export.fault.ExportFault.TheVariants.{Incomplete, PastEnd, WriteFailed, BlockTooLarge, Store}
@@ -18,3 +19,12 @@ ExportHasCause before now failed (Ok _) = Unit {0}
 abbrev pub ExportIsOwn : Result (Unit {0}) ExportFault → Type 0
 ExportIsOwn (Err (Store fault)) = ¬ (IsForeign fault)
 ExportIsOwn _ = Unit {0}
+
+-- what only writes fails at a write where the sink has failed, and of the store's faults tells want of memory alone
+abbrev pub WriteHasCause : Bool → Result (Unit {0}) ExportFault → Type 0
+WriteHasCause failed (Err WriteFailed) = IsTrue failed
+WriteHasCause failed (Err (Store fault)) = fault ≡ store.Memory
+WriteHasCause failed (Err BlockTooLarge) = Unit {0}
+WriteHasCause failed (Err (Incomplete from to)) = Unit {0}
+WriteHasCause failed (Err (PastEnd fin)) = Unit {0}
+WriteHasCause failed (Ok _) = Unit {0}

@@ -92,12 +92,18 @@ WritesBlobs before es after (Err BlockTooLarge) = ⊥
 WritesBlobs before es after (Err (Incomplete from to)) = ⊥
 WritesBlobs before es after (Err (PastEnd fin)) = ⊥
 
+-- unless partial, what is held tiles the size, or nothing was written
+abbrev pub IsGuarded : HeldMap → ℕ → Bool → Known → Known → Type 0
+IsGuarded held size partial before after = partial ≡ false → Tiles held size ⊎ (after ≡ before)
+
 -- What an export has done: its text went out, or a front of it where a write failed, or the lines of the blobs before the
--- one at a store fault; nothing where it is refused. Unless partial, what is held tiles the size.
+-- one at a store fault; nothing where it is refused. Unless partial, what is held tiles the size, or a store fault came
+-- before any byte.
 abbrev pub IsExport : HeldMap → ℕ → Bool → Known → Known → Result (Unit {0}) ExportFault → Type 0
 IsExport held size partial before after (Ok _) = Appends before after (map_lines held) × (partial ≡ false → Tiles held size)
 IsExport held size partial before after (Err WriteFailed) = AppendsFront before after (map_lines held) × (partial ≡ false → Tiles held size)
-IsExport held size partial before after (Err (Store fault)) = (count : ℕ) × IsBefore count (entries held) × Appends before after (blob_lines (take count (entries held)))
+IsExport held size partial before after (Err (Store fault)) =
+    (count : ℕ) × IsBefore count (entries held) × Appends before after (blob_lines (take count (entries held))) × IsGuarded held size partial before after
 IsExport held size partial before after (Err BlockTooLarge) = ⊥
 IsExport held size partial before after (Err (Incomplete from to)) = (partial ≡ false) × (after ≡ before) × IsRefusal held size (Incomplete from to)
 IsExport held size partial before after (Err (PastEnd fin)) = (partial ≡ false) × (after ≡ before) × IsRefusal held size (PastEnd fin)

@@ -6,7 +6,6 @@ use Rattle.pbf_frame.specs.declared.kind.Kind.TheVariants.{OsmHeader, OsmData, O
 use Rattle.pbf_frame.specs.Frame.{Frame, kind_of}
 use Rattle.pbf_frame.specs.Blob.{Raw}
 use Rattle.osm_block.specs.Block.{Block}
-use Rattle.osm_block.specs.Phases.{fault}
 use Rattle.osm_block.specs.HeaderBlock.{header_fault}
 
 -- one whole frame, and nothing behind it
@@ -33,7 +32,3 @@ pub record IsGood (off : ℕ) (w : List ℕ) (kind : Kind) (es : List Element) :
   pub placed : IsPlaced off type_name blob w
   pub kind_is : kind ≡ kind_of type_name
   pub content : HasElements kind blob es
-
--- a law of blocks: one in which no fault stands says some elements
-abbrev pub FaultlessBlocksSay : Type 0
-FaultlessBlocksSay = (block : List ℕ) → fault block ≡ None → (es : List Element) × Block es block

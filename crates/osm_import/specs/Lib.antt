@@ -11,6 +11,10 @@ pub mod Step
 pub mod Faults
 pub mod Inlets
 pub mod Lines
+pub mod Pbf
 pub mod StopFaults
+pub mod ExportFaults
+pub mod ExamineFaults
 pub mod Streams
 pub mod StreamSteps
+pub mod FrameReads

@@ -1,10 +1,11 @@
 -- Any list of deliveries, and what the store holds after it.
-use Rattle.std.specs.Prelude.{◌≡◌, ◌⊎◌, ◌↔◌, ℕ, List, [], ◌∷◌, Some}
+use Rattle.std.specs.Prelude.{◌≡◌, ◌⊎◌, ◌↔◌, ◌≤◌, ℕ, List, [], ◌∷◌, ◌++◌, length, Some}
 use Rattle.std.specs.FinMap.{get}
 use Rattle.osm_store.specs.Held.{Blob, HeldMap}
 use Rattle.osm_import.specs.Deliveries.{DeliveryValue}
 use Rattle.osm_import.specs.Files.{IsHeldOfFile}
 use Rattle.osm_import.specs.Step.{IsStep, IsEntry, IsOwn, CrashLeaves, FaultHasCause}
+use Rattle.osm_store.specs.declared.fault.StoreFault.{StoreFault}
 use Rattle.osm_import.specs.declared.answer.Answer.{Answer}
 use Rattle.osm_import.specs.declared.answer.Answer.TheVariants.{Stored, Refused, Fault}
 
@@ -85,6 +86,11 @@ LeavesAfter leaves held deliveries [] = (left : HeldMap) → leaves left → lef
 LeavesAfter leaves held [] (answer ∷ answers) = ⊥
 LeavesAfter leaves held (delivery ∷ deliveries) (Fault fault ∷ answers) = CrashLeaves leaves held delivery.off delivery.bytes
 LeavesAfter leaves held (delivery ∷ deliveries) (answer ∷ answers) = (next : HeldMap) × IsStep held delivery.off delivery.bytes answer next × LeavesAfter leaves next deliveries answers
+
+-- One answer to each of so many deliveries, and no fault; or a fault is the last answer, and the only one.
+abbrev pub EndsAtFault : ℕ → List Answer → Type 0
+EndsAtFault count answers = (IsNone IsFault answers × (length answers ≡ count))
+    ⊎ ((front : List Answer) × (fault : StoreFault) × (answers ≡ front ++ Fault fault ∷ []) × IsNone IsFault front × (length answers ≤ count))
 
 -- no fault among the answers says that the tables are another store's
 abbrev pub AreOwn : List Answer → Type 0

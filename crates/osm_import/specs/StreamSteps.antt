@@ -1,5 +1,5 @@
 -- What reading and delivering one frame of a stream does.
-use Rattle.std.specs.Prelude.{◌≡◌, ◌⊎◌, ℕ, ◌+◌, ◌^◌, ◌<◌, ◌≤◌, Bool, true, List, [], ◌∷◌, length, Option, Some, None, Result, Ok, Err}
+use Rattle.std.specs.Prelude.{◌≡◌, ◌⊎◌, ℕ, ◌+◌, ◌^◌, ◌<◌, ◌≤◌, Bool, true, List, [], ◌∷◌, ◌++◌, length, Option, Some, None, Result, Ok, Err}
 use Rattle.std.specs.Io.KnownBytes.{Appends, Consumes, IsAtEnd}
 use Rattle.pbf_frame.specs.declared.fault.FrameFault.{FrameFault}
 use Rattle.pbf_frame.specs.Framer.{Framing, FrameWaits, FaultStands, IsUnfinished, waiting}
@@ -19,6 +19,14 @@ use Rattle.osm_import.specs.declared.stream.fault.Stop.TheVariants.{Frame, NoHea
 -- the framer takes no more: a frame waits or a fault stands
 abbrev pub IsFull : Framing → Type 0
 IsFull f = FrameWaits f ⊎ ((fault : FrameFault) × FaultStands fault f)
+
+-- No front of these bytes, which stand at this offset, is a whole frame or has a fault that stands.
+abbrev pub HasNoFrame : ℕ → List ℕ → Type 0
+HasNoFrame offset bytes = (front more : List ℕ) → bytes ≡ front ++ more → IsFull (record { offset = offset; rest = front; lent = [] }) → ⊥
+
+-- No frame ends, and no fault stands, before the end of what the framer holds.
+abbrev pub IsBegun : Framing → Type 0
+IsBegun f = (front more : List ℕ) → f.rest ≡ front ++ more → 0 < length more → IsFull (record { offset = f.offset; rest = front; lent = [] }) → ⊥
 
 -- what the call for the frame that waits has given
 abbrev pub Gave : Framing → Framing → Type 0 → (ℕ → List ℕ → Answer → Type 0) → Result (Option Delivered) FrameFault → Type 0
@@ -45,7 +53,7 @@ FrameStop f before after written_old written_new source_failed sink_failed Same 
     (written_new ≡ written_old) × Same × ((got lent : List ℕ) × Consumes before after got
     × (FaultStands fault (record { offset = f.offset; rest = got; lent = lent }) ⊎ (IsUnfinished fault (record { offset = f.offset; rest = got; lent = lent }) × IsAtEnd after)))
 FrameStop f before after written_old written_new source_failed sink_failed Same Took ReadFailed =
-    (written_new ≡ written_old) × Same × (source_failed ≡ true) × ((got : List ℕ) × Consumes before after got)
+    (written_new ≡ written_old) × Same × (source_failed ≡ true) × ((got : List ℕ) × Consumes before after got × HasNoFrame f.offset got)
 FrameStop f before after written_old written_new source_failed sink_failed Same Took (Store fault) =
     (written_new ≡ written_old) × ((Same × (fault ≡ Memory) × ((got : List ℕ) × Consumes before after got))
     ⊎ ((frame : List ℕ) × IsFrame frame × Consumes before after frame × Took f.offset frame (answers.Fault fault)))

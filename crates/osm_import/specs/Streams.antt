@@ -15,6 +15,7 @@ use Rattle.osm_import.specs.Exports.{Known}
 use Rattle.osm_import.specs.Step.{Delivers, CrashLeaves, FaultHasCause, HasCause, IsOwn}
 use Rattle.osm_import.specs.Runs.{Runs, LeavesAfter, HaveCauses, AreOwn, IsFault, IsNone}
 use Rattle.osm_import.specs.Lines.{answer_line}
+use Rattle.osm_import.specs.StreamSteps.{HasNoFrame}
 use Rattle.osm_import.specs.declared.answer.Answer.{Answer}
 use Rattle.osm_import.specs.declared.answer.Answer.TheVariants as answers
 use Rattle.osm_import.specs.declared.stream.summary.Summary.{Summary}
@@ -143,7 +144,7 @@ IsStop from limit left_new written_old written_new source_failed sink_failed rep
 IsStop from limit left_new written_old written_new source_failed sink_failed replies last rest (Store fault) =
     Appends written_old written_new (lines_at from replies) × (((last ≡ []) × (fault ≡ Memory)) ⊎ (answers_of last ≡ answers.Fault fault ∷ []))
 IsStop from limit left_new written_old written_new source_failed sink_failed replies last rest ReadFailed =
-    (source_failed ≡ true) × (last ≡ []) × Appends written_old written_new (lines_at from replies)
+    (source_failed ≡ true) × (last ≡ []) × Appends written_old written_new (lines_at from replies) × HasNoFrame (end_at from replies) rest
 IsStop from limit left_new written_old written_new source_failed sink_failed replies last rest BlobLimit =
     (last ≡ []) × (length replies ≡ limit) × (0 < length rest) × Appends written_old written_new (lines_at from replies)
 

@@ -38,7 +38,9 @@ impl Conflict {
     }
 }
 
-/// What a delivery is answered with. Every answer but `Stored` has changed nothing.
+/// What a delivery is answered with. `AlreadyHeld`, `Bad` and `Refused` have changed nothing. After a `Fault` the store
+/// holds what it held where it can go on; where it has to be opened again, it then holds that, or that with this blob
+/// whole.
 #[derive(Clone, Copy, Debug, PartialEq, Eq)]
 pub enum Answer {
     /// The blob is held now, with so many elements.
@@ -49,6 +51,7 @@ pub enum Answer {
     Bad(Fault),
     /// The delivery is good, but what is held is in its way.
     Refused(Conflict),
-    /// The store has failed. It may have to be opened again.
+    /// A call of the store has failed, or memory was refused. The store may have to be opened again, and may hold the
+    /// blob then.
     Fault(StoreFault),
 }

@@ -1,9 +1,9 @@
 //! Any list of deliveries.
 
-ghost use Rattle.std.specs.Prelude.{◌≡◌, ◌≤◌, ℕ, List, length, IfOk, OnErr, vec_len};
+ghost use Rattle.std.specs.Prelude.{◌≡◌, ◌≤◌, ◌⊎◌, ℕ, List, length, take, IfOk, OnErr, vec_len};
 ghost use Rattle.osm_store.specs.Held.{HeldMap};
 ghost use Rattle.osm_import.specs.Files.{AreFrames, AreOfFile, IsHeldOfFile};
-ghost use Rattle.osm_import.specs.Runs.{Runs, Imports, HaveCauses, AreOwn, LeavesAfter, IsNone, IsFault};
+ghost use Rattle.osm_import.specs.Runs.{Runs, Imports, HaveCauses, AreOwn, LeavesAfter, EndsAtFault, IsNone, IsFault};
 
 use crate::answer::Answer;
 use crate::delivery::deliver;
@@ -33,6 +33,10 @@ impl<'a> Model for Delivery<'a> {
 /// at any call of the store, to a store that holds nothing or entries of that file alone, the store then holds exactly
 /// the union: the entries that it held and those of the deliveries that were answered `Stored`, none of them twice.
 /// Nothing is `Refused`. Where no answer is a `Fault`, all good deliveries are held.
+///
+/// This holds over an honest disk, where the store can go on at the end (no fault asks for it to be opened again) or no
+/// answer is a `Fault`. Behind a fault that asks for that nothing is said of what is held until the store was opened
+/// again; `deliver_until_fault` stops there.
 pub fn deliver_all<K: Keeper>(
     alloc: Global,
     keeper: &mut K,
@@ -45,16 +49,17 @@ pub fn deliver_all<K: Keeper>(
         → IfOk result (λ answers. Runs (K.holds keeper.new) held deliveries.now answers.items) }
 
     // Over one file the store holds the union of what was answered Stored, each once, and nothing is refused.
-    ensures one_file { (held : HeldMap) (frames : List (List ℕ)) → K.holds keeper.old held → K.is_honest keeper.new → K.is_open keeper.new
+    ensures one_file { (held : HeldMap) (frames : List (List ℕ)) → K.holds keeper.old held → K.is_honest keeper.new
         → AreFrames frames → AreOfFile frames deliveries.now → IsHeldOfFile frames held
-        → IfOk result (λ answers. Imports (K.holds keeper.new) frames held deliveries.now answers.items) }
+        → IfOk result (λ answers. K.is_open keeper.new ⊎ IsNone IsFault answers.items → Imports (K.holds keeper.new) frames held deliveries.now answers.items) }
 
     // Where no answer is a fault, the store holds that map even if nothing is known of its being open.
     ensures unbroken { (held : HeldMap) → K.holds keeper.old held → K.is_honest keeper.new
         → IfOk result (λ answers. IsNone IsFault answers.items → Runs (K.holds keeper.new) held deliveries.now answers.items) }
 
     // Why faults are answered.
-    ensures own { (held : HeldMap) → K.holds keeper.old held → K.is_honest keeper.new → K.is_open keeper.new → IfOk result (λ answers. AreOwn answers.items) }
+    ensures own { (held : HeldMap) → K.holds keeper.old held → K.is_honest keeper.new
+        → IfOk result (λ answers. K.is_open keeper.new ⊎ IsNone IsFault answers.items → AreOwn answers.items) }
     ensures cause { IfOk result (λ answers. HaveCauses (K.failures keeper.old) (K.failures keeper.new) answers.items) }
     ensures honest { K.is_honest keeper.new → K.is_honest keeper.old }
     ensures open_if { K.is_open keeper.new → K.is_open keeper.old }
@@ -68,7 +73,11 @@ pub fn deliver_all<K: Keeper>(
     Ok(answers)
 }
 
-/// The same, up to the first fault.
+/// The same, up to the first fault: one answer to each delivery, or to those up to the first that is answered `Fault`,
+/// which is then the last answer. `Err` has changed nothing.
+///
+/// A crash now leaves the map after the answered deliveries; after a `Fault` it may leave that map with the entry of the
+/// delivery at fault too, and the store has to be opened again before more is delivered.
 pub fn deliver_until_fault<K: Keeper>(
     alloc: Global,
     keeper: &mut K,
@@ -77,6 +86,20 @@ pub fn deliver_until_fault<K: Keeper>(
     // What a crash may leave: the map after the answered deliveries; and, after a fault alone, that map with the blob at fault.
     ensures crash { (held : HeldMap) → K.holds keeper.old held → K.is_honest keeper.new
         → IfOk result (λ answers. LeavesAfter (K.leaves keeper.new) held deliveries.now answers.items) }
+    ensures whole { (held : HeldMap) → K.holds keeper.old held → K.is_honest keeper.new → K.leaves_a_map keeper.new }
+
+    // It ends at the first fault alone; each answer is that of its step, and the store holds what the steps leave.
+    ensures ends { IfOk result (λ answers. EndsAtFault (length deliveries.now) answers.items) }
+    ensures run { (held : HeldMap) → K.holds keeper.old held → K.is_honest keeper.new
+        → IfOk result (λ answers. K.is_open keeper.new ⊎ IsNone IsFault answers.items
+        → Runs (K.holds keeper.new) held (take (length answers.items) deliveries.now) answers.items) }
+
+    // Why a fault is answered.
+    ensures own { (held : HeldMap) → K.holds keeper.old held → K.is_honest keeper.new → IfOk result (λ answers. AreOwn answers.items) }
+    ensures cause { IfOk result (λ answers. HaveCauses (K.failures keeper.old) (K.failures keeper.new) answers.items) }
+    ensures honest { K.is_honest keeper.new → K.is_honest keeper.old }
+    ensures open_if { K.is_open keeper.new → K.is_open keeper.old }
+    ensures err { OnErr result (keeper.new ≡ keeper.old) }
 {
     let mut answers = Vec::with_capacity(alloc, deliveries.len())?;
     for delivery in deliveries {

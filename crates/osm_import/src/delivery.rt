@@ -68,7 +68,8 @@ fn deliver_good<K: Keeper>(
 /// held with the frame's SHA-256; `Refused` with `Differs` where it is held with another, and with `Overlap` where the
 /// frame's extent meets a held one; else `Stored` with the number of its elements, and the blob is held. In place of
 /// any of these `Fault` may stand, where a call of the store has failed or memory was refused. All but `Stored` leave
-/// what is held. A crash during the call leaves what was held, or that with this blob whole.
+/// what is held, a `Fault` where the store can go on. A crash during the call, and a `Fault` after which the store has to
+/// be opened again, leave what was held, or that with this blob whole.
 pub fn deliver<K: Keeper>(alloc: Global, keeper: &mut K, off: u64, bytes: &[u8]) -> Answer
     ensures step { (held : HeldMap) → K.holds keeper.old held → K.is_honest keeper.new
         → Delivers (K.is_open keeper.new) (K.holds keeper.new) held off bytes.now result }

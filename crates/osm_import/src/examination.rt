@@ -3,6 +3,7 @@
 ghost use Rattle.std.specs.Prelude.{◌≡◌, [], length, IfOk, IfErr, OnOk, MatchOption};
 ghost use Rattle.pbf_frame.specs.declared.kind.Kind.TheVariants.{OsmHeader, OsmData};
 ghost use Rattle.osm_import.specs.Good.{IsGood, HasElements};
+ghost use Rattle.osm_import.specs.ExamineFaults.{examine_number_of, examine_name_of};
 ghost use Rattle.osm_import.specs.Bad.{IsFinding, CanStand, IsMisplaced, IsBadBlob, IsBlobFinding};
 
 use crate::fault::Fault;
@@ -22,6 +23,28 @@ pub enum ExamineFault {
     Bad(Fault),
     #[error("memory was refused")]
     Memory,
+}
+
+impl ExamineFault {
+    /// The number that this fault has in every message of the program: that of the delivery's fault, or 65.
+    pub fn number(self) -> u8
+        ensures { result ≡ examine_number_of self }
+    {
+        match self {
+            ExamineFault::Bad(fault) => fault.number(),
+            ExamineFault::Memory => 65,
+        }
+    }
+
+    /// The name that this fault has in every message of the program.
+    pub fn name(self) -> &'static str
+        ensures { result.now ≡ examine_name_of self }
+    {
+        match self {
+            ExamineFault::Bad(fault) => fault.name(),
+            ExamineFault::Memory => "Memory",
+        }
+    }
 }
 
 /// A good delivery: the kind of its frame, how many bytes the frame has, and its elements, whose texts lie in it.
@@ -97,6 +120,10 @@ fn read_elements(alloc: Global, kind: Kind, blob: &[u8]) -> Result<Vec<Element<'
 /// A delivery is good where the bytes are one whole frame that ends at 2^62 at most and stands at offset 0 exactly
 /// where it is an OSMHeader; where an OSMHeader's header block has no fault; and where an OSMData's block says these
 /// elements. The blob of another type isn't read.
+///
+/// `Bad` has the first fault that stands, in this order: of the frame, with bytes behind it too; of its place, which is
+/// an end above 2^62, then an OSMHeader behind offset 0 or another type at offset 0; of the blob; of the block in it.
+/// `Memory` stands in place of any of these where memory was refused, and says nothing of the delivery.
 pub fn examine(alloc: Global, off: u64, bytes: &[u8]) -> Result<Good<'_>, ExamineFault>
     ensures good { IfOk result (λ good. IsGood off bytes.now good.kind good.elements.items) }
     ensures length { IfOk result (λ good. good.length ≡ length bytes.now) }

@@ -2,7 +2,9 @@
 
 mod fault;
 mod lines;
+mod pbf;
 mod refusal;
 
 pub use fault::ExportFault;
 pub use lines::export_lines;
+pub use pbf::export_pbf;

@@ -1,21 +1,22 @@
 //! What the definitions imply: theorems, with no code.
 
-ghost use Rattle.std.specs.Prelude.{◌≡◌, ◌⊎◌, ℕ, List};
+ghost use Rattle.std.specs.Prelude.{◌≡◌, ◌⊎◌, ℕ, ◌+◌, ◌<◌, ◌≤◌, List, length};
 ghost use Rattle.osm_value.specs.declared.element.Element.{Element};
 ghost use Rattle.pbf_frame.specs.declared.kind.Kind.{Kind};
 ghost use Rattle.osm_store.specs.Held.{HeldMap};
 ghost use Rattle.osm_import.specs.Step.{IsStep};
 ghost use Rattle.osm_import.specs.Runs.{IsFault};
 ghost use Rattle.osm_import.specs.declared.answer.Answer.{Answer};
-ghost use Rattle.osm_import.specs.Good.{IsGood, FaultlessBlocksSay};
+ghost use Rattle.osm_import.specs.Good.{IsGood};
 ghost use Rattle.osm_import.specs.Bad.{IsBad};
+ghost use Rattle.osm_import.specs.Files.{AreFrames, IsFrameAt};
 ghost use Rattle.osm_import.specs.declared.fault.Fault.{Fault};
 ghost use Rattle.osm_import.specs.Histories.{HistoriesRestart};
 
 /// A delivery has a fault exactly where it isn't good for any kind and elements; it has one fault, or one kind and one
 /// list of elements.
 pub fn delivery_is_good_or_bad()
-    ensures some { FaultlessBlocksSay → (off : ℕ) (w : List ℕ) → ((kind : Kind) × (es : List Element) × IsGood off w kind es) ⊎ ((fault : Fault) × IsBad off w fault) }
+    ensures some { (off : ℕ) (w : List ℕ) → ((kind : Kind) × (es : List Element) × IsGood off w kind es) ⊎ ((fault : Fault) × IsBad off w fault) }
     ensures apart { (off : ℕ) (w : List ℕ) (kind : Kind) (es : List Element) → IsGood off w kind es → (fault : Fault) → IsBad off w fault → ⊥ }
     ensures one_fault { (off : ℕ) (w : List ℕ) (fault other : Fault) → IsBad off w fault → IsBad off w other → fault ≡ other }
     ensures one_blob { (off : ℕ) (w : List ℕ) (kind other : Kind) (es fs : List Element) → IsGood off w kind es → IsGood off w other fs → (kind ≡ other) × (es ≡ fs) }
@@ -23,9 +24,19 @@ pub fn delivery_is_good_or_bad()
 
 /// To a delivery there is one answer that is no fault, and one map after it.
 pub fn step_is_one()
-    ensures some { FaultlessBlocksSay → (held : HeldMap) (off : ℕ) (bytes : List ℕ) → (answer : Answer) × (after : HeldMap) × IsStep held off bytes answer after × ¬ (IsFault answer) }
+    ensures some { (held : HeldMap) (off : ℕ) (bytes : List ℕ) → (answer : Answer) × (after : HeldMap) × IsStep held off bytes answer after × ¬ (IsFault answer) }
     ensures one { (held : HeldMap) (off : ℕ) (bytes : List ℕ) (answer answer' : Answer) (after after' : HeldMap) → IsStep held off bytes answer after → IsStep held off bytes answer' after'
         → ¬ (IsFault answer) → ¬ (IsFault answer') → (answer ≡ answer') × (after ≡ after') }
+{}
+
+/// The frames of one file at two offsets don't meet.
+pub fn frames_of_a_file_are_apart()
+    ensures { (frames : List (List ℕ)) (off next : ℕ) (frame other : List ℕ) → IsFrameAt frames off frame → IsFrameAt frames next other → off < next → off + length frame ≤ next }
+{}
+
+/// A frame of a file is fixed by its offset.
+pub fn one_frame_at_an_offset()
+    ensures { (frames : List (List ℕ)) → AreFrames frames → (off : ℕ) (frame other : List ℕ) → IsFrameAt frames off frame → IsFrameAt frames off other → frame ≡ other }
 {}
 
 /// Restart after a crash at any moment: after any history of deliveries of one file to a new store, of crashes and of

@@ -15,7 +15,12 @@ pub use answer::{Answer, Conflict};
 pub use deliveries::{Delivery, deliver_all, deliver_until_fault};
 pub use delivery::deliver;
 pub use examination::{ExamineFault, Good, examine};
-pub use export::{ExportFault, export_lines};
+pub use export::{ExportFault, export_lines, export_pbf};
 pub use fault::Fault;
 pub use gap::gaps;
-pub use stream::{Inlet, Source, SourceFailed, Stop, StreamFault, Summary, import_stream};
+pub use stream::{
+    FrameReader, Inlet, Source, SourceFailed, Stop, StreamFault, Summary, import_stream,
+};
+
+#[cfg(test)]
+mod tests;

@@ -1,6 +1,7 @@
-//! The import of a stream of frames.
+//! Streams of frames: reading one, and importing it.
 
 mod fault;
+mod frames;
 mod line;
 mod piece;
 mod reading;
@@ -9,6 +10,7 @@ mod source;
 mod summary;
 
 pub use fault::{Stop, StreamFault};
+pub use frames::FrameReader;
 pub use run::import_stream;
 pub use source::{Inlet, Source, SourceFailed};
 pub use summary::Summary;

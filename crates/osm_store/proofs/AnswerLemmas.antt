@@ -1,12 +1,12 @@
 -- What a query leaves of a connection, whatever it answers.
-use Rattle.std.proofs.Common.{◌≡◌, inl, inr, ℕ, List, true, true≢false, sym, subst, ◌∙◌}
+use Rattle.std.proofs.Common.{◌≡◌, inl, inr, ℕ, List, true, true≢false, IsTrue, sym, subst, ◌∙◌, arith}
 use Rattle.sqlite.specs.Order.{Row}
 use Rattle.sqlite.specs.declared.error.Error.{Error}
 use Rattle.sqlite.specs.Clock.{timed}
 use Rattle.sqlite.specs.State.{State, IsUnchanged, IsRolledBack, Shown, ShowsRows, FailsToQuery, FailsToShow, IsNotRun, Survives, CommitsShowing}
-use Rattle.sqlite.proofs.StateLemmas.{survives_weaker}
+use Rattle.sqlite.proofs.StateLemmas.{survives_weaker, survives_then}
 use Rattle.osm_store.proofs.SelectLemmas.{query_plain}
-use Rattle.osm_store.specs.Asking.{Keeps, IsAnswered}
+use Rattle.osm_store.specs.Asking.{Keeps, JustAsks, IsAnswered}
 use Rattle.osm_store.specs.Selects.{selects}
 
 pub unchanged_keeps : (old new : State) → IsUnchanged old new → Keeps old new
@@ -19,6 +19,22 @@ not_run_keeps : (old new : State) (sql : List ℕ) (params : Row) (e : Error) �
 unfolding IsNotRun
 not_run_keeps old new sql params e (inl h) = unchanged_keeps old new h.1
 not_run_keeps old new sql params e (inr h) = rolled_keeps old new h.3
+
+-- one query after another
+module _ (old middle new : State) where
+  keeps_then : Keeps old middle → Keeps middle new → Keeps old new
+  keeps_then one two = record {
+    was_open = λ up. one.was_open (two.was_open up);
+    committed = λ up. two.committed up ∙ one.committed (two.was_open up);
+    now = λ up settled. (let before = one.now (two.was_open up) settled in two.now up (before ∙ settled ∙ sym (one.committed (two.was_open up))) ∙ before);
+  }
+
+  pub asks_then : JustAsks old middle → JustAsks middle new → JustAsks old new
+  asks_then one two = record {
+    keeps = λ clean. keeps_then (one.keeps (omega (arith, two.crash.clean, clean))) (two.keeps clean);
+    mode = λ outside. two.mode (one.mode outside);
+    crash = survives_then old middle new (λ _. ⊥) (λ _. ⊥) (λ _. ⊥) (λ _ db none. none) (λ _ db none. none) one.crash two.crash;
+  }
 
 module _ (sql : List ℕ) (params : Row) (old new : State) (is : selects sql ≡ true) where
   pub shown_keeps : (rows : List Row) → Shown sql params old new rows → Keeps old new

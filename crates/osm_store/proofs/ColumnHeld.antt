@@ -15,7 +15,7 @@ use Rattle.osm_store.specs.Held.{HeldMap}
 use Rattle.osm_store.specs.ColumnTables.{column_schema}
 use Rattle.osm_store.specs.Rows.{Placed, placed_in, is_in}
 use Rattle.osm_store.specs.ColumnRows.{Part, element_row, tags_at, tag_row, links_at, link_row}
-use Rattle.osm_store.specs.Holding.{HasRows, TablesHold}
+use Rattle.osm_store.specs.LayoutHolding.{HasRows, TablesHold}
 use Rattle.osm_store.proofs.PlacedLaws.{placed_in_rise}
 use Rattle.osm_store.proofs.PartLaws.{parts_own, parts_in}
 use Rattle.osm_store.proofs.ReadLemmas.{columns_at}

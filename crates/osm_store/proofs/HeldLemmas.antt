@@ -21,7 +21,7 @@ use Rattle.osm_store.specs.declared.layout.Layout.{Layout}
 use Rattle.osm_store.specs.declared.layout.Layout.TheVariants.{Blocks}
 use Rattle.osm_store.specs.Layouts.{schema_of, version_of}
 use Rattle.osm_store.specs.Tables.{store_schema}
-use Rattle.osm_store.specs.Holding.{TablesHold, IsBlob, IsKept}
+use Rattle.osm_store.specs.LayoutHolding.{TablesHold, IsBlob, IsKept}
 use Rattle.osm_store.proofs.PlacedLaws.{Entry, within, entries_rise, placed_in_rise, here, by_position}
 use Rattle.osm_store.proofs.NestedLists.{nested_at}
 use Rattle.osm_store.proofs.ReadLemmas.{columns_at, HasExtents, HasElements, HasVersion}

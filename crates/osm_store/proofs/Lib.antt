@@ -37,3 +37,4 @@ pub mod SameElements
 pub mod OneElement
 pub mod OneMap
 pub mod VersionLemmas
+pub mod ExtentLaws

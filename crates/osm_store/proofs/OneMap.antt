@@ -25,7 +25,7 @@ use Rattle.osm_store.specs.Held.{Blob, HeldMap}
 use Rattle.osm_store.specs.Keeping.{extent_of}
 use Rattle.osm_store.specs.Rows.{Placed, placed, placed_in, IsStored, blob_code, body_row, extent_row}
 use Rattle.osm_store.specs.ColumnRows.{Part, element_row, tags_at, links_at, links_of, tag_row, tag_rows, link_row, link_rows}
-use Rattle.osm_store.specs.Holding.{TablesHold, HoldElements, HasRows, IsKept}
+use Rattle.osm_store.specs.LayoutHolding.{TablesHold, HoldElements, HasRows, IsKept}
 use Rattle.osm_store.proofs.SortedLists.{same_elements, not_both}
 use Rattle.osm_store.proofs.NumberOrder.{numbers_below, numbers_tied}
 use Rattle.osm_store.proofs.PlacedLaws.{Entry, IsBefore, placed_in_rise, within}

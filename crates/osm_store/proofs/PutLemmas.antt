@@ -30,7 +30,7 @@ use Rattle.osm_store.specs.ColumnRows.{element_row, tags_at, links_at, tag_row, 
 use Rattle.osm_store.specs.Steps.{Gains, GainsElements, Puts, HaveNoElements, IsEmptyStore}
 use Rattle.osm_store.specs.Asking.{Keeps, JustAsks}
 use Rattle.sqlite.proofs.StateLemmas.{survives_then}
-use Rattle.osm_store.specs.Holding.{IsBlob, IsKept, HasRows, HoldElements, TablesHold, Holds, MayLeave, LeavesAMap}
+use Rattle.osm_store.specs.LayoutHolding.{IsBlob, IsKept, HasRows, HoldElements, TablesHold, Holds, MayLeave, LeavesAMap}
 use Rattle.std.proofs.lemmas.List.Concat.{flat_map-append}
 use Rattle.osm_store.proofs.NumberOrder.{numbers_below}
 use Rattle.osm_store.proofs.PlacedLaws.{Entry, within}

@@ -8,7 +8,7 @@ use Rattle.sqlite.specs.State.{State, HasCleanDisk, Survives}
 use Rattle.osm_store.specs.declared.keeper.Extent.{Extent}
 use Rattle.osm_store.specs.declared.fault.StoreFault.{StoreFault}
 use Rattle.osm_store.specs.Held.{Blob, HaveFewTexts}
-use Rattle.osm_store.specs.Holding.{IsBlob}
+use Rattle.osm_store.specs.LayoutHolding.{IsBlob}
 use Rattle.osm_store.specs.Keeping.{IsForeign, failures_after}
 use Rattle.osm_store.specs.declared.layout.Layout.{Layout}
 use Rattle.osm_store.specs.Layouts.{schema_of}

@@ -8,7 +8,7 @@ use Rattle.osm_store.specs.declared.fault.StoreFault.{StoreFault}
 use Rattle.osm_store.specs.declared.layout.Layout.{Layout}
 use Rattle.osm_store.specs.Asking.{JustAsks}
 use Rattle.osm_store.specs.Held.{HeldMap}
-use Rattle.osm_store.specs.Holding.{Holds}
+use Rattle.osm_store.specs.LayoutHolding.{Holds}
 use Rattle.osm_store.specs.Keeping.{IsForeign, failures_after}
 use Rattle.osm_store.specs.Store.{Store, JustReads}
 use Rattle.osm_store.proofs.PutLemmas.{clean_before, asks_holds, asks_leaves, asks_leaves_a_map}

@@ -8,7 +8,7 @@ use Rattle.osm_value.specs.declared.element.Element.{Element}
 use Rattle.osm_store.specs.declared.layout.Layout.{Layout}
 use Rattle.osm_store.specs.Held.{Blob, HeldMap, HasFewTexts}
 use Rattle.osm_store.specs.Rows.{Placed, placed, placed_in, CanStore, IsStored}
-use Rattle.osm_store.specs.Holding.{IsBlob, IsKept}
+use Rattle.osm_store.specs.LayoutHolding.{IsBlob, IsKept}
 use Rattle.osm_store.proofs.PlacedLaws.{within}
 
 stored_both : (layout : Layout) (es : List Element) → AllByRecursion (CanStore layout) es → AllByRecursion HasFewTexts es → AllByRecursion (IsStored layout) es

@@ -11,23 +11,28 @@ use Rattle.sqlite.specs.Query.{Query, inner, end, IsAnswer, Output, output, outp
 use Rattle.sqlite_sql.proofs.QueryLemmas.{output_cmp_total}
 use Rattle.sqlite_trees.specs.Tree.{IsAscending}
 use Rattle.sqlite_trees.proofs.ListLemmas.{ascending-map, IsPermutation-filter}
+use Rattle.sqlite_value.specs.declared.keys.Key.{Key}
 use Rattle.sqlite_value.specs.Keys.{ascending}
 use Rattle.sqlite.specs.Collation.TheVariants.{Binary}
 use Rattle.osm_store.proofs.SortedLists.{sorted_is}
 
--- `SELECT shown FROM tree WHERE tests ORDER BY keys`
-abbrev pub select : ℕ → List Term → List Term → List Term → Query
-select tree tests shown keys = record {
+-- `SELECT shown FROM tree WHERE tests ORDER BY order LIMIT limit`
+abbrev pub select_some : ℕ → List Term → List Term → List (Term × Key) → Term → Query
+select_some tree tests shown order limit = record {
   from = inner tree end;
   filter = tests;
   group = None;
   project = shown;
   distinct = false;
   collations = [];
-  order = map (λ k. (k, ascending Binary)) keys;
-  limit = lit (Int (negsuc 0));
+  order = order;
+  limit = limit;
   offset = lit (Int (pos 0));
 }
+
+-- `SELECT shown FROM tree WHERE tests ORDER BY keys`
+abbrev pub select : ℕ → List Term → List Term → List Term → Query
+select tree tests shown keys = select_some tree tests shown (map (λ k. (k, ascending Binary)) keys) (lit (Int (negsuc 0)))
 
 filter-map : {A B : Type 0} (f : A → B) (p : B → Bool) (q : A → Bool) (same : (a : A) → p (f a) ≡ q a) (xs : List A) → filter p (map f xs) ≡ map f (filter q xs)
 filter-map f p q same [] = refl
@@ -45,7 +50,27 @@ outputs p env f (r ∷ rows) =
     elim (p r) as (λ b. map f (cond b (env r ∷ []) [] ++ flat_map (λ r. cond (p r) (env r ∷ []) []) rows) ≡ map (λ r. f (env r)) (cond b (r ∷ filter p rows) (filter p rows)))
     [ true ↦ ap (λ xs. f (env r) ∷ xs) (outputs p env f rows) | false ↦ outputs p env f rows ]
 
--- A table shows the rows of items, each as its view. Where the items that pass ascend by the keys, the answer shows them, in their order.
+-- A table shows the rows of items, each as its view. What the answer orders are the outputs of the items that pass.
+module _ (tree : ℕ) (tests shown : List Term) (order : List (Term × Key)) (limit : Term) (trees : Trees) (params : Row) (rows : List Row) where
+  pub orders : {X : Type 0} (view : Row → Row) (row : X → Row) (items : List X)
+      → IsPermutation (map view (trees tree)) (map row items)
+      → (test : Row → Bool) → ((r : Row) → list_all (holds (params ∷ r ∷ [])) tests ≡ test (view r))
+      → (out : Row → Output) → ((r : Row) → output (select_some tree tests shown order limit) (params ∷ r ∷ []) ≡ out (view r))
+      → (passes : X → Bool) → ((x : X) → test (row x) ≡ passes x)
+      → (a : IsAnswer (select_some tree tests shown order limit) trees params rows)
+      → IsPermutation (map (λ x. out (row x)) (filter passes items)) a.ordered
+  orders view row items held test sees out gives passes tests_as a =
+      let q = select_some tree tests shown order limit in
+      let found : a.kept ≡ map (λ r. output q (params ∷ r ∷ [])) (filter (λ r. list_all (holds (params ∷ r ∷ [])) tests) (trees tree)) =
+      a.distinct ∙ ap (map (output q)) a.grouped ∙ outputs (λ r. list_all (holds (params ∷ r ∷ [])) tests) (λ r. params ∷ r ∷ []) (output q) (trees tree) in
+      let viewed : map out (filter test (map view (trees tree))) ≡ map (λ r. output q (params ∷ r ∷ [])) (filter (λ r. list_all (holds (params ∷ r ∷ [])) tests) (trees tree)) =
+      ap (map out) (filter-map view test _ (λ r. sym (sees r)) (trees tree)) ∙ map-map_as out view _ (λ r. sym (gives r)) _ in
+      let modelled : map out (filter test (map row items)) ≡ map (λ x. out (row x)) (filter passes items) =
+      ap (map out) (filter-map row test passes tests_as items) ∙ map-map_as out row _ (λ x. refl) _ in
+      let same : IsPermutation (map out (filter test (map view (trees tree)))) (map out (filter test (map row items))) = IsPermutation-map out _ _ (IsPermutation-filter test _ _ held) in
+      rw (← modelled) (IsPermutation-trans _ _ _ (IsPermutation-sym _ _ same) (rw (viewed, ← found) a.same))
+
+-- Where the items that pass ascend by the keys, the answer shows them, in their order.
 module _ (tree : ℕ) (tests shown keys : List Term) (trees : Trees) (params : Row) (rows : List Row) where
   pub answer_is : {X : Type 0} (view : Row → Row) (row : X → Row) (items : List X)
       → IsPermutation (map view (trees tree)) (map row items)
@@ -57,15 +82,8 @@ module _ (tree : ℕ) (tests shown keys : List Term) (trees : Trees) (params : R
       → rows ≡ map (λ x. (out (row x)).1) (filter passes items)
   answer_is view row items held test sees out gives passes tests_as up a =
       let q = select tree tests shown keys in
-      let found : a.kept ≡ map (λ r. output q (params ∷ r ∷ [])) (filter (λ r. list_all (holds (params ∷ r ∷ [])) tests) (trees tree)) =
-      a.distinct ∙ ap (map (output q)) a.grouped ∙ outputs (λ r. list_all (holds (params ∷ r ∷ [])) tests) (λ r. params ∷ r ∷ []) (output q) (trees tree) in
-      let viewed : map out (filter test (map view (trees tree))) ≡ map (λ r. output q (params ∷ r ∷ [])) (filter (λ r. list_all (holds (params ∷ r ∷ [])) tests) (trees tree)) =
-      ap (map out) (filter-map view test _ (λ r. sym (sees r)) (trees tree)) ∙ map-map_as out view _ (λ r. sym (gives r)) _ in
-      let modelled : map out (filter test (map row items)) ≡ map (λ x. out (row x)) (filter passes items) =
-      ap (map out) (filter-map row test passes tests_as items) ∙ map-map_as out row _ (λ x. refl) _ in
-      let same : IsPermutation (map out (filter test (map view (trees tree)))) (map out (filter test (map row items))) = IsPermutation-map out _ _ (IsPermutation-filter test _ _ held) in
       let all : IsPermutation (map (λ x. out (row x)) (filter passes items)) a.ordered =
-      rw (← modelled) (IsPermutation-trans _ _ _ (IsPermutation-sym _ _ same) (rw (viewed, ← found) a.same)) in
+      orders tree tests shown (map (λ k. (k, ascending Binary)) keys) (lit (Int (negsuc 0))) trees params rows view row items held test sees out gives passes tests_as a in
       let rises : IsAscending (λ x y. output_cmp q x y ≡ Less) (map (λ x. out (row x)) (filter passes items)) = ascending-map _ (λ x. out (row x)) _ up in
       let ordered : a.ordered ≡ map (λ x. out (row x)) (filter passes items) = sorted_is (output_cmp q) (output_cmp_total q) _ _ rises all a.sorted in
       a.shown ∙ ap (map (λ (o : Output). o.1)) ordered ∙ map-map_as _ _ _ (λ x. refl) _

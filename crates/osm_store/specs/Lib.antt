@@ -14,9 +14,11 @@ pub mod ColumnElements
 pub mod ColumnLoading
 pub mod Steps
 pub mod Faults
+pub mod LayoutHolding
 pub mod Holding
 pub mod Asking
 pub mod Selects
 pub mod Finding
 pub mod Store
 pub mod StoreLaws
+pub mod Starting

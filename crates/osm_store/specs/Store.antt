@@ -8,7 +8,7 @@ use Rattle.osm_store.specs.declared.fault.StoreFault.{StoreFault}
 use Rattle.osm_store.specs.declared.layout.Layout.{Layout}
 use Rattle.osm_store.specs.Held.{Blob}
 use Rattle.osm_store.specs.Keeping.{OnlyReads, Adds}
-use Rattle.osm_store.specs.Holding.{Holds, MayLeave, LeavesAMap}
+use Rattle.osm_store.specs.LayoutHolding.{Holds, MayLeave, LeavesAMap}
 
 pub record Store (S : Type 0) : Type 0 where
   pub connection : Held S

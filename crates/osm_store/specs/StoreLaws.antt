@@ -5,7 +5,7 @@ use Rattle.sqlite.specs.Effect.{Database}
 use Rattle.sqlite.specs.State.{State}
 use Rattle.osm_store.specs.declared.layout.Layout.{Layout}
 use Rattle.osm_store.specs.Held.{HeldMap}
-use Rattle.osm_store.specs.Holding.{TablesHold, Holds, MayLeave, LeavesAMap}
+use Rattle.osm_store.specs.LayoutHolding.{TablesHold, Holds, MayLeave, LeavesAMap}
 
 -- an open store leaves its last commit to a crash
 abbrev pub IsSettled : State → Type 0

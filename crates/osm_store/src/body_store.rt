@@ -5,9 +5,10 @@ ghost use Rattle.std.specs.FinMap.{empty};
 ghost use Rattle.sqlite.specs.State.{HasCleanDisk};
 ghost use Rattle.sqlite.specs.Held.{state};
 ghost use Rattle.osm_store.specs.Asking.{JustAsks, NamesVersion};
+ghost use Rattle.osm_store.specs.Faults.{NamesNoVersion};
 ghost use Rattle.osm_store.specs.Finding.{AreMatches};
 ghost use Rattle.osm_store.specs.Held.{HeldMap};
-ghost use Rattle.osm_store.specs.Holding.{Holds, TablesHold};
+ghost use Rattle.osm_store.specs.LayoutHolding.{Holds, TablesHold};
 ghost use Rattle.osm_store.specs.Keeping.{IsForeign};
 ghost use Rattle.osm_store.specs.Rows.{is_of, placed_in};
 ghost use Rattle.osm_store.specs.Store.{JustReads};
@@ -66,6 +67,7 @@ impl<S: Alter> BodyStore<S> {
         ensures failures { IfOk result (λ store. store.failures ≡ 0) }
         ensures unharmed { IfErr result (λ e. HasCleanDisk (state S.Store e.1) → IsTrue (state S.Store e.1).is_open → (state S.Store e.1).now ≡ (state S.Store connection).now) }
         ensures autocommit { IfErr result (λ e. (state S.Store e.1).in_transaction ≡ false) }
+        ensures unnamed { IfErr result (λ e. NamesNoVersion e.0) }
         // a crash leaves what it could leave before, or the store that holds nothing
         ensures crash { IfErr result (λ e. HasCleanDisk (state S.Store e.1) → (db : _) → (state S.Store e.1).may_leave db → (state S.Store connection).may_leave db ⊎ TablesHold Layout.Blocks empty db) }
     {
@@ -136,7 +138,7 @@ impl<S: Alter> Keeper for BodyStore<S> {
     ghost use Rattle.sqlite.specs.State.{HasCleanDisk};
     ghost use Rattle.sqlite.specs.Held.{state};
     ghost use Rattle.std.specs.Prelude.{IsTrue};
-    ghost use Rattle.osm_store.specs.Holding.{Holds, MayLeave, LeavesAMap};
+    ghost use Rattle.osm_store.specs.LayoutHolding.{Holds, MayLeave, LeavesAMap};
     ghost use Rattle.osm_store.specs.StoreLaws.{leaves_held_alone, leaves_held};
 
     ghost holds = { λ s held. Holds Layout.Blocks (state S.Store s.connection) held };

@@ -6,7 +6,7 @@ ghost use Rattle.sqlite.specs.Held.{state};
 ghost use Rattle.osm_store.specs.Asking.{JustAsks};
 ghost use Rattle.osm_store.specs.ColumnLoading.{AreRowsOf};
 ghost use Rattle.osm_store.specs.Held.{HeldMap};
-ghost use Rattle.osm_store.specs.Holding.{Holds};
+ghost use Rattle.osm_store.specs.LayoutHolding.{Holds};
 ghost use Rattle.osm_store.specs.Keeping.{IsForeign};
 ghost use Rattle.osm_store.specs.Rows.{is_in, placed_in};
 

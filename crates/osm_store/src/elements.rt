@@ -7,7 +7,7 @@ ghost use Rattle.sqlite.specs.Held.{state};
 ghost use Rattle.osm_store.specs.Asking.{JustAsks};
 ghost use Rattle.osm_store.specs.Finding.{AreMatches};
 ghost use Rattle.osm_store.specs.Held.{Blob, HeldMap};
-ghost use Rattle.osm_store.specs.Holding.{Holds};
+ghost use Rattle.osm_store.specs.LayoutHolding.{Holds};
 ghost use Rattle.osm_store.specs.Keeping.{IsForeign};
 ghost use Rattle.osm_store.specs.Loading.{HasRowsOf};
 ghost use Rattle.osm_store.specs.Rows.{is_of, placed_in};

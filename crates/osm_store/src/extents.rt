@@ -1,19 +1,22 @@
 //! The extents of the held blobs.
 
-ghost use Rattle.std.specs.Prelude.{◌≡◌, ◌<◌, ◌≤◌, ◌^◌, ℕ, pos, Bool, true, filter, if◌then◌else◌, Some, None, List, map, length, IsTrue, MatchResult, All};
+ghost use Rattle.std.specs.Prelude.{◌≡◌, ◌∷◌, [], ◌<◌, ◌≤◌, ◌^◌, ℕ, ℤ, pos, Bool, true, filter, if◌then◌else◌, Some, None, Ok, List, map, length, IsTrue, MatchResult, All};
+ghost use Rattle.sqlite.specs.declared.types.Value.TheVariants.{Int};
+ghost use Rattle.sqlite.specs.Order.{Row};
 ghost use Rattle.sqlite.specs.State.{HasCleanDisk};
 ghost use Rattle.sqlite.specs.Held.{state};
 ghost use Rattle.osm_store.specs.Asking.{JustAsks};
 ghost use Rattle.osm_store.specs.Held.{HeldMap};
-ghost use Rattle.osm_store.specs.Holding.{Holds};
+ghost use Rattle.osm_store.specs.LayoutHolding.{Holds};
 ghost use Rattle.osm_store.specs.Keeping.{IsForeign, extents_of, touches};
 ghost use Rattle.osm_store.specs.Rows.{blob_code, extent_columns};
+ghost use Rattle.osm_store.specs.Starting.{IsStart};
 
-use crate::answer::{answer, number};
+use crate::answer::{answer, integer, number};
 use crate::fault::{StoreFault, unread};
 use crate::keeper::Extent;
 use crate::layout::Layout;
-use crate::sql::{SELECT_EXTENTS, SELECT_TOUCHING};
+use crate::sql::{SELECT_EXTENTS, SELECT_LAST_START, SELECT_TOUCHING};
 use pbf_frame::Kind;
 use sqlite::{Alter, Connection, Row};
 use std::alloc::Global;
@@ -75,7 +78,30 @@ pub(crate) fn all_extents<S: Alter>(
     read_extents(alloc, &rows)
 }
 
+/// The offset that the first row shows; 0 where there is none.
+fn first_offset(rows: &[Row]) -> Result<i64, StoreFault>
+    ensures none { rows.now ≡ [] → result ≡ Ok (pos 0) }
+    ensures first { (off : ℤ) (more : List Row) → rows.now ≡ (Int off ∷ []) ∷ more → MatchResult result (λ found. found ≡ off) (λ fault. fault ≡ StoreFault.Memory) }
+{
+    match rows.first() {
+        Some(row) => row.get(0).map_err(unread),
+        None => Ok(0),
+    }
+}
+
+/// The offset of the last blob that starts at `from` or before. Since extents don't meet, those before it end there.
+fn last_start<S: Alter>(connection: &mut Connection<S>, from: u64) -> Result<i64, StoreFault>
+    requires { from ≤ 2 ^ 62 }
+    ensures held { HasCleanDisk (state S.Store connection.new) → (layout : Layout) (held : HeldMap) → Holds layout (state S.Store connection.old) held
+        → MatchResult result (λ start. IsStart from (extents_of held) start × IsTrue (state S.Store connection.new).is_open) (λ fault. ¬ (IsForeign fault)) }
+    ensures asks { JustAsks (state S.Store connection.old) (state S.Store connection.new) }
+{
+    let rows = answer(connection, SELECT_LAST_START, &[number(from)])?;
+    first_offset(&rows)
+}
+
 /// The extents that share a byte with `from..to`, ascending by their offsets.
+/// The time doesn't grow with the number of held blobs.
 pub(crate) fn touched_extents<S: Alter>(
     alloc: Global,
     connection: &mut Connection<S>,
@@ -87,6 +113,8 @@ pub(crate) fn touched_extents<S: Alter>(
         → MatchResult result (λ extents. (extents.items ≡ filter (touches from to) (extents_of held)) × IsTrue (state S.Store connection.new).is_open) (λ fault. ¬ (IsForeign fault)) }
     ensures asks { JustAsks (state S.Store connection.old) (state S.Store connection.new) }
 {
-    let rows = answer(connection, SELECT_TOUCHING, &[number(to), number(from)])?;
+    let start = last_start(connection, from)?;
+    let bounds = [integer(start), number(to), number(from)];
+    let rows = answer(connection, SELECT_TOUCHING, &bounds)?;
     read_extents(alloc, &rows)
 }

@@ -1,17 +1,19 @@
 //! What holds of the definitions, over all maps and tables.
 
-ghost use Rattle.std.specs.Prelude.{◌≡◌, ℕ, pos, negsuc, [], ◌∷◌, codes};
+ghost use Rattle.std.specs.Prelude.{◌≡◌, ℕ, pos, negsuc, [], ◌∷◌, codes, IsTrue};
 ghost use Rattle.sqlite.specs.declared.types.Value.TheVariants.{Null, Int, Text as Words};
 ghost use Rattle.sqlite.specs.Held.{state};
 ghost use Rattle.sqlite.specs.State.{HasCleanDisk, IsLive, Opens};
+ghost use Rattle.sqlite.specs.Steps.{over_memory};
 ghost use Rattle.sqlite.specs.Tree.{Trees};
 ghost use Rattle.osm_store.specs.ColumnExamples.{a_node, a_way, a_relation, eight_nulls};
 ghost use Rattle.osm_store.specs.ColumnRows.{element_rows, tag_rows, link_rows};
 ghost use Rattle.osm_store.specs.Held.{HeldMap};
-ghost use Rattle.osm_store.specs.Holding.{Holds, IsKept, TablesHold};
+ghost use Rattle.osm_store.specs.LayoutHolding.{Holds, IsKept, LeavesAMap, MayLeave, TablesHold};
 
+use crate::body_store::BodyStore;
 use crate::layout::Layout;
-use sqlite::{Alter, Connection};
+use sqlite::{Alter, Connection, MemStore};
 
 /// The rows of a map are those of no other map.
 pub fn rows_of_one_map()
@@ -49,4 +51,21 @@ pub fn holds_again<S: Alter>(connection: &Connection<S>)
         → (layout : Layout) (held : HeldMap) → IsKept layout held → TablesHold layout held (state S.Store connection.now).now.trees → Holds layout (state S.Store connection.now) held }
 {
     let _opened = connection;
+}
+
+/// A connection that was opened over what a crash left of a store holds a map that the crash could leave.
+pub fn holds_what_was_left<S: Alter>(before: &BodyStore<S>, connection: &Connection<S>)
+    ensures { LeavesAMap Layout.Blocks (state S.Store before.now.connection) → (state S.Store before.now.connection).may_leave (state S.Store connection.now).now.trees
+        → HasCleanDisk (state S.Store connection.now) → Opens (state S.Store connection.now) → IsLive (state S.Store connection.now)
+        → (left : HeldMap) × MayLeave Layout.Blocks (state S.Store before.now.connection) left × Holds Layout.Blocks (state S.Store connection.now) left }
+{
+    let _stopped = before;
+    let _opened = connection;
+}
+
+/// A store in memory can always go on: its disk returns what was written, and it needn't be opened again.
+pub fn memory_goes_on(store: &BodyStore<MemStore>)
+    ensures { HasCleanDisk (state over_memory store.now.connection) × IsTrue (state over_memory store.now.connection).is_open }
+{
+    let _asked = store;
 }

@@ -30,3 +30,6 @@ pub use found::Found;
 pub use keeper::{Extent, Keeper};
 pub use loaded::Loaded;
 pub use table_store::TableStore;
+
+#[cfg(test)]
+mod tests;

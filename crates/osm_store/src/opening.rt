@@ -5,8 +5,9 @@ ghost use Rattle.std.specs.FinMap.{empty};
 ghost use Rattle.sqlite.specs.State.{HasCleanDisk};
 ghost use Rattle.sqlite.specs.Held.{state};
 ghost use Rattle.osm_store.specs.Asking.{JustAsks, NamesVersion};
+ghost use Rattle.osm_store.specs.Faults.{NamesNoVersion};
 ghost use Rattle.osm_store.specs.Held.{HeldMap};
-ghost use Rattle.osm_store.specs.Holding.{Holds, TablesHold};
+ghost use Rattle.osm_store.specs.LayoutHolding.{Holds, TablesHold};
 ghost use Rattle.osm_store.specs.Keeping.{IsForeign, failures_after};
 ghost use Rattle.osm_store.specs.Layouts.{version_of};
 ghost use Rattle.osm_store.specs.Tables.{no_schema};
@@ -56,6 +57,7 @@ pub(crate) fn create_store<S: Alter>(
     ensures settled { IfOk result (λ made. (state S.Store made).in_transaction ≡ false) }
     ensures unharmed { IfErr result (λ e. HasCleanDisk (state S.Store e.1) → IsTrue (state S.Store e.1).is_open → (state S.Store e.1).now ≡ (state S.Store connection).now) }
     ensures autocommit { IfErr result (λ e. (state S.Store e.1).in_transaction ≡ false) }
+    ensures unnamed { IfErr result (λ e. NamesNoVersion e.0) }
     // a crash leaves what it could leave before, or the store that holds nothing
     ensures crash { IfErr result (λ e. HasCleanDisk (state S.Store e.1) → (db : _) → (state S.Store e.1).may_leave db → (state S.Store connection).may_leave db ⊎ TablesHold layout empty db) }
 {

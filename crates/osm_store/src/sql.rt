@@ -44,8 +44,11 @@ pub(crate) const SELECT_VERSION: &str = "SELECT version FROM meta";
 
 pub(crate) const SELECT_EXTENTS: &str = "SELECT off, fin, digest, kind, n FROM blob ORDER BY off";
 
+pub(crate) const SELECT_LAST_START: &str =
+    "SELECT off FROM blob WHERE off <= ?1 ORDER BY off DESC LIMIT 1";
+
 pub(crate) const SELECT_TOUCHING: &str =
-    "SELECT off, fin, digest, kind, n FROM blob WHERE off < ?1 AND fin > ?2 ORDER BY off";
+    "SELECT off, fin, digest, kind, n FROM blob WHERE off >= ?1 AND off < ?2 AND fin > ?3 ORDER BY off";
 
 pub(crate) const SELECT_ROWS: &str = "SELECT data FROM body WHERE off = ?1 ORDER BY pos";
 

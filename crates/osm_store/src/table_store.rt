@@ -5,8 +5,9 @@ ghost use Rattle.std.specs.FinMap.{empty};
 ghost use Rattle.sqlite.specs.State.{HasCleanDisk};
 ghost use Rattle.sqlite.specs.Held.{state};
 ghost use Rattle.osm_store.specs.Asking.{JustAsks, NamesVersion};
+ghost use Rattle.osm_store.specs.Faults.{NamesNoVersion};
 ghost use Rattle.osm_store.specs.Held.{HeldMap, HaveFewTexts};
-ghost use Rattle.osm_store.specs.Holding.{Holds, TablesHold};
+ghost use Rattle.osm_store.specs.LayoutHolding.{Holds, TablesHold};
 ghost use Rattle.osm_store.specs.Keeping.{IsForeign};
 ghost use Rattle.osm_store.specs.Store.{AddsBlob};
 
@@ -60,6 +61,7 @@ impl<S: Alter> TableStore<S> {
         ensures failures { IfOk result (λ store. store.failures ≡ 0) }
         ensures unharmed { IfErr result (λ e. HasCleanDisk (state S.Store e.1) → IsTrue (state S.Store e.1).is_open → (state S.Store e.1).now ≡ (state S.Store connection).now) }
         ensures autocommit { IfErr result (λ e. (state S.Store e.1).in_transaction ≡ false) }
+        ensures unnamed { IfErr result (λ e. NamesNoVersion e.0) }
         // a crash leaves what it could leave before, or the store that holds nothing
         ensures crash { IfErr result (λ e. HasCleanDisk (state S.Store e.1) → (db : _) → (state S.Store e.1).may_leave db → (state S.Store connection).may_leave db ⊎ TablesHold Layout.Columns empty db) }
     {

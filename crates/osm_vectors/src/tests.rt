@@ -1,8 +1,10 @@
 mod blocks;
+mod changed;
+mod encoding;
 mod failing;
 mod frames;
 
-use osm_value::{Element, Outlet, write_line};
+use osm_value::{Element, Info, Outlet, write_line};
 use std::test::*;
 
 /// The lines of elements.
@@ -12,4 +14,8 @@ fn lines_of(rt: &HostRuntime, elements: &[Element]) -> Result<Vec<u8>, Fail> {
         write_line(element, &mut outlet)?;
     }
     Ok(outlet.into_inner())
+}
+
+fn nothing_known<'a>() -> Info<'a> {
+    Info::new(None, None, None, None, None, None)
 }

@@ -1,7 +1,5 @@
 -- The plain reading of a listing against what a listing is.
-use Rattle.std.proofs.Common.{◌≡◌, ℕ, zero, suc, ◌+◌, ◌-◌, ◌<◌, ◌≤◌, Bool, true, false, List, [], ◌∷◌, ◌++◌, length, take, drop, Option, Some, None, Result, Ok, Err, refl, sym, ap, subst, inl, inr, ◌∙◌, arith, append_assoc, add_assoc, zero-add, add-zero}
-use Rattle.std.specs.Prelude.{IfSome}
-use Rattle.std.specs.Io.KnownBytes.{Appends}
+use Rattle.std.proofs.Common.{◌≡◌, ℕ, zero, suc, ◌+◌, ◌-◌, ◌<◌, ◌≤◌, Bool, true, false, List, [], ◌∷◌, ◌++◌, length, take, drop, Result, Ok, Err, refl, sym, ap, subst, inl, inr, ◌∙◌, arith, append_assoc, add_assoc, zero-add, add-zero}
 use Rattle.std.specs.List.{AllByRecursion}
 use Rattle.std.proofs.lemmas.Bool.{cases_lt}
 use Rattle.std.proofs.lemmas.List.{length-append, length-drop, length-take, take-append-drop, drop-drop}
@@ -129,12 +127,3 @@ pub one_listing : (whole other : Bool) (w text text' : List ℕ) → Lists whole
 one_listing whole other w text text' a b =
     let e : made whole text ≡ made other text' = sym (listing_is whole w text a) ∙ listing_is other w text' b in
     (ap (λ (l : Listing). l.whole) e, ap (λ (l : Listing). l.text) e)
-
--- what is written of the bytes that a reader had
-pub whole_listed : (left : Option (List ℕ)) (items bytes : List ℕ) (a b : Option (List ℕ)) → IfSome left (λ xs. items ≡ xs) → bytes ≡ items → true ≡ (listing bytes).whole
-    → Appends a b (listing bytes).text → IfSome left (λ xs. (text : List ℕ) × Lists true xs text × Appends a b text)
-whole_listed None items bytes a b read same whole written = tt
-whole_listed (Some xs) items bytes a b read same whole written =
-    let text = (listing bytes).text in
-    let l : Lists true bytes text = subst (λ (k : Bool). Lists k bytes text) (sym whole) (lists_read bytes) in
-    (text, subst (λ (k : List ℕ). Lists true k text) (same ∙ read) l, written)

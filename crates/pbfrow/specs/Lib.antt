@@ -1,6 +1,11 @@
+pub mod CommandLines
 pub mod Definition
 pub mod Element
+pub mod Exporting
 pub mod FaultLine
+pub mod Finding
+pub mod Importing
 pub mod Listing
 pub mod Reading
+pub mod Status
 pub mod Words

@@ -2,9 +2,14 @@
 use Rattle.std.specs.Prelude.{◌≡◌, ℕ, ◌+◌, ◌/◌, ◌%◌, ◌<◌, nat_lt, ◌==◌, ◌||◌, Bool, true, false, List, [], ◌∷◌, ◌++◌, length, codes, if◌then◌else◌}
 use Rattle.std.specs.List.{AllByRecursion, flat_map}
 use Rattle.std.specs.Fmt.{decimal}
+use Rattle.std.specs.Io.KnownBytes.{Appends, Consumes, IsAtEnd}
 use Rattle.pbf_frame.specs.declared.fault.FrameFault.{FrameFault}
 use Rattle.pbf_frame.specs.Fault.{number_of, name_of}
 use Rattle.pbf_frame.specs.Frame.{Frame, FirstFault}
+use Rattle.osm_import.specs.Exports.{Known}
+use Rattle.osm_import.specs.FrameReads.{LacksFrame, framing_of}
+use Rattle.osm_import.specs.StopFaults.{stop_number_of, stop_name_of}
+use Rattle.osm_import.specs.declared.stream.fault.Stop.{Stop}
 use Rattle.pbfrow.specs.FaultLine.{fault_line}
 
 abbrev pub hex_digit : ℕ → ℕ
@@ -49,3 +54,25 @@ pub record Lists (whole : Bool) (bytes text : List ℕ) : Type 0 where
   pub tiled : bytes ≡ joined frames ++ rest
   pub ends : EndsAs whole (length (joined frames)) rest line
   pub lines : text ≡ lines_from 0 frames ++ line
+
+-- ---- The same of an input that is read piece by piece, and of what a writer holds.
+
+-- the frame's line is written
+abbrev pub PrintsFrame : ℕ → List ℕ → Known → Known → Type 0
+PrintsFrame at w written_old written_new = (type blob : List ℕ) × Frame type blob w × Appends written_old written_new (frame_line at type blob)
+
+-- How the listing of an input ends: with the input, and no line; or by what ended it early at the next frame, with its line.
+abbrev pub EndsInput : Bool → ℕ → Known → List ℕ → Type 0
+EndsInput true at left line = IsAtEnd left × (line ≡ [])
+EndsInput false at left line = (stop : Stop) × (got : List ℕ) × (behind : Known) × (failed : Bool) × Consumes left behind got
+    × LacksFrame (framing_of at got) behind failed stop × (line ≡ fault_line (stop_number_of stop) (stop_name_of stop) at)
+
+-- The input begins with these frames, each has its line, and the line of what ends them is behind.
+pub record ListsInput (whole : Bool) (left written_old written_new : Known) : Type 0 where
+  pub frames : List Part
+  pub behind : Known
+  pub line : List ℕ
+  pub are_frames : AllByRecursion IsPart frames
+  pub read : Consumes left behind (joined frames)
+  pub ends : EndsInput whole (length (joined frames)) behind line
+  pub written : Appends written_old written_new (lines_from 0 frames ++ line)

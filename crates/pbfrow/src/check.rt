@@ -2,11 +2,10 @@
 
 ghost use Rattle.std.specs.Prelude.{◌≤◌};
 
-use crate::blob::{Content, ContentFault, read_content};
-use crate::fault::print_fault;
-use crate::input::{read_all, refuse_input};
+use crate::fault::{print_fault, print_finding, print_stop};
+use crate::input::flush_to_wait;
+use osm_import::{ExamineFault, Fault, FrameReader, Inlet, Source, Stop, examine};
 use osm_value::Element;
-use pbf_frame::read_frame;
 use std::alloc::Global;
 use std::io;
 use std::io::{Read, Write};
@@ -30,11 +29,17 @@ impl Counts {
         faults: 0,
     };
 
-    fn add_content(&mut self, content: &Content) {
-        if let Content::Elements(elements) = content {
-            for element in elements.iter() {
-                self.add_element(element);
-            }
+    fn add_blob(&mut self) {
+        self.blobs = self.blobs.saturating_add(1);
+    }
+
+    fn add_fault(&mut self) {
+        self.faults = self.faults.saturating_add(1);
+    }
+
+    fn add_elements(&mut self, elements: &[Element]) {
+        for element in elements {
+            self.add_element(element);
         }
     }
 
@@ -48,67 +53,85 @@ impl Counts {
 }
 
 /// Writes a fault's line for each bad blob of the input, up to a frame fault, and last the counts; answers the exit
-/// status: 0 where there is no fault, and 1 where there is one, or the input or the output failed.
+/// status: 0 where there is no fault, and 1 where there is one, or the input or the output failed. The lines so far are
+/// flushed before more of the input is read.
 pub fn check<R: Read, W: Write>(alloc: Global, input: &mut R, out: &mut W) -> u8
     ensures { result ≤ 1 }
 {
-    let bytes = match read_all(alloc, input) {
-        Ok(bytes) => bytes,
-        Err(fault) => return refuse_input(fault, out),
-    };
-    match print_check(alloc, &bytes, out) {
+    match print_check(alloc, input, out) {
         Ok(true) => 0,
         Ok(false) | Err(_) => 1,
     }
 }
 
-/// Writes what `check` writes of these bytes, and answers whether there is no fault.
-fn print_check<W: Write>(alloc: Global, bytes: &[u8], out: &mut W) -> io::Result<bool> {
+/// Writes what `check` writes of this input, and answers whether there is no fault.
+fn print_check<R: Read, W: Write>(alloc: Global, input: &mut R, out: &mut W) -> io::Result<bool> {
+    let mut frames = match FrameReader::new(alloc, 0, Inlet::new(input)) {
+        Ok(frames) => frames,
+        Err(stop) => {
+            print_stop(stop, out)?;
+            return Ok(false);
+        }
+    };
     let mut counts = Counts::NONE;
-    if bytes.is_empty() {
-        counts.faults = 1;
-        let fault = ContentFault::NoHeaderFirst;
-        print_fault(fault.number(), fault.name(), 0, out)?;
-    }
-    if !count_blobs(alloc, bytes, &mut counts, out)? {
+    if !count_blobs(alloc, &mut frames, &mut counts, out)? {
         return Ok(false);
+    }
+    if counts.blobs == 0 && counts.faults == 0 {
+        counts.add_fault();
+        let fault = Fault::NoHeaderFirst;
+        print_fault(fault.number(), fault.name(), 0, out)?;
     }
     print_counts(&counts, out)?;
     Ok(counts.faults == 0)
 }
 
-/// Writes the faults of the blobs and counts them, up to a frame fault; answers no where memory was refused, which
-/// ends the output.
-fn count_blobs<W: Write>(
+/// Writes the faults of the blobs and counts them, up to a frame fault; answers no where a read failed or memory was
+/// refused, which ends the output.
+fn count_blobs<R: Source, W: Write>(
     alloc: Global,
+    frames: &mut FrameReader<R>,
+    counts: &mut Counts,
+    out: &mut W,
+) -> io::Result<bool> {
+    loop {
+        flush_to_wait(frames, out)?;
+        match frames.next() {
+            Ok(Some((at, bytes))) => {
+                if !count_blob(alloc, at, bytes, counts, out)? {
+                    return Ok(false);
+                }
+            }
+            Ok(None) => return Ok(true),
+            Err(stop) => {
+                counts.add_fault();
+                print_stop(stop, out)?;
+                return Ok(matches!(stop.fault, Stop::Frame(_)));
+            }
+        }
+    }
+}
+
+/// Counts a blob and its elements, or writes its fault and counts that; answers no where memory was refused.
+fn count_blob<W: Write>(
+    alloc: Global,
+    at: u64,
     bytes: &[u8],
     counts: &mut Counts,
     out: &mut W,
 ) -> io::Result<bool> {
-    let mut at = 0;
-    while at < bytes.len() {
-        let frame = match read_frame(&bytes[at..]) {
-            Ok(frame) => frame,
-            Err(fault) => {
-                counts.faults = counts.faults.saturating_add(1);
-                print_fault(fault.number(), fault.name(), at as u64, out)?;
-                return Ok(true);
-            }
-        };
-        counts.blobs = counts.blobs.saturating_add(1);
-        match read_content(alloc, at as u64, &frame) {
-            Ok(content) => counts.add_content(&content),
-            Err(fault) => {
-                counts.faults = counts.faults.saturating_add(1);
-                print_fault(fault.number(), fault.name(), at as u64, out)?;
-                if fault == ContentFault::Memory {
-                    return Ok(false);
-                }
-            }
+    counts.add_blob();
+    match examine(alloc, at, bytes) {
+        Ok(good) => {
+            counts.add_elements(&good.elements);
+            Ok(true)
         }
-        at += frame.length as usize;
+        Err(finding) => {
+            counts.add_fault();
+            print_finding(finding, at, out)?;
+            Ok(finding != ExamineFault::Memory)
+        }
     }
-    Ok(true)
 }
 
 fn print_counts<W: Write>(counts: &Counts, out: &mut W) -> io::Result<()> {

@@ -3,50 +3,63 @@
 ghost use Rattle.std.specs.Prelude.{◌≡◌, ℕ, ◌<◌, ◌≤◌, true, List, OnOk, IfOk, IfSome};
 ghost use Rattle.std.specs.List.{flat_map};
 ghost use Rattle.std.specs.Io.KnownBytes.{Appends};
-ghost use Rattle.pbfrow.specs.Listing.{Lists, hex_digit, byte_text, frame_line};
-ghost use Rattle.pbfrow.specs.Reading.{listing};
+ghost use Rattle.pbf_frame.specs.Frame as definitions;
+ghost use Rattle.pbfrow.specs.Listing.{Lists, ListsInput, frame_line, hex_digit, byte_text};
 
-use crate::fault::print_fault;
-use crate::input::{read_all, refuse_input};
-use pbf_frame::{Frame, read_frame};
+use crate::fault::print_stop;
+use crate::input::flush_to_wait;
+use osm_import::{FrameReader, Inlet};
+use pbf_frame::{Frame, whole_frame};
 use std::alloc::Global;
 use std::io;
-use std::io::{Read, Write};
+use std::io::{ErrorKind, Read, Write};
 
-/// Writes a line for each frame of the input, up to a fault's line, and answers the exit status:
-/// 0 where all of the input is frames, and 1 where it isn't, or couldn't be read or written.
+/// Writes a line for each frame of the input, up to a fault's line, and answers the exit status: 0 where all of the
+/// input is frames, and 1 where it isn't, or couldn't be read or written. The lines so far are flushed before more of the
+/// input is read.
 pub fn list<R: Read, W: Write>(alloc: Global, input: &mut R, out: &mut W) -> u8
     // At 0 all bytes of the input are frames, and the text that lists them is written, no more and no less.
     ensures whole { result ≡ 0 → IfSome (R.remaining input.old) (λ bytes. (text : List ℕ) × Lists true bytes text × Appends (W.contents out.old) (W.contents out.new) text) }
     ensures status { result ≤ 1 }
 {
-    match read_all(alloc, input) {
-        Ok(bytes) => match print_frames(&bytes, out) {
-            Ok(true) => 0,
-            Ok(false) | Err(_) => 1,
-        },
-        Err(fault) => refuse_input(fault, out),
+    match print_frames(alloc, input, out) {
+        Ok(true) => 0,
+        Ok(false) | Err(_) => 1,
     }
 }
 
-/// Writes a line for each frame, and one for the fault that ends them, and answers whether the bytes are frames to their end.
-fn print_frames<W: Write>(bytes: &[u8], out: &mut W) -> io::Result<bool>
-    ensures { IfOk result (λ whole. (whole ≡ (listing bytes.now).whole) × Appends (W.contents out.old) (W.contents out.new) (listing bytes.now).text) }
+/// Writes a line for each frame, and one for what ends them early, and answers whether the input is frames to its end.
+fn print_frames<R: Read, W: Write>(alloc: Global, input: &mut R, out: &mut W) -> io::Result<bool>
+    ensures { IfOk result (λ whole. ListsInput whole (R.remaining input.old) (W.contents out.old) (W.contents out.new)) }
 {
-    let mut at = 0;
-    while at < bytes.len() {
-        match read_frame(&bytes[at..]) {
-            Ok(frame) => {
-                print_frame(at as u64, &frame, out)?;
-                at += frame.length as usize;
-            }
-            Err(fault) => {
-                print_fault(fault.number(), fault.name(), at as u64, out)?;
+    let mut frames = match FrameReader::new(alloc, 0, Inlet::new(input)) {
+        Ok(frames) => frames,
+        Err(stop) => {
+            print_stop(stop, out)?;
+            return Ok(false);
+        }
+    };
+    loop {
+        flush_to_wait(&mut frames, out)?;
+        match frames.next() {
+            Ok(Some((at, bytes))) => print_frame(at, &frame_of(bytes)?, out)?,
+            Ok(None) => return Ok(true),
+            Err(stop) => {
+                print_stop(stop, out)?;
                 return Ok(false);
             }
         }
     }
-    Ok(true)
+}
+
+/// The frame that the bytes are.
+pub(crate) fn frame_of(bytes: &[u8]) -> io::Result<Frame<'_>>
+    ensures { IfOk result (λ frame. definitions.Frame frame.type_name.now frame.blob.now bytes.now) }
+{
+    match whole_frame(bytes) {
+        Ok(frame) => Ok(frame),
+        Err(_) => Err(io::Error::from(ErrorKind::InvalidData)),
+    }
 }
 
 fn print_frame<W: Write>(at: u64, frame: &Frame, out: &mut W) -> io::Result<()>

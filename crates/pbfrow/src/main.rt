@@ -1,20 +1,26 @@
 //! The program pbfrow: reads and checks OpenStreetMap PBF files.
 #![tactic(auto)]
 
-mod blob;
 mod check;
+mod database;
 mod definition;
 mod element;
+mod export;
 mod fault;
+mod find;
+mod import;
 mod input;
 pub mod laws;
 mod list;
+mod report;
 mod show;
+mod status;
 mod words;
 
 use check::check;
 use clap::Error;
-use input::{InputFault, refuse_input};
+use database::{Question, ask, fill};
+use input::refuse_input;
 use list::list;
 use show::show;
 use std::alloc::Global;
@@ -26,9 +32,6 @@ use words::{Words, read_words};
 
 /// The exit status where a fault was printed, or the output couldn't be written.
 const FAULTY: u8 = 1;
-
-/// The exit status where the words name no command of the program.
-const BAD_WORDS: u8 = 2;
 
 fn main(rt: HostRuntime) -> ExitCode {
     let status = match entered(rt) {
@@ -67,10 +70,27 @@ fn run(rt: HostRuntime, words: Words) -> io::Result<u8> {
         Words::List { file } => run_on_file(rt, Reading::List, file),
         Words::Check { file } => run_on_file(rt, Reading::Check, file),
         Words::Show { file } => run_on_file(rt, Reading::Show, file),
-        _ => {
-            eprintln!(rt; "pbfrow: this command isn't built yet")?;
-            Ok(BAD_WORDS)
-        }
+        Words::Import {
+            file,
+            database,
+            from,
+        } => fill(&rt, file, database, from.unwrap_or(0)),
+        Words::Status { database, size } => ask(&rt, database, Question::Status { size }),
+        Words::Export {
+            database,
+            size,
+            partial,
+            form,
+        } => ask(
+            &rt,
+            database,
+            Question::Export {
+                size,
+                partial,
+                form,
+            },
+        ),
+        Words::Find { database, kind, id } => ask(&rt, database, Question::Find { kind, id }),
     }
 }
 
@@ -89,7 +109,7 @@ fn run_on_file(rt: HostRuntime, reading: Reading, file: Option<&str>) -> io::Res
         None => read_with(rt.alloc(), reading, &mut rt.stdin(), &mut out),
         Some(name) => match File::open(&rt, name) {
             Ok(mut file) => read_with(rt.alloc(), reading, &mut file, &mut out),
-            Err(_) => refuse_input(InputFault::ReadFailed, &mut out),
+            Err(_) => refuse_input(&mut out),
         },
     };
     out.flush()?;

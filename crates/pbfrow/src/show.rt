@@ -2,59 +2,82 @@
 
 ghost use Rattle.std.specs.Prelude.{◌≤◌};
 
-use crate::blob::{Content, ContentFault, read_content};
-use crate::fault::print_fault;
-use crate::input::{read_all, refuse_input};
-use crate::list::print_type;
-use osm_block::HeaderBlock;
+use crate::fault::{print_finding, print_stop};
+use crate::input::flush_to_wait;
+use crate::list::{frame_of, print_type};
+use osm_block::{HeaderBlock, read_header_block};
+use osm_import::{ExamineFault, FrameReader, Inlet, Source, examine};
 use osm_value::{Element, Outlet, Sink, put_escaped, write_line};
-use pbf_frame::{Frame, read_frame};
+use pbf_frame::{Frame, Kind, raw};
 use std::alloc::Global;
 use std::io;
 use std::io::{ErrorKind, Read, Write};
 
 /// Writes a line for each blob of the input, and behind it those of its header, its elements or its fault, up to a
 /// frame fault's line; answers the exit status: 0 where there is no fault, and 1 where there is one, or the input or the
-/// output failed.
+/// output failed. The lines so far are flushed before more of the input is read.
 pub fn show<R: Read, W: Write>(alloc: Global, input: &mut R, out: &mut W) -> u8
     ensures { result ≤ 1 }
 {
-    let bytes = match read_all(alloc, input) {
-        Ok(bytes) => bytes,
-        Err(fault) => return refuse_input(fault, out),
-    };
-    match show_blobs(alloc, &bytes, out) {
+    match print_show(alloc, input, out) {
         Ok(true) => 0,
         Ok(false) | Err(_) => 1,
     }
 }
 
-/// Writes what `show` writes of these bytes, and answers whether there is no fault.
-fn show_blobs<W: Write>(alloc: Global, bytes: &[u8], out: &mut W) -> io::Result<bool> {
+/// Writes what `show` writes of this input, and answers whether there is no fault.
+fn print_show<R: Read, W: Write>(alloc: Global, input: &mut R, out: &mut W) -> io::Result<bool> {
+    match FrameReader::new(alloc, 0, Inlet::new(input)) {
+        Ok(mut frames) => show_blobs(alloc, &mut frames, out),
+        Err(stop) => {
+            print_stop(stop, out)?;
+            Ok(false)
+        }
+    }
+}
+
+fn show_blobs<R: Source, W: Write>(
+    alloc: Global,
+    frames: &mut FrameReader<R>,
+    out: &mut W,
+) -> io::Result<bool> {
     let mut is_good = true;
-    let mut at = 0;
-    while at < bytes.len() {
-        let frame = match read_frame(&bytes[at..]) {
-            Ok(frame) => frame,
-            Err(fault) => {
-                print_fault(fault.number(), fault.name(), at as u64, out)?;
+    loop {
+        flush_to_wait(frames, out)?;
+        match frames.next() {
+            Ok(Some((at, bytes))) => match show_blob(alloc, at, bytes, out)? {
+                None => {}
+                Some(ExamineFault::Bad(_)) => is_good = false,
+                Some(ExamineFault::Memory) => return Ok(false),
+            },
+            Ok(None) => return Ok(is_good),
+            Err(stop) => {
+                print_stop(stop, out)?;
                 return Ok(false);
             }
-        };
-        print_blob(at as u64, &frame, out)?;
-        match read_content(alloc, at as u64, &frame) {
-            Ok(content) => print_content(&content, out)?,
-            Err(fault) => {
-                is_good = false;
-                print_fault(fault.number(), fault.name(), at as u64, out)?;
-                if fault == ContentFault::Memory {
-                    return Ok(false);
-                }
-            }
         }
-        at += frame.length as usize;
     }
-    Ok(is_good)
+}
+
+/// Writes the line of a blob, and behind it those of its header, its elements or its fault, which it answers.
+fn show_blob<W: Write>(
+    alloc: Global,
+    at: u64,
+    bytes: &[u8],
+    out: &mut W,
+) -> io::Result<Option<ExamineFault>> {
+    let frame = frame_of(bytes)?;
+    print_blob(at, &frame, out)?;
+    match examine(alloc, at, bytes) {
+        Ok(good) => {
+            print_content(&frame, &good.elements, out)?;
+            Ok(None)
+        }
+        Err(finding) => {
+            print_finding(finding, at, out)?;
+            Ok(Some(finding))
+        }
+    }
 }
 
 fn print_blob<W: Write>(at: u64, frame: &Frame, out: &mut W) -> io::Result<()> {
@@ -64,12 +87,19 @@ fn print_blob<W: Write>(at: u64, frame: &Frame, out: &mut W) -> io::Result<()> {
     writeln!(out, " {length}")
 }
 
-fn print_content<W: Write>(content: &Content, out: &mut W) -> io::Result<()> {
-    match content {
-        Content::Header(header) => print_header(header, out),
-        Content::Elements(elements) => print_elements(elements, out),
-        Content::Other => Ok(()),
+/// Writes the lines of a good blob.
+fn print_content<W: Write>(frame: &Frame, elements: &[Element], out: &mut W) -> io::Result<()> {
+    if frame.kind != Kind::OsmHeader {
+        return print_elements(elements, out);
     }
+    match header_of(frame.blob) {
+        Some(header) => print_header(&header, out),
+        None => Err(io::Error::from(ErrorKind::InvalidData)),
+    }
+}
+
+fn header_of(blob: &[u8]) -> Option<HeaderBlock<'_>> {
+    read_header_block(raw(blob).ok()?).ok()
 }
 
 /// Writes what a header block has, a line for each field that is there.

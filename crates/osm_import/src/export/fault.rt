@@ -1,5 +1,8 @@
 //! Why an export ends early.
 
+ghost use Rattle.std.specs.Prelude.{◌≡◌};
+ghost use Rattle.osm_import.specs.ExportFaults.{export_number_of, export_name_of};
+
 use osm_store::StoreFault;
 use thiserror::Error;
 
@@ -19,4 +22,32 @@ pub enum ExportFault {
     BlockTooLarge,
     #[error("{0}")]
     Store(StoreFault),
+}
+
+impl ExportFault {
+    /// The number that this fault has in every message of the program.
+    pub fn number(self) -> u8
+        ensures { result ≡ export_number_of self }
+    {
+        match self {
+            ExportFault::Incomplete(_, _) => 67,
+            ExportFault::PastEnd(_) => 70,
+            ExportFault::WriteFailed => 24,
+            ExportFault::BlockTooLarge => 53,
+            ExportFault::Store(fault) => fault.number(),
+        }
+    }
+
+    /// The name that this fault has in every message of the program.
+    pub fn name(self) -> &'static str
+        ensures { result.now ≡ export_name_of self }
+    {
+        match self {
+            ExportFault::Incomplete(_, _) => "Incomplete",
+            ExportFault::PastEnd(_) => "PastEnd",
+            ExportFault::WriteFailed => "WriteFailed",
+            ExportFault::BlockTooLarge => "BlockTooLarge",
+            ExportFault::Store(fault) => fault.name(),
+        }
+    }
 }

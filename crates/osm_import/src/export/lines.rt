@@ -87,7 +87,7 @@ fn write_blobs<K: Keeper, S: Sink>(
 /// Unless `partial`, it is refused before any byte where what is held doesn't tile the size, which is the greatest held
 /// end where none is given: with `Incomplete` and the first gap, or (0, 0) where nothing is held and the size is 0; else
 /// with `PastEnd` and the greatest held end, where that is past the size. After `WriteFailed` a front of the text went
-/// out, and after `Store` the lines of the blobs before.
+/// out, and after `Store` the lines of the blobs before; none, unless `partial`, where what is held doesn't tile the size.
 ///
 /// Over a map that tiles a file and holds the entries of that file alone it isn't refused, with the file's size or with
 /// none, and at `Ok` it has written the lines of exactly the file's elements, in file order.

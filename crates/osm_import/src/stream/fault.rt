@@ -64,3 +64,19 @@ pub struct StreamFault {
     pub fault: Stop,
     pub at: u64,
 }
+
+impl StreamFault {
+    /// The number that this fault has in every message of the program.
+    pub fn number(self) -> u8
+        ensures { result ≡ stop_number_of self.fault }
+    {
+        self.fault.number()
+    }
+
+    /// The name that this fault has in every message of the program.
+    pub fn name(self) -> &'static str
+        ensures { result.now ≡ stop_name_of self.fault }
+    {
+        self.fault.name()
+    }
+}

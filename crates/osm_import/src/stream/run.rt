@@ -1,6 +1,6 @@
 //! The run over a stream.
 
-ghost use Rattle.std.specs.Prelude.{◌≡◌, ◌≤◌, ◌<◌, ◌+◌, [], ℕ, List, Some, IfOk};
+ghost use Rattle.std.specs.Prelude.{◌≡◌, ◌≤◌, ◌<◌, ◌+◌, [], ℕ, List, Some, IfOk, IfErr};
 ghost use Rattle.std.specs.Io.KnownBytes.{prepend_known};
 ghost use Rattle.osm_store.specs.Held.{HeldMap};
 ghost use Rattle.osm_import.specs.Streams.{Streams, Takes, TakesOne, ended_at, ImportsFile};
@@ -57,9 +57,10 @@ fn import_frame<K: Keeper, R: Source, S: Sink>(
     out: &mut S,
 ) -> Result<Option<Delivered>, Stop>
     requires { framer.old.rest ≡ [] }
-    ensures { FrameStep framer.old framer.new (prepend_known piece.old (R.bytes_left reader.old)) (prepend_known piece.new (R.bytes_left reader.new))
+    ensures step { FrameStep framer.old framer.new (prepend_known piece.old (R.bytes_left reader.old)) (prepend_known piece.new (R.bytes_left reader.new))
         (S.written out.old) (S.written out.new) (R.has_failed reader.new) (S.has_failed out.new) (keeper.new ≡ keeper.old)
         (λ off bytes answer. TakesOne K.holds K.leaves K.leaves_a_map K.is_honest K.is_open K.failures keeper.old keeper.new off bytes answer) result }
+    ensures spent { IfErr result (λ stop. stop ≡ Stop.ReadFailed → piece.new ≡ []) }
 {
     match fill(framer, piece, reader) {
         Ok(_) => {}

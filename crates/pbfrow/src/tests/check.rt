@@ -1,4 +1,4 @@
-use super::support::{Breaking, Closed, EXTRA, TWO_NODES, file_of};
+use super::support::{Breaking, Closed, Dripping, EXTRA, TWO_NODES, file_of};
 use crate::check::check;
 use std::alloc::{AllocError, Global};
 use std::io::Cursor;
@@ -91,13 +91,36 @@ fn counts_a_way(rt: HostRuntime) -> Result<(), AllocError> {
 }
 
 #[test]
-fn reports_a_read_error_alone(rt: HostRuntime) {
+fn checks_pieces_of_each_length(rt: HostRuntime) {
+    for step in 1..85 {
+        let mut out = Vec::new(rt.alloc());
+        let mut input = Dripping {
+            given: &TWO_NODES[..],
+            step,
+        };
+        assert_eq!(rt; check(rt.alloc(), &mut input, &mut out), 0);
+        assert!(rt; out.as_slice() == b"blobs 2 nodes 2 ways 0 relations 0 faults 0\n".as_slice());
+    }
+}
+
+fn expect_broken(rt: &(impl Abort + Alloc<A = Global>), length: usize, text: &[u8]) {
     let mut out = Vec::new(rt.alloc());
     let mut input = Breaking {
-        given: &TWO_NODES[..60],
+        given: TWO_NODES.split_at(length.min(84)).0,
     };
     assert_eq!(rt; check(rt.alloc(), &mut input, &mut out), 1);
-    assert!(rt; out.as_slice() == b"fault 68 ReadFailed at 0\n".as_slice());
+    assert!(rt; out.as_slice() == text);
+}
+
+#[test]
+fn ends_with_a_read_error(rt: HostRuntime) {
+    for length in 0..47 {
+        expect_broken(&rt, length, b"fault 68 ReadFailed at 0\n");
+    }
+    for length in 47..84 {
+        expect_broken(&rt, length, b"fault 68 ReadFailed at 47\n");
+    }
+    expect_broken(&rt, 84, b"fault 68 ReadFailed at 84\n");
 }
 
 #[test]

@@ -1,4 +1,4 @@
-use super::support::{Breaking, Closed, TWO_NODES};
+use super::support::{Breaking, Closed, Dripping, TWO_NODES};
 use crate::list::list;
 use std::alloc::Global;
 use std::io::{Cursor, Read};
@@ -78,21 +78,45 @@ fn escapes_types(rt: HostRuntime) {
 }
 
 #[test]
-fn reports_a_read_error_alone(rt: HostRuntime) {
-    expect_list(
+fn lists_pieces_of_each_length(rt: HostRuntime) {
+    for step in 1..85 {
+        let mut input = Dripping {
+            given: &TWO_NODES[..],
+            step,
+        };
+        expect_list(&rt, &mut input, 0, b"0 OSMHeader 30\n47 OSMData 22\n");
+    }
+}
+
+fn expect_broken(rt: &(impl Abort + Alloc<A = Global>), given: &[u8], text: &[u8]) {
+    expect_list(rt, &mut Breaking { given }, 1, text);
+}
+
+#[test]
+fn reports_a_read_error_at_the_frame_that_was_read(rt: HostRuntime) {
+    let two_nodes = &TWO_NODES[..];
+    for length in 0..47 {
+        expect_broken(&rt, &two_nodes[..length], b"fault 68 ReadFailed at 0\n");
+    }
+    for length in 47..84 {
+        expect_broken(
+            &rt,
+            &two_nodes[..length],
+            b"0 OSMHeader 30\nfault 68 ReadFailed at 47\n",
+        );
+    }
+    expect_broken(
         &rt,
-        &mut Breaking { given: b"" },
-        1,
-        b"fault 68 ReadFailed at 0\n",
+        two_nodes,
+        b"0 OSMHeader 30\n47 OSMData 22\nfault 68 ReadFailed at 84\n",
     );
-    expect_list(
-        &rt,
-        &mut Breaking {
-            given: &TWO_NODES[..60],
-        },
-        1,
-        b"fault 68 ReadFailed at 0\n",
-    );
+}
+
+#[test]
+fn reports_a_fault_before_it_reads_on(rt: HostRuntime) {
+    expect_broken(&rt, &[0u8, 1, 0, 0], b"fault 11 HeaderTooLong at 0\n");
+    expect_broken(&rt, &[0u8; 4], b"fault 14 NoType at 0\n");
+    expect_broken(&rt, &[0u8, 1, 0], b"fault 68 ReadFailed at 0\n");
 }
 
 #[test]

@@ -1,4 +1,4 @@
-use super::support::{Closed, EXTRA, TWO_NODES, file_of};
+use super::support::{Breaking, Closed, Dripping, EXTRA, TWO_NODES, file_of};
 use crate::show::show;
 use std::alloc::{AllocError, Global};
 use std::io::Cursor;
@@ -74,6 +74,35 @@ fn shows_faults_and_other_blobs(rt: HostRuntime) -> Result<(), AllocError> {
         b"blob 47 Extra 16\nfault 18 BlobCut at 63\n",
     );
     Ok(())
+}
+
+#[test]
+fn shows_pieces_of_each_length(rt: HostRuntime) {
+    for step in 1..85 {
+        let mut out = Vec::new(rt.alloc());
+        let mut input = Dripping {
+            given: &TWO_NODES[..],
+            step,
+        };
+        assert_eq!(rt; show(rt.alloc(), &mut input, &mut out), 0);
+        assert!(rt;
+            out.as_slice().strip_prefix(HEADER.as_bytes())
+                == Some(b"blob 47 OSMData 37\nn 1 1000 -100 [] {}\nn 2 900 -100 [] {}\n".as_slice())
+        );
+    }
+}
+
+#[test]
+fn ends_with_a_read_error(rt: HostRuntime) {
+    let mut out = Vec::new(rt.alloc());
+    let mut input = Breaking {
+        given: &TWO_NODES[..47],
+    };
+    assert_eq!(rt; show(rt.alloc(), &mut input, &mut out), 1);
+    assert!(rt;
+        out.as_slice().strip_prefix(HEADER.as_bytes())
+            == Some(b"fault 68 ReadFailed at 47\n".as_slice())
+    );
 }
 
 #[test]

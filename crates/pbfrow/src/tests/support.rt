@@ -37,6 +37,20 @@ impl Read for Breaking<'_> {
     }
 }
 
+/// A reader that gives a few bytes a read.
+#[derive(Drop)]
+pub struct Dripping<'a> {
+    pub given: &'a [u8],
+    pub step: usize,
+}
+
+impl Read for Dripping<'_> {
+    fn read(&mut self, buf: &mut [u8]) -> io::Result<usize> {
+        let most = self.step.min(buf.len());
+        self.given.read(&mut buf[..most])
+    }
+}
+
 /// A writer that takes nothing.
 #[derive(Drop)]
 pub struct Closed;

@@ -1,8 +1,8 @@
-use Rattle.std.proofs.Common.{◌≡◌, ◌++◌, ◌∷◌, [], List, refl, sym, subst, arith, rules}
+use Rattle.std.proofs.Common.{◌≡◌, ◌++◌, ◌∷◌, [], List, take, refl, sym, subst, inl, inr, arith, rules}
 use Rattle.std.proofs.lemmas.Grind.{common_steps}
 use Rattle.osm_import.specs.declared.answer.Answer.{Answer}
-use Rattle.osm_import.specs.Runs.{AreOwn, IsNone, IsFault}
-use Rattle.osm_import.proofs.RunsLemmas.{run-imports, cause-wider, causes-push, runs-more, runs-step, runs-all, none-split, delivers-sound, own-push}
+use Rattle.osm_import.specs.Runs.{AreOwn, Runs, IsNone, IsFault}
+use Rattle.osm_import.proofs.RunsLemmas.{run-imports, cause-wider, causes-push, runs-more, runs-step, runs-all, none-split, delivers-sound, own-push, own-sound}
 use Rattle.osm_import.proofs.deliveries.deliver_all.Goals as goal
 
 pub loop-delivery-init : goal.loop-delivery-init
@@ -54,13 +54,19 @@ returns-clause-run g c = λ held holds honest is_open.
     runs-all (g.K.Keeper.holds c.loop-delivery.keeper) held c.args.deliveries.now c.loop-delivery.delivery-index c.loop-delivery.answers.items (omega arith) (c.loop-delivery.invariant.run held holds honest is_open)
 
 pub returns-clause-own : goal.returns-clause-own
-returns-clause-own g c = λ held holds honest is_open. c.loop-delivery.invariant.own held holds honest is_open
+returns-clause-own g c = λ held holds honest either. elim either [
+  | inl is_open ↦ c.loop-delivery.invariant.own held holds honest is_open
+  | inr sound ↦ own-sound c.loop-delivery.answers.items sound
+]
 
 pub returns-clause-unbroken : goal.returns-clause-unbroken
 returns-clause-unbroken g c = λ held holds honest sound.
     runs-all (g.K.Keeper.holds c.loop-delivery.keeper) held c.args.deliveries.now c.loop-delivery.delivery-index c.loop-delivery.answers.items (omega arith) (c.loop-delivery.invariant.unbroken held holds honest sound)
 
 pub returns-clause-one_file : goal.returns-clause-one_file
-returns-clause-one_file g c = λ held frames holds honest is_open whole of_files of_file.
-    let run = runs-all (g.K.Keeper.holds c.loop-delivery.keeper) held c.args.deliveries.now c.loop-delivery.delivery-index c.loop-delivery.answers.items (omega arith) (c.loop-delivery.invariant.run held holds honest is_open) in
+returns-clause-one_file g c = λ held frames holds honest whole of_files of_file either.
+    let inv = c.loop-delivery.invariant in
+    let so_far : Runs (g.K.Keeper.holds c.loop-delivery.keeper) held (take c.loop-delivery.delivery-index c.args.deliveries.now) c.loop-delivery.answers.items
+    = elim either [ inl is_open ↦ inv.run held holds honest is_open | inr sound ↦ inv.unbroken held holds honest sound ] in
+    let run = runs-all (g.K.Keeper.holds c.loop-delivery.keeper) held c.args.deliveries.now c.loop-delivery.delivery-index c.loop-delivery.answers.items (omega arith) so_far in
     (run.0, run-imports frames whole held c.args.deliveries.now c.loop-delivery.answers.items run.0 run.1 of_files of_file, run.2)

@@ -3,6 +3,6 @@ use Rattle.osm_import.proofs.laws.step_is_one.Goals as goal
 
 pub returns : goal.returns
 returns c = record {
-  some = λ say held off bytes. (let it = some-step say held off bytes in (it.answer, it.after, it.step, it.sound));
+  some = λ held off bytes. (let it = some-step held off bytes in (it.answer, it.after, it.step, it.sound));
   one = one-step;
 }

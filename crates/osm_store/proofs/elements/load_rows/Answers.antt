@@ -4,7 +4,7 @@ use Rattle.std.proofs.lemmas.List.Elements.{All-from_recursion}
 use Rattle.sqlite.specs.Held.{state}
 use Rattle.sqlite_tied.specs.Compute.{everything}
 use Rattle.sqlite_trees.proofs.ListLemmas.{map-map, all-map, all-filter}
-use Rattle.osm_store.specs.Holding.{IsBlob}
+use Rattle.osm_store.specs.LayoutHolding.{IsBlob}
 use Rattle.osm_store.specs.Keeping.{IsForeign}
 use Rattle.osm_store.proofs.PlacedLaws.{Entry, all_held}
 use Rattle.osm_store.specs.Rows.{Placed, IsStored, placed_in, is_in, block_row}

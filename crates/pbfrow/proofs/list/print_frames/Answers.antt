@@ -1,40 +1,41 @@
-use Rattle.std.proofs.Common.{◌≡◌, ◌∙◌, ap, sym, subst, drop, arith, Ok, Err}
+use Rattle.std.proofs.Common.{sym, subst}
 use Rattle.std.specs.Io.KnownBytes.{Appends}
-use Rattle.std.proofs.lemmas.List.{take_rest, length-drop}
-use Rattle.pbf_frame.specs.Frame.{frame_at}
-use Rattle.pbf_frame.specs.View.{found}
-use Rattle.pbf_frame.specs.Fault.{number_of, name_of}
+use Rattle.osm_import.specs.FrameReads.{Reading, GivesFrame, Halts}
+use Rattle.osm_import.specs.StopFaults.{stop_number_of, stop_name_of}
+use Rattle.osm_import.specs.declared.stream.fault.StreamFault.{StreamFault}
 use Rattle.pbfrow.specs.FaultLine.{fault_line}
-use Rattle.pbfrow.specs.Reading.{Listing}
-use Rattle.pbfrow.proofs.ListingSteps.{appends_none, text_more, whole_more, fault_end, listing_end}
+use Rattle.pbfrow.proofs.ListedInput.{Listed, listed-kept, listed-more, listed-stop, listed-nothing}
 use Rattle.pbfrow.proofs.list.print_frames.Goals as goal
-
-pub loop-at-preserved : goal.loop-at-preserved
-loop-at-preserved g c =
-    let w = c.args.bytes.now in
-    let e : frame_at (drop c.loop-at.at w) ≡ Ok (found c.in-Ok.frame) = rw take_rest at c.in-Ok.ensures.exact in
-    let lt = c.loop-at-test.true in
-    record {
-      within = omega (arith, c.in-Ok.ensures.within.1, length-drop c.loop-at.at w);
-      whole = sym (whole_more c.loop-at.at w (found c.in-Ok.frame) lt e) ∙ c.loop-at.invariant.whole;
-      text = λ final h. c.loop-at.invariant.text final (text_more (g.W.Write.contents c.loop-at.out) (g.W.Write.contents c.print_frame.new.out) final c.loop-at.at w (found c.in-Ok.frame) lt e c.in_ok-print_frame-in-Ok.ensures h);
-    }
 
 pub returns-in-Err : goal.returns-in-Err
 returns-in-Err g c =
-    let w = c.args.bytes.now in
-    let e : frame_at (drop c.loop-at.at w) ≡ Err c.in-Err.fault = rw take_rest at c.in-Err.ensures.exact in
-    let l = fault_end c.loop-at.at w c.in-Err.fault c.loop-at-test.true e in
-    let written : Appends (g.W.Write.contents c.loop-at.out) (g.W.Write.contents c.print_fault.new.out) (fault_line (number_of c.in-Err.fault) (name_of c.in-Err.fault) c.loop-at.at) =
-    rw (c.number.ensures, c.name.ensures) at c.in_ok-print_fault-in-Err.ensures in (
-      sym (ap (λ (x : Listing). x.whole) l) ∙ c.loop-at.invariant.whole,
-      c.loop-at.invariant.text (g.W.Write.contents c.print_fault.new.out) (subst (Appends (g.W.Write.contents c.loop-at.out) (g.W.Write.contents c.print_fault.new.out)) (sym (ap (λ (x : Listing). x.text) l)) written),
-    )
+    let old = g.W.Write.contents c.args.out.now in
+    let new = g.W.Write.contents c.print_stop.new.out in
+    listed-nothing (g.R.Read.remaining c.args.input.now) old new
+    (subst (λ (s : StreamFault). Appends old new (fault_line (stop_number_of s.fault) (stop_name_of s.fault) s.at)) c.in-Err.ensures.err c.in_ok-print_stop-in-Err.ensures)
 
-pub returns : goal.returns
-returns g c =
-    let w = c.args.bytes.now in
-    let l = listing_end c.loop-at.at w c.loop-at-test.false in (
-      sym (ap (λ (x : Listing). x.whole) l) ∙ c.loop-at.invariant.whole,
-      c.loop-at.invariant.text (g.W.Write.contents c.loop-at.out) (subst (Appends (g.W.Write.contents c.loop-at.out) (g.W.Write.contents c.loop-at.out)) (sym (ap (λ (x : Listing). x.text) l)) (appends_none (g.W.Write.contents c.loop-at.out))),
-    )
+pub loop-frames-preserved : goal.loop-frames-preserved
+loop-frames-preserved g c =
+    let left = g.R.Read.remaining c.args.input.now in
+    let was = c.flush_to_wait.new.frames in
+    let now = c.next.follows.lender-at-none in
+    let old = g.W.Write.contents c.args.out.now in
+    let mid = g.W.Write.contents c.flush_to_wait.new.out in
+    let frame = c.in_ok-frame_of-in-Ok-Some.field-0 in
+    let so_far : Listed left was old mid = subst (λ (r : Reading). Listed left r old mid) (sym c.flush_to_wait.ensures.frames)
+    (listed-kept left c.loop-frames.frames old (g.W.Write.contents c.loop-frames.out) mid c.loop-frames.invariant c.flush_to_wait.ensures.output) in
+    let gives : GivesFrame was now c.in-Ok-Some.at c.in-Ok-Some.bytes.now = rw (c.in-Ok-Some.is, c.in-Ok-Some.field-0-is) at c.next.follows.holds-at-none in
+    listed-more left was now c.in-Ok-Some.at c.in-Ok-Some.bytes.now old mid (g.W.Write.contents c.print_frame.new.out) so_far gives
+    (frame.type_name.now, frame.blob.now, c.in_ok-frame_of-in-Ok-Some.ensures, c.in_ok-print_frame-in-Ok-Some.ensures)
+
+pub returns-in-Err-next : goal.returns-in-Err-next
+returns-in-Err-next g c =
+    let left = g.R.Read.remaining c.args.input.now in
+    let was = c.flush_to_wait.new.frames in
+    let now = c.next.follows.lender-at-none in
+    let old = g.W.Write.contents c.args.out.now in
+    let mid = g.W.Write.contents c.flush_to_wait.new.out in
+    let so_far : Listed left was old mid = subst (λ (r : Reading). Listed left r old mid) (sym c.flush_to_wait.ensures.frames)
+    (listed-kept left c.loop-frames.frames old (g.W.Write.contents c.loop-frames.out) mid c.loop-frames.invariant c.flush_to_wait.ensures.output) in
+    let halts : Halts was now c.in-Err-next.stop = rw c.in-Err-next.is at c.next.follows.holds-at-none in
+    listed-stop left was now c.in-Err-next.stop old mid (g.W.Write.contents c.print_stop-in-Err-next.new.out) so_far halts c.in_ok-print_stop-in-Err-next.ensures

@@ -1,8 +1,6 @@
-use Rattle.std.proofs.Common.{length, ◌-◌, ◌≤◌}
+use Rattle.std.proofs.Common.{◌-◌}
 use Rattle.pbfrow.proofs.show.show_blobs.Given as goal
 
-abbrev pub invariant-loop-at : goal.invariant-loop-at
-invariant-loop-at g l = l.at ≤ length l.bytes
-
-abbrev pub decreases-loop-at : goal.decreases-loop-at
-decreases-loop-at g l = length l.bytes - l.at
+-- each frame ends at 2^62 at most
+abbrev pub decreases-loop-frames : goal.decreases-loop-frames
+decreases-loop-frames g l = 4611686018427387904 - l.frames.offset

@@ -3,9 +3,12 @@ use Rattle.osm_import.specs.Exports.{IsExport, size_of}
 use Rattle.osm_import.specs.Gaps.{Tiles}
 use Rattle.osm_store.specs.Keeping.{extents_of}
 use Rattle.std.proofs.Common.{Err}
-use Rattle.osm_import.proofs.ExportLemmas.{refusal-held, tiles-held, file-lines, exported, refused, unrefused-file}
+use Rattle.osm_import.proofs.ExportLemmas.{refusal-held, tiles-held, file-lines, exported, export-none, refused, unrefused-file}
 use Rattle.osm_import.proofs.export.lines.export_lines.Goals as goal
 use Rattle.osm_import.proofs.export.lines.export_lines.Goals.{then-not-partial+in_default, else-not-partial}
+
+pub returns-in-Err-clause-export : goal.returns-in-Err-clause-export
+returns-in-Err-clause-export g c = λ held holds honest. export-none held (size_of c.args.size (extents_of held)) c.args.partial (g.S.Sink.written c.args.out.now) c.in-Err.fault
 
 pub returns-in-Some-clause-export : goal.returns-in-Some-clause-export
 returns-in-Some-clause-export g c = λ held holds honest.

@@ -1,10 +1,11 @@
 use Rattle.std.proofs.Common.{◌≡◌, ◌<◌, ◌≤◌, ◌∙◌, ℕ, List, [], length, Result, refl, sym, ap, subst, arith}
 use Rattle.std.specs.Io.KnownBytes.{prepend_known}
 use Rattle.pbf_frame.specs.Framer.{Framing}
-use Rattle.osm_import.specs.Streams.{Streams, Takes, TakesOne, nothing_at, ended_at}
+use Rattle.osm_import.specs.Streams.{Streams, Takes, TakesOne, nothing_at, end_at, ended_at}
 use Rattle.osm_import.specs.declared.stream.fault.StreamFault.{StreamFault}
 use Rattle.osm_import.specs.declared.stream.fault.Stop.TheVariants.{ReadFailed, BlobLimit}
 use Rattle.osm_import.specs.declared.stream.summary.Summary.{Summary}
+use Rattle.osm_import.proofs.Begun.{no-frame-in-nothing}
 use Rattle.osm_import.proofs.FrameLemmas.{end-known}
 use Rattle.osm_import.proofs.StreamLemmas.{InStream, stream-more, stream-ends, stop-between, stream-stops, stream-begins, never-begun, stream-stays}
 use Rattle.osm_import.proofs.StreamTakes.{took-none, took-more}
@@ -32,7 +33,7 @@ loop-blobs-init g c =
 pub loop-blobs-preserved : goal.loop-blobs-preserved
 loop-blobs-preserved g c =
     let K = g.K.Keeper in
-    let one = rw c.in-Ok-Some.field-0-is at c.in-Ok-Some.ensures in
+    let one = rw c.in-Ok-Some.field-0-is at c.in-Ok-Some.ensures.step in
     stream-more c.args.from c.loop-blobs._blobs c.loop-blobs.framer c.import_frame.new.framer (g.R.Source.bytes_left c.args.reader.now)
     (prepend_known c.loop-blobs.piece (g.R.Source.bytes_left c.loop-blobs.reader)) (prepend_known c.import_frame.new.piece (g.R.Source.bytes_left c.import_frame.new.reader))
     (g.S.Sink.written c.args.out.now) (g.S.Sink.written c.loop-blobs.out) (g.S.Sink.written c.import_frame.new.out) c.loop-blobs.summary c.add.new.self
@@ -46,7 +47,7 @@ loop-blobs-preserved g c =
 pub returns-in-Ok-None : goal.returns-in-Ok-None
 returns-in-Ok-None g c =
     let K = g.K.Keeper in
-    let none = rw c.in-Ok-None.field-0-is at c.in-Ok-None.ensures in
+    let none = rw c.in-Ok-None.field-0-is at c.in-Ok-None.ensures.step in
     let before = g.R.Source.bytes_left c.args.reader.now in
     let left = g.R.Source.bytes_left c.import_frame.new.reader in
     let within : c.loop-blobs._blobs < c.args.max_blobs = omega arith in
@@ -71,10 +72,10 @@ returns-in-Err g c =
     (λ deliveries answers. Takes K.holds K.leaves K.leaves_a_map K.is_honest K.is_open K.failures c.args.keeper.now c.loop-blobs.keeper deliveries answers)
     (λ deliveries answers. Takes K.holds K.leaves K.leaves_a_map K.is_honest K.is_open K.failures c.args.keeper.now c.import_frame.new.keeper deliveries answers)
     (λ off bytes answer. TakesOne K.holds K.leaves K.leaves_a_map K.is_honest K.is_open K.failures c.loop-blobs.keeper c.import_frame.new.keeper off bytes answer)
-    (c.import_frame.new.keeper ≡ c.loop-blobs.keeper) c.in-Err.fault c.loop-blobs.invariant c.in-Err.ensures
+    (c.import_frame.new.keeper ≡ c.loop-blobs.keeper) c.in-Err.fault c.loop-blobs.invariant c.in-Err.ensures.step
     (λ ds rs same took. subst (λ (k : g.row.K.Denot). Takes K.holds K.leaves K.leaves_a_map K.is_honest K.is_open K.failures c.args.keeper.now k ds rs) (sym same) took)
     (λ ds rs off bytes a sound all step. took-more K.holds K.leaves K.leaves_a_map K.is_honest K.is_open K.failures g.met.K.Keeper.settled c.args.keeper.now c.loop-blobs.keeper c.import_frame.new.keeper ds rs off bytes a sound all step)
-    (omega arith)
+    (omega arith) c.in-Err.ensures.spent
 
 pub returns-in-Ok-true : goal.returns-in-Ok-true
 returns-in-Ok-true g c =
@@ -114,4 +115,4 @@ returns g c =
     (λ deliveries answers. Takes K.holds K.leaves K.leaves_a_map K.is_honest K.is_open K.failures c.args.keeper.now c.loop-blobs.keeper deliveries answers)
     (λ deliveries answers. Takes K.holds K.leaves K.leaves_a_map K.is_honest K.is_open K.failures c.args.keeper.now c.loop-blobs.keeper deliveries answers)
     (Unit {0}) ReadFailed [] c.loop-blobs.invariant c.in-Err-has_more.ensures.kept (λ ds rs same took. took) tt (omega arith)
-    (λ rs many here lines. (c.in-Err-has_more.ensures.failed, refl, lines))
+    (λ rs many here lines. (c.in-Err-has_more.ensures.failed, refl, lines, no-frame-in-nothing (end_at c.args.from rs) c.has_more.new.piece c.in-Err-has_more.ensures.empty))

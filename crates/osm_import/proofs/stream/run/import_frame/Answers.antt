@@ -1,19 +1,27 @@
-use Rattle.std.proofs.Common.{◌≡◌, List, ℕ, refl, subst, inl}
+use Rattle.std.proofs.Common.{◌≡◌, refl, subst, inl}
 use Rattle.std.specs.Io.KnownBytes.{Consumes, IsAtEnd, prepend_known}
 use Rattle.osm_import.specs.Streams.{TakesOne}
 use Rattle.osm_import.proofs.StreamLemmas.{at-end-unless-full}
-use Rattle.osm_import.proofs.FrameLemmas.{got-of, frame-stopped, same-rest, end-faulted, ended-empty, end-known}
+use Rattle.osm_import.proofs.FrameLemmas.{got-of, fill-stopped, frame-stopped, same-rest, end-faulted, ended-empty, end-known}
+use Rattle.osm_import.proofs.Begun.{begun-empty}
 use Rattle.osm_import.proofs.stream.run.import_frame.Goals as goal
 
-pub returns-in-Err-deliver_waiting : goal.returns-in-Err-deliver_waiting
-returns-in-Err-deliver_waiting g c =
+pub returns-in-Err-clause-step : goal.returns-in-Err-clause-step
+returns-in-Err-clause-step g c =
+    let before = prepend_known c.args.piece.now (g.R.Source.bytes_left c.args.reader.now) in
+    let after = prepend_known c.fill.new.piece (g.R.Source.bytes_left c.fill.new.reader) in
+    fill-stopped c.args.framer.now before after (g.S.Sink.written c.args.out.now) (g.R.Source.has_failed c.fill.new.reader) (g.S.Sink.has_failed c.args.out.now) (c.args.keeper.now ≡ c.args.keeper.now) (λ off bytes answer. TakesOne g.K.Keeper.holds g.K.Keeper.leaves g.K.Keeper.leaves_a_map g.K.Keeper.is_honest g.K.Keeper.is_open g.K.Keeper.failures c.args.keeper.now c.args.keeper.now off bytes answer) c.fill.new.framer c.in-Err.stop
+    (got-of c.args.framer.now c.fill.new.framer before after c.fill.ensures.moved c.requires) (c.fill.ensures.begun (begun-empty c.args.framer.now c.requires)) c.in-Err.ensures.unfilled c.in-Err.ensures.cause refl
+
+pub returns-in-Err-deliver_waiting-clause-step : goal.returns-in-Err-deliver_waiting-clause-step
+returns-in-Err-deliver_waiting-clause-step g c =
     let before = prepend_known c.args.piece.now (g.R.Source.bytes_left c.args.reader.now) in
     let after = prepend_known c.fill.new.piece (g.R.Source.bytes_left c.fill.new.reader) in
     frame-stopped c.args.framer.now before after (g.S.Sink.written c.args.out.now) (g.R.Source.has_failed c.fill.new.reader) (g.S.Sink.has_failed c.args.out.now) (c.deliver_waiting.new.keeper ≡ c.args.keeper.now) (λ off bytes answer. TakesOne g.K.Keeper.holds g.K.Keeper.leaves g.K.Keeper.leaves_a_map g.K.Keeper.is_honest g.K.Keeper.is_open g.K.Keeper.failures c.args.keeper.now c.deliver_waiting.new.keeper off bytes answer) c.fill.new.framer c.in-Err-deliver_waiting.fault
     (got-of c.args.framer.now c.fill.new.framer before after c.fill.ensures.moved c.requires) (inl c.in-Err-deliver_waiting.ensures.0) c.in-Err-deliver_waiting.ensures.1
 
-pub returns-in-Ok-end : goal.returns-in-Ok-end
-returns-in-Ok-end g c =
+pub returns-in-Ok-end-clause-step : goal.returns-in-Ok-end-clause-step
+returns-in-Ok-end-clause-step g c =
     let before = prepend_known c.args.piece.now (g.R.Source.bytes_left c.args.reader.now) in
     let after = prepend_known c.fill.new.piece (g.R.Source.bytes_left c.fill.new.reader) in
     let gave = rw c.in-Ok-None.field-0-is at c.in-Ok-None.ensures in
@@ -25,8 +33,8 @@ returns-in-Ok-end g c =
       gave.3,
     )
 
-pub returns-in-Err-end : goal.returns-in-Err-end
-returns-in-Err-end g c =
+pub returns-in-Err-end-clause-step : goal.returns-in-Err-end-clause-step
+returns-in-Err-end-clause-step g c =
     let before = prepend_known c.args.piece.now (g.R.Source.bytes_left c.args.reader.now) in
     let after = prepend_known c.fill.new.piece (g.R.Source.bytes_left c.fill.new.reader) in
     let gave = rw c.in-Ok-None.field-0-is at c.in-Ok-None.ensures in

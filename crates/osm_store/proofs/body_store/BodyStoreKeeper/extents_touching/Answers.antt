@@ -1,7 +1,7 @@
 use Rattle.std.proofs.lemmas.Result.{MatchResult-weaker}
 use Rattle.std.proofs.Common.{subst, sym}
 use Rattle.sqlite.specs.Held.{state}
-use Rattle.osm_store.specs.Holding.{Holds}
+use Rattle.osm_store.specs.LayoutHolding.{Holds}
 use Rattle.osm_store.specs.declared.layout.Layout.TheVariants.{Blocks}
 use Rattle.osm_store.specs.Store.{Store, JustReads}
 use Rattle.osm_store.proofs.ReadingLemmas.{just_reads, ok_of}

@@ -1,0 +1,169 @@
+//! The export as a PBF file.
+
+ghost use Rattle.std.specs.Prelude.{◌≡◌, ◌≢◌, ◌≤◌, ℕ, List, Some, length};
+ghost use Rattle.std.specs.FinMap.{get, entries};
+ghost use Rattle.pbf_frame.specs.declared.kind.Kind.TheVariants.{Other};
+ghost use Rattle.pbf_frame.specs.Write.{frame_bytes, type_name_of};
+ghost use Rattle.osm_store.specs.Held.{Blob, HeldMap};
+ghost use Rattle.osm_store.specs.Keeping.{Rereads, extents_of};
+ghost use Rattle.osm_import.specs.Gaps.{Tiles};
+ghost use Rattle.osm_import.specs.Files.{IsFile, IsHeldOfFile};
+ghost use Rattle.osm_import.specs.Exports.{WritesBlob, IsAskedFor, size_of};
+ghost use Rattle.osm_import.specs.ExportCauses.{ExportHasCause, ExportIsOwn, WriteHasCause};
+ghost use Rattle.osm_import.specs.Pbf.{header_frame, WritesBlocks, WritesFrames, WritesPbfFile, IsPbfExport};
+
+use super::ExportFault;
+use super::refusal::refused;
+use osm_store::{Extent, Keeper, StoreFault};
+use osm_value::{Element, Sink, put};
+use osm_write::{BlobCutter, WriteFault, encode_header};
+use pbf_frame::{Kind, write_frame};
+use std::alloc::Global;
+
+/// Writes the frame of this kind with this raw payload.
+fn write_payload<S: Sink>(
+    alloc: Global,
+    kind: Kind,
+    payload: &[u8],
+    out: &mut S,
+) -> Result<(), ExportFault>
+    requires known { kind ≢ Other }
+    requires small { length payload.now ≤ 33554431 }
+    ensures wrote { WritesBlob (S.written out.old) (frame_bytes (type_name_of kind) payload.now) (S.written out.new) result }
+    ensures cause { WriteHasCause (S.has_failed out.new) result }
+{
+    let mut frame = Vec::new(alloc);
+    match write_frame(kind, payload, &mut frame) {
+        Ok(()) => {}
+        Err(_) => return Err(ExportFault::Store(StoreFault::Memory)),
+    }
+    put(out, &frame);
+    if out.failed() {
+        return Err(ExportFault::WriteFailed);
+    }
+    Ok(())
+}
+
+/// Writes the header frame.
+fn write_header<S: Sink>(alloc: Global, out: &mut S) -> Result<(), ExportFault>
+    ensures wrote { WritesBlob (S.written out.old) header_frame (S.written out.new) result }
+    ensures cause { WriteHasCause (S.has_failed out.new) result }
+{
+    match encode_header(alloc, false) {
+        Ok(block) => write_payload(alloc, Kind::OsmHeader, &block, out),
+        Err(_) => Err(ExportFault::Store(StoreFault::Memory)),
+    }
+}
+
+/// Writes the frames of the blocks that these elements are cut into.
+fn write_blocks<S: Sink>(
+    alloc: Global,
+    elements: &[Element],
+    out: &mut S,
+) -> Result<(), ExportFault>
+    ensures wrote { WritesBlocks (S.written out.old) elements.now (S.written out.new) result }
+    ensures cause { WriteHasCause (S.has_failed out.new) result }
+{
+    let mut cutter = BlobCutter::new(alloc, elements);
+    loop {
+        let block = match cutter.next() {
+            Ok(Some(block)) => block,
+            Ok(None) => return Ok(()),
+            Err(WriteFault::BlockTooLarge) => return Err(ExportFault::BlockTooLarge),
+            Err(WriteFault::Memory) => return Err(ExportFault::Store(StoreFault::Memory)),
+        };
+        match write_payload(alloc, Kind::OsmData, &block, out) {
+            Ok(()) => {}
+            Err(fault) => return Err(fault),
+        }
+    }
+}
+
+/// Writes the frames of the blob at an offset.
+fn write_blob<K: Keeper, S: Sink>(
+    alloc: Global,
+    keeper: &mut K,
+    off: u64,
+    out: &mut S,
+) -> Result<(), ExportFault>
+    ensures wrote { (held : HeldMap) (blob : Blob) → K.holds keeper.old held → K.is_honest keeper.new → get held off ≡ Some blob
+        → WritesBlocks (S.written out.old) blob.elements (S.written out.new) result }
+    ensures rereads { Rereads K.holds K.leaves K.leaves_a_map K.is_honest K.is_open keeper.old result keeper.new }
+    ensures own { (held : HeldMap) → K.holds keeper.old held → K.is_honest keeper.new → ExportIsOwn result }
+    ensures cause { ExportHasCause (K.failures keeper.old) (K.failures keeper.new) (S.has_failed out.new) result }
+    ensures counted { K.failures keeper.old ≤ K.failures keeper.new }
+{
+    let loaded = match keeper.load(alloc, off) {
+        Ok(loaded) => loaded,
+        Err(fault) => return Err(ExportFault::Store(fault)),
+    };
+    match loaded.elements(alloc) {
+        Ok(elements) => write_blocks(alloc, &elements, out),
+        Err(_) => Err(ExportFault::Store(StoreFault::Memory)),
+    }
+}
+
+/// Writes the frames of the blobs at these extents.
+fn write_blobs<K: Keeper, S: Sink>(
+    alloc: Global,
+    keeper: &mut K,
+    extents: &[Extent],
+    out: &mut S,
+) -> Result<(), ExportFault>
+    ensures wrote { (held : HeldMap) → K.holds keeper.old held → K.is_honest keeper.new → extents.now ≡ extents_of held
+        → WritesFrames (S.written out.old) (entries held) (S.written out.new) result }
+    ensures rereads { Rereads K.holds K.leaves K.leaves_a_map K.is_honest K.is_open keeper.old result keeper.new }
+    ensures own { (held : HeldMap) → K.holds keeper.old held → K.is_honest keeper.new → ExportIsOwn result }
+    ensures cause { ExportHasCause (K.failures keeper.old) (K.failures keeper.new) (S.has_failed out.new) result }
+    ensures counted { K.failures keeper.old ≤ K.failures keeper.new }
+{
+    for extent in extents {
+        match write_blob(alloc, keeper, extent.off, out) {
+            Ok(()) => {}
+            Err(fault) => return Err(fault),
+        }
+    }
+    Ok(())
+}
+
+/// Writes all held elements as a PBF file: a header frame, and then, for each held blob by offset, the frames of the
+/// blocks that `BlobCutter` gives for its elements. What is held stays.
+///
+/// It is refused as `export_lines` is, before any byte; unless `partial`, a map that doesn't tile the size gets no byte before
+/// `Store` either. `BlockTooLarge` comes where halving a blob's elements comes to one whose block alone is too large: the
+/// frames before that element went out. After `WriteFailed` and `Store` a front of what was to be written.
+///
+/// Over a map that tiles a file and holds the entries of that file alone it isn't refused, with the file's size or with
+/// none, and at `Ok` it has written a file: one of the same elements, in the same order, where that is 2^62 bytes at most.
+pub fn export_pbf<K: Keeper, S: Sink>(
+    alloc: Global,
+    keeper: &mut K,
+    size: Option<u64>,
+    partial: bool,
+    out: &mut S,
+) -> Result<(), ExportFault>
+    ensures export { (held : HeldMap) → K.holds keeper.old held → K.is_honest keeper.new
+        → IsPbfExport held (size_of size (extents_of held)) partial (S.written out.old) (S.written out.new) result }
+
+    // Over a map that tiles a file, with its size or with none, it isn't refused, and writes a file of the same elements.
+    ensures one_file { (held : HeldMap) (file : List ℕ) (frames : List (List ℕ)) → K.holds keeper.old held → K.is_honest keeper.new
+        → IsFile file frames → IsHeldOfFile frames held → Tiles held (length file) → IsAskedFor size (length file) → WritesPbfFile frames (S.written out.old) (S.written out.new) result }
+
+    ensures rereads { Rereads K.holds K.leaves K.leaves_a_map K.is_honest K.is_open keeper.old result keeper.new }
+    ensures own { (held : HeldMap) → K.holds keeper.old held → K.is_honest keeper.new → ExportIsOwn result }
+    ensures cause { ExportHasCause (K.failures keeper.old) (K.failures keeper.new) (S.has_failed out.new) result }
+{
+    let extents = match keeper.extents(alloc) {
+        Ok(extents) => extents,
+        Err(fault) => return Err(ExportFault::Store(fault)),
+    };
+    if !partial {
+        if let Some(fault) = refused(&extents, size) {
+            return Err(fault);
+        }
+    }
+    match write_header(alloc, out) {
+        Ok(()) => write_blobs(alloc, keeper, &extents, out),
+        Err(fault) => Err(fault),
+    }
+}

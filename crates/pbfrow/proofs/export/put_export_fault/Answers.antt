@@ -1,0 +1,22 @@
+use Rattle.std.proofs.Common.{List, ℕ, [], Err, refl, sym, subst}
+use Rattle.osm_value.specs.Sink.{Wrote}
+use Rattle.osm_value.proofs.SinkLemmas.{started}
+use Rattle.osm_import.specs.declared.export.fault.ExportFault.{ExportFault}
+use Rattle.pbfrow.specs.CommandLines.{plain_fault_line}
+use Rattle.pbfrow.specs.Exporting.{EndsExport, export_name_of}
+use Rattle.pbfrow.proofs.ExportLemmas.{ends-export}
+use Rattle.pbfrow.proofs.export.put_export_fault.Goals as goal
+
+pub returns-in-WriteFailed : goal.returns-in-WriteFailed
+returns-in-WriteFailed g c =
+    let written = g.S.Sink.written c.args.out.now in
+    subst (λ (fault : ExportFault). EndsExport written written (g.S.Sink.has_failed c.args.out.now) 1 (Err fault)) (sym c.in-WriteFailed.is) (refl, refl)
+
+pub returns-in_default : goal.returns-in_default
+returns-in_default g c =
+    let start = g.S.Sink.written c.args.out.now in
+    let written = g.S.Sink.written c.put_plain_fault.new.out in
+    let failed = g.S.Sink.has_failed c.put_plain_fault.new.out in
+    ends-export start written failed c.args.fault c.in_default.not-WriteFailed
+    (subst (λ n. Wrote start (plain_fault_line n (export_name_of c.args.fault)) written failed) c.number_of.ensures
+    (subst (λ (name : List ℕ). Wrote start (plain_fault_line c.number_of.result name) written failed) c.name_of.ensures (c.put_plain_fault.ensures start [] (started _ _))))

@@ -1,0 +1,198 @@
+//! Tests of `status`, `export` and `find`.
+
+use super::stores::{expect_import, import_four_blobs, import_two_nodes, new_store};
+use super::support::{Closed, TWO_NODES};
+use crate::export::export;
+use crate::find::find;
+use crate::status::status;
+use crate::words::Form;
+use osm_store::BodyStore;
+use osm_value::{MemberKind, Outlet};
+use sqlite::Alter;
+use std::alloc::Global;
+use std::io::Cursor;
+use std::process::Abort;
+use std::test::*;
+
+const BOTH_NODES: &[u8] = b"n 1 1000 -100 [] {}\nn 2 900 -100 [] {}\n";
+
+fn expect_status<A: Alter>(
+    rt: &(impl Abort + Alloc<A = Global>),
+    store: &mut BodyStore<A>,
+    size: Option<u64>,
+    text: &[u8],
+) {
+    let mut out = Outlet::new(Vec::new(rt.alloc()));
+    assert_eq!(rt; status(rt.alloc(), store, size, &mut out), 0);
+    assert!(rt; out.into_inner().as_slice() == text);
+}
+
+fn expect_lines<A: Alter>(
+    rt: &(impl Abort + Alloc<A = Global>),
+    store: &mut BodyStore<A>,
+    size: Option<u64>,
+    partial: bool,
+    ended: u8,
+    text: &[u8],
+) {
+    let mut out = Outlet::new(Vec::new(rt.alloc()));
+    assert_eq!(rt;
+        export(rt.alloc(), store, size, partial, Form::Lines, &mut out),
+        ended
+    );
+    assert!(rt; out.into_inner().as_slice() == text);
+}
+
+fn expect_found<A: Alter>(
+    rt: &(impl Abort + Alloc<A = Global>),
+    store: &mut BodyStore<A>,
+    kind: MemberKind,
+    id: i64,
+    text: &[u8],
+) {
+    let mut out = Outlet::new(Vec::new(rt.alloc()));
+    assert_eq!(rt; find(rt.alloc(), store, kind, id, &mut out), 0);
+    assert!(rt; out.into_inner().as_slice() == text);
+}
+
+#[test]
+fn status_of_a_whole_file(rt: HostRuntime) -> Result<(), Fail> {
+    let mut store = new_store(rt.alloc()).ok_or("a store")?;
+    import_two_nodes(&rt, &mut store);
+    expect_status(&rt, &mut store, None, b"blobs 2 end 84 gaps 0\n");
+    expect_status(&rt, &mut store, Some(83), b"blobs 2 end 84 gaps 0\n");
+    expect_status(
+        &rt,
+        &mut store,
+        Some(85),
+        b"gap 84 85\nblobs 2 end 84 gaps 1\n",
+    );
+    Ok(())
+}
+
+#[test]
+fn status_of_a_new_store(rt: HostRuntime) -> Result<(), Fail> {
+    let mut store = new_store(rt.alloc()).ok_or("a store")?;
+    expect_status(&rt, &mut store, None, b"blobs 0 end 0 gaps 0\n");
+    expect_status(
+        &rt,
+        &mut store,
+        Some(10),
+        b"gap 0 10\nblobs 0 end 0 gaps 1\n",
+    );
+    Ok(())
+}
+
+#[test]
+fn a_gap_is_told_and_refuses_an_export(rt: HostRuntime) -> Result<(), Fail> {
+    let mut store = new_store(rt.alloc()).ok_or("a store")?;
+    expect_import(
+        &rt,
+        &mut store,
+        Cursor::new(&TWO_NODES[..]),
+        47,
+        0,
+        b"47 stored 2\nblobs stored 1 held 0 bad 0 refused 0\n",
+    );
+    expect_status(&rt, &mut store, None, b"gap 0 47\nblobs 1 end 84 gaps 1\n");
+    expect_lines(&rt, &mut store, None, false, 1, b"fault 67 Incomplete\n");
+    expect_lines(&rt, &mut store, None, true, 0, BOTH_NODES);
+    Ok(())
+}
+
+#[test]
+fn exports_lines(rt: HostRuntime) -> Result<(), Fail> {
+    let mut store = new_store(rt.alloc()).ok_or("a store")?;
+    import_two_nodes(&rt, &mut store);
+    expect_lines(&rt, &mut store, None, false, 0, BOTH_NODES);
+    expect_lines(&rt, &mut store, Some(84), false, 0, BOTH_NODES);
+    expect_lines(&rt, &mut store, Some(83), false, 1, b"fault 70 PastEnd\n");
+    expect_lines(
+        &rt,
+        &mut store,
+        Some(85),
+        false,
+        1,
+        b"fault 67 Incomplete\n",
+    );
+    expect_lines(&rt, &mut store, Some(83), true, 0, BOTH_NODES);
+    Ok(())
+}
+
+#[test]
+fn exports_of_a_new_store(rt: HostRuntime) -> Result<(), Fail> {
+    let mut store = new_store(rt.alloc()).ok_or("a store")?;
+    expect_lines(&rt, &mut store, None, false, 1, b"fault 67 Incomplete\n");
+    expect_lines(&rt, &mut store, None, true, 0, b"");
+    Ok(())
+}
+
+#[test]
+fn finds_elements(rt: HostRuntime) -> Result<(), Fail> {
+    let mut store = new_store(rt.alloc()).ok_or("a store")?;
+    import_two_nodes(&rt, &mut store);
+    expect_found(
+        &rt,
+        &mut store,
+        MemberKind::Node,
+        2,
+        b"47 1 n 2 900 -100 [] {}\n",
+    );
+    expect_found(&rt, &mut store, MemberKind::Way, 2, b"");
+    Ok(())
+}
+
+#[test]
+fn finds_an_element_in_two_blobs(rt: HostRuntime) -> Result<(), Fail> {
+    let mut store = new_store(rt.alloc()).ok_or("a store")?;
+    import_four_blobs(&rt, &mut store)?;
+    expect_found(
+        &rt,
+        &mut store,
+        MemberKind::Node,
+        1,
+        b"47 0 n 1 1000 -100 [] {}\n100 0 n 1 1000 -100 [] {}\n",
+    );
+    expect_status(&rt, &mut store, None, b"blobs 4 end 137 gaps 0\n");
+    expect_lines(
+        &rt,
+        &mut store,
+        None,
+        false,
+        0,
+        b"n 1 1000 -100 [] {}\nn 2 900 -100 [] {}\nn 1 1000 -100 [] {}\nn 2 900 -100 [] {}\n",
+    );
+    Ok(())
+}
+
+#[test]
+fn a_write_that_fails_ends_with_1(rt: HostRuntime) -> Result<(), Fail> {
+    let mut store = new_store(rt.alloc()).ok_or("a store")?;
+    import_two_nodes(&rt, &mut store);
+    assert_eq!(rt;
+        status(rt.alloc(), &mut store, None, &mut Outlet::new(Closed)),
+        1
+    );
+    assert_eq!(rt;
+        find(
+            rt.alloc(),
+            &mut store,
+            MemberKind::Node,
+            2,
+            &mut Outlet::new(Closed)
+        ),
+        1
+    );
+    assert_eq!(rt;
+        export(
+            rt.alloc(),
+            &mut store,
+            None,
+            false,
+            Form::Lines,
+            &mut Outlet::new(Closed)
+        ),
+        1
+    );
+    Ok(())
+}
