@@ -1,6 +1,6 @@
 //! Elements, read from the rows of numbers and texts of one table and the next.
 
-ghost use Rattle.std.specs.Prelude.{◌≡◌, ◌++◌, ◌<◌, ℕ, List, length, [], map, All, Some, true, false, IfOk, IsSomeAnd, IfSome};
+ghost use Rattle.std.specs.Prelude.{◌≡◌, ◌++◌, ◌<◌, ℕ, List, length, [], map, All, Some, true, false, IfOk, IfErr, IsSomeAnd, IfSome};
 ghost use Rattle.std.specs.List.{AllByRecursion};
 ghost use Rattle.sqlite.specs.declared.types.Value.TheVariants.{Null};
 ghost use Rattle.sqlite.specs.Order.{Row as SqlRow, column};
@@ -16,6 +16,7 @@ ghost use Rattle.osm_store.specs.Rows.{Placed};
 use crate::column_parts::{info_of, member_of, tag_of};
 use crate::column_reads::ColumnRows;
 use crate::column_values::{is_null_at, kind_at, place_of, wide_at};
+use crate::fault::StoreFault;
 use osm_value::{Element, Member, MemberKind, Node, Relation, Way};
 use sqlite::Row;
 use std::alloc::{AllocError, Global};
@@ -220,5 +221,36 @@ impl ColumnRows {
         } else {
             Ok(None)
         }
+    }
+
+    /// Whether each row is of an element.
+    pub(crate) fn check(&self, alloc: Global) -> Result<(), StoreFault>
+        ensures { (placed : List Placed) → AreRowsOf self.now placed → IfErr result (λ fault. fault ≡ StoreFault.Memory) }
+    {
+        match self.placed(alloc)? {
+            Some(_) => Ok(()),
+            None => Err(StoreFault::NotThisStore(None)),
+        }
+    }
+
+    /// The elements, each after its place; none where a row is of no element.
+    pub(crate) fn matches(&self, alloc: Global) -> Result<Vec<(u64, u64, Element<'_>)>, AllocError>
+        ensures { (placed : List Placed) → AreRowsOf self.now placed → IfOk result (λ found. found.items ≡ placed) }
+    {
+        match self.placed(alloc)? {
+            Some(elements) => Ok(elements),
+            None => Ok(Vec::new(alloc)),
+        }
+    }
+
+    /// The elements alone.
+    pub(crate) fn elements(&self, alloc: Global) -> Result<Vec<Element<'_>>, AllocError>
+        ensures { (placed : List Placed) → AreRowsOf self.now placed → IfOk result (λ found. found.items ≡ map (λ p. p.2) placed) }
+    {
+        let mut elements = Vec::new(alloc);
+        for found in self.matches(alloc)? {
+            elements.push(found.2)?;
+        }
+        Ok(elements)
     }
 }

@@ -17,7 +17,7 @@ use crate::sql::{SELECT_ELEMENTS, SELECT_LINKS, SELECT_TAGS};
 use sqlite::{Alter, Connection, Row};
 
 /// The rows of some elements, and those of their tags and links, by offset, position and number.
-#[derive(Drop)]
+#[derive(Debug, Drop)]
 pub(crate) struct ColumnRows {
     pub(crate) elements: Vec<Row>,
     pub(crate) tags: Vec<Row>,

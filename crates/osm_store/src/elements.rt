@@ -14,9 +14,9 @@ ghost use Rattle.osm_store.specs.Rows.{is_of, placed_in};
 
 use crate::answer::{answer, integer, number};
 use crate::fault::StoreFault;
-use crate::found::Found;
+use crate::found::{Found, FoundBlocks, FoundRows};
 use crate::layout::Layout;
-use crate::loaded::Loaded;
+use crate::loaded::{Loaded, LoadedBlocks, LoadedRows};
 use crate::rows::element_code;
 use crate::sql::{SELECT_ELEMENT, SELECT_ROWS};
 use osm_value::MemberKind;
@@ -37,14 +37,19 @@ pub(crate) fn load_rows<S: Alter>(
     ensures asks { JustAsks (state S.Store connection.old) (state S.Store connection.new) }
 {
     if off >= OFFSET_LIMIT {
-        return Ok(Loaded {
+        let blocks = LoadedBlocks {
             rows: Vec::new(alloc),
+        };
+        return Ok(Loaded {
+            rows: LoadedRows::Blocks(blocks),
         });
     }
     let rows = answer(connection, SELECT_ROWS, &[number(off)])?;
-    let loaded = Loaded { rows };
-    match loaded.check(alloc) {
-        Ok(()) => Ok(loaded),
+    let blocks = LoadedBlocks { rows };
+    match blocks.check(alloc) {
+        Ok(()) => Ok(Loaded {
+            rows: LoadedRows::Blocks(blocks),
+        }),
         Err(fault) => Err(fault),
     }
 }
@@ -62,9 +67,11 @@ pub(crate) fn find_rows<S: Alter>(
 {
     let code = u64::from(element_code(kind));
     let rows = answer(connection, SELECT_ELEMENT, &[number(code), integer(id)])?;
-    let found = Found { rows };
-    match found.check(alloc) {
-        Ok(()) => Ok(found),
+    let blocks = FoundBlocks { rows };
+    match blocks.check(alloc) {
+        Ok(()) => Ok(Found {
+            rows: FoundRows::Blocks(blocks),
+        }),
         Err(fault) => Err(fault),
     }
 }

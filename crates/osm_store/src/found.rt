@@ -3,9 +3,10 @@
 ghost use Rattle.std.specs.Prelude.{◌≡◌, ◌<◌, ℕ, pos, List, length, Some, IfOk, IfErr};
 ghost use Rattle.sqlite.specs.declared.types.Value.TheVariants.{Int};
 ghost use Rattle.sqlite.specs.Order.{column};
-ghost use Rattle.osm_store.specs.Finding.{AreMatches};
+ghost use Rattle.osm_store.specs.Finding.{AreMatches, AreBlockMatches};
 ghost use Rattle.osm_store.specs.Rows.{Placed, found_row, IsStored};
 
+use crate::column_reads::ColumnRows;
 use crate::fault::StoreFault;
 use crate::layout::Layout;
 use crate::loaded::element_at;
@@ -14,10 +15,10 @@ use sqlite::Row;
 use sqlite::types::ValueRef;
 use std::alloc::{AllocError, Global};
 
-/// The rows of the elements of one kind and id, each with its place and its block.
+/// The rows of the elements of one kind and id.
 #[derive(Debug, Drop)]
 pub struct Found {
-    pub(crate) rows: Vec<Row>,
+    pub(crate) rows: FoundRows,
 }
 
 impl Found {
@@ -25,6 +26,31 @@ impl Found {
     /// Their texts lie in the rows.
     pub fn matches(&self, alloc: Global) -> Result<Vec<(u64, u64, Element<'_>)>, AllocError>
         ensures { (matches : List Placed) → AreMatches self.now matches → IfOk result (λ found. found.items ≡ matches) }
+    {
+        match &self.rows {
+            FoundRows::Blocks(blocks) => blocks.matches(alloc),
+            FoundRows::Columns(columns) => columns.matches(alloc),
+        }
+    }
+}
+
+/// The rows of the elements of one kind and id, as their store keeps elements.
+#[derive(Debug, Drop)]
+pub(crate) enum FoundRows {
+    Blocks(FoundBlocks),
+    Columns(ColumnRows),
+}
+
+/// The rows of the elements of one kind and id, each with its place and its block.
+#[derive(Debug, Drop)]
+pub(crate) struct FoundBlocks {
+    pub(crate) rows: Vec<Row>,
+}
+
+impl FoundBlocks {
+    /// The elements, each after its place.
+    fn matches(&self, alloc: Global) -> Result<Vec<(u64, u64, Element<'_>)>, AllocError>
+        ensures { (matches : List Placed) → AreBlockMatches self.now matches → IfOk result (λ found. found.items ≡ matches) }
     {
         let mut matches = Vec::new(alloc);
         for row in &self.rows {
@@ -37,7 +63,7 @@ impl Found {
 
     /// Whether each row has a place and the block of one element.
     pub(crate) fn check(&self, alloc: Global) -> Result<(), StoreFault>
-        ensures { (matches : List Placed) → AreMatches self.now matches → IfErr result (λ fault. fault ≡ StoreFault.Memory) }
+        ensures { (matches : List Placed) → AreBlockMatches self.now matches → IfErr result (λ fault. fault ≡ StoreFault.Memory) }
     {
         for row in &self.rows {
             if match_at(alloc, row)?.is_none() {

@@ -26,7 +26,7 @@ returns-in-Ok-clause-held g c clean held holds =
     let id : owned c.integer.result ≡ Int c.args.id = c.integer.ensures ∙ ap Int (to_z-of_z w64 c.args.id c.ranges.id) in
     let shown = rw (c.number.ensures, c.from-code.ensures, c.element_code.ensures, id) at answered.shown in
     let read = element_read old (state g.S.Store c.answer.new.connection) _ (placed_in held) (has_elements old.now held holds.schema holds.tables) c.args.kind c.args.id shown in
-    (record { rows = read; stored = All-from_recursion _ _ (all-filter _ (is_of c.args.kind c.args.id) (placed_in held) (all_stored Blocks held holds.kept)) }, answered.is_open)
+    (record { rows = record { rows = read; stored = All-from_recursion _ _ (all-filter _ (is_of c.args.kind c.args.id) (placed_in held) (all_stored Blocks held holds.kept)) } }, answered.is_open)
 
 pub returns-in-Err-clause-held : goal.returns-in-Err-clause-held
 returns-in-Err-clause-held g c clean held holds foreign =

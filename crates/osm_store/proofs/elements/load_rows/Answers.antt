@@ -35,8 +35,10 @@ returns-in-Ok-clause-held g c clean held holds =
     let read = rows_read old (state g.S.Store c.answer.new.connection) _ (placed_in held) (has_elements old.now held holds.schema holds.tables) c.args.off shown in
     let blocks = read ∙ sym (map-map block_row (λ (p : Placed). p.2) (filter (is_in c.args.off) (placed_in held))) in (
       λ blob is. record {
-        rows = blocks ∙ ap (map block_row) (elements_at held c.args.off blob is);
-        stored = blob_stored Blocks blob (all_held (λ (entry : Entry). IsBlob Blocks entry.1) held c.args.off blob holds.kept.blobs is);
+        rows = record {
+          rows = blocks ∙ ap (map block_row) (elements_at held c.args.off blob is);
+          stored = blob_stored Blocks blob (all_held (λ (entry : Entry). IsBlob Blocks entry.1) held c.args.off blob holds.kept.blobs is);
+        };
       },
       answered.is_open,
     )

@@ -3,7 +3,7 @@ use Rattle.osm_store.specs.declared.layout.Layout.TheVariants.{Blocks}
 use Rattle.osm_store.specs.Rows.{Placed, IsStored, found_row}
 use Rattle.osm_store.proofs.RowLemmas.{row_at}
 use Rattle.osm_store.proofs.StoredRows.{not_none}
-use Rattle.osm_store.proofs.found.Found.check.Goals as goal
+use Rattle.osm_store.proofs.found.FoundBlocks.check.Goals as goal
 
 pub returns-then-is_none : goal.returns-then-is_none
 returns-then-is_none c matches h =

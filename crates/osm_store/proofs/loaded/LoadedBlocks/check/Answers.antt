@@ -4,7 +4,7 @@ use Rattle.osm_store.specs.declared.layout.Layout.TheVariants.{Blocks}
 use Rattle.osm_store.specs.Rows.{IsStored, block_row}
 use Rattle.osm_store.proofs.RowLemmas.{row_at}
 use Rattle.osm_store.proofs.StoredRows.{not_none}
-use Rattle.osm_store.proofs.loaded.Loaded.check.Goals as goal
+use Rattle.osm_store.proofs.loaded.LoadedBlocks.check.Goals as goal
 
 pub returns-then-is_none : goal.returns-then-is_none
 returns-then-is_none c elements h =

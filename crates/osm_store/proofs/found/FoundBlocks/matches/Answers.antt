@@ -3,8 +3,8 @@ use Rattle.osm_store.specs.declared.layout.Layout.TheVariants.{Blocks}
 use Rattle.osm_store.specs.Rows.{Placed, IsStored, found_row}
 use Rattle.osm_store.proofs.RowLemmas.{row_at}
 use Rattle.osm_store.proofs.StoredRows.{some_is, some_or_none, all_taken}
-use Rattle.osm_store.proofs.found.Found.matches.Goals as goal
-use Rattle.osm_store.proofs.found.Found.matches.Goals.{in-Some+in_ok-push, in_default}
+use Rattle.osm_store.proofs.found.FoundBlocks.matches.Goals as goal
+use Rattle.osm_store.proofs.found.FoundBlocks.matches.Goals.{in-Some+in_ok-push, in_default}
 
 pub loop-row-preserved : goal.loop-row-preserved
 loop-row-preserved c = record {
