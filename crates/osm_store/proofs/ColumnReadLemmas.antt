@@ -19,6 +19,7 @@ use Rattle.osm_value.specs.Elements.{tags_of_element}
 use Rattle.osm_store.specs.ColumnTables.{column_schema}
 use Rattle.osm_store.specs.ColumnReads.{select_elements_text, select_tags_text, select_links_text, select_found_text, select_its_tags_text, select_its_links_text}
 use Rattle.osm_store.specs.Rows.{Placed, element_code, kind_of, id_of, is_in, is_of}
+use Rattle.osm_store.specs.ColumnFinding.{is_part_at}
 use Rattle.osm_store.specs.ColumnRows.{Part, element_row, tags_at, tag_row, links_at, links_of, link_row}
 use Rattle.osm_store.proofs.TableReads.{answer_is}
 use Rattle.osm_store.proofs.CompareLemmas.{same_number, same_int}
@@ -45,12 +46,9 @@ pub record HasColumns (db : Database) (held : List Placed) : Type 0 where
   pub links : IsPermutation (map (columns_at six_places) (db.trees 6)) (map link_row (flat_map links_at held))
   pub ascending : IsAscending IsBefore held
 
--- a part of an element in the blob at this offset, and one of the element at this place
+-- a part of an element in the blob at this offset
 abbrev pub is_part_in : {A : Type 0} → ℕ → Part A → Bool
 is_part_in off x = x.off == off
-
-abbrev pub is_part_at : {A : Type 0} → ℕ → ℕ → Part A → Bool
-is_part_at off position x = (x.off == off) && (x.position == position)
 
 -- parts in the order of a query
 parts_in_order : {A : Type 0} (x y : Part A) → IsPartBefore x y

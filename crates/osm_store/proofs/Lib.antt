@@ -32,6 +32,7 @@ pub mod PartLaws
 pub mod ElementRows
 pub mod ElementsMade
 pub mod ElementKinds
+pub mod ColumnFindLemmas
 pub mod StoredElements
 pub mod SameElements
 pub mod OneElement

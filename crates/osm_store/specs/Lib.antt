@@ -11,6 +11,7 @@ pub mod ColumnExamples
 pub mod WrittenRows
 pub mod ColumnReads
 pub mod ColumnElements
+pub mod ColumnFinding
 pub mod ColumnLoading
 pub mod Steps
 pub mod Faults

@@ -4,6 +4,7 @@
 mod answer;
 mod body_store;
 mod column_elements;
+mod column_finds;
 mod column_parts;
 mod column_reads;
 mod column_rows;

@@ -63,3 +63,12 @@ pub(crate) const SELECT_TAGS: &str =
 
 pub(crate) const SELECT_LINKS: &str =
     "SELECT off, pos, k, kind, ref, role FROM link WHERE off = ?1 ORDER BY off, pos, k";
+
+pub(crate) const SELECT_FOUND: &str =
+    "SELECT off, pos, kind, id, lat, lon, version, time, changeset, uid, user, visible FROM element WHERE kind = ?1 AND id = ?2 ORDER BY off, pos";
+
+pub(crate) const SELECT_ITS_TAGS: &str =
+    "SELECT off, pos, k, key, val FROM tag WHERE off = ?1 AND pos = ?2 ORDER BY off, pos, k";
+
+pub(crate) const SELECT_ITS_LINKS: &str =
+    "SELECT off, pos, k, kind, ref, role FROM link WHERE off = ?1 AND pos = ?2 ORDER BY off, pos, k";
