@@ -1,5 +1,5 @@
 -- The rows of one element and those of the elements after it.
-use Rattle.std.proofs.Common.{◌≡◌, ℕ, zero, suc, ◌+◌, ◌<◌, ◌≤◌, List, [], ◌∷◌, ◌++◌, length, map, drop, All, refl, sym, ap, subst, ◌∙◌, arith}
+use Rattle.std.proofs.Common.{◌≡◌, ℕ, zero, suc, ◌+◌, ◌≤◌, List, [], ◌∷◌, ◌++◌, length, map, drop, All, refl, sym, ap, subst, ◌∙◌, arith}
 use Rattle.std.specs.Prelude.{flat_map}
 use Rattle.std.specs.List.{AllByRecursion}
 use Rattle.std.proofs.lemmas.List.{map-append, length-map, drop_all}
@@ -10,7 +10,7 @@ use Rattle.sqlite_trees.proofs.ListLemmas.{all_weaker, all-map}
 use Rattle.osm_value.specs.Elements.{tags_of_element}
 use Rattle.osm_value.specs.Value.{Text, MemberValue}
 use Rattle.osm_store.specs.Rows.{Placed, IsBefore}
-use Rattle.osm_store.specs.ColumnRows.{Part, parts, tags_at, tag_row, tag_rows, links_of, links_at, link_row, link_rows}
+use Rattle.osm_store.specs.ColumnRows.{Part, tags_at, tag_row, tag_rows, links_of, links_at, link_row, link_rows}
 use Rattle.osm_store.specs.ColumnElements.{StandsAt, StandsApart}
 use Rattle.osm_store.proofs.PartLaws.{IsAt, none_of, parts_own, parts_apart, parts_in}
 

@@ -84,7 +84,7 @@ digests layout es all = All-from_recursion _ _ (all-map (λ (extent : Extent). l
 pub digests_of : (layout : Layout) (held : HeldMap) → IsKept layout held → All (λ (extent : Extent). length extent.digest ≡ 32) (extents_of held)
 digests_of layout held kept = digests layout (entries held) kept.blobs
 
-elements_of : (off position : ℕ) (es : List Element) → map (λ (p : Placed). p.2) (placed off position es) ≡ es
+pub elements_of : (off position : ℕ) (es : List Element) → map (λ (p : Placed). p.2) (placed off position es) ≡ es
 elements_of off position [] = refl
 elements_of off position (e ∷ es) = ap (λ l. e ∷ l) (elements_of off (position + 1) es)
 

@@ -1,5 +1,5 @@
 -- What each query of a store reads.
-use Rattle.std.proofs.Common.{◌≡◌, ◌⊎◌, inl, inr, ℕ, ℤ, pos, ◌<◌, Bool, true, false, ◌&&◌, nat_lt, nat_le, ◌==◌, List, [], ◌∷◌, length, map, take, refl, sym, ap, ap₂, subst, ◌∙◌, ◌≤◌, arith, Less, Equal, All, IsPermutation}
+use Rattle.std.proofs.Common.{◌≡◌, inl, inr, ℕ, ℤ, pos, ◌<◌, Bool, true, false, ◌&&◌, nat_lt, nat_le, ◌==◌, List, [], ◌∷◌, length, map, take, refl, sym, ap, ap₂, subst, ◌∙◌, ◌≤◌, arith, Less, Equal, IsPermutation}
 use Rattle.std.specs.Prelude.{filter}
 use Rattle.std.specs.Ordering.{ordering_then}
 use Rattle.sqlite.specs.declared.types.Value.{Value}

@@ -1,5 +1,5 @@
 -- What rows of numbers and texts say of the element that they belong to.
-use Rattle.std.specs.Prelude.{◌≡◌, ◌<◌, ℕ, pos, List, length}
+use Rattle.std.specs.Prelude.{◌≡◌, ◌<◌, ℕ, pos, length}
 use Rattle.sqlite.specs.declared.types.Value.TheVariants.{Int}
 use Rattle.sqlite.specs.Order.{Row, column}
 use Rattle.osm_value.specs.Ranges.{IsText, IsWide, IsMember}

@@ -247,10 +247,10 @@ impl ColumnRows {
     pub(crate) fn elements(&self, alloc: Global) -> Result<Vec<Element<'_>>, AllocError>
         ensures { (placed : List Placed) → AreRowsOf self.now placed → IfOk result (λ found. found.items ≡ map (λ p. p.2) placed) }
     {
-        let matches = self.matches(alloc)?;
-        matches
-            .into_iter()
-            .map(|(_, _, element)| element)
-            .collect(alloc)
+        let mut elements = Vec::new(alloc);
+        for found in self.matches(alloc)? {
+            elements.push(found.2)?;
+        }
+        Ok(elements)
     }
 }

@@ -1,11 +1,8 @@
-use Rattle.std.proofs.Common.{◌≡◌, ◌∙◌, ◌<◌, List, [], map, length, ap, sym, subst, arith, Some, ℕ, ℤ, Bor, Vec, Global}
-use Rattle.std.specs.List.{AllByRecursion}
-use Rattle.std.specs.Prelude.{IsSomeAnd}
+use Rattle.std.proofs.Common.{◌≡◌, ◌∙◌, ◌<◌, List, map, length, ap, sym, subst, arith, Some, ℕ, ℤ, Bor, Vec, Global}
 use Rattle.sqlite.specs.Order.{Row, column}
 use Rattle.osm_value.specs.declared.element.Element.{Element}
-use Rattle.osm_value.specs.declared.element.Element.TheVariants as elements
 use Rattle.osm_value.specs.Elements.{IsElement, tags_of_element}
-use Rattle.osm_value.specs.Ranges.{IsNode, IsWay, IsRelation}
+use Rattle.osm_value.specs.Ranges.{IsWay, IsRelation}
 use Rattle.osm_value.specs.Value.{Text, MemberValue}
 use Rattle.osm_store.specs.Rows.{Placed, kind_of}
 use Rattle.osm_store.specs.ColumnRows.{parts, element_row, tags_at, links_of, links_at, link_row}

@@ -1,4 +1,4 @@
-use Rattle.std.proofs.Common.{rules, ◌≡◌, ◌∙◌, ◌<◌, ap, sym, subst, length, arith, Some, ℕ, FitsSigned, to_z, of_z, w64}
+use Rattle.std.proofs.Common.{rules, ◌∙◌, ◌<◌, ap, sym, subst, length, arith, Some, FitsSigned, w64}
 use Rattle.std.proofs.lemmas.Int.{to_z-of_z}
 use Rattle.sqlite.specs.Order.{Row, column}
 use Rattle.osm_value.specs.declared.element.Element.TheVariants as elements

@@ -1,16 +1,16 @@
-use Rattle.std.proofs.Common.{◌≡◌, ◌++◌, List, map, take, refl, sym, ap, ◌∙◌}
+use Rattle.std.proofs.Common.{take}
 use Rattle.std.proofs.lemmas.List.Elements.{All-from_recursion}
 use Rattle.std.proofs.lemmas.Result.{err_from_is_err_and}
 use Rattle.sqlite.specs.State.{HasCleanDisk}
 use Rattle.sqlite.specs.Held.{state}
 use Rattle.osm_store.specs.declared.layout.Layout.TheVariants.{Columns}
 use Rattle.osm_store.specs.ColumnFinding.{IsAlone}
-use Rattle.osm_store.specs.ColumnRows.{element_row, tag_row, tag_rows, tags_at, link_row, link_rows, links_at}
-use Rattle.osm_store.specs.Rows.{Placed, placed_in}
-use Rattle.osm_store.proofs.ColumnFindLemmas.{asks_nothing, several_more}
+use Rattle.osm_store.specs.ColumnRows.{element_row, tag_row, tags_at, link_row, links_at}
+use Rattle.osm_store.specs.Rows.{placed_in}
+use Rattle.osm_store.proofs.ColumnFindLemmas.{several_more}
 use Rattle.osm_store.proofs.AnswerLemmas.{asks_then}
 use Rattle.osm_store.proofs.PutLemmas.{clean_before, asks_holds}
-use Rattle.osm_store.proofs.RowLemmas.{row_at, all_read}
+use Rattle.osm_store.proofs.RowLemmas.{row_at}
 use Rattle.osm_store.proofs.column_finds.all_parts.Goals as goal
 
 pub loop-row-preserved : goal.loop-row-preserved

@@ -6,7 +6,7 @@ use Rattle.sqlite.specs.State.{HasCleanDisk}
 use Rattle.sqlite.specs.Held.{state}
 use Rattle.sqlite_tied.specs.Compute.{everything}
 use Rattle.osm_store.specs.declared.layout.Layout.TheVariants.{Columns}
-use Rattle.osm_store.specs.Rows.{Placed, placed_in}
+use Rattle.osm_store.specs.Rows.{placed_in}
 use Rattle.osm_store.specs.ColumnRows.{tag_row, link_row}
 use Rattle.osm_store.proofs.AnswerLemmas.{asks_then}
 use Rattle.osm_store.proofs.PutLemmas.{clean_before, asks_holds}

@@ -1,6 +1,5 @@
 use Rattle.std.proofs.Common.{◌<◌, ◌≤◌, ◌^◌, subst, arith}
 use Rattle.std.specs.Prelude.{filter}
-use Rattle.std.proofs.lemmas.Result.{err_from_is_err_and}
 use Rattle.osm_store.specs.ColumnLoading.{AreRowsOf}
 use Rattle.osm_store.specs.Keeping.{IsForeign}
 use Rattle.osm_store.specs.Rows.{placed_in, is_in}

@@ -1,8 +1,7 @@
-use Rattle.std.proofs.Common.{◌≡◌, ◌∙◌, ◌<◌, ◌==◌, ℕ, List, [], ◌∷◌, ◌++◌, length, drop, ap, ap₂, sym, subst, arith, refl, true, false, true≢false}
+use Rattle.std.proofs.Common.{◌≡◌, ◌∙◌, ◌<◌, ◌==◌, ℕ, List, [], ◌∷◌, ◌++◌, length, ap, ap₂, sym, subst, arith, refl, true≢false}
 use Rattle.sqlite.specs.Order.{Row, column}
 use Rattle.osm_value.specs.declared.element.Element.{Element}
 use Rattle.osm_store.specs.declared.layout.Layout.TheVariants.{Columns}
-use Rattle.osm_store.specs.ColumnElements.{StandsAt, StandsApart}
 use Rattle.osm_store.specs.ColumnRows.{element_row, tag_rows, link_rows}
 use Rattle.osm_store.specs.Rows.{Placed, IsStored}
 use Rattle.osm_store.proofs.RowLemmas.{row_at}
