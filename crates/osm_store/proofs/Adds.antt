@@ -1,11 +1,10 @@
 -- A row that is inserted is the only one that is new.
-use Rattle.std.proofs.Common.{◌≡◌, ◌≢◌, ℕ, ℤ, pos, List, [], ◌∷◌, ◌++◌, map, drop, length, Bool, true, false, cond, not, ◌&&◌, ◌||◌, true≢false, Some, None, Ok, Err, refl, sym, ap, subst, ◌∙◌, arith, rules}
+use Rattle.std.proofs.Common.{◌≡◌, ℕ, ℤ, pos, List, [], ◌∷◌, ◌++◌, map, drop, Bool, true, false, cond, not, ◌&&◌, ◌||◌, true≢false, refl, sym, subst}
 use Rattle.std.specs.List.Sorted.{IsPermutation}
-use Rattle.std.proofs.lemmas.List.Sorted.{IsPermutation-refl, IsPermutation-trans, IsPermutation-map, IsPermutation-append, IsPermutation-append_comm, IsPermutation-cons, IsPermutation-middle}
+use Rattle.std.proofs.lemmas.List.Sorted.{IsPermutation-refl, IsPermutation-trans, IsPermutation-map, IsPermutation-append_comm, IsPermutation-cons, IsPermutation-middle}
 use Rattle.std.specs.Ordering.{is_eq, match_ordering}
 use Rattle.std.specs.declared.cmp.Ordering.{Ordering}
 use Rattle.std.specs.declared.cmp.Ordering.TheVariants.{Less, Equal, Greater}
-use Rattle.std.specs.List.{list_any}
 use Rattle.sqlite.specs.declared.types.Value.{Value}
 use Rattle.sqlite.specs.declared.types.Value.TheVariants.{Null, Int, Blob as Octets}
 use Rattle.sqlite.specs.Order.{Row, value_cmp}
@@ -18,10 +17,12 @@ use Rattle.sqlite.specs.Kind.TheVariants.{Integer}
 use Rattle.sqlite.specs.Tree.{Trees, put_row, rowid}
 use Rattle.sqlite.specs.Edit.{Applies, is_taken, are_fresh, put_all, next_rowid}
 use Rattle.sqlite_schema.specs.declared.schema.Keys.TheVariants.{Enforced}
-use Rattle.osm_store.specs.Tables.{meta, body, blob, store_schema}
+use Rattle.osm_store.specs.declared.layout.Layout.{Layout}
+use Rattle.osm_store.specs.Tables.{meta, blob}
+use Rattle.osm_store.specs.Layouts.{schema_of, version_of}
 use Rattle.osm_store.specs.Rows.{version_row}
-use Rattle.osm_store.proofs.WriteTexts.{body_terms, blob_terms, version_terms}
-use Rattle.osm_store.proofs.Inserts.{edit_for}
+use Rattle.osm_store.proofs.WriteTexts.{blob_terms}
+use Rattle.osm_store.proofs.Inserts.{edit_for, version_terms_of}
 
 either : (b : Bool) (x : Value) → cond b x x ≡ x
 either true x = refl
@@ -53,59 +54,7 @@ put_fresh new (r ∷ rows) free = go (value_cmp (rowid r) (rowid new)) (neither 
     go Equal h more = absurd (true≢false h)
     go Greater h more = IsPermutation-refl _
 
-abbrev pub five : ℤ → ℤ → ℤ → ℤ → List ℕ → Row
-five off place kind id content = Int off ∷ Int place ∷ Int kind ∷ Int id ∷ Octets content ∷ []
-
-module _ (db next : Trees) (off place kind id : ℤ) (content : List ℕ) (h : Applies store_schema Enforced db (edit_for db body (five off place kind id content) body_terms) next) where
-  abbrev new : Row
-  new = Int (next_rowid (db 2)) ∷ five off place kind id content
-
-  news : (edit_for db body (five off place kind id content) body_terms).news ≡ new ∷ []
-  news = rw (cast_null, cast_int off, cast_int place, cast_int kind, cast_int id) refl
-
-  pub body_added : IsPermutation (map (drop 1) (db 2) ++ five off place kind id content ∷ []) (map (drop 1) (next 2))
-  body_added =
-      let fresh : are_fresh (db 2) (new ∷ []) ≡ true = subst (λ all. are_fresh (db 2) all ≡ true) news h.fresh in
-      let rows : next 2 ≡ put_row new (db 2) = subst (λ all. next 2 ≡ put_all (db 2) all) news h.rows in
-      let put = IsPermutation-map (drop 1) _ _ (put_fresh new (db 2) (free _ fresh)) in
-      subst (λ all. IsPermutation (map (drop 1) (db 2) ++ five off place kind id content ∷ []) (map (drop 1) all)) (sym rows) (IsPermutation-trans _ _ _ (IsPermutation-append_comm (map (drop 1) (db 2)) (five off place kind id content ∷ [])) put)
-
-  pub others_kept : (next 0 ≡ db 0) × (next 1 ≡ db 1)
-  others_kept = (h.tables.0 (λ e. cc), h.tables.1.0 (λ e. cc))
-
-abbrev pub blob_values : ℤ → ℤ → List ℕ → ℤ → ℤ → Row
-blob_values off fin digest kind n = Int off ∷ Int fin ∷ Octets digest ∷ Int kind ∷ Int n ∷ []
-
-abbrev pub new_blob : ℤ → ℤ → List ℕ → ℤ → ℤ → Row
-new_blob off fin digest kind n = Int off ∷ Null ∷ Int fin ∷ Octets digest ∷ Int kind ∷ Int n ∷ []
-
-module _ (db next : Trees) (off fin : ℤ) (digest : List ℕ) (kind n : ℤ) (h : Applies store_schema Enforced db (edit_for db blob (blob_values off fin digest kind n) blob_terms) next) where
-  abbrev new_extent : Row
-  new_extent = new_blob off fin digest kind n
-
-  blob_news : (edit_for db blob (blob_values off fin digest kind n) blob_terms).news ≡ new_extent ∷ []
-  blob_news = rw (cast_null, cast_int off, cast_int fin, cast_int kind, cast_int n) refl
-
-  pub blob_added : next 1 ≡ put_row new_extent (db 1)
-  blob_added = subst (λ all. next 1 ≡ put_all (db 1) all) blob_news h.rows
-
-  pub blob_was_new : is_taken (db 1) new_extent ≡ false
-  blob_was_new = free _ (subst (λ all. are_fresh (db 1) all ≡ true) blob_news h.fresh)
-
-  pub blob_others_kept : (next 0 ≡ db 0) × (next 2 ≡ db 2)
-  blob_others_kept = (h.tables.0 (λ e. cc), h.tables.1.1.0 (λ e. cc))
-
-module _ (db next : Trees) (h : Applies store_schema Enforced db (edit_for db meta [] version_terms) next) where
-  version_news : (edit_for db meta [] version_terms).news ≡ version_row ∷ []
-  version_news = rw (cast_null, cast_int (pos 1)) refl
-
-  pub version_added : next 0 ≡ put_row version_row (db 0)
-  version_added = subst (λ all. next 0 ≡ put_all (db 0) all) version_news h.rows
-
-  pub version_others_kept : (next 1 ≡ db 1) × (next 2 ≡ db 2)
-  version_others_kept = (h.tables.1.0 (λ e. cc), h.tables.1.1.0 (λ e. cc))
-
--- The same for any table whose rowid is chosen.
+-- a row of a table whose rowid is chosen
 pub row_added : (schema : Schema) (table : Table) (db next : Trees) (params row : Row) (terms : List Term) → Applies schema Enforced db (edit_for db table params terms) next
     → (edit_for db table params terms).news ≡ (Int (next_rowid (db table.tree)) ∷ row) ∷ []
     → IsPermutation (map (drop 1) (db table.tree) ++ row ∷ []) (map (drop 1) (next table.tree))
@@ -115,3 +64,25 @@ row_added schema table db next params row terms h news =
     let rows : next table.tree ≡ put_row new (db table.tree) = subst (λ all. next table.tree ≡ put_all (db table.tree) all) news h.rows in
     let put = IsPermutation-map (drop 1) _ _ (put_fresh new (db table.tree) (free _ fresh)) in
     subst (λ all. IsPermutation (map (drop 1) (db table.tree) ++ row ∷ []) (map (drop 1) all)) (sym rows) (IsPermutation-trans _ _ _ (IsPermutation-append_comm (map (drop 1) (db table.tree)) (row ∷ [])) put)
+
+-- ---- a row of `blob`, and the version
+
+abbrev pub blob_values : ℤ → ℤ → List ℕ → ℤ → ℤ → Row
+blob_values off fin digest kind n = Int off ∷ Int fin ∷ Octets digest ∷ Int kind ∷ Int n ∷ []
+
+abbrev pub new_blob : ℤ → ℤ → List ℕ → ℤ → ℤ → Row
+new_blob off fin digest kind n = Int off ∷ Null ∷ Int fin ∷ Octets digest ∷ Int kind ∷ Int n ∷ []
+
+module _ (schema : Schema) (db next : Trees) (off fin : ℤ) (digest : List ℕ) (kind n : ℤ) (h : Applies schema Enforced db (edit_for db blob (blob_values off fin digest kind n) blob_terms) next) where
+  blob_news : (edit_for db blob (blob_values off fin digest kind n) blob_terms).news ≡ new_blob off fin digest kind n ∷ []
+  blob_news = rw (cast_null, cast_int off, cast_int fin, cast_int kind, cast_int n) refl
+
+  pub blob_added : next 1 ≡ put_row (new_blob off fin digest kind n) (db 1)
+  blob_added = subst (λ all. next 1 ≡ put_all (db 1) all) blob_news h.rows
+
+module _ (layout : Layout) (db next : Trees) (h : Applies (schema_of layout) Enforced db (edit_for db meta [] (version_terms_of layout)) next) where
+  version_news : (edit_for db meta [] (version_terms_of layout)).news ≡ version_row layout ∷ []
+  version_news = rw (cast_null, cast_int (pos (version_of layout))) refl
+
+  pub version_added : next 0 ≡ put_row (version_row layout) (db 0)
+  version_added = subst (λ all. next 0 ≡ put_all (db 0) all) version_news h.rows

@@ -1,5 +1,5 @@
 -- What a query leaves of a connection, whatever it answers.
-use Rattle.std.proofs.Common.{◌≡◌, inl, inr, ℕ, List, true, true≢false, IsTrue, sym, subst, ◌∙◌, arith}
+use Rattle.std.proofs.Common.{◌≡◌, inl, inr, ℕ, List, true, true≢false, sym, subst, ◌∙◌, arith}
 use Rattle.sqlite.specs.Order.{Row}
 use Rattle.sqlite.specs.declared.error.Error.{Error}
 use Rattle.sqlite.specs.Clock.{timed}

@@ -1,6 +1,6 @@
 -- What the tables of a held map have.
 use Rattle.std.proofs.Common.{◌≡◌, inl, inr, ℕ, suc, ◌+◌, ◌<◌, List, [], ◌∷◌, Some, slice_get, cond, eqb, map, drop, length, refl, sym, ap, ap₂, subst, ◌∙◌, IsPermutation, All, pos}
-use Rattle.std.specs.Prelude.{flat_map, filter}
+use Rattle.std.specs.Prelude.{filter}
 use Rattle.std.specs.List.{AllByRecursion}
 use Rattle.std.specs.Ordering.{nat_cmp}
 use Rattle.std.specs.Cmp.{unsigned_tied}
@@ -11,17 +11,20 @@ use Rattle.std.proofs.lemmas.List.Sorted.{IsPermutation-sym}
 use Rattle.sqlite.specs.Order.{Row, column}
 use Rattle.sqlite.specs.Effect.{Database}
 use Rattle.sqlite_trees.specs.Tree.{IsAscending}
-use Rattle.sqlite_trees.proofs.ListLemmas.{all_weaker, all_both, all-map, all-filter, all-flat_map, all_from_map, all-permutation, ascending-map, IsPermutation-same}
+use Rattle.sqlite_trees.proofs.ListLemmas.{all_weaker, all-map, all_from_map, all-permutation, ascending-map, IsPermutation-same}
 use Rattle.osm_value.specs.declared.element.Element.{Element}
 use Rattle.osm_store.specs.declared.keeper.Extent.{Extent}
-use Rattle.osm_store.specs.Held.{Blob, HeldMap, HasFewTexts}
+use Rattle.osm_store.specs.Held.{Blob, HeldMap}
 use Rattle.osm_store.specs.Keeping.{extent_of, extents_of}
-use Rattle.osm_store.specs.Rows.{Placed, placed, placed_in, HasBlock, IsStored, body_row, extent_row, extent_columns}
+use Rattle.osm_store.specs.Rows.{Placed, placed, placed_in, is_in, body_row, extent_row, extent_columns}
+use Rattle.osm_store.specs.declared.layout.Layout.{Layout}
+use Rattle.osm_store.specs.declared.layout.Layout.TheVariants.{Blocks}
+use Rattle.osm_store.specs.Layouts.{schema_of, version_of}
 use Rattle.osm_store.specs.Tables.{store_schema}
-use Rattle.osm_store.specs.Holding.{TablesHold, IsBlob, IsKept}
-use Rattle.osm_store.proofs.PlacedLaws.{Entry, within, entries_rise, placed_in_rise, here, by_position, all_held}
+use Rattle.osm_store.specs.LayoutHolding.{TablesHold, IsBlob, IsKept}
+use Rattle.osm_store.proofs.PlacedLaws.{Entry, within, entries_rise, placed_in_rise, here, by_position}
 use Rattle.osm_store.proofs.NestedLists.{nested_at}
-use Rattle.osm_store.proofs.ReadLemmas.{columns_at, HasExtents, HasElements, HasVersion, is_in}
+use Rattle.osm_store.proofs.ReadLemmas.{columns_at, HasExtents, HasElements, HasVersion}
 
 -- ---- the tables
 
@@ -32,8 +35,8 @@ blob_shown (e ∷ extents) = ap (λ rows. extent_columns e ∷ rows) (blob_shown
 extents_rise : (held : HeldMap) → IsAscending (λ (a b : Extent). a.off < b.off) (extents_of held)
 extents_rise held = ascending-map _ extent_of (entries held) (entries_rise held)
 
-pub has_extents : (db : Database) (held : HeldMap) → db.schema ≡ store_schema → TablesHold held db.trees → HasExtents db (extents_of held)
-has_extents db held schema tables = record {
+pub has_extents : (layout : Layout) (db : Database) (held : HeldMap) → db.schema ≡ schema_of layout → TablesHold layout held db.trees → HasExtents layout db (extents_of held)
+has_extents layout db held schema tables = record {
   schema = schema;
   rows = IsPermutation-same _ _ (ap (map (columns_at (0 ∷ 2 ∷ 3 ∷ 4 ∷ 5 ∷ []))) tables.blob ∙ blob_shown (extents_of held));
   ascending = extents_rise held;
@@ -61,41 +64,27 @@ each_five : (ps : List Placed) → AllByRecursion (λ (row : Row). length row �
 each_five [] = tt
 each_five (p ∷ ps) = (refl, each_five ps)
 
-pub has_elements : (db : Database) (held : HeldMap) → db.schema ≡ store_schema → TablesHold held db.trees → HasElements db (placed_in held)
+pub has_elements : (db : Database) (held : HeldMap) → db.schema ≡ store_schema → TablesHold Blocks held db.trees → HasElements db (placed_in held)
 has_elements db held schema tables =
-    let fives = all_from_map (λ (row : Row). length row ≡ 5) (drop 1) (db.trees 2) (all-permutation _ (map body_row (placed_in held)) (map (drop 1) (db.trees 2)) tables.body (each_five (placed_in held))) in
+    let fives = all_from_map (λ (row : Row). length row ≡ 5) (drop 1) (db.trees 2) (all-permutation _ (map body_row (placed_in held)) (map (drop 1) (db.trees 2)) tables.elements (each_five (placed_in held))) in
     record {
       schema = schema;
-      rows = subst (λ rows. IsPermutation rows (map body_row (placed_in held))) (sym (all_dropped (db.trees 2) fives)) (IsPermutation-sym _ _ tables.body);
+      rows = subst (λ rows. IsPermutation rows (map body_row (placed_in held))) (sym (all_dropped (db.trees 2) fives)) (IsPermutation-sym _ _ tables.elements);
       ascending = placed_in_rise held;
     }
 
-pub has_version : (db : Database) (held : HeldMap) → db.schema ≡ store_schema → TablesHold held db.trees → HasVersion db (pos 1)
-has_version db held schema tables = record { schema = schema; rows = IsPermutation-same _ _ (ap (map (columns_at (0 ∷ []))) tables.meta) }
+pub has_version : (layout : Layout) (db : Database) (held : HeldMap) → db.schema ≡ schema_of layout → TablesHold layout held db.trees → HasVersion layout db (pos (version_of layout))
+has_version layout db held schema tables = record { schema = schema; rows = IsPermutation-same _ _ (ap (map (columns_at (0 ∷ []))) tables.meta) }
 
 -- ---- the rows of one blob
 
-digests : (es : List Entry) → AllByRecursion (λ (entry : Entry). IsBlob entry.1) es → All (λ (extent : Extent). length extent.digest ≡ 32) (map extent_of es)
-digests es all = All-from_recursion _ _ (all-map (λ (extent : Extent). length extent.digest ≡ 32) extent_of es (all_weaker _ _ (λ entry blob. blob.digest) es all))
+digests : (layout : Layout) (es : List Entry) → AllByRecursion (λ (entry : Entry). IsBlob layout entry.1) es → All (λ (extent : Extent). length extent.digest ≡ 32) (map extent_of es)
+digests layout es all = All-from_recursion _ _ (all-map (λ (extent : Extent). length extent.digest ≡ 32) extent_of es (all_weaker _ _ (λ entry blob. blob.digest) es all))
 
-pub digests_of : (held : HeldMap) → IsKept held → All (λ (extent : Extent). length extent.digest ≡ 32) (extents_of held)
-digests_of held kept = digests (entries held) kept.blobs
+pub digests_of : (layout : Layout) (held : HeldMap) → IsKept layout held → All (λ (extent : Extent). length extent.digest ≡ 32) (extents_of held)
+digests_of layout held kept = digests layout (entries held) kept.blobs
 
-stored_both : (es : List Element) → AllByRecursion HasBlock es → AllByRecursion HasFewTexts es → AllByRecursion IsStored es
-stored_both = all_both HasBlock HasFewTexts IsStored (λ e has few. (has, few))
-
-pub blob_stored : (blob : Blob) → IsBlob blob → All IsStored blob.elements
-blob_stored blob is = All-from_recursion _ _ (stored_both blob.elements is.have_blocks is.few_texts)
-
-placed_stored : (off position : ℕ) (es : List Element) → AllByRecursion IsStored es → AllByRecursion (λ (p : Placed). IsStored p.2) (placed off position es)
-placed_stored off position [] h = tt
-placed_stored off position (e ∷ es) h = (h.0, placed_stored off (position + 1) es h.1)
-
--- each held element is stored
-pub all_stored : (held : HeldMap) → IsKept held → AllByRecursion (λ (p : Placed). IsStored p.2) (placed_in held)
-all_stored held kept = all-flat_map _ within (entries held) (all_weaker _ _ (λ entry is. placed_stored entry.0 0 entry.1.elements (stored_both entry.1.elements is.have_blocks is.few_texts)) (entries held) kept.blobs)
-
-elements_of : (off position : ℕ) (es : List Element) → map (λ (p : Placed). p.2) (placed off position es) ≡ es
+pub elements_of : (off position : ℕ) (es : List Element) → map (λ (p : Placed). p.2) (placed off position es) ≡ es
 elements_of off position [] = refl
 elements_of off position (e ∷ es) = ap (λ l. e ∷ l) (elements_of off (position + 1) es)
 
@@ -114,9 +103,11 @@ at_entry (e ∷ es) off blob is =
           (suc later.0, later.1)
     ]
 
--- the elements at an offset are those of the blob there
-pub elements_at : (held : HeldMap) (off : ℕ) (blob : Blob) → get held off ≡ Some blob → map (λ (p : Placed). p.2) (filter (is_in off) (placed_in held)) ≡ blob.elements
-elements_at held off blob is =
+-- the elements at an offset are those of the blob there, each at its position
+pub placed_at : (held : HeldMap) (off : ℕ) (blob : Blob) → get held off ≡ Some blob → filter (is_in off) (placed_in held) ≡ placed off 0 blob.elements
+placed_at held off blob is =
     let there = at_entry (entries held) off blob (sym (get-entries held off) ∙ is) in
-    ap (map (λ (p : Placed). p.2)) (nested_at (λ (e : Entry). e.0) (λ (p : Placed). p.0) (λ (a b : Placed). a.1 < b.1) within here by_position (entries held) there.0 (off, blob) (entries_rise held) there.1)
-    ∙ elements_of off 0 blob.elements
+    nested_at (λ (e : Entry). e.0) (λ (p : Placed). p.0) (λ (a b : Placed). a.1 < b.1) within here by_position (entries held) there.0 (off, blob) (entries_rise held) there.1
+
+pub elements_at : (held : HeldMap) (off : ℕ) (blob : Blob) → get held off ≡ Some blob → map (λ (p : Placed). p.2) (filter (is_in off) (placed_in held)) ≡ blob.elements
+elements_at held off blob is = ap (map (λ (p : Placed). p.2)) (placed_at held off blob is) ∙ elements_of off 0 blob.elements

@@ -1,21 +1,21 @@
 -- What an INSERT of one row does to the tables.
-use Rattle.std.proofs.Common.{◌≡◌, ◌⊎◌, inl, inr, ℕ, pos, List, [], ◌∷◌, ◌++◌, append-nil, length, map, slice_get, Bool, true, false, MatchBool, if◌then◌else◌, Option, Some, None, Ok, Err, Result, refl, sym, ap, subst, ◌∙◌, arith, rules}
+use Rattle.std.proofs.Common.{◌≡◌, ℕ, pos, List, [], ◌∷◌, append-nil, length, slice_get, Bool, false, MatchBool, if◌then◌else◌, Option, Some, None, Ok, refl, sym, ap, subst, ◌∙◌}
 use Rattle.sqlite.specs.Order.{Row}
 use Rattle.sqlite.specs.Term.{Term}
 use Rattle.sqlite.specs.Table.{Table}
 use Rattle.sqlite.specs.Schema.{Schema}
 use Rattle.sqlite.specs.Source.TheVariants.{Values}
 use Rattle.sqlite.specs.Command.TheVariants.{Insert}
-use Rattle.sqlite.specs.Edit.{Edit, edit_of, edited, Applies}
+use Rattle.sqlite.specs.Edit.{Edit, edit_of, Applies}
 use Rattle.sqlite.specs.Rowids.TheVariants.{Chosen, Above}
 use Rattle.sqlite.specs.Effect.{Database, value_rows}
-use Rattle.std.proofs.Common.{ℤ, ◌/◌}
+use Rattle.std.proofs.Common.{◌/◌}
 use Rattle.sqlite_sql.specs.Term.{eval_all}
-use Rattle.sqlite.specs.Does.{Tally, Does, AtPlace, OnRows}
+use Rattle.sqlite.specs.Does.{Tally, Does, OnRows}
 use Rattle.sqlite.specs.declared.run.Mode.{Mode}
 use Rattle.sqlite_rules.specs.Action.{Writes}
 use Rattle.sqlite.specs.Command.{Command}
-use Rattle.sqlite.specs.Rows.{Written, Part, Outcome, stamped, count_of}
+use Rattle.sqlite.specs.Rows.{Written, stamped, count_of}
 use Rattle.sqlite.specs.Tree.{Trees}
 use Rattle.sqlite_schema.specs.declared.schema.Keys.TheVariants.{Enforced}
 use Rattle.sqlite_rules.specs.Edit.{taken_by}
@@ -25,8 +25,15 @@ use Rattle.sqlite.specs.Listing.{understood}
 use Rattle.sqlite.specs.State.{State, mode_of, Executes}
 use Rattle.sqlite.proofs.Callers.{IsPlain, command_of, statement_of, runs_as, one_step}
 use Rattle.osm_store.proofs.Parts.{went, same_value, placed}
+use Rattle.sqlite.specs.Term.{lit}
+use Rattle.sqlite.specs.declared.types.Value.TheVariants.{Null, Int}
+use Rattle.osm_store.specs.declared.layout.Layout.{Layout}
+use Rattle.osm_store.specs.declared.layout.Layout.TheVariants.{Blocks, Columns}
 use Rattle.osm_store.specs.Tables.{meta, blob, body, store_schema, insert_body_text, insert_blob_text, version_text}
+use Rattle.osm_store.specs.ColumnTables.{element, tag, link, column_schema, insert_element_text, insert_tag_text, insert_link_text, second_version_text}
+use Rattle.osm_store.specs.Layouts.{schema_of, version_of, version_text_of}
 use Rattle.osm_store.proofs.WriteTexts.{body_terms, insert_body_is, insert_body_plain, blob_terms, insert_blob_is, insert_blob_plain, version_terms, version_is, version_plain}
+use Rattle.osm_store.proofs.ColumnTexts.{element_terms, insert_element_is, insert_element_plain, tag_terms, insert_tag_is, insert_tag_plain, link_terms, insert_link_is, insert_link_plain, column_blob_is, column_blob_plain, second_version_terms, second_version_is, second_version_plain}
 
 abbrev pub edit_for : Trees → Table → Row → List Term → Edit
 edit_for db table params terms = edit_of db table [] Chosen 0 (eval_all terms (params ∷ []) ∷ [])
@@ -74,10 +81,28 @@ pub inserts_body : (params : Row) (old new : State) (count : ℕ) → old.now.sc
     → (new.now.schema ≡ store_schema) × Applies store_schema Enforced old.now.trees (edit_for old.now.trees body params body_terms) new.now.trees × IsSound store_schema new.now.trees
 inserts_body params = inserts store_schema insert_body_text 2 body body_terms params insert_body_is insert_body_plain refl refl (rw append-nil) (λ db news. refl)
 
-pub inserts_blob : (params : Row) (old new : State) (count : ℕ) → old.now.schema ≡ store_schema → Executes insert_blob_text params old new (Ok count)
-    → (new.now.schema ≡ store_schema) × Applies store_schema Enforced old.now.trees (edit_for old.now.trees blob params blob_terms) new.now.trees × IsSound store_schema new.now.trees
-inserts_blob params = inserts store_schema insert_blob_text 1 blob blob_terms params insert_blob_is insert_blob_plain refl refl (rw append-nil) (λ db news. refl)
+pub inserts_element : (params : Row) (old new : State) (count : ℕ) → old.now.schema ≡ column_schema → Executes insert_element_text params old new (Ok count)
+    → (new.now.schema ≡ column_schema) × Applies column_schema Enforced old.now.trees (edit_for old.now.trees element params element_terms) new.now.trees × IsSound column_schema new.now.trees
+inserts_element params = inserts column_schema insert_element_text 2 element element_terms params insert_element_is insert_element_plain refl refl (rw append-nil) (λ db news. refl)
 
-pub inserts_version : (old new : State) (count : ℕ) → old.now.schema ≡ store_schema → Executes version_text [] old new (Ok count)
-    → (new.now.schema ≡ store_schema) × Applies store_schema Enforced old.now.trees (edit_for old.now.trees meta [] version_terms) new.now.trees × IsSound store_schema new.now.trees
-inserts_version = inserts store_schema version_text 0 meta version_terms [] version_is version_plain refl refl refl (λ db news. refl)
+pub inserts_tag : (params : Row) (old new : State) (count : ℕ) → old.now.schema ≡ column_schema → Executes insert_tag_text params old new (Ok count)
+    → (new.now.schema ≡ column_schema) × Applies column_schema Enforced old.now.trees (edit_for old.now.trees tag params tag_terms) new.now.trees × IsSound column_schema new.now.trees
+inserts_tag params = inserts column_schema insert_tag_text 3 tag tag_terms params insert_tag_is insert_tag_plain refl refl (rw append-nil) (λ db news. refl)
+
+pub inserts_link : (params : Row) (old new : State) (count : ℕ) → old.now.schema ≡ column_schema → Executes insert_link_text params old new (Ok count)
+    → (new.now.schema ≡ column_schema) × Applies column_schema Enforced old.now.trees (edit_for old.now.trees link params link_terms) new.now.trees × IsSound column_schema new.now.trees
+inserts_link params = inserts column_schema insert_link_text 4 link link_terms params insert_link_is insert_link_plain refl refl (rw append-nil) (λ db news. refl)
+
+-- a row of `blob`, whatever the layout
+pub inserts_blob : (layout : Layout) (params : Row) (old new : State) (count : ℕ) → old.now.schema ≡ schema_of layout → Executes insert_blob_text params old new (Ok count)
+    → (new.now.schema ≡ schema_of layout) × Applies (schema_of layout) Enforced old.now.trees (edit_for old.now.trees blob params blob_terms) new.now.trees × IsSound (schema_of layout) new.now.trees
+inserts_blob Blocks params = inserts store_schema insert_blob_text 1 blob blob_terms params insert_blob_is insert_blob_plain refl refl (rw append-nil) (λ db news. refl)
+inserts_blob Columns params = inserts column_schema insert_blob_text 1 blob blob_terms params column_blob_is column_blob_plain refl refl (rw append-nil) (λ db news. refl)
+
+abbrev pub version_terms_of : Layout → List Term
+version_terms_of layout = lit (Int (pos (version_of layout))) ∷ lit Null ∷ []
+
+pub inserts_version : (layout : Layout) (old new : State) (count : ℕ) → old.now.schema ≡ schema_of layout → Executes (version_text_of layout) [] old new (Ok count)
+    → (new.now.schema ≡ schema_of layout) × Applies (schema_of layout) Enforced old.now.trees (edit_for old.now.trees meta [] (version_terms_of layout)) new.now.trees × IsSound (schema_of layout) new.now.trees
+inserts_version Blocks = inserts store_schema version_text 0 meta version_terms [] version_is version_plain refl refl refl (λ db news. refl)
+inserts_version Columns = inserts column_schema second_version_text 0 meta second_version_terms [] second_version_is second_version_plain refl refl refl (λ db news. refl)

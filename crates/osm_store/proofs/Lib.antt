@@ -1,10 +1,12 @@
 pub mod WriteTexts
+pub mod ColumnTexts
 pub mod Parts
 pub mod Inserts
 pub mod Makes
 pub mod Adds
 pub mod MakeSteps
 pub mod RowSteps
+pub mod ColumnSteps
 pub mod Placing
 pub mod TableReads
 pub mod ReadTexts
@@ -15,6 +17,9 @@ pub mod CompareLemmas
 pub mod CauseLemmas
 pub mod ReadLemmas
 pub mod HeldLemmas
+pub mod ColumnReadTexts
+pub mod ColumnReadLemmas
+pub mod ColumnHeld
 pub mod PutLemmas
 pub mod StoredRows
 pub mod ReadingLemmas
@@ -23,6 +28,13 @@ pub mod SortedLists
 pub mod NestedLists
 pub mod NumberOrder
 pub mod PlacedLaws
+pub mod PartLaws
+pub mod ColumnFindLemmas
+pub mod ElementKinds
+pub mod ElementRows
+pub mod ElementsMade
+pub mod StoredElements
+pub mod SameElements
 pub mod OneElement
 pub mod OneMap
 pub mod VersionLemmas

@@ -1,7 +1,6 @@
 -- An element is fixed by the canonical block of it alone.
-use Rattle.std.proofs.Common.{◌≡◌, ℕ, List, [], ◌∷◌, None, sym, ap, subst, append-nil}
+use Rattle.std.proofs.Common.{◌≡◌, List, [], ◌∷◌, None, subst, append-nil}
 use Rattle.osm_value.specs.declared.element.Element.{Element}
-use Rattle.osm_value.specs.Elements.{IsElement}
 use Rattle.osm_block.specs.Block.{Block}
 use Rattle.osm_block.specs.Phases.{fault}
 use Rattle.osm_block.proofs.Complete.{no_fault}

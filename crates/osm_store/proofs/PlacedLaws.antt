@@ -1,6 +1,5 @@
 -- What follows for the entries and the elements of a held map: they ascend.
-use Rattle.std.proofs.Common.{◌≡◌, ◌⊎◌, inl, inr, ℕ, ◌+◌, ◌<◌, ◌≤◌, ◌&&◌, Bool, true, false, T, List, [], ◌∷◌, Some, cond, eqb, refl, sym, ap, subst, ◌∙◌, arith}
-use Rattle.std.specs.Prelude.{flat_map}
+use Rattle.std.proofs.Common.{◌≡◌, inl, inr, ℕ, ◌+◌, ◌<◌, ◌≤◌, ◌&&◌, Bool, true, false, T, List, [], ◌∷◌, Some, cond, eqb, refl, sym, ap, subst, ◌∙◌, arith}
 use Rattle.std.specs.List.{AllByRecursion}
 use Rattle.std.specs.Ordering.{nat_cmp, is_lt}
 use Rattle.std.specs.Cmp.{unsigned_tied}
@@ -11,15 +10,12 @@ use Rattle.sqlite_trees.specs.Tree.{IsAscending}
 use Rattle.sqlite_trees.proofs.ListLemmas.{all_weaker}
 use Rattle.osm_value.specs.declared.element.Element.{Element}
 use Rattle.osm_store.specs.Held.{Blob, HeldMap}
+pub use Rattle.osm_store.specs.Rows.{IsBefore}
 use Rattle.osm_store.specs.Rows.{Placed, placed, placed_in}
 use Rattle.osm_store.proofs.NestedLists.{nested_rise}
 
 abbrev pub Entry : Type 0
 Entry = ℕ × Blob
-
--- by offset and position
-abbrev pub IsBefore : Placed → Placed → Type 0
-IsBefore a b = (a.0 < b.0) ⊎ ((a.0 ≡ b.0) × (a.1 < b.1))
 
 -- ---- the entries of a map
 

@@ -1,12 +1,12 @@
 -- A put adds one entry to the map, and a read leaves it.
-use Rattle.std.proofs.Common.{◌≡◌, ◌≢◌, ◌⊎◌, inl, inr, ℕ, pos, ◌+◌, ◌-◌, ◌^◌, ◌<◌, ◌≤◌, ◌==◌, List, [], ◌∷◌, ◌++◌, map, drop, length, Option, Some, None, Result, Ok, Err, IsTrue, cond, eqb, refl, sym, ap, subst, ◌∙◌, arith, Less, Greater, nat_lt, true, false}
-use Rattle.std.specs.Prelude.{flat_map, MatchResult}
+use Rattle.std.proofs.Common.{◌≡◌, ◌≢◌, ◌⊎◌, inl, inr, ℕ, pos, ◌^◌, ◌<◌, ◌≤◌, List, [], ◌∷◌, ◌++◌, map, drop, length, Option, Some, None, IsTrue, cond, eqb, refl, sym, ap, subst, ◌∙◌, arith, Less, Greater, nat_lt}
+use Rattle.std.specs.Prelude.{flat_map}
 use Rattle.std.specs.List.{AllByRecursion}
 use Rattle.std.specs.List.Sorted.{IsPermutation}
 use Rattle.std.specs.Ordering.{nat_cmp, match_ordering, ordering_reverse}
 use Rattle.std.specs.Cmp.{nat_cmp_is, nat_cmp_total, unsigned_tied}
 use Rattle.std.specs.FinMap.Entries.{by_order}
-use Rattle.std.specs.FinMap.{empty, entries, len-entries, len-empty, get, insert, find, put, get-entries, entries-insert}
+use Rattle.std.specs.FinMap.{empty, entries, len-entries, len-empty, get, find, put, get-entries, entries-insert}
 use Rattle.std.proofs.lemmas.Bool.{cases_Bool}
 use Rattle.std.proofs.lemmas.Bool.Decides.{eqb_tells, nat_tests}
 use Rattle.std.proofs.lemmas.List.{map-append}
@@ -19,15 +19,19 @@ use Rattle.sqlite.specs.Order.{Row}
 use Rattle.sqlite.specs.Tree.{Trees, put_row}
 use Rattle.sqlite.specs.Effect.{Database}
 use Rattle.sqlite.specs.State.{State, HasCleanDisk, Survives}
-use Rattle.osm_store.specs.declared.keeper.Extent.{Extent}
-use Rattle.osm_store.specs.Held.{Blob, HeldMap, IsFree, IsApart}
+use Rattle.osm_store.specs.Held.{Blob, HeldMap, IsFree}
 use Rattle.osm_store.specs.HeldLaws.{IsFree-unheld, IsApart-insert}
-use Rattle.osm_store.specs.Keeping.{extent_of, extents_of, with_blob}
-use Rattle.osm_store.specs.Rows.{HasBlock, placed, placed_in, body_row, extent_row}
-use Rattle.osm_store.specs.Steps.{Puts, IsEmptyStore}
-use Rattle.osm_store.specs.Tables.{store_schema}
-use Rattle.osm_store.specs.Asking.{JustAsks}
-use Rattle.osm_store.specs.Holding.{IsBlob, IsKept, TablesHold, Holds, MayLeave, LeavesAMap}
+use Rattle.osm_store.specs.Keeping.{extent_of, with_blob}
+use Rattle.osm_store.specs.declared.layout.Layout.{Layout}
+use Rattle.osm_store.specs.declared.layout.Layout.TheVariants.{Blocks, Columns}
+use Rattle.osm_store.specs.Layouts.{schema_of}
+use Rattle.osm_store.specs.Rows.{Placed, CanStore, placed, placed_in, body_row, extent_row}
+use Rattle.osm_store.specs.ColumnRows.{element_row, tags_at, links_at, tag_row, link_row}
+use Rattle.osm_store.specs.Steps.{Gains, GainsElements, Puts, HaveNoElements, IsEmptyStore}
+use Rattle.osm_store.specs.Asking.{Keeps, JustAsks}
+use Rattle.sqlite.proofs.StateLemmas.{survives_then}
+use Rattle.osm_store.specs.LayoutHolding.{IsBlob, IsKept, HasRows, HoldElements, TablesHold, Holds, MayLeave, LeavesAMap}
+use Rattle.std.proofs.lemmas.List.Concat.{flat_map-append}
 use Rattle.osm_store.proofs.NumberOrder.{numbers_below}
 use Rattle.osm_store.proofs.PlacedLaws.{Entry, within}
 use Rattle.osm_store.proofs.OneMap.{one_map}
@@ -101,34 +105,57 @@ none_of : (found : Option Blob) → ((blob : Blob) → found ≢ Some blob) → 
 none_of None h = refl
 none_of (Some blob) h = absurd (h blob refl)
 
-module _ (held : HeldMap) (off : ℕ) (blob : Blob) (kept : IsKept held) (free : IsFree held off blob.fin) (order : off < blob.fin) where
+module _ (held : HeldMap) (off : ℕ) (blob : Blob) (layout : Layout) (kept : IsKept layout held) (free : IsFree held off blob.fin) (order : off < blob.fin) where
   unheld : find nat_cmp off (entries held) ≡ None
   unheld = sym (get-entries held off) ∙ none_of (get held off) (IsFree-unheld held off blob.fin kept.apart free order)
 
   inserted : entries (with_blob held off blob) ≡ put nat_cmp off blob (entries held)
   inserted = entries-insert nat_cmp_total held off blob
 
-  pub kept_more : blob.fin ≤ 2 ^ 62 → IsBlob blob → IsKept (with_blob held off blob)
+  pub kept_more : blob.fin ≤ 2 ^ 62 → IsBlob layout blob → IsKept layout (with_blob held off blob)
   kept_more limit is = record {
     apart = IsApart-insert held off blob kept.apart free order limit;
-    blobs = subst (AllByRecursion (λ (entry : Entry). IsBlob entry.1)) (sym inserted) (all_put off blob (λ (entry : Entry). IsBlob entry.1) (entries held) is kept.blobs unheld);
+    blobs = subst (AllByRecursion (λ (entry : Entry). IsBlob layout entry.1)) (sym inserted) (all_put off blob (λ (entry : Entry). IsBlob layout entry.1) (entries held) is kept.blobs unheld);
   }
 
-  pub hold_more : (old new : Trees) → TablesHold held old → Puts old new (extent_of (off, blob)) (map body_row (placed off 0 blob.elements)) → TablesHold (with_blob held off blob) new
-  hold_more old new tables puts =
-      let all = IsPermutation-flat_map within _ _ (one_new off blob (entries held) unheld) in
-      let rows : IsPermutation (map body_row (placed off 0 blob.elements) ++ map body_row (placed_in held)) (map body_row (flat_map within (put nat_cmp off blob (entries held)))) =
-      subst (λ l. IsPermutation l (map body_row (flat_map within (put nat_cmp off blob (entries held))))) (map-append body_row (placed off 0 blob.elements) (placed_in held)) (IsPermutation-map body_row _ _ all) in
-      let mine = map body_row (placed off 0 blob.elements) in
-      record {
-        sound = puts.sound;
-        meta = puts.meta ∙ tables.meta;
-        blob = puts.blob ∙ ap (put_row (extent_row (extent_of (off, blob)))) tables.blob ∙ put_entry off blob (entries held) unheld ∙ ap (λ l. map extent_row (map extent_of l)) (sym inserted);
-        body = subst (λ l. IsPermutation (map body_row (flat_map within l)) (map (drop 1) (new 2))) (sym inserted)
-            (IsPermutation-trans _ _ _ (IsPermutation-sym _ _ rows)
-            (IsPermutation-trans _ _ _ (IsPermutation-append_comm mine (map body_row (placed_in held)))
-            (IsPermutation-trans _ _ _ (IsPermutation-append_left mine _ _ tables.body) puts.body)));
-      }
+  -- a table whose rows are those of the elements has those of the new ones too
+  module _ (rows : List Placed → List Row) (append : (xs ys : List Placed) → rows (xs ++ ys) ≡ rows xs ++ rows ys) (permute : (xs ys : List Placed) → IsPermutation xs ys → IsPermutation (rows xs) (rows ys)) where
+    has_more : (old new : List Row) → HasRows (rows (placed_in held)) old → Gains old (rows (placed off 0 blob.elements)) new → HasRows (rows (placed_in (with_blob held off blob))) new
+    has_more old new has gains =
+        let mine = rows (placed off 0 blob.elements) in
+        let all = permute _ _ (IsPermutation-flat_map within _ _ (one_new off blob (entries held) unheld)) in
+        let both : IsPermutation (mine ++ rows (placed_in held)) (rows (flat_map within (put nat_cmp off blob (entries held)))) =
+        subst (λ l. IsPermutation l (rows (flat_map within (put nat_cmp off blob (entries held))))) (append (placed off 0 blob.elements) (placed_in held)) all in
+        subst (λ l. IsPermutation (rows (flat_map within l)) (map (drop 1) new)) (sym inserted)
+        (IsPermutation-trans _ _ _ (IsPermutation-sym _ _ both)
+        (IsPermutation-trans _ _ _ (IsPermutation-append_comm mine (rows (placed_in held)))
+        (IsPermutation-trans _ _ _ (IsPermutation-append_left mine _ _ has) gains)))
+
+  module _ {X : Type 0} (parts : Placed → List X) (row : X → Row) where
+    append_parts : (xs ys : List Placed) → map row (flat_map parts (xs ++ ys)) ≡ map row (flat_map parts xs) ++ map row (flat_map parts ys)
+    append_parts xs ys = ap (map row) (flat_map-append parts xs ys) ∙ map-append row (flat_map parts xs) (flat_map parts ys)
+
+    permute_parts : (xs ys : List Placed) → IsPermutation xs ys → IsPermutation (map row (flat_map parts xs)) (map row (flat_map parts ys))
+    permute_parts xs ys same = IsPermutation-map row _ _ (IsPermutation-flat_map parts xs ys same)
+
+    has_more_parts : (old new : List Row) → HasRows (map row (flat_map parts (placed_in held))) old → Gains old (map row (flat_map parts (placed off 0 blob.elements))) new
+        → HasRows (map row (flat_map parts (placed_in (with_blob held off blob)))) new
+    has_more_parts = has_more (λ ps. map row (flat_map parts ps)) append_parts permute_parts
+
+  has_more_rows : (row : Placed → Row) (old new : List Row) → HasRows (map row (placed_in held)) old → Gains old (map row (placed off 0 blob.elements)) new → HasRows (map row (placed_in (with_blob held off blob))) new
+  has_more_rows row = has_more (map row) (map-append row) (IsPermutation-map row)
+
+  more_elements : (layout : Layout) (old new : Trees) → HoldElements layout (placed_in held) old → GainsElements layout (placed off 0 blob.elements) old new → HoldElements layout (placed_in (with_blob held off blob)) new
+  more_elements Blocks old new has gains = has_more_rows body_row (old 2) (new 2) has gains
+  more_elements Columns old new has gains = (has_more_rows element_row (old 2) (new 2) has.0 gains.0, has_more_parts tags_at tag_row (old 4) (new 4) has.1 gains.1, has_more_parts links_at link_row (old 6) (new 6) has.2 gains.2)
+
+  pub hold_more : (old new : Trees) → TablesHold layout held old → Puts layout old new (extent_of (off, blob)) (placed off 0 blob.elements) → TablesHold layout (with_blob held off blob) new
+  hold_more old new tables puts = record {
+    sound = puts.sound;
+    meta = puts.meta ∙ tables.meta;
+    blob = puts.blob ∙ ap (put_row (extent_row (extent_of (off, blob)))) tables.blob ∙ put_entry off blob (entries held) unheld ∙ ap (λ l. map extent_row (map extent_of l)) (sym inserted);
+    elements = more_elements layout old new tables.elements puts.elements;
+  }
 
 -- ---- a store that holds nothing
 
@@ -145,42 +172,49 @@ none_held off blob is =
     let bad : Some blob ≡ None = sym is ∙ none in
     cc
 
-pub nothing_kept : IsKept empty
-nothing_kept = record {
+pub nothing_kept : (layout : Layout) → IsKept layout empty
+nothing_kept layout = record {
   apart = record {
     filled = λ at blob is. absurd (none_held at blob is);
     limit = λ at blob is. absurd (none_held at blob is);
     apart = λ at next blob other is is_next low. absurd (none_held at blob is);
   };
-  blobs = subst (AllByRecursion (λ (entry : Entry). IsBlob entry.1)) (sym no_entries) tt;
+  blobs = subst (AllByRecursion (λ (entry : Entry). IsBlob layout entry.1)) (sym no_entries) tt;
 }
 
-pub hold_nothing : (db : Trees) → IsEmptyStore db → TablesHold empty db
-hold_nothing db h = record {
+has_none : (table : List Row) → table ≡ [] → HasRows [] table
+has_none table none = subst (λ rows. IsPermutation [] (map (drop 1) rows)) (sym none) (IsPermutation-refl [])
+
+no_elements : (layout : Layout) (db : Trees) → HaveNoElements layout db → HoldElements layout [] db
+no_elements Blocks db none = has_none (db 2) none
+no_elements Columns db none = (has_none (db 2) none.0, has_none (db 4) none.1, has_none (db 6) none.2)
+
+pub hold_nothing : (layout : Layout) (db : Trees) → IsEmptyStore layout db → TablesHold layout empty db
+hold_nothing layout db h = record {
   sound = h.sound;
   meta = h.meta;
   blob = h.blob ∙ ap (λ l. map extent_row (map extent_of l)) (sym no_entries);
-  body = subst (λ l. IsPermutation (map body_row (flat_map within l)) (map (drop 1) (db 2))) (sym no_entries) (subst (λ rows. IsPermutation [] (map (drop 1) rows)) (sym h.body) (IsPermutation-refl []));
+  elements = subst (λ l. HoldElements layout (flat_map within l) db) (sym no_entries) (no_elements layout db h.elements);
 }
 
-pub nothing_else : (db : Trees) → IsEmptyStore db → (other : HeldMap) → IsKept other → TablesHold other db → other ≡ empty
-nothing_else db h other kept tables = one_map other empty db kept nothing_kept tables (hold_nothing db h)
+pub nothing_else : (layout : Layout) (db : Trees) → IsEmptyStore layout db → (other : HeldMap) → IsKept layout other → TablesHold layout other db → other ≡ empty
+nothing_else layout db h other kept tables = one_map layout other empty db kept (nothing_kept layout) tables (hold_nothing layout db h)
 
 -- ---- a put
 
-module _ (held : HeldMap) (off : ℕ) (blob : Blob) (old new : State) (holds : Holds old held) (free : IsFree held off blob.fin) (order : off < blob.fin) (limit : blob.fin ≤ 2 ^ 62) where
-  abbrev rows : List Row
-  rows = map body_row (placed off 0 blob.elements)
+module _ (held : HeldMap) (off : ℕ) (blob : Blob) (layout : Layout) (old new : State) (holds : Holds layout old held) (free : IsFree held off blob.fin) (order : off < blob.fin) (limit : blob.fin ≤ 2 ^ 62) where
+  abbrev added : List Placed
+  added = placed off 0 blob.elements
 
   abbrev pub MayPut : Trees → Type 0
-  MayPut trees = IsTrue old.is_open × AllByRecursion HasBlock blob.elements × (old.now.schema ≡ store_schema → Puts old.now.trees trees (extent_of (off, blob)) rows)
+  MayPut trees = IsTrue old.is_open × AllByRecursion (CanStore layout) blob.elements × (old.now.schema ≡ schema_of layout → Puts layout old.now.trees trees (extent_of (off, blob)) added)
 
-  pub holds_more : HasCleanDisk new → (old.now.schema ≡ store_schema → (new.now.schema ≡ store_schema) × Puts old.now.trees new.now.trees (extent_of (off, blob)) rows)
-      → IsTrue new.is_open → new.committed ≡ new.now → IsBlob blob → Holds new (with_blob held off blob)
+  pub holds_more : HasCleanDisk new → (old.now.schema ≡ schema_of layout → (new.now.schema ≡ schema_of layout) × Puts layout old.now.trees new.now.trees (extent_of (off, blob)) added)
+      → IsTrue new.is_open → new.committed ≡ new.now → IsBlob layout blob → Holds layout new (with_blob held off blob)
   holds_more clean puts there committed is =
       let put = puts holds.schema in
-      let kept = kept_more held off blob holds.kept free order limit is in
-      let tables = hold_more held off blob holds.kept free order old.now.trees new.now.trees holds.tables put.1 in
+      let kept = kept_more held off blob layout holds.kept free order limit is in
+      let tables = hold_more held off blob layout holds.kept free order old.now.trees new.now.trees holds.tables put.1 in
       record {
         clean = clean;
         opened = there;
@@ -188,56 +222,74 @@ module _ (held : HeldMap) (off : ℕ) (blob : Blob) (old new : State) (holds : H
         schema = put.0;
         kept = kept;
         tables = tables;
-        only = λ other kept_too tables_too. one_map other (with_blob held off blob) new.now.trees kept_too kept tables_too tables;
+        only = λ other kept_too tables_too. one_map layout other (with_blob held off blob) new.now.trees kept_too kept tables_too tables;
       }
 
-  left_more : IsBlob blob → (db : Trees) → MayPut db → TablesHold (with_blob held off blob) db
-  left_more is db may = hold_more held off blob holds.kept free order old.now.trees db holds.tables (may.2 holds.schema)
+  left_more : IsBlob layout blob → (db : Trees) → MayPut db → TablesHold layout (with_blob held off blob) db
+  left_more is db may = hold_more held off blob layout holds.kept free order old.now.trees db holds.tables (may.2 holds.schema)
 
-  pub leaves_more : Survives old new MayPut → (AllByRecursion HasBlock blob.elements → IsBlob blob) → HasCleanDisk new → (left : HeldMap) → MayLeave new left → MayLeave old left ⊎ (left ≡ with_blob held off blob)
+  pub leaves_more : Survives old new MayPut → (AllByRecursion (CanStore layout) blob.elements → IsBlob layout blob) → HasCleanDisk new → (left : HeldMap) → MayLeave layout new left → MayLeave layout old left ⊎ (left ≡ with_blob held off blob)
   leaves_more survives is clean left may = elim (survives.crash clean may.trees may.left) [
     | inl before ↦ inl (record { kept = may.kept; trees = may.trees; left = before; tables = may.tables })
     | inr put ↦
         let blob_is = is put.1 in
-        inr (one_map left (with_blob held off blob) may.trees may.kept (kept_more held off blob holds.kept free order limit blob_is) may.tables (left_more blob_is may.trees put))
+        inr (one_map layout left (with_blob held off blob) may.trees may.kept (kept_more held off blob layout holds.kept free order limit blob_is) may.tables (left_more blob_is may.trees put))
   ]
 
-  pub leaves_a_map : Survives old new MayPut → (AllByRecursion HasBlock blob.elements → IsBlob blob) → IsSettled old → HasCleanDisk new → LeavesAMap new
+  pub leaves_a_map : Survives old new MayPut → (AllByRecursion (CanStore layout) blob.elements → IsBlob layout blob) → IsSettled old → HasCleanDisk new → LeavesAMap layout new
   leaves_a_map survives is settles clean db left = elim (survives.crash clean db left) [
-    | inl before ↦ leaves_held old held holds settles db before
+    | inl before ↦ leaves_held layout old held holds settles db before
     | inr put ↦
         let blob_is = is put.1 in
-        (with_blob held off blob, kept_more held off blob holds.kept free order limit blob_is, left_more blob_is db put)
+        (with_blob held off blob, kept_more held off blob layout holds.kept free order limit blob_is, left_more blob_is db put)
   ]
 
 -- the connection shows the same
-pub holds_still : (held : HeldMap) (old later : State) → Holds old held → HasCleanDisk later → IsTrue later.is_open → later.now ≡ old.now → later.committed ≡ old.committed → Holds later held
-holds_still held old later holds clean there now committed = record {
+pub holds_still : (layout : Layout) (held : HeldMap) (old later : State) → Holds layout old held → HasCleanDisk later → IsTrue later.is_open → later.now ≡ old.now → later.committed ≡ old.committed → Holds layout later held
+holds_still layout held old later holds clean there now committed = record {
   clean = clean;
   opened = there;
   settled = now ∙ holds.settled ∙ sym committed;
   schema = ap (λ (d : Database). d.schema) now ∙ holds.schema;
   kept = holds.kept;
-  tables = subst (λ (d : Database). TablesHold held d.trees) (sym now) holds.tables;
-  only = λ other kept tables. holds.only other kept (subst (λ (d : Database). TablesHold other d.trees) now tables);
+  tables = subst (λ (d : Database). TablesHold layout held d.trees) (sym now) holds.tables;
+  only = λ other kept tables. holds.only other kept (subst (λ (d : Database). TablesHold layout other d.trees) now tables);
 }
 
 -- ---- a read
 
-module _ (old new : State) (asks : JustAsks old new) where
-  pub clean_before : HasCleanDisk new → HasCleanDisk old
-  clean_before clean = omega (arith, asks.crash.clean, clean)
+pub clean_before : (old new : State) → JustAsks old new → HasCleanDisk new → HasCleanDisk old
+clean_before old new asks clean = omega (arith, asks.crash.clean, clean)
 
-  pub asks_holds : (held : HeldMap) → Holds old held → HasCleanDisk new → IsTrue new.is_open → Holds new held
+module _ (layout : Layout) (old new : State) (asks : JustAsks old new) where
+  pub asks_holds : (held : HeldMap) → Holds layout old held → HasCleanDisk new → IsTrue new.is_open → Holds layout new held
   asks_holds held holds clean there =
       let keeps = asks.keeps clean in
-      holds_still held old new holds clean there (keeps.now there holds.settled) (keeps.committed there)
+      holds_still layout held old new holds clean there (keeps.now there holds.settled) (keeps.committed there)
 
   asks_left : HasCleanDisk new → (db : Trees) → new.may_leave db → old.may_leave db
   asks_left clean db left = elim (asks.crash.crash clean db left) [ inl before ↦ before | inr none ↦ absurd none ]
 
-  pub asks_leaves : HasCleanDisk new → (left : HeldMap) → MayLeave new left → MayLeave old left
+  pub asks_leaves : HasCleanDisk new → (left : HeldMap) → MayLeave layout new left → MayLeave layout old left
   asks_leaves clean left may = record { kept = may.kept; trees = may.trees; left = asks_left clean may.trees may.left; tables = may.tables }
 
-  pub asks_leaves_a_map : HasCleanDisk new → LeavesAMap old → LeavesAMap new
+  pub asks_leaves_a_map : HasCleanDisk new → LeavesAMap layout old → LeavesAMap layout new
   asks_leaves_a_map clean all db left = all db (asks_left clean db left)
+
+-- ---- several reads
+
+keeps_both : (old mid new : State) → Keeps old mid → Keeps mid new → Keeps old new
+keeps_both old mid later first second = record {
+  was_open = λ there. first.was_open (second.was_open there);
+  committed = λ there. second.committed there ∙ first.committed (second.was_open there);
+  now = λ there settled.
+      let before = first.now (second.was_open there) settled in
+      second.now there (before ∙ settled ∙ sym (first.committed (second.was_open there))) ∙ before;
+}
+
+pub asks_then : (old mid new : State) → JustAsks old mid → JustAsks mid new → JustAsks old new
+asks_then old mid new first second = record {
+  keeps = λ clean. keeps_both old mid new (first.keeps (clean_before mid new second clean)) (second.keeps clean);
+  mode = λ outside. second.mode (first.mode outside);
+  crash = survives_then old mid new _ _ (λ _. ⊥) (λ _ db none. none) (λ _ db none. none) first.crash second.crash;
+}

@@ -1,5 +1,5 @@
 -- What each query of a store reads.
-use Rattle.std.proofs.Common.{◌≡◌, ◌⊎◌, inl, inr, ℕ, ℤ, pos, ◌<◌, Bool, true, false, ◌&&◌, nat_lt, nat_le, ◌==◌, List, [], ◌∷◌, length, map, take, refl, sym, ap, ap₂, subst, ◌∙◌, ◌≤◌, arith, Less, Equal, All, IsPermutation}
+use Rattle.std.proofs.Common.{◌≡◌, inl, inr, ℕ, ℤ, pos, ◌<◌, Bool, true, false, ◌&&◌, nat_lt, nat_le, ◌==◌, List, [], ◌∷◌, length, map, take, refl, sym, ap, ap₂, subst, ◌∙◌, ◌≤◌, arith, Less, Equal, IsPermutation}
 use Rattle.std.specs.Prelude.{filter}
 use Rattle.std.specs.Ordering.{ordering_then}
 use Rattle.sqlite.specs.declared.types.Value.{Value}
@@ -28,9 +28,12 @@ use Rattle.std.proofs.lemmas.List.Elements.{filter_passes, recursion_from_All}
 use Rattle.std.proofs.lemmas.Bool.Decides.{nat_tests}
 use Rattle.osm_value.specs.declared.element.MemberKind.{MemberKind}
 use Rattle.osm_store.specs.declared.keeper.Extent.{Extent}
+use Rattle.osm_store.specs.declared.layout.Layout.{Layout}
+use Rattle.osm_store.specs.declared.layout.Layout.TheVariants.{Blocks, Columns}
+use Rattle.osm_store.specs.Layouts.{schema_of}
 use Rattle.osm_store.specs.Keeping.{touches}
 use Rattle.osm_store.specs.Tables.{store_schema, select_version_text, select_extents_text, select_last_start_text, select_touching_text, select_rows_text, select_element_text}
-use Rattle.osm_store.specs.Rows.{Placed, body_row, extent_columns as shown_extent, block_row, found_row, element_code, kind_of, id_of, is_of}
+use Rattle.osm_store.specs.Rows.{Placed, body_row, extent_columns as shown_extent, block_row, found_row, element_code, kind_of, id_of, is_in, is_of}
 use Rattle.osm_store.specs.Selects.{selects}
 use Rattle.osm_store.proofs.CauseLemmas.{IsCause, takes, query_causes}
 use Rattle.osm_store.proofs.TableReads.{select, orders, answer_is}
@@ -44,8 +47,8 @@ abbrev pub columns_at : List ℕ → Row → Row
 columns_at places row = map (column row) places
 
 -- the table `blob` has the rows of these extents, which ascend; its key `off` is the rowid
-pub record HasExtents (db : Database) (held : List Extent) : Type 0 where
-  pub schema : db.schema ≡ store_schema
+pub record HasExtents (layout : Layout) (db : Database) (held : List Extent) : Type 0 where
+  pub schema : db.schema ≡ schema_of layout
   pub rows : IsPermutation (map (columns_at (0 ∷ 2 ∷ 3 ∷ 4 ∷ 5 ∷ [])) (db.trees 1)) (map shown_extent held)
   pub ascending : IsAscending (λ a b. a.off < b.off) held
 
@@ -56,27 +59,24 @@ pub record HasElements (db : Database) (held : List Placed) : Type 0 where
   pub ascending : IsAscending IsBefore held
 
 -- the table `meta` has one row, which names the version
-pub record HasVersion (db : Database) (version : ℤ) : Type 0 where
-  pub schema : db.schema ≡ store_schema
+pub record HasVersion (layout : Layout) (db : Database) (version : ℤ) : Type 0 where
+  pub schema : db.schema ≡ schema_of layout
   pub rows : IsPermutation (map (columns_at (0 ∷ [])) (db.trees 0)) ((Int version ∷ []) ∷ [])
-
-abbrev pub is_in : ℕ → Placed → Bool
-is_in off p = p.0 == off
 
 always : {X : Type 0} (xs : List X) → filter (λ _. true) xs ≡ xs
 always [] = refl
 always (x ∷ xs) = ap (λ ys. x ∷ ys) (always xs)
 
-and_true : (a b : Bool) → (a && (b && true)) ≡ (a && b)
+pub and_true : (a b : Bool) → (a && (b && true)) ≡ (a && b)
 and_true true true = refl
 and_true true false = refl
 and_true false b = refl
 
-alone : (b : Bool) → (b && true) ≡ b
+pub alone : (b : Bool) → (b && true) ≡ b
 alone true = refl
 alone false = refl
 
-abbrev is : CompareOp → Value → Value → Bool
+abbrev pub is : CompareOp → Value → Value → Bool
 is op a b = is_true (binary (Compare op Binary) a b)
 
 -- what a query on `blob` is sorted by, and what it shows
@@ -102,12 +102,12 @@ first_of : (P : ℕ → Type 0) (rows : List Output) → AllByRecursion (λ (o :
 first_of P [] all = tt
 first_of P (o ∷ rows) all = (all.0, tt)
 
-module _ (old new : State) (rows : List Row) (held : List Extent) (h : HasExtents old.now held) where
+module _ (layout : Layout) (old new : State) (rows : List Row) (held : List Extent) (h : HasExtents layout old.now held) where
   -- each row shows the start of an extent at `from` or before
   pub last_start_read : (from : ℕ) (P : ℕ → Type 0) → AllByRecursion (λ (e : Extent). e.off ≤ from → P e.off) held → Shown select_last_start_text (Int (pos from) ∷ []) old new rows → AllByRecursion (ShowsOne P) rows
   last_start_read from P all shown =
       let params = Int (pos from) ∷ [] in
-      let read = reads_as select_last_start_text params old new store_schema h.schema _ last_start_is.0 last_start_is.2 last_start_is.1 rows shown in
+      let read = reads_as select_last_start_text params old new (schema_of layout) h.schema _ (last_start_is layout).0 (last_start_is layout).2 (last_start_is layout).1 rows shown in
       let a = read.answer Null in
       let ordered = orders 1 (compares Le (col 1 0) (col 0 0) ∷ []) (col 1 0 ∷ []) latest_first (lit (Int (pos 1))) (overlay old.now.trees []) params rows
       (columns_at (0 ∷ 2 ∷ 3 ∷ 4 ∷ 5 ∷ [])) shown_extent held h.rows
@@ -121,7 +121,7 @@ module _ (old new : State) (rows : List Row) (held : List Extent) (h : HasExtent
 
   pub extents_read : Shown select_extents_text [] old new rows → rows ≡ map shown_extent held
   extents_read shown =
-      let read = reads_as select_extents_text [] old new store_schema h.schema _ extents_is.0 extents_is.2 extents_is.1 rows shown in
+      let read = reads_as select_extents_text [] old new (schema_of layout) h.schema _ (extents_is layout).0 (extents_is layout).2 (extents_is layout).1 rows shown in
       answer_is 1 [] extent_columns (col 1 0 ∷ []) (overlay old.now.trees []) [] rows (columns_at (0 ∷ 2 ∷ 3 ∷ 4 ∷ 5 ∷ [])) shown_extent held h.rows
       (λ _. true) (λ r. refl) extent_output (λ r. refl) (λ _. true) (λ x. refl)
       (ascending-filter _ (λ _. true) held (ascending_weaker _ _ by_offset held h.ascending)) (read.answer Null)
@@ -130,7 +130,7 @@ module _ (old new : State) (rows : List Row) (held : List Extent) (h : HasExtent
   pub touching_read : (start from to : ℕ) → Shown select_touching_text (Int (pos start) ∷ Int (pos to) ∷ Int (pos from) ∷ []) old new rows → rows ≡ map shown_extent (filter (touches_from start from to) held)
   touching_read start from to shown =
       let params = Int (pos start) ∷ Int (pos to) ∷ Int (pos from) ∷ [] in
-      let read = reads_as select_touching_text params old new store_schema h.schema _ touching_is.0 touching_is.2 touching_is.1 rows shown in
+      let read = reads_as select_touching_text params old new (schema_of layout) h.schema _ (touching_is layout).0 (touching_is layout).2 (touching_is layout).1 rows shown in
       answer_is 1 (compares Ge (col 1 0) (col 0 0) ∷ compares Lt (col 1 0) (col 0 1) ∷ compares Gt (col 1 2) (col 0 2) ∷ []) extent_columns (col 1 0 ∷ []) (overlay old.now.trees []) params rows
       (columns_at (0 ∷ 2 ∷ 3 ∷ 4 ∷ 5 ∷ [])) shown_extent held h.rows
       (λ v. is Ge (column v 0) (Int (pos start)) && (is Lt (column v 0) (Int (pos to)) && (is Gt (column v 1) (Int (pos from)) && true))) (λ r. refl) extent_output (λ r. refl)
@@ -138,7 +138,7 @@ module _ (old new : State) (rows : List Row) (held : List Extent) (h : HasExtent
       (ascending-filter _ (touches_from start from to) held (ascending_weaker _ _ by_offset held h.ascending)) (read.answer Null)
 
 -- the keys of a query on `body` that is sorted by offset and position
-in_order : (x y : Placed) → IsBefore x y → ordering_then (value_cmp (Int (pos x.0)) (Int (pos y.0))) (ordering_then (value_cmp (Int (pos x.1)) (Int (pos y.1))) Equal) ≡ Less
+pub in_order : (x y : Placed) → IsBefore x y → ordering_then (value_cmp (Int (pos x.0)) (Int (pos y.0))) (ordering_then (value_cmp (Int (pos x.1)) (Int (pos y.1))) Equal) ≡ Less
 in_order x y (inl low) = ap (λ o. ordering_then o (ordering_then (value_cmp (Int (pos x.1)) (Int (pos y.1))) Equal)) (numbers_below x.0 y.0 low)
 in_order x y (inr h) =
     ap₂ (λ o p. ordering_then o (ordering_then p Equal)) (numbers_tied x.0 y.0 h.0) (numbers_below x.1 y.1 h.1)
@@ -186,23 +186,25 @@ module _ (old new : State) (rows : List Row) (held : List Placed) (h : HasElemen
 abbrev version_output : Row → Output
 version_output v = ([], column v 0 ∷ [])
 
-pub version_read : (old new : State) (rows : List Row) (version : ℤ) → HasVersion old.now version → Shown select_version_text [] old new rows → rows ≡ (Int version ∷ []) ∷ []
-version_read old new rows version h shown =
-    let read = reads_as select_version_text [] old new store_schema h.schema _ version_is.0 version_is.2 version_is.1 rows shown in
+pub version_read : (layout : Layout) (old new : State) (rows : List Row) (version : ℤ) → HasVersion layout old.now version → Shown select_version_text [] old new rows → rows ≡ (Int version ∷ []) ∷ []
+version_read layout old new rows version h shown =
+    let read = reads_as select_version_text [] old new (schema_of layout) h.schema _ (version_is layout).0 (version_is layout).2 (version_is layout).1 rows shown in
     answer_is 0 [] (col 1 0 ∷ []) [] (overlay old.now.trees []) [] rows (columns_at (0 ∷ [])) (λ (v : ℤ). Int v ∷ []) (version ∷ []) h.rows
     (λ _. true) (λ r. refl) version_output (λ r. refl) (λ _. true) (λ x. refl) (tt, tt) (read.answer Null)
 
-version_takes : takes (understood store_schema select_version_text) (length select_version_text) 0 ≡ true
+version_takes : (layout : Layout) → takes (understood (schema_of layout) select_version_text) (length select_version_text) 0 ≡ true
 unfolding understood everything
-version_takes = refl
+version_takes Blocks = refl
+version_takes Columns = refl
 
-version_typed : accepts_program store_schema [] (select 0 [] (col 1 0 ∷ []) []) [] ≡ true
-version_typed = refl
+version_typed : (layout : Layout) → accepts_program (schema_of layout) [] (select 0 [] (col 1 0 ∷ []) []) [] ≡ true
+version_typed Blocks = refl
+version_typed Columns = refl
 
 version_selects : selects select_version_text ≡ true
 unfolding everything
 version_selects = refl
 
-pub version_fails : (old new : State) → old.now.schema ≡ store_schema → (e : Error) → FailsToQuery select_version_text [] old new e → IsCause e
-version_fails old new has e failed =
-    query_causes select_version_text [] old new store_schema has version_selects version_takes 0 [] (col 1 0 ∷ []) [] _ version_is.0 version_is.1 version_typed e failed
+pub version_fails : (layout : Layout) (old new : State) → old.now.schema ≡ schema_of layout → (e : Error) → FailsToQuery select_version_text [] old new e → IsCause e
+version_fails layout old new has e failed =
+    query_causes select_version_text [] old new (schema_of layout) has version_selects (version_takes layout) 0 [] (col 1 0 ∷ []) [] _ (version_is layout).0 (version_is layout).1 (version_typed layout) e failed

@@ -1,16 +1,15 @@
 -- What the texts of the store mean.
-use Rattle.std.proofs.Common.{◌≡◌, ℕ, List, [], ◌∷◌, Ok, Err, Result, Some, None, refl, pos}
+use Rattle.std.proofs.Common.{◌≡◌, List, [], ◌∷◌, Ok, refl, pos}
 use Rattle.sqlite.specs.Compile.{table_defined_by, index_defined_by}
 use Rattle.sqlite.specs.Change.{created, indexed}
 use Rattle.sqlite_tied.specs.Compute.{everything}
-use Rattle.sqlite.specs.Table.{Table}
 use Rattle.sqlite.specs.Source.TheVariants.{Values}
 use Rattle.sqlite.specs.Command.TheVariants.{Insert, CreateTable, CreateIndex}
 use Rattle.sqlite.specs.Term.{Term, lit, col}
 use Rattle.sqlite.specs.declared.types.Value.TheVariants.{Null, Int}
 use Rattle.sqlite.specs.Listing.{understood}
 use Rattle.sqlite.proofs.Callers.{IsPlain, command_of, statement_of}
-use Rattle.osm_store.specs.Tables.{version_text, select_version_text, insert_blob_text, insert_body_text, meta_text, blob_text, body_text, index_text, meta, blob, body, by_place, by_element, no_schema, one_table, two_tables, three_tables, store_schema}
+use Rattle.osm_store.specs.Tables.{version_text, select_version_text, insert_blob_text, insert_body_text, meta_text, blob_text, body_text, index_text, meta, blob, body, by_element, no_schema, one_table, two_tables, three_tables, store_schema}
 
 pub meta_defined : table_defined_by meta_text ≡ Ok meta
 unfolding everything

@@ -1,5 +1,5 @@
 -- The rows that a held map stands for.
-use Rattle.std.specs.Prelude.{ℕ, ◌+◌, ◌^◌, ◌<◌, ◌==◌, ◌&&◌, Bool, ℤ, pos, List, [], ◌∷◌, flat_map, length}
+use Rattle.std.specs.Prelude.{◌≡◌, ◌⊎◌, ℕ, ◌+◌, ◌^◌, ◌<◌, ◌==◌, ◌&&◌, Bool, ℤ, pos, List, [], ◌∷◌, flat_map, length}
 use Rattle.std.specs.Ordering.{int_eq}
 use Rattle.std.specs.FinMap.{entries}
 use Rattle.sqlite.specs.declared.types.Value.TheVariants.{Null, Int, Blob as Octets}
@@ -13,7 +13,10 @@ use Rattle.osm_write.specs.Canon.{canon}
 use Rattle.pbf_frame.specs.declared.kind.Kind.{Kind}
 use Rattle.pbf_frame.specs.declared.kind.Kind.TheVariants.{OsmHeader, OsmData, Other}
 use Rattle.osm_store.specs.declared.keeper.Extent.{Extent}
+use Rattle.osm_store.specs.declared.layout.Layout.{Layout}
+use Rattle.osm_store.specs.declared.layout.Layout.TheVariants.{Blocks, Columns}
 use Rattle.osm_store.specs.Held.{Blob, HeldMap, HasFewTexts}
+use Rattle.osm_store.specs.Layouts.{version_of}
 
 abbrev pub blob_code : Kind → ℕ
 blob_code OsmHeader = 0
@@ -48,8 +51,12 @@ placed off position (e ∷ es) = (off, position, e) ∷ placed off (position + 1
 abbrev pub placed_in : HeldMap → List Placed
 placed_in held = flat_map (λ (entry : ℕ × Blob). placed entry.0 0 entry.1.elements) (entries held)
 
-abbrev pub version_row : Row
-version_row = Int (pos 1) ∷ Null ∷ []
+-- by offset and position
+abbrev pub IsBefore : Placed → Placed → Type 0
+IsBefore a b = (a.0 < b.0) ⊎ ((a.0 ≡ b.0) × (a.1 < b.1))
+
+abbrev pub version_row : Layout → Row
+version_row layout = Int (pos (version_of layout)) ∷ Null ∷ []
 
 -- the rowid, and then the columns, of which the INTEGER PRIMARY KEY is kept as NULL
 abbrev pub extent_row : Extent → Row
@@ -74,6 +81,10 @@ block_row e = Octets (canon (e ∷ [])) ∷ []
 abbrev pub found_row : Placed → Row
 found_row p = Int (pos p.0) ∷ Int (pos p.1) ∷ Octets (canon (p.2 ∷ [])) ∷ []
 
+-- whether the element is of the blob at this offset
+abbrev pub is_in : ℕ → Placed → Bool
+is_in off p = p.0 == off
+
 -- whether the element has this kind and this id
 abbrev pub is_of : MemberKind → ℤ → Placed → Bool
 is_of kind id p = (element_code (kind_of p.2) == element_code kind) && int_eq (id_of p.2) id
@@ -83,6 +94,11 @@ pub record HasBlock (e : Element) : Type 0 where
   pub in_range : IsElement e
   pub short : length (canon (e ∷ [])) < 2 ^ 64
 
+-- what is known of an element that is kept as a block, and of one that is kept as columns
+abbrev pub CanStore : Layout → Element → Type 0
+CanStore Blocks e = HasBlock e
+CanStore Columns e = IsElement e
+
 -- what is known of each stored element
-abbrev pub IsStored : Element → Type 0
-IsStored e = HasBlock e × HasFewTexts e
+abbrev pub IsStored : Layout → Element → Type 0
+IsStored layout e = CanStore layout e × HasFewTexts e

@@ -8,30 +8,25 @@ ghost use Rattle.osm_store.specs.Asking.{JustAsks, NamesVersion};
 ghost use Rattle.osm_store.specs.Faults.{NamesNoVersion};
 ghost use Rattle.osm_store.specs.Finding.{AreMatches};
 ghost use Rattle.osm_store.specs.Held.{HeldMap};
-ghost use Rattle.osm_store.specs.Holding.{Holds, TablesHold};
-ghost use Rattle.osm_store.specs.Keeping.{IsForeign, failures_after};
+ghost use Rattle.osm_store.specs.LayoutHolding.{Holds, TablesHold};
+ghost use Rattle.osm_store.specs.Keeping.{IsForeign};
 ghost use Rattle.osm_store.specs.Rows.{is_of, placed_in};
 ghost use Rattle.osm_store.specs.Store.{JustReads};
-ghost use Rattle.osm_store.specs.Tables.{no_schema};
 
-use crate::create::create_tables;
 use crate::elements::{find_rows, load_rows};
 use crate::extents::{all_extents, touched_extents};
-use crate::fault::{StoreFault, fault_over_unknown};
+use crate::fault::StoreFault;
 use crate::found::Found;
 use crate::keeper::{Extent, Keeper};
+use crate::layout::Layout;
 use crate::loaded::Loaded;
+use crate::opening::{adopt_store, create_store, failures_after};
 use crate::rows::put_rows;
-use crate::version::version;
 use osm_value::{Element, MemberKind};
 use pbf_frame::Kind;
 use sqlite::{Alter, Connection};
-use sqlite_schema::schema::Schema;
 use std::alloc::Global;
 use std::marker::Model;
-
-/// The version that the table `meta` names.
-const VERSION: i64 = 1;
 
 /// A store of blobs in the tables of a connection.
 pub struct BodyStore<S: Alter> {
@@ -61,50 +56,27 @@ impl<S: Alter + Drop> Drop for BodyStore<S> {
     }
 }
 
-/// Whether a database has no tables, indexes and views.
-fn is_bare(schema: &Schema) -> bool
-    ensures { IsTrue result → schema.now ≡ no_schema }
-{
-    schema.tables.is_empty() && schema.indexes.is_empty() && schema.views.is_empty()
-}
-
-/// The count of failures after a call with this answer; it stays at the greatest number.
-fn failures_after<T>(answer: &Result<T, StoreFault>, failures: u64) -> u64
-    ensures { result ≡ failures_after answer.now failures }
-{
-    if answer.is_err() {
-        failures.saturating_add(1)
-    } else {
-        failures
-    }
-}
-
 impl<S: Alter> BodyStore<S> {
     /// Makes the tables of a store in a database that has none, in one transaction.
     ///
     /// A fault hands the connection back. It is `NotThisStore(None)` where the database has tables, or for a
     /// cause that is no want of memory or room, no step limit and no failure of the disk.
-    pub fn create(
-        mut connection: Connection<S>,
-    ) -> Result<BodyStore<S>, (StoreFault, Connection<S>)>
+    pub fn create(connection: Connection<S>) -> Result<BodyStore<S>, (StoreFault, Connection<S>)>
         requires { (state S.Store connection).in_transaction ≡ false }
-        ensures empty { IfOk result (λ store. HasCleanDisk (state S.Store store.connection) → Holds (state S.Store store.connection) empty) }
+        ensures empty { IfOk result (λ store. HasCleanDisk (state S.Store store.connection) → Holds Layout.Blocks (state S.Store store.connection) empty) }
         ensures failures { IfOk result (λ store. store.failures ≡ 0) }
         ensures unharmed { IfErr result (λ e. HasCleanDisk (state S.Store e.1) → IsTrue (state S.Store e.1).is_open → (state S.Store e.1).now ≡ (state S.Store connection).now) }
         ensures autocommit { IfErr result (λ e. (state S.Store e.1).in_transaction ≡ false) }
         ensures unnamed { IfErr result (λ e. NamesNoVersion e.0) }
         // a crash leaves what it could leave before, or the store that holds nothing
-        ensures crash { IfErr result (λ e. HasCleanDisk (state S.Store e.1) → (db : _) → (state S.Store e.1).may_leave db → (state S.Store connection).may_leave db ⊎ TablesHold empty db) }
+        ensures crash { IfErr result (λ e. HasCleanDisk (state S.Store e.1) → (db : _) → (state S.Store e.1).may_leave db → (state S.Store connection).may_leave db ⊎ TablesHold Layout.Blocks empty db) }
     {
-        if !is_bare(connection.schema()) {
-            return Err((StoreFault::NotThisStore(None), connection));
-        }
-        match create_tables(&mut connection) {
-            Ok(()) => Ok(BodyStore {
+        match create_store(connection, Layout::Blocks) {
+            Ok(connection) => Ok(BodyStore {
                 connection,
                 failures: 0,
             }),
-            Err(error) => Err((fault_over_unknown(error), connection)),
+            Err(refusal) => Err(refusal),
         }
     }
 
@@ -112,28 +84,22 @@ impl<S: Alter> BodyStore<S> {
     ///
     /// A fault hands the connection back. It is `NotThisStore` with the version where that is another one,
     /// and `NotThisStore(None)` where the database isn't a store.
-    pub fn adopt(mut connection: Connection<S>) -> Result<BodyStore<S>, (StoreFault, Connection<S>)>
+    pub fn adopt(connection: Connection<S>) -> Result<BodyStore<S>, (StoreFault, Connection<S>)>
         requires { (state S.Store connection).in_transaction ≡ false }
-        ensures held { (held : HeldMap) → Holds (state S.Store connection) held
-            → MatchResult result (λ store. HasCleanDisk (state S.Store store.connection) → Holds (state S.Store store.connection) held) (λ e. HasCleanDisk (state S.Store e.1) → ¬ (IsForeign e.0)) }
+        ensures held { (held : HeldMap) → Holds Layout.Blocks (state S.Store connection) held
+            → MatchResult result (λ store. HasCleanDisk (state S.Store store.connection) → Holds Layout.Blocks (state S.Store store.connection) held) (λ e. HasCleanDisk (state S.Store e.1) → ¬ (IsForeign e.0)) }
         ensures asks { MatchResult result (λ store. JustAsks (state S.Store connection) (state S.Store store.connection)) (λ e. JustAsks (state S.Store connection) (state S.Store e.1)) }
         ensures failures { IfOk result (λ store. store.failures ≡ 0) }
         ensures ours { IfOk result (λ store. HasCleanDisk (state S.Store store.connection) → NamesVersion (state S.Store connection) (state S.Store store.connection) (pos 1)) }
         ensures other { IfErr result (λ e. (found : ℤ) → e.0 ≡ StoreFault.NotThisStore (Some found) → (found ≢ pos 1) × (HasCleanDisk (state S.Store e.1) → NamesVersion (state S.Store connection) (state S.Store e.1) found)) }
         ensures autocommit { IfErr result (λ e. (state S.Store e.1).in_transaction ≡ false) }
     {
-        match version(&mut connection) {
-            Ok(found) => {
-                if found == VERSION {
-                    Ok(BodyStore {
-                        connection,
-                        failures: 0,
-                    })
-                } else {
-                    Err((StoreFault::NotThisStore(Some(found)), connection))
-                }
-            }
-            Err(fault) => Err((fault, connection)),
+        match adopt_store(connection, Layout::Blocks) {
+            Ok(connection) => Ok(BodyStore {
+                connection,
+                failures: 0,
+            }),
+            Err(refusal) => Err(refusal),
         }
     }
 
@@ -157,9 +123,9 @@ impl<S: Alter> BodyStore<S> {
 
     /// All held elements of this kind and id, each after the offset of its blob and its position there.
     pub fn find(&mut self, alloc: Global, kind: MemberKind, id: i64) -> Result<Found, StoreFault>
-        ensures found { (held : HeldMap) → Holds (state S.Store self.old.connection) held → HasCleanDisk (state S.Store self.new.connection)
+        ensures found { (held : HeldMap) → Holds Layout.Blocks (state S.Store self.old.connection) held → HasCleanDisk (state S.Store self.new.connection)
             → IfOk result (λ found. AreMatches found (filter (is_of kind id) (placed_in held))) }
-        ensures reads { JustReads S.Store self.old result self.new }
+        ensures reads { JustReads Layout.Blocks S.Store self.old result self.new }
     {
         let answer = find_rows(alloc, &mut self.connection, kind, id);
         self.failures = failures_after(&answer, self.failures);
@@ -168,17 +134,18 @@ impl<S: Alter> BodyStore<S> {
 }
 
 impl<S: Alter> Keeper for BodyStore<S> {
+    ghost use Rattle.osm_store.specs.declared.layout.Layout.{Layout};
     ghost use Rattle.sqlite.specs.State.{HasCleanDisk};
     ghost use Rattle.sqlite.specs.Held.{state};
     ghost use Rattle.std.specs.Prelude.{IsTrue};
-    ghost use Rattle.osm_store.specs.Holding.{Holds, MayLeave, LeavesAMap};
+    ghost use Rattle.osm_store.specs.LayoutHolding.{Holds, MayLeave, LeavesAMap};
     ghost use Rattle.osm_store.specs.StoreLaws.{leaves_held_alone, leaves_held};
 
-    ghost holds = { λ s held. Holds (state S.Store s.connection) held };
+    ghost holds = { λ s held. Holds Layout.Blocks (state S.Store s.connection) held };
 
-    ghost leaves = { λ s left. MayLeave (state S.Store s.connection) left };
+    ghost leaves = { λ s left. MayLeave Layout.Blocks (state S.Store s.connection) left };
 
-    ghost leaves_a_map = { λ s. LeavesAMap (state S.Store s.connection) };
+    ghost leaves_a_map = { λ s. LeavesAMap Layout.Blocks (state S.Store s.connection) };
 
     ghost is_honest = { λ s. HasCleanDisk (state S.Store s.connection) };
 
@@ -225,7 +192,13 @@ impl<S: Alter> Keeper for BodyStore<S> {
             kind,
             n: elements.len() as u64,
         };
-        let answer = put_rows(alloc, &mut self.connection, &extent, elements);
+        let answer = put_rows(
+            alloc,
+            &mut self.connection,
+            Layout::Blocks,
+            &extent,
+            elements,
+        );
         self.failures = failures_after(&answer, self.failures);
         answer
     }
@@ -234,9 +207,9 @@ impl<S: Alter> Keeper for BodyStore<S> {
         self.failures
     }
 
-    ghost settled = { λ store held left holds may. leaves_held_alone _ held holds (λ db there. S.settled store.connection.store db there) left may };
+    ghost settled = { λ store held left holds may. leaves_held_alone Layout.Blocks _ held holds (λ db there. S.settled store.connection.store db there) left may };
 
-    ghost leaves_held = { λ store held holds. leaves_held _ held holds (λ db there. S.settled store.connection.store db there) };
+    ghost leaves_held = { λ store held holds. leaves_held Layout.Blocks _ held holds (λ db there. S.settled store.connection.store db there) };
 
     ghost is_apart = { λ store held holds. holds.kept.apart };
 }

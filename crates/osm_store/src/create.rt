@@ -4,9 +4,15 @@ ghost use Rattle.std.specs.Prelude.{◌≡◌, false, [], ◌⊎◌, IsTrue, OnO
 ghost use Rattle.sqlite.specs.State.{HasCleanDisk, IsUnchanged, IsRolledBack, KeepsCommit, Survives};
 ghost use Rattle.sqlite.specs.Held.{state};
 ghost use Rattle.osm_store.specs.Tables.{no_schema, one_table, two_tables, three_tables, store_schema};
-ghost use Rattle.osm_store.specs.Steps.{IsOver, MakesMeta, MakesBlob, MakesBody, MakesIndex, WritesVersion, IsEmptyStore};
+ghost use Rattle.osm_store.specs.ColumnTables.{with_element, with_tag, with_link};
+ghost use Rattle.osm_store.specs.Layouts.{schema_of, version_text_of};
+ghost use Rattle.osm_store.specs.Steps.{IsOver, IsWriting, MakesMeta, MakesBlob, MakesBody, MakesIndex, MakesElement, MakesTag, MakesLink, MakesElementIndex, MakesElements, WritesVersion, IsEmptyStore};
 
-use crate::sql::{CREATE_BLOB, CREATE_BODY, CREATE_INDEX, CREATE_META, INSERT_VERSION};
+use crate::layout::Layout;
+use crate::sql::{
+    CREATE_BLOB, CREATE_BODY, CREATE_ELEMENT, CREATE_ELEMENT_INDEX, CREATE_INDEX, CREATE_LINK,
+    CREATE_META, CREATE_TAG, INSERT_SECOND_VERSION, INSERT_VERSION,
+};
 use sqlite::{Alter, Connection, Error, Transaction};
 
 fn make_meta<S: Alter>(transaction: &mut Transaction<'_, S>) -> Result<(), Error>
@@ -53,48 +59,147 @@ fn make_index<S: Alter>(transaction: &mut Transaction<'_, S>) -> Result<(), Erro
     Ok(())
 }
 
-fn write_version<S: Alter>(transaction: &mut Transaction<'_, S>) -> Result<(), Error>
-    requires { HasCleanDisk (state S.Store transaction.old.conn.now) → IsOver store_schema (state S.Store transaction.old.conn.now) }
+fn make_element<S: Alter>(transaction: &mut Transaction<'_, S>) -> Result<(), Error>
+    requires { HasCleanDisk (state S.Store transaction.old.conn.now) → IsOver two_tables (state S.Store transaction.old.conn.now) }
     ensures same_reference { transaction.new.conn.ghost_name ≡ transaction.old.conn.ghost_name }
-    ensures made { HasCleanDisk (state S.Store transaction.new.conn.now) → OnOk result (WritesVersion (state S.Store transaction.old.conn.now) (state S.Store transaction.new.conn.now)) }
+    ensures made { HasCleanDisk (state S.Store transaction.new.conn.now) → OnOk result (MakesElement (state S.Store transaction.old.conn.now) (state S.Store transaction.new.conn.now)) }
     ensures kept { HasCleanDisk (state S.Store transaction.new.conn.now) → KeepsCommit (state S.Store transaction.old.conn.now) (state S.Store transaction.new.conn.now) }
     ensures survives { Survives (state S.Store transaction.old.conn.now) (state S.Store transaction.new.conn.now) (λ _. ⊥) }
 {
-    transaction.execute(INSERT_VERSION, &[])?;
+    transaction.execute(CREATE_ELEMENT, &[])?;
     Ok(())
 }
 
-fn make_tables<S: Alter>(transaction: &mut Transaction<'_, S>) -> Result<(), Error>
+fn make_tag<S: Alter>(transaction: &mut Transaction<'_, S>) -> Result<(), Error>
+    requires { HasCleanDisk (state S.Store transaction.old.conn.now) → IsOver with_element (state S.Store transaction.old.conn.now) }
+    ensures same_reference { transaction.new.conn.ghost_name ≡ transaction.old.conn.ghost_name }
+    ensures made { HasCleanDisk (state S.Store transaction.new.conn.now) → OnOk result (MakesTag (state S.Store transaction.old.conn.now) (state S.Store transaction.new.conn.now)) }
+    ensures kept { HasCleanDisk (state S.Store transaction.new.conn.now) → KeepsCommit (state S.Store transaction.old.conn.now) (state S.Store transaction.new.conn.now) }
+    ensures survives { Survives (state S.Store transaction.old.conn.now) (state S.Store transaction.new.conn.now) (λ _. ⊥) }
+{
+    transaction.execute(CREATE_TAG, &[])?;
+    Ok(())
+}
+
+fn make_link<S: Alter>(transaction: &mut Transaction<'_, S>) -> Result<(), Error>
+    requires { HasCleanDisk (state S.Store transaction.old.conn.now) → IsOver with_tag (state S.Store transaction.old.conn.now) }
+    ensures same_reference { transaction.new.conn.ghost_name ≡ transaction.old.conn.ghost_name }
+    ensures made { HasCleanDisk (state S.Store transaction.new.conn.now) → OnOk result (MakesLink (state S.Store transaction.old.conn.now) (state S.Store transaction.new.conn.now)) }
+    ensures kept { HasCleanDisk (state S.Store transaction.new.conn.now) → KeepsCommit (state S.Store transaction.old.conn.now) (state S.Store transaction.new.conn.now) }
+    ensures survives { Survives (state S.Store transaction.old.conn.now) (state S.Store transaction.new.conn.now) (λ _. ⊥) }
+{
+    transaction.execute(CREATE_LINK, &[])?;
+    Ok(())
+}
+
+fn make_element_index<S: Alter>(transaction: &mut Transaction<'_, S>) -> Result<(), Error>
+    requires { HasCleanDisk (state S.Store transaction.old.conn.now) → IsOver with_link (state S.Store transaction.old.conn.now) }
+    ensures same_reference { transaction.new.conn.ghost_name ≡ transaction.old.conn.ghost_name }
+    ensures made { HasCleanDisk (state S.Store transaction.new.conn.now) → OnOk result (MakesElementIndex (state S.Store transaction.old.conn.now) (state S.Store transaction.new.conn.now)) }
+    ensures kept { HasCleanDisk (state S.Store transaction.new.conn.now) → KeepsCommit (state S.Store transaction.old.conn.now) (state S.Store transaction.new.conn.now) }
+    ensures survives { Survives (state S.Store transaction.old.conn.now) (state S.Store transaction.new.conn.now) (λ _. ⊥) }
+{
+    transaction.execute(CREATE_ELEMENT_INDEX, &[])?;
+    Ok(())
+}
+
+fn make_block_tables<S: Alter>(transaction: &mut Transaction<'_, S>) -> Result<(), Error>
+    requires { HasCleanDisk (state S.Store transaction.old.conn.now) → IsOver two_tables (state S.Store transaction.old.conn.now) }
+    ensures same_reference { transaction.new.conn.ghost_name ≡ transaction.old.conn.ghost_name }
+    ensures made { HasCleanDisk (state S.Store transaction.new.conn.now) → OnOk result (MakesElements Layout.Blocks (state S.Store transaction.old.conn.now) (state S.Store transaction.new.conn.now)) }
+    ensures kept { HasCleanDisk (state S.Store transaction.new.conn.now) → KeepsCommit (state S.Store transaction.old.conn.now) (state S.Store transaction.new.conn.now) }
+    ensures survives { Survives (state S.Store transaction.old.conn.now) (state S.Store transaction.new.conn.now) (λ _. ⊥) }
+{
+    make_body(transaction)?;
+    make_index(transaction)
+}
+
+fn make_column_tables<S: Alter>(transaction: &mut Transaction<'_, S>) -> Result<(), Error>
+    requires { HasCleanDisk (state S.Store transaction.old.conn.now) → IsOver two_tables (state S.Store transaction.old.conn.now) }
+    ensures same_reference { transaction.new.conn.ghost_name ≡ transaction.old.conn.ghost_name }
+    ensures made { HasCleanDisk (state S.Store transaction.new.conn.now) → OnOk result (MakesElements Layout.Columns (state S.Store transaction.old.conn.now) (state S.Store transaction.new.conn.now)) }
+    ensures kept { HasCleanDisk (state S.Store transaction.new.conn.now) → KeepsCommit (state S.Store transaction.old.conn.now) (state S.Store transaction.new.conn.now) }
+    ensures survives { Survives (state S.Store transaction.old.conn.now) (state S.Store transaction.new.conn.now) (λ _. ⊥) }
+{
+    make_element(transaction)?;
+    make_tag(transaction)?;
+    make_link(transaction)?;
+    make_element_index(transaction)
+}
+
+fn make_element_tables<S: Alter>(
+    transaction: &mut Transaction<'_, S>,
+    layout: Layout,
+) -> Result<(), Error>
+    requires { HasCleanDisk (state S.Store transaction.old.conn.now) → IsOver two_tables (state S.Store transaction.old.conn.now) }
+    ensures same_reference { transaction.new.conn.ghost_name ≡ transaction.old.conn.ghost_name }
+    ensures made { HasCleanDisk (state S.Store transaction.new.conn.now) → OnOk result (MakesElements layout (state S.Store transaction.old.conn.now) (state S.Store transaction.new.conn.now)) }
+    ensures kept { HasCleanDisk (state S.Store transaction.new.conn.now) → KeepsCommit (state S.Store transaction.old.conn.now) (state S.Store transaction.new.conn.now) }
+    ensures survives { Survives (state S.Store transaction.old.conn.now) (state S.Store transaction.new.conn.now) (λ _. ⊥) }
+{
+    match layout {
+        Layout::Blocks => make_block_tables(transaction),
+        Layout::Columns => make_column_tables(transaction),
+    }
+}
+
+/// The statement that writes the version of a layout.
+fn version_text(layout: Layout) -> &'static str
+    ensures { result.now ≡ version_text_of layout }
+{
+    match layout {
+        Layout::Blocks => INSERT_VERSION,
+        Layout::Columns => INSERT_SECOND_VERSION,
+    }
+}
+
+fn write_version<S: Alter>(
+    transaction: &mut Transaction<'_, S>,
+    layout: Layout,
+) -> Result<(), Error>
+    requires { HasCleanDisk (state S.Store transaction.old.conn.now) → IsWriting layout (state S.Store transaction.old.conn.now) }
+    ensures same_reference { transaction.new.conn.ghost_name ≡ transaction.old.conn.ghost_name }
+    ensures made { HasCleanDisk (state S.Store transaction.new.conn.now) → OnOk result (WritesVersion layout (state S.Store transaction.old.conn.now) (state S.Store transaction.new.conn.now)) }
+    ensures kept { HasCleanDisk (state S.Store transaction.new.conn.now) → KeepsCommit (state S.Store transaction.old.conn.now) (state S.Store transaction.new.conn.now) }
+    ensures survives { Survives (state S.Store transaction.old.conn.now) (state S.Store transaction.new.conn.now) (λ _. ⊥) }
+{
+    transaction.execute(version_text(layout), &[])?;
+    Ok(())
+}
+
+fn make_tables<S: Alter>(transaction: &mut Transaction<'_, S>, layout: Layout) -> Result<(), Error>
     requires { HasCleanDisk (state S.Store transaction.old.conn.now) → IsOver no_schema (state S.Store transaction.old.conn.now) }
     ensures same_reference { transaction.new.conn.ghost_name ≡ transaction.old.conn.ghost_name }
-    ensures over { HasCleanDisk (state S.Store transaction.new.conn.now) → OnOk result (IsOver store_schema (state S.Store transaction.new.conn.now)) }
-    ensures made { HasCleanDisk (state S.Store transaction.new.conn.now) → OnOk result (IsEmptyStore (state S.Store transaction.new.conn.now).now.trees) }
+    ensures over { HasCleanDisk (state S.Store transaction.new.conn.now) → OnOk result (IsWriting layout (state S.Store transaction.new.conn.now)) }
+    ensures made { HasCleanDisk (state S.Store transaction.new.conn.now) → OnOk result (IsEmptyStore layout (state S.Store transaction.new.conn.now).now.trees) }
     ensures kept { HasCleanDisk (state S.Store transaction.new.conn.now) → KeepsCommit (state S.Store transaction.old.conn.now) (state S.Store transaction.new.conn.now) }
     ensures survives { Survives (state S.Store transaction.old.conn.now) (state S.Store transaction.new.conn.now) (λ _. ⊥) }
 {
     make_meta(transaction)?;
     make_blob(transaction)?;
-    make_body(transaction)?;
-    make_index(transaction)?;
-    write_version(transaction)
+    make_element_tables(transaction, layout)?;
+    write_version(transaction, layout)
 }
 
 /// Makes the tables of a store that holds nothing, all in one transaction.
-pub(crate) fn create_tables<S: Alter>(connection: &mut Connection<S>) -> Result<(), Error>
+pub(crate) fn create_tables<S: Alter>(
+    connection: &mut Connection<S>,
+    layout: Layout,
+) -> Result<(), Error>
     requires bare { HasCleanDisk (state S.Store connection.old) → (state S.Store connection.old).now.schema ≡ no_schema }
     requires autocommit { (state S.Store connection.old).in_transaction ≡ false }
     ensures settled { HasCleanDisk (state S.Store connection.new) → OnOk result ((db : _) → (state S.Store connection.new).may_leave db → db ≡ (state S.Store connection.new).now.trees) }
-    ensures schema { HasCleanDisk (state S.Store connection.new) → OnOk result ((state S.Store connection.new).now.schema ≡ store_schema) }
-    ensures empty { HasCleanDisk (state S.Store connection.new) → OnOk result (IsEmptyStore (state S.Store connection.new).now.trees) }
+    ensures schema { HasCleanDisk (state S.Store connection.new) → OnOk result ((state S.Store connection.new).now.schema ≡ schema_of layout) }
+    ensures empty { HasCleanDisk (state S.Store connection.new) → OnOk result (IsEmptyStore layout (state S.Store connection.new).now.trees) }
     ensures committed { HasCleanDisk (state S.Store connection.new) → OnOk result (IsTrue (state S.Store connection.new).is_open × ((state S.Store connection.new).committed ≡ (state S.Store connection.new).now)) }
     ensures autocommit { (state S.Store connection.new).in_transaction ≡ false }
     ensures unchanged { HasCleanDisk (state S.Store connection.new) → IsTrue (state S.Store connection.new).is_open
         → OnErr result (((state S.Store connection.new).now ≡ (state S.Store connection.old).now) × ((state S.Store connection.new).committed ≡ (state S.Store connection.old).committed)) }
-    ensures crash { Survives (state S.Store connection.old) (state S.Store connection.new) IsEmptyStore }
+    ensures crash { Survives (state S.Store connection.old) (state S.Store connection.new) (IsEmptyStore layout) }
 {
     let _settled = connection.is_autocommit();
     let mut transaction = connection.transaction();
-    make_tables(&mut transaction)?;
+    make_tables(&mut transaction, layout)?;
     transaction.commit()?;
     Ok(())
 }

@@ -7,15 +7,16 @@ ghost use Rattle.sqlite.specs.Held.{state};
 ghost use Rattle.osm_store.specs.Asking.{JustAsks};
 ghost use Rattle.osm_store.specs.Finding.{AreMatches};
 ghost use Rattle.osm_store.specs.Held.{Blob, HeldMap};
-ghost use Rattle.osm_store.specs.Holding.{Holds};
+ghost use Rattle.osm_store.specs.LayoutHolding.{Holds};
 ghost use Rattle.osm_store.specs.Keeping.{IsForeign};
 ghost use Rattle.osm_store.specs.Loading.{HasRowsOf};
 ghost use Rattle.osm_store.specs.Rows.{is_of, placed_in};
 
 use crate::answer::{answer, integer, number};
 use crate::fault::StoreFault;
-use crate::found::Found;
-use crate::loaded::Loaded;
+use crate::found::{Found, FoundBlocks, FoundRows};
+use crate::layout::Layout;
+use crate::loaded::{Loaded, LoadedBlocks, LoadedRows};
 use crate::rows::element_code;
 use crate::sql::{SELECT_ELEMENT, SELECT_ROWS};
 use osm_value::MemberKind;
@@ -23,7 +24,7 @@ use sqlite::{Alter, Connection};
 use std::alloc::Global;
 
 /// No blob is held from here on.
-const OFFSET_LIMIT: u64 = 1 << 62;
+pub(crate) const OFFSET_LIMIT: u64 = 1 << 62;
 
 /// The rows of the blob at this offset; none where no blob is held there.
 pub(crate) fn load_rows<S: Alter>(
@@ -31,19 +32,24 @@ pub(crate) fn load_rows<S: Alter>(
     connection: &mut Connection<S>,
     off: u64,
 ) -> Result<Loaded, StoreFault>
-    ensures held { HasCleanDisk (state S.Store connection.new) → (held : HeldMap) → Holds (state S.Store connection.old) held
+    ensures held { HasCleanDisk (state S.Store connection.new) → (held : HeldMap) → Holds Layout.Blocks (state S.Store connection.old) held
         → MatchResult result (λ loaded. ((blob : Blob) → map.get held off ≡ Some blob → HasRowsOf loaded blob.elements) × IsTrue (state S.Store connection.new).is_open) (λ fault. ¬ (IsForeign fault)) }
     ensures asks { JustAsks (state S.Store connection.old) (state S.Store connection.new) }
 {
     if off >= OFFSET_LIMIT {
-        return Ok(Loaded {
+        let blocks = LoadedBlocks {
             rows: Vec::new(alloc),
+        };
+        return Ok(Loaded {
+            rows: LoadedRows::Blocks(blocks),
         });
     }
     let rows = answer(connection, SELECT_ROWS, &[number(off)])?;
-    let loaded = Loaded { rows };
-    match loaded.check(alloc) {
-        Ok(()) => Ok(loaded),
+    let blocks = LoadedBlocks { rows };
+    match blocks.check(alloc) {
+        Ok(()) => Ok(Loaded {
+            rows: LoadedRows::Blocks(blocks),
+        }),
         Err(fault) => Err(fault),
     }
 }
@@ -55,15 +61,17 @@ pub(crate) fn find_rows<S: Alter>(
     kind: MemberKind,
     id: i64,
 ) -> Result<Found, StoreFault>
-    ensures held { HasCleanDisk (state S.Store connection.new) → (held : HeldMap) → Holds (state S.Store connection.old) held
+    ensures held { HasCleanDisk (state S.Store connection.new) → (held : HeldMap) → Holds Layout.Blocks (state S.Store connection.old) held
         → MatchResult result (λ found. AreMatches found (filter (is_of kind id) (placed_in held)) × IsTrue (state S.Store connection.new).is_open) (λ fault. ¬ (IsForeign fault)) }
     ensures asks { JustAsks (state S.Store connection.old) (state S.Store connection.new) }
 {
     let code = u64::from(element_code(kind));
     let rows = answer(connection, SELECT_ELEMENT, &[number(code), integer(id)])?;
-    let found = Found { rows };
-    match found.check(alloc) {
-        Ok(()) => Ok(found),
+    let blocks = FoundBlocks { rows };
+    match blocks.check(alloc) {
+        Ok(()) => Ok(Found {
+            rows: FoundRows::Blocks(blocks),
+        }),
         Err(fault) => Err(fault),
     }
 }

@@ -7,7 +7,7 @@ ghost use Rattle.sqlite.specs.State.{HasCleanDisk};
 ghost use Rattle.sqlite.specs.Held.{state};
 ghost use Rattle.osm_store.specs.Asking.{JustAsks};
 ghost use Rattle.osm_store.specs.Held.{HeldMap};
-ghost use Rattle.osm_store.specs.Holding.{Holds};
+ghost use Rattle.osm_store.specs.LayoutHolding.{Holds};
 ghost use Rattle.osm_store.specs.Keeping.{IsForeign, extents_of, touches};
 ghost use Rattle.osm_store.specs.Rows.{blob_code, extent_columns};
 ghost use Rattle.osm_store.specs.Starting.{IsStart};
@@ -15,6 +15,7 @@ ghost use Rattle.osm_store.specs.Starting.{IsStart};
 use crate::answer::{answer, integer, number};
 use crate::fault::{StoreFault, unread};
 use crate::keeper::Extent;
+use crate::layout::Layout;
 use crate::sql::{SELECT_EXTENTS, SELECT_LAST_START, SELECT_TOUCHING};
 use pbf_frame::Kind;
 use sqlite::{Alter, Connection, Row};
@@ -69,7 +70,7 @@ pub(crate) fn all_extents<S: Alter>(
     alloc: Global,
     connection: &mut Connection<S>,
 ) -> Result<Vec<Extent>, StoreFault>
-    ensures held { HasCleanDisk (state S.Store connection.new) → (held : HeldMap) → Holds (state S.Store connection.old) held
+    ensures held { HasCleanDisk (state S.Store connection.new) → (layout : Layout) (held : HeldMap) → Holds layout (state S.Store connection.old) held
         → MatchResult result (λ extents. (extents.items ≡ extents_of held) × IsTrue (state S.Store connection.new).is_open) (λ fault. ¬ (IsForeign fault)) }
     ensures asks { JustAsks (state S.Store connection.old) (state S.Store connection.new) }
 {
@@ -91,7 +92,7 @@ fn first_offset(rows: &[Row]) -> Result<i64, StoreFault>
 /// The offset of the last blob that starts at `from` or before. Since extents don't meet, those before it end there.
 fn last_start<S: Alter>(connection: &mut Connection<S>, from: u64) -> Result<i64, StoreFault>
     requires { from ≤ 2 ^ 62 }
-    ensures held { HasCleanDisk (state S.Store connection.new) → (held : HeldMap) → Holds (state S.Store connection.old) held
+    ensures held { HasCleanDisk (state S.Store connection.new) → (layout : Layout) (held : HeldMap) → Holds layout (state S.Store connection.old) held
         → MatchResult result (λ start. IsStart from (extents_of held) start × IsTrue (state S.Store connection.new).is_open) (λ fault. ¬ (IsForeign fault)) }
     ensures asks { JustAsks (state S.Store connection.old) (state S.Store connection.new) }
 {
@@ -108,7 +109,7 @@ pub(crate) fn touched_extents<S: Alter>(
     to: u64,
 ) -> Result<Vec<Extent>, StoreFault>
     requires { (from < to) × (to ≤ 2 ^ 62) }
-    ensures held { HasCleanDisk (state S.Store connection.new) → (held : HeldMap) → Holds (state S.Store connection.old) held
+    ensures held { HasCleanDisk (state S.Store connection.new) → (layout : Layout) (held : HeldMap) → Holds layout (state S.Store connection.old) held
         → MatchResult result (λ extents. (extents.items ≡ filter (touches from to) (extents_of held)) × IsTrue (state S.Store connection.new).is_open) (λ fault. ¬ (IsForeign fault)) }
     ensures asks { JustAsks (state S.Store connection.old) (state S.Store connection.new) }
 {

@@ -3,20 +3,22 @@
 ghost use Rattle.std.specs.Prelude.{◌≡◌, ◌<◌, ℕ, pos, List, length, Some, IfOk, IfErr};
 ghost use Rattle.sqlite.specs.declared.types.Value.TheVariants.{Int};
 ghost use Rattle.sqlite.specs.Order.{column};
-ghost use Rattle.osm_store.specs.Finding.{AreMatches};
+ghost use Rattle.osm_store.specs.Finding.{AreMatches, AreBlockMatches};
 ghost use Rattle.osm_store.specs.Rows.{Placed, found_row, IsStored};
 
+use crate::column_reads::ColumnRows;
 use crate::fault::StoreFault;
+use crate::layout::Layout;
 use crate::loaded::element_at;
 use osm_value::Element;
 use sqlite::Row;
 use sqlite::types::ValueRef;
 use std::alloc::{AllocError, Global};
 
-/// The rows of the elements of one kind and id, each with its place and its block.
+/// The rows of the elements of one kind and id.
 #[derive(Debug, Drop)]
 pub struct Found {
-    pub(crate) rows: Vec<Row>,
+    pub(crate) rows: FoundRows,
 }
 
 impl Found {
@@ -24,6 +26,31 @@ impl Found {
     /// Their texts lie in the rows.
     pub fn matches(&self, alloc: Global) -> Result<Vec<(u64, u64, Element<'_>)>, AllocError>
         ensures { (matches : List Placed) → AreMatches self.now matches → IfOk result (λ found. found.items ≡ matches) }
+    {
+        match &self.rows {
+            FoundRows::Blocks(blocks) => blocks.matches(alloc),
+            FoundRows::Columns(columns) => columns.matches(alloc),
+        }
+    }
+}
+
+/// The rows of the elements of one kind and id, as their store keeps elements.
+#[derive(Debug, Drop)]
+pub(crate) enum FoundRows {
+    Blocks(FoundBlocks),
+    Columns(ColumnRows),
+}
+
+/// The rows of the elements of one kind and id, each with its place and its block.
+#[derive(Debug, Drop)]
+pub(crate) struct FoundBlocks {
+    pub(crate) rows: Vec<Row>,
+}
+
+impl FoundBlocks {
+    /// The elements, each after its place.
+    fn matches(&self, alloc: Global) -> Result<Vec<(u64, u64, Element<'_>)>, AllocError>
+        ensures { (matches : List Placed) → AreBlockMatches self.now matches → IfOk result (λ found. found.items ≡ matches) }
     {
         let mut matches = Vec::new(alloc);
         for row in &self.rows {
@@ -36,7 +63,7 @@ impl Found {
 
     /// Whether each row has a place and the block of one element.
     pub(crate) fn check(&self, alloc: Global) -> Result<(), StoreFault>
-        ensures { (matches : List Placed) → AreMatches self.now matches → IfErr result (λ fault. fault ≡ StoreFault.Memory) }
+        ensures { (matches : List Placed) → AreBlockMatches self.now matches → IfErr result (λ fault. fault ≡ StoreFault.Memory) }
     {
         for row in &self.rows {
             if match_at(alloc, row)?.is_none() {
@@ -49,7 +76,7 @@ impl Found {
 
 /// The element that a row stands for; None where it stands for none.
 fn match_at(alloc: Global, row: &Row) -> Result<Option<(u64, u64, Element<'_>)>, AllocError>
-    ensures { (p : Placed) → IsStored p.2 → row.now ≡ found_row p → IfOk result (λ found. found ≡ Some p) }
+    ensures { (p : Placed) → IsStored Layout.Blocks p.2 → row.now ≡ found_row p → IfOk result (λ found. found ≡ Some p) }
 {
     let (Some(off), Some(position)) = (number_at(row, 0), number_at(row, 1)) else {
         return Ok(None);
@@ -61,7 +88,7 @@ fn match_at(alloc: Global, row: &Row) -> Result<Option<(u64, u64, Element<'_>)>,
 }
 
 /// The number in a column; None where no such number stands there.
-fn number_at(row: &Row, at: usize) -> Option<u64>
+pub(crate) fn number_at(row: &Row, at: usize) -> Option<u64>
     ensures { (n : ℕ) → at < length row.now → column row.now at ≡ Int (pos n) → result ≡ Some n }
 {
     match row.get_ref(at) {

@@ -1,34 +1,63 @@
 //! What holds of the definitions, over all maps and tables.
 
-ghost use Rattle.std.specs.Prelude.{◌≡◌, IsTrue};
+ghost use Rattle.std.specs.Prelude.{◌≡◌, ℕ, pos, negsuc, [], ◌∷◌, codes, IsTrue};
+ghost use Rattle.sqlite.specs.declared.types.Value.TheVariants.{Null, Int, Text as Words};
 ghost use Rattle.sqlite.specs.Held.{state};
 ghost use Rattle.sqlite.specs.State.{HasCleanDisk, IsLive, Opens};
 ghost use Rattle.sqlite.specs.Steps.{over_memory};
 ghost use Rattle.sqlite.specs.Tree.{Trees};
+ghost use Rattle.osm_store.specs.ColumnExamples.{a_node, a_way, a_relation, eight_nulls};
+ghost use Rattle.osm_store.specs.ColumnRows.{element_rows, tag_rows, link_rows};
 ghost use Rattle.osm_store.specs.Held.{HeldMap};
-ghost use Rattle.osm_store.specs.Holding.{Holds, IsKept, LeavesAMap, MayLeave, TablesHold};
+ghost use Rattle.osm_store.specs.LayoutHolding.{Holds, IsKept, LeavesAMap, MayLeave, TablesHold};
 
 use crate::body_store::BodyStore;
+use crate::layout::Layout;
 use sqlite::{Alter, Connection, MemStore};
 
 /// The rows of a map are those of no other map.
 pub fn rows_of_one_map()
-    ensures { (one other : HeldMap) (db : Trees) → IsKept one → IsKept other → TablesHold one db → TablesHold other db → one ≡ other }
+    ensures { (layout : Layout) (one other : HeldMap) (db : Trees) → IsKept layout one → IsKept layout other → TablesHold layout one db → TablesHold layout other db → one ≡ other }
+{}
+
+/// The rows of two nodes: their places, and nothing else.
+pub fn rows_of_nodes()
+    ensures { (off : ℕ) → element_rows ((off, 0, a_node (pos 1) (pos 1000) (negsuc 99)) ∷ (off, 1, a_node (pos 2) (pos 900) (negsuc 99)) ∷ [])
+        ≡ (Int (pos off) ∷ Int (pos 0) ∷ Int (pos 0) ∷ Int (pos 1) ∷ Int (pos 1000) ∷ Int (negsuc 99) ∷ Null ∷ Null ∷ Null ∷ Null ∷ Null ∷ Null ∷ [])
+        ∷ (Int (pos off) ∷ Int (pos 1) ∷ Int (pos 0) ∷ Int (pos 2) ∷ Int (pos 900) ∷ Int (negsuc 99) ∷ Null ∷ Null ∷ Null ∷ Null ∷ Null ∷ Null ∷ []) ∷ [] }
+{}
+
+/// The rows of a way's nodes: of kind 0, with an empty role.
+pub fn rows_of_a_way()
+    ensures { (off : ℕ) → link_rows ((off, 0, a_way) ∷ [])
+        ≡ (Int (pos off) ∷ Int (pos 0) ∷ Int (pos 0) ∷ Int (pos 0) ∷ Int (pos 5) ∷ Words [] ∷ [])
+        ∷ (Int (pos off) ∷ Int (pos 0) ∷ Int (pos 1) ∷ Int (pos 0) ∷ Int (pos 6) ∷ Words [] ∷ [])
+        ∷ (Int (pos off) ∷ Int (pos 0) ∷ Int (pos 2) ∷ Int (pos 0) ∷ Int (pos 7) ∷ Words [] ∷ [])
+        ∷ (Int (pos off) ∷ Int (pos 0) ∷ Int (pos 3) ∷ Int (pos 0) ∷ Int (pos 6) ∷ Words [] ∷ []) ∷ [] }
+{}
+
+/// The rows of a relation, of its tag and of its members.
+pub fn rows_of_a_relation()
+    ensures element { (off : ℕ) → element_rows ((off, 0, a_relation) ∷ []) ≡ (Int (pos off) ∷ Int (pos 0) ∷ Int (pos 2) ∷ Int (pos 9) ∷ eight_nulls) ∷ [] }
+    ensures tag { (off : ℕ) → tag_rows ((off, 0, a_relation) ∷ []) ≡ (Int (pos off) ∷ Int (pos 0) ∷ Int (pos 0) ∷ Words (codes "name") ∷ Words (codes "a b,c") ∷ []) ∷ [] }
+    ensures links { (off : ℕ) → link_rows ((off, 0, a_relation) ∷ [])
+        ≡ (Int (pos off) ∷ Int (pos 0) ∷ Int (pos 0) ∷ Int (pos 0) ∷ Int (pos 1) ∷ Words (codes "outer") ∷ [])
+        ∷ (Int (pos off) ∷ Int (pos 0) ∷ Int (pos 1) ∷ Int (pos 1) ∷ Int (negsuc 1) ∷ Words [] ∷ []) ∷ [] }
 {}
 
 /// A connection that was opened over the rows of a map holds that map, also after a crash.
 pub fn holds_again<S: Alter>(connection: &Connection<S>)
     ensures { HasCleanDisk (state S.Store connection.now) → Opens (state S.Store connection.now) → IsLive (state S.Store connection.now)
-        → (held : HeldMap) → IsKept held → TablesHold held (state S.Store connection.now).now.trees → Holds (state S.Store connection.now) held }
+        → (layout : Layout) (held : HeldMap) → IsKept layout held → TablesHold layout held (state S.Store connection.now).now.trees → Holds layout (state S.Store connection.now) held }
 {
     let _opened = connection;
 }
 
 /// A connection that was opened over what a crash left of a store holds a map that the crash could leave.
 pub fn holds_what_was_left<S: Alter>(before: &BodyStore<S>, connection: &Connection<S>)
-    ensures { LeavesAMap (state S.Store before.now.connection) → (state S.Store before.now.connection).may_leave (state S.Store connection.now).now.trees
+    ensures { LeavesAMap Layout.Blocks (state S.Store before.now.connection) → (state S.Store before.now.connection).may_leave (state S.Store connection.now).now.trees
         → HasCleanDisk (state S.Store connection.now) → Opens (state S.Store connection.now) → IsLive (state S.Store connection.now)
-        → (left : HeldMap) × MayLeave (state S.Store before.now.connection) left × Holds (state S.Store connection.now) left }
+        → (left : HeldMap) × MayLeave Layout.Blocks (state S.Store before.now.connection) left × Holds Layout.Blocks (state S.Store connection.now) left }
 {
     let _stopped = before;
     let _opened = connection;

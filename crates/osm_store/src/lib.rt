@@ -3,6 +3,13 @@
 
 mod answer;
 mod body_store;
+mod column_elements;
+mod column_finds;
+mod column_parts;
+mod column_reads;
+mod column_rows;
+mod column_values;
+mod columns;
 mod create;
 mod elements;
 mod extents;
@@ -10,9 +17,13 @@ mod fault;
 mod found;
 mod keeper;
 pub mod laws;
+mod layout;
 mod loaded;
+mod opening;
 mod rows;
 mod sql;
+mod table_elements;
+mod table_store;
 mod version;
 
 pub use body_store::BodyStore;
@@ -20,6 +31,7 @@ pub use fault::StoreFault;
 pub use found::Found;
 pub use keeper::{Extent, Keeper};
 pub use loaded::Loaded;
+pub use table_store::TableStore;
 
 #[cfg(test)]
 mod crash_tests;

@@ -6,9 +6,10 @@ ghost use Rattle.sqlite.specs.Order.{column};
 ghost use Rattle.osm_value.specs.declared.element.Element.{Element};
 ghost use Rattle.osm_write.specs.Canon.{canon};
 ghost use Rattle.osm_store.specs.Held.{HasFewTexts};
-ghost use Rattle.osm_store.specs.Loading.{HasRowsOf};
+ghost use Rattle.osm_store.specs.Loading.{HasRowsOf, AreBlocksOf};
 ghost use Rattle.osm_store.specs.Rows.{HasBlock};
 
+use crate::column_reads::ColumnRows;
 use crate::fault::StoreFault;
 use osm_block::{BlockError, read_block};
 use osm_value::Element;
@@ -16,16 +17,41 @@ use sqlite::Row;
 use sqlite::types::ValueRef;
 use std::alloc::{AllocError, Global};
 
-/// The rows of one blob, each with the block of one element.
+/// The rows of one blob.
 #[derive(Debug, Drop)]
 pub struct Loaded {
-    pub(crate) rows: Vec<Row>,
+    pub(crate) rows: LoadedRows,
 }
 
 impl Loaded {
     /// The elements of the blob, in order. Their texts lie in the rows.
     pub fn elements(&self, alloc: Global) -> Result<Vec<Element<'_>>, AllocError>
         ensures { (elements : List Element) → HasRowsOf self.now elements → IfOk result (λ found. found.items ≡ elements) }
+    {
+        match &self.rows {
+            LoadedRows::Blocks(blocks) => blocks.elements(alloc),
+            LoadedRows::Columns(columns) => columns.elements(alloc),
+        }
+    }
+}
+
+/// The rows of one blob, as its store keeps elements.
+#[derive(Debug, Drop)]
+pub(crate) enum LoadedRows {
+    Blocks(LoadedBlocks),
+    Columns(ColumnRows),
+}
+
+/// The rows of one blob, each with the block of one element.
+#[derive(Debug, Drop)]
+pub(crate) struct LoadedBlocks {
+    pub(crate) rows: Vec<Row>,
+}
+
+impl LoadedBlocks {
+    /// The elements, in order.
+    fn elements(&self, alloc: Global) -> Result<Vec<Element<'_>>, AllocError>
+        ensures { (elements : List Element) → AreBlocksOf self.now elements → IfOk result (λ found. found.items ≡ elements) }
     {
         let mut elements = Vec::new(alloc);
         for row in &self.rows {
@@ -38,7 +64,7 @@ impl Loaded {
 
     /// Whether each row has the block of one element.
     pub(crate) fn check(&self, alloc: Global) -> Result<(), StoreFault>
-        ensures { (elements : List Element) → HasRowsOf self.now elements → IfErr result (λ fault. fault ≡ StoreFault.Memory) }
+        ensures { (elements : List Element) → AreBlocksOf self.now elements → IfErr result (λ fault. fault ≡ StoreFault.Memory) }
     {
         for row in &self.rows {
             if element_at(alloc, row, 0)?.is_none() {

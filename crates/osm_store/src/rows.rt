@@ -5,13 +5,15 @@ ghost use Rattle.std.specs.List.{AllByRecursion};
 ghost use Rattle.sqlite.specs.State.{HasCleanDisk, IsUnchanged, IsRolledBack, KeepsCommit, Survives};
 ghost use Rattle.sqlite.specs.Held.{state};
 ghost use Rattle.osm_value.specs.Elements.{IsElement};
-ghost use Rattle.osm_store.specs.Tables.{store_schema};
 ghost use Rattle.osm_store.specs.Keeping.{IsForeign};
-ghost use Rattle.osm_store.specs.Rows.{blob_code, element_code, kind_of, id_of, placed, body_columns, body_row, extent_row, HasBlock};
-ghost use Rattle.osm_store.specs.Steps.{IsWriting, AddsBody, AddsBodies, AddsExtent, Puts, Writes};
+ghost use Rattle.osm_store.specs.Layouts.{schema_of};
+ghost use Rattle.osm_store.specs.Rows.{blob_code, element_code, kind_of, id_of, placed, body_columns, body_row, extent_row, HasBlock, CanStore};
+ghost use Rattle.osm_store.specs.Steps.{IsWriting, AddsRow, AddsRows, AddsElements, AddsExtent, Puts, Writes};
 
+use crate::column_rows::add_columns;
 use crate::fault::StoreFault;
 use crate::keeper::Extent;
+use crate::layout::Layout;
 use crate::sql::{INSERT_BLOB, INSERT_BODY};
 use osm_value::{Element, MemberKind};
 use osm_write::encode_one;
@@ -41,7 +43,7 @@ pub(crate) fn element_code(kind: MemberKind) -> u32
     }
 }
 
-fn kind_of(element: &Element) -> MemberKind
+pub(crate) fn kind_of(element: &Element) -> MemberKind
     ensures { result ≡ kind_of element.now }
 {
     match element {
@@ -51,7 +53,7 @@ fn kind_of(element: &Element) -> MemberKind
     }
 }
 
-fn id_of(element: &Element) -> i64
+pub(crate) fn id_of(element: &Element) -> i64
     ensures exact { result ≡ id_of element.now }
     ensures in_range { IsElement element.now }
 {
@@ -69,8 +71,8 @@ fn add_extent<S: Alter>(
     requires inside { IsTrue (state S.Store transaction.old.conn.now).in_transaction }
     requires bounds { (extent.now.off ≤ 2 ^ 62) × (extent.now.fin ≤ 2 ^ 62) × (extent.now.n ≤ 2 ^ 62) }
     ensures same_reference { transaction.new.conn.ghost_name ≡ transaction.old.conn.ghost_name }
-    ensures added { HasCleanDisk (state S.Store transaction.new.conn.now) → IsWriting (state S.Store transaction.old.conn.now)
-        → OnOk result (AddsExtent (state S.Store transaction.old.conn.now) (state S.Store transaction.new.conn.now) (extent_row extent.now)) }
+    ensures added { HasCleanDisk (state S.Store transaction.new.conn.now) → (layout : Layout) → IsWriting layout (state S.Store transaction.old.conn.now)
+        → OnOk result (AddsExtent layout (state S.Store transaction.old.conn.now) (state S.Store transaction.new.conn.now) (extent_row extent.now)) }
     ensures inside { HasCleanDisk (state S.Store transaction.new.conn.now) → OnOk result (IsTrue (state S.Store transaction.new.conn.now).in_transaction × IsTrue (state S.Store transaction.old.conn.now).is_open) }
     ensures kept { HasCleanDisk (state S.Store transaction.new.conn.now) → KeepsCommit (state S.Store transaction.old.conn.now) (state S.Store transaction.new.conn.now) }
     ensures ours { IfErr result (λ fault. ¬ (IsForeign fault)) }
@@ -100,8 +102,8 @@ fn add_body<S: Alter>(
 ) -> Result<(), StoreFault>
     requires bounds { (off ≤ 2 ^ 62) × (position ≤ 2 ^ 62) }
     ensures same_reference { transaction.new.conn.ghost_name ≡ transaction.old.conn.ghost_name }
-    ensures added { HasCleanDisk (state S.Store transaction.new.conn.now) → IsWriting (state S.Store transaction.old.conn.now)
-        → OnOk result (AddsBody (state S.Store transaction.old.conn.now) (state S.Store transaction.new.conn.now) (body_columns off position kind id block.now)) }
+    ensures added { HasCleanDisk (state S.Store transaction.new.conn.now) → IsWriting Layout.Blocks (state S.Store transaction.old.conn.now)
+        → OnOk result (AddsRow Layout.Blocks 2 (state S.Store transaction.old.conn.now) (state S.Store transaction.new.conn.now) (body_columns off position kind id block.now)) }
     ensures inside { HasCleanDisk (state S.Store transaction.new.conn.now) → IsTrue (state S.Store transaction.old.conn.now).in_transaction → OnOk result (IsTrue (state S.Store transaction.new.conn.now).in_transaction) }
     ensures kept { HasCleanDisk (state S.Store transaction.new.conn.now) → KeepsCommit (state S.Store transaction.old.conn.now) (state S.Store transaction.new.conn.now) }
     ensures ours { IfErr result (λ fault. ¬ (IsForeign fault)) }
@@ -124,8 +126,8 @@ fn add_element<S: Alter>(
 ) -> Result<(), StoreFault>
     requires bounds { (off ≤ 2 ^ 62) × (position ≤ 2 ^ 62) }
     ensures same_reference { transaction.new.conn.ghost_name ≡ transaction.old.conn.ghost_name }
-    ensures added { HasCleanDisk (state S.Store transaction.new.conn.now) → IsWriting (state S.Store transaction.old.conn.now)
-        → OnOk result (AddsBody (state S.Store transaction.old.conn.now) (state S.Store transaction.new.conn.now) (body_row (off, position, element.now))) }
+    ensures added { HasCleanDisk (state S.Store transaction.new.conn.now) → IsWriting Layout.Blocks (state S.Store transaction.old.conn.now)
+        → OnOk result (AddsRow Layout.Blocks 2 (state S.Store transaction.old.conn.now) (state S.Store transaction.new.conn.now) (body_row (off, position, element.now))) }
     ensures has_block { OnOk result (HasBlock element.now) }
     ensures inside { HasCleanDisk (state S.Store transaction.new.conn.now) → IsTrue (state S.Store transaction.old.conn.now).in_transaction → OnOk result (IsTrue (state S.Store transaction.new.conn.now).in_transaction) }
     ensures kept { HasCleanDisk (state S.Store transaction.new.conn.now) → KeepsCommit (state S.Store transaction.old.conn.now) (state S.Store transaction.new.conn.now) }
@@ -146,8 +148,8 @@ fn add_elements<S: Alter>(
 ) -> Result<(), StoreFault>
     requires bounds { off ≤ 2 ^ 62 }
     ensures same_reference { transaction.new.conn.ghost_name ≡ transaction.old.conn.ghost_name }
-    ensures added { HasCleanDisk (state S.Store transaction.new.conn.now) → IsWriting (state S.Store transaction.old.conn.now)
-        → OnOk result (AddsBodies (state S.Store transaction.old.conn.now) (state S.Store transaction.new.conn.now) (map body_row (placed off 0 elements.now))) }
+    ensures added { HasCleanDisk (state S.Store transaction.new.conn.now) → IsWriting Layout.Blocks (state S.Store transaction.old.conn.now)
+        → OnOk result (AddsRows Layout.Blocks 2 (state S.Store transaction.old.conn.now) (state S.Store transaction.new.conn.now) (map body_row (placed off 0 elements.now))) }
     ensures have_blocks { OnOk result (AllByRecursion HasBlock elements.now) }
     ensures inside { HasCleanDisk (state S.Store transaction.new.conn.now) → IsTrue (state S.Store transaction.old.conn.now).in_transaction → OnOk result (IsTrue (state S.Store transaction.new.conn.now).in_transaction) }
     ensures kept { HasCleanDisk (state S.Store transaction.new.conn.now) → KeepsCommit (state S.Store transaction.old.conn.now) (state S.Store transaction.new.conn.now) }
@@ -160,9 +162,34 @@ fn add_elements<S: Alter>(
     Ok(())
 }
 
+/// The elements of a blob, in the tables of the layout.
+fn write_elements<S: Alter>(
+    alloc: Global,
+    transaction: &mut Transaction<'_, S>,
+    layout: Layout,
+    off: u64,
+    elements: &[Element],
+) -> Result<(), StoreFault>
+    requires bounds { off ≤ 2 ^ 62 }
+    ensures same_reference { transaction.new.conn.ghost_name ≡ transaction.old.conn.ghost_name }
+    ensures added { HasCleanDisk (state S.Store transaction.new.conn.now) → IsWriting layout (state S.Store transaction.old.conn.now)
+        → OnOk result (AddsElements layout (state S.Store transaction.old.conn.now) (state S.Store transaction.new.conn.now) (placed off 0 elements.now)) }
+    ensures can_store { OnOk result (AllByRecursion (CanStore layout) elements.now) }
+    ensures inside { HasCleanDisk (state S.Store transaction.new.conn.now) → IsTrue (state S.Store transaction.old.conn.now).in_transaction → OnOk result (IsTrue (state S.Store transaction.new.conn.now).in_transaction) }
+    ensures kept { HasCleanDisk (state S.Store transaction.new.conn.now) → KeepsCommit (state S.Store transaction.old.conn.now) (state S.Store transaction.new.conn.now) }
+    ensures ours { IfErr result (λ fault. ¬ (IsForeign fault)) }
+    ensures survives { Survives (state S.Store transaction.old.conn.now) (state S.Store transaction.new.conn.now) (λ _. ⊥) }
+{
+    match layout {
+        Layout::Blocks => add_elements(alloc, transaction, off, elements),
+        Layout::Columns => add_columns(alloc, transaction, off, elements),
+    }
+}
+
 fn write_rows<S: Alter>(
     alloc: Global,
     transaction: &mut Transaction<'_, S>,
+    layout: Layout,
     extent: &Extent,
     elements: &[Element],
 ) -> Result<(), StoreFault>
@@ -170,40 +197,41 @@ fn write_rows<S: Alter>(
     requires bounds { (extent.now.off ≤ 2 ^ 62) × (extent.now.fin ≤ 2 ^ 62) × (extent.now.n ≤ 2 ^ 62) }
     ensures same_reference { transaction.new.conn.ghost_name ≡ transaction.old.conn.ghost_name }
     ensures written { HasCleanDisk (state S.Store transaction.new.conn.now)
-        → OnOk result (Writes (state S.Store transaction.old.conn.now) (state S.Store transaction.new.conn.now) extent.now (map body_row (placed extent.now.off 0 elements.now))) }
-    ensures have_blocks { OnOk result (AllByRecursion HasBlock elements.now) }
+        → OnOk result (Writes layout (state S.Store transaction.old.conn.now) (state S.Store transaction.new.conn.now) extent.now (placed extent.now.off 0 elements.now)) }
+    ensures can_store { OnOk result (AllByRecursion (CanStore layout) elements.now) }
     ensures kept { HasCleanDisk (state S.Store transaction.new.conn.now) → KeepsCommit (state S.Store transaction.old.conn.now) (state S.Store transaction.new.conn.now) }
     ensures ours { IfErr result (λ fault. ¬ (IsForeign fault)) }
     ensures survives { Survives (state S.Store transaction.old.conn.now) (state S.Store transaction.new.conn.now) (λ _. ⊥) }
 {
     add_extent(transaction, extent)?;
-    add_elements(alloc, transaction, extent.off, elements)
+    write_elements(alloc, transaction, layout, extent.off, elements)
 }
 
 /// One transaction adds the blob and its elements, or nothing.
 pub(crate) fn put_rows<S: Alter>(
     alloc: Global,
     connection: &mut Connection<S>,
+    layout: Layout,
     extent: &Extent,
     elements: &[Element],
 ) -> Result<(), StoreFault>
     requires autocommit { (state S.Store connection.old).in_transaction ≡ false }
     requires bounds { (extent.now.off ≤ 2 ^ 62) × (extent.now.fin ≤ 2 ^ 62) × (extent.now.n ≤ 2 ^ 62) }
-    ensures added { HasCleanDisk (state S.Store connection.new) → (state S.Store connection.old).now.schema ≡ store_schema
-        → OnOk result (((state S.Store connection.new).now.schema ≡ store_schema) × Puts (state S.Store connection.old).now.trees (state S.Store connection.new).now.trees extent.now (map body_row (placed extent.now.off 0 elements.now))) }
-    ensures have_blocks { OnOk result (AllByRecursion HasBlock elements.now) }
+    ensures added { HasCleanDisk (state S.Store connection.new) → (state S.Store connection.old).now.schema ≡ schema_of layout
+        → OnOk result (((state S.Store connection.new).now.schema ≡ schema_of layout) × Puts layout (state S.Store connection.old).now.trees (state S.Store connection.new).now.trees extent.now (placed extent.now.off 0 elements.now)) }
+    ensures can_store { OnOk result (AllByRecursion (CanStore layout) elements.now) }
     ensures committed { HasCleanDisk (state S.Store connection.new) → OnOk result (IsTrue (state S.Store connection.old).is_open × IsTrue (state S.Store connection.new).is_open × ((state S.Store connection.new).committed ≡ (state S.Store connection.new).now)) }
     ensures autocommit { (state S.Store connection.new).in_transaction ≡ false }
     ensures unchanged { HasCleanDisk (state S.Store connection.new) → IsTrue (state S.Store connection.new).is_open
         → OnErr result (IsTrue (state S.Store connection.old).is_open × ((state S.Store connection.new).now ≡ (state S.Store connection.old).now) × ((state S.Store connection.new).committed ≡ (state S.Store connection.old).committed)) }
     ensures ours { IfErr result (λ fault. ¬ (IsForeign fault)) }
     ensures crash { Survives (state S.Store connection.old) (state S.Store connection.new) (λ trees. IsTrue (state S.Store connection.old).is_open
-        × AllByRecursion HasBlock elements.now
-        × ((state S.Store connection.old).now.schema ≡ store_schema → Puts (state S.Store connection.old).now.trees trees extent.now (map body_row (placed extent.now.off 0 elements.now)))) }
+        × AllByRecursion (CanStore layout) elements.now
+        × ((state S.Store connection.old).now.schema ≡ schema_of layout → Puts layout (state S.Store connection.old).now.trees trees extent.now (placed extent.now.off 0 elements.now))) }
 {
     let _settled = connection.is_autocommit();
     let mut transaction = connection.transaction();
-    write_rows(alloc, &mut transaction, extent, elements)?;
+    write_rows(alloc, &mut transaction, layout, extent, elements)?;
     transaction.commit()?;
     Ok(())
 }

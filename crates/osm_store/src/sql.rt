@@ -10,13 +10,35 @@ pub(crate) const CREATE_BODY: &str =
 
 pub(crate) const CREATE_INDEX: &str = "CREATE INDEX body_element ON body (kind, id)";
 
+pub(crate) const CREATE_ELEMENT: &str =
+    "CREATE TABLE element (off INTEGER NOT NULL, pos INTEGER NOT NULL, kind INTEGER NOT NULL, id INTEGER NOT NULL, lat INTEGER, lon INTEGER, version INTEGER, time INTEGER, changeset INTEGER, uid INTEGER, user TEXT, visible INTEGER, PRIMARY KEY (off, pos)) STRICT";
+
+pub(crate) const CREATE_TAG: &str =
+    "CREATE TABLE tag (off INTEGER NOT NULL, pos INTEGER NOT NULL, k INTEGER NOT NULL, key TEXT NOT NULL, val TEXT NOT NULL, PRIMARY KEY (off, pos, k)) STRICT";
+
+pub(crate) const CREATE_LINK: &str =
+    "CREATE TABLE link (off INTEGER NOT NULL, pos INTEGER NOT NULL, k INTEGER NOT NULL, kind INTEGER NOT NULL, ref INTEGER NOT NULL, role TEXT NOT NULL, PRIMARY KEY (off, pos, k)) STRICT";
+
+pub(crate) const CREATE_ELEMENT_INDEX: &str = "CREATE INDEX element_by_id ON element (kind, id)";
+
 pub(crate) const INSERT_VERSION: &str = "INSERT INTO meta (version) VALUES (1)";
+
+pub(crate) const INSERT_SECOND_VERSION: &str = "INSERT INTO meta (version) VALUES (2)";
 
 pub(crate) const INSERT_BLOB: &str =
     "INSERT INTO blob (off, fin, digest, kind, n) VALUES (?1, ?2, ?3, ?4, ?5)";
 
 pub(crate) const INSERT_BODY: &str =
     "INSERT INTO body (off, pos, kind, id, data) VALUES (?1, ?2, ?3, ?4, ?5)";
+
+pub(crate) const INSERT_ELEMENT: &str =
+    "INSERT INTO element (off, pos, kind, id, lat, lon, version, time, changeset, uid, user, visible) VALUES (?1, ?2, ?3, ?4, ?5, ?6, ?7, ?8, ?9, ?10, ?11, ?12)";
+
+pub(crate) const INSERT_TAG: &str =
+    "INSERT INTO tag (off, pos, k, key, val) VALUES (?1, ?2, ?3, ?4, ?5)";
+
+pub(crate) const INSERT_LINK: &str =
+    "INSERT INTO link (off, pos, k, kind, ref, role) VALUES (?1, ?2, ?3, ?4, ?5, ?6)";
 
 pub(crate) const SELECT_VERSION: &str = "SELECT version FROM meta";
 
@@ -32,3 +54,21 @@ pub(crate) const SELECT_ROWS: &str = "SELECT data FROM body WHERE off = ?1 ORDER
 
 pub(crate) const SELECT_ELEMENT: &str =
     "SELECT off, pos, data FROM body WHERE kind = ?1 AND id = ?2 ORDER BY off, pos";
+
+pub(crate) const SELECT_ELEMENTS: &str =
+    "SELECT off, pos, kind, id, lat, lon, version, time, changeset, uid, user, visible FROM element WHERE off = ?1 ORDER BY off, pos";
+
+pub(crate) const SELECT_TAGS: &str =
+    "SELECT off, pos, k, key, val FROM tag WHERE off = ?1 ORDER BY off, pos, k";
+
+pub(crate) const SELECT_LINKS: &str =
+    "SELECT off, pos, k, kind, ref, role FROM link WHERE off = ?1 ORDER BY off, pos, k";
+
+pub(crate) const SELECT_FOUND: &str =
+    "SELECT off, pos, kind, id, lat, lon, version, time, changeset, uid, user, visible FROM element WHERE kind = ?1 AND id = ?2 ORDER BY off, pos";
+
+pub(crate) const SELECT_ITS_TAGS: &str =
+    "SELECT off, pos, k, key, val FROM tag WHERE off = ?1 AND pos = ?2 ORDER BY off, pos, k";
+
+pub(crate) const SELECT_ITS_LINKS: &str =
+    "SELECT off, pos, k, kind, ref, role FROM link WHERE off = ?1 AND pos = ?2 ORDER BY off, pos, k";

@@ -8,11 +8,13 @@ ghost use Rattle.sqlite.specs.Held.{state};
 ghost use Rattle.osm_store.specs.Asking.{JustAsks, NamesVersion};
 ghost use Rattle.osm_store.specs.Faults.{NamesNoVersion};
 ghost use Rattle.osm_store.specs.Held.{HeldMap};
-ghost use Rattle.osm_store.specs.Holding.{Holds};
+ghost use Rattle.osm_store.specs.LayoutHolding.{Holds};
 ghost use Rattle.osm_store.specs.Keeping.{IsForeign};
+ghost use Rattle.osm_store.specs.Layouts.{version_of};
 
 use crate::answer::ask;
 use crate::fault::{StoreFault, fault_over_unknown, unread};
+use crate::layout::Layout;
 use crate::sql::SELECT_VERSION;
 use sqlite::{Alter, Connection, Row};
 
@@ -30,8 +32,8 @@ fn only_version(rows: &[Row]) -> Result<i64, StoreFault>
 
 /// The version that the table `meta` names; `NotThisStore` where there is no such table.
 pub(crate) fn version<S: Alter>(connection: &mut Connection<S>) -> Result<i64, StoreFault>
-    ensures held { HasCleanDisk (state S.Store connection.new) → (held : HeldMap) → Holds (state S.Store connection.old) held
-        → MatchResult result (λ found. (found ≡ pos 1) × IsTrue (state S.Store connection.new).is_open) (λ fault. ¬ (IsForeign fault)) }
+    ensures held { HasCleanDisk (state S.Store connection.new) → (layout : Layout) (held : HeldMap) → Holds layout (state S.Store connection.old) held
+        → MatchResult result (λ found. (found ≡ pos (version_of layout)) × IsTrue (state S.Store connection.new).is_open) (λ fault. ¬ (IsForeign fault)) }
     ensures named { HasCleanDisk (state S.Store connection.new) → IfOk result (NamesVersion (state S.Store connection.old) (state S.Store connection.new)) }
     ensures unnamed { IfErr result NamesNoVersion }
     ensures asks { JustAsks (state S.Store connection.old) (state S.Store connection.new) }

@@ -6,4 +6,5 @@ use Rattle.osm_store.proofs.create.write_version.Goals as goal
 pub returns-clause-made : goal.returns-clause-made
 returns-clause-made g c clean =
     let over = c.requires (omega (arith, c.execute.ensures.survives.clean)) in
-    writes_version (state g.S.Store c.args.transaction.now.conn.now) (state g.S.Store c.execute.new.self.conn.now) c.in_ok-execute.field-0 over (c.in_ok-execute.ensures.runs clean over.inside)
+    let ran = rw c.version_text.ensures at c.in_ok-execute.ensures.runs clean over.inside in
+    writes_version (state g.S.Store c.args.transaction.now.conn.now) (state g.S.Store c.execute.new.self.conn.now) c.in_ok-execute.field-0 c.args.layout over ran

@@ -1,4 +1,4 @@
-use Rattle.std.proofs.Common.{◌≡◌, refl, ◌∙◌, sym, ap, subst}
+use Rattle.std.proofs.Common.{refl, ◌∙◌, subst}
 use Rattle.std.proofs.lemmas.Result.{MatchResult-weaker}
 use Rattle.sqlite_tied.specs.Compute.{everything}
 use Rattle.sqlite.specs.Held.{state}
@@ -12,8 +12,8 @@ unfolding everything
 answer-requires g c = refl
 
 pub returns-clause-held : goal.returns-clause-held
-returns-clause-held g c clean held holds =
+returns-clause-held g c clean layout held holds =
     let old = state g.S.Store c.args.connection.now in
     let answered = c.in_ok-rows.ensures.rows clean in
-    let read = extents_read old (state g.S.Store c.answer.new.connection) _ (extents_of held) (has_extents old.now held holds.schema holds.tables) answered.shown in
-    MatchResult-weaker c.read_extents.result (c.read_extents.ensures (extents_of held) (digests_of held holds.kept) (c.deref.ensures.value ∙ read)) (λ v same. (same, answered.is_open)) (λ fault is foreign. subst IsForeign is foreign)
+    let read = extents_read layout old (state g.S.Store c.answer.new.connection) _ (extents_of held) (has_extents layout old.now held holds.schema holds.tables) answered.shown in
+    MatchResult-weaker c.read_extents.result (c.read_extents.ensures (extents_of held) (digests_of layout held holds.kept) (c.deref.ensures.value ∙ read)) (λ v same. (same, answered.is_open)) (λ fault is foreign. subst IsForeign is foreign)

@@ -25,18 +25,18 @@ returns-clause-asks g c =
     asks_then (state g.S.Store c.args.connection.now) (state g.S.Store c.last_start.new.connection) (state g.S.Store c.answer.new.connection) c.last_start.ensures.asks c.answer.ensures.asks
 
 pub returns-clause-held : goal.returns-clause-held
-returns-clause-held g c clean held holds =
+returns-clause-held g c clean layout held holds =
     let old = state g.S.Store c.args.connection.now in
     let middle = state g.S.Store c.last_start.new.connection in
     let new = state g.S.Store c.answer.new.connection in
     let clean_middle = clean_before middle new c.answer.ensures.asks clean in
-    let started = c.in_ok-start.ensures.held clean_middle held holds in
-    let still = asks_holds old middle c.last_start.ensures.asks held holds clean_middle started.1 in
+    let started = c.in_ok-start.ensures.held clean_middle layout held holds in
+    let still = asks_holds layout old middle c.last_start.ensures.asks held holds clean_middle started.1 in
     let answered = c.in_ok-rows.ensures.rows clean in
     let fits : SFits w64 c.in_ok-start.start = search rules in
     let start : owned c.integer.result ≡ Int (pos started.0.off) = c.integer.ensures ∙ ap Int (to_z-of_z w64 c.in_ok-start.start fits ∙ started.0.is) in
     let shown = rw (start, c.number.ensures, c.number-2.ensures) at answered.shown in
-    let read = touching_read middle new _ (extents_of held) (has_extents middle.now held still.schema still.tables) started.0.off c.args.from c.args.to shown
+    let read = touching_read layout middle new _ (extents_of held) (has_extents layout middle.now held still.schema still.tables) started.0.off c.args.from c.args.to shown
     ∙ ap (map extent_columns) (touch_from started.0.off c.args.from c.args.to (extents_of held) started.0.later) in
-    let fit = All-filter _ (λ (extent : Extent). length extent.digest ≡ 32) (extents_of held) (digests_of held holds.kept) in
+    let fit = All-filter _ (λ (extent : Extent). length extent.digest ≡ 32) (extents_of held) (digests_of layout held holds.kept) in
     MatchResult-weaker c.read_extents.result (c.read_extents.ensures _ fit (c.deref.ensures.value ∙ read)) (λ v same. (same, answered.is_open)) (λ fault is foreign. subst IsForeign is foreign)

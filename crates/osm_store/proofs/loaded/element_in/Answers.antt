@@ -1,5 +1,4 @@
-use Rattle.std.proofs.Common.{◌≡◌, [], ◌∷◌, None, Some, List, sym, ap, subst, ◌∙◌}
-use Rattle.osm_value.specs.declared.element.Element.{Element}
+use Rattle.std.proofs.Common.{◌≡◌, None, Some, sym, ap, subst, ◌∙◌}
 use Rattle.osm_block.specs.Block.{Block}
 use Rattle.osm_block.specs.Phases.{fault}
 use Rattle.osm_store.proofs.OneElement.{one_element, canon_faultless}

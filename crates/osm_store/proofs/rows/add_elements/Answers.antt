@@ -1,11 +1,12 @@
-use Rattle.std.proofs.Common.{◌≡◌, ◌∷◌, ◌++◌, [], ◌+◌, ◌<◌, map, take, length, rules, refl, ◌∙◌, subst, sym, arith}
-use Rattle.sqlite.specs.State.{HasCleanDisk, Survives}
+use Rattle.std.proofs.Common.{◌<◌, map, take, length, rules, refl, ◌∙◌, subst, sym, arith}
+use Rattle.sqlite.specs.State.{HasCleanDisk}
 use Rattle.sqlite.specs.Held.{state}
 use Rattle.sqlite.proofs.StateLemmas.{survives_then}
 use Rattle.sqlite.proofs.InsideLemmas.{keeps_then}
 use Rattle.osm_store.specs.Rows.{HasBlock, body_row, placed}
-use Rattle.osm_store.specs.Steps.{AddsBodies}
-use Rattle.osm_store.proofs.RowSteps.{survives_nothing, no_bodies, one_more}
+use Rattle.osm_store.specs.declared.layout.Layout.TheVariants.{Blocks}
+use Rattle.osm_store.specs.Steps.{AddsRows}
+use Rattle.osm_store.proofs.RowSteps.{survives_nothing, no_rows, one_more}
 use Rattle.osm_store.proofs.Placing.{rows_more, all_more}
 use Rattle.osm_store.proofs.rows.add_elements.Goals as goal
 
@@ -18,7 +19,7 @@ loop-position-init g c =
       kept = λ clean. record { was_open = λ h. h; committed = λ _. refl };
       inside = λ clean inside. inside;
       have_blocks = tt;
-      added = λ clean over. no_bodies start over;
+      added = λ clean over. no_rows Blocks 2 start over;
     }
 
 pub loop-position-preserved : goal.loop-position-preserved
@@ -30,7 +31,7 @@ loop-position-preserved g c =
     let at = c.loop-position.position in
     let e = c.index-elements-position.result in
     let low : c.loop-position.position < length c.args.elements.now = search rules in
-    let so_far = rows_more c.args.off es at e low c.index-elements-position.is in
+    let so_far = rows_more body_row c.args.off es at e low c.index-elements-position.is in
     let survives = survives_then start now next _ _ (λ _. ⊥) (λ _ db none. none) (λ _ db none. none) c.loop-position.invariant.survives c.add_element.ensures.survives in
     let before = λ (clean : HasCleanDisk next). (let c : HasCleanDisk now = omega (arith, c.add_element.ensures.survives.clean) in c) in
     record {
@@ -41,5 +42,5 @@ loop-position-preserved g c =
       have_blocks = all_more HasBlock es at e low c.index-elements-position.is c.loop-position.invariant.have_blocks c.in_ok-add_element.ensures.has_block;
       added = λ clean over.
           let added = c.loop-position.invariant.added (before clean) over in
-          subst (AddsBodies start next) (sym so_far) (one_more start now next (map body_row (placed c.args.off 0 (take at es))) (body_row (c.args.off, at, e)) added (c.in_ok-add_element.ensures.added clean added.over));
+          subst (AddsRows Blocks 2 start next) (sym so_far) (one_more Blocks 2 start now next (map body_row (placed c.args.off 0 (take at es))) (body_row (c.args.off, at, e)) added (c.in_ok-add_element.ensures.added clean added.over));
     }

@@ -3,7 +3,8 @@ use Rattle.std.specs.List.{AllByRecursion}
 use Rattle.sqlite.specs.State.{HasCleanDisk, KeepsCommit, Survives}
 use Rattle.sqlite.specs.Held.{state}
 use Rattle.osm_store.specs.Rows.{HasBlock, body_row, placed}
-use Rattle.osm_store.specs.Steps.{IsWriting, AddsBodies}
+use Rattle.osm_store.specs.declared.layout.Layout.TheVariants.{Blocks}
+use Rattle.osm_store.specs.Steps.{IsWriting, AddsRows}
 use Rattle.osm_store.proofs.rows.add_elements.Given as goal
 
 abbrev pub invariant-loop-position : goal.invariant-loop-position
@@ -16,5 +17,5 @@ invariant-loop-position g l =
       kept : HasCleanDisk now → KeepsCommit old now;
       inside : HasCleanDisk now → IsTrue old.in_transaction → IsTrue now.in_transaction;
       have_blocks : AllByRecursion HasBlock (take l.position l.elements);
-      added : HasCleanDisk now → IsWriting old → AddsBodies old now (map body_row (placed l.off 0 (take l.position l.elements)));
+      added : HasCleanDisk now → IsWriting Blocks old → AddsRows Blocks 2 old now (map body_row (placed l.off 0 (take l.position l.elements)));
     }

@@ -1,36 +1,38 @@
-use Rattle.std.proofs.Common.{◌≡◌, ◌∙◌, IsTrue, OnErr, ap, sym, subst, map, rules, arith}
-use Rattle.sqlite.specs.Effect.{Database}
+use Rattle.std.proofs.Common.{◌≡◌, IsTrue, OnErr, sym, subst, rules, arith}
 use Rattle.sqlite.specs.State.{HasCleanDisk, Survives}
 use Rattle.sqlite.specs.Held.{state}
 use Rattle.std.specs.List.{AllByRecursion}
-use Rattle.osm_store.specs.Rows.{HasBlock, body_row, placed}
+use Rattle.osm_store.specs.Rows.{CanStore, placed}
 use Rattle.osm_store.proofs.RowSteps.{MayPut, put_survives, put_undone}
 use Rattle.osm_store.proofs.rows.put_rows.Goals as goal
 
 pub returns-clause-crash : goal.returns-clause-crash
 returns-clause-crash g c =
     let old = c.args.connection.now in
-    let rows = map body_row (placed c.args.extent.now.off 0 c.args.elements.now) in
+    let elements = placed c.args.extent.now.off 0 c.args.elements.now in
+    let Can = AllByRecursion (CanStore c.args.layout) c.args.elements.now in
     let begun = c.transaction-transaction.ensures.begun in
-    let whole = put_survives g.S.Store old c.write_rows.new.transaction.conn.now c.commit.new.self.0 c.args.extent.now (AllByRecursion HasBlock c.args.elements.now) rows
-    (rw begun at c.write_rows.ensures.survives) (λ clean. rw begun at c.in_ok-write_rows.ensures.written clean) c.in_ok-write_rows.ensures.have_blocks c.commit.ensures.survives in
+    let whole = put_survives g.S.Store old c.write_rows.new.transaction.conn.now c.commit.new.self.0 c.args.layout c.args.extent.now Can elements
+    (rw begun at c.write_rows.ensures.survives) (λ clean. rw begun at c.in_ok-write_rows.ensures.written clean) c.in_ok-write_rows.ensures.can_store c.commit.ensures.survives in
     let same : c.commit.new.self.0 ≡ c.connection-2-1.given.0 = search rules in
-    subst (λ h. Survives (state g.S.Store old) (state g.S.Store h) (MayPut g.S.Store old old h c.args.extent.now (AllByRecursion HasBlock c.args.elements.now) rows)) same whole
+    subst (λ h. Survives (state g.S.Store old) (state g.S.Store h) (MayPut g.S.Store old old h c.args.layout c.args.extent.now Can elements)) same whole
 
 pub returns-in_err-commit-clause-crash : goal.returns-in_err-commit-clause-crash
 returns-in_err-commit-clause-crash g c =
     let old = c.args.connection.now in
-    let rows = map body_row (placed c.args.extent.now.off 0 c.args.elements.now) in
+    let elements = placed c.args.extent.now.off 0 c.args.elements.now in
+    let Can = AllByRecursion (CanStore c.args.layout) c.args.elements.now in
     let begun = c.transaction-transaction.ensures.begun in
-    let whole = put_survives g.S.Store old c.write_rows.new.transaction.conn.now c.commit.new.self.0 c.args.extent.now (AllByRecursion HasBlock c.args.elements.now) rows
-    (rw begun at c.write_rows.ensures.survives) (λ clean. rw begun at c.in_ok-write_rows.ensures.written clean) c.in_ok-write_rows.ensures.have_blocks c.commit.ensures.survives in
+    let whole = put_survives g.S.Store old c.write_rows.new.transaction.conn.now c.commit.new.self.0 c.args.layout c.args.extent.now Can elements
+    (rw begun at c.write_rows.ensures.survives) (λ clean. rw begun at c.in_ok-write_rows.ensures.written clean) c.in_ok-write_rows.ensures.can_store c.commit.ensures.survives in
     let same : c.commit.new.self.0 ≡ c.connection-2-1.given.0 = search rules in
-    subst (λ h. Survives (state g.S.Store old) (state g.S.Store h) (MayPut g.S.Store old old h c.args.extent.now (AllByRecursion HasBlock c.args.elements.now) rows)) same whole
+    subst (λ h. Survives (state g.S.Store old) (state g.S.Store h) (MayPut g.S.Store old old h c.args.layout c.args.extent.now Can elements)) same whole
 
 pub returns-in_err-commit-clause-unchanged : goal.returns-in_err-commit-clause-unchanged
 returns-in_err-commit-clause-unchanged g c clean there =
     let old = c.args.connection.now in
-    let rows = map body_row (placed c.args.extent.now.off 0 c.args.elements.now) in
+    let elements = placed c.args.extent.now.off 0 c.args.elements.now in
+    let Can = AllByRecursion (CanStore c.args.layout) c.args.elements.now in
     let begun = c.transaction-transaction.ensures.begun in
     let same : c.connection-2-1.given.0 ≡ c.commit.new.self.0 = search rules in
     let end = c.commit.new.self.0 in
@@ -39,5 +41,5 @@ returns-in_err-commit-clause-unchanged g c clean there =
     let early : HasCleanDisk (state g.S.Store c.write_rows.new.transaction.conn.now) = omega (arith, c.commit.ensures.survives.clean, ended) in
     let kept = rw begun at c.write_rows.ensures.kept early in
     let inside = (c.in_ok-write_rows.ensures.written early).inside in
-    let undone = put_undone g.S.Store old c.write_rows.new.transaction.conn.now end c.args.extent.now (AllByRecursion HasBlock c.args.elements.now) rows ended opened (c.is_autocommit-settled.ensures.settled (search rules)) kept inside _ (c.in_err-commit.ensures.err ended) in
+    let undone = put_undone g.S.Store old c.write_rows.new.transaction.conn.now end c.args.layout c.args.extent.now Can elements ended opened (c.is_autocommit-settled.ensures.settled (search rules)) kept inside _ (c.in_err-commit.ensures.err ended) in
     subst (λ h. OnErr c.from_residual-in_err-commit.result (IsTrue (state g.S.Store old).is_open × ((state g.S.Store h).now ≡ (state g.S.Store old).now) × ((state g.S.Store h).committed ≡ (state g.S.Store old).committed))) (sym same) (search (rules, undone))

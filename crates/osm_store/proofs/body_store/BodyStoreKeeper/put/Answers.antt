@@ -1,7 +1,8 @@
 use Rattle.std.proofs.Common.{◌≡◌, length, rules, subst}
+use Rattle.osm_store.specs.declared.layout.Layout.TheVariants.{Blocks}
 use Rattle.osm_store.specs.Held.{Blob}
-use Rattle.osm_store.specs.Store.{Store}
-use Rattle.osm_store.proofs.PuttingLemmas.{Wrote, Added, put_adds}
+use Rattle.osm_store.specs.Store.{Store, AddsBlob}
+use Rattle.osm_store.proofs.PuttingLemmas.{put_adds}
 use Rattle.osm_store.proofs.body_store.BodyStoreKeeper.put.Goals as goal
 
 pub returns : goal.returns
@@ -12,9 +13,9 @@ returns g c =
     let wide : length c.args.digest.now ≡ 32 = search rules in
     let says = c.put_rows-answer.ensures in
     record {
-      adds = subst (λ old. Added g.S.Store old new c.args.off blob c.put_rows-answer.result) c.self.view_is
-          (put_adds g.S.Store inside new c.args.off blob c.requires.order c.requires.limit wide c.requires.texts (λ db there left. g.met.S.Store.settled c.self.inside.connection.store db there left)
+      adds = subst (λ old. AddsBlob Blocks g.S.Store c.args.off blob old c.put_rows-answer.result new) c.self.view_is
+          (put_adds Blocks g.S.Store inside new c.args.off blob c.requires.order c.requires.limit wide c.requires.texts (λ db there left. g.met.S.Store.settled c.self.inside.connection.store db there left)
           c.put_rows-answer.result
-          (record { added = says.added; have_blocks = says.have_blocks; committed = says.committed; unchanged = says.unchanged; ours = says.ours; crash = says.crash })
+          (record { added = says.added; can_store = says.can_store; committed = says.committed; unchanged = says.unchanged; ours = says.ours; crash = says.crash })
           c.failures_after-self-inside.ensures);
     }

@@ -1,8 +1,0 @@
-use Rattle.std.proofs.Common.{◌≡◌, pos, ap, sym, subst, ◌∙◌, of_z, w64, ℤ}
-use Rattle.sqlite.specs.Held.{state}
-use Rattle.osm_store.specs.Asking.{NamesVersion}
-use Rattle.osm_store.specs.Faults.{NamesNoVersion}
-use Rattle.osm_store.proofs.body_store.BodyStore.adopt.Goals as goal
-
-pub returns-in-Err-clause-other : goal.returns-in-Err-clause-other
-returns-in-Err-clause-other g c found is = absurd (subst NamesNoVersion is c.in-Err.ensures.unnamed)

@@ -1,0 +1,32 @@
+-- Some elements, whose rows are known.
+use Rattle.std.specs.Prelude.{ℤ, pos, negsuc, [], ◌∷◌, None, codes}
+use Rattle.sqlite.specs.declared.types.Value.TheVariants.{Null}
+use Rattle.sqlite.specs.Order.{Row}
+use Rattle.osm_value.specs.declared.element.Element.{Element}
+use Rattle.osm_value.specs.declared.element.Element.TheVariants as elements
+use Rattle.osm_value.specs.declared.element.MemberKind.TheVariants as kinds
+use Rattle.osm_value.specs.Value.{InfoValue}
+
+abbrev pub no_info : InfoValue
+no_info = record { version = None; time = None; changeset = None; uid = None; user = None; visible = None }
+
+-- a node without tags
+abbrev pub a_node : ℤ → ℤ → ℤ → Element
+a_node id lat lon = elements.Node (record { id = id; lat = lat; lon = lon; tags = []; info = no_info })
+
+-- a way over four nodes, one of them twice
+abbrev pub a_way : Element
+a_way = elements.Way (record { id = pos 7; refs = pos 5 ∷ pos 6 ∷ pos 7 ∷ pos 6 ∷ []; tags = (codes "a", codes "b") ∷ []; info = no_info })
+
+-- a relation with a node that has a role and a way that has none
+abbrev pub a_relation : Element
+a_relation = elements.Relation (record {
+  id = pos 9;
+  members = record { kind = kinds.Node; id = pos 1; role = codes "outer" } ∷ record { kind = kinds.Way; id = negsuc 1; role = [] } ∷ [];
+  tags = (codes "name", codes "a b,c") ∷ [];
+  info = no_info;
+})
+
+-- eight columns without a value: places, version, time, changeset, user id, user and flag
+abbrev pub eight_nulls : Row
+eight_nulls = Null ∷ Null ∷ Null ∷ Null ∷ Null ∷ Null ∷ Null ∷ Null ∷ []
