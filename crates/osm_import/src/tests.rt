@@ -1,4 +1,4 @@
-//! The importer over a store in memory.
+//! The importer over stores in memory, of both layouts.
 
 mod every_list;
 mod exports;
@@ -6,7 +6,7 @@ mod orders;
 mod streams;
 
 use crate::{Answer, Delivery, ExportFault, deliver_all, export_lines, export_pbf};
-use osm_store::BodyStore;
+use osm_store::{BodyStore, Keeper, TableStore};
 use osm_value::Outlet;
 use sqlite::{Connection, MemStore};
 use std::alloc::Global;
@@ -44,13 +44,43 @@ const WRITTEN_HEADER: [u8; 56] = [
     0x01, 0x06, 0x70, 0x62, 0x66, 0x72, 0x6F, 0x77,
 ];
 
-type Store = BodyStore<MemStore>;
+type Blocks = BodyStore<MemStore>;
 
-fn new_store(alloc: Global) -> Result<Store, Fail> {
-    let connection = Connection::open_in_memory(alloc)?;
-    match BodyStore::create(connection) {
-        Ok(store) => Ok(store),
-        Err((fault, _)) => Err(Fail::from(fault)),
+type Columns = TableStore<MemStore>;
+
+/// A store in memory, which holds nothing at first.
+trait NewStore: Keeper + Drop {
+    fn new_store(alloc: Global) -> Result<Self, Fail>;
+
+    /// How many steps each later statement may take; None is no limit.
+    fn limit_steps(&mut self, limit: Option<u64>);
+}
+
+impl NewStore for Blocks {
+    fn new_store(alloc: Global) -> Result<Blocks, Fail> {
+        let connection = Connection::open_in_memory(alloc)?;
+        match BodyStore::create(connection) {
+            Ok(store) => Ok(store),
+            Err((fault, _)) => Err(Fail::from(fault)),
+        }
+    }
+
+    fn limit_steps(&mut self, limit: Option<u64>) {
+        self.set_step_limit(limit);
+    }
+}
+
+impl NewStore for Columns {
+    fn new_store(alloc: Global) -> Result<Columns, Fail> {
+        let connection = Connection::open_in_memory(alloc)?;
+        match TableStore::create(connection) {
+            Ok(store) => Ok(store),
+            Err((fault, _)) => Err(Fail::from(fault)),
+        }
+    }
+
+    fn limit_steps(&mut self, limit: Option<u64>) {
+        self.set_step_limit(limit);
     }
 }
 
@@ -78,14 +108,17 @@ fn extra<'a>() -> Delivery<'a> {
 }
 
 /// The answers to these deliveries to a new store, and the store.
-fn answers_to(alloc: Global, deliveries: &[Delivery<'_>]) -> Result<(Vec<Answer>, Store), Fail> {
-    let mut store = new_store(alloc)?;
+fn answers_to<K: NewStore>(
+    alloc: Global,
+    deliveries: &[Delivery<'_>],
+) -> Result<(Vec<Answer>, K), Fail> {
+    let mut store = K::new_store(alloc)?;
     let answers = deliver_all(alloc, &mut store, deliveries)?;
     Ok((answers, store))
 }
 
 /// A store that holds the file of two frames.
-fn file_store(alloc: Global) -> Result<Store, Fail> {
+fn file_store<K: NewStore>(alloc: Global) -> Result<K, Fail> {
     let (_, store) = answers_to(alloc, &[header(), data_at(47)])?;
     Ok(store)
 }
@@ -93,13 +126,13 @@ fn file_store(alloc: Global) -> Result<Store, Fail> {
 /// What an export answers, and what it has written.
 type Exported = (Result<(), ExportFault>, Vec<u8>);
 
-fn lines_of(alloc: Global, store: &mut Store, size: Option<u64>, partial: bool) -> Exported {
+fn lines_of<K: Keeper>(alloc: Global, store: &mut K, size: Option<u64>, partial: bool) -> Exported {
     let mut out = Outlet::new(Vec::new(alloc));
     let result = export_lines(alloc, store, size, partial, &mut out);
     (result, out.into_inner())
 }
 
-fn pbf_of(alloc: Global, store: &mut Store, size: Option<u64>, partial: bool) -> Exported {
+fn pbf_of<K: Keeper>(alloc: Global, store: &mut K, size: Option<u64>, partial: bool) -> Exported {
     let mut out = Outlet::new(Vec::new(alloc));
     let result = export_pbf(alloc, store, size, partial, &mut out);
     (result, out.into_inner())

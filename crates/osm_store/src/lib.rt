@@ -36,4 +36,6 @@ pub use table_store::TableStore;
 #[cfg(test)]
 mod crash_tests;
 #[cfg(test)]
+mod table_tests;
+#[cfg(test)]
 mod tests;

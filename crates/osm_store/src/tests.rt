@@ -1,16 +1,17 @@
-//! The tables' rows and the answers of a store in memory, by values from outside.
+//! The rows of blocks, and the answers of stores in memory of both layouts, by values from outside.
 
 ghost use Rattle.std.specs.Prelude.{◌≤◌, ◌<◌, ◌^◌, IfOk};
 ghost use Rattle.osm_value.specs.Ranges.{IsWide};
 ghost use Rattle.osm_store.specs.Held.{HasFewTexts, HaveFewTexts};
 
-use crate::{BodyStore, Extent, Keeper, StoreFault};
+use crate::{BodyStore, Extent, Found, Keeper, StoreFault, TableStore};
 use osm_value::{Element, Info, MemberKind, Node, Way};
 use pbf_frame::Kind;
 use sqlite::types::ValueRef;
 use sqlite::{Alter, Connection, MemStore, Row};
 use std::alloc::{AllocError, Global};
-use std::test::Fail;
+use std::process::Abort;
+use std::test::*;
 
 /// The block of node 1 at 1000, -100, and that of node 2 at 900, -100.
 const FIRST_BLOCK: &[u8] = b"\x0A\x02\x0A\x00\x12\x0B\x12\x09\x0A\x01\x02\x42\x01\x14\x4A\x01\x01";
@@ -52,33 +53,92 @@ fn three_ways<'a>(alloc: Global) -> Result<Vec<Element<'a>>, AllocError>
     Ok(ways)
 }
 
-fn new_store(alloc: Global) -> Option<BodyStore<MemStore>> {
-    let Ok(connection) = Connection::open_in_memory(alloc) else {
-        return None;
-    };
-    BodyStore::create(connection).ok()
+type Blocks = BodyStore<MemStore>;
+
+type Columns = TableStore<MemStore>;
+
+/// A store in memory.
+trait TestStore: Keeper + Drop {
+    /// A store that holds nothing.
+    fn new_store(alloc: Global) -> Option<Self>;
+
+    fn find_all(&mut self, alloc: Global, kind: MemberKind, id: i64) -> Result<Found, StoreFault>;
+
+    /// How many steps each later statement may take; None is no limit.
+    fn limit_steps(&mut self, limit: Option<u64>);
+
+    /// The store with no limit on steps, opened again, and all its rows.
+    fn with_rows(self, alloc: Global) -> Option<(Self, String)>;
 }
 
-pub(crate) fn put_header<S: Alter>(
-    alloc: Global,
-    store: &mut BodyStore<S>,
-) -> Result<(), StoreFault> {
+impl TestStore for Blocks {
+    fn new_store(alloc: Global) -> Option<Blocks> {
+        let Ok(connection) = Connection::open_in_memory(alloc) else {
+            return None;
+        };
+        BodyStore::create(connection).ok()
+    }
+
+    fn find_all(&mut self, alloc: Global, kind: MemberKind, id: i64) -> Result<Found, StoreFault> {
+        self.find(alloc, kind, id)
+    }
+
+    fn limit_steps(&mut self, limit: Option<u64>) {
+        self.set_step_limit(limit);
+    }
+
+    fn with_rows(self, alloc: Global) -> Option<(Blocks, String)> {
+        let mut connection = self.into_connection();
+        connection.set_step_limit(None);
+        let rows = all_rows(alloc, &mut connection)?;
+        if !connection.is_autocommit() {
+            return None;
+        }
+        Some((BodyStore::adopt(connection).ok()?, rows))
+    }
+}
+
+impl TestStore for Columns {
+    fn new_store(alloc: Global) -> Option<Columns> {
+        let Ok(connection) = Connection::open_in_memory(alloc) else {
+            return None;
+        };
+        TableStore::create(connection).ok()
+    }
+
+    fn find_all(&mut self, alloc: Global, kind: MemberKind, id: i64) -> Result<Found, StoreFault> {
+        self.find(alloc, kind, id)
+    }
+
+    fn limit_steps(&mut self, limit: Option<u64>) {
+        self.set_step_limit(limit);
+    }
+
+    fn with_rows(self, alloc: Global) -> Option<(Columns, String)> {
+        let mut connection = self.into_connection();
+        connection.set_step_limit(None);
+        let rows = all_columns(alloc, &mut connection)?;
+        if !connection.is_autocommit() {
+            return None;
+        }
+        Some((TableStore::adopt(connection).ok()?, rows))
+    }
+}
+
+pub(crate) fn put_header<K: Keeper>(alloc: Global, store: &mut K) -> Result<(), StoreFault> {
     store.put(alloc, 0, 47, &[1; 32], Kind::OsmHeader, &[])
 }
 
-pub(crate) fn put_nodes<S: Alter>(
-    alloc: Global,
-    store: &mut BodyStore<S>,
-) -> Result<(), StoreFault> {
+pub(crate) fn put_nodes<K: Keeper>(alloc: Global, store: &mut K) -> Result<(), StoreFault> {
     let nodes = two_nodes(alloc)?;
     store.put(alloc, 47, 84, &[2; 32], Kind::OsmData, &nodes)
 }
 
-fn put_extra<S: Alter>(alloc: Global, store: &mut BodyStore<S>) -> Result<(), StoreFault> {
+fn put_extra<K: Keeper>(alloc: Global, store: &mut K) -> Result<(), StoreFault> {
     store.put(alloc, 84, 100, &[3; 32], Kind::Other, &[])
 }
 
-fn put_ways<S: Alter>(alloc: Global, store: &mut BodyStore<S>, off: u64) -> Result<(), StoreFault>
+fn put_ways<K: Keeper>(alloc: Global, store: &mut K, off: u64) -> Result<(), StoreFault>
     requires { off ≤ 1000 }
 {
     let ways = three_ways(alloc)?;
@@ -86,16 +146,16 @@ fn put_ways<S: Alter>(alloc: Global, store: &mut BodyStore<S>, off: u64) -> Resu
 }
 
 /// The blob of a header and the blob of two nodes, put in the other order.
-fn two_blobs(alloc: Global) -> Option<BodyStore<MemStore>> {
-    let mut store = new_store(alloc)?;
+fn two_blobs<K: TestStore>(alloc: Global) -> Option<K> {
+    let mut store = K::new_store(alloc)?;
     put_nodes(alloc, &mut store).ok()?;
     put_header(alloc, &mut store).ok()?;
     Some(store)
 }
 
 /// Those and a blob of another type.
-fn three_blobs(alloc: Global) -> Option<BodyStore<MemStore>> {
-    let mut store = two_blobs(alloc)?;
+fn three_blobs<K: TestStore>(alloc: Global) -> Option<K> {
+    let mut store: K = two_blobs(alloc)?;
     put_extra(alloc, &mut store).ok()?;
     Some(store)
 }
@@ -145,7 +205,7 @@ fn has_digests<S: Alter>(connection: &mut Connection<S>) -> bool {
 
 #[test]
 fn rows_of_two_blobs(rt: HostRuntime) -> Result<(), Fail> {
-    let store = two_blobs(rt.alloc()).ok_or("a store")?;
+    let store = two_blobs::<Blocks>(rt.alloc()).ok_or("a store")?;
     let mut connection = store.into_connection();
     for (sql, wanted) in [
         ("SELECT count(*) FROM meta", 1),
@@ -170,7 +230,7 @@ fn rows_of_two_blobs(rt: HostRuntime) -> Result<(), Fail> {
 
 #[test]
 fn rows_of_another_type(rt: HostRuntime) -> Result<(), Fail> {
-    let store = three_blobs(rt.alloc()).ok_or("a store")?;
+    let store = three_blobs::<Blocks>(rt.alloc()).ok_or("a store")?;
     let mut connection = store.into_connection();
     for (sql, wanted) in [
         ("SELECT count(*) FROM blob", 3),
@@ -197,8 +257,8 @@ fn is_node(element: &Element, id: i64, lat: i64, lon: i64) -> bool {
 }
 
 /// Whether the store finds node 2 alone, at 900, -100 and second in the blob at 47.
-fn finds_node(alloc: Global, store: &mut BodyStore<MemStore>) -> bool {
-    let Ok(found) = store.find(alloc, MemberKind::Node, 2) else {
+fn finds_node<K: TestStore>(alloc: Global, store: &mut K) -> bool {
+    let Ok(found) = store.find_all(alloc, MemberKind::Node, 2) else {
         return false;
     };
     let Ok(matches) = found.matches(alloc) else {
@@ -210,17 +270,22 @@ fn finds_node(alloc: Global, store: &mut BodyStore<MemStore>) -> bool {
     }
 }
 
-#[test]
-fn found_node(rt: HostRuntime) -> Result<(), Fail> {
-    let mut store = two_blobs(rt.alloc()).ok_or("a store")?;
+fn found_node_of<K: TestStore, R: Abort + Alloc<A = Global>>(rt: &R) -> Result<(), Fail> {
+    let mut store = two_blobs::<K>(rt.alloc()).ok_or("a store")?;
     assert!(rt; finds_node(rt.alloc(), &mut store));
     assert_eq!(rt; places(rt.alloc(), &mut store, 2).ok_or("no way")?.len(), 0);
     Ok(())
 }
 
+#[test]
+fn found_node(rt: HostRuntime) -> Result<(), Fail> {
+    found_node_of::<Blocks, _>(&rt)?;
+    found_node_of::<Columns, _>(&rt)
+}
+
 /// The places of the ways of this id.
-fn places(alloc: Global, store: &mut BodyStore<MemStore>, id: i64) -> Option<Vec<(u64, u64)>> {
-    let Ok(found) = store.find(alloc, MemberKind::Way, id) else {
+fn places<K: TestStore>(alloc: Global, store: &mut K, id: i64) -> Option<Vec<(u64, u64)>> {
+    let Ok(found) = store.find_all(alloc, MemberKind::Way, id) else {
         return None;
     };
     let Ok(matches) = found.matches(alloc) else {
@@ -240,9 +305,8 @@ fn places_of(
     Ok(places)
 }
 
-#[test]
-fn found_in_two_blobs(rt: HostRuntime) -> Result<(), Fail> {
-    let mut store = two_blobs(rt.alloc()).ok_or("a store")?;
+fn found_in_two_blobs_of<K: TestStore, R: Abort + Alloc<A = Global>>(rt: &R) -> Result<(), Fail> {
+    let mut store = two_blobs::<K>(rt.alloc()).ok_or("a store")?;
     put_ways(rt.alloc(), &mut store, 137)?;
     put_ways(rt.alloc(), &mut store, 100)?;
     let both = places(rt.alloc(), &mut store, 1).ok_or("places")?;
@@ -251,8 +315,13 @@ fn found_in_two_blobs(rt: HostRuntime) -> Result<(), Fail> {
 }
 
 #[test]
-fn all_extents(rt: HostRuntime) -> Result<(), Fail> {
-    let mut store = three_blobs(rt.alloc()).ok_or("a store")?;
+fn found_in_two_blobs(rt: HostRuntime) -> Result<(), Fail> {
+    found_in_two_blobs_of::<Blocks, _>(&rt)?;
+    found_in_two_blobs_of::<Columns, _>(&rt)
+}
+
+fn all_extents_of<K: TestStore, R: Abort + Alloc<A = Global>>(rt: &R) -> Result<(), Fail> {
+    let mut store = three_blobs::<K>(rt.alloc()).ok_or("a store")?;
     let extents = store.extents(rt.alloc())?;
     let wanted = Extent {
         off: 47,
@@ -266,8 +335,14 @@ fn all_extents(rt: HostRuntime) -> Result<(), Fail> {
     Ok(())
 }
 
+#[test]
+fn all_extents(rt: HostRuntime) -> Result<(), Fail> {
+    all_extents_of::<Blocks, _>(&rt)?;
+    all_extents_of::<Columns, _>(&rt)
+}
+
 /// The offsets of the extents that share a byte with the range.
-fn touched(alloc: Global, store: &mut BodyStore<MemStore>, from: u64, to: u64) -> Option<Vec<u64>>
+fn touched<K: Keeper>(alloc: Global, store: &mut K, from: u64, to: u64) -> Option<Vec<u64>>
     requires { (from < to) × (to ≤ 2 ^ 62) }
 {
     let Ok(extents) = store.extents_touching(alloc, from, to) else {
@@ -284,9 +359,8 @@ fn offsets(alloc: Global, extents: &[Extent]) -> Result<Vec<u64>, AllocError> {
     Ok(offsets)
 }
 
-#[test]
-fn touching_one(rt: HostRuntime) -> Result<(), Fail> {
-    let mut store = new_store(rt.alloc()).ok_or("a store")?;
+fn touching_one_of<K: TestStore, R: Abort + Alloc<A = Global>>(rt: &R) -> Result<(), Fail> {
+    let mut store = K::new_store(rt.alloc()).ok_or("a store")?;
     assert_eq!(rt;
         touched(rt.alloc(), &mut store, 0, 47).ok_or("none")?.len(),
         0
@@ -302,8 +376,13 @@ fn touching_one(rt: HostRuntime) -> Result<(), Fail> {
 }
 
 #[test]
-fn touching_several(rt: HostRuntime) -> Result<(), Fail> {
-    let mut store = three_blobs(rt.alloc()).ok_or("a store")?;
+fn touching_one(rt: HostRuntime) -> Result<(), Fail> {
+    touching_one_of::<Blocks, _>(&rt)?;
+    touching_one_of::<Columns, _>(&rt)
+}
+
+fn touching_several_of<K: TestStore, R: Abort + Alloc<A = Global>>(rt: &R) -> Result<(), Fail> {
+    let mut store = three_blobs::<K>(rt.alloc()).ok_or("a store")?;
     put_ways(rt.alloc(), &mut store, 137)?;
     let last_byte = touched(rt.alloc(), &mut store, 46, 47).ok_or("last byte")?;
     assert_eq!(rt; last_byte.as_slice(), [0].as_slice());
@@ -316,8 +395,14 @@ fn touching_several(rt: HostRuntime) -> Result<(), Fail> {
     Ok(())
 }
 
+#[test]
+fn touching_several(rt: HostRuntime) -> Result<(), Fail> {
+    touching_several_of::<Blocks, _>(&rt)?;
+    touching_several_of::<Columns, _>(&rt)
+}
+
 /// The ids of the elements of a blob.
-fn loaded(alloc: Global, store: &mut BodyStore<MemStore>, off: u64) -> Option<Vec<i64>> {
+fn loaded<K: Keeper>(alloc: Global, store: &mut K, off: u64) -> Option<Vec<i64>> {
     let Ok(rows) = store.load(alloc, off) else {
         return None;
     };
@@ -335,9 +420,8 @@ fn ids(alloc: Global, elements: &[Element]) -> Result<Vec<i64>, AllocError> {
     Ok(ids)
 }
 
-#[test]
-fn loaded_elements(rt: HostRuntime) -> Result<(), Fail> {
-    let mut store = three_blobs(rt.alloc()).ok_or("a store")?;
+fn loaded_elements_of<K: TestStore, R: Abort + Alloc<A = Global>>(rt: &R) -> Result<(), Fail> {
+    let mut store = three_blobs::<K>(rt.alloc()).ok_or("a store")?;
     put_ways(rt.alloc(), &mut store, 100)?;
     let ways = loaded(rt.alloc(), &mut store, 100).ok_or("ways")?;
     assert_eq!(rt; ways.as_slice(), [7, 8, 1].as_slice());
@@ -345,6 +429,12 @@ fn loaded_elements(rt: HostRuntime) -> Result<(), Fail> {
     assert_eq!(rt; nodes.as_slice(), [1, 2].as_slice());
     assert_eq!(rt; loaded(rt.alloc(), &mut store, 84).ok_or("none")?.len(), 0);
     Ok(())
+}
+
+#[test]
+fn loaded_elements(rt: HostRuntime) -> Result<(), Fail> {
+    loaded_elements_of::<Blocks, _>(&rt)?;
+    loaded_elements_of::<Columns, _>(&rt)
 }
 
 /// All rows of all tables, as text.
@@ -355,38 +445,34 @@ fn all_rows<S: Alter>(alloc: Global, connection: &mut Connection<S>) -> Option<S
     format!(in alloc; "{meta:?} {blobs:?} {bodies:?}").ok()
 }
 
-/// The store with no limit on steps, and all its rows.
-fn with_rows(alloc: Global, store: BodyStore<MemStore>) -> Option<(BodyStore<MemStore>, String)> {
-    let mut connection = store.into_connection();
-    connection.set_step_limit(None);
-    let rows = all_rows(alloc, &mut connection)?;
-    if !connection.is_autocommit() {
-        return None;
-    }
-    Some((BodyStore::adopt(connection).ok()?, rows))
+/// The same of rows of numbers and texts.
+fn all_columns<S: Alter>(alloc: Global, connection: &mut Connection<S>) -> Option<String> {
+    let meta = connection.query_all("SELECT * FROM meta", &[]).ok()?;
+    let blobs = connection.query_all("SELECT * FROM blob", &[]).ok()?;
+    let elements = connection.query_all("SELECT * FROM element", &[]).ok()?;
+    let tags = connection.query_all("SELECT * FROM tag", &[]).ok()?;
+    let links = connection.query_all("SELECT * FROM link", &[]).ok()?;
+    format!(in alloc; "{meta:?} {blobs:?} {elements:?} {tags:?} {links:?}").ok()
 }
 
 /// Looks whether the blob's place is free and puts it there, under a limit on the steps of each statement.
-fn put_limited(
-    alloc: Global,
-    store: &mut BodyStore<MemStore>,
-    limit: u64,
-) -> Result<(), StoreFault> {
-    store.set_step_limit(Some(limit));
+fn put_limited<K: TestStore>(alloc: Global, store: &mut K, limit: u64) -> Result<(), StoreFault> {
+    store.limit_steps(Some(limit));
     store.extents_touching(alloc, 100, 137)?;
     put_ways(alloc, store, 100)
 }
 
 /// How many limits on steps refuse the blob before one lets it in; None where a refusal changes a row.
-fn refused_limits(alloc: Global) -> Option<u64> {
-    let (mut store, before) = with_rows(alloc, three_blobs(alloc)?)?;
+fn refused_limits<K: TestStore>(alloc: Global) -> Option<u64> {
+    let first: K = three_blobs(alloc)?;
+    let (mut store, before) = first.with_rows(alloc)?;
     for limit in 1u64..1000 {
         match put_limited(alloc, &mut store, limit) {
             Ok(()) => return Some(limit - 1),
             Err(StoreFault::Interrupted) => {}
             Err(_) => return None,
         }
-        let (same, after) = with_rows(alloc, store)?;
+        let (same, after) = store.with_rows(alloc)?;
         if after != before {
             return None;
         }
@@ -395,11 +481,16 @@ fn refused_limits(alloc: Global) -> Option<u64> {
     None
 }
 
-#[test]
-fn step_limits(rt: HostRuntime) -> Result<(), Fail> {
-    let refused = refused_limits(rt.alloc()).ok_or("whole or not at all")?;
+fn step_limits_of<K: TestStore, R: Abort + Alloc<A = Global>>(rt: &R) -> Result<(), Fail> {
+    let refused = refused_limits::<K>(rt.alloc()).ok_or("whole or not at all")?;
     assert!(rt; refused > 0);
     Ok(())
+}
+
+#[test]
+fn step_limits(rt: HostRuntime) -> Result<(), Fail> {
+    step_limits_of::<Blocks, _>(&rt)?;
+    step_limits_of::<Columns, _>(&rt)
 }
 
 /// Why the database isn't adopted.
@@ -426,7 +517,7 @@ fn creating(connection: Connection<MemStore>) -> Option<StoreFault> {
 
 /// The connection to a store whose version is another.
 fn of_version_2(alloc: Global) -> Option<Connection<MemStore>> {
-    let mut connection = two_blobs(alloc)?.into_connection();
+    let mut connection = two_blobs::<Blocks>(alloc)?.into_connection();
     connection.execute("UPDATE meta SET version = 2", &[]).ok()?;
     Some(connection)
 }
@@ -446,14 +537,14 @@ fn adopted_databases(rt: HostRuntime) -> Result<(), Fail> {
     assert_eq!(rt; adopting(empty), Some(StoreFault::NotThisStore(None)));
     let other = of_version_2(rt.alloc()).ok_or("another version")?;
     assert_eq!(rt; adopting(other), Some(StoreFault::NotThisStore(Some(2))));
-    let store = two_blobs(rt.alloc()).ok_or("a store")?;
+    let store = two_blobs::<Blocks>(rt.alloc()).ok_or("a store")?;
     assert_eq!(rt; adopting(store.into_connection()), None);
     Ok(())
 }
 
 #[test]
 fn a_table_stands_already(rt: HostRuntime) -> Result<(), Fail> {
-    let store = two_blobs(rt.alloc()).ok_or("a store")?;
+    let store = two_blobs::<Blocks>(rt.alloc()).ok_or("a store")?;
     assert_eq!(rt;
         creating(store.into_connection()),
         Some(StoreFault::NotThisStore(None))
@@ -464,19 +555,18 @@ fn a_table_stands_already(rt: HostRuntime) -> Result<(), Fail> {
 }
 
 /// How many extents the store answers under a limit on steps.
-fn extents_within(
+fn extents_within<K: TestStore>(
     alloc: Global,
-    store: &mut BodyStore<MemStore>,
+    store: &mut K,
     limit: Option<u64>,
 ) -> Result<usize, StoreFault> {
-    store.set_step_limit(limit);
+    store.limit_steps(limit);
     let extents = store.extents(alloc)?;
     Ok(extents.len())
 }
 
-#[test]
-fn counted_failures(rt: HostRuntime) -> Result<(), Fail> {
-    let mut store = three_blobs(rt.alloc()).ok_or("a store")?;
+fn counted_failures_of<K: TestStore, R: Abort + Alloc<A = Global>>(rt: &R) -> Result<(), Fail> {
+    let mut store = three_blobs::<K>(rt.alloc()).ok_or("a store")?;
     assert_eq!(rt; store.failures(), 0);
     assert_eq!(rt; put_nodes(rt.alloc(), &mut store), Err(StoreFault::Disk));
     assert_eq!(rt; store.failures(), 1);
@@ -486,6 +576,12 @@ fn counted_failures(rt: HostRuntime) -> Result<(), Fail> {
     assert_eq!(rt; extents_within(rt.alloc(), &mut store, None), Ok(3));
     assert_eq!(rt; store.failures(), 2);
     Ok(())
+}
+
+#[test]
+fn counted_failures(rt: HostRuntime) -> Result<(), Fail> {
+    counted_failures_of::<Blocks, _>(&rt)?;
+    counted_failures_of::<Columns, _>(&rt)
 }
 
 #[test]

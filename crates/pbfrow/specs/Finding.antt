@@ -3,9 +3,10 @@ use Rattle.std.specs.Prelude.{ℕ, ◌⊎◌, Bool, List, IsTrue}
 use Rattle.sqlite.specs.Held.{state}
 use Rattle.sqlite.specs.State.{HasCleanDisk}
 use Rattle.sqlite.specs.Store.{Ghosts}
-use Rattle.osm_store.specs.Holding.{Holds, MayLeave, LeavesAMap}
+use Rattle.osm_store.specs.LayoutHolding.{Holds, MayLeave, LeavesAMap}
 use Rattle.osm_store.specs.Rows.{Placed}
 use Rattle.osm_store.specs.Store.{Store}
+use Rattle.osm_store.specs.declared.layout.Layout.TheVariants.{Columns}
 use Rattle.osm_import.specs.Exports.{Known}
 use Rattle.pbfrow.specs.CommandLines.{match_lines}
 use Rattle.pbfrow.specs.Status.{Stays, Tells, TellsFault}
@@ -17,5 +18,5 @@ TellsMatches matches failures_old failures_new old new failed status =
 
 -- the same of a store of rows
 abbrev pub StoreStays : {S : Type 0} → Ghosts S → Store S → Store S → Type 0
-StoreStays g old new = Stays (λ s held. Holds (state g s.connection) held) (λ s left. MayLeave (state g s.connection) left) (λ s. LeavesAMap (state g s.connection))
+StoreStays g old new = Stays (λ s held. Holds Columns (state g s.connection) held) (λ s left. MayLeave Columns (state g s.connection) left) (λ s. LeavesAMap Columns (state g s.connection))
     (λ s. HasCleanDisk (state g s.connection)) (λ s. HasCleanDisk (state g s.connection) × IsTrue (state g s.connection).is_open) old new

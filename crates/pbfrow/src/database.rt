@@ -11,7 +11,7 @@ use crate::report::{put_fault_at, put_plain_fault};
 use crate::status::status;
 use crate::words::Form;
 use osm_import::{Inlet, Stop};
-use osm_store::{BodyStore, StoreFault};
+use osm_store::{StoreFault, TableStore};
 use osm_value::{MemberKind, Outlet};
 use sqlite::{Connection, Error, ErrorCode, File, FileStore};
 use std::io;
@@ -38,7 +38,7 @@ pub(crate) enum Question {
 }
 
 /// A store in a file.
-type FileBodies = BodyStore<FileStore<File>>;
+type FileTables = TableStore<FileStore<File>>;
 
 /// Why a database isn't opened: memory was refused, or any other cause.
 fn unopened(error: Error) -> StoreFault {
@@ -49,19 +49,19 @@ fn unopened(error: Error) -> StoreFault {
 }
 
 /// Opens the store in a database file. Where the file has no store, it is made.
-fn open_or_create(rt: &HostRuntime, database: &str) -> Result<FileBodies, StoreFault> {
+fn open_or_create(rt: &HostRuntime, database: &str) -> Result<FileTables, StoreFault> {
     let connection = match Connection::open(rt, database) {
         Ok(connection) => connection,
         Err(error) => return Err(unopened(error)),
     };
-    let (fault, connection) = match BodyStore::adopt(connection) {
+    let (fault, connection) = match TableStore::adopt(connection) {
         Ok(store) => return Ok(store),
         Err(refused) => refused,
     };
     if fault != StoreFault::NotThisStore(None) {
         return Err(fault);
     }
-    match BodyStore::create(connection) {
+    match TableStore::create(connection) {
         Ok(store) => Ok(store),
         Err((fault, _)) => Err(fault),
     }
@@ -76,7 +76,7 @@ fn is_missing(rt: &HostRuntime, name: &str) -> bool {
 }
 
 /// Opens the store in a database file.
-fn open_store(rt: &HostRuntime, database: &str) -> Result<FileBodies, StoreFault> {
+fn open_store(rt: &HostRuntime, database: &str) -> Result<FileTables, StoreFault> {
     if is_missing(rt, database) {
         return Err(StoreFault::NotThisStore(None));
     }
@@ -84,14 +84,14 @@ fn open_store(rt: &HostRuntime, database: &str) -> Result<FileBodies, StoreFault
         Ok(connection) => connection,
         Err(error) => return Err(unopened(error)),
     };
-    match BodyStore::adopt(connection) {
+    match TableStore::adopt(connection) {
         Ok(store) => Ok(store),
         Err((fault, _)) => Err(fault),
     }
 }
 
 /// Copies the log beside the database into it. Where that fails, the log stays, and the next opening reads it.
-fn close(store: FileBodies) {
+fn close(store: FileTables) {
     let _closed = store.into_connection().close();
 }
 
@@ -130,7 +130,7 @@ pub(crate) fn fill(rt: &HostRuntime, file: &str, database: &str, from: u64) -> i
 
 fn answer<W: Write>(
     rt: &HostRuntime,
-    mut store: FileBodies,
+    mut store: FileTables,
     question: Question,
     meter: &Meter,
     out: &mut Outlet<W>,

@@ -6,13 +6,14 @@ ghost use Rattle.sqlite.specs.State.{HasCleanDisk};
 ghost use Rattle.osm_value.specs.Sink.{Writes};
 ghost use Rattle.osm_store.specs.Finding.{AreMatches};
 ghost use Rattle.osm_store.specs.Held.{HeldMap};
-ghost use Rattle.osm_store.specs.Holding.{Holds};
+ghost use Rattle.osm_store.specs.LayoutHolding.{Holds};
 ghost use Rattle.osm_store.specs.Rows.{Placed, is_of, placed_in};
+ghost use Rattle.osm_store.specs.declared.layout.Layout.TheVariants.{Columns};
 ghost use Rattle.pbfrow.specs.CommandLines.{match_line, match_lines};
 ghost use Rattle.pbfrow.specs.Finding.{StoreStays, TellsMatches};
 
 use crate::report::put_store_fault;
-use osm_store::{BodyStore, Found, StoreFault};
+use osm_store::{Found, StoreFault, TableStore};
 use osm_value::{Element, MemberKind, Sink, put, put_digits, write_line};
 use sqlite::Alter;
 use std::alloc::{AllocError, Global};
@@ -55,12 +56,12 @@ fn write_found<S: Sink>(alloc: Global, found: &Found, out: &mut S) -> Result<(),
 /// Answers the exit status: 0 where all was written, also where nothing was found, and 1 at a fault.
 pub fn find<A: Alter, S: Sink>(
     alloc: Global,
-    store: &mut BodyStore<A>,
+    store: &mut TableStore<A>,
     kind: MemberKind,
     id: i64,
     out: &mut S,
 ) -> u8
-    ensures told { (held : HeldMap) → Holds (state A.Store store.old.connection) held → HasCleanDisk (state A.Store store.new.connection)
+    ensures told { (held : HeldMap) → Holds Columns (state A.Store store.old.connection) held → HasCleanDisk (state A.Store store.new.connection)
         → TellsMatches (filter (is_of kind id) (placed_in held)) store.old.failures store.new.failures (S.written out.old) (S.written out.new) (S.has_failed out.new) result }
     ensures stays { StoreStays A.Store store.old store.new }
 {

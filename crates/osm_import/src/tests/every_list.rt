@@ -1,13 +1,13 @@
 //! Every list of up to four deliveries, against a small program that keeps the blobs that it has stored in a list.
 
-use super::{CHANGED, EXTRA, FILE, LINES, Store, answers_to, lines_of};
+use super::{Blocks, CHANGED, Columns, EXTRA, FILE, LINES, NewStore, answers_to, lines_of};
 use crate::{Answer, Conflict, Delivery, Fault, gaps};
 use osm_block::BlockFault;
 use osm_store::{Extent, Keeper};
 use pbf_wire::{WireFault, WireFaultKind};
 use std::alloc::{AllocError, Global};
 use std::process::Abort;
-use std::test::Fail;
+use std::test::*;
 
 /// A delivery: where its frame stands and ends, what it is answered with where nothing is held, and its lines.
 #[derive(Drop)]
@@ -141,10 +141,10 @@ fn deliveries_of<'a>(
 }
 
 /// The extents, the gaps in 100 bytes and the lines of a store that holds these.
-fn check_held(
-    rt: &impl Abort,
+fn check_held<K: NewStore, R: Abort>(
+    rt: &R,
     alloc: Global,
-    store: &mut Store,
+    store: &mut K,
     held: &[&Choice<'_>],
 ) -> Result<(), Fail> {
     let extents = store.extents(alloc)?;
@@ -162,9 +162,13 @@ fn check_held(
     Ok(())
 }
 
-fn check_list(rt: &impl Abort, alloc: Global, chosen: &[&Choice<'_>]) -> Result<(), Fail> {
+fn check_list<K: NewStore, R: Abort>(
+    rt: &R,
+    alloc: Global,
+    chosen: &[&Choice<'_>],
+) -> Result<(), Fail> {
     let deliveries = deliveries_of(alloc, chosen)?;
-    let (answers, mut store) = answers_to(alloc, &deliveries)?;
+    let (answers, mut store) = answers_to::<K>(alloc, &deliveries)?;
     let mut held = Vec::new(alloc);
     let mut expected = Vec::new(alloc);
     for choice in chosen {
@@ -179,8 +183,8 @@ fn check_list(rt: &impl Abort, alloc: Global, chosen: &[&Choice<'_>]) -> Result<
 }
 
 /// The list of the choices at these places.
-fn check_places(
-    rt: &impl Abort,
+fn check_places<K: NewStore, R: Abort>(
+    rt: &R,
     alloc: Global,
     choices: &[Choice<'_>; 6],
     places: &[usize],
@@ -189,11 +193,12 @@ fn check_places(
     for place in places {
         chosen.push(choices.get(*place).ok_or("no such choice")?)?;
     }
-    check_list(rt, alloc, &chosen)
+    check_list::<K, _>(rt, alloc, &chosen)
 }
 
-#[test]
-fn every_list_of_up_to_four(rt: HostRuntime) -> Result<(), Fail> {
+fn every_list_of_up_to_four_of<K: NewStore, R: Abort + Alloc<A = Global>>(
+    rt: &R,
+) -> Result<(), Fail> {
     let alloc = rt.alloc();
     let choices = choices();
     for (length, lists) in [(0, 1), (1, 5), (2, 25), (3, 125), (4, 625)] {
@@ -204,20 +209,33 @@ fn every_list_of_up_to_four(rt: HostRuntime) -> Result<(), Fail> {
                 places.push(rest % 5)?;
                 rest /= 5;
             }
-            check_places(&rt, alloc, &choices, &places)?;
+            check_places::<K, _>(rt, alloc, &choices, &places)?;
         }
     }
     Ok(())
 }
 
-/// A bad blob leaves what is held, whatever that is.
 #[test]
-fn a_bad_blob_before_and_behind(rt: HostRuntime) -> Result<(), Fail> {
+fn every_list_of_up_to_four(rt: HostRuntime) -> Result<(), Fail> {
+    every_list_of_up_to_four_of::<Blocks, _>(&rt)?;
+    every_list_of_up_to_four_of::<Columns, _>(&rt)
+}
+
+/// A bad blob leaves what is held, whatever that is.
+fn a_bad_blob_before_and_behind_of<K: NewStore, R: Abort + Alloc<A = Global>>(
+    rt: &R,
+) -> Result<(), Fail> {
     let alloc = rt.alloc();
     let choices = choices();
     for place in 0..5 {
-        check_places(&rt, alloc, &choices, &[place, 5])?;
-        check_places(&rt, alloc, &choices, &[5, place, 5])?;
+        check_places::<K, _>(rt, alloc, &choices, &[place, 5])?;
+        check_places::<K, _>(rt, alloc, &choices, &[5, place, 5])?;
     }
     Ok(())
+}
+
+#[test]
+fn a_bad_blob_before_and_behind(rt: HostRuntime) -> Result<(), Fail> {
+    a_bad_blob_before_and_behind_of::<Blocks, _>(&rt)?;
+    a_bad_blob_before_and_behind_of::<Columns, _>(&rt)
 }

@@ -1,12 +1,15 @@
 //! Deliveries in any order, again, and in the way of one another.
 
 use super::{
-    CHANGED, EXTRA, FILE, LINES, answers_to, data_at, extra, header, joined, lines_of, new_store,
+    Blocks, CHANGED, Columns, EXTRA, FILE, LINES, NewStore, answers_to, data_at, extra, header,
+    joined, lines_of,
 };
 use crate::{Answer, Conflict, Delivery, ExamineFault, Fault, deliver, examine};
 use osm_store::{Keeper, StoreFault};
 use pbf_frame::{FrameFault, Kind};
-use std::test::Fail;
+use std::alloc::Global;
+use std::process::Abort;
+use std::test::*;
 
 /// The nodes 1, 2 and 3 at 0, 0.
 const THREE_NODES: [u8; 40] = [
@@ -15,11 +18,12 @@ const THREE_NODES: [u8; 40] = [
     0x00, 0x00, 0x00, 0x4A, 0x03, 0x00, 0x00, 0x00,
 ];
 
-#[test]
-fn frames_in_any_order_and_again(rt: HostRuntime) -> Result<(), Fail> {
+fn frames_in_any_order_and_again_of<K: NewStore, R: Abort + Alloc<A = Global>>(
+    rt: &R,
+) -> Result<(), Fail> {
     let alloc = rt.alloc();
     let deliveries = [data_at(47), header(), data_at(47), data_at(47)];
-    let (answers, mut store) = answers_to(alloc, &deliveries)?;
+    let (answers, mut store) = answers_to::<K>(alloc, &deliveries)?;
     let expected = [
         Answer::Stored(2),
         Answer::Stored(0),
@@ -34,10 +38,17 @@ fn frames_in_any_order_and_again(rt: HostRuntime) -> Result<(), Fail> {
 }
 
 #[test]
-fn a_frame_of_another_type(rt: HostRuntime) -> Result<(), Fail> {
+fn frames_in_any_order_and_again(rt: HostRuntime) -> Result<(), Fail> {
+    frames_in_any_order_and_again_of::<Blocks, _>(&rt)?;
+    frames_in_any_order_and_again_of::<Columns, _>(&rt)
+}
+
+fn a_frame_of_another_type_of<K: NewStore, R: Abort + Alloc<A = Global>>(
+    rt: &R,
+) -> Result<(), Fail> {
     let alloc = rt.alloc();
     let deliveries = [header(), data_at(47), extra(), data_at(100)];
-    let (answers, mut store) = answers_to(alloc, &deliveries)?;
+    let (answers, mut store) = answers_to::<K>(alloc, &deliveries)?;
     let expected = [
         Answer::Stored(0),
         Answer::Stored(2),
@@ -53,7 +64,12 @@ fn a_frame_of_another_type(rt: HostRuntime) -> Result<(), Fail> {
 }
 
 #[test]
-fn what_is_in_the_way(rt: HostRuntime) -> Result<(), Fail> {
+fn a_frame_of_another_type(rt: HostRuntime) -> Result<(), Fail> {
+    a_frame_of_another_type_of::<Blocks, _>(&rt)?;
+    a_frame_of_another_type_of::<Columns, _>(&rt)
+}
+
+fn what_is_in_the_way_of<K: NewStore, R: Abort + Alloc<A = Global>>(rt: &R) -> Result<(), Fail> {
     let alloc = rt.alloc();
     let changed = Delivery {
         off: 47,
@@ -71,7 +87,7 @@ fn what_is_in_the_way(rt: HostRuntime) -> Result<(), Fail> {
         second_header,
         data_at(0),
     ];
-    let (answers, mut store) = answers_to(alloc, &deliveries)?;
+    let (answers, mut store) = answers_to::<K>(alloc, &deliveries)?;
     let expected = [
         Answer::Stored(0),
         Answer::Stored(2),
@@ -85,6 +101,12 @@ fn what_is_in_the_way(rt: HostRuntime) -> Result<(), Fail> {
     assert!(rt; result == Ok(()));
     assert!(rt; lines.as_slice() == LINES);
     Ok(())
+}
+
+#[test]
+fn what_is_in_the_way(rt: HostRuntime) -> Result<(), Fail> {
+    what_is_in_the_way_of::<Blocks, _>(&rt)?;
+    what_is_in_the_way_of::<Columns, _>(&rt)
 }
 
 #[test]
@@ -119,15 +141,14 @@ fn what_a_good_delivery_says(rt: HostRuntime) -> Result<(), Fail> {
 
 /// Each delivery that the step limit breaks off has changed nothing; in the end the blob is stored. A step is a row
 /// that a query visits, so something has to be held.
-#[test]
-fn under_each_step_limit(rt: HostRuntime) -> Result<(), Fail> {
+fn under_each_step_limit_of<K: NewStore, R: Abort + Alloc<A = Global>>(rt: &R) -> Result<(), Fail> {
     let alloc = rt.alloc();
-    let (_, mut store) = answers_to(alloc, &[header(), data_at(47), extra()])?;
+    let (_, mut store) = answers_to::<K>(alloc, &[header(), data_at(47), extra()])?;
     let mut interrupted = 0;
     for limit in 1..100 {
-        store.set_step_limit(Some(limit));
+        store.limit_steps(Some(limit));
         let answer = deliver(alloc, &mut store, 100, &THREE_NODES);
-        store.set_step_limit(None);
+        store.limit_steps(None);
         if answer == Answer::Stored(3) {
             break;
         }
@@ -145,4 +166,10 @@ fn under_each_step_limit(rt: HostRuntime) -> Result<(), Fail> {
     let expected = joined(alloc, &[LINES, three.as_slice()])?;
     assert!(rt; lines.as_slice() == expected.as_slice());
     Ok(())
+}
+
+#[test]
+fn under_each_step_limit(rt: HostRuntime) -> Result<(), Fail> {
+    under_each_step_limit_of::<Blocks, _>(&rt)?;
+    under_each_step_limit_of::<Columns, _>(&rt)
 }

@@ -1,13 +1,14 @@
 //! Streams of frames.
 
-use super::{FILE, new_store};
+use super::{Blocks, Columns, FILE, NewStore};
 use crate::{Inlet, Stop, StreamFault, Summary, gaps, import_stream};
 use osm_value::Outlet;
 use pbf_frame::FrameFault;
 use std::alloc::Global;
 use std::io;
 use std::io::Read;
-use std::test::Fail;
+use std::process::Abort;
+use std::test::*;
 
 /// What an import to a new store answers, what it has written, and the gaps in the 84 bytes of the file.
 #[derive(Drop)]
@@ -17,8 +18,12 @@ struct Imported {
     gaps: Vec<(u64, u64)>,
 }
 
-fn import<R: Read + Drop>(alloc: Global, reader: R, max_blobs: u32) -> Result<Imported, Fail> {
-    let mut store = new_store(alloc)?;
+fn import<K: NewStore, R: Read + Drop>(
+    alloc: Global,
+    reader: R,
+    max_blobs: u32,
+) -> Result<Imported, Fail> {
+    let mut store = K::new_store(alloc)?;
     let mut source = Inlet::new(reader);
     let mut out = Outlet::new(Vec::new(alloc));
     let result = import_stream(alloc, &mut store, &mut source, 0, max_blobs, &mut out);
@@ -33,17 +38,16 @@ fn stopped(fault: Stop, at: u64) -> Result<Summary, StreamFault> {
     Err(StreamFault { fault, at })
 }
 
-#[test]
-fn limits_of_blobs(rt: HostRuntime) -> Result<(), Fail> {
+fn limits_of_blobs_of<K: NewStore, R: Abort + Alloc<A = Global>>(rt: &R) -> Result<(), Fail> {
     let alloc = rt.alloc();
-    let none = import(alloc, FILE.as_slice(), 0)?;
+    let none = import::<K, _>(alloc, FILE.as_slice(), 0)?;
     assert!(rt; none.result == stopped(Stop::BlobLimit, 0));
     assert!(rt; none.lines.is_empty());
-    let one = import(alloc, FILE.as_slice(), 1)?;
+    let one = import::<K, _>(alloc, FILE.as_slice(), 1)?;
     assert!(rt; one.result == stopped(Stop::BlobLimit, 47));
     assert!(rt; one.lines.as_slice() == b"0 stored 0\n".as_slice());
     assert!(rt; one.gaps.as_slice() == [(47, 84)].as_slice());
-    let two = import(alloc, FILE.as_slice(), 2)?;
+    let two = import::<K, _>(alloc, FILE.as_slice(), 2)?;
     let summary = Summary {
         stored: 2,
         held: 0,
@@ -58,9 +62,14 @@ fn limits_of_blobs(rt: HostRuntime) -> Result<(), Fail> {
 }
 
 #[test]
-fn the_same_file_again(rt: HostRuntime) -> Result<(), Fail> {
+fn limits_of_blobs(rt: HostRuntime) -> Result<(), Fail> {
+    limits_of_blobs_of::<Blocks, _>(&rt)?;
+    limits_of_blobs_of::<Columns, _>(&rt)
+}
+
+fn the_same_file_again_of<K: NewStore, R: Abort + Alloc<A = Global>>(rt: &R) -> Result<(), Fail> {
     let alloc = rt.alloc();
-    let mut store = new_store(alloc)?;
+    let mut store = K::new_store(alloc)?;
     let mut out = Outlet::new(Vec::new(alloc));
     for _ in 0..2 {
         let mut source = Inlet::new(FILE.as_slice());
@@ -72,15 +81,22 @@ fn the_same_file_again(rt: HostRuntime) -> Result<(), Fail> {
 }
 
 #[test]
-fn streams_that_end_early(rt: HostRuntime) -> Result<(), Fail> {
+fn the_same_file_again(rt: HostRuntime) -> Result<(), Fail> {
+    the_same_file_again_of::<Blocks, _>(&rt)?;
+    the_same_file_again_of::<Columns, _>(&rt)
+}
+
+fn streams_that_end_early_of<K: NewStore, R: Abort + Alloc<A = Global>>(
+    rt: &R,
+) -> Result<(), Fail> {
     let alloc = rt.alloc();
-    let cut = import(alloc, &FILE[..83], 9)?;
+    let cut = import::<K, _>(alloc, &FILE[..83], 9)?;
     assert!(rt; cut.result == stopped(Stop::Frame(FrameFault::BlobCut), 47));
     assert!(rt; cut.lines.as_slice() == b"0 stored 0\n".as_slice());
-    let empty = import(alloc, &FILE[..0], 9)?;
+    let empty = import::<K, _>(alloc, &FILE[..0], 9)?;
     assert!(rt; empty.result == stopped(Stop::NoHeaderFirst, 0));
     assert!(rt; empty.lines.is_empty());
-    let late = import(alloc, &FILE[47..], 9)?;
+    let late = import::<K, _>(alloc, &FILE[47..], 9)?;
     let summary = Summary {
         stored: 0,
         held: 0,
@@ -91,6 +107,12 @@ fn streams_that_end_early(rt: HostRuntime) -> Result<(), Fail> {
     assert!(rt; late.result == Ok(summary));
     assert!(rt; late.lines.as_slice() == b"fault 61 NoHeaderFirst at 0\n".as_slice());
     Ok(())
+}
+
+#[test]
+fn streams_that_end_early(rt: HostRuntime) -> Result<(), Fail> {
+    streams_that_end_early_of::<Blocks, _>(&rt)?;
+    streams_that_end_early_of::<Columns, _>(&rt)
 }
 
 #[test]
@@ -121,8 +143,7 @@ impl Read for FailingReader<'_> {
     }
 }
 
-#[test]
-fn readers_that_fail(rt: HostRuntime) -> Result<(), Fail> {
+fn readers_that_fail_of<K: NewStore, R: Abort + Alloc<A = Global>>(rt: &R) -> Result<(), Fail> {
     let alloc = rt.alloc();
     for count in 0..85 {
         let (at, lines) = match count {
@@ -133,7 +154,7 @@ fn readers_that_fail(rt: HostRuntime) -> Result<(), Fail> {
         let reader = FailingReader {
             bytes: &FILE[..count],
         };
-        let found = import(alloc, reader, 9)?;
+        let found = import::<K, _>(alloc, reader, 9)?;
         assert_eq!(rt;
             found.result,
             stopped(Stop::ReadFailed, at),
@@ -147,4 +168,10 @@ fn readers_that_fail(rt: HostRuntime) -> Result<(), Fail> {
         }
     }
     Ok(())
+}
+
+#[test]
+fn readers_that_fail(rt: HostRuntime) -> Result<(), Fail> {
+    readers_that_fail_of::<Blocks, _>(&rt)?;
+    readers_that_fail_of::<Columns, _>(&rt)
 }

@@ -6,7 +6,7 @@ use crate::export::export;
 use crate::find::find;
 use crate::status::status;
 use crate::words::Form;
-use osm_store::BodyStore;
+use osm_store::TableStore;
 use osm_value::{MemberKind, Outlet};
 use sqlite::Alter;
 use std::alloc::Global;
@@ -18,7 +18,7 @@ const BOTH_NODES: &[u8] = b"n 1 1000 -100 [] {}\nn 2 900 -100 [] {}\n";
 
 fn expect_status<A: Alter>(
     rt: &(impl Abort + Alloc<A = Global>),
-    store: &mut BodyStore<A>,
+    store: &mut TableStore<A>,
     size: Option<u64>,
     text: &[u8],
 ) {
@@ -29,7 +29,7 @@ fn expect_status<A: Alter>(
 
 fn expect_lines<A: Alter>(
     rt: &(impl Abort + Alloc<A = Global>),
-    store: &mut BodyStore<A>,
+    store: &mut TableStore<A>,
     size: Option<u64>,
     partial: bool,
     ended: u8,
@@ -45,7 +45,7 @@ fn expect_lines<A: Alter>(
 
 fn expect_found<A: Alter>(
     rt: &(impl Abort + Alloc<A = Global>),
-    store: &mut BodyStore<A>,
+    store: &mut TableStore<A>,
     kind: MemberKind,
     id: i64,
     text: &[u8],

@@ -3,7 +3,7 @@
 use super::support::{EXTRA, TWO_NODES};
 use crate::import::import;
 use osm_import::Inlet;
-use osm_store::BodyStore;
+use osm_store::TableStore;
 use osm_value::Outlet;
 use sqlite::{Alter, Connection, MemStore};
 use std::alloc::{AllocError, Global};
@@ -11,17 +11,17 @@ use std::io::{Cursor, Read};
 use std::process::Abort;
 use std::test::*;
 
-pub fn new_store(alloc: Global) -> Option<BodyStore<MemStore>> {
+pub fn new_store(alloc: Global) -> Option<TableStore<MemStore>> {
     let Ok(connection) = Connection::open_in_memory(alloc) else {
         return None;
     };
-    BodyStore::create(connection).ok()
+    TableStore::create(connection).ok()
 }
 
 /// Imports an input and expects this exit status and exactly this text.
 pub fn expect_import<A: Alter, R: Read + Drop>(
     rt: &(impl Abort + Alloc<A = Global>),
-    store: &mut BodyStore<A>,
+    store: &mut TableStore<A>,
     input: R,
     from: u8,
     status: u8,
@@ -35,7 +35,10 @@ pub fn expect_import<A: Alter, R: Read + Drop>(
 }
 
 /// Imports the file of two nodes.
-pub fn import_two_nodes<A: Alter>(rt: &(impl Abort + Alloc<A = Global>), store: &mut BodyStore<A>) {
+pub fn import_two_nodes<A: Alter>(
+    rt: &(impl Abort + Alloc<A = Global>),
+    store: &mut TableStore<A>,
+) {
     expect_import(
         rt,
         store,
@@ -59,7 +62,7 @@ pub fn four_blobs(alloc: Global) -> Result<Vec<u8>, AllocError> {
 /// Imports the file of four blobs.
 pub fn import_four_blobs<A: Alter>(
     rt: &(impl Abort + Alloc<A = Global>),
-    store: &mut BodyStore<A>,
+    store: &mut TableStore<A>,
 ) -> Result<(), AllocError> {
     let bytes = four_blobs(rt.alloc())?;
     expect_import(
