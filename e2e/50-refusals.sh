@@ -44,6 +44,13 @@ if has sqlite3; then
   sqlite3 other.db "SELECT name FROM blob" > other.txt
   echo mine > want.txt
   same "whose row is still there" other.txt want.txt
+  rm -f first.db
+  sqlite3 first.db "CREATE TABLE meta (version INTEGER PRIMARY KEY) STRICT; INSERT INTO meta VALUES (1)"
+  expect "a database of version 1: status" 1 "fault 66 NotThisStore${nl}" status first.db
+  expect "a database of version 1: import" 1 "fault 66 NotThisStore${nl}" import "$two" first.db
+  sqlite3 first.db "SELECT * FROM meta; SELECT count(*) FROM sqlite_schema" > first.txt
+  printf '1\n1\n' > want.txt
+  same "which is as it was" first.txt want.txt
 else
   skip "a database of another program" "sqlite3 isn't installed"
 fi

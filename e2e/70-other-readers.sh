@@ -13,6 +13,16 @@ if has sqlite3; then
   sqlite3 country.db "SELECT count(*), sum(n), max(fin) FROM blob; SELECT version FROM meta" > counts.txt
   printf '%s\n' "12|72967|1311970" "$(sqlite3 country.db 'SELECT version FROM meta')" > want.txt
   same "sqlite3 counts its blobs and elements" counts.txt want.txt
+  sqlite3 country.db "SELECT kind, count(*) FROM element GROUP BY kind; SELECT count(*) FROM tag; SELECT count(*) FROM link" > counts.txt
+  # as counted by a program over libosmium (bench/peers/store_tables.cpp)
+  printf '%s\n' "0|65733" "1|7121" "2|113" 19393 82787 > want.txt
+  same "sqlite3 counts its nodes, ways, relations, tags and links" counts.txt want.txt
+  sqlite3 country.db "SELECT id, lat, lon, val FROM element JOIN tag USING (off, pos) WHERE kind = 0 AND id = 14690 AND key = 'name'" > node.txt
+  echo "14690|47108300100|9525306100|Cafe Frommelt" > want.txt
+  same "sqlite3 reads a node and its tag" node.txt want.txt
+  sqlite3 country.db "SELECT k, link.kind, ref, role FROM element JOIN link USING (off, pos) WHERE element.kind = 1 AND id = 1367 ORDER BY k LIMIT 3" > way.txt
+  printf '%s\n' "0|0|15721|" "1|0|15718|" "2|0|15720|" > want.txt
+  same "sqlite3 reads the nodes of a way" way.txt want.txt
 else
   skip "the database under sqlite3" "sqlite3 isn't installed"
 fi

@@ -13,6 +13,7 @@ ghost use Rattle.osm_store.specs.LayoutHolding.{Holds, IsKept, LeavesAMap, MayLe
 
 use crate::body_store::BodyStore;
 use crate::layout::Layout;
+use crate::table_store::TableStore;
 use sqlite::{Alter, Connection, MemStore};
 
 /// The rows of a map are those of no other map.
@@ -65,6 +66,23 @@ pub fn holds_what_was_left<S: Alter>(before: &BodyStore<S>, connection: &Connect
 
 /// A store in memory can always go on: its disk returns what was written, and it needn't be opened again.
 pub fn memory_goes_on(store: &BodyStore<MemStore>)
+    ensures { HasCleanDisk (state over_memory store.now.connection) × IsTrue (state over_memory store.now.connection).is_open }
+{
+    let _asked = store;
+}
+
+/// The same of a store that keeps each element as rows.
+pub fn holds_what_tables_left<S: Alter>(before: &TableStore<S>, connection: &Connection<S>)
+    ensures { LeavesAMap Layout.Columns (state S.Store before.now.connection) → (state S.Store before.now.connection).may_leave (state S.Store connection.now).now.trees
+        → HasCleanDisk (state S.Store connection.now) → Opens (state S.Store connection.now) → IsLive (state S.Store connection.now)
+        → (left : HeldMap) × MayLeave Layout.Columns (state S.Store before.now.connection) left × Holds Layout.Columns (state S.Store connection.now) left }
+{
+    let _stopped = before;
+    let _opened = connection;
+}
+
+/// The same of a store that keeps each element as rows.
+pub fn memory_tables_go_on(store: &TableStore<MemStore>)
     ensures { HasCleanDisk (state over_memory store.now.connection) × IsTrue (state over_memory store.now.connection).is_open }
 {
     let _asked = store;
