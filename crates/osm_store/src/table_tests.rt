@@ -3,6 +3,7 @@
 ghost use Rattle.std.specs.Prelude.{IfOk};
 ghost use Rattle.osm_store.specs.Held.{HaveFewTexts};
 
+use crate::tests::is_node;
 use crate::{BodyStore, Keeper, StoreFault, TableStore};
 use osm_value::{Element, Info, Member, MemberKind, Node, Relation, Way};
 use pbf_frame::Kind;
@@ -27,7 +28,7 @@ fn two_nodes<'a>(alloc: Global) -> Result<Vec<Element<'a>>, AllocError>
 }
 
 /// Relation 9 with a name, node 1 as its outer member, and way -2 without a role.
-fn relation<'a>(alloc: Global) -> Result<Vec<Element<'a>>, AllocError>
+fn relation(alloc: Global) -> Result<Vec<Element<'static>>, AllocError>
     ensures { IfOk result (λ elements. HaveFewTexts elements.items) }
 {
     let mut members = Vec::new(alloc);
@@ -42,13 +43,14 @@ fn relation<'a>(alloc: Global) -> Result<Vec<Element<'a>>, AllocError>
 }
 
 /// Way 7 over the nodes 5, 6, 7 and 6.
-fn way<'a>(alloc: Global) -> Result<Vec<Element<'a>>, AllocError>
+fn way(alloc: Global) -> Result<Vec<Element<'static>>, AllocError>
     ensures { IfOk result (λ elements. HaveFewTexts elements.items) }
 {
     let mut refs = Vec::new(alloc);
-    for node in [5, 6, 7, 6] {
-        refs.push(node)?;
-    }
+    refs.push(5)?;
+    refs.push(6)?;
+    refs.push(7)?;
+    refs.push(6)?;
     let mut tags = Vec::new(alloc);
     tags.push(("a", "b"))?;
     let way = Way::new(7, refs, tags, no_info());
@@ -217,10 +219,17 @@ fn loads_nodes(alloc: Global, store: &mut TableStore<MemStore>) -> bool {
         return false;
     };
     match elements.as_slice() {
-        [Element::Node(first), Element::Node(second)] => first.id() == 1
-            && first.lat() == 1000
-            && second.id() == 2
-            && second.lon() == -100,
+        [first, second] => is_node(first, 1, 1000, -100) && is_node(second, 2, 900, -100),
+        _ => false,
+    }
+}
+
+/// Whether an element is the way.
+fn is_way(element: &Element) -> bool {
+    match element {
+        Element::Way(way) => way.id() == 7
+            && way.refs() == [5, 6, 7, 6].as_slice()
+            && way.tags() == [("a", "b")].as_slice(),
         _ => false,
     }
 }
@@ -234,9 +243,7 @@ fn loads_way(alloc: Global, store: &mut TableStore<MemStore>) -> bool {
         return false;
     };
     match elements.as_slice() {
-        [Element::Way(way)] => way.id() == 7
-            && way.refs() == [5, 6, 7, 6].as_slice()
-            && way.tags() == [("a", "b")].as_slice(),
+        [only] => is_way(only),
         _ => false,
     }
 }
@@ -249,6 +256,16 @@ fn loaded_elements(rt: HostRuntime) -> Result<(), Fail> {
     Ok(())
 }
 
+/// Whether an element is the relation.
+fn is_relation(element: &Element) -> bool {
+    match element {
+        Element::Relation(relation) => relation.id() == 9
+            && relation.tags() == [("name", "a b,c")].as_slice()
+            && relation.members().len() == 2,
+        _ => false,
+    }
+}
+
 /// Whether the store finds relation 9 alone, first in the blob at 84.
 fn finds_relation(alloc: Global, store: &mut TableStore<MemStore>) -> bool {
     let Ok(found) = store.find(alloc, MemberKind::Relation, 9) else {
@@ -258,9 +275,7 @@ fn finds_relation(alloc: Global, store: &mut TableStore<MemStore>) -> bool {
         return false;
     };
     match matches.as_slice() {
-        [(84, 0, Element::Relation(relation))] => relation.id() == 9
-            && relation.tags() == [("name", "a b,c")].as_slice()
-            && relation.members().len() == 2,
+        [only] => only.0 == 84 && only.1 == 0 && is_relation(&only.2),
         _ => false,
     }
 }

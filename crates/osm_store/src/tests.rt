@@ -246,7 +246,7 @@ fn rows_of_another_type(rt: HostRuntime) -> Result<(), Fail> {
     Ok(())
 }
 
-fn is_node(element: &Element, id: i64, lat: i64, lon: i64) -> bool {
+pub(crate) fn is_node(element: &Element, id: i64, lat: i64, lon: i64) -> bool {
     match element {
         Element::Node(node) => node.id() == id
             && node.lat() == lat

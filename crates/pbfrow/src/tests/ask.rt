@@ -1,12 +1,14 @@
 //! Tests of `status`, `export` and `find`.
 
-use super::stores::{expect_import, import_four_blobs, import_two_nodes, new_store};
+use super::stores::{
+    Blocks, Columns, NewStore, expect_import, import_four_blobs, import_two_nodes,
+};
 use super::support::{Closed, TWO_NODES};
 use crate::export::export;
 use crate::find::find;
 use crate::status::status;
 use crate::words::Form;
-use osm_store::TableStore;
+use osm_store::{Keeper, TableStore};
 use osm_value::{MemberKind, Outlet};
 use sqlite::Alter;
 use std::alloc::Global;
@@ -16,9 +18,9 @@ use std::test::*;
 
 const BOTH_NODES: &[u8] = b"n 1 1000 -100 [] {}\nn 2 900 -100 [] {}\n";
 
-fn expect_status<A: Alter>(
+fn expect_status<K: Keeper>(
     rt: &(impl Abort + Alloc<A = Global>),
-    store: &mut TableStore<A>,
+    store: &mut K,
     size: Option<u64>,
     text: &[u8],
 ) {
@@ -27,9 +29,9 @@ fn expect_status<A: Alter>(
     assert!(rt; out.into_inner().as_slice() == text);
 }
 
-fn expect_lines<A: Alter>(
+fn expect_lines<K: Keeper>(
     rt: &(impl Abort + Alloc<A = Global>),
-    store: &mut TableStore<A>,
+    store: &mut K,
     size: Option<u64>,
     partial: bool,
     ended: u8,
@@ -55,14 +57,15 @@ fn expect_found<A: Alter>(
     assert!(rt; out.into_inner().as_slice() == text);
 }
 
-#[test]
-fn status_of_a_whole_file(rt: HostRuntime) -> Result<(), Fail> {
-    let mut store = new_store(rt.alloc()).ok_or("a store")?;
-    import_two_nodes(&rt, &mut store);
-    expect_status(&rt, &mut store, None, b"blobs 2 end 84 gaps 0\n");
-    expect_status(&rt, &mut store, Some(83), b"blobs 2 end 84 gaps 0\n");
+fn status_of_a_whole_file_of<K: NewStore, R: Abort + Alloc<A = Global>>(
+    rt: &R,
+) -> Result<(), Fail> {
+    let mut store = K::new_store(rt.alloc()).ok_or("a store")?;
+    import_two_nodes(rt, &mut store);
+    expect_status(rt, &mut store, None, b"blobs 2 end 84 gaps 0\n");
+    expect_status(rt, &mut store, Some(83), b"blobs 2 end 84 gaps 0\n");
     expect_status(
-        &rt,
+        rt,
         &mut store,
         Some(85),
         b"gap 84 85\nblobs 2 end 84 gaps 1\n",
@@ -71,11 +74,16 @@ fn status_of_a_whole_file(rt: HostRuntime) -> Result<(), Fail> {
 }
 
 #[test]
-fn status_of_a_new_store(rt: HostRuntime) -> Result<(), Fail> {
-    let mut store = new_store(rt.alloc()).ok_or("a store")?;
-    expect_status(&rt, &mut store, None, b"blobs 0 end 0 gaps 0\n");
+fn status_of_a_whole_file(rt: HostRuntime) -> Result<(), Fail> {
+    status_of_a_whole_file_of::<Blocks, _>(&rt)?;
+    status_of_a_whole_file_of::<Columns, _>(&rt)
+}
+
+fn status_of_a_new_store_of<K: NewStore, R: Abort + Alloc<A = Global>>(rt: &R) -> Result<(), Fail> {
+    let mut store = K::new_store(rt.alloc()).ok_or("a store")?;
+    expect_status(rt, &mut store, None, b"blobs 0 end 0 gaps 0\n");
     expect_status(
-        &rt,
+        rt,
         &mut store,
         Some(10),
         b"gap 0 10\nblobs 0 end 0 gaps 1\n",
@@ -84,52 +92,70 @@ fn status_of_a_new_store(rt: HostRuntime) -> Result<(), Fail> {
 }
 
 #[test]
-fn a_gap_is_told_and_refuses_an_export(rt: HostRuntime) -> Result<(), Fail> {
-    let mut store = new_store(rt.alloc()).ok_or("a store")?;
+fn status_of_a_new_store(rt: HostRuntime) -> Result<(), Fail> {
+    status_of_a_new_store_of::<Blocks, _>(&rt)?;
+    status_of_a_new_store_of::<Columns, _>(&rt)
+}
+
+fn a_gap_is_told_and_refuses_an_export_of<K: NewStore, R: Abort + Alloc<A = Global>>(
+    rt: &R,
+) -> Result<(), Fail> {
+    let mut store = K::new_store(rt.alloc()).ok_or("a store")?;
     expect_import(
-        &rt,
+        rt,
         &mut store,
         Cursor::new(&TWO_NODES[..]),
         47,
         0,
         b"47 stored 2\nblobs stored 1 held 0 bad 0 refused 0\n",
     );
-    expect_status(&rt, &mut store, None, b"gap 0 47\nblobs 1 end 84 gaps 1\n");
-    expect_lines(&rt, &mut store, None, false, 1, b"fault 67 Incomplete\n");
-    expect_lines(&rt, &mut store, None, true, 0, BOTH_NODES);
+    expect_status(rt, &mut store, None, b"gap 0 47\nblobs 1 end 84 gaps 1\n");
+    expect_lines(rt, &mut store, None, false, 1, b"fault 67 Incomplete\n");
+    expect_lines(rt, &mut store, None, true, 0, BOTH_NODES);
+    Ok(())
+}
+
+#[test]
+fn a_gap_is_told_and_refuses_an_export(rt: HostRuntime) -> Result<(), Fail> {
+    a_gap_is_told_and_refuses_an_export_of::<Blocks, _>(&rt)?;
+    a_gap_is_told_and_refuses_an_export_of::<Columns, _>(&rt)
+}
+
+fn exports_lines_of<K: NewStore, R: Abort + Alloc<A = Global>>(rt: &R) -> Result<(), Fail> {
+    let mut store = K::new_store(rt.alloc()).ok_or("a store")?;
+    import_two_nodes(rt, &mut store);
+    expect_lines(rt, &mut store, None, false, 0, BOTH_NODES);
+    expect_lines(rt, &mut store, Some(84), false, 0, BOTH_NODES);
+    expect_lines(rt, &mut store, Some(83), false, 1, b"fault 70 PastEnd\n");
+    expect_lines(rt, &mut store, Some(85), false, 1, b"fault 67 Incomplete\n");
+    expect_lines(rt, &mut store, Some(83), true, 0, BOTH_NODES);
     Ok(())
 }
 
 #[test]
 fn exports_lines(rt: HostRuntime) -> Result<(), Fail> {
-    let mut store = new_store(rt.alloc()).ok_or("a store")?;
-    import_two_nodes(&rt, &mut store);
-    expect_lines(&rt, &mut store, None, false, 0, BOTH_NODES);
-    expect_lines(&rt, &mut store, Some(84), false, 0, BOTH_NODES);
-    expect_lines(&rt, &mut store, Some(83), false, 1, b"fault 70 PastEnd\n");
-    expect_lines(
-        &rt,
-        &mut store,
-        Some(85),
-        false,
-        1,
-        b"fault 67 Incomplete\n",
-    );
-    expect_lines(&rt, &mut store, Some(83), true, 0, BOTH_NODES);
+    exports_lines_of::<Blocks, _>(&rt)?;
+    exports_lines_of::<Columns, _>(&rt)
+}
+
+fn exports_of_a_new_store_of<K: NewStore, R: Abort + Alloc<A = Global>>(
+    rt: &R,
+) -> Result<(), Fail> {
+    let mut store = K::new_store(rt.alloc()).ok_or("a store")?;
+    expect_lines(rt, &mut store, None, false, 1, b"fault 67 Incomplete\n");
+    expect_lines(rt, &mut store, None, true, 0, b"");
     Ok(())
 }
 
 #[test]
 fn exports_of_a_new_store(rt: HostRuntime) -> Result<(), Fail> {
-    let mut store = new_store(rt.alloc()).ok_or("a store")?;
-    expect_lines(&rt, &mut store, None, false, 1, b"fault 67 Incomplete\n");
-    expect_lines(&rt, &mut store, None, true, 0, b"");
-    Ok(())
+    exports_of_a_new_store_of::<Blocks, _>(&rt)?;
+    exports_of_a_new_store_of::<Columns, _>(&rt)
 }
 
 #[test]
 fn finds_elements(rt: HostRuntime) -> Result<(), Fail> {
-    let mut store = new_store(rt.alloc()).ok_or("a store")?;
+    let mut store = Columns::new_store(rt.alloc()).ok_or("a store")?;
     import_two_nodes(&rt, &mut store);
     expect_found(
         &rt,
@@ -144,7 +170,7 @@ fn finds_elements(rt: HostRuntime) -> Result<(), Fail> {
 
 #[test]
 fn finds_an_element_in_two_blobs(rt: HostRuntime) -> Result<(), Fail> {
-    let mut store = new_store(rt.alloc()).ok_or("a store")?;
+    let mut store = Columns::new_store(rt.alloc()).ok_or("a store")?;
     import_four_blobs(&rt, &mut store)?;
     expect_found(
         &rt,
@@ -167,7 +193,7 @@ fn finds_an_element_in_two_blobs(rt: HostRuntime) -> Result<(), Fail> {
 
 #[test]
 fn a_write_that_fails_ends_with_1(rt: HostRuntime) -> Result<(), Fail> {
-    let mut store = new_store(rt.alloc()).ok_or("a store")?;
+    let mut store = Columns::new_store(rt.alloc()).ok_or("a store")?;
     import_two_nodes(&rt, &mut store);
     assert_eq!(rt;
         status(rt.alloc(), &mut store, None, &mut Outlet::new(Closed)),

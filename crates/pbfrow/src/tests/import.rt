@@ -1,17 +1,20 @@
-use super::stores::{expect_import, import_four_blobs, import_two_nodes, new_store};
+use super::stores::{
+    Blocks, Columns, NewStore, expect_import, import_four_blobs, import_two_nodes,
+};
 use super::support::{Breaking, Closed, TWO_NODES};
 use crate::import::import;
 use osm_import::Inlet;
 use osm_value::Outlet;
+use std::alloc::Global;
 use std::io::Cursor;
+use std::process::Abort;
 use std::test::*;
 
-#[test]
-fn imports_twice(rt: HostRuntime) -> Result<(), Fail> {
-    let mut store = new_store(rt.alloc()).ok_or("a store")?;
-    import_two_nodes(&rt, &mut store);
+fn imports_twice_of<K: NewStore, R: Abort + Alloc<A = Global>>(rt: &R) -> Result<(), Fail> {
+    let mut store = K::new_store(rt.alloc()).ok_or("a store")?;
+    import_two_nodes(rt, &mut store);
     expect_import(
-        &rt,
+        rt,
         &mut store,
         Cursor::new(&TWO_NODES[..]),
         0,
@@ -22,17 +25,31 @@ fn imports_twice(rt: HostRuntime) -> Result<(), Fail> {
 }
 
 #[test]
-fn imports_blobs_of_other_types(rt: HostRuntime) -> Result<(), Fail> {
-    let mut store = new_store(rt.alloc()).ok_or("a store")?;
-    import_four_blobs(&rt, &mut store)?;
+fn imports_twice(rt: HostRuntime) -> Result<(), Fail> {
+    imports_twice_of::<Blocks, _>(&rt)?;
+    imports_twice_of::<Columns, _>(&rt)
+}
+
+fn imports_blobs_of_other_types_of<K: NewStore, R: Abort + Alloc<A = Global>>(
+    rt: &R,
+) -> Result<(), Fail> {
+    let mut store = K::new_store(rt.alloc()).ok_or("a store")?;
+    import_four_blobs(rt, &mut store)?;
     Ok(())
 }
 
 #[test]
-fn completes_a_file_that_was_cut(rt: HostRuntime) -> Result<(), Fail> {
-    let mut store = new_store(rt.alloc()).ok_or("a store")?;
+fn imports_blobs_of_other_types(rt: HostRuntime) -> Result<(), Fail> {
+    imports_blobs_of_other_types_of::<Blocks, _>(&rt)?;
+    imports_blobs_of_other_types_of::<Columns, _>(&rt)
+}
+
+fn completes_a_file_that_was_cut_of<K: NewStore, R: Abort + Alloc<A = Global>>(
+    rt: &R,
+) -> Result<(), Fail> {
+    let mut store = K::new_store(rt.alloc()).ok_or("a store")?;
     expect_import(
-        &rt,
+        rt,
         &mut store,
         Cursor::new(&TWO_NODES[..83]),
         0,
@@ -40,7 +57,7 @@ fn completes_a_file_that_was_cut(rt: HostRuntime) -> Result<(), Fail> {
         b"0 stored 0\nfault 18 BlobCut at 47\n",
     );
     expect_import(
-        &rt,
+        rt,
         &mut store,
         Cursor::new(&TWO_NODES[..]),
         0,
@@ -51,10 +68,15 @@ fn completes_a_file_that_was_cut(rt: HostRuntime) -> Result<(), Fail> {
 }
 
 #[test]
-fn begins_at_an_offset(rt: HostRuntime) -> Result<(), Fail> {
-    let mut store = new_store(rt.alloc()).ok_or("a store")?;
+fn completes_a_file_that_was_cut(rt: HostRuntime) -> Result<(), Fail> {
+    completes_a_file_that_was_cut_of::<Blocks, _>(&rt)?;
+    completes_a_file_that_was_cut_of::<Columns, _>(&rt)
+}
+
+fn begins_at_an_offset_of<K: NewStore, R: Abort + Alloc<A = Global>>(rt: &R) -> Result<(), Fail> {
+    let mut store = K::new_store(rt.alloc()).ok_or("a store")?;
     expect_import(
-        &rt,
+        rt,
         &mut store,
         Cursor::new(&TWO_NODES[..]),
         47,
@@ -62,7 +84,7 @@ fn begins_at_an_offset(rt: HostRuntime) -> Result<(), Fail> {
         b"47 stored 2\nblobs stored 1 held 0 bad 0 refused 0\n",
     );
     expect_import(
-        &rt,
+        rt,
         &mut store,
         Cursor::new(&TWO_NODES[..]),
         84,
@@ -70,7 +92,7 @@ fn begins_at_an_offset(rt: HostRuntime) -> Result<(), Fail> {
         b"blobs stored 0 held 0 bad 0 refused 0\n",
     );
     expect_import(
-        &rt,
+        rt,
         &mut store,
         Cursor::new(&TWO_NODES[..]),
         85,
@@ -81,10 +103,17 @@ fn begins_at_an_offset(rt: HostRuntime) -> Result<(), Fail> {
 }
 
 #[test]
-fn wants_a_header_first_and_only_there(rt: HostRuntime) -> Result<(), Fail> {
-    let mut store = new_store(rt.alloc()).ok_or("a store")?;
+fn begins_at_an_offset(rt: HostRuntime) -> Result<(), Fail> {
+    begins_at_an_offset_of::<Blocks, _>(&rt)?;
+    begins_at_an_offset_of::<Columns, _>(&rt)
+}
+
+fn wants_a_header_first_and_only_there_of<K: NewStore, R: Abort + Alloc<A = Global>>(
+    rt: &R,
+) -> Result<(), Fail> {
+    let mut store = K::new_store(rt.alloc()).ok_or("a store")?;
     expect_import(
-        &rt,
+        rt,
         &mut store,
         Cursor::new(&TWO_NODES[..0]),
         0,
@@ -92,7 +121,7 @@ fn wants_a_header_first_and_only_there(rt: HostRuntime) -> Result<(), Fail> {
         b"fault 61 NoHeaderFirst at 0\n",
     );
     expect_import(
-        &rt,
+        rt,
         &mut store,
         Cursor::new(TWO_NODES.split_at(47).1),
         0,
@@ -103,7 +132,7 @@ fn wants_a_header_first_and_only_there(rt: HostRuntime) -> Result<(), Fail> {
     bytes.extend_from_slice(&TWO_NODES[..])?;
     bytes.extend_from_slice(&TWO_NODES[..47])?;
     expect_import(
-        &rt,
+        rt,
         &mut store,
         Cursor::new(&bytes[..]),
         0,
@@ -114,14 +143,21 @@ fn wants_a_header_first_and_only_there(rt: HostRuntime) -> Result<(), Fail> {
 }
 
 #[test]
-fn refuses_another_files_blobs(rt: HostRuntime) -> Result<(), Fail> {
-    let mut store = new_store(rt.alloc()).ok_or("a store")?;
-    import_two_nodes(&rt, &mut store);
+fn wants_a_header_first_and_only_there(rt: HostRuntime) -> Result<(), Fail> {
+    wants_a_header_first_and_only_there_of::<Blocks, _>(&rt)?;
+    wants_a_header_first_and_only_there_of::<Columns, _>(&rt)
+}
+
+fn refuses_another_files_blobs_of<K: NewStore, R: Abort + Alloc<A = Global>>(
+    rt: &R,
+) -> Result<(), Fail> {
+    let mut store = K::new_store(rt.alloc()).ok_or("a store")?;
+    import_two_nodes(rt, &mut store);
     let mut bytes = Vec::new(rt.alloc());
     bytes.extend_from_slice(&TWO_NODES[..83])?;
     bytes.extend_from_slice(&[2])?;
     expect_import(
-        &rt,
+        rt,
         &mut store,
         Cursor::new(&bytes[..]),
         0,
@@ -132,7 +168,7 @@ fn refuses_another_files_blobs(rt: HostRuntime) -> Result<(), Fail> {
     shifted.extend_from_slice(&[0; 13])?;
     shifted.extend_from_slice(&TWO_NODES[..])?;
     expect_import(
-        &rt,
+        rt,
         &mut store,
         Cursor::new(&shifted[..]),
         60,
@@ -143,10 +179,17 @@ fn refuses_another_files_blobs(rt: HostRuntime) -> Result<(), Fail> {
 }
 
 #[test]
-fn stops_where_a_read_fails(rt: HostRuntime) -> Result<(), Fail> {
-    let mut store = new_store(rt.alloc()).ok_or("a store")?;
+fn refuses_another_files_blobs(rt: HostRuntime) -> Result<(), Fail> {
+    refuses_another_files_blobs_of::<Blocks, _>(&rt)?;
+    refuses_another_files_blobs_of::<Columns, _>(&rt)
+}
+
+fn stops_where_a_read_fails_of<K: NewStore, R: Abort + Alloc<A = Global>>(
+    rt: &R,
+) -> Result<(), Fail> {
+    let mut store = K::new_store(rt.alloc()).ok_or("a store")?;
     expect_import(
-        &rt,
+        rt,
         &mut store,
         Breaking {
             given: &TWO_NODES[..60],
@@ -156,7 +199,7 @@ fn stops_where_a_read_fails(rt: HostRuntime) -> Result<(), Fail> {
         b"0 stored 0\nfault 68 ReadFailed at 47\n",
     );
     expect_import(
-        &rt,
+        rt,
         &mut store,
         Breaking {
             given: &TWO_NODES[..60],
@@ -169,13 +212,20 @@ fn stops_where_a_read_fails(rt: HostRuntime) -> Result<(), Fail> {
 }
 
 #[test]
-fn stops_where_a_write_fails(rt: HostRuntime) -> Result<(), Fail> {
-    let mut store = new_store(rt.alloc()).ok_or("a store")?;
+fn stops_where_a_read_fails(rt: HostRuntime) -> Result<(), Fail> {
+    stops_where_a_read_fails_of::<Blocks, _>(&rt)?;
+    stops_where_a_read_fails_of::<Columns, _>(&rt)
+}
+
+fn stops_where_a_write_fails_of<K: NewStore, R: Abort + Alloc<A = Global>>(
+    rt: &R,
+) -> Result<(), Fail> {
+    let mut store = K::new_store(rt.alloc()).ok_or("a store")?;
     let mut input = Inlet::new(Cursor::new(&TWO_NODES[..]));
     let mut out = Outlet::new(Closed);
     assert_eq!(rt; import(rt.alloc(), &mut input, &mut store, 0, &mut out), 1);
     expect_import(
-        &rt,
+        rt,
         &mut store,
         Cursor::new(&TWO_NODES[..]),
         0,
@@ -183,4 +233,10 @@ fn stops_where_a_write_fails(rt: HostRuntime) -> Result<(), Fail> {
         b"0 held\n47 stored 2\nblobs stored 1 held 1 bad 0 refused 0\n",
     );
     Ok(())
+}
+
+#[test]
+fn stops_where_a_write_fails(rt: HostRuntime) -> Result<(), Fail> {
+    stops_where_a_write_fails_of::<Blocks, _>(&rt)?;
+    stops_where_a_write_fails_of::<Columns, _>(&rt)
 }

@@ -3,25 +3,45 @@
 use super::support::{EXTRA, TWO_NODES};
 use crate::import::import;
 use osm_import::Inlet;
-use osm_store::TableStore;
+use osm_store::{BodyStore, Keeper, TableStore};
 use osm_value::Outlet;
-use sqlite::{Alter, Connection, MemStore};
+use sqlite::{Connection, MemStore};
 use std::alloc::{AllocError, Global};
 use std::io::{Cursor, Read};
 use std::process::Abort;
 use std::test::*;
 
-pub fn new_store(alloc: Global) -> Option<TableStore<MemStore>> {
-    let Ok(connection) = Connection::open_in_memory(alloc) else {
-        return None;
-    };
-    TableStore::create(connection).ok()
+pub type Blocks = BodyStore<MemStore>;
+
+pub type Columns = TableStore<MemStore>;
+
+/// A store in memory, which holds nothing at first.
+pub trait NewStore: Keeper + Drop {
+    fn new_store(alloc: Global) -> Option<Self>;
+}
+
+impl NewStore for Blocks {
+    fn new_store(alloc: Global) -> Option<Blocks> {
+        let Ok(connection) = Connection::open_in_memory(alloc) else {
+            return None;
+        };
+        BodyStore::create(connection).ok()
+    }
+}
+
+impl NewStore for Columns {
+    fn new_store(alloc: Global) -> Option<Columns> {
+        let Ok(connection) = Connection::open_in_memory(alloc) else {
+            return None;
+        };
+        TableStore::create(connection).ok()
+    }
 }
 
 /// Imports an input and expects this exit status and exactly this text.
-pub fn expect_import<A: Alter, R: Read + Drop>(
+pub fn expect_import<K: Keeper, R: Read + Drop>(
     rt: &(impl Abort + Alloc<A = Global>),
-    store: &mut TableStore<A>,
+    store: &mut K,
     input: R,
     from: u8,
     status: u8,
@@ -35,10 +55,7 @@ pub fn expect_import<A: Alter, R: Read + Drop>(
 }
 
 /// Imports the file of two nodes.
-pub fn import_two_nodes<A: Alter>(
-    rt: &(impl Abort + Alloc<A = Global>),
-    store: &mut TableStore<A>,
-) {
+pub fn import_two_nodes<K: Keeper>(rt: &(impl Abort + Alloc<A = Global>), store: &mut K) {
     expect_import(
         rt,
         store,
@@ -60,9 +77,9 @@ pub fn four_blobs(alloc: Global) -> Result<Vec<u8>, AllocError> {
 }
 
 /// Imports the file of four blobs.
-pub fn import_four_blobs<A: Alter>(
+pub fn import_four_blobs<K: Keeper>(
     rt: &(impl Abort + Alloc<A = Global>),
-    store: &mut TableStore<A>,
+    store: &mut K,
 ) -> Result<(), AllocError> {
     let bytes = four_blobs(rt.alloc())?;
     expect_import(
