@@ -45,13 +45,15 @@ pub trait Keeper {
     /// How many calls have answered a fault, up to 2 ^ 64 - 1.
     ghost failures: { Self → ℕ };
 
-    /// All held extents, ascending.
+    /// All held extents, ascending by offset. What is held stays, also after a fault, which is that of a read that has
+    /// failed, or `Memory`.
     fn extents(&mut self, alloc: Global) -> Result<Vec<Extent>, StoreFault>
         ensures all { (held : HeldMap) → holds self.old held → is_honest self.new
             → IfOk result (λ extents. extents.items ≡ extents_of held) }
         ensures reads { OnlyReads holds leaves leaves_a_map is_honest is_open failures self.old result self.new };
 
-    /// The held extents that share a byte with `from..to`, ascending.
+    /// The held extents that share a byte with `from..to`, ascending by offset; both are bytes of the file, `to` at most
+    /// 2^62. What is held stays, also after a fault.
     fn extents_touching(
         &mut self,
         alloc: Global,
@@ -64,13 +66,16 @@ pub trait Keeper {
             → IfOk result (λ extents. extents.items ≡ filter (touches from to) (extents_of held)) }
         ensures reads { OnlyReads holds leaves leaves_a_map is_honest is_open failures self.old result self.new };
 
-    /// The rows of the blob that is held at an offset.
+    /// The rows of the blob that is held at an offset; where none is held there, nothing is said of the answer. What is
+    /// held stays, also after a fault.
     fn load(&mut self, alloc: Global, off: u64) -> Result<Loaded, StoreFault>
         ensures rows { (held : HeldMap) (blob : Blob) → holds self.old held → is_honest self.new
             → map.get held off ≡ Some blob → IfOk result (λ loaded. HasRowsOf loaded blob.elements) }
         ensures reads { OnlyReads holds leaves leaves_a_map is_honest is_open failures self.old result self.new };
 
-    /// Adds a blob where no held extent is touched.
+    /// Adds a blob where no held extent is touched: its bytes are those from `off` to `fin`, at most 2^62, and `digest` is
+    /// the SHA-256 of its frame (FIPS 180-4). It is added whole, or a fault is answered and, where the store needn't be
+    /// opened again, what is held stays. A crash during the call leaves what was held, or that with the whole blob.
     fn put(
         &mut self,
         alloc: Global,
