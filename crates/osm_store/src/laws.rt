@@ -71,7 +71,8 @@ pub fn memory_goes_on(store: &BodyStore<MemStore>)
     let _asked = store;
 }
 
-/// The same of a store that keeps each element as rows.
+/// A connection that was opened over what a crash left of a store of rows of numbers and texts holds a map that the crash
+/// could leave.
 pub fn holds_what_tables_left<S: Alter>(before: &TableStore<S>, connection: &Connection<S>)
     ensures { LeavesAMap Layout.Columns (state S.Store before.now.connection) → (state S.Store before.now.connection).may_leave (state S.Store connection.now).now.trees
         → HasCleanDisk (state S.Store connection.now) → Opens (state S.Store connection.now) → IsLive (state S.Store connection.now)
@@ -81,7 +82,7 @@ pub fn holds_what_tables_left<S: Alter>(before: &TableStore<S>, connection: &Con
     let _opened = connection;
 }
 
-/// The same of a store that keeps each element as rows.
+/// A store of rows of numbers and texts in memory can always go on.
 pub fn memory_tables_go_on(store: &TableStore<MemStore>)
     ensures { HasCleanDisk (state over_memory store.now.connection) × IsTrue (state over_memory store.now.connection).is_open }
 {
