@@ -23,6 +23,3 @@ mod way;
 pub use block::read_block;
 pub use fault::{BlockError, BlockFault};
 pub use header::{BBox, HeaderBlock, HeaderFault, Texts, read_header_block};
-
-#[cfg(test)]
-mod tests;

@@ -21,6 +21,3 @@ pub use gap::gaps;
 pub use stream::{
     FrameReader, Inlet, Source, SourceFailed, Stop, StreamFault, Summary, import_stream,
 };
-
-#[cfg(test)]
-mod tests;

@@ -275,21 +275,3 @@ module _ (layout : Layout) (old new : State) (asks : JustAsks old new) where
 
   pub asks_leaves_a_map : HasCleanDisk new → LeavesAMap layout old → LeavesAMap layout new
   asks_leaves_a_map clean all db left = all db (asks_left clean db left)
-
--- ---- several reads
-
-keeps_both : (old mid new : State) → Keeps old mid → Keeps mid new → Keeps old new
-keeps_both old mid later first second = record {
-  was_open = λ there. first.was_open (second.was_open there);
-  committed = λ there. second.committed there ∙ first.committed (second.was_open there);
-  now = λ there settled.
-      let before = first.now (second.was_open there) settled in
-      second.now there (before ∙ settled ∙ sym (first.committed (second.was_open there))) ∙ before;
-}
-
-pub asks_then : (old mid new : State) → JustAsks old mid → JustAsks mid new → JustAsks old new
-asks_then old mid new first second = record {
-  keeps = λ clean. keeps_both old mid new (first.keeps (clean_before mid new second clean)) (second.keeps clean);
-  mode = λ outside. second.mode (first.mode outside);
-  crash = survives_then old mid new _ _ (λ _. ⊥) (λ _ db none. none) (λ _ db none. none) first.crash second.crash;
-}

@@ -1,13 +1,16 @@
-//! What the importer asks of a store.
+//! What is asked of a store.
 ghost use Rattle.std.specs.Prelude.{◌≡◌, ◌⊎◌, ℕ, ◌^◌, ◌<◌, ◌≤◌, Some, OnOk, OnErr, IfOk, filter, length};
 ghost use Rattle.std.specs.FinMap as map;
 ghost use Rattle.osm_store.specs.Held.{Blob, HeldMap, IsFree, IsApart, HaveFewTexts};
 ghost use Rattle.osm_store.specs.Loading.{HasRowsOf};
+ghost use Rattle.osm_store.specs.Finding.{AreMatches};
 ghost use Rattle.osm_store.specs.Keeping.{extents_of, touches, OnlyReads, Adds};
+ghost use Rattle.osm_store.specs.Rows.{is_of, placed_in};
 
 use crate::fault::StoreFault;
+use crate::found::Found;
 use crate::loaded::Loaded;
-use osm_value::Element;
+use osm_value::{Element, MemberKind};
 use pbf_frame::Kind;
 use std::alloc::Global;
 
@@ -71,6 +74,13 @@ pub trait Keeper {
     fn load(&mut self, alloc: Global, off: u64) -> Result<Loaded, StoreFault>
         ensures rows { (held : HeldMap) (blob : Blob) → holds self.old held → is_honest self.new
             → map.get held off ≡ Some blob → IfOk result (λ loaded. HasRowsOf loaded blob.elements) }
+        ensures reads { OnlyReads holds leaves leaves_a_map is_honest is_open failures self.old result self.new };
+
+    /// All held elements of this kind and id, each after the offset of its blob and its position there, ascending by both.
+    /// What is held stays, also after a fault.
+    fn find(&mut self, alloc: Global, kind: MemberKind, id: i64) -> Result<Found, StoreFault>
+        ensures found { (held : HeldMap) → holds self.old held → is_honest self.new
+            → IfOk result (λ found. AreMatches found (filter (is_of kind id) (placed_in held))) }
         ensures reads { OnlyReads holds leaves leaves_a_map is_honest is_open failures self.old result self.new };
 
     /// Adds a blob where no held extent is touched: its bytes are those from `off` to `fin`, at most 2^62, and `digest` is

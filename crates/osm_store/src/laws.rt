@@ -11,9 +11,8 @@ ghost use Rattle.osm_store.specs.ColumnRows.{element_rows, tag_rows, link_rows};
 ghost use Rattle.osm_store.specs.Held.{HeldMap};
 ghost use Rattle.osm_store.specs.LayoutHolding.{Holds, IsKept, LeavesAMap, MayLeave, TablesHold};
 
-use crate::body_store::BodyStore;
-use crate::layout::Layout;
-use crate::table_store::TableStore;
+use crate::blob_store::BlobStore;
+use crate::layout::{Layout, StoreLayout};
 use sqlite::{Alter, Connection, MemStore};
 
 /// The rows of a map are those of no other map.
@@ -55,35 +54,20 @@ pub fn holds_again<S: Alter>(connection: &Connection<S>)
 }
 
 /// A connection that was opened over what a crash left of a store holds a map that the crash could leave.
-pub fn holds_what_was_left<S: Alter>(before: &BodyStore<S>, connection: &Connection<S>)
-    ensures { LeavesAMap Layout.Blocks (state S.Store before.now.connection) → (state S.Store before.now.connection).may_leave (state S.Store connection.now).now.trees
+pub fn holds_what_was_left<S: Alter, L: StoreLayout>(
+    before: &BlobStore<S, L>,
+    connection: &Connection<S>,
+)
+    ensures { LeavesAMap L.LAYOUT (state S.Store before.now.connection) → (state S.Store before.now.connection).may_leave (state S.Store connection.now).now.trees
         → HasCleanDisk (state S.Store connection.now) → Opens (state S.Store connection.now) → IsLive (state S.Store connection.now)
-        → (left : HeldMap) × MayLeave Layout.Blocks (state S.Store before.now.connection) left × Holds Layout.Blocks (state S.Store connection.now) left }
+        → (left : HeldMap) × MayLeave L.LAYOUT (state S.Store before.now.connection) left × Holds L.LAYOUT (state S.Store connection.now) left }
 {
     let _stopped = before;
     let _opened = connection;
 }
 
 /// A store in memory can always go on: its disk returns what was written, and it needn't be opened again.
-pub fn memory_goes_on(store: &BodyStore<MemStore>)
-    ensures { HasCleanDisk (state over_memory store.now.connection) × IsTrue (state over_memory store.now.connection).is_open }
-{
-    let _asked = store;
-}
-
-/// A connection that was opened over what a crash left of a store of rows of numbers and texts holds a map that the crash
-/// could leave.
-pub fn holds_what_tables_left<S: Alter>(before: &TableStore<S>, connection: &Connection<S>)
-    ensures { LeavesAMap Layout.Columns (state S.Store before.now.connection) → (state S.Store before.now.connection).may_leave (state S.Store connection.now).now.trees
-        → HasCleanDisk (state S.Store connection.now) → Opens (state S.Store connection.now) → IsLive (state S.Store connection.now)
-        → (left : HeldMap) × MayLeave Layout.Columns (state S.Store before.now.connection) left × Holds Layout.Columns (state S.Store connection.now) left }
-{
-    let _stopped = before;
-    let _opened = connection;
-}
-
-/// A store of rows of numbers and texts in memory can always go on.
-pub fn memory_tables_go_on(store: &TableStore<MemStore>)
+pub fn memory_goes_on<L: StoreLayout>(store: &BlobStore<MemStore, L>)
     ensures { HasCleanDisk (state over_memory store.now.connection) × IsTrue (state over_memory store.now.connection).is_open }
 {
     let _asked = store;

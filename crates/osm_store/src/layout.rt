@@ -8,3 +8,34 @@ pub enum Layout {
     /// Each as a row of numbers and texts, with further rows for its tags, and for its nodes or members.
     Columns,
 }
+
+/// The layout of all stores of a type.
+pub trait StoreLayout {
+    ghost use Rattle.osm_store.specs.declared.layout.Layout.{Layout};
+
+    ghost LAYOUT: { Layout };
+
+    const LAYOUT: Layout;
+}
+
+/// Each element is a row with a block of its own.
+pub struct Bodies;
+
+impl StoreLayout for Bodies {
+    ghost use Rattle.osm_store.specs.declared.layout.Layout.TheVariants.{Blocks};
+
+    ghost LAYOUT = { Blocks };
+
+    const LAYOUT: Layout = Layout::Blocks;
+}
+
+/// Each element is a row of numbers and texts, with further rows for its tags, and for its nodes or members.
+pub struct Tables;
+
+impl StoreLayout for Tables {
+    ghost use Rattle.osm_store.specs.declared.layout.Layout.TheVariants.{Columns};
+
+    ghost LAYOUT = { Columns };
+
+    const LAYOUT: Layout = Layout::Columns;
+}

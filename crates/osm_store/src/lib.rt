@@ -2,7 +2,7 @@
 #![tactic(auto)]
 
 mod answer;
-mod body_store;
+mod blob_store;
 mod column_elements;
 mod column_finds;
 mod column_parts;
@@ -15,6 +15,7 @@ mod elements;
 mod extents;
 mod fault;
 mod found;
+mod held_elements;
 mod keeper;
 pub mod laws;
 mod layout;
@@ -23,19 +24,11 @@ mod opening;
 mod rows;
 mod sql;
 mod table_elements;
-mod table_store;
 mod version;
 
-pub use body_store::BodyStore;
+pub use blob_store::{BlobStore, BodyStore, TableStore};
 pub use fault::StoreFault;
 pub use found::Found;
 pub use keeper::{Extent, Keeper};
+pub use layout::{Bodies, StoreLayout, Tables};
 pub use loaded::Loaded;
-pub use table_store::TableStore;
-
-#[cfg(test)]
-mod crash_tests;
-#[cfg(test)]
-mod table_tests;
-#[cfg(test)]
-mod tests;

@@ -1,4 +1,5 @@
-//! Vectors of the format as bytes, builders of messages, and readers and writers that fail; and tests across crates.
+//! Vectors of the format as bytes, builders of messages, and readers and writers that fail; and the tests of blocks, of
+//! stores and of the importer.
 #![tactic(auto)]
 
 mod builders;

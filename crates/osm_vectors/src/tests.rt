@@ -1,8 +1,14 @@
 mod blocks;
 mod changed;
+mod deliveries;
 mod encoding;
 mod failing;
 mod frames;
+mod reading;
+mod stops;
+mod stores;
+mod tables;
+mod writing;
 
 use osm_value::{Element, Info, Outlet, write_line};
 use std::test::*;

@@ -20,6 +20,3 @@ pub use block::{encode_block, encode_one};
 pub use cutter::BlobCutter;
 pub use fault::WriteFault;
 pub use header::encode_header;
-
-#[cfg(test)]
-mod tests;

@@ -1,21 +1,17 @@
 //! The command `find`: where a store holds an element.
 
 ghost use Rattle.std.specs.Prelude.{◌≡◌, List, OnOk, OnErr, filter};
-ghost use Rattle.sqlite.specs.Held.{state};
-ghost use Rattle.sqlite.specs.State.{HasCleanDisk};
 ghost use Rattle.osm_value.specs.Sink.{Writes};
 ghost use Rattle.osm_store.specs.Finding.{AreMatches};
 ghost use Rattle.osm_store.specs.Held.{HeldMap};
-ghost use Rattle.osm_store.specs.LayoutHolding.{Holds};
 ghost use Rattle.osm_store.specs.Rows.{Placed, is_of, placed_in};
-ghost use Rattle.osm_store.specs.declared.layout.Layout.TheVariants.{Columns};
 ghost use Rattle.pbfrow.specs.CommandLines.{match_line, match_lines};
-ghost use Rattle.pbfrow.specs.Finding.{StoreStays, TellsMatches};
+ghost use Rattle.pbfrow.specs.Finding.{TellsMatches};
+ghost use Rattle.pbfrow.specs.Status.{Stays};
 
 use crate::report::put_store_fault;
-use osm_store::{Found, StoreFault, TableStore};
+use osm_store::{Found, Keeper, StoreFault};
 use osm_value::{Element, MemberKind, Sink, put, put_digits, write_line};
-use sqlite::Alter;
 use std::alloc::{AllocError, Global};
 
 /// Writes `OFFSET POSITION LINE`.
@@ -54,16 +50,16 @@ fn write_found<S: Sink>(alloc: Global, found: &Found, out: &mut S) -> Result<(),
 
 /// Writes a line for each time that the element is held, by offset and position, or the line of a fault of the store.
 /// Answers the exit status: 0 where all was written, also where nothing was found, and 1 at a fault.
-pub fn find<A: Alter, S: Sink>(
+pub fn find<K: Keeper, S: Sink>(
     alloc: Global,
-    store: &mut TableStore<A>,
+    store: &mut K,
     kind: MemberKind,
     id: i64,
     out: &mut S,
 ) -> u8
-    ensures told { (held : HeldMap) → Holds Columns (state A.Store store.old.connection) held → HasCleanDisk (state A.Store store.new.connection)
-        → TellsMatches (filter (is_of kind id) (placed_in held)) store.old.failures store.new.failures (S.written out.old) (S.written out.new) (S.has_failed out.new) result }
-    ensures stays { StoreStays A.Store store.old store.new }
+    ensures told { (held : HeldMap) → K.holds store.old held → K.is_honest store.new
+        → TellsMatches (filter (is_of kind id) (placed_in held)) (K.failures store.old) (K.failures store.new) (S.written out.old) (S.written out.new) (S.has_failed out.new) result }
+    ensures stays { Stays K.holds K.leaves K.leaves_a_map K.is_honest K.is_open store.old store.new }
 {
     let found = match store.find(alloc, kind, id) {
         Ok(found) => found,

@@ -4,8 +4,8 @@ ghost use Rattle.std.specs.Prelude.{◌≡◌};
 ghost use Rattle.osm_store.specs.Held.{HeldMap};
 
 use crate::meter::Meter;
-use osm_store::{Extent, Keeper, Loaded, StoreFault};
-use osm_value::Element;
+use osm_store::{Extent, Found, Keeper, Loaded, StoreFault};
+use osm_value::{Element, MemberKind};
 use pbf_frame::Kind;
 use std::alloc::Global;
 use std::io;
@@ -155,6 +155,10 @@ impl<K: Keeper> Keeper for MeteredStore<'_, K> {
         let answer = self.store.load(alloc, off);
         self.meter.add_blobs(1);
         answer
+    }
+
+    fn find(&mut self, alloc: Global, kind: MemberKind, id: i64) -> Result<Found, StoreFault> {
+        self.store.find(alloc, kind, id)
     }
 
     fn put(

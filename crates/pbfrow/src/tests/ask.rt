@@ -8,9 +8,8 @@ use crate::export::export;
 use crate::find::find;
 use crate::status::status;
 use crate::words::Form;
-use osm_store::{Keeper, TableStore};
+use osm_store::Keeper;
 use osm_value::{MemberKind, Outlet};
-use sqlite::Alter;
 use std::alloc::Global;
 use std::io::Cursor;
 use std::process::Abort;
@@ -45,9 +44,9 @@ fn expect_lines<K: Keeper>(
     assert!(rt; out.into_inner().as_slice() == text);
 }
 
-fn expect_found<A: Alter>(
+fn expect_found<K: Keeper>(
     rt: &(impl Abort + Alloc<A = Global>),
-    store: &mut TableStore<A>,
+    store: &mut K,
     kind: MemberKind,
     id: i64,
     text: &[u8],
@@ -153,35 +152,41 @@ fn exports_of_a_new_store(rt: HostRuntime) -> Result<(), Fail> {
     exports_of_a_new_store_of::<Columns, _>(&rt)
 }
 
-#[test]
-fn finds_elements(rt: HostRuntime) -> Result<(), Fail> {
-    let mut store = Columns::new_store(rt.alloc()).ok_or("a store")?;
-    import_two_nodes(&rt, &mut store);
+fn finds_elements_of<K: NewStore, R: Abort + Alloc<A = Global>>(rt: &R) -> Result<(), Fail> {
+    let mut store = K::new_store(rt.alloc()).ok_or("a store")?;
+    import_two_nodes(rt, &mut store);
     expect_found(
-        &rt,
+        rt,
         &mut store,
         MemberKind::Node,
         2,
         b"47 1 n 2 900 -100 [] {}\n",
     );
-    expect_found(&rt, &mut store, MemberKind::Way, 2, b"");
+    expect_found(rt, &mut store, MemberKind::Way, 2, b"");
     Ok(())
 }
 
 #[test]
-fn finds_an_element_in_two_blobs(rt: HostRuntime) -> Result<(), Fail> {
-    let mut store = Columns::new_store(rt.alloc()).ok_or("a store")?;
-    import_four_blobs(&rt, &mut store)?;
+fn finds_elements(rt: HostRuntime) -> Result<(), Fail> {
+    finds_elements_of::<Blocks, _>(&rt)?;
+    finds_elements_of::<Columns, _>(&rt)
+}
+
+fn finds_an_element_in_two_blobs_of<K: NewStore, R: Abort + Alloc<A = Global>>(
+    rt: &R,
+) -> Result<(), Fail> {
+    let mut store = K::new_store(rt.alloc()).ok_or("a store")?;
+    import_four_blobs(rt, &mut store)?;
     expect_found(
-        &rt,
+        rt,
         &mut store,
         MemberKind::Node,
         1,
         b"47 0 n 1 1000 -100 [] {}\n100 0 n 1 1000 -100 [] {}\n",
     );
-    expect_status(&rt, &mut store, None, b"blobs 4 end 137 gaps 0\n");
+    expect_status(rt, &mut store, None, b"blobs 4 end 137 gaps 0\n");
     expect_lines(
-        &rt,
+        rt,
         &mut store,
         None,
         false,
@@ -192,9 +197,16 @@ fn finds_an_element_in_two_blobs(rt: HostRuntime) -> Result<(), Fail> {
 }
 
 #[test]
-fn a_write_that_fails_ends_with_1(rt: HostRuntime) -> Result<(), Fail> {
-    let mut store = Columns::new_store(rt.alloc()).ok_or("a store")?;
-    import_two_nodes(&rt, &mut store);
+fn finds_an_element_in_two_blobs(rt: HostRuntime) -> Result<(), Fail> {
+    finds_an_element_in_two_blobs_of::<Blocks, _>(&rt)?;
+    finds_an_element_in_two_blobs_of::<Columns, _>(&rt)
+}
+
+fn a_write_that_fails_ends_with_1_of<K: NewStore, R: Abort + Alloc<A = Global>>(
+    rt: &R,
+) -> Result<(), Fail> {
+    let mut store = K::new_store(rt.alloc()).ok_or("a store")?;
+    import_two_nodes(rt, &mut store);
     assert_eq!(rt;
         status(rt.alloc(), &mut store, None, &mut Outlet::new(Closed)),
         1
@@ -221,4 +233,10 @@ fn a_write_that_fails_ends_with_1(rt: HostRuntime) -> Result<(), Fail> {
         1
     );
     Ok(())
+}
+
+#[test]
+fn a_write_that_fails_ends_with_1(rt: HostRuntime) -> Result<(), Fail> {
+    a_write_that_fails_ends_with_1_of::<Blocks, _>(&rt)?;
+    a_write_that_fails_ends_with_1_of::<Columns, _>(&rt)
 }

@@ -3,7 +3,7 @@
 use super::support::{EXTRA, TWO_NODES};
 use crate::import::import;
 use osm_import::Inlet;
-use osm_store::{BodyStore, Keeper, TableStore};
+use osm_store::{BlobStore, BodyStore, Keeper, StoreLayout, TableStore};
 use osm_value::Outlet;
 use sqlite::{Connection, MemStore};
 use std::alloc::{AllocError, Global};
@@ -20,21 +20,12 @@ pub trait NewStore: Keeper + Drop {
     fn new_store(alloc: Global) -> Option<Self>;
 }
 
-impl NewStore for Blocks {
-    fn new_store(alloc: Global) -> Option<Blocks> {
+impl<L: StoreLayout> NewStore for BlobStore<MemStore, L> {
+    fn new_store(alloc: Global) -> Option<BlobStore<MemStore, L>> {
         let Ok(connection) = Connection::open_in_memory(alloc) else {
             return None;
         };
-        BodyStore::create(connection).ok()
-    }
-}
-
-impl NewStore for Columns {
-    fn new_store(alloc: Global) -> Option<Columns> {
-        let Ok(connection) = Connection::open_in_memory(alloc) else {
-            return None;
-        };
-        TableStore::create(connection).ok()
+        BlobStore::create(connection).ok()
     }
 }
 

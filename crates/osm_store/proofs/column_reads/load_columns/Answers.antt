@@ -1,3 +1,4 @@
+use Rattle.osm_store.proofs.AnswerLemmas.{asks_then}
 use Rattle.std.proofs.Common.{refl, ◌∙◌, ap, map}
 use Rattle.std.proofs.lemmas.List.Elements.{All-from_recursion}
 use Rattle.sqlite.specs.State.{HasCleanDisk}
@@ -8,7 +9,7 @@ use Rattle.osm_value.specs.Elements.{tags_of_element}
 use Rattle.osm_store.specs.declared.layout.Layout.TheVariants.{Columns}
 use Rattle.osm_store.specs.Rows.{Placed, IsBefore, is_in, placed_in}
 use Rattle.osm_store.specs.ColumnRows.{links_of, tag_row, link_row}
-use Rattle.osm_store.proofs.PutLemmas.{clean_before, asks_holds, asks_then}
+use Rattle.osm_store.proofs.PutLemmas.{clean_before, asks_holds}
 use Rattle.osm_store.proofs.ColumnReadLemmas.{elements_read, tags_read, links_read}
 use Rattle.osm_store.proofs.PlacedLaws.{placed_in_rise}
 use Rattle.osm_store.proofs.StoredElements.{all_stored}

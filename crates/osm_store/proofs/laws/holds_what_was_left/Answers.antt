@@ -1,6 +1,5 @@
 use Rattle.sqlite.specs.Held.{state}
 use Rattle.sqlite_catalog.proofs.ReadLemmas.{lists_once}
-use Rattle.osm_store.specs.declared.layout.Layout.TheVariants.{Blocks}
 use Rattle.osm_store.proofs.OneMap.{one_map}
 use Rattle.osm_store.proofs.laws.holds_what_was_left.Goals as goal
 
@@ -19,6 +18,6 @@ returns g c whole may clean opens live =
         schema = lists_once _ _ _ (live opens.is_open).0.lists tables.sound.lists;
         kept = kept;
         tables = tables;
-        only = λ other kept_too tables_too. one_map Blocks other left (state g.S.Store c.args.connection.now).now.trees kept_too kept tables_too tables;
+        only = λ other kept_too tables_too. one_map g.L.StoreLayout.LAYOUT other left (state g.S.Store c.args.connection.now).now.trees kept_too kept tables_too tables;
       },
     )

@@ -3,4 +3,4 @@ use Rattle.sqlite_trees.proofs.Doubt.{no_doubt}
 use Rattle.osm_store.proofs.laws.memory_goes_on.Goals as goal
 
 pub returns : goal.returns
-returns c = (no_doubt _ refl, refl)
+returns g c = (no_doubt _ refl, refl)

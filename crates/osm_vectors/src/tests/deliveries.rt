@@ -1,0 +1,134 @@
+//! The importer over stores in memory, of both layouts.
+
+mod every_list;
+mod exports;
+mod orders;
+mod streams;
+
+use osm_import::{Answer, Delivery, ExportFault, deliver_all, export_lines, export_pbf};
+use osm_store::{BlobStore, BodyStore, Keeper, StoreLayout, TableStore};
+use osm_value::Outlet;
+use sqlite::{Connection, MemStore};
+use std::alloc::Global;
+use std::test::Fail;
+
+/// A header frame of 47 bytes, and a data frame of 37 that holds the nodes 1 at 1000, -100 and 2 at 900, -100.
+const FILE: [u8; 84] = [
+    0x00, 0x00, 0x00, 0x0D, 0x0A, 0x09, 0x4F, 0x53, 0x4D, 0x48, 0x65, 0x61, 0x64, 0x65, 0x72, 0x18,
+    0x1E, 0x0A, 0x1C, 0x22, 0x0E, 0x4F, 0x73, 0x6D, 0x53, 0x63, 0x68, 0x65, 0x6D, 0x61, 0x2D, 0x56,
+    0x30, 0x2E, 0x36, 0x22, 0x0A, 0x44, 0x65, 0x6E, 0x73, 0x65, 0x4E, 0x6F, 0x64, 0x65, 0x73, 0x00,
+    0x00, 0x00, 0x0B, 0x0A, 0x07, 0x4F, 0x53, 0x4D, 0x44, 0x61, 0x74, 0x61, 0x18, 0x16, 0x0A, 0x14,
+    0x0A, 0x02, 0x0A, 0x00, 0x12, 0x0E, 0x12, 0x0C, 0x0A, 0x02, 0x02, 0x02, 0x42, 0x02, 0x14, 0x01,
+    0x4A, 0x02, 0x01, 0x00,
+];
+
+const LINES: &[u8] = b"n 1 1000 -100 [] {}\nn 2 900 -100 [] {}\n";
+
+/// The data frame with another last byte: the second node lies elsewhere.
+const CHANGED: [u8; 37] = [
+    0x00, 0x00, 0x00, 0x0B, 0x0A, 0x07, 0x4F, 0x53, 0x4D, 0x44, 0x61, 0x74, 0x61, 0x18, 0x16, 0x0A,
+    0x14, 0x0A, 0x02, 0x0A, 0x00, 0x12, 0x0E, 0x12, 0x0C, 0x0A, 0x02, 0x02, 0x02, 0x42, 0x02, 0x14,
+    0x01, 0x4A, 0x02, 0x01, 0x02,
+];
+
+/// A frame of the type Extra, whose three bytes are no Blob message.
+const EXTRA: [u8; 16] = [
+    0x00, 0x00, 0x00, 0x09, 0x0A, 0x05, 0x45, 0x78, 0x74, 0x72, 0x61, 0x18, 0x03, 0xFF, 0xFF, 0xFF,
+];
+
+/// The header frame that an export writes: the two features and the program `pbfrow`.
+const WRITTEN_HEADER: [u8; 56] = [
+    0x00, 0x00, 0x00, 0x0D, 0x0A, 0x09, 0x4F, 0x53, 0x4D, 0x48, 0x65, 0x61, 0x64, 0x65, 0x72, 0x18,
+    0x27, 0x0A, 0x25, 0x22, 0x0E, 0x4F, 0x73, 0x6D, 0x53, 0x63, 0x68, 0x65, 0x6D, 0x61, 0x2D, 0x56,
+    0x30, 0x2E, 0x36, 0x22, 0x0A, 0x44, 0x65, 0x6E, 0x73, 0x65, 0x4E, 0x6F, 0x64, 0x65, 0x73, 0x82,
+    0x01, 0x06, 0x70, 0x62, 0x66, 0x72, 0x6F, 0x77,
+];
+
+type Blocks = BodyStore<MemStore>;
+
+type Columns = TableStore<MemStore>;
+
+/// A store in memory, which holds nothing at first.
+trait NewStore: Keeper + Drop {
+    fn new_store(alloc: Global) -> Result<Self, Fail>;
+
+    /// How many steps each later statement may take; None is no limit.
+    fn limit_steps(&mut self, limit: Option<u64>);
+}
+
+impl<L: StoreLayout> NewStore for BlobStore<MemStore, L> {
+    fn new_store(alloc: Global) -> Result<BlobStore<MemStore, L>, Fail> {
+        let connection = Connection::open_in_memory(alloc)?;
+        match BlobStore::create(connection) {
+            Ok(store) => Ok(store),
+            Err((fault, _)) => Err(Fail::from(fault)),
+        }
+    }
+
+    fn limit_steps(&mut self, limit: Option<u64>) {
+        self.set_step_limit(limit);
+    }
+}
+
+fn header<'a>() -> Delivery<'a> {
+    Delivery {
+        off: 0,
+        bytes: &FILE[..47],
+    }
+}
+
+/// The data frame at an offset.
+fn data_at<'a>(off: u64) -> Delivery<'a> {
+    Delivery {
+        off,
+        bytes: &FILE[47..],
+    }
+}
+
+/// The frame of the type Extra behind the file.
+fn extra<'a>() -> Delivery<'a> {
+    Delivery {
+        off: 84,
+        bytes: &EXTRA,
+    }
+}
+
+/// The answers to these deliveries to a new store, and the store.
+fn answers_to<K: NewStore>(
+    alloc: Global,
+    deliveries: &[Delivery<'_>],
+) -> Result<(Vec<Answer>, K), Fail> {
+    let mut store = K::new_store(alloc)?;
+    let answers = deliver_all(alloc, &mut store, deliveries)?;
+    Ok((answers, store))
+}
+
+/// A store that holds the file of two frames.
+fn file_store<K: NewStore>(alloc: Global) -> Result<K, Fail> {
+    let (_, store) = answers_to(alloc, &[header(), data_at(47)])?;
+    Ok(store)
+}
+
+/// What an export answers, and what it has written.
+type Exported = (Result<(), ExportFault>, Vec<u8>);
+
+fn lines_of<K: Keeper>(alloc: Global, store: &mut K, size: Option<u64>, partial: bool) -> Exported {
+    let mut out = Outlet::new(Vec::new(alloc));
+    let result = export_lines(alloc, store, size, partial, &mut out);
+    (result, out.into_inner())
+}
+
+fn pbf_of<K: Keeper>(alloc: Global, store: &mut K, size: Option<u64>, partial: bool) -> Exported {
+    let mut out = Outlet::new(Vec::new(alloc));
+    let result = export_pbf(alloc, store, size, partial, &mut out);
+    (result, out.into_inner())
+}
+
+/// These pieces, one behind the other.
+fn joined(alloc: Global, pieces: &[&[u8]]) -> Result<Vec<u8>, Fail> {
+    let mut whole = Vec::new(alloc);
+    for piece in pieces {
+        whole.extend_from_slice(piece)?;
+    }
+    Ok(whole)
+}
