@@ -1,5 +1,5 @@
-# make: proves and builds the program. make test: all that CI runs. make bench: measures it.
-.PHONY: all test gate e2e bench clean
+# make: proves and builds the program. make test: all that CI runs. make bench: measures it. make edits: tries each edit by itself.
+.PHONY: all test gate e2e edits bench clean
 
 all:
 	./pbfrow --build-only
@@ -11,6 +11,9 @@ gate:
 
 e2e: all
 	e2e/run
+
+edits:
+	edits/run
 
 bench: all
 	bench/run
