@@ -72,6 +72,3 @@ pub fn read_dense<'a>(
     read_fields(alloc, payloads, &mut dense)?;
     dense_of(alloc, scale, &dense, out)
 }
-
-#[cfg(test)]
-mod tests;

@@ -261,6 +261,3 @@ pub fn read_header_block(bytes: &[u8]) -> Result<HeaderBlock<'_>, HeaderFault>
         url: last_text(bytes, 34),
     })
 }
-
-#[cfg(test)]
-mod tests;

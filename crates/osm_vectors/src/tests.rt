@@ -1,9 +1,11 @@
 mod blocks;
 mod changed;
 mod deliveries;
+mod dense;
 mod encoding;
 mod failing;
 mod frames;
+mod header;
 mod reading;
 mod stops;
 mod stores;

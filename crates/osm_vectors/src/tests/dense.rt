@@ -1,4 +1,6 @@
-use crate::read_block;
+//! Dense nodes, and the first faults of what isn't.
+
+use osm_block::read_block;
 use osm_value::Element;
 use std::alloc::AllocError;
 use std::test::*;

@@ -1,5 +1,7 @@
-use super::*;
-use pbf_wire::WireFaultKind;
+//! Header blocks, their parts and their faults.
+
+use osm_block::{BBox, HeaderFault, read_header_block};
+use pbf_wire::{WireFault, WireFaultKind};
 use std::test::*;
 
 fn wire(kind: WireFaultKind, at: usize) -> HeaderFault {
