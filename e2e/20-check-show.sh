@@ -13,11 +13,6 @@ expect "check of a file that isn't there" 1 "fault 68 ReadFailed at 0${nl}" chec
 expect "show of a header alone" 0 "blob 0 OSMHeader 47${nl}required OsmSchema-V0.6${nl}required DenseNodes${nl}" show header.osm.pbf
 expect "show of an empty input" 0 "" show < /dev/null
 
-if [ "$("$pbfrow" check "$two")" = "fault 65 Memory at 47" ]; then
-  skip "check and show of nodes" "blocks with nodes aren't read yet: the reader answers 65 Memory for them"
-  return
-fi
-
 expect "check of two nodes" 0 "blobs 2 nodes 2 ways 0 relations 0 faults 0${nl}" check "$two"
 expect "show of two nodes" 0 "blob 0 OSMHeader 47${nl}required OsmSchema-V0.6${nl}required DenseNodes${nl}blob 47 OSMData 37${nl}n 1 1000 -100 [] {}${nl}n 2 900 -100 [] {}${nl}" show "$two"
 expect "check of a real extract" 0 "blobs 12 nodes 65733 ways 7121 relations 113 faults 0${nl}" check "$country"

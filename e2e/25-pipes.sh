@@ -62,7 +62,7 @@ peak() {
 if has python3 && [ -x /usr/bin/time ] && /usr/bin/time -v true 2>/dev/null; then
   python3 "$top/bench/frames.py" 200 1000000 large.osm.pbf
   peak "list takes at most 40 MB for a file of 200 MB" 40000 list
-  peak "check takes less than 200 MB for a file of 200 MB" 199999 check
+  peak "check takes at most 40 MB for a file of 200 MB" 40000 check
   rm -f large.osm.pbf
 else
   skip "the memory that list and check take" "python3 or /usr/bin/time isn't there"
