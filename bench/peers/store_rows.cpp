@@ -7,6 +7,7 @@
 #include <cstdio>
 #include <cstdlib>
 #include <cstring>
+#include <initializer_list>
 #include <sqlite3.h>
 #include <string>
 #include <utility>
@@ -77,8 +78,17 @@ class Store {
         sqlite3_reset(statement);
     }
 
-    // Reads all rows of a bound statement, each column as a value of its own.
-    int64_t read(sqlite3_stmt* statement, int64_t* off = nullptr, int64_t* pos = nullptr) {
+    // Adds a row: these numbers, and behind them these texts.
+    void insert(sqlite3_stmt* statement, std::initializer_list<int64_t> numbers, std::initializer_list<const char*> texts) {
+        bind(statement, numbers);
+        int at = static_cast<int>(numbers.size());
+        for (const char* it : texts) text(statement, ++at, it);
+        step(statement);
+    }
+
+    // Reads all rows that a statement gives for these numbers, each column as a value of its own.
+    int64_t read(sqlite3_stmt* statement, std::initializer_list<int64_t> numbers, int64_t* off = nullptr, int64_t* pos = nullptr) {
+        bind(statement, numbers);
         int64_t rows = 0, status;
         std::vector<sqlite3_value*> row;
         while ((status = sqlite3_step(statement)) == SQLITE_ROW) {
@@ -129,18 +139,9 @@ class Store {
         sqlite3_bind_int64(put_element, 10, 98765);
         step(put_element);
         int64_t k = 0;
-        for (const auto& pair : it.tags) {
-            bind(put_tag, {off, pos, k++});
-            text(put_tag, 4, pair.first);
-            text(put_tag, 5, pair.second);
-            step(put_tag);
-        }
+        for (const auto& pair : it.tags) insert(put_tag, {off, pos, k++}, {pair.first, pair.second});
         k = 0;
-        for (const int64_t ref : it.refs) {
-            bind(put_link, {off, pos, k++, 0, ref});
-            text(put_link, 6, "");
-            step(put_link);
-        }
+        for (const int64_t ref : it.refs) insert(put_link, {off, pos, k++, 0, ref}, {""});
     }
 
     void put_block(int64_t off, int64_t pos, const Element& it) {
@@ -189,25 +190,20 @@ public:
     int64_t find(int kind, int64_t id) {
         sqlite3_stmt* const query = has_tables ? find_element : find_body;
         int64_t off = 0, pos = 0;
-        bind(query, {kind, id});
-        const int64_t found = read(query, &off, &pos);
+        const int64_t found = read(query, {kind, id}, &off, &pos);
         if (has_tables) {
-            bind(its_tags, {off, pos});
-            read(its_tags);
-            bind(its_links, {off, pos});
-            read(its_links);
+            read(its_tags, {off, pos});
+            read(its_links, {off, pos});
         }
         return found;
     }
 
-    int64_t extents() { return read(all_extents); }
+    int64_t extents() { return read(all_extents, {}); }
 
     int64_t extents_touching(int64_t from, int64_t to) {
         int64_t start = 0;
-        bind(last_start, {from});
-        read(last_start, &start);
-        bind(touching, {start, to, from});
-        return read(touching);
+        read(last_start, {from}, &start);
+        return read(touching, {start, to, from});
     }
 };
 
