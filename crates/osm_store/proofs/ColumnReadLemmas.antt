@@ -15,10 +15,10 @@ use Rattle.sqlite_trees.specs.Tree.{IsAscending}
 use Rattle.sqlite_trees.proofs.ListLemmas.{ascending_weaker, ascending-filter}
 use Rattle.osm_value.specs.declared.element.MemberKind.{MemberKind}
 use Rattle.osm_value.specs.Value.{Text, MemberValue}
-use Rattle.osm_value.specs.Elements.{tags_of_element}
+use Rattle.osm_value.specs.Elements.{tags_of_element, kind_of_element, id_of_element}
 use Rattle.osm_store.specs.ColumnTables.{column_schema}
 use Rattle.osm_store.specs.ColumnReads.{select_elements_text, select_tags_text, select_links_text, select_found_text, select_its_tags_text, select_its_links_text}
-use Rattle.osm_store.specs.Rows.{Placed, element_code, kind_of, id_of, is_in, is_of}
+use Rattle.osm_store.specs.Rows.{Placed, element_code, is_in, is_of}
 use Rattle.osm_store.specs.ColumnFinding.{is_part_at}
 use Rattle.osm_store.specs.ColumnRows.{Part, element_row, tags_at, tag_row, links_at, links_of, link_row}
 use Rattle.osm_store.proofs.TableReads.{answer_is}
@@ -86,7 +86,7 @@ module _ (old new : State) (rows : List Row) (held : List Placed) (h : HasColumn
       let read = reads_as select_found_text params old new column_schema h.schema _ found_are.0 found_are.2 found_are.1 rows shown in
       answer_is 2 of_kind_and_id element_shown by_place (overlay old.now.trees []) params rows (columns_at twelve_places) element_row held h.elements
       (λ v. is Eq (column v 2) (Int (pos (element_code kind))) && (is Eq (column v 3) (Int id) && true)) (λ r. refl) element_output (λ r. refl)
-      (is_of kind id) (λ x. rw (same_number (element_code (kind_of x.2)) (element_code kind), same_int (id_of x.2) id) (and_true (element_code (kind_of x.2) == element_code kind) _))
+      (is_of kind id) (λ x. rw (same_number (element_code (kind_of_element x.2)) (element_code kind), same_int (id_of_element x.2) id) (and_true (element_code (kind_of_element x.2) == element_code kind) _))
       (ascending-filter _ (is_of kind id) held (ascending_weaker _ _ in_order held h.ascending)) (read.answer Null)
 
   tags_rise : IsAscending (λ (x y : Part (Text × Text)). IsPartBefore x y) (flat_map tags_at held)

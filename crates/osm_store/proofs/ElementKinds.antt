@@ -7,26 +7,26 @@ use Rattle.sqlite_trees.proofs.ListLemmas.{all_weaker, all-map}
 use Rattle.osm_value.specs.declared.element.Element.{Element}
 use Rattle.osm_value.specs.declared.element.Element.TheVariants as elements
 use Rattle.osm_value.specs.declared.element.MemberKind.TheVariants.{Node, Way, Relation}
-use Rattle.osm_value.specs.Elements.{IsElement, tags_of_element}
+use Rattle.osm_value.specs.Elements.{IsElement, tags_of_element, kind_of_element}
 use Rattle.osm_value.specs.Ranges.{IsText, IsWide, IsMember, IsWay, IsRelation, AreTags}
 use Rattle.osm_value.specs.Value.{Text, MemberValue, NodeValue, WayValue, RelationValue}
-use Rattle.osm_store.specs.Rows.{Placed, kind_of}
+use Rattle.osm_store.specs.Rows.{Placed}
 use Rattle.osm_store.specs.ColumnRows.{Part, parts, node_link, tags_at, links_of, links_at}
 use Rattle.osm_store.specs.ColumnElements.{IsTagPart, IsMemberPart, IsNodePart}
 
 -- ---- an element by its kind
 
-pub node_there : (e : Element) → kind_of e ≡ Node → (n : NodeValue) × (e ≡ elements.Node n)
+pub node_there : (e : Element) → kind_of_element e ≡ Node → (n : NodeValue) × (e ≡ elements.Node n)
 node_there (elements.Node n) is = (n, refl)
 node_there (elements.Way w) is = absurd (cc)
 node_there (elements.Relation r) is = absurd (cc)
 
-pub way_there : (e : Element) → kind_of e ≡ Way → (w : WayValue) × (e ≡ elements.Way w)
+pub way_there : (e : Element) → kind_of_element e ≡ Way → (w : WayValue) × (e ≡ elements.Way w)
 way_there (elements.Node n) is = absurd (cc)
 way_there (elements.Way w) is = (w, refl)
 way_there (elements.Relation r) is = absurd (cc)
 
-pub relation_there : (e : Element) → kind_of e ≡ Relation → (r : RelationValue) × (e ≡ elements.Relation r)
+pub relation_there : (e : Element) → kind_of_element e ≡ Relation → (r : RelationValue) × (e ≡ elements.Relation r)
 relation_there (elements.Node n) is = absurd (cc)
 relation_there (elements.Way w) is = absurd (cc)
 relation_there (elements.Relation r) is = (r, refl)

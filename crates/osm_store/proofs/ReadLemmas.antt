@@ -33,7 +33,8 @@ use Rattle.osm_store.specs.declared.layout.Layout.TheVariants.{Blocks, Columns}
 use Rattle.osm_store.specs.Layouts.{schema_of}
 use Rattle.osm_store.specs.Keeping.{touches}
 use Rattle.osm_store.specs.Tables.{store_schema, select_version_text, select_extents_text, select_last_start_text, select_touching_text, select_rows_text, select_element_text}
-use Rattle.osm_store.specs.Rows.{Placed, body_row, extent_columns as shown_extent, block_row, found_row, element_code, kind_of, id_of, is_in, is_of}
+use Rattle.osm_value.specs.Elements.{kind_of_element, id_of_element}
+use Rattle.osm_store.specs.Rows.{Placed, body_row, extent_columns as shown_extent, block_row, found_row, element_code, is_in, is_of}
 use Rattle.osm_store.specs.Selects.{selects}
 use Rattle.osm_store.proofs.CauseLemmas.{IsCause, takes, query_causes}
 use Rattle.osm_store.proofs.TableReads.{select, orders, answer_is}
@@ -170,7 +171,7 @@ module _ (old new : State) (rows : List Row) (held : List Placed) (h : HasElemen
       answer_is 2 (compares Eq (col 1 3) (col 0 0) ∷ compares Eq (col 1 4) (col 0 1) ∷ []) (col 1 1 ∷ col 1 2 ∷ col 1 5 ∷ []) (col 1 1 ∷ col 1 2 ∷ []) (overlay old.now.trees []) params rows
       (columns_at (1 ∷ 2 ∷ 3 ∷ 4 ∷ 5 ∷ [])) body_row held h.rows
       (λ v. is Eq (column v 2) (Int (pos (element_code kind))) && (is Eq (column v 3) (Int id) && true)) (λ r. refl) found_output (λ r. refl)
-      (is_of kind id) (λ x. rw (same_number (element_code (kind_of x.2)) (element_code kind), same_int (id_of x.2) id) (and_true (element_code (kind_of x.2) == element_code kind) _))
+      (is_of kind id) (λ x. rw (same_number (element_code (kind_of_element x.2)) (element_code kind), same_int (id_of_element x.2) id) (and_true (element_code (kind_of_element x.2) == element_code kind) _))
       (ascending-filter _ (is_of kind id) held (ascending_weaker _ _ in_order held h.ascending)) (read.answer Null)
 
   pub rows_read : (off : ℕ) → Shown select_rows_text (Int (pos off) ∷ []) old new rows → rows ≡ map (λ p. block_row p.2) (filter (is_in off) held)

@@ -9,9 +9,9 @@ use Rattle.osm_value.specs.declared.element.Element.{Element}
 use Rattle.osm_value.specs.declared.element.Element.TheVariants as elements
 use Rattle.osm_value.specs.declared.element.MemberKind.{MemberKind}
 use Rattle.osm_value.specs.declared.element.MemberKind.TheVariants.{Node, Way, Relation}
-use Rattle.osm_value.specs.Elements.{tags_of_element, info_of_element}
+use Rattle.osm_value.specs.Elements.{tags_of_element, info_of_element, kind_of_element, id_of_element}
 use Rattle.osm_value.specs.Value.{Text, InfoValue, MemberValue, NodeValue, WayValue, RelationValue}
-use Rattle.osm_store.specs.Rows.{Placed, element_code, kind_of, id_of}
+use Rattle.osm_store.specs.Rows.{Placed, element_code}
 use Rattle.osm_store.specs.ColumnRows.{Part, lat_of, lon_of, links_of, node_link, flag, info_columns, element_row, element_rows, tags_at, links_at, tag_row, link_row}
 use Rattle.osm_store.proofs.PlacedLaws.{IsBefore}
 use Rattle.osm_store.proofs.PartLaws.{first_parts}
@@ -127,8 +127,8 @@ same_link x y is =
 
 -- what the rows of two elements say alike
 record SameRows (d e : Element) : Type 0 where
-  kind : element_code (kind_of d) ≡ element_code (kind_of e)
-  id : id_of d ≡ id_of e
+  kind : element_code (kind_of_element d) ≡ element_code (kind_of_element e)
+  id : id_of_element d ≡ id_of_element e
   lat : lat_of d ≡ lat_of e
   lon : lon_of d ≡ lon_of e
   info : info_of_element d ≡ info_of_element e
@@ -182,8 +182,8 @@ same_parts (p ∷ ps) (q ∷ qs) up vp rows tags links =
     let tail : element_rows ps ≡ element_rows qs = cc in
     let off : p.0 ≡ q.0 = cc in
     let position : p.1 ≡ q.1 = cc in
-    let code : element_code (kind_of p.2) ≡ element_code (kind_of q.2) = cc in
-    let id : id_of p.2 ≡ id_of q.2 = cc in
+    let code : element_code (kind_of_element p.2) ≡ element_code (kind_of_element q.2) = cc in
+    let id : id_of_element p.2 ≡ id_of_element q.2 = cc in
     let lat : or_null Int (lat_of p.2) ≡ or_null Int (lat_of q.2) = cc in
     let lon : or_null Int (lon_of p.2) ≡ or_null Int (lon_of q.2) = cc in
     let info : info_columns (info_of_element p.2) ≡ info_columns (info_of_element q.2) = cc in

@@ -7,9 +7,9 @@ use Rattle.sqlite.specs.Values.{or_null}
 use Rattle.osm_value.specs.declared.element.Element.{Element}
 use Rattle.osm_value.specs.declared.element.Element.TheVariants as elements
 use Rattle.osm_value.specs.declared.element.MemberKind.TheVariants as kinds
-use Rattle.osm_value.specs.Elements.{tags_of_element, info_of_element}
+use Rattle.osm_value.specs.Elements.{tags_of_element, info_of_element, kind_of_element, id_of_element}
 use Rattle.osm_value.specs.Value.{Text, InfoValue, MemberValue}
-use Rattle.osm_store.specs.Rows.{Placed, element_code, kind_of, id_of}
+use Rattle.osm_store.specs.Rows.{Placed, element_code}
 
 -- ways and relations have no place
 abbrev pub lat_of : Element → Option ℤ
@@ -41,7 +41,7 @@ info_columns i = or_null Int i.version ∷ or_null Int i.time ∷ or_null Int i.
 
 -- the columns of `element`, without the rowid, which `sqlite` chooses
 abbrev pub element_row : Placed → Row
-element_row p = Int (pos p.0) ∷ Int (pos p.1) ∷ Int (pos (element_code (kind_of p.2))) ∷ Int (id_of p.2) ∷ or_null Int (lat_of p.2) ∷ or_null Int (lon_of p.2) ∷ info_columns (info_of_element p.2)
+element_row p = Int (pos p.0) ∷ Int (pos p.1) ∷ Int (pos (element_code (kind_of_element p.2))) ∷ Int (id_of_element p.2) ∷ or_null Int (lat_of p.2) ∷ or_null Int (lon_of p.2) ∷ info_columns (info_of_element p.2)
 
 -- a tag or a link in its element: the blob's offset, the element's position, its own number there, and what it is
 pub record Part (A : Type 0) : Type 0 where

@@ -16,7 +16,6 @@ pub mod ColumnLoading
 pub mod Steps
 pub mod Faults
 pub mod LayoutHolding
-pub mod Holding
 pub mod Asking
 pub mod Selects
 pub mod Finding

@@ -5,10 +5,9 @@ use Rattle.std.specs.FinMap.{entries}
 use Rattle.sqlite.specs.declared.types.Value.TheVariants.{Null, Int, Blob as Octets}
 use Rattle.sqlite.specs.Order.{Row}
 use Rattle.osm_value.specs.declared.element.Element.{Element}
-use Rattle.osm_value.specs.declared.element.Element.TheVariants as elements
 use Rattle.osm_value.specs.declared.element.MemberKind.{MemberKind}
 use Rattle.osm_value.specs.declared.element.MemberKind.TheVariants.{Node, Way, Relation}
-use Rattle.osm_value.specs.Elements.{IsElement}
+use Rattle.osm_value.specs.Elements.{IsElement, kind_of_element, id_of_element}
 use Rattle.osm_write.specs.Canon.{canon}
 use Rattle.pbf_frame.specs.declared.kind.Kind.{Kind}
 use Rattle.pbf_frame.specs.declared.kind.Kind.TheVariants.{OsmHeader, OsmData, Other}
@@ -27,16 +26,6 @@ abbrev pub element_code : MemberKind → ℕ
 element_code Node = 0
 element_code Way = 1
 element_code Relation = 2
-
-abbrev pub kind_of : Element → MemberKind
-kind_of (elements.Node n) = Node
-kind_of (elements.Way w) = Way
-kind_of (elements.Relation r) = Relation
-
-abbrev pub id_of : Element → ℤ
-id_of (elements.Node n) = n.id
-id_of (elements.Way w) = w.id
-id_of (elements.Relation r) = r.id
 
 -- an element in its blob: the blob's offset, its position there, and the element
 abbrev pub Placed : Type 0
@@ -68,7 +57,7 @@ body_columns off position kind id block = Int (pos off) ∷ Int (pos position) �
 
 -- an element is kept as the canonical block of itself alone
 abbrev pub body_row : Placed → Row
-body_row p = body_columns p.0 p.1 (kind_of p.2) (id_of p.2) (canon (p.2 ∷ []))
+body_row p = body_columns p.0 p.1 (kind_of_element p.2) (id_of_element p.2) (canon (p.2 ∷ []))
 
 -- what a query shows of an extent
 abbrev pub extent_columns : Extent → Row
@@ -87,7 +76,7 @@ is_in off p = p.0 == off
 
 -- whether the element has this kind and this id
 abbrev pub is_of : MemberKind → ℤ → Placed → Bool
-is_of kind id p = (element_code (kind_of p.2) == element_code kind) && int_eq (id_of p.2) id
+is_of kind id p = (element_code (kind_of_element p.2) == element_code kind) && int_eq (id_of_element p.2) id
 
 -- inside its ranges, and its block has a length
 pub record HasBlock (e : Element) : Type 0 where

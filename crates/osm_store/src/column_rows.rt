@@ -14,7 +14,6 @@ ghost use Rattle.osm_store.specs.Steps.{IsWriting, AddsElements, AddsRows};
 use crate::columns::{ElementRow, LinkRow, TagRow, add_rows};
 use crate::fault::StoreFault;
 use crate::layout::Layout;
-use crate::rows::{id_of, kind_of};
 use osm_value::laws::elements_in_range;
 use osm_value::{Element, Member, MemberKind};
 use sqlite::{Alter, Transaction};
@@ -54,8 +53,8 @@ fn element_row<'a>(off: u64, position: u64, element: &Element<'a>) -> ElementRow
     ElementRow {
         off: signed(off),
         position: signed(position),
-        kind: kind_of(element),
-        id: id_of(element),
+        kind: element.kind(),
+        id: element.id(),
         lat: lat_of(element),
         lon: lon_of(element),
         version: info.version(),

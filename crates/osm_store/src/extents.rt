@@ -101,7 +101,7 @@ fn last_start<S: Alter>(connection: &mut Connection<S>, from: u64) -> Result<i64
 }
 
 /// The extents that share a byte with `from..to`, ascending by their offsets.
-/// The time doesn't grow with the number of held blobs.
+/// Both queries go by the primary key, so the time grows with the depth of its tree alone.
 pub(crate) fn touched_extents<S: Alter>(
     alloc: Global,
     connection: &mut Connection<S>,

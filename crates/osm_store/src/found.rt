@@ -23,7 +23,7 @@ pub struct Found {
 
 impl Found {
     /// The elements, each after the offset of its blob and its position there, ascending by both.
-    /// Their texts lie in the rows.
+    /// Their texts lie in the rows. An error where memory is refused.
     pub fn matches(&self, alloc: Global) -> Result<Vec<(u64, u64, Element<'_>)>, AllocError>
         ensures { (matches : List Placed) → AreMatches self.now matches → IfOk result (λ found. found.items ≡ matches) }
     {

@@ -23,6 +23,7 @@ pub struct Extent {
     pub fin: u64,
     /// The frame's SHA-256 (FIPS 180-4).
     pub digest: [u8; 32],
+    /// What its type says it is.
     pub kind: Kind,
     /// The number of its elements.
     pub n: u64,
@@ -55,8 +56,8 @@ pub trait Keeper {
             → IfOk result (λ extents. extents.items ≡ extents_of held) }
         ensures reads { OnlyReads holds leaves leaves_a_map is_honest is_open failures self.old result self.new };
 
-    /// The held extents that share a byte with `from..to`, ascending by offset; both are bytes of the file, `to` at most
-    /// 2^62. What is held stays, also after a fault.
+    /// The held extents that share a byte with `from..to`, ascending by offset; both are offsets in bytes, `to` at
+    /// most 2^62. What is held stays, also after a fault.
     fn extents_touching(
         &mut self,
         alloc: Global,
@@ -108,6 +109,7 @@ pub trait Keeper {
     /// While the store can go on, a crash leaves what it holds and nothing else.
     ghost settled: { (store : Self) (held left : HeldMap) → holds store held → leaves store left → left ≡ held };
 
+    /// Where a map is held, whatever a crash leaves is a map.
     ghost leaves_held: { (store : Self) (held : HeldMap) → holds store held → leaves_a_map store };
 
     /// A map that is held is one of extents that don't meet.

@@ -15,6 +15,7 @@ pub trait StoreLayout {
 
     ghost LAYOUT: { Layout };
 
+    /// How each store of this type keeps elements.
     const LAYOUT: Layout;
 }
 

@@ -24,7 +24,7 @@ pub struct Loaded {
 }
 
 impl Loaded {
-    /// The elements of the blob, in order. Their texts lie in the rows.
+    /// The elements of the blob, in order. Their texts lie in the rows. An error where memory is refused.
     pub fn elements(&self, alloc: Global) -> Result<Vec<Element<'_>>, AllocError>
         ensures { (elements : List Element) → HasRowsOf self.now elements → IfOk result (λ found. found.items ≡ elements) }
     {

@@ -4,10 +4,9 @@ ghost use Rattle.std.specs.Prelude.{◌≡◌, ◌≤◌, ◌^◌, ℕ, pos, fal
 ghost use Rattle.std.specs.List.{AllByRecursion};
 ghost use Rattle.sqlite.specs.State.{HasCleanDisk, IsUnchanged, IsRolledBack, KeepsCommit, Survives};
 ghost use Rattle.sqlite.specs.Held.{state};
-ghost use Rattle.osm_value.specs.Elements.{IsElement};
 ghost use Rattle.osm_store.specs.Keeping.{IsForeign};
 ghost use Rattle.osm_store.specs.Layouts.{schema_of};
-ghost use Rattle.osm_store.specs.Rows.{blob_code, element_code, kind_of, id_of, placed, body_columns, body_row, extent_row, HasBlock, CanStore};
+ghost use Rattle.osm_store.specs.Rows.{blob_code, element_code, placed, body_columns, body_row, extent_row, HasBlock, CanStore};
 ghost use Rattle.osm_store.specs.Steps.{IsWriting, AddsRow, AddsRows, AddsElements, AddsExtent, Puts, Writes};
 
 use crate::column_rows::add_columns;
@@ -40,27 +39,6 @@ pub(crate) fn element_code(kind: MemberKind) -> u32
         MemberKind::Node => 0,
         MemberKind::Way => 1,
         MemberKind::Relation => 2,
-    }
-}
-
-pub(crate) fn kind_of(element: &Element) -> MemberKind
-    ensures { result ≡ kind_of element.now }
-{
-    match element {
-        Element::Node(_) => MemberKind::Node,
-        Element::Way(_) => MemberKind::Way,
-        Element::Relation(_) => MemberKind::Relation,
-    }
-}
-
-pub(crate) fn id_of(element: &Element) -> i64
-    ensures exact { result ≡ id_of element.now }
-    ensures in_range { IsElement element.now }
-{
-    match element {
-        Element::Node(node) => node.id(),
-        Element::Way(way) => way.id(),
-        Element::Relation(relation) => relation.id(),
     }
 }
 
@@ -134,10 +112,15 @@ fn add_element<S: Alter>(
     ensures ours { IfErr result (λ fault. ¬ (IsForeign fault)) }
     ensures survives { Survives (state S.Store transaction.old.conn.now) (state S.Store transaction.new.conn.now) (λ _. ⊥) }
 {
-    let kind = kind_of(element);
-    let id = id_of(element);
     let block = encode_one(alloc, element)?;
-    add_body(transaction, off, position, kind, id, &block)
+    add_body(
+        transaction,
+        off,
+        position,
+        element.kind(),
+        element.id(),
+        &block,
+    )
 }
 
 fn add_elements<S: Alter>(
