@@ -22,3 +22,4 @@ pub mod BlockRead
 pub mod Bounds
 pub mod HeaderRead
 pub mod TextsFew
+pub mod Coarser
