@@ -23,3 +23,4 @@ pub mod Bounds
 pub mod HeaderRead
 pub mod TextsFew
 pub mod Coarser
+pub mod ScaleNoLonger
