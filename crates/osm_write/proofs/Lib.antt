@@ -24,3 +24,5 @@ pub mod HeaderRead
 pub mod TextsFew
 pub mod Coarser
 pub mod ScaleNoLonger
+pub mod NumberLengths
+pub mod GroupNoLonger
