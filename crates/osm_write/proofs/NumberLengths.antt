@@ -1,5 +1,5 @@
 -- Lengths of numbers and fields: what is smaller is spelled no longer.
-use Rattle.std.proofs.Common.{◌≡◌, ◌⊎◌, inl, inr, ℕ, zero, suc, ◌+◌, ◌-◌, ◌*◌, ◌/◌, ◌%◌, ◌^◌, ◌≤◌, List, [], ◌∷◌, ◌++◌, length, map, refl, ap, Bool, true, false, if◌then◌else◌, arith, ℤ, pos, negsuc, neg_ℤ, ◌-ℤ◌, Option, Some, None, le_refl, w64}
+use Rattle.std.proofs.Common.{◌≡◌, ◌⊎◌, inl, inr, ℕ, zero, suc, ◌+◌, ◌*◌, ◌/◌, ◌%◌, ◌^◌, ◌≤◌, List, [], ◌∷◌, ◌++◌, length, map, refl, ap, Bool, true, false, if◌then◌else◌, arith, ℤ, pos, negsuc, neg_ℤ, ◌-ℤ◌, Option, Some, None, le_refl, w64}
 use Rattle.std.specs.Prelude.{nat_lt, int_div}
 use Rattle.std.specs.List.{flat_map, filter_map, cons_option}
 use Rattle.std.specs.Int.{cast_unsigned}
