@@ -26,3 +26,4 @@ pub mod Coarser
 pub mod ScaleNoLonger
 pub mod NumberLengths
 pub mod GroupNoLonger
+pub mod OneNoLonger

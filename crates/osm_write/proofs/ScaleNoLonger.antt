@@ -1,18 +1,19 @@
 -- The scale of one element, beside that of a list that begins with it.
-use Rattle.std.proofs.Common.{◌≡◌, ℕ, suc, ◌%◌, ◌==◌, List, [], ◌∷◌, ◌++◌, filter, refl, ap, ◌∙◌, sym, ℤ, Bool, true, false, not, ◌&&◌, ◌||◌, if◌then◌else◌, bytes_eq, append-nil, subst, ◌⊎◌, inl, inr}
+use Rattle.std.proofs.Common.{◌≡◌, ℕ, suc, ◌%◌, ◌==◌, List, [], ◌∷◌, ◌++◌, filter, refl, ap, ◌∙◌, sym, ℤ, Bool, true, false, not, ◌&&◌, ◌||◌, if◌then◌else◌, bytes_eq, append-nil, subst, inl, inr}
 use Rattle.std.specs.Prelude.{unsigned_abs}
-use Rattle.std.specs.List.{AllByRecursion, flat_map, list_all}
+use Rattle.std.specs.List.{flat_map, list_all}
 use Rattle.std.proofs.lemmas.List.Folds.{list_all-append}
 use Rattle.std.proofs.lemmas.Bool.{true≢false}
 use Rattle.osm_value.specs.declared.element.Element.{Element}
 use Rattle.osm_value.specs.Value.{Text}
 use Rattle.osm_value.proofs.Ranges.{all_weaker}
-use Rattle.osm_write.specs.Canon.{Scale, index_of, texts_of, first_uses, place_of, places_of, info_of, divisor, scale_of}
+use Rattle.osm_write.specs.Canon.{index_of, texts_of, first_uses, place_of, places_of, divisor, scale_of}
 use Rattle.osm_write.specs.Texts.{has, with_texts}
 use Rattle.osm_write.proofs.FirstUses.{with_texts_append, holds_first_uses, table_is}
 use Rattle.osm_write.proofs.TextsRead.{first_uses_has}
 use Rattle.osm_write.proofs.BlockRead.{all_had, texts_are, times_of}
 use Rattle.osm_write.proofs.Coarser.{Coarser}
+use Rattle.osm_write.proofs.NumberLengths.{Finer}
 
 -- the first uses of a front are a front
 uses_append : (us vs : List Text) → first_uses (us ++ vs) ≡ first_uses us ++ filter (λ v. not (has (first_uses us) v)) (first_uses vs)
@@ -43,25 +44,22 @@ index_same e es t h =
     ap suc (place_in_front (scale_of (e ∷ [])).texts m.0 t there ∙ ap (place_of t) (sym m.1))
 
 -- a number that divides each of them divides each of a front
-abbrev IsCoarser : ℕ → ℕ → ℕ → Type 0
-IsCoarser n one all = (one ≡ all) ⊎ ((one ≡ n) × (all ≡ 1))
-
-divisor_append : (n : ℕ) (xs ys : List ℤ) → IsCoarser n (divisor n xs) (divisor n (xs ++ ys))
+divisor_append : (n : ℕ) (xs ys : List ℤ) → Finer n (divisor n xs) (divisor n (xs ++ ys))
 divisor_append n xs ys = rw (list_all-append (λ z. unsigned_abs z % n == 0) xs ys) (by (list_all (λ z. unsigned_abs z % n == 0) xs) (list_all (λ z. unsigned_abs z % n == 0) ys))
   where
-    by : (b c : Bool) → IsCoarser n (if b then n else 1) (if b && c then n else 1)
+    by : (b c : Bool) → Finer n (if b then n else 1) (if b && c then n else 1)
     by true true = inl refl
     by true false = inr (refl, refl)
     by false c = inl refl
 
-divisor_front : (n : ℕ) (of : Element → List ℤ) (e : Element) (es : List Element) → IsCoarser n (divisor n (flat_map of (e ∷ []))) (divisor n (flat_map of (e ∷ es)))
-divisor_front n of e es = subst (λ zs. IsCoarser n (divisor n zs) (divisor n (of e ++ flat_map of es))) (sym (append-nil (of e))) (divisor_append n (of e) (flat_map of es))
+divisor_front : (n : ℕ) (of : Element → List ℤ) (e : Element) (es : List Element) → Finer n (divisor n (flat_map of (e ∷ []))) (divisor n (flat_map of (e ∷ es)))
+divisor_front n of e es = subst (λ zs. Finer n (divisor n zs) (divisor n (of e ++ flat_map of es))) (sym (append-nil (of e))) (divisor_append n (of e) (flat_map of es))
 
-places_coarser : (e : Element) (es : List Element) → IsCoarser 100 (scale_of (e ∷ [])).granularity (scale_of (e ∷ es)).granularity
+places_coarser : (e : Element) (es : List Element) → Finer 100 (scale_of (e ∷ [])).granularity (scale_of (e ∷ es)).granularity
 unfolding scale_of
 places_coarser e es = divisor_front 100 places_of e es
 
-times_coarser : (e : Element) (es : List Element) → IsCoarser 1000 (scale_of (e ∷ [])).date_granularity (scale_of (e ∷ es)).date_granularity
+times_coarser : (e : Element) (es : List Element) → Finer 1000 (scale_of (e ∷ [])).date_granularity (scale_of (e ∷ es)).date_granularity
 unfolding scale_of
 times_coarser e es = divisor_front 1000 times_of e es
 
