@@ -1,6 +1,6 @@
 -- The scale of a block of one element, beside that of a block which begins with it: the same indexes for its texts, and granularities
 -- that are the same or greater.
-use Rattle.std.proofs.Common.{◌≡◌, ℕ, ◌⊎◌}
+use Rattle.std.proofs.Common.{◌≡◌, ◌⊎◌}
 use Rattle.std.specs.List.{AllByRecursion}
 use Rattle.osm_value.specs.declared.element.Element.{Element}
 use Rattle.osm_write.specs.Canon.{Scale, index_of, texts_of}
