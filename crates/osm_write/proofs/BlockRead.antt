@@ -50,7 +50,7 @@ has_more u us t e = by (bytes_eq u t)
     by true = refl
     by false = e
 
-all_had : (all us : List Text) → ((t : Text) → has us t ≡ true → has all t ≡ true) → AllByRecursion (λ t. has all t ≡ true) us
+pub all_had : (all us : List Text) → ((t : Text) → has us t ≡ true → has all t ≡ true) → AllByRecursion (λ t. has all t ≡ true) us
 all_had all [] h = tt
 all_had all (u ∷ us) h = (h u (has_self us u), all_had all us (λ t e. h t (has_more u us t e)))
 
@@ -97,7 +97,7 @@ divisor_is n zs h = by (list_all (λ z. unsigned_abs z % n == 0) zs)
 
 -- ---- each element is known
 
-abbrev times_of : Element → List ℤ
+abbrev pub times_of : Element → List ℤ
 times_of e = option_to_list (info_of e).time
 
 info_known : (s : Scale) (i : InfoValue) → IsInfo i → AllByRecursion (IsKnown s) (option_to_list i.user) → AllByRecursion (Whole s.date_granularity) (option_to_list i.time) → IsWritten s i

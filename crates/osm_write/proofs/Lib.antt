@@ -22,3 +22,8 @@ pub mod BlockRead
 pub mod Bounds
 pub mod HeaderRead
 pub mod TextsFew
+pub mod Coarser
+pub mod ScaleNoLonger
+pub mod NumberLengths
+pub mod GroupNoLonger
+pub mod OneNoLonger

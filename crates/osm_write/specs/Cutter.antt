@@ -9,6 +9,10 @@ use Rattle.osm_write.specs.Canon.{canon}
 abbrev pub is_too_large : List Element → ℕ → Type 0
 is_too_large es count = 33554431 < length (canon (take count es))
 
+-- the block of the first element alone isn't too large
+abbrev pub FirstFits : List Element → Type 0
+FirstFits es = length (canon (take 1 es)) ≤ 33554431
+
 -- `count` came from `from` by halving, and the block of each number before it is too large
 pub data Halved (es : List Element) : ℕ → ℕ → Type 0 where
   Start : (count : ℕ) → Halved es count count

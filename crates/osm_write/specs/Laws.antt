@@ -1,5 +1,5 @@
 -- What the canonical block of a list promises to its readers.
-use Rattle.std.specs.Prelude.{◌≡◌, ◌-◌, ◌^◌, ◌<◌, List, length}
+use Rattle.std.specs.Prelude.{◌≡◌, ◌-◌, ◌^◌, ◌<◌, ◌≤◌, List, [], ◌∷◌, length}
 use Rattle.std.specs.List.{AllByRecursion, flat_map}
 use Rattle.osm_value.specs.declared.element.Element.{Element}
 use Rattle.osm_value.specs.Elements.{IsElement}
@@ -17,3 +17,7 @@ ReadsBack es = AllByRecursion IsElement es → FewTexts es → length (canon es)
 -- and no others
 abbrev pub IsReadOnly : List Element → Type 0
 IsReadOnly es = (fs : List Element) → AllByRecursion IsElement es → FewTexts es → length (canon es) < 2 ^ 64 → Block fs (canon es) → fs ≡ es
+
+-- the block of a list is at least as long as that of its first element alone
+abbrev pub FirstIsNoLonger : Element → List Element → Type 0
+FirstIsNoLonger e es = IsElement e → length (canon (e ∷ [])) ≤ length (canon (e ∷ es))

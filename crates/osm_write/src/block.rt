@@ -114,6 +114,7 @@ pub fn encode_one(alloc: Global, element: &Element) -> Result<Vec<u8>, AllocErro
 pub fn encode_block(alloc: Global, elements: &[Element]) -> Result<Vec<u8>, WriteFault>
     ensures exact { MatchResult result (λ v. (v.items ≡ canon elements.now) × (length v.items ≤ 33554431)) (λ e. IsFault (canon elements.now) e) }
     ensures read_back { IfOk result (λ v. Block elements.now v.items) }
+    ensures in_range { OnOk result (AllByRecursion IsElement elements.now) }
 {
     let bytes = bytes_of(alloc, elements)?;
     if bytes.len() > MAX_BLOCK_LEN {

@@ -1,8 +1,8 @@
 //! Blocks of a list of elements, none of them too large.
 
-ghost use Rattle.std.specs.Prelude.{◌≡◌, ◌≤◌, List, length, take, drop, MatchResult};
+ghost use Rattle.std.specs.Prelude.{◌≡◌, ◌≤◌, List, length, take, drop, MatchResult, OnOk};
 ghost use Rattle.osm_value.specs.declared.element.Element.{Element};
-ghost use Rattle.osm_write.specs.Cutter.{StepOk, StepErr, NextOk};
+ghost use Rattle.osm_write.specs.Cutter.{StepOk, StepErr, NextOk, FirstFits};
 
 use crate::block::encode_block;
 use crate::fault::WriteFault;
@@ -40,10 +40,11 @@ impl<'s, 'a> BlobCutter<'s, 'a> {
 
     /// The block of the next 8,000 elements, or of all that are left; while it has more than
     /// 33,554,431 bytes, of half as many, rounded down. None exactly where no element is left;
-    /// `BlockTooLarge` exactly where halving comes to the next element alone, and its block is too
-    /// large as well. An error leaves the cutter as it was.
+    /// `BlockTooLarge` exactly where the block of the next element alone has more than 33,554,431
+    /// bytes, unless memory ran out. An error leaves the cutter as it was.
     pub fn next(&mut self) -> Result<Option<Vec<u8>>, WriteFault>
-        ensures { MatchResult result (λ block. NextOk self.old self.new block) (λ e. (self.new ≡ self.old) × StepErr self.old e) }
+        ensures exact { MatchResult result (λ block. NextOk self.old self.new block) (λ e. (self.new ≡ self.old) × StepErr self.old e) }
+        ensures first_fits { OnOk result (FirstFits self.old) }
     {
         if self.rest.is_empty() {
             return Ok(None);
@@ -58,7 +59,8 @@ impl<'s, 'a> BlobCutter<'s, 'a> {
 /// enough; and how many they are.
 fn cut(alloc: Global, elements: &[Element]) -> Result<(Vec<u8>, usize), WriteFault>
     requires { 1 ≤ length elements.now }
-    ensures { MatchResult result (λ cut. StepOk elements.now cut.0.items cut.1) (λ e. StepErr elements.now e) }
+    ensures exact { MatchResult result (λ cut. StepOk elements.now cut.0.items cut.1) (λ e. StepErr elements.now e) }
+    ensures first_fits { OnOk result (FirstFits elements.now) }
 {
     let mut count = elements.len().min(MAX_ELEMENTS);
     loop {

@@ -4,7 +4,7 @@ ghost use Rattle.std.specs.Prelude.{ℕ, ◌≤◌, List, length};
 ghost use Rattle.osm_value.specs.declared.element.Element.{Element};
 ghost use Rattle.osm_block.specs.Block.{Block};
 ghost use Rattle.osm_write.specs.Canon.{canon};
-ghost use Rattle.osm_write.specs.Laws.{ReadsBack, IsReadOnly, FewTexts};
+ghost use Rattle.osm_write.specs.Laws.{ReadsBack, IsReadOnly, FewTexts, FirstIsNoLonger};
 
 /// The canonical block of a list of elements says that list: for elements inside their ranges,
 /// of fewer than 2^31 - 1 different texts, whose canonical block has fewer than 2^64 bytes.
@@ -26,4 +26,10 @@ pub fn block_that_fits_has_few_texts()
 /// So does each list that is read from a raw payload.
 pub fn list_that_is_read_has_few_texts()
     ensures { (es : List Element) (w : List ℕ) → Block es w → length w ≤ 33554431 → FewTexts es }
+{}
+
+/// The canonical block of a list is at least as long as that of its first element alone, for an
+/// element inside its ranges. So where that one is too large for a file, the list's is, too.
+pub fn first_element_is_no_longer()
+    ensures { (e : Element) (es : List Element) → FirstIsNoLonger e es }
 {}

@@ -6,14 +6,14 @@ use Rattle.osm_import.proofs.export.pbf.write_blocks.Goals as goal
 
 pub returns-in-Err-clause-wrote : goal.returns-in-Err-clause-wrote
 returns-in-Err-clause-wrote g c =
-    let next = rw c.in-Ok-Some.field-0-is at c.in-Ok-Some.ensures in
+    let next = rw c.in-Ok-Some.field-0-is at c.in-Ok-Some.ensures.exact in
     let step = subst (λ (block : List ℕ). StepOk c.loop-block.cutter block next.0) (sym c.deref.ensures.value) next.1 in
     cut-err (g.S.Sink.written c.args.out.now) (g.S.Sink.written c.loop-block.out) (g.S.Sink.written c.write_payload.new.out) c.args.elements.now c.loop-block.cutter c.deref.result.now next.0 c.in-Err.fault
     c.loop-block.invariant step c.in-Err.ensures.wrote
 
 pub loop-block-preserved : goal.loop-block-preserved
 loop-block-preserved g c =
-    let next = rw c.in-Ok-Some.field-0-is at c.in-Ok-Some.ensures in
+    let next = rw c.in-Ok-Some.field-0-is at c.in-Ok-Some.ensures.exact in
     let step = subst (λ (block : List ℕ). StepOk c.loop-block.cutter block next.0) (sym c.deref.ensures.value) next.1 in
     subst (λ (rest : List Element). CutSoFar (g.S.Sink.written c.args.out.now) (g.S.Sink.written c.write_payload.new.out) c.args.elements.now rest) (sym next.2)
     (cut-more (g.S.Sink.written c.args.out.now) (g.S.Sink.written c.loop-block.out) (g.S.Sink.written c.write_payload.new.out) c.args.elements.now c.loop-block.cutter c.deref.result.now next.0
