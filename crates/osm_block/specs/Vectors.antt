@@ -193,7 +193,7 @@ empty_fault : fault empty ≡ Some faults.NoStringTable
 unfolding fault number_within number_at value_at field_at next_at items_within items_from row_within is_utf8 chars lib.Utf8.encode
 empty_fault = refl
 
-text_table_in_pieces_fault : fault text_table_in_pieces ≡ Some (faults.Wire (record { kind = wires.FieldCut; «at» = 0 }))
+text_table_in_pieces_fault : fault text_table_in_pieces ≡ Some (faults.BlockWire (record { kind = wires.FieldCut; «at» = 0 }))
 unfolding fault number_within number_at value_at field_at next_at items_within items_from row_within is_utf8 chars lib.Utf8.encode
 text_table_in_pieces_fault = refl
 
@@ -201,15 +201,15 @@ two_nodes_front_0 : fault (take 0 two_nodes) ≡ Some faults.NoStringTable
 unfolding fault number_within number_at value_at field_at next_at items_within items_from row_within is_utf8 chars lib.Utf8.encode
 two_nodes_front_0 = refl
 
-two_nodes_front_1 : fault (take 1 two_nodes) ≡ Some (faults.Wire (record { kind = wires.NumberCut; «at» = 0 }))
+two_nodes_front_1 : fault (take 1 two_nodes) ≡ Some (faults.BlockWire (record { kind = wires.NumberCut; «at» = 0 }))
 unfolding fault number_within number_at value_at field_at next_at items_within items_from row_within is_utf8 chars lib.Utf8.encode
 two_nodes_front_1 = refl
 
-two_nodes_front_2 : fault (take 2 two_nodes) ≡ Some (faults.Wire (record { kind = wires.FieldCut; «at» = 0 }))
+two_nodes_front_2 : fault (take 2 two_nodes) ≡ Some (faults.BlockWire (record { kind = wires.FieldCut; «at» = 0 }))
 unfolding fault number_within number_at value_at field_at next_at items_within items_from row_within is_utf8 chars lib.Utf8.encode
 two_nodes_front_2 = refl
 
-two_nodes_front_3 : fault (take 3 two_nodes) ≡ Some (faults.Wire (record { kind = wires.FieldCut; «at» = 0 }))
+two_nodes_front_3 : fault (take 3 two_nodes) ≡ Some (faults.BlockWire (record { kind = wires.FieldCut; «at» = 0 }))
 unfolding fault number_within number_at value_at field_at next_at items_within items_from row_within is_utf8 chars lib.Utf8.encode
 two_nodes_front_3 = refl
 
@@ -217,63 +217,63 @@ two_nodes_front_4 : fault (take 4 two_nodes) ≡ None
 unfolding fault number_within number_at value_at field_at next_at items_within items_from row_within is_utf8 chars lib.Utf8.encode
 two_nodes_front_4 = refl
 
-two_nodes_front_5 : fault (take 5 two_nodes) ≡ Some (faults.Wire (record { kind = wires.NumberCut; «at» = 4 }))
+two_nodes_front_5 : fault (take 5 two_nodes) ≡ Some (faults.BlockWire (record { kind = wires.NumberCut; «at» = 4 }))
 unfolding fault number_within number_at value_at field_at next_at items_within items_from row_within is_utf8 chars lib.Utf8.encode
 two_nodes_front_5 = refl
 
-two_nodes_front_6 : fault (take 6 two_nodes) ≡ Some (faults.Wire (record { kind = wires.FieldCut; «at» = 4 }))
+two_nodes_front_6 : fault (take 6 two_nodes) ≡ Some (faults.BlockWire (record { kind = wires.FieldCut; «at» = 4 }))
 unfolding fault number_within number_at value_at field_at next_at items_within items_from row_within is_utf8 chars lib.Utf8.encode
 two_nodes_front_6 = refl
 
-two_nodes_front_7 : fault (take 7 two_nodes) ≡ Some (faults.Wire (record { kind = wires.FieldCut; «at» = 4 }))
+two_nodes_front_7 : fault (take 7 two_nodes) ≡ Some (faults.BlockWire (record { kind = wires.FieldCut; «at» = 4 }))
 unfolding fault number_within number_at value_at field_at next_at items_within items_from row_within is_utf8 chars lib.Utf8.encode
 two_nodes_front_7 = refl
 
-two_nodes_front_8 : fault (take 8 two_nodes) ≡ Some (faults.Wire (record { kind = wires.FieldCut; «at» = 4 }))
+two_nodes_front_8 : fault (take 8 two_nodes) ≡ Some (faults.BlockWire (record { kind = wires.FieldCut; «at» = 4 }))
 unfolding fault number_within number_at value_at field_at next_at items_within items_from row_within is_utf8 chars lib.Utf8.encode
 two_nodes_front_8 = refl
 
-two_nodes_front_9 : fault (take 9 two_nodes) ≡ Some (faults.Wire (record { kind = wires.FieldCut; «at» = 4 }))
+two_nodes_front_9 : fault (take 9 two_nodes) ≡ Some (faults.BlockWire (record { kind = wires.FieldCut; «at» = 4 }))
 unfolding fault number_within number_at value_at field_at next_at items_within items_from row_within is_utf8 chars lib.Utf8.encode
 two_nodes_front_9 = refl
 
-two_nodes_front_10 : fault (take 10 two_nodes) ≡ Some (faults.Wire (record { kind = wires.FieldCut; «at» = 4 }))
+two_nodes_front_10 : fault (take 10 two_nodes) ≡ Some (faults.BlockWire (record { kind = wires.FieldCut; «at» = 4 }))
 unfolding fault number_within number_at value_at field_at next_at items_within items_from row_within is_utf8 chars lib.Utf8.encode
 two_nodes_front_10 = refl
 
-two_nodes_front_11 : fault (take 11 two_nodes) ≡ Some (faults.Wire (record { kind = wires.FieldCut; «at» = 4 }))
+two_nodes_front_11 : fault (take 11 two_nodes) ≡ Some (faults.BlockWire (record { kind = wires.FieldCut; «at» = 4 }))
 unfolding fault number_within number_at value_at field_at next_at items_within items_from row_within is_utf8 chars lib.Utf8.encode
 two_nodes_front_11 = refl
 
-two_nodes_front_12 : fault (take 12 two_nodes) ≡ Some (faults.Wire (record { kind = wires.FieldCut; «at» = 4 }))
+two_nodes_front_12 : fault (take 12 two_nodes) ≡ Some (faults.BlockWire (record { kind = wires.FieldCut; «at» = 4 }))
 unfolding fault number_within number_at value_at field_at next_at items_within items_from row_within is_utf8 chars lib.Utf8.encode
 two_nodes_front_12 = refl
 
-two_nodes_front_13 : fault (take 13 two_nodes) ≡ Some (faults.Wire (record { kind = wires.FieldCut; «at» = 4 }))
+two_nodes_front_13 : fault (take 13 two_nodes) ≡ Some (faults.BlockWire (record { kind = wires.FieldCut; «at» = 4 }))
 unfolding fault number_within number_at value_at field_at next_at items_within items_from row_within is_utf8 chars lib.Utf8.encode
 two_nodes_front_13 = refl
 
-two_nodes_front_14 : fault (take 14 two_nodes) ≡ Some (faults.Wire (record { kind = wires.FieldCut; «at» = 4 }))
+two_nodes_front_14 : fault (take 14 two_nodes) ≡ Some (faults.BlockWire (record { kind = wires.FieldCut; «at» = 4 }))
 unfolding fault number_within number_at value_at field_at next_at items_within items_from row_within is_utf8 chars lib.Utf8.encode
 two_nodes_front_14 = refl
 
-two_nodes_front_15 : fault (take 15 two_nodes) ≡ Some (faults.Wire (record { kind = wires.FieldCut; «at» = 4 }))
+two_nodes_front_15 : fault (take 15 two_nodes) ≡ Some (faults.BlockWire (record { kind = wires.FieldCut; «at» = 4 }))
 unfolding fault number_within number_at value_at field_at next_at items_within items_from row_within is_utf8 chars lib.Utf8.encode
 two_nodes_front_15 = refl
 
-two_nodes_front_16 : fault (take 16 two_nodes) ≡ Some (faults.Wire (record { kind = wires.FieldCut; «at» = 4 }))
+two_nodes_front_16 : fault (take 16 two_nodes) ≡ Some (faults.BlockWire (record { kind = wires.FieldCut; «at» = 4 }))
 unfolding fault number_within number_at value_at field_at next_at items_within items_from row_within is_utf8 chars lib.Utf8.encode
 two_nodes_front_16 = refl
 
-two_nodes_front_17 : fault (take 17 two_nodes) ≡ Some (faults.Wire (record { kind = wires.FieldCut; «at» = 4 }))
+two_nodes_front_17 : fault (take 17 two_nodes) ≡ Some (faults.BlockWire (record { kind = wires.FieldCut; «at» = 4 }))
 unfolding fault number_within number_at value_at field_at next_at items_within items_from row_within is_utf8 chars lib.Utf8.encode
 two_nodes_front_17 = refl
 
-two_nodes_front_18 : fault (take 18 two_nodes) ≡ Some (faults.Wire (record { kind = wires.FieldCut; «at» = 4 }))
+two_nodes_front_18 : fault (take 18 two_nodes) ≡ Some (faults.BlockWire (record { kind = wires.FieldCut; «at» = 4 }))
 unfolding fault number_within number_at value_at field_at next_at items_within items_from row_within is_utf8 chars lib.Utf8.encode
 two_nodes_front_18 = refl
 
-two_nodes_front_19 : fault (take 19 two_nodes) ≡ Some (faults.Wire (record { kind = wires.FieldCut; «at» = 4 }))
+two_nodes_front_19 : fault (take 19 two_nodes) ≡ Some (faults.BlockWire (record { kind = wires.FieldCut; «at» = 4 }))
 unfolding fault number_within number_at value_at field_at next_at items_within items_from row_within is_utf8 chars lib.Utf8.encode
 two_nodes_front_19 = refl
 
