@@ -55,7 +55,7 @@ at_most n h = grind (arith, nat_tests)
 pub group_none : (b : Context) → ((es : List Element) (m : Message) → Says b es m → first (message_phases b m) ≡ None) →
     (es : List Element) (g : List ℕ) → GroupOf b es g → first (group_phases b g) ≡ None
 group_none b none es g h =
-    ap (λ o. first (option_map faults.Wire o ∷ when (not (nat_le (kinds_in (fields g)) 1)) faults.MixedGroup ∷ flat_map (message_phases b) (messages (fields g)))) h.is_message
+    ap (λ o. first (option_map faults.BlockWire o ∷ when (not (nat_le (kinds_in (fields g)) 1)) faults.MixedGroup ∷ flat_map (message_phases b) (messages (fields g)))) h.is_message
     ∙ ap (λ v. first (when (not v) faults.MixedGroup ∷ flat_map (message_phases b) (messages (fields g)))) (at_most (kinds_in (fields g)) h.one_kind)
     ∙ joins_none (Says b) (message_phases b) none es (messages (fields g)) h.elements_are
 
@@ -63,7 +63,7 @@ group_none b none es g h =
 
 tables_none : (ps : List (List ℕ)) → AllByRecursion (λ p. wire p ≡ None) ps → first (wire_phases (map wire ps)) ≡ None
 tables_none [] h = refl
-tables_none (p ∷ ps) h = ap (λ o. first (option_map faults.Wire o ∷ wire_phases (map wire ps))) h.0 ∙ tables_none ps h.1
+tables_none (p ∷ ps) h = ap (λ o. first (option_map faults.BlockWire o ∷ wire_phases (map wire ps))) h.0 ∙ tables_none ps h.1
 
 texts_none : (ts : List (List ℕ)) → AllByRecursion IsText ts → first (flat_map text_phases ts) ≡ None
 texts_none [] h = refl

@@ -161,7 +161,7 @@ message_is d fs r =
     let w = ap (map sint64) i.users.numbers ∙ low_are (nums (sub fs 5) 5) in
     cc (a, b, c, e, v, t, s, u, w, i.visible)
 
-first_wires : (fs : List (Option WireFault)) → first (wire_phases fs) ≡ option_map faults.Wire (first_there fs)
+first_wires : (fs : List (Option WireFault)) → first (wire_phases fs) ≡ option_map faults.BlockWire (first_there fs)
 first_wires [] = refl
 first_wires (None ∷ fs) = first_wires fs
 first_wires (Some f ∷ fs) = refl
@@ -185,7 +185,7 @@ pub faults_are : (d : DenseFields) (ps infos : List (List ℕ)) (w i a n : Optio
     w ≡ first_there (map wire ps) → i ≡ first_there (map wire infos) →
     a ≡ option_or d.ids.fault (option_or d.lats.fault (option_or d.lons.fault d.keys_vals.fault)) →
     n ≡ option_or d.info.versions.fault (option_or d.info.timestamps.fault (option_or d.info.changesets.fault (option_or d.info.uids.fault d.info.users.fault))) →
-    first (wire_phases (wires (Dense ps))) ≡ option_map faults.Wire (option_or (option_or (option_or w i) a) n)
+    first (wire_phases (wires (Dense ps))) ≡ option_map faults.BlockWire (option_or (option_or (option_or w i) a) n)
 faults_are d ps infos w i a n r are ew ei ea en =
     let fs : List Entry = flat_map fields ps in
     let j = r.info in
@@ -208,7 +208,7 @@ faults_are d ps infos w i a n r are ew ei ea en =
     let all : option_or (option_or (option_or w i) a) n ≡ first_there (wires (Dense ps)) =
     ap (λ x. option_or x n) three ∙ ap (option_or (first_there (map wire ps ++ map wire (each fs 5) ++ arrays (1 ∷ 8 ∷ 9 ∷ 10 ∷ []) fs))) info
     ∙ sym (first_there-append (map wire ps ++ map wire (each fs 5) ++ arrays (1 ∷ 8 ∷ 9 ∷ 10 ∷ []) fs) (arrays (1 ∷ 2 ∷ 3 ∷ 4 ∷ 5 ∷ []) gs)) in
-    first_wires (wires (Dense ps)) ∙ sym (ap (option_map faults.Wire) all)
+    first_wires (wires (Dense ps)) ∙ sym (ap (option_map faults.BlockWire) all)
 
 -- a payload that has a flag, and one that has none
 pub visible_here : {B : Type 0} (now : B → List ℕ) (ps : List B) (i : ℕ) (d : B) (k : ℕ) (here : Bool) → i < length ps → here ≡ is_there (fitting some_visible k (fields (now (get_or ps i d)))) → here ≡ true →

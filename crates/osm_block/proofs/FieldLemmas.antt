@@ -142,7 +142,7 @@ first_there-append [] ys = refl
 first_there-append (None ∷ xs) ys = first_there-append xs ys
 first_there-append (Some x ∷ xs) ys = refl
 
-pub first_of_wire : (fs : List (Option WireFault)) → first (wire_phases fs) ≡ option_map faults.Wire (first_there fs)
+pub first_of_wire : (fs : List (Option WireFault)) → first (wire_phases fs) ≡ option_map faults.BlockWire (first_there fs)
 first_of_wire [] = refl
 first_of_wire (None ∷ fs) = first_of_wire fs
 first_of_wire (Some f ∷ fs) = refl
@@ -157,45 +157,45 @@ arrays_fault-is [] fs = refl
 arrays_fault-is (k ∷ ks) fs = first_there-append (map packed (each fs k)) (arrays ks fs) ∙ ap (option_or (first_there (map packed (each fs k)))) (arrays_fault-is ks fs)
 
 pub message_fault : (ks : List ℕ) (p : List ℕ) → wire p ≡ None →
-    first (wire_phases (wires_with ks p)) ≡ option_map faults.Wire (option_or (first_there (map wire (each (fields p) 4))) (arrays_fault ks (fields p)))
+    first (wire_phases (wires_with ks p)) ≡ option_map faults.BlockWire (option_or (first_there (map wire (each (fields p) 4))) (arrays_fault ks (fields p)))
 message_fault ks p none =
     first_of_wire (wires_with ks p)
-    ∙ ap (λ o. option_map faults.Wire (option_or o (first_there (map wire (each (fields p) 4) ++ arrays ks (fields p))))) none
-    ∙ ap (option_map faults.Wire) (first_there-append (map wire (each (fields p) 4)) (arrays ks (fields p))
+    ∙ ap (λ o. option_map faults.BlockWire (option_or o (first_there (map wire (each (fields p) 4) ++ arrays ks (fields p))))) none
+    ∙ ap (option_map faults.BlockWire) (first_there-append (map wire (each (fields p) 4)) (arrays ks (fields p))
     ∙ ap (option_or (first_there (map wire (each (fields p) 4)))) (arrays_fault-is ks (fields p)))
 
-pub no_message : (ks : List ℕ) (p : List ℕ) (f : WireFault) → wire p ≡ Some f → first (wire_phases (wires_with ks p)) ≡ Some (faults.Wire f)
-no_message ks p f e = ap (λ o. first (option_map faults.Wire o ∷ wire_phases (map wire (each (fields p) 4) ++ arrays ks (fields p)))) e
+pub no_message : (ks : List ℕ) (p : List ℕ) (f : WireFault) → wire p ≡ Some f → first (wire_phases (wires_with ks p)) ≡ Some (faults.BlockWire f)
+no_message ks p f e = ap (λ o. first (option_map faults.BlockWire o ∷ wire_phases (map wire (each (fields p) 4) ++ arrays ks (fields p)))) e
 
 pub node_fault : (node : NodeFields) (p : List ℕ) → wire p ≡ None → NodeLeft node [] (fields p) →
-    first (wire_phases (wires (Plain p))) ≡ option_map faults.Wire (option_or node.info.fault (option_or node.keys.fault node.vals.fault))
+    first (wire_phases (wires (Plain p))) ≡ option_map faults.BlockWire (option_or node.info.fault (option_or node.keys.fault node.vals.fault))
 node_fault node p none h =
     let info : node.info.fault ≡ first_there (map wire (each (fields p) 4)) = info_fault node.info (fields p) h.info in
     let keys : node.keys.fault ≡ first_there (map packed (each (fields p) 2)) = column_fault node.keys 2 (fields p) h.keys in
     let vals : option_or node.vals.fault None ≡ first_there (map packed (each (fields p) 3)) = h.vals.fault in
     message_fault (2 ∷ 3 ∷ []) p none
-    ∙ sym (ap (λ x. option_map faults.Wire (option_or x (arrays_fault (2 ∷ 3 ∷ []) (fields p)))) info)
-    ∙ sym (ap (λ x. option_map faults.Wire (option_or node.info.fault (option_or x (arrays_fault (3 ∷ []) (fields p))))) keys)
-    ∙ ap (λ x. option_map faults.Wire (option_or node.info.fault (option_or node.keys.fault x))) (option_or-none (first_there (map packed (each (fields p) 3))) ∙ sym (column_fault node.vals 3 (fields p) h.vals))
+    ∙ sym (ap (λ x. option_map faults.BlockWire (option_or x (arrays_fault (2 ∷ 3 ∷ []) (fields p)))) info)
+    ∙ sym (ap (λ x. option_map faults.BlockWire (option_or node.info.fault (option_or x (arrays_fault (3 ∷ []) (fields p))))) keys)
+    ∙ ap (λ x. option_map faults.BlockWire (option_or node.info.fault (option_or node.keys.fault x))) (option_or-none (first_there (map packed (each (fields p) 3))) ∙ sym (column_fault node.vals 3 (fields p) h.vals))
 
 pub way_fault : (way : WayFields) (p : List ℕ) → wire p ≡ None → WayLeft way [] (fields p) →
-    first (wire_phases (wires (Way p))) ≡ option_map faults.Wire (option_or way.info.fault (option_or way.keys.fault (option_or way.vals.fault way.refs.fault)))
+    first (wire_phases (wires (Way p))) ≡ option_map faults.BlockWire (option_or way.info.fault (option_or way.keys.fault (option_or way.vals.fault way.refs.fault)))
 way_fault way p none h =
     message_fault (2 ∷ 3 ∷ 8 ∷ []) p none
-    ∙ sym (ap (λ x. option_map faults.Wire (option_or x (arrays_fault (2 ∷ 3 ∷ 8 ∷ []) (fields p)))) (info_fault way.info (fields p) h.info))
-    ∙ sym (ap (λ x. option_map faults.Wire (option_or way.info.fault (option_or x (arrays_fault (3 ∷ 8 ∷ []) (fields p))))) (column_fault way.keys 2 (fields p) h.keys))
-    ∙ sym (ap (λ x. option_map faults.Wire (option_or way.info.fault (option_or way.keys.fault (option_or x (arrays_fault (8 ∷ []) (fields p)))))) (column_fault way.vals 3 (fields p) h.vals))
-    ∙ ap (λ x. option_map faults.Wire (option_or way.info.fault (option_or way.keys.fault (option_or way.vals.fault x)))) (option_or-none (first_there (map packed (each (fields p) 8))) ∙ sym (column_fault way.refs 8 (fields p) h.refs))
+    ∙ sym (ap (λ x. option_map faults.BlockWire (option_or x (arrays_fault (2 ∷ 3 ∷ 8 ∷ []) (fields p)))) (info_fault way.info (fields p) h.info))
+    ∙ sym (ap (λ x. option_map faults.BlockWire (option_or way.info.fault (option_or x (arrays_fault (3 ∷ 8 ∷ []) (fields p))))) (column_fault way.keys 2 (fields p) h.keys))
+    ∙ sym (ap (λ x. option_map faults.BlockWire (option_or way.info.fault (option_or way.keys.fault (option_or x (arrays_fault (8 ∷ []) (fields p)))))) (column_fault way.vals 3 (fields p) h.vals))
+    ∙ ap (λ x. option_map faults.BlockWire (option_or way.info.fault (option_or way.keys.fault (option_or way.vals.fault x)))) (option_or-none (first_there (map packed (each (fields p) 8))) ∙ sym (column_fault way.refs 8 (fields p) h.refs))
 
 pub relation_fault : (relation : RelationFields) (p : List ℕ) → wire p ≡ None → RelationLeft relation [] (fields p) →
     first (wire_phases (wires (Relation p))) ≡
-    option_map faults.Wire (option_or relation.info.fault (option_or relation.keys.fault (option_or relation.vals.fault (option_or relation.roles.fault (option_or relation.memids.fault relation.types.fault)))))
+    option_map faults.BlockWire (option_or relation.info.fault (option_or relation.keys.fault (option_or relation.vals.fault (option_or relation.roles.fault (option_or relation.memids.fault relation.types.fault)))))
 relation_fault relation p none h =
-    let after : Option WireFault → Option BlockFault = λ x. option_map faults.Wire (option_or relation.info.fault (option_or relation.keys.fault (option_or relation.vals.fault x))) in
+    let after : Option WireFault → Option BlockFault = λ x. option_map faults.BlockWire (option_or relation.info.fault (option_or relation.keys.fault (option_or relation.vals.fault x))) in
     message_fault (2 ∷ 3 ∷ 8 ∷ 9 ∷ 10 ∷ []) p none
-    ∙ sym (ap (λ x. option_map faults.Wire (option_or x (arrays_fault (2 ∷ 3 ∷ 8 ∷ 9 ∷ 10 ∷ []) (fields p)))) (info_fault relation.info (fields p) h.info))
-    ∙ sym (ap (λ x. option_map faults.Wire (option_or relation.info.fault (option_or x (arrays_fault (3 ∷ 8 ∷ 9 ∷ 10 ∷ []) (fields p))))) (column_fault relation.keys 2 (fields p) h.keys))
-    ∙ sym (ap (λ x. option_map faults.Wire (option_or relation.info.fault (option_or relation.keys.fault (option_or x (arrays_fault (8 ∷ 9 ∷ 10 ∷ []) (fields p)))))) (column_fault relation.vals 3 (fields p) h.vals))
+    ∙ sym (ap (λ x. option_map faults.BlockWire (option_or x (arrays_fault (2 ∷ 3 ∷ 8 ∷ 9 ∷ 10 ∷ []) (fields p)))) (info_fault relation.info (fields p) h.info))
+    ∙ sym (ap (λ x. option_map faults.BlockWire (option_or relation.info.fault (option_or x (arrays_fault (3 ∷ 8 ∷ 9 ∷ 10 ∷ []) (fields p))))) (column_fault relation.keys 2 (fields p) h.keys))
+    ∙ sym (ap (λ x. option_map faults.BlockWire (option_or relation.info.fault (option_or relation.keys.fault (option_or x (arrays_fault (8 ∷ 9 ∷ 10 ∷ []) (fields p)))))) (column_fault relation.vals 3 (fields p) h.vals))
     ∙ sym (ap (λ x. after (option_or x (arrays_fault (9 ∷ 10 ∷ []) (fields p)))) (column_fault relation.roles 8 (fields p) h.roles))
     ∙ sym (ap (λ x. after (option_or relation.roles.fault (option_or x (arrays_fault (10 ∷ []) (fields p))))) (column_fault relation.memids 9 (fields p) h.memids))
     ∙ ap (λ x. after (option_or relation.roles.fault (option_or relation.memids.fault x))) (option_or-none (first_there (map packed (each (fields p) 10))) ∙ sym (column_fault relation.types 10 (fields p) h.types))

@@ -50,12 +50,12 @@ last_phase w = when (not (scales w)) faults.BadGranularity ∷ []
 
 pub no_table : (w : List ℕ) → wire w ≡ None → is_there (each (fields w) 1) ≡ false → first (head_phases w) ≡ Some faults.NoStringTable
 no_table w none empty =
-    ap (λ o. first (option_map faults.Wire o ∷ when (not (is_there (each (fields w) 1))) faults.NoStringTable ∷ (tables w ++ texts w) ++ last_phase w)) none
+    ap (λ o. first (option_map faults.BlockWire o ∷ when (not (is_there (each (fields w) 1))) faults.NoStringTable ∷ (tables w ++ texts w) ++ last_phase w)) none
     ∙ ap (λ v. first (when (not v) faults.NoStringTable ∷ (tables w ++ texts w) ++ last_phase w)) empty
 
 pub past_table : (w : List ℕ) → wire w ≡ None → is_there (each (fields w) 1) ≡ true → first (head_phases w) ≡ first ((tables w ++ texts w) ++ last_phase w)
 past_table w none there =
-    ap (λ o. first (option_map faults.Wire o ∷ when (not (is_there (each (fields w) 1))) faults.NoStringTable ∷ (tables w ++ texts w) ++ last_phase w)) none
+    ap (λ o. first (option_map faults.BlockWire o ∷ when (not (is_there (each (fields w) 1))) faults.NoStringTable ∷ (tables w ++ texts w) ++ last_phase w)) none
     ∙ ap (λ v. first (when (not v) faults.NoStringTable ∷ (tables w ++ texts w) ++ last_phase w)) there
 
 pub stop_tables : (w : List ℕ) (whole : Phase) → whole ≡ first ((tables w ++ texts w) ++ last_phase w) → (f : BlockFault) → first (tables w) ≡ Some f → whole ≡ Some f
@@ -69,9 +69,9 @@ past_texts w whole e n m = e ∙ first-append_none (tables w ++ texts w) (last_p
 
 none_more : (p : List ℕ) (ps : List (List ℕ)) (o : Option WireFault) → wire p ≡ o → (first (wire_phases (map wire ps)) ≡ None → AllByRecursion (λ p. wire p ≡ None) ps) →
     first (wire_phases (map wire (p ∷ ps))) ≡ None → AllByRecursion (λ p. wire p ≡ None) (p ∷ ps)
-none_more p ps None g rest e = (g, rest (sym (ap (λ o. first (option_map faults.Wire o ∷ wire_phases (map wire ps))) g) ∙ e))
+none_more p ps None g rest e = (g, rest (sym (ap (λ o. first (option_map faults.BlockWire o ∷ wire_phases (map wire ps))) g) ∙ e))
 none_more p ps (Some f) g rest e =
-    let h : Some (faults.Wire f) ≡ None = sym (ap (λ o. first (option_map faults.Wire o ∷ wire_phases (map wire ps))) g) ∙ e in absurd cc
+    let h : Some (faults.BlockWire f) ≡ None = sym (ap (λ o. first (option_map faults.BlockWire o ∷ wire_phases (map wire ps))) g) ∙ e in absurd cc
 
 pub all_none : (ps : List (List ℕ)) → first (wire_phases (map wire ps)) ≡ None → AllByRecursion (λ p. wire p ≡ None) ps
 all_none [] e = tt

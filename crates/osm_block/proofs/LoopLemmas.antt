@@ -132,14 +132,14 @@ messages_are gs p q r s ep eq er es =
 
 pub mixed : (b : Context) (g : List ℕ) (m : Bool) → wire g ≡ None → m ≡ not (nat_le (kinds_in (fields g)) 1) → m ≡ true → first (group_phases b g) ≡ Some faults.MixedGroup
 mixed b g m none is stands =
-    ap (λ o. first (option_map faults.Wire o ∷ when (not (nat_le (kinds_in (fields g)) 1)) faults.MixedGroup ∷ flat_map (message_phases b) (messages (fields g)))) none
+    ap (λ o. first (option_map faults.BlockWire o ∷ when (not (nat_le (kinds_in (fields g)) 1)) faults.MixedGroup ∷ flat_map (message_phases b) (messages (fields g)))) none
     ∙ ap (λ v. first (when v faults.MixedGroup ∷ flat_map (message_phases b) (messages (fields g)))) (sym is ∙ stands)
 
 pub past_kinds : (b : Context) (g : List ℕ) (m : Bool) (ms : List Message) → wire g ≡ None → m ≡ not (nat_le (kinds_in (fields g)) 1) → m ≡ false → ms ≡ messages (fields g) →
     first (flat_map (message_phases b) ms) ≡ first (group_phases b g)
 past_kinds b g m ms none is passes same =
     ap (λ l. first (flat_map (message_phases b) l)) same
-    ∙ sym (ap (λ o. first (option_map faults.Wire o ∷ when (not (nat_le (kinds_in (fields g)) 1)) faults.MixedGroup ∷ flat_map (message_phases b) (messages (fields g)))) none
+    ∙ sym (ap (λ o. first (option_map faults.BlockWire o ∷ when (not (nat_le (kinds_in (fields g)) 1)) faults.MixedGroup ∷ flat_map (message_phases b) (messages (fields g)))) none
     ∙ ap (λ v. first (when v faults.MixedGroup ∷ flat_map (message_phases b) (messages (fields g)))) (sym is ∙ passes))
 
 few : (n : ℕ) (m : Bool) → m ≡ not (nat_le n 1) → m ≡ false → n ≤ 1

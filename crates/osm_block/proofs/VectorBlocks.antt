@@ -15,9 +15,9 @@ use Rattle.osm_block.specs.VectorElements
 use Rattle.std.specs.Str.{is_utf8, chars}
 use Rattle.osm_block.proofs.RangeTests.{info_from, node_from, way_from, relation_from}
 
-pub v1_says : Block VectorElements.v1_elements Vectors.v1
+pub two_nodes_says : Block VectorElements.two_nodes_elements Vectors.two_nodes
 unfolding is_utf8 chars number_within number_at value_at field_at next_at items_within items_from row_within lib.Utf8.encode
-v1_says = record {
+two_nodes_says = record {
   is_message = refl;
   has_table = refl;
   tables_are = (refl, tt);
@@ -27,9 +27,9 @@ v1_says = record {
   elements_are = (((Node (record { id = pos 1; lat = pos 1000; lon = negsuc 99; tags = ([]); info = record { version = None; time = None; changeset = None; uid = None; user = None; visible = None } })) ∷ (Node (record { id = pos 2; lat = pos 900; lon = negsuc 99; tags = ([]); info = record { version = None; time = None; changeset = None; uid = None; user = None; visible = None } })) ∷ []), ([]), refl, record { is_message = refl; one_kind = lit≤ tt; elements_are = (((Node (record { id = pos 1; lat = pos 1000; lon = negsuc 99; tags = ([]); info = record { version = None; time = None; changeset = None; uid = None; user = None; visible = None } })) ∷ (Node (record { id = pos 2; lat = pos 900; lon = negsuc 99; tags = ([]); info = record { version = None; time = None; changeset = None; uid = None; user = None; visible = None } })) ∷ []), ([]), refl, ((refl, (refl, (refl, (refl, tt)))), (((record { id = pos 1; lat = pos 1000; lon = negsuc 99; tags = ([]); info = record { version = None; time = None; changeset = None; uid = None; user = None; visible = None } }) ∷ (record { id = pos 2; lat = pos 900; lon = negsuc 99; tags = ([]); info = record { version = None; time = None; changeset = None; uid = None; user = None; visible = None } }) ∷ []), refl, record { ids_are = record { are = refl; fit = (record { sfits = lit< tt }, (record { sfits = lit< tt }, tt)) }; lats_are = ((pos 10 ∷ pos 9 ∷ []), record { are = refl; fit = (record { sfits = lit< tt }, (record { sfits = lit< tt }, tt)) }, refl); lons_are = (((negsuc 0) ∷ (negsuc 0) ∷ []), record { are = refl; fit = (record { sfits = lit< tt }, (record { sfits = lit< tt }, tt)) }, refl); tags_are = ((([]) ∷ ([]) ∷ []), inr (refl, (refl, (refl, tt))), refl); infos_are = record { versions_are = refl; times_are = (([]), record { are = refl; fit = tt }, refl); changesets_are = (([]), record { are = refl; fit = tt }, refl); uids_are = (([]), record { are = refl; fit = tt }, refl); users_are = (([]), record { are = refl; fit = tt }, refl); no_visible = refl; in_range = (info_from _ refl, (info_from _ refl, tt)) }; in_range = (node_from _ refl, (node_from _ refl, tt)) })), refl) }, refl);
 }
 
-pub v2_says : Block VectorElements.v2_elements Vectors.v2
+pub tagged_nodes_says : Block VectorElements.tagged_nodes_elements Vectors.tagged_nodes
 unfolding is_utf8 chars number_within number_at value_at field_at next_at items_within items_from row_within lib.Utf8.encode
-v2_says = record {
+tagged_nodes_says = record {
   is_message = refl;
   has_table = refl;
   tables_are = (refl, tt);
@@ -39,9 +39,9 @@ v2_says = record {
   elements_are = (((Node (record { id = pos 1; lat = pos 0; lon = pos 0; tags = (((97 ∷ []), (98 ∷ [])) ∷ []); info = record { version = None; time = None; changeset = None; uid = None; user = None; visible = None } })) ∷ (Node (record { id = pos 2; lat = pos 0; lon = pos 0; tags = ([]); info = record { version = None; time = None; changeset = None; uid = None; user = None; visible = None } })) ∷ []), ([]), refl, record { is_message = refl; one_kind = lit≤ tt; elements_are = (((Node (record { id = pos 1; lat = pos 0; lon = pos 0; tags = (((97 ∷ []), (98 ∷ [])) ∷ []); info = record { version = None; time = None; changeset = None; uid = None; user = None; visible = None } })) ∷ (Node (record { id = pos 2; lat = pos 0; lon = pos 0; tags = ([]); info = record { version = None; time = None; changeset = None; uid = None; user = None; visible = None } })) ∷ []), ([]), refl, ((refl, (refl, (refl, (refl, (refl, tt))))), (((record { id = pos 1; lat = pos 0; lon = pos 0; tags = (((97 ∷ []), (98 ∷ [])) ∷ []); info = record { version = None; time = None; changeset = None; uid = None; user = None; visible = None } }) ∷ (record { id = pos 2; lat = pos 0; lon = pos 0; tags = ([]); info = record { version = None; time = None; changeset = None; uid = None; user = None; visible = None } }) ∷ []), refl, record { ids_are = record { are = refl; fit = (record { sfits = lit< tt }, (record { sfits = lit< tt }, tt)) }; lats_are = ((pos 0 ∷ pos 0 ∷ []), record { are = refl; fit = (record { sfits = lit< tt }, (record { sfits = lit< tt }, tt)) }, refl); lons_are = ((pos 0 ∷ pos 0 ∷ []), record { are = refl; fit = (record { sfits = lit< tt }, (record { sfits = lit< tt }, tt)) }, refl); tags_are = ((((pos 1, pos 2) ∷ []) ∷ ([]) ∷ []), inl (refl, (((λ e. cc), tt), (tt, tt))), refl); infos_are = record { versions_are = refl; times_are = (([]), record { are = refl; fit = tt }, refl); changesets_are = (([]), record { are = refl; fit = tt }, refl); uids_are = (([]), record { are = refl; fit = tt }, refl); users_are = (([]), record { are = refl; fit = tt }, refl); no_visible = refl; in_range = (info_from _ refl, (info_from _ refl, tt)) }; in_range = (node_from _ refl, (node_from _ refl, tt)) })), refl) }, refl);
 }
 
-pub v4_one_says : Block VectorElements.v4_one_elements Vectors.v4_one
+pub greatest_place_says : Block VectorElements.greatest_place_elements Vectors.greatest_place
 unfolding is_utf8 chars number_within number_at value_at field_at next_at items_within items_from row_within lib.Utf8.encode
-v4_one_says = record {
+greatest_place_says = record {
   is_message = refl;
   has_table = refl;
   tables_are = (refl, tt);
@@ -51,9 +51,9 @@ v4_one_says = record {
   elements_are = (((Node (record { id = pos 1; lat = pos 4611686018427387903; lon = pos 0; tags = ([]); info = record { version = None; time = None; changeset = None; uid = None; user = None; visible = None } })) ∷ []), ([]), refl, record { is_message = refl; one_kind = lit≤ tt; elements_are = (((Node (record { id = pos 1; lat = pos 4611686018427387903; lon = pos 0; tags = ([]); info = record { version = None; time = None; changeset = None; uid = None; user = None; visible = None } })) ∷ []), ([]), refl, ((refl, (refl, (refl, (refl, tt)))), (((record { id = pos 1; lat = pos 4611686018427387903; lon = pos 0; tags = ([]); info = record { version = None; time = None; changeset = None; uid = None; user = None; visible = None } }) ∷ []), refl, record { ids_are = record { are = refl; fit = (record { sfits = lit< tt }, tt) }; lats_are = (((negsuc 0) ∷ []), record { are = refl; fit = (record { sfits = lit< tt }, tt) }, refl); lons_are = ((pos 0 ∷ []), record { are = refl; fit = (record { sfits = lit< tt }, tt) }, refl); tags_are = ((([]) ∷ []), inr (refl, (refl, tt)), refl); infos_are = record { versions_are = refl; times_are = (([]), record { are = refl; fit = tt }, refl); changesets_are = (([]), record { are = refl; fit = tt }, refl); uids_are = (([]), record { are = refl; fit = tt }, refl); users_are = (([]), record { are = refl; fit = tt }, refl); no_visible = refl; in_range = (info_from _ refl, tt) }; in_range = (node_from _ refl, tt) })), refl) }, refl);
 }
 
-pub v6_says : Block VectorElements.v6_elements Vectors.v6
+pub absent_version_says : Block VectorElements.absent_version_elements Vectors.absent_version
 unfolding is_utf8 chars number_within number_at value_at field_at next_at items_within items_from row_within lib.Utf8.encode
-v6_says = record {
+absent_version_says = record {
   is_message = refl;
   has_table = refl;
   tables_are = (refl, tt);
@@ -63,9 +63,9 @@ v6_says = record {
   elements_are = (((Node (record { id = pos 1; lat = pos 0; lon = pos 0; tags = ([]); info = record { version = Some (pos 3); time = None; changeset = None; uid = None; user = None; visible = None } })) ∷ (Node (record { id = pos 2; lat = pos 0; lon = pos 0; tags = ([]); info = record { version = None; time = None; changeset = None; uid = None; user = None; visible = None } })) ∷ []), ([]), refl, record { is_message = refl; one_kind = lit≤ tt; elements_are = (((Node (record { id = pos 1; lat = pos 0; lon = pos 0; tags = ([]); info = record { version = Some (pos 3); time = None; changeset = None; uid = None; user = None; visible = None } })) ∷ (Node (record { id = pos 2; lat = pos 0; lon = pos 0; tags = ([]); info = record { version = None; time = None; changeset = None; uid = None; user = None; visible = None } })) ∷ []), ([]), refl, ((refl, (refl, (refl, (refl, (refl, (refl, tt)))))), (((record { id = pos 1; lat = pos 0; lon = pos 0; tags = ([]); info = record { version = Some (pos 3); time = None; changeset = None; uid = None; user = None; visible = None } }) ∷ (record { id = pos 2; lat = pos 0; lon = pos 0; tags = ([]); info = record { version = None; time = None; changeset = None; uid = None; user = None; visible = None } }) ∷ []), refl, record { ids_are = record { are = refl; fit = (record { sfits = lit< tt }, (record { sfits = lit< tt }, tt)) }; lats_are = ((pos 0 ∷ pos 0 ∷ []), record { are = refl; fit = (record { sfits = lit< tt }, (record { sfits = lit< tt }, tt)) }, refl); lons_are = ((pos 0 ∷ pos 0 ∷ []), record { are = refl; fit = (record { sfits = lit< tt }, (record { sfits = lit< tt }, tt)) }, refl); tags_are = ((([]) ∷ ([]) ∷ []), inr (refl, (refl, (refl, tt))), refl); infos_are = record { versions_are = refl; times_are = (([]), record { are = refl; fit = tt }, refl); changesets_are = (([]), record { are = refl; fit = tt }, refl); uids_are = (([]), record { are = refl; fit = tt }, refl); users_are = (([]), record { are = refl; fit = tt }, refl); no_visible = refl; in_range = (info_from _ refl, (info_from _ refl, tt)) }; in_range = (node_from _ refl, (node_from _ refl, tt)) })), refl) }, refl);
 }
 
-pub v7_says : Block VectorElements.v7_elements Vectors.v7
+pub version_in_its_group_says : Block VectorElements.version_in_its_group_elements Vectors.version_in_its_group
 unfolding is_utf8 chars number_within number_at value_at field_at next_at items_within items_from row_within lib.Utf8.encode
-v7_says = record {
+version_in_its_group_says = record {
   is_message = refl;
   has_table = refl;
   tables_are = (refl, tt);
@@ -75,9 +75,9 @@ v7_says = record {
   elements_are = (((Node (record { id = pos 1; lat = pos 0; lon = pos 0; tags = ([]); info = record { version = Some (pos 3); time = None; changeset = None; uid = None; user = None; visible = None } })) ∷ []), ((Node (record { id = pos 2; lat = pos 0; lon = pos 0; tags = ([]); info = record { version = None; time = None; changeset = None; uid = None; user = None; visible = None } })) ∷ []), refl, record { is_message = refl; one_kind = lit≤ tt; elements_are = (((Node (record { id = pos 1; lat = pos 0; lon = pos 0; tags = ([]); info = record { version = Some (pos 3); time = None; changeset = None; uid = None; user = None; visible = None } })) ∷ []), ([]), refl, ((refl, (refl, (refl, (refl, (refl, (refl, tt)))))), (((record { id = pos 1; lat = pos 0; lon = pos 0; tags = ([]); info = record { version = Some (pos 3); time = None; changeset = None; uid = None; user = None; visible = None } }) ∷ []), refl, record { ids_are = record { are = refl; fit = (record { sfits = lit< tt }, tt) }; lats_are = ((pos 0 ∷ []), record { are = refl; fit = (record { sfits = lit< tt }, tt) }, refl); lons_are = ((pos 0 ∷ []), record { are = refl; fit = (record { sfits = lit< tt }, tt) }, refl); tags_are = ((([]) ∷ []), inr (refl, (refl, tt)), refl); infos_are = record { versions_are = refl; times_are = (([]), record { are = refl; fit = tt }, refl); changesets_are = (([]), record { are = refl; fit = tt }, refl); uids_are = (([]), record { are = refl; fit = tt }, refl); users_are = (([]), record { are = refl; fit = tt }, refl); no_visible = refl; in_range = (info_from _ refl, tt) }; in_range = (node_from _ refl, tt) })), refl) }, (((Node (record { id = pos 2; lat = pos 0; lon = pos 0; tags = ([]); info = record { version = None; time = None; changeset = None; uid = None; user = None; visible = None } })) ∷ []), ([]), refl, record { is_message = refl; one_kind = lit≤ tt; elements_are = (((Node (record { id = pos 2; lat = pos 0; lon = pos 0; tags = ([]); info = record { version = None; time = None; changeset = None; uid = None; user = None; visible = None } })) ∷ []), ([]), refl, ((refl, (refl, (refl, (refl, tt)))), (((record { id = pos 2; lat = pos 0; lon = pos 0; tags = ([]); info = record { version = None; time = None; changeset = None; uid = None; user = None; visible = None } }) ∷ []), refl, record { ids_are = record { are = refl; fit = (record { sfits = lit< tt }, tt) }; lats_are = ((pos 0 ∷ []), record { are = refl; fit = (record { sfits = lit< tt }, tt) }, refl); lons_are = ((pos 0 ∷ []), record { are = refl; fit = (record { sfits = lit< tt }, tt) }, refl); tags_are = ((([]) ∷ []), inr (refl, (refl, tt)), refl); infos_are = record { versions_are = refl; times_are = (([]), record { are = refl; fit = tt }, refl); changesets_are = (([]), record { are = refl; fit = tt }, refl); uids_are = (([]), record { are = refl; fit = tt }, refl); users_are = (([]), record { are = refl; fit = tt }, refl); no_visible = refl; in_range = (info_from _ refl, tt) }; in_range = (node_from _ refl, tt) })), refl) }, refl));
 }
 
-pub v3_says : Block VectorElements.v3_elements Vectors.v3
+pub way_in_pieces_says : Block VectorElements.way_in_pieces_elements Vectors.way_in_pieces
 unfolding is_utf8 chars number_within number_at value_at field_at next_at items_within items_from row_within lib.Utf8.encode
-v3_says = record {
+way_in_pieces_says = record {
   is_message = refl;
   has_table = refl;
   tables_are = (refl, (refl, tt));
@@ -87,9 +87,9 @@ v3_says = record {
   elements_are = (((Way (record { id = pos 7; refs = (pos 5 ∷ pos 6 ∷ pos 7 ∷ pos 6 ∷ []); tags = (((97 ∷ []), (98 ∷ [])) ∷ []); info = record { version = None; time = None; changeset = None; uid = None; user = None; visible = None } })) ∷ []), ([]), refl, record { is_message = refl; one_kind = lit≤ tt; elements_are = (([]), ((Way (record { id = pos 7; refs = (pos 5 ∷ pos 6 ∷ pos 7 ∷ pos 6 ∷ []); tags = (((97 ∷ []), (98 ∷ [])) ∷ []); info = record { version = None; time = None; changeset = None; uid = None; user = None; visible = None } })) ∷ []), refl, (tt, ([], refl, record { ids_are = record { are = refl; fit = tt }; lats_are = (([]), record { are = refl; fit = tt }, refl); lons_are = (([]), record { are = refl; fit = tt }, refl); tags_are = (([]), inr (refl, tt), refl); infos_are = record { versions_are = refl; times_are = (([]), record { are = refl; fit = tt }, refl); changesets_are = (([]), record { are = refl; fit = tt }, refl); uids_are = (([]), record { are = refl; fit = tt }, refl); users_are = (([]), record { are = refl; fit = tt }, refl); no_visible = refl; in_range = tt }; in_range = tt })), (((Way (record { id = pos 7; refs = (pos 5 ∷ pos 6 ∷ pos 7 ∷ pos 6 ∷ []); tags = (((97 ∷ []), (98 ∷ [])) ∷ []); info = record { version = None; time = None; changeset = None; uid = None; user = None; visible = None } })) ∷ []), ([]), refl, ((refl, (refl, (refl, (refl, (refl, tt))))), ((record { id = pos 7; refs = (pos 5 ∷ pos 6 ∷ pos 7 ∷ pos 6 ∷ []); tags = (((97 ∷ []), (98 ∷ [])) ∷ []); info = record { version = None; time = None; changeset = None; uid = None; user = None; visible = None } }), refl, record { id_is = refl; refs_are = record { are = refl; fit = (record { sfits = lit< tt }, (record { sfits = lit< tt }, (record { sfits = lit< tt }, (record { sfits = lit< tt }, tt)))) }; tags_are = record { keys_are = refl; vals_are = refl }; info_is = record { version_is = refl; time_is = refl; changeset_is = refl; uid_is = refl; user_is = refl; no_visible = refl; in_range = info_from _ refl }; in_range = way_from _ refl })), refl)) }, refl);
 }
 
-pub v8_says : Block VectorElements.v8_elements Vectors.v8
+pub relation_says : Block VectorElements.relation_elements Vectors.relation
 unfolding is_utf8 chars number_within number_at value_at field_at next_at items_within items_from row_within lib.Utf8.encode
-v8_says = record {
+relation_says = record {
   is_message = refl;
   has_table = refl;
   tables_are = (refl, tt);
@@ -99,9 +99,9 @@ v8_says = record {
   elements_are = (((Relation (record { id = pos 9; members = ((record { kind = kinds.Node; id = pos 1; role = (111 ∷ 117 ∷ 116 ∷ 101 ∷ 114 ∷ []) }) ∷ (record { kind = kinds.Way; id = negsuc 1; role = ([]) }) ∷ []); tags = (((110 ∷ 97 ∷ 109 ∷ 101 ∷ []), (97 ∷ 32 ∷ 98 ∷ 44 ∷ 99 ∷ [])) ∷ []); info = record { version = None; time = None; changeset = None; uid = None; user = None; visible = None } })) ∷ []), ([]), refl, record { is_message = refl; one_kind = lit≤ tt; elements_are = (([]), ((Relation (record { id = pos 9; members = ((record { kind = kinds.Node; id = pos 1; role = (111 ∷ 117 ∷ 116 ∷ 101 ∷ 114 ∷ []) }) ∷ (record { kind = kinds.Way; id = negsuc 1; role = ([]) }) ∷ []); tags = (((110 ∷ 97 ∷ 109 ∷ 101 ∷ []), (97 ∷ 32 ∷ 98 ∷ 44 ∷ 99 ∷ [])) ∷ []); info = record { version = None; time = None; changeset = None; uid = None; user = None; visible = None } })) ∷ []), refl, (tt, ([], refl, record { ids_are = record { are = refl; fit = tt }; lats_are = (([]), record { are = refl; fit = tt }, refl); lons_are = (([]), record { are = refl; fit = tt }, refl); tags_are = (([]), inr (refl, tt), refl); infos_are = record { versions_are = refl; times_are = (([]), record { are = refl; fit = tt }, refl); changesets_are = (([]), record { are = refl; fit = tt }, refl); uids_are = (([]), record { are = refl; fit = tt }, refl); users_are = (([]), record { are = refl; fit = tt }, refl); no_visible = refl; in_range = tt }; in_range = tt })), (((Relation (record { id = pos 9; members = ((record { kind = kinds.Node; id = pos 1; role = (111 ∷ 117 ∷ 116 ∷ 101 ∷ 114 ∷ []) }) ∷ (record { kind = kinds.Way; id = negsuc 1; role = ([]) }) ∷ []); tags = (((110 ∷ 97 ∷ 109 ∷ 101 ∷ []), (97 ∷ 32 ∷ 98 ∷ 44 ∷ 99 ∷ [])) ∷ []); info = record { version = None; time = None; changeset = None; uid = None; user = None; visible = None } })) ∷ []), ([]), refl, ((refl, (refl, (refl, (refl, (refl, (refl, tt)))))), ((record { id = pos 9; members = ((record { kind = kinds.Node; id = pos 1; role = (111 ∷ 117 ∷ 116 ∷ 101 ∷ 114 ∷ []) }) ∷ (record { kind = kinds.Way; id = negsuc 1; role = ([]) }) ∷ []); tags = (((110 ∷ 97 ∷ 109 ∷ 101 ∷ []), (97 ∷ 32 ∷ 98 ∷ 44 ∷ 99 ∷ [])) ∷ []); info = record { version = None; time = None; changeset = None; uid = None; user = None; visible = None } }), refl, record { id_is = refl; memids_are = record { are = refl; fit = (record { sfits = lit< tt }, (record { sfits = lit< tt }, tt)) }; roles_are = refl; types_are = refl; tags_are = record { keys_are = refl; vals_are = refl }; info_is = record { version_is = refl; time_is = refl; changeset_is = refl; uid_is = refl; user_is = refl; no_visible = refl; in_range = info_from _ refl }; in_range = relation_from _ refl })), refl)) }, refl);
 }
 
-pub v10_says : Block VectorElements.v10_elements Vectors.v10
+pub way_with_info_says : Block VectorElements.way_with_info_elements Vectors.way_with_info
 unfolding is_utf8 chars number_within number_at value_at field_at next_at items_within items_from row_within lib.Utf8.encode
-v10_says = record {
+way_with_info_says = record {
   is_message = refl;
   has_table = refl;
   tables_are = (refl, tt);
@@ -111,9 +111,9 @@ v10_says = record {
   elements_are = (((Way (record { id = pos 7; refs = ([]); tags = ([]); info = record { version = Some (pos 2); time = Some (pos 3000); changeset = Some (pos 4); uid = Some (negsuc 0); user = Some (117 ∷ []); visible = None } })) ∷ []), ([]), refl, record { is_message = refl; one_kind = lit≤ tt; elements_are = (([]), ((Way (record { id = pos 7; refs = ([]); tags = ([]); info = record { version = Some (pos 2); time = Some (pos 3000); changeset = Some (pos 4); uid = Some (negsuc 0); user = Some (117 ∷ []); visible = None } })) ∷ []), refl, (tt, ([], refl, record { ids_are = record { are = refl; fit = tt }; lats_are = (([]), record { are = refl; fit = tt }, refl); lons_are = (([]), record { are = refl; fit = tt }, refl); tags_are = (([]), inr (refl, tt), refl); infos_are = record { versions_are = refl; times_are = (([]), record { are = refl; fit = tt }, refl); changesets_are = (([]), record { are = refl; fit = tt }, refl); uids_are = (([]), record { are = refl; fit = tt }, refl); users_are = (([]), record { are = refl; fit = tt }, refl); no_visible = refl; in_range = tt }; in_range = tt })), (((Way (record { id = pos 7; refs = ([]); tags = ([]); info = record { version = Some (pos 2); time = Some (pos 3000); changeset = Some (pos 4); uid = Some (negsuc 0); user = Some (117 ∷ []); visible = None } })) ∷ []), ([]), refl, ((refl, (refl, tt)), ((record { id = pos 7; refs = ([]); tags = ([]); info = record { version = Some (pos 2); time = Some (pos 3000); changeset = Some (pos 4); uid = Some (negsuc 0); user = Some (117 ∷ []); visible = None } }), refl, record { id_is = refl; refs_are = record { are = refl; fit = tt }; tags_are = record { keys_are = refl; vals_are = refl }; info_is = record { version_is = refl; time_is = refl; changeset_is = refl; uid_is = refl; user_is = refl; no_visible = refl; in_range = info_from _ refl }; in_range = way_from _ refl })), refl)) }, refl);
 }
 
-pub p4_says : Block VectorElements.p4_elements Vectors.p4
+pub nodes_with_info_says : Block VectorElements.nodes_with_info_elements Vectors.nodes_with_info
 unfolding is_utf8 chars number_within number_at value_at field_at next_at items_within items_from row_within lib.Utf8.encode
-p4_says = record {
+nodes_with_info_says = record {
   is_message = refl;
   has_table = refl;
   tables_are = (refl, tt);

@@ -1,4 +1,4 @@
--- What a primitive block says (osmformat.proto, PrimitiveBlock; OSM wiki, "PBF Format", "Definition of OSMData fileblock").
+-- What a primitive block says (osmformat.proto, PrimitiveBlock; OpenStreetMap Wiki, "PBF Format", "Definition of OSMData fileblock").
 use Rattle.std.specs.Prelude.{◌≡◌, ◌≢◌, ℕ, zero, suc, ◌+◌, ◌-◌, ◌^◌, ◌≤◌, List, [], ◌∷◌, ◌++◌, map, length, replicate, ℤ, pos, negsuc, ◌+ℤ◌, ◌*ℤ◌, ◌≤ℤ◌, Option, Some, None, option_map, IsNone, Bool, true, false, cond, IsTrue, not, ◌&&◌, int_le, slice_get, unwrap_or, ◌==◌, IsUtf8}
 use Rattle.std.specs.List.{AllByRecursion, flat_map, list_all, count_by}
 use Rattle.osm_value.specs.declared.element.MemberKind.{MemberKind}

@@ -1,12 +1,12 @@
 -- The numbers and names of the faults of a block.
 use Rattle.std.specs.Prelude.{ℕ, List, codes}
 use Rattle.osm_block.specs.declared.fault.BlockFault.{BlockFault}
-use Rattle.osm_block.specs.declared.fault.BlockFault.TheVariants.{Wire, NoStringTable, TextNotUtf8, TextHasNul, BadGranularity, MixedGroup, Missing, LengthsDiffer, BadIndex, SumTooLarge, OutOfRange, TagsUneven, BadMemberType, VisibleNotKnown}
+use Rattle.osm_block.specs.declared.fault.BlockFault.TheVariants.{BlockWire, NoStringTable, TextNotUtf8, TextHasNul, BadGranularity, MixedGroup, Missing, LengthsDiffer, BadIndex, SumTooLarge, OutOfRange, TagsUneven, BadMemberType, VisibleNotKnown}
 use Rattle.osm_block.specs.declared.fault.BlockError.{BlockError}
 use Rattle.osm_block.specs.declared.fault.BlockError.TheVariants.{Memory, Fault}
 
 abbrev pub number_of : BlockFault → ℕ
-number_of (Wire fault) = 40
+number_of (BlockWire fault) = 40
 number_of NoStringTable = 41
 number_of TextNotUtf8 = 42
 number_of TextHasNul = 43
@@ -22,7 +22,7 @@ number_of BadMemberType = 52
 number_of VisibleNotKnown = 54
 
 abbrev pub name_of : BlockFault → List ℕ
-name_of (Wire fault) = codes "BlockWire"
+name_of (BlockWire fault) = codes "BlockWire"
 name_of NoStringTable = codes "NoStringTable"
 name_of TextNotUtf8 = codes "TextNotUtf8"
 name_of TextHasNul = codes "TextHasNul"

@@ -35,7 +35,7 @@ Answers phase (Ok x) = phase ≡ None
 Answers phase (Err fault) = phase ≡ Some fault
 
 abbrev pub wire_phases : List (Option WireFault) → List Phase
-wire_phases fs = map (option_map faults.Wire) fs
+wire_phases fs = map (option_map faults.BlockWire) fs
 
 -- ---- what the phases of a message test
 

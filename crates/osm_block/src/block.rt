@@ -26,7 +26,7 @@ fn read_scale<'a>(alloc: Global, bytes: &'a [u8]) -> Result<Scale<'a>, BlockErro
     ensures read { IfOk result (λ s. HeadRead (context_of s) bytes.now) }
 {
     if let Some(fault) = wire_of(bytes) {
-        return Err(BlockError::Fault(BlockFault::Wire(fault)));
+        return Err(BlockError::Fault(BlockFault::BlockWire(fault)));
     }
     let mut tables = Vec::new(alloc);
     read_payloads(bytes, 1, &mut tables)?;

@@ -17,7 +17,7 @@ pub struct Column {
 }
 
 impl Column {
-    pub fn new(alloc: Global) -> Column
+    pub(crate) fn new(alloc: Global) -> Column
         ensures numbers { result.numbers.items ≡ [] }
         ensures fault { result.fault ≡ None }
     {
@@ -28,7 +28,7 @@ impl Column {
     }
 
     /// Begins another array. It keeps its memory.
-    pub fn clear(&mut self)
+    pub(crate) fn clear(&mut self)
         ensures numbers { self.new.numbers.items ≡ [] }
         ensures fault { self.new.fault ≡ None }
     {
@@ -37,7 +37,7 @@ impl Column {
     }
 
     /// Appends what a field of the array holds: a number, or a packed row of them.
-    pub fn take(&mut self, value: Value) -> Result<(), AllocError>
+    pub(crate) fn take(&mut self, value: Value) -> Result<(), AllocError>
         ensures numbers { OnOk result (self.new.numbers.items ≡ self.old.numbers.items ++ numbers_in (content_of value.entry)) }
         ensures fault { OnOk result (self.new.fault ≡ option_or self.old.fault (fault_in (content_of value.entry))) }
     {

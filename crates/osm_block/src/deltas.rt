@@ -8,17 +8,10 @@ ghost use Rattle.osm_block.specs.Differences.{Diff, front_sums, fits_i64};
 ghost use Rattle.osm_block.specs.Phases.{Gives, when};
 
 use crate::fault::{BlockError, BlockFault};
+use pbf_wire::unzigzag;
 use std::alloc::Global;
 
-/// The number that a zigzag spelling stands for.
-pub fn unzigzag(n: u64) -> i64
-    ensures { result ≡ sint64 n }
-{
-    let half = (n / 2) as i64;
-    if n % 2 == 0 { half } else { -half - 1 }
-}
-
-pub fn optional_unzigzag(number: Option<u64>) -> Option<i64>
+pub(crate) fn optional_unzigzag(number: Option<u64>) -> Option<i64>
     ensures { result ≡ option_map sint64 number }
 {
     match number {
@@ -28,7 +21,7 @@ pub fn optional_unzigzag(number: Option<u64>) -> Option<i64>
 }
 
 /// The numbers whose differences these are.
-pub fn absolute(alloc: Global, deltas: &[u64]) -> Result<Vec<i64>, BlockError>
+pub(crate) fn absolute(alloc: Global, deltas: &[u64]) -> Result<Vec<i64>, BlockError>
     ensures { Gives (λ values. Diff values.items (map sint64 deltas.now)) (when (not (list_all fits_i64 (front_sums (map sint64 deltas.now)))) faults.SumTooLarge) result }
 {
     let mut values = Vec::with_capacity(alloc, deltas.len())?;

@@ -56,7 +56,7 @@ fn dense_of<'a>(
 }
 
 /// Appends the nodes that the payloads together stand to.
-pub fn read_dense<'a>(
+pub(crate) fn read_dense<'a>(
     alloc: Global,
     scale: &Scale<'a>,
     payloads: &[&'a [u8]],

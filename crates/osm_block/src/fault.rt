@@ -3,7 +3,7 @@
 ghost use Rattle.std.specs.Prelude.{◌≡◌};
 ghost use Rattle.osm_block.specs.Fault.{number_of, name_of, error_number_of, error_name_of};
 ghost use Rattle.osm_block.specs.declared.fault.BlockError.TheVariants.{Memory, Fault};
-ghost use Rattle.osm_block.specs.declared.fault.BlockFault.TheVariants.{Wire};
+ghost use Rattle.osm_block.specs.declared.fault.BlockFault.TheVariants.{BlockWire};
 
 use pbf_wire::WireFault;
 use std::alloc::{AllocError, AllocFailed};
@@ -14,7 +14,7 @@ use thiserror::Error;
 #[derive(Clone, Copy, Debug, PartialEq, Eq, Error)]
 pub enum BlockFault {
     #[error("a message of the block is no field list or a packed array no row of numbers: {0}")]
-    Wire(WireFault),
+    BlockWire(WireFault),
     #[error("the block has no string table")]
     NoStringTable,
     #[error("a text of the string table is not UTF-8")]
@@ -49,7 +49,7 @@ impl BlockFault {
         ensures { result ≡ number_of self }
     {
         match self {
-            BlockFault::Wire(_) => 40,
+            BlockFault::BlockWire(_) => 40,
             BlockFault::NoStringTable => 41,
             BlockFault::TextNotUtf8 => 42,
             BlockFault::TextHasNul => 43,
@@ -71,7 +71,7 @@ impl BlockFault {
         ensures { result.now ≡ name_of self }
     {
         match self {
-            BlockFault::Wire(_) => "BlockWire",
+            BlockFault::BlockWire(_) => "BlockWire",
             BlockFault::NoStringTable => "NoStringTable",
             BlockFault::TextNotUtf8 => "TextNotUtf8",
             BlockFault::TextHasNul => "TextHasNul",
@@ -121,10 +121,10 @@ impl BlockError {
 }
 
 impl From<WireFault> for BlockError {
-    ghost from_gives = { λ f e. e ≡ Fault (Wire f) };
+    ghost from_gives = { λ f e. e ≡ Fault (BlockWire f) };
 
     fn from(fault: WireFault) -> BlockError {
-        BlockError::Fault(BlockFault::Wire(fault))
+        BlockError::Fault(BlockFault::BlockWire(fault))
     }
 }
 

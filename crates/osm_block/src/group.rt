@@ -31,7 +31,7 @@ pub struct Scratch {
 }
 
 impl Scratch {
-    pub fn new(alloc: Global) -> Scratch {
+    pub(crate) fn new(alloc: Global) -> Scratch {
         Scratch {
             node: NodeFields::new(alloc),
             way: WayFields::new(alloc),
@@ -104,7 +104,7 @@ pub struct Parts<'a> {
 }
 
 impl<'a> Parts<'a> {
-    pub fn new(alloc: Global) -> Parts<'a> {
+    pub(crate) fn new(alloc: Global) -> Parts<'a> {
         Parts {
             nodes: Vec::new(alloc),
             dense: Vec::new(alloc),
@@ -114,7 +114,7 @@ impl<'a> Parts<'a> {
     }
 }
 
-pub fn some_there(payloads: &[&[u8]]) -> bool
+pub(crate) fn some_there(payloads: &[&[u8]]) -> bool
     ensures { result ≡ is_there (map (λ p. p.now) payloads.now) }
 {
     !payloads.is_empty()
@@ -138,7 +138,7 @@ fn is_mixed(parts: &Parts) -> bool
 
 /// Reads the payloads of a group.
 fn read_parts<'a>(group: &'a [u8], parts: &mut Parts<'a>) -> Result<(), BlockError>
-    ensures phase { Gives (λ _. ⊤) (option_map faults.Wire (wire group.now)) result }
+    ensures phase { Gives (λ _. ⊤) (option_map faults.BlockWire (wire group.now)) result }
     ensures nodes { OnOk result (map (λ p. p.now) parts.new.nodes.items ≡ each (fields group.now) 1) }
     ensures dense { OnOk result (map (λ p. p.now) parts.new.dense.items ≡ each (fields group.now) 2) }
     ensures ways { OnOk result (map (λ p. p.now) parts.new.ways.items ≡ each (fields group.now) 3) }
@@ -179,7 +179,7 @@ fn read_messages<'a>(
 }
 
 /// Appends the elements of a group.
-pub fn read_group<'a>(
+pub(crate) fn read_group<'a>(
     alloc: Global,
     scale: &Scale<'a>,
     group: &'a [u8],
@@ -198,7 +198,7 @@ pub fn read_group<'a>(
 }
 
 /// Appends the elements of the groups.
-pub fn read_groups<'a>(
+pub(crate) fn read_groups<'a>(
     alloc: Global,
     scale: &Scale<'a>,
     groups: &[&'a [u8]],

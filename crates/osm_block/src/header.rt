@@ -96,21 +96,23 @@ impl<'a> HeaderBlock<'a> {
         self.source
     }
 
-    /// The state of the database that the file shows, in seconds since 1970.
+    /// When the database was in the state that the file shows, in seconds since 1970: the last
+    /// `osmosis_replication_timestamp`.
     pub fn timestamp(&self) -> Option<i64>
         ensures { result ≡ self.now.timestamp }
     {
         self.timestamp
     }
 
-    /// The number of that state in the row of replications.
+    /// The number of that state in the row of replications: the last
+    /// `osmosis_replication_sequence_number`.
     pub fn sequence(&self) -> Option<i64>
         ensures { result ≡ self.now.sequence }
     {
         self.sequence
     }
 
-    /// Where later states are to be had.
+    /// Where later states are to be had: the last `osmosis_replication_base_url`.
     pub fn url(&self) -> Option<&'a str>
         ensures { option_copied result ≡ self.now.url }
     {

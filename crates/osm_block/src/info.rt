@@ -42,7 +42,7 @@ const NO_NUMBERS: InfoNumbers = InfoNumbers {
 };
 
 impl InfoFields {
-    pub fn new() -> InfoFields
+    pub(crate) fn new() -> InfoFields
         ensures numbers { result.numbers ≡ no_info }
         ensures fault { result.fault ≡ None }
     {
@@ -53,7 +53,7 @@ impl InfoFields {
     }
 
     /// Reads one more payload.
-    pub fn take(&mut self, payload: &[u8])
+    pub(crate) fn take(&mut self, payload: &[u8])
         ensures numbers { self.new.numbers ≡ info_after self.old.numbers (fields payload.now) }
         ensures fault { self.new.fault ≡ option_or self.old.fault (wire payload.now) }
     {
@@ -85,7 +85,7 @@ fn read_info_numbers(payload: &[u8], info: &mut InfoNumbers) -> Option<WireFault
     None
 }
 
-pub fn optional_i64(number: Option<u64>) -> Option<i64>
+pub(crate) fn optional_i64(number: Option<u64>) -> Option<i64>
     ensures { result ≡ option_map int64 number }
 {
     match number {
@@ -94,7 +94,7 @@ pub fn optional_i64(number: Option<u64>) -> Option<i64>
     }
 }
 
-pub fn optional_i32(number: Option<u64>) -> Option<i32>
+pub(crate) fn optional_i32(number: Option<u64>) -> Option<i32>
     ensures { result ≡ option_map int32 number }
 {
     match number {
@@ -104,7 +104,7 @@ pub fn optional_i32(number: Option<u64>) -> Option<i32>
 }
 
 /// Whether the numbers are in their ranges.
-pub fn info_in_range(scale: &Scale, info: &InfoNumbers) -> bool
+pub(crate) fn info_in_range(scale: &Scale, info: &InfoNumbers) -> bool
     ensures { result ≡ info_in_range (context_of scale.now) (info_message_of info.now) }
 {
     let version = optional_version(optional_i32(info.version));
@@ -115,7 +115,7 @@ pub fn info_in_range(scale: &Scale, info: &InfoNumbers) -> bool
 }
 
 /// Whether a table of that many texts has the user.
-pub fn user_fits(texts: usize, index: Option<u64>) -> bool
+pub(crate) fn user_fits(texts: usize, index: Option<u64>) -> bool
     ensures { result ≡ passes (λ i. nat_lt (i % 2 ^ 32) texts) index }
 {
     match index {
@@ -155,7 +155,7 @@ fn user_of<'a>(table: &[&'a str], index: Option<u64>) -> Option<&'a str>
 }
 
 /// What the message says, where its numbers are in their ranges and its user in the table.
-pub fn info_of<'a>(scale: &Scale<'a>, info: &InfoNumbers) -> Info<'a>
+pub(crate) fn info_of<'a>(scale: &Scale<'a>, info: &InfoNumbers) -> Info<'a>
     requires no_visible { is_some info.now.visible ≡ false }
     requires in_range { info_in_range (context_of scale.now) (info_message_of info.now) ≡ true }
     requires in_table { passes (λ i. nat_lt (i % 2 ^ 32) (length scale.now.table.items)) info.now.user_sid ≡ true }

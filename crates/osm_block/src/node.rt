@@ -36,7 +36,7 @@ pub struct NodeFields {
 }
 
 impl NodeFields {
-    pub fn new(alloc: Global) -> NodeFields {
+    pub(crate) fn new(alloc: Global) -> NodeFields {
         NodeFields {
             id: None,
             keys: Column::new(alloc),
@@ -69,7 +69,7 @@ impl NodeFields {
 
 /// Reads the fields of the message; the faults of its payloads are kept for later.
 fn read_fields(payload: &[u8], node: &mut NodeFields) -> Result<(), BlockError>
-    ensures phase { Gives (λ _. ⊤) (option_map faults.Wire (wire payload.now)) result }
+    ensures phase { Gives (λ _. ⊤) (option_map faults.BlockWire (wire payload.now)) result }
     ensures read { OnOk result (NodeLeft node.new [] (fields payload.now)) }
 {
     node.clear();
@@ -154,7 +154,7 @@ fn node_of<'a>(
 }
 
 /// The node that a payload stands to.
-pub fn read_node<'a>(
+pub(crate) fn read_node<'a>(
     alloc: Global,
     scale: &Scale<'a>,
     payload: &'a [u8],

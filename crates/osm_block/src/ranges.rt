@@ -9,14 +9,14 @@ ghost use Rattle.osm_block.specs.Phases.{place_in_range};
 use osm_value::{uid_in_range, version_in_range, wide_in_range};
 
 /// Whether all of the numbers are ids, references or places.
-pub fn all_wide(numbers: &[i64]) -> bool
+pub(crate) fn all_wide(numbers: &[i64]) -> bool
     ensures { result ≡ list_all is_wide numbers.now }
 {
     numbers.iter().all(|number| wide_in_range(*number))
 }
 
 /// Whether a table of that many texts has all of the indexes, which are numbers of 32 bits.
-pub fn all_indexes(indexes: &[u64], texts: usize) -> bool
+pub(crate) fn all_indexes(indexes: &[u64], texts: usize) -> bool
     ensures { result ≡ list_all (λ i. nat_lt (i % 2 ^ 32) texts) indexes.now }
 {
     indexes
@@ -25,14 +25,14 @@ pub fn all_indexes(indexes: &[u64], texts: usize) -> bool
 }
 
 /// Whether a time of that many units is in the range.
-pub fn time_in_range(date_granularity: i32, units: i64) -> bool
+pub(crate) fn time_in_range(date_granularity: i32, units: i64) -> bool
     ensures { result ≡ is_wide (time date_granularity units) }
 {
     let time = i128::from(units) * i128::from(date_granularity);
     -4611686018427387903 <= time && time <= 4611686018427387903
 }
 
-pub fn optional_wide(number: Option<i64>) -> bool
+pub(crate) fn optional_wide(number: Option<i64>) -> bool
     ensures { result ≡ passes is_wide number }
 {
     match number {
@@ -42,7 +42,7 @@ pub fn optional_wide(number: Option<i64>) -> bool
 }
 
 /// Whether a version is in its range or -1, which says nothing.
-pub fn optional_version(number: Option<i32>) -> bool
+pub(crate) fn optional_version(number: Option<i32>) -> bool
     ensures { result ≡ passes (λ v. passes is_version (version_of v)) number }
 {
     match number {
@@ -51,7 +51,7 @@ pub fn optional_version(number: Option<i32>) -> bool
     }
 }
 
-pub fn optional_uid(number: Option<i32>) -> bool
+pub(crate) fn optional_uid(number: Option<i32>) -> bool
     ensures { result ≡ passes is_uid number }
 {
     match number {
@@ -60,7 +60,7 @@ pub fn optional_uid(number: Option<i32>) -> bool
     }
 }
 
-pub fn optional_time(date_granularity: i32, units: Option<i64>) -> bool
+pub(crate) fn optional_time(date_granularity: i32, units: Option<i64>) -> bool
     ensures { result ≡ passes (λ t. is_wide (time date_granularity t)) units }
 {
     match units {
@@ -97,7 +97,7 @@ fn sum_in_range(offset: i64, moved: i128) -> bool
 }
 
 /// Whether a place of that many units is in the range.
-pub fn place_in_range(offset: i64, granularity: i32, units: i64) -> bool
+pub(crate) fn place_in_range(offset: i64, granularity: i32, units: i64) -> bool
     ensures { result ≡ place_in_range offset granularity units }
 {
     sum_in_range(offset, scaled(granularity, units))
@@ -112,7 +112,7 @@ fn narrow_sum(offset: i64, moved: i128) -> i64
 }
 
 /// The place of that many units, in nanodegrees.
-pub fn place_of(offset: i64, granularity: i32, units: i64) -> i64
+pub(crate) fn place_of(offset: i64, granularity: i32, units: i64) -> i64
     requires { place_in_range offset granularity units ≡ true }
     ensures { result ≡ place offset granularity units }
 {

@@ -11,7 +11,7 @@ use pbf_wire::{Fields, Value, WireFault};
 use std::alloc::AllocError;
 
 /// Why a payload is no field list.
-pub fn wire_of(payload: &[u8]) -> Option<WireFault>
+pub(crate) fn wire_of(payload: &[u8]) -> Option<WireFault>
     ensures { result ≡ wire payload.now }
 {
     for field in Fields::new(payload) {
@@ -23,7 +23,7 @@ pub fn wire_of(payload: &[u8]) -> Option<WireFault>
 }
 
 /// The last number of the field `number`, or the one before.
-pub fn last_number(payload: &[u8], number: u32, before: Option<u64>) -> Option<u64>
+pub(crate) fn last_number(payload: &[u8], number: u32, before: Option<u64>) -> Option<u64>
     ensures { result ≡ last_or before (fitting number_of number (fields payload.now)) }
 {
     let mut last = before;
@@ -40,7 +40,11 @@ pub fn last_number(payload: &[u8], number: u32, before: Option<u64>) -> Option<u
 }
 
 /// Appends the payloads of the fields `number`.
-pub fn each<'a>(payload: &'a [u8], number: u32, out: &mut Vec<&'a [u8]>) -> Result<(), AllocError>
+pub(crate) fn each<'a>(
+    payload: &'a [u8],
+    number: u32,
+    out: &mut Vec<&'a [u8]>,
+) -> Result<(), AllocError>
     ensures { OnOk result (map (λ p. p.now) out.new.items ≡ map (λ p. p.now) out.old.items ++ each (fields payload.now) number) }
 {
     for field in Fields::new(payload) {
@@ -56,19 +60,19 @@ pub fn each<'a>(payload: &'a [u8], number: u32, out: &mut Vec<&'a [u8]>) -> Resu
 }
 
 /// The first wire fault of the payloads.
-pub fn check_all(payloads: &[&[u8]]) -> Result<(), BlockError>
+pub(crate) fn check_all(payloads: &[&[u8]]) -> Result<(), BlockError>
     ensures { Gives (λ _. ⊤) (first (wire_phases (map wire (map (λ p. p.now) payloads.now)))) result }
 {
     for payload in payloads {
         if let Some(fault) = wire_of(payload) {
-            return Err(BlockError::Fault(BlockFault::Wire(fault)));
+            return Err(BlockError::Fault(BlockFault::BlockWire(fault)));
         }
     }
     Ok(())
 }
 
 /// Appends the payloads of the fields `number` in all payloads.
-pub fn each_of_all<'a>(
+pub(crate) fn each_of_all<'a>(
     payloads: &[&'a [u8]],
     number: u32,
     out: &mut Vec<&'a [u8]>,
@@ -82,7 +86,7 @@ pub fn each_of_all<'a>(
 }
 
 /// Keeps the low 32 bits of each number.
-pub fn low_32(numbers: &mut [u64])
+pub(crate) fn low_32(numbers: &mut [u64])
     ensures { numbers.new ≡ map (λ n. n % 2 ^ 32) numbers.old }
 {
     for number in numbers.iter_mut() {
@@ -91,7 +95,7 @@ pub fn low_32(numbers: &mut [u64])
 }
 
 /// Reads the payloads of the fields `number`.
-pub fn read_payloads<'a>(
+pub(crate) fn read_payloads<'a>(
     payload: &'a [u8],
     number: u32,
     out: &mut Vec<&'a [u8]>,

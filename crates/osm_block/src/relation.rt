@@ -39,7 +39,7 @@ pub struct RelationFields {
 }
 
 impl RelationFields {
-    pub fn new(alloc: Global) -> RelationFields {
+    pub(crate) fn new(alloc: Global) -> RelationFields {
         RelationFields {
             id: None,
             keys: Column::new(alloc),
@@ -76,7 +76,7 @@ impl RelationFields {
 
 /// Reads the fields of the message; the faults of its payloads are kept for later.
 fn read_fields(payload: &[u8], relation: &mut RelationFields) -> Result<(), BlockError>
-    ensures phase { Gives (λ _. ⊤) (option_map faults.Wire (wire payload.now)) result }
+    ensures phase { Gives (λ _. ⊤) (option_map faults.BlockWire (wire payload.now)) result }
     ensures read { OnOk result (RelationLeft relation.new [] (fields payload.now)) }
 {
     relation.clear();
@@ -225,7 +225,7 @@ fn relation_of<'a>(
 }
 
 /// The relation that a payload stands to.
-pub fn read_relation<'a>(
+pub(crate) fn read_relation<'a>(
     alloc: Global,
     scale: &Scale<'a>,
     payload: &'a [u8],

@@ -7,7 +7,7 @@ ghost use Rattle.osm_block.specs.Block.{TagsAt};
 use std::alloc::{AllocError, Global};
 
 /// The texts at the indexes of keys and values, which are numbers of 32 bits.
-pub fn tags_of<'a>(
+pub(crate) fn tags_of<'a>(
     alloc: Global,
     table: &[&'a str],
     keys: &[u64],

@@ -6,7 +6,7 @@ ghost use Rattle.osm_block.specs.Phases.{Answers, first, tags_phases, is_index};
 use crate::fault::BlockFault;
 
 /// Whether a text of a table of that many texts has the index.
-pub fn is_index(index: i32, texts: usize) -> bool
+pub(crate) fn is_index(index: i32, texts: usize) -> bool
     ensures { result ≡ is_index texts index }
 {
     index >= 0 && (index as usize) < texts
@@ -20,7 +20,7 @@ fn are_indexes(before: bool, key: i32, value: i32, texts: usize) -> bool
 }
 
 /// Tests the array of tags for that many nodes and texts.
-pub fn check_tags(keys_vals: &[i32], nodes: usize, texts: usize) -> Result<(), BlockFault>
+pub(crate) fn check_tags(keys_vals: &[i32], nodes: usize, texts: usize) -> Result<(), BlockFault>
     ensures { Answers (first (tags_phases nodes texts keys_vals.now)) result }
 {
     if keys_vals.is_empty() {

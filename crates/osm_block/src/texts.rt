@@ -27,7 +27,10 @@ fn read_text(bytes: &[u8]) -> Result<&str, BlockFault>
 }
 
 /// The texts that the payloads are, one for each.
-pub fn read_texts<'a>(alloc: Global, payloads: &[&'a [u8]]) -> Result<Vec<&'a str>, BlockError>
+pub(crate) fn read_texts<'a>(
+    alloc: Global,
+    payloads: &[&'a [u8]],
+) -> Result<Vec<&'a str>, BlockError>
     ensures phase { Gives (λ _. ⊤) (first (flat_map text_phases (map (λ p. p.now) payloads.now))) result }
     ensures same { IfOk result (λ t. map (λ x. x.now) t.items ≡ map (λ p. p.now) payloads.now) }
     ensures text { IfOk result (λ t. AllByRecursion IsText (map (λ p. p.now) payloads.now)) }

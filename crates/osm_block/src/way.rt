@@ -35,7 +35,7 @@ pub struct WayFields {
 }
 
 impl WayFields {
-    pub fn new(alloc: Global) -> WayFields {
+    pub(crate) fn new(alloc: Global) -> WayFields {
         WayFields {
             id: None,
             keys: Column::new(alloc),
@@ -67,7 +67,7 @@ impl WayFields {
 
 /// Reads the fields of the message; the faults of its payloads are kept for later.
 fn read_fields(payload: &[u8], way: &mut WayFields) -> Result<(), BlockError>
-    ensures phase { Gives (λ _. ⊤) (option_map faults.Wire (wire payload.now)) result }
+    ensures phase { Gives (λ _. ⊤) (option_map faults.BlockWire (wire payload.now)) result }
     ensures read { OnOk result (WayLeft way.new [] (fields payload.now)) }
 {
     way.clear();
@@ -142,7 +142,7 @@ fn way_of<'a>(
 }
 
 /// The way that a payload stands to.
-pub fn read_way<'a>(
+pub(crate) fn read_way<'a>(
     alloc: Global,
     scale: &Scale<'a>,
     payload: &'a [u8],

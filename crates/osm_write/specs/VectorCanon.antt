@@ -1,50 +1,50 @@
 -- The canonical blocks of the vectors' elements, computed.
 use Rattle.std.specs.Prelude.{◌≡◌, [], ◌∷◌, refl}
 use Rattle.pbf_wire.specs.Write.{shortest_within, shortest}
-use Rattle.osm_block.specs.Vectors.{v1, v2, v3_canon, v5, v7, v8, v10, p2_canon, p4}
-use Rattle.osm_block.specs.VectorElements.{v1_elements, v2_elements, v3_elements, v5_elements, v6_elements, v7_elements, v8_elements, v10_elements, p2_elements, p4_elements}
+use Rattle.osm_block.specs.Vectors.{two_nodes, tagged_nodes, way, widest_ids, version_in_its_group, relation, way_with_info, one_group, nodes_with_info}
+use Rattle.osm_block.specs.VectorElements.{two_nodes_elements, tagged_nodes_elements, way_in_pieces_elements, widest_ids_elements, absent_version_elements, version_in_its_group_elements, relation_elements, way_with_info_elements, two_groups_elements, nodes_with_info_elements}
 use Rattle.osm_write.specs.Canon.{scale_of, canon}
 
 no_elements : canon [] ≡ 0x0A ∷ 0x02 ∷ 0x0A ∷ 0x00 ∷ []
 unfolding shortest_within shortest scale_of canon
 no_elements = refl
 
-v1_canon_is : canon v1_elements ≡ v1
+two_nodes_canon_is : canon two_nodes_elements ≡ two_nodes
 unfolding shortest_within shortest scale_of canon
-v1_canon_is = refl
+two_nodes_canon_is = refl
 
-v2_canon_is : canon v2_elements ≡ v2
+tagged_nodes_canon_is : canon tagged_nodes_elements ≡ tagged_nodes
 unfolding shortest_within shortest scale_of canon
-v2_canon_is = refl
+tagged_nodes_canon_is = refl
 
-v3_canon_is : canon v3_elements ≡ v3_canon
+way_in_pieces_canon_is : canon way_in_pieces_elements ≡ way
 unfolding shortest_within shortest scale_of canon
-v3_canon_is = refl
+way_in_pieces_canon_is = refl
 
-v5_canon_is : canon v5_elements ≡ v5
+widest_ids_canon_is : canon widest_ids_elements ≡ widest_ids
 unfolding shortest_within shortest scale_of canon
-v5_canon_is = refl
+widest_ids_canon_is = refl
 
-v6_canon_is : canon v6_elements ≡ v7
+absent_version_canon_is : canon absent_version_elements ≡ version_in_its_group
 unfolding shortest_within shortest scale_of canon
-v6_canon_is = refl
+absent_version_canon_is = refl
 
-v7_canon_is : canon v7_elements ≡ v7
+version_in_its_group_canon_is : canon version_in_its_group_elements ≡ version_in_its_group
 unfolding shortest_within shortest scale_of canon
-v7_canon_is = refl
+version_in_its_group_canon_is = refl
 
-v8_canon_is : canon v8_elements ≡ v8
+relation_canon_is : canon relation_elements ≡ relation
 unfolding shortest_within shortest scale_of canon
-v8_canon_is = refl
+relation_canon_is = refl
 
-v10_canon_is : canon v10_elements ≡ v10
+way_with_info_canon_is : canon way_with_info_elements ≡ way_with_info
 unfolding shortest_within shortest scale_of canon
-v10_canon_is = refl
+way_with_info_canon_is = refl
 
-p2_canon_is : canon p2_elements ≡ p2_canon
+two_groups_canon_is : canon two_groups_elements ≡ one_group
 unfolding shortest_within shortest scale_of canon
-p2_canon_is = refl
+two_groups_canon_is = refl
 
-p4_canon_is : canon p4_elements ≡ p4
+nodes_with_info_canon_is : canon nodes_with_info_elements ≡ nodes_with_info
 unfolding shortest_within shortest scale_of canon
-p4_canon_is = refl
+nodes_with_info_canon_is = refl

@@ -51,7 +51,7 @@ fn fits_count(column: &Column, count: usize) -> bool
 }
 
 /// Whether the arrays are as long as that of the ids, those of DenseInfo perhaps empty.
-pub fn lengths_fit(dense: &DenseFields) -> bool
+pub(crate) fn lengths_fit(dense: &DenseFields) -> bool
     ensures { result ≡ (same_length (dense_message_of dense.now).lat (dense_message_of dense.now).id && same_length (dense_message_of dense.now).lon (dense_message_of dense.now).id && dense_info_fits (dense_message_of dense.now).id (dense_message_of dense.now).info) }
 {
     let count = dense.ids.numbers.len();
@@ -73,7 +73,7 @@ fn to_i32s(alloc: Global, numbers: &[u64]) -> Result<Vec<i32>, AllocError>
 }
 
 /// The absolute numbers of the arrays.
-pub fn columns_of(alloc: Global, dense: &DenseFields) -> Result<Columns, BlockError>
+pub(crate) fn columns_of(alloc: Global, dense: &DenseFields) -> Result<Columns, BlockError>
     ensures { Gives (λ c. AreColumns c (dense_message_of dense.now)) (when (not (list_all (λ ds. list_all fits_i64 (front_sums ds)) (deltas_of (dense_message_of dense.now)))) faults.SumTooLarge) result }
 {
     let ids = absolute(alloc, &dense.ids.numbers)?;
@@ -143,7 +143,7 @@ fn all_places(offset: i64, granularity: i32, units: &[i64]) -> bool
 }
 
 /// Whether the numbers of the columns are in their ranges.
-pub fn columns_in_range(scale: &Scale, columns: &Columns) -> bool
+pub(crate) fn columns_in_range(scale: &Scale, columns: &Columns) -> bool
     ensures { result ≡ columns_in_range (context_of scale.now) columns.now }
 {
     let lats = all_places(scale.lat_offset, scale.granularity, &columns.lats);
@@ -161,7 +161,7 @@ fn is_user(index: i64, texts: usize) -> bool
 }
 
 /// Whether a table of that many texts has all of the users.
-pub fn all_users(users: &[i64], texts: usize) -> bool
+pub(crate) fn all_users(users: &[i64], texts: usize) -> bool
     ensures { result ≡ list_all (is_index texts) users.now }
 {
     users.iter().all(|user| is_user(*user, texts))

@@ -61,7 +61,7 @@ impl DenseInfoFields {
 }
 
 impl DenseFields {
-    pub fn new(alloc: Global) -> DenseFields {
+    pub(crate) fn new(alloc: Global) -> DenseFields {
         DenseFields {
             ids: Column::new(alloc),
             lats: Column::new(alloc),
@@ -180,7 +180,7 @@ fn read_infos(payloads: &[&[u8]], info: &mut DenseInfoFields) -> Result<(), Allo
 }
 
 /// Reads the arrays of the message that the payloads are, or answers the first fault of its wire.
-pub fn read_fields<'a>(
+pub(crate) fn read_fields<'a>(
     alloc: Global,
     payloads: &[&'a [u8]],
     dense: &mut DenseFields,
@@ -197,7 +197,7 @@ pub fn read_fields<'a>(
     read_infos(&infos, &mut dense.info)?;
     let wires = first_wire(payloads).or(first_wire(&infos));
     match wires.or(dense.fault()).or(dense.info.fault()) {
-        Some(fault) => Err(BlockError::Fault(BlockFault::Wire(fault))),
+        Some(fault) => Err(BlockError::Fault(BlockFault::BlockWire(fault))),
         None => Ok(()),
     }
 }

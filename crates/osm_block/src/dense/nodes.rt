@@ -108,7 +108,7 @@ fn node_at<'a>(
 }
 
 /// Appends the nodes that the columns stand for.
-pub fn nodes_of<'a>(
+pub(crate) fn nodes_of<'a>(
     alloc: Global,
     scale: &Scale<'a>,
     columns: &Columns,

@@ -23,7 +23,7 @@ fn pair_count(keys_vals: &[i32], at: usize) -> usize
 }
 
 /// An index that the table has.
-pub fn index_of(index: i64, texts: usize) -> usize
+pub(crate) fn index_of(index: i64, texts: usize) -> usize
     requires { is_index texts index ≡ true }
     ensures within { result < texts }
     ensures same { pos result ≡ index }
@@ -32,7 +32,7 @@ pub fn index_of(index: i64, texts: usize) -> usize
 }
 
 /// The tags of the node whose pairs begin at the place, and the place behind its 0.
-pub fn node_tags<'a>(
+pub(crate) fn node_tags<'a>(
     alloc: Global,
     table: &[&'a str],
     keys_vals: &[i32],

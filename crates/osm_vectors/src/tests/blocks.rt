@@ -44,7 +44,7 @@ fn faults_of_blocks(rt: HostRuntime) {
         kind: WireFaultKind::FieldCut,
         at: 0,
     };
-    let cut = Some(BlockFault::Wire(cut));
+    let cut = Some(BlockFault::BlockWire(cut));
     assert!(rt; fault_of(&rt, &TEXT_TABLE_IN_PIECES_BLOCK) == cut);
     assert!(rt; fault_of(&rt, &[]) == Some(BlockFault::NoStringTable));
     let missing = Some(BlockFault::Missing);

@@ -13,7 +13,7 @@ fn answer_to_front(rt: &HostRuntime, len: usize) -> Result<usize, BlockError> {
 #[test]
 fn cut_blocks(rt: HostRuntime) {
     let wire = |kind, at| {
-        let fault = BlockFault::Wire(WireFault { kind, at });
+        let fault = BlockFault::BlockWire(WireFault { kind, at });
         Err(BlockError::Fault(fault))
     };
     for len in 0..=TWO_NODES_BLOCK.len() {

@@ -24,7 +24,7 @@ fn count_of(rt: &HostRuntime, block: &[u8]) -> Option<usize> {
 }
 
 fn wire(kind: WireFaultKind, at: usize) -> Option<BlockError> {
-    Some(BlockError::Fault(BlockFault::Wire(WireFault { kind, at })))
+    Some(BlockError::Fault(BlockFault::BlockWire(WireFault { kind, at })))
 }
 
 /// A table of "", "a" and "b" behind a group of one way: 7, key 1 and value 2, the references 5, 1, 1 and -1 in three pieces.

@@ -18,14 +18,14 @@ loop-delta-preserved c =
     let fits_delta : FitsSigned w64 c.unzigzag.result = search rules in
     let value_is : to_z w64 (of_z w64 c.in-Some.value) ≡ c.in-Some.value = to_z-of_z w64 _ fits in
     record {
-      sums = step _ _ _ _ _ _ _ _ c.loop-delta-test.true c.loop-delta.invariant.sums c.in_ok-push.ensures.items (to_z-of_z w64 _ fits_delta ∙ c.unzigzag.ensures) (value_is ∙ c.in-Some.ensures.1);
+      sums = step _ _ _ _ _ _ _ _ c.loop-delta-test.true c.loop-delta.invariant.sums c.in_ok-push.ensures.items (to_z-of_z w64 _ fits_delta ∙ c.unzigzag.ensures.exact) (value_is ∙ c.in-Some.ensures.1);
       fit = rw c.in_ok-push.ensures.items (AllByRecursion-push (FitsSigned w64) _ _ c.loop-delta.invariant.fit (rw value_is fits));
     }
 
 pub returns-in-None : goal.returns-in-None
 returns-in-None c =
     let fits_delta : FitsSigned w64 c.unzigzag.result = search rules in
-    stops _ (stop _ _ _ _ _ _ c.loop-delta-test.true c.loop-delta.invariant.sums (to_z-of_z w64 _ fits_delta ∙ c.unzigzag.ensures) c.in-None.ensures)
+    stops _ (stop _ _ _ _ _ _ c.loop-delta-test.true c.loop-delta.invariant.sums (to_z-of_z w64 _ fits_delta ∙ c.unzigzag.ensures.exact) c.in-None.ensures)
 
 pub returns : goal.returns
 returns c = gives _ _ (finish _ _ _ _ _ c.loop-delta-test.false c.loop-delta.invariant.sums) c.loop-delta.invariant.fit

@@ -29,7 +29,7 @@ const CUT: [u8; 37] = [
 /// The two frames of the file and one behind it; the data frame with another node; a frame that meets the second and
 /// the third; and the data frame that is bad.
 fn choices<'a>() -> [Choice<'a>; 6] {
-    let cut = BlockFault::Wire(WireFault {
+    let cut = BlockFault::BlockWire(WireFault {
         kind: WireFaultKind::NumberCut,
         at: 1,
     });

@@ -26,7 +26,7 @@ returns-in-Some-clause-phase c =
     let all = faults_are d ps (map (λ p. p.now) c.deref-2.result.now) _ _ _ _ r (ap (map (λ p. p.now)) c.deref-2.ensures.value ∙ infos) c.first_wire.ensures c.first_wire-2.ensures c.fault.ensures c.fault-2.ensures in
     let found : option_or (option_or (option_or c.first_wire.result c.first_wire-2.result) c.fault.result) c.fault-2.result ≡ c.or-2.result =
     sym (c.or-2.ensures ∙ ap (λ x. option_or x c.fault-2.result) (c.or.ensures ∙ ap (λ x. option_or x c.fault.result) c.or-wires.ensures)) in
-    all ∙ ap (option_map faults.Wire) (found ∙ c.in-Some.is)
+    all ∙ ap (option_map faults.BlockWire) (found ∙ c.in-Some.is)
 
 pub returns-clause-phase : goal.returns-clause-phase
 returns-clause-phase c =
@@ -46,7 +46,7 @@ returns-clause-phase c =
     let all = faults_are d ps (map (λ p. p.now) c.deref-2.result.now) _ _ _ _ r (ap (map (λ p. p.now)) c.deref-2.ensures.value ∙ infos) c.first_wire.ensures c.first_wire-2.ensures c.fault.ensures c.fault-2.ensures in
     let found : option_or (option_or (option_or c.first_wire.result c.first_wire-2.result) c.fault.result) c.fault-2.result ≡ c.or-2.result =
     sym (c.or-2.ensures ∙ ap (λ x. option_or x c.fault-2.result) (c.or.ensures ∙ ap (λ x. option_or x c.fault.result) c.or-wires.ensures)) in
-    (all ∙ ap (option_map faults.Wire) (found ∙ c.in-None.is), tt)
+    (all ∙ ap (option_map faults.BlockWire) (found ∙ c.in-None.is), tt)
 
 pub returns-clause-read : goal.returns-clause-read
 returns-clause-read c =
