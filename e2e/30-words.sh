@@ -16,3 +16,16 @@ expect "an element that can't be read" 2 "" find words.db x2
 expect "a form that isn't there" 2 "" export words.db --form xml
 expect "words of two commands" 2 "" status words.db --partial
 [ -e words.db ] && fail "words that can't be read touch no file" || pass "words that can't be read touch no file"
+expect "a word that isn't UTF-8" 2 "" list "$(printf 'x\xff')"
+lines "pbfrow: a word of the command isn't UTF-8" > want.txt
+same "standard error says that a word isn't UTF-8" stderr.txt want.txt
+
+# words that can't be read end with 2 also where nobody can be told why
+"$pbfrow" list --no-such-word > heard.txt 2>&-
+[ $? = 2 ] && [ ! -s heard.txt ] && pass "unknown words, and standard error closed" || fail "unknown words, and standard error closed"
+"$pbfrow" list "$(printf 'x\xff')" > heard.txt 2>&-
+[ $? = 2 ] && [ ! -s heard.txt ] && pass "a word that isn't UTF-8, and standard error closed" || fail "a word that isn't UTF-8, and standard error closed"
+"$pbfrow" list --no-such-word 2> /dev/full
+[ $? = 2 ] && pass "unknown words, and standard error full" || fail "unknown words, and standard error full"
+"$pbfrow" --help > /dev/full
+[ $? = 1 ] && pass "help to a full disk" || fail "help to a full disk"

@@ -2,6 +2,7 @@
 
 ghost use Rattle.std.specs.Prelude.{◌≤◌};
 
+use crate::FAULTY;
 use crate::export::export;
 use crate::find::find;
 use crate::import::import;
@@ -16,9 +17,6 @@ use osm_value::{MemberKind, Outlet};
 use sqlite::{Connection, Error, ErrorCode, File, FileStore};
 use std::io;
 use std::io::{BufWriter, ErrorKind, LineWriter, Write};
-
-/// The exit status where a fault was printed, or the output couldn't be written.
-const FAULTY: u8 = 1;
 
 /// What is asked of a database.
 #[derive(Clone, Copy, Debug, PartialEq, Eq)]

@@ -3,6 +3,7 @@
 ghost use Rattle.std.specs.Prelude.{◌≡◌, Err, Result};
 ghost use Rattle.osm_store.specs.Held.{HeldMap};
 ghost use Rattle.osm_store.specs.Keeping.{extents_of};
+ghost use Rattle.osm_import.specs.ExportCauses.{ExportHasCause, ExportIsOwn};
 ghost use Rattle.osm_import.specs.Exports.{IsExport, Known, size_of};
 ghost use Rattle.osm_import.specs.Pbf.{IsPbfExport};
 ghost use Rattle.osm_import.specs.declared.export.fault.ExportFault.{ExportFault as ExportFaultValue};
@@ -18,7 +19,8 @@ use std::alloc::Global;
 
 /// Writes the line of the fault at which an export stopped. Where the output has failed nothing is written.
 fn put_export_fault<S: Sink>(out: &mut S, fault: ExportFault)
-    ensures { EndsExport (S.written out.old) (S.written out.new) (S.has_failed out.new) 1 (Err fault) }
+    ensures ends { EndsExport (S.written out.old) (S.written out.new) (S.has_failed out.new) 1 (Err fault) }
+    ensures kept { fault ≡ ExportFault.WriteFailed → S.has_failed out.new ≡ S.has_failed out.old }
 {
     match fault {
         ExportFault::WriteFailed => {}
@@ -28,7 +30,8 @@ fn put_export_fault<S: Sink>(out: &mut S, fault: ExportFault)
 
 /// Writes what follows the exported text, and answers the exit status.
 fn finish<S: Sink>(out: &mut S, answer: Result<(), ExportFault>) -> u8
-    ensures { EndsExport (S.written out.old) (S.written out.new) (S.has_failed out.new) result answer }
+    ensures ends { EndsExport (S.written out.old) (S.written out.new) (S.has_failed out.new) result answer }
+    ensures kept { answer ≡ Err ExportFault.WriteFailed → S.has_failed out.new ≡ S.has_failed out.old }
 {
     match answer {
         Ok(()) => 0,
@@ -51,9 +54,11 @@ pub fn export<K: Keeper, S: Sink>(
 ) -> u8
     ensures lines { (held : HeldMap) → K.holds store.old held → K.is_honest store.new → form ≡ Form.Lines
         → (answer : Result (Unit {0}) ExportFaultValue) × (text : Known) × IsExport held (size_of size (extents_of held)) partial (S.written out.old) text answer
+        × ExportHasCause (K.failures store.old) (K.failures store.new) (S.has_failed out.new) answer × ExportIsOwn answer
         × EndsExport text (S.written out.new) (S.has_failed out.new) result answer }
     ensures pbf { (held : HeldMap) → K.holds store.old held → K.is_honest store.new → form ≡ Form.Pbf
         → (answer : Result (Unit {0}) ExportFaultValue) × (text : Known) × IsPbfExport held (size_of size (extents_of held)) partial (S.written out.old) text answer
+        × ExportHasCause (K.failures store.old) (K.failures store.new) (S.has_failed out.new) answer × ExportIsOwn answer
         × EndsExport text (S.written out.new) (S.has_failed out.new) result answer }
     ensures stays { Stays K.holds K.leaves K.leaves_a_map K.is_honest K.is_open store.old store.new }
 {

@@ -1,4 +1,5 @@
-//! The program pbfrow: reads and checks OpenStreetMap PBF files.
+//! The program pbfrow: lists, checks and shows OpenStreetMap PBF files, imports them into a database, and exports and
+//! finds what that holds.
 #![tactic(auto)]
 
 ghost use Rattle.std.specs.Prelude.{◌≤◌};
@@ -33,13 +34,16 @@ use metered::{MeteredOutput, MeteredReader};
 use show::show;
 use std::alloc::Global;
 use std::fs::File;
-use std::io::{BufWriter, Read, Write};
+use std::io::{BufWriter, ErrorKind, Read, Write};
 use std::process::ExitCode;
 use std::{env, io};
 use words::{Words, read_words};
 
 /// The exit status where a fault was printed, or the output couldn't be written.
 const FAULTY: u8 = 1;
+
+/// The exit status where the words can't be read.
+const UNREADABLE: u8 = 2;
 
 fn main(rt: HostRuntime) -> ExitCode {
     let status = match entered(rt) {
@@ -52,12 +56,25 @@ fn main(rt: HostRuntime) -> ExitCode {
 /// Runs the program with the words that it was started with, and answers the exit status.
 fn entered(rt: HostRuntime) -> io::Result<u8> {
     let alloc = rt.alloc();
-    let words: Vec<String> = env::args(&rt)?.collect(alloc)?;
+    let words: Vec<String> = match env::args(&rt) {
+        Ok(words) => words.collect(alloc)?,
+        Err(error) => return refuse_bytes(&rt, error),
+    };
     let mut texts: Vec<&str> = Vec::new(alloc);
     for word in words.iter() {
         texts.push(word.as_str())?;
     }
     answer(rt, texts.as_slice())
+}
+
+/// Tells that a word isn't UTF-8, and answers the exit status. Any other error is answered as it is.
+fn refuse_bytes(rt: &HostRuntime, error: io::Error) -> io::Result<u8> {
+    if error.kind() != ErrorKind::InvalidData {
+        return Err(error);
+    }
+    // the words can't be read, whether or not anyone is told
+    let _told = eprintln!(rt; "pbfrow: a word of the command isn't UTF-8");
+    Ok(UNREADABLE)
 }
 
 fn answer<'a>(rt: HostRuntime, words: &'a [&'a str]) -> io::Result<u8> {
@@ -67,9 +84,13 @@ fn answer<'a>(rt: HostRuntime, words: &'a [&'a str]) -> io::Result<u8> {
     }
 }
 
-/// Prints the help that was asked for, or why the words can't be read.
+/// Prints the help that was asked for, or why the words can't be read, and answers the exit status. Where the help can't
+/// be written that is an error; words that can't be read have their status also where nobody can be told.
 fn refuse(rt: HostRuntime, error: Error) -> io::Result<u8> {
-    error.print(&rt)?;
+    let printed = error.print(&rt);
+    if !error.use_stderr() {
+        printed?;
+    }
     Ok(error.exit_code() as u8)
 }
 

@@ -18,7 +18,7 @@ pub struct Progress {
     pub size: Option<u64>,
 }
 
-/// How many bytes a second there were, at most 2^64 - 1.
+/// How many bytes a second there were, rounded down.
 fn rate_of(bytes: u64, milliseconds: u64) -> u128
     requires { 0 < milliseconds }
     ensures { result ≡ rate_of bytes milliseconds }

@@ -3,7 +3,7 @@
 use super::stores::{
     Blocks, Columns, NewStore, expect_import, import_four_blobs, import_two_nodes,
 };
-use super::support::{Closed, TWO_NODES};
+use super::support::{Closed, TWO_NODES, WRITTEN_HEADER};
 use crate::export::export;
 use crate::find::find;
 use crate::status::status;
@@ -42,6 +42,20 @@ fn expect_lines<K: Keeper>(
         ended
     );
     assert!(rt; out.into_inner().as_slice() == text);
+}
+
+fn expect_pbf<K: Keeper>(
+    rt: &(impl Abort + Alloc<A = Global>),
+    store: &mut K,
+    partial: bool,
+    bytes: &[u8],
+) {
+    let mut out = Outlet::new(Vec::new(rt.alloc()));
+    assert_eq!(rt;
+        export(rt.alloc(), store, None, partial, Form::Pbf, &mut out),
+        0
+    );
+    assert!(rt; out.into_inner().as_slice() == bytes);
 }
 
 fn expect_found<K: Keeper>(
@@ -150,6 +164,23 @@ fn exports_of_a_new_store_of<K: NewStore, R: Abort + Alloc<A = Global>>(
 fn exports_of_a_new_store(rt: HostRuntime) -> Result<(), Fail> {
     exports_of_a_new_store_of::<Blocks, _>(&rt)?;
     exports_of_a_new_store_of::<Columns, _>(&rt)
+}
+
+fn exports_a_pbf_file_of<K: NewStore, R: Abort + Alloc<A = Global>>(rt: &R) -> Result<(), Fail> {
+    let mut store = K::new_store(rt.alloc()).ok_or("a store")?;
+    expect_pbf(rt, &mut store, true, &WRITTEN_HEADER[..]);
+    import_two_nodes(rt, &mut store);
+    let mut bytes = Vec::new(rt.alloc());
+    bytes.extend_from_slice(&WRITTEN_HEADER[..])?;
+    bytes.extend_from_slice(&TWO_NODES[47..])?;
+    expect_pbf(rt, &mut store, false, &bytes);
+    Ok(())
+}
+
+#[test]
+fn exports_a_pbf_file(rt: HostRuntime) -> Result<(), Fail> {
+    exports_a_pbf_file_of::<Blocks, _>(&rt)?;
+    exports_a_pbf_file_of::<Columns, _>(&rt)
 }
 
 fn finds_elements_of<K: NewStore, R: Abort + Alloc<A = Global>>(rt: &R) -> Result<(), Fail> {

@@ -1,4 +1,4 @@
-use super::support::{Breaking, Closed, Dripping, EXTRA, TWO_NODES, file_of};
+use super::support::{Breaking, Closed, Dripping, EXTRA, PLAIN_NODE, TWO_NODES, file_of};
 use crate::check::check;
 use crate::meter::Watcher;
 use std::alloc::{AllocError, Global};
@@ -28,6 +28,16 @@ fn counts_a_header(rt: HostRuntime) {
         &TWO_NODES[..47],
         0,
         b"blobs 1 nodes 0 ways 0 relations 0 faults 0\n",
+    );
+}
+
+#[test]
+fn counts_a_plain_node(rt: HostRuntime) {
+    expect_check(
+        &rt,
+        &PLAIN_NODE[..],
+        0,
+        b"blobs 2 nodes 1 ways 0 relations 0 faults 0\n",
     );
 }
 

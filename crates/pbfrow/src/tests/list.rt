@@ -1,4 +1,4 @@
-use super::support::{Breaking, Closed, Dripping, TWO_NODES};
+use super::support::{Breaking, Closed, Dripping, PLAIN_NODE, TWO_NODES};
 use crate::list::list;
 use std::alloc::Global;
 use std::io::{Cursor, Read};
@@ -25,6 +25,16 @@ fn lists_two_frames(rt: HostRuntime) {
         b"0 OSMHeader 30\n47 OSMData 22\n",
     );
     expect_list(&rt, &mut Cursor::new(&TWO_NODES[..0]), 0, b"");
+}
+
+#[test]
+fn lists_a_frame_with_a_plain_node(rt: HostRuntime) {
+    expect_list(
+        &rt,
+        &mut Cursor::new(&PLAIN_NODE[..]),
+        0,
+        b"0 OSMHeader 30\n47 OSMData 16\n",
+    );
 }
 
 #[test]

@@ -1,9 +1,24 @@
+use Rattle.pbfrow.proofs.ExportLemmas.{cause-kept}
 use Rattle.pbfrow.proofs.export.export.Goals as goal
 
 pub returns-in-Lines-clause-lines : goal.returns-in-Lines-clause-lines
 returns-in-Lines-clause-lines g c = λ held holds honest is.
-    (c.export_lines-answer.result, g.S.Sink.written c.export_lines-answer.new.out, c.export_lines-answer.ensures.export held holds honest, c.finish.ensures)
+    let exported = c.export_lines-answer in (
+      exported.result,
+      g.S.Sink.written exported.new.out,
+      exported.ensures.export held holds honest,
+      cause-kept _ _ _ _ exported.result c.finish.ensures.kept exported.ensures.cause,
+      exported.ensures.own held holds honest,
+      c.finish.ensures.ends,
+    )
 
 pub returns-in-Pbf-clause-pbf : goal.returns-in-Pbf-clause-pbf
 returns-in-Pbf-clause-pbf g c = λ held holds honest is.
-    (c.export_pbf-answer.result, g.S.Sink.written c.export_pbf-answer.new.out, c.export_pbf-answer.ensures.export held holds honest, c.finish-in-Pbf.ensures)
+    let exported = c.export_pbf-answer in (
+      exported.result,
+      g.S.Sink.written exported.new.out,
+      exported.ensures.export held holds honest,
+      cause-kept _ _ _ _ exported.result c.finish-in-Pbf.ensures.kept exported.ensures.cause,
+      exported.ensures.own held holds honest,
+      c.finish-in-Pbf.ensures.ends,
+    )

@@ -8,13 +8,13 @@ use Rattle.pbfrow.specs.Exporting.{EndsExport}
 use Rattle.pbfrow.proofs.ExportLemmas.{ends-export}
 use Rattle.pbfrow.proofs.export.put_export_fault.Goals as goal
 
-pub returns-in-WriteFailed : goal.returns-in-WriteFailed
-returns-in-WriteFailed g c =
+pub returns-in-WriteFailed-clause-ends : goal.returns-in-WriteFailed-clause-ends
+returns-in-WriteFailed-clause-ends g c =
     let written = g.S.Sink.written c.args.out.now in
     subst (λ (fault : ExportFault). EndsExport written written (g.S.Sink.has_failed c.args.out.now) 1 (Err fault)) (sym c.in-WriteFailed.is) (refl, refl)
 
-pub returns-in_default : goal.returns-in_default
-returns-in_default g c =
+pub returns-in_default-clause-ends : goal.returns-in_default-clause-ends
+returns-in_default-clause-ends g c =
     let start = g.S.Sink.written c.args.out.now in
     let written = g.S.Sink.written c.put_plain_fault.new.out in
     let failed = g.S.Sink.has_failed c.put_plain_fault.new.out in
