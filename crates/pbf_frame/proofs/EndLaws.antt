@@ -1,5 +1,5 @@
 -- When a framer takes nothing, and when its input may end.
-use Rattle.std.proofs.Common.{◌≡◌, ◌⊎◌, ℕ, ◌+◌, ◌-◌, ◌<◌, ◌≤◌, Bool, true, false, cond, eqb, List, [], ◌++◌, length, take, Option, Some, None, Result, Ok, Err, refl, sym, ap, subst, inl, inr, ◌∙◌, arith, append-nil}
+use Rattle.std.proofs.Common.{◌≡◌, ◌⊎◌, ℕ, ◌+◌, ◌-◌, ◌<◌, ◌≤◌, Bool, true, false, cond, eqb, List, [], ◌++◌, length, take, Option, Some, None, Result, Ok, Err, refl, sym, ap, subst, inl, inr, ◌∙◌, arith, append-nil, zero, suc}
 use Rattle.std.specs.Prelude.{IfOk, IfErr, ◌↔◌}
 use Rattle.std.proofs.lemmas.Bool.{cases_lt, eqb-true, eqb-false, eq-eqb}
 use Rattle.std.proofs.lemmas.List.{length-take, nil_from_length}
@@ -103,6 +103,10 @@ late_is_cut BlobCut w first late = refl
 late_is_cut Trailing w first late = absurd first.0
 late_is_cut OffsetTooLarge w first late = absurd first.0
 
+some_byte : (n : ℕ) → (n ≡ 0 → ⊥) → 0 < n
+some_byte zero none = absurd (none refl)
+some_byte (suc n) none = omega arith
+
 pub end_faults : (f : Framing) (fault : FrameFault) → ended f ≡ Err fault → FaultStands fault f ⊎ IsUnfinished fault f
 end_faults f fault e =
     elim (then_err (part_end f.offset f.rest) (λ end. end_or_frame f.rest) fault e) [
@@ -112,7 +116,8 @@ end_faults f fault e =
         | inr p ↦
             let first : FirstFault fault f.rest = frame_faults f.rest fault (outcome_err (frame_at f.rest) fault p.1) in
             let late : is_early fault ≡ true → ⊥ = λ early. not_both a.0 fault (sym a.1 ∙ early_fault f.offset f.rest fault first early) in
-            inr (late_is_cut fault f.rest first late, first)
+            let held : length f.rest ≡ 0 → ⊥ = eqb-false (length f.rest) 0 p.0 in
+            inr (late_is_cut fault f.rest first late, first, some_byte (length f.rest) held)
       ]
     ]
 
