@@ -16,6 +16,7 @@ pub mod AnswerLines
 pub mod FrameLemmas
 pub mod Moves
 pub mod Filling
+pub mod EndOfInput
 pub mod Begun
 pub mod NextFrame
 pub mod StreamLists

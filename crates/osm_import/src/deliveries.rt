@@ -14,6 +14,7 @@ use std::marker::Model;
 /// Bytes that are delivered as the blob at an offset.
 #[derive(Debug, Drop)]
 pub struct Delivery<'a> {
+    /// The offset in its file, in bytes.
     pub off: u64,
     pub bytes: &'a [u8],
 }

@@ -1,8 +1,10 @@
 //! What the definitions imply: theorems, with no code.
 
-ghost use Rattle.std.specs.Prelude.{◌≡◌, ◌⊎◌, ℕ, ◌+◌, ◌<◌, ◌≤◌, List, length};
+ghost use Rattle.std.specs.Prelude.{◌≡◌, ◌⊎◌, ℕ, ◌+◌, ◌<◌, ◌≤◌, List, [], Some, length};
 ghost use Rattle.osm_value.specs.declared.element.Element.{Element};
+ghost use Rattle.pbf_frame.specs.declared.fault.FrameFault.{FrameFault};
 ghost use Rattle.pbf_frame.specs.declared.kind.Kind.{Kind};
+ghost use Rattle.pbf_frame.specs.Framer.{Framing, FaultStands, IsUnfinished};
 ghost use Rattle.osm_store.specs.Held.{HeldMap};
 ghost use Rattle.osm_import.specs.Step.{IsStep};
 ghost use Rattle.osm_import.specs.Runs.{IsFault};
@@ -11,7 +13,10 @@ ghost use Rattle.osm_import.specs.Good.{IsGood};
 ghost use Rattle.osm_import.specs.Bad.{IsBad};
 ghost use Rattle.osm_import.specs.Files.{AreFrames, IsFrameAt};
 ghost use Rattle.osm_import.specs.declared.fault.Fault.{Fault};
+ghost use Rattle.osm_import.specs.FrameReads.{Reading, GivesFrame, Halts};
 ghost use Rattle.osm_import.specs.Histories.{HistoriesRestart};
+ghost use Rattle.osm_import.specs.declared.stream.fault.Stop.TheVariants.{Frame};
+ghost use Rattle.osm_import.specs.declared.stream.fault.StreamFault.{StreamFault};
 
 /// A delivery has a fault exactly where it isn't good for any kind and elements; it has one fault, or one kind and one
 /// list of elements.
@@ -37,6 +42,14 @@ pub fn frames_of_a_file_are_apart()
 /// A frame of a file is fixed by its offset.
 pub fn one_frame_at_an_offset()
     ensures { (frames : List (List ℕ)) → AreFrames frames → (off : ℕ) (frame other : List ℕ) → IsFrameAt frames off frame → IsFrameAt frames off other → frame ≡ other }
+{}
+
+/// A fault of a frame needs a byte to stand in. So where no byte is left a reader of frames gives no frame and answers no
+/// fault of one: it gives none, unless a read failed or memory was refused.
+pub fn end_of_an_input()
+    ensures fault { (fault : FrameFault) (f : Framing) → FaultStands fault f ⊎ IsUnfinished fault f → 0 < length f.rest }
+    ensures no_frame { (old new : Reading) (at : ℕ) (frame : List ℕ) → old.left ≡ Some [] → GivesFrame old new at frame → ⊥ }
+    ensures no_fault { (old new : Reading) (fault : FrameFault) (stop : StreamFault) → old.left ≡ Some [] → stop.fault ≡ Frame fault → Halts old new stop → ⊥ }
 {}
 
 /// Restart after a crash at any moment: after any history of deliveries of one file to a new store, of crashes and of

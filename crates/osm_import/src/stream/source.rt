@@ -57,14 +57,6 @@ impl<R: Read> Inlet<R> {
             has_failed: false,
         }
     }
-
-    /// The reader.
-    pub fn into_inner(self) -> R
-        ensures { result ≡ self.reader }
-    {
-        let Inlet { reader, .. } = self;
-        reader
-    }
 }
 
 impl<R: Read> Source for Inlet<R> {
