@@ -24,8 +24,8 @@ loop-delta-preserved c =
 
 pub returns-in-None : goal.returns-in-None
 returns-in-None c =
-    let fits_delta : FitsSigned w64 c.unzigzag.result = search rules in
-    stops _ (stop _ _ _ _ _ _ c.loop-delta-test.true c.loop-delta.invariant.sums (to_z-of_z w64 _ fits_delta ∙ c.unzigzag.ensures.exact) c.in-None.ensures)
+    let fits : FitsSigned w64 c.unzigzag.result = search rules in
+    stops _ (stop _ _ _ _ _ _ c.loop-delta-test.true c.loop-delta.invariant.sums (to_z-of_z w64 _ fits ∙ c.unzigzag.ensures.exact) c.in-None.ensures)
 
 pub returns : goal.returns
 returns c = gives _ _ (finish _ _ _ _ _ c.loop-delta-test.false c.loop-delta.invariant.sums) c.loop-delta.invariant.fit
