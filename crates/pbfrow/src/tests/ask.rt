@@ -172,7 +172,7 @@ fn exports_a_pbf_file_of<K: NewStore, R: Abort + Alloc<A = Global>>(rt: &R) -> R
     import_two_nodes(rt, &mut store);
     let mut bytes = Vec::new(rt.alloc());
     bytes.extend_from_slice(&WRITTEN_HEADER[..])?;
-    bytes.extend_from_slice(&TWO_NODES[47..])?;
+    bytes.extend_from_slice(TWO_NODES.split_at(47).1)?;
     expect_pbf(rt, &mut store, false, &bytes);
     Ok(())
 }
