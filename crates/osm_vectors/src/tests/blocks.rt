@@ -39,6 +39,21 @@ fn lines_of_nodes_and_relations(rt: HostRuntime) -> Result<(), Fail> {
 }
 
 #[test]
+fn lines_of_dense_nodes(rt: HostRuntime) -> Result<(), Fail> {
+    let lines = b"n 1 0 0 [] {a=b}\nn 2 0 0 [] {}\n".as_slice();
+    assert!(rt; lines_in(&rt, &TAGGED_NODES_BLOCK)?.as_slice() == lines);
+    let lines = b"n 1 0 0 [] {}\nn 2 0 0 [] {}\n".as_slice();
+    assert!(rt; lines_in(&rt, &UNTAGGED_NODES_BLOCK)?.as_slice() == lines);
+    assert!(rt; lines_in(&rt, &DELIMITERS_ALONE_BLOCK)?.as_slice() == lines);
+    let line = b"n 1 4611686018427387903 0 [] {}\n".as_slice();
+    assert!(rt; lines_in(&rt, &GREATEST_PLACE_BLOCK)?.as_slice() == line);
+    let lines = b"n 1 0 0 [v=3] {}\nn 2 0 0 [] {}\n".as_slice();
+    assert!(rt; lines_in(&rt, &ABSENT_VERSION_BLOCK)?.as_slice() == lines);
+    assert!(rt; lines_in(&rt, &VERSION_IN_ITS_GROUP_BLOCK)?.as_slice() == lines);
+    Ok(())
+}
+
+#[test]
 fn faults_of_blocks(rt: HostRuntime) {
     let cut = WireFault {
         kind: WireFaultKind::FieldCut,

@@ -1,8 +1,8 @@
 //! Dense nodes, and the first faults of what isn't.
 
+use crate::vectors::*;
 use osm_block::read_block;
 use osm_value::Element;
-use std::alloc::AllocError;
 use std::test::*;
 
 /// The number of the fault that the block is refused with.
@@ -16,11 +16,7 @@ fn fault_of(rt: &HostRuntime, block: &[u8]) -> Option<u8> {
 #[test]
 fn places(rt: HostRuntime) -> Result<(), Fail> {
     // Two nodes at 10 and 9, -1 and -1, in units of 100.
-    let block = [
-        0x0A, 0x02, 0x0A, 0x00, 0x12, 0x0E, 0x12, 0x0C, 0x0A, 0x02, 0x02, 0x02, 0x42, 0x02, 0x14,
-        0x01, 0x4A, 0x02, 0x01, 0x00,
-    ];
-    let elements = read_block(rt.alloc(), &block)?;
+    let elements = read_block(rt.alloc(), &TWO_NODES_BLOCK)?;
     assert!(rt; elements.len() == 2);
     let Element::Node(first) = &elements[0] else {
         return Err("another kind".into());
@@ -39,22 +35,9 @@ fn places(rt: HostRuntime) -> Result<(), Fail> {
     Ok(())
 }
 
-/// A table of "", "a" and "b", and two nodes at 0, 0 with these pairs of indexes.
-fn tagged(rt: &HostRuntime, keys_vals: &[u8]) -> Result<Vec<u8>, AllocError> {
-    let len = (keys_vals.len() % 8) as u8;
-    let mut block = [0x0A, 0x08, 0x0A, 0x00, 0x0A, 0x01, 0x61, 0x0A, 0x01, 0x62].to_vec(
-        rt.alloc(),
-    )?;
-    block.extend_from_slice(&[0x12, 16 + len, 0x12, 14 + len, 0x0A, 0x02, 0x02, 0x02])?;
-    block.extend_from_slice(&[0x42, 0x02, 0x00, 0x00, 0x4A, 0x02, 0x00, 0x00, 0x52, len])?;
-    block.extend_from_slice(keys_vals)?;
-    Ok(block)
-}
-
 #[test]
 fn tags(rt: HostRuntime) -> Result<(), Fail> {
-    let block = tagged(&rt, &[0x01, 0x02, 0x00, 0x00])?;
-    let elements = read_block(rt.alloc(), &block)?;
+    let elements = read_block(rt.alloc(), &TAGGED_NODES_BLOCK)?;
     assert!(rt; elements.len() == 2);
     let Element::Node(first) = &elements[0] else {
         return Err("another kind".into());
@@ -66,19 +49,7 @@ fn tags(rt: HostRuntime) -> Result<(), Fail> {
     assert!(rt; first.tags()[0].0 == "a");
     assert!(rt; first.tags()[0].1 == "b");
     assert!(rt; second.tags().is_empty());
-    let block = tagged(&rt, &[0x00, 0x00])?;
-    let elements = read_block(rt.alloc(), &block)?;
-    assert!(rt; elements.len() == 2);
-    let Element::Node(first) = &elements[0] else {
-        return Err("another kind".into());
-    };
-    let Element::Node(second) = &elements[1] else {
-        return Err("another kind".into());
-    };
-    assert!(rt; first.tags().is_empty());
-    assert!(rt; second.tags().is_empty());
-    let block = tagged(&rt, &[])?;
-    let elements = read_block(rt.alloc(), &block)?;
+    let elements = read_block(rt.alloc(), &DELIMITERS_ALONE_BLOCK)?;
     assert!(rt; elements.len() == 2);
     let Element::Node(first) = &elements[0] else {
         return Err("another kind".into());
@@ -89,18 +60,31 @@ fn tags(rt: HostRuntime) -> Result<(), Fail> {
     assert!(rt; first.tags().is_empty());
     assert!(rt; second.tags().is_empty());
     // No 0 behind the pair of the first node, and none for the second.
-    assert!(rt; fault_of(&rt, &tagged(&rt, &[0x01, 0x02])?) == Some(51));
-    assert!(rt; fault_of(&rt, &tagged(&rt, &[0x01, 0x02, 0x00])?) == Some(51));
+    assert!(rt; fault_of(&rt, &NO_DELIMITER_BLOCK) == Some(51));
+    assert!(rt; fault_of(&rt, &ONE_DELIMITER_BLOCK) == Some(51));
     // A key that the table hasn't.
-    assert!(rt; fault_of(&rt, &tagged(&rt, &[0x03, 0x02, 0x00, 0x00])?) == Some(48));
+    let mut past = TAGGED_NODES_BLOCK;
+    past[28] = 0x03;
+    assert!(rt; fault_of(&rt, &past) == Some(48));
     Ok(())
 }
 
 #[test]
 fn no_array_of_tags(rt: HostRuntime) -> Result<(), Fail> {
+    let elements = read_block(rt.alloc(), &UNTAGGED_NODES_BLOCK)?;
+    assert!(rt; elements.len() == 2);
+    let Element::Node(first) = &elements[0] else {
+        return Err("another kind".into());
+    };
+    let Element::Node(second) = &elements[1] else {
+        return Err("another kind".into());
+    };
+    assert!(rt; first.tags().is_empty());
+    assert!(rt; second.tags().is_empty());
+    // The same with an array of no pairs.
     let block = [
-        0x0A, 0x08, 0x0A, 0x00, 0x0A, 0x01, 0x61, 0x0A, 0x01, 0x62, 0x12, 0x0E, 0x12, 0x0C, 0x0A,
-        0x02, 0x02, 0x02, 0x42, 0x02, 0x00, 0x00, 0x4A, 0x02, 0x00, 0x00,
+        0x0A, 0x08, 0x0A, 0x00, 0x0A, 0x01, 0x61, 0x0A, 0x01, 0x62, 0x12, 0x10, 0x12, 0x0E, 0x0A,
+        0x02, 0x02, 0x02, 0x42, 0x02, 0x00, 0x00, 0x4A, 0x02, 0x00, 0x00, 0x52, 0x00,
     ];
     let elements = read_block(rt.alloc(), &block)?;
     assert!(rt; elements.len() == 2);
@@ -117,12 +101,7 @@ fn no_array_of_tags(rt: HostRuntime) -> Result<(), Fail> {
 
 #[test]
 fn least_and_greatest_id(rt: HostRuntime) -> Result<(), Fail> {
-    let block = [
-        0x0A, 0x02, 0x0A, 0x00, 0x12, 0x1F, 0x12, 0x1D, 0x0A, 0x13, 0xFE, 0xFF, 0xFF, 0xFF, 0xFF,
-        0xFF, 0xFF, 0xFF, 0x7F, 0xFB, 0xFF, 0xFF, 0xFF, 0xFF, 0xFF, 0xFF, 0xFF, 0xFF, 0x01, 0x42,
-        0x02, 0x00, 0x00, 0x4A, 0x02, 0x00, 0x00,
-    ];
-    let elements = read_block(rt.alloc(), &block)?;
+    let elements = read_block(rt.alloc(), &WIDEST_IDS_BLOCK)?;
     assert!(rt; elements.len() == 2);
     let Element::Node(first) = &elements[0] else {
         return Err("another kind".into());
@@ -140,15 +119,9 @@ fn least_and_greatest_id(rt: HostRuntime) -> Result<(), Fail> {
 #[test]
 fn ranges(rt: HostRuntime) -> Result<(), Fail> {
     // A node at 0 units of 1, where the offset of latitudes is 2^62.
-    let mut block = [
-        0x0A, 0x02, 0x0A, 0x00, 0x12, 0x0B, 0x12, 0x09, 0x0A, 0x01, 0x02, 0x42, 0x01, 0x00, 0x4A,
-        0x01, 0x00, 0x88, 0x01, 0x01, 0x98, 0x01, 0x80, 0x80, 0x80, 0x80, 0x80, 0x80, 0x80, 0x80,
-        0x40,
-    ];
-    assert!(rt; fault_of(&rt, &block) == Some(50));
+    assert!(rt; fault_of(&rt, &PLACE_OVER_RANGE_BLOCK) == Some(50));
     // One unit lower.
-    block[13] = 0x01;
-    let elements = read_block(rt.alloc(), &block)?;
+    let elements = read_block(rt.alloc(), &GREATEST_PLACE_BLOCK)?;
     assert!(rt; elements.len() == 1);
     let Element::Node(node) = &elements[0] else {
         return Err("another kind".into());
@@ -157,23 +130,13 @@ fn ranges(rt: HostRuntime) -> Result<(), Fail> {
     assert!(rt; node.lat() == 4611686018427387903);
     assert!(rt; node.lon() == 0);
     // The ids 2^63 - 1, then one more, then one less.
-    let sums = [
-        0x0A, 0x02, 0x0A, 0x00, 0x12, 0x1A, 0x12, 0x18, 0x0A, 0x0C, 0xFE, 0xFF, 0xFF, 0xFF, 0xFF,
-        0xFF, 0xFF, 0xFF, 0xFF, 0x01, 0x02, 0x01, 0x42, 0x03, 0x00, 0x00, 0x00, 0x4A, 0x03, 0x00,
-        0x00, 0x00,
-    ];
-    assert!(rt; fault_of(&rt, &sums) == Some(49));
+    assert!(rt; fault_of(&rt, &SUM_TOO_LARGE_BLOCK) == Some(49));
     Ok(())
 }
 
 #[test]
 fn infos(rt: HostRuntime) -> Result<(), Fail> {
-    let block = [
-        0x0A, 0x05, 0x0A, 0x00, 0x0A, 0x01, 0x75, 0x12, 0x24, 0x12, 0x22, 0x0A, 0x02, 0x02, 0x02,
-        0x2A, 0x14, 0x0A, 0x02, 0x01, 0x02, 0x12, 0x02, 0x02, 0x02, 0x1A, 0x02, 0x0A, 0x00, 0x22,
-        0x02, 0x0E, 0x00, 0x2A, 0x02, 0x02, 0x00, 0x42, 0x02, 0x00, 0x00, 0x4A, 0x02, 0x00, 0x00,
-    ];
-    let elements = read_block(rt.alloc(), &block)?;
+    let elements = read_block(rt.alloc(), &NODES_WITH_INFO_BLOCK)?;
     assert!(rt; elements.len() == 2);
     let Element::Node(first) = &elements[0] else {
         return Err("another kind".into());
@@ -191,13 +154,15 @@ fn infos(rt: HostRuntime) -> Result<(), Fail> {
     assert!(rt; second.info().changeset() == Some(5));
     assert!(rt; second.info().uid() == Some(7));
     assert!(rt; second.info().user() == Some("u"));
+    // One flag of visibility.
+    assert!(rt; fault_of(&rt, &VISIBLE_DENSE_NODES_BLOCK) == Some(54));
+    Ok(())
+}
+
+#[test]
+fn absent_versions(rt: HostRuntime) -> Result<(), Fail> {
     // The versions 3 and -1 alone.
-    let versions = [
-        0x0A, 0x02, 0x0A, 0x00, 0x12, 0x1D, 0x12, 0x1B, 0x0A, 0x02, 0x02, 0x02, 0x2A, 0x0D, 0x0A,
-        0x0B, 0x03, 0xFF, 0xFF, 0xFF, 0xFF, 0xFF, 0xFF, 0xFF, 0xFF, 0xFF, 0x01, 0x42, 0x02, 0x00,
-        0x00, 0x4A, 0x02, 0x00, 0x00,
-    ];
-    let elements = read_block(rt.alloc(), &versions)?;
+    let elements = read_block(rt.alloc(), &ABSENT_VERSION_BLOCK)?;
     assert!(rt; elements.len() == 2);
     let Element::Node(first) = &elements[0] else {
         return Err("another kind".into());
@@ -209,12 +174,7 @@ fn infos(rt: HostRuntime) -> Result<(), Fail> {
     assert!(rt; second.info().version().is_none());
     assert!(rt; first.info().time().is_none());
     // The same nodes in two groups, the second without versions.
-    let groups = [
-        0x0A, 0x02, 0x0A, 0x00, 0x12, 0x10, 0x12, 0x0E, 0x0A, 0x01, 0x02, 0x2A, 0x03, 0x0A, 0x01,
-        0x03, 0x42, 0x01, 0x00, 0x4A, 0x01, 0x00, 0x12, 0x0B, 0x12, 0x09, 0x0A, 0x01, 0x04, 0x42,
-        0x01, 0x00, 0x4A, 0x01, 0x00,
-    ];
-    let elements = read_block(rt.alloc(), &groups)?;
+    let elements = read_block(rt.alloc(), &VERSION_IN_ITS_GROUP_BLOCK)?;
     assert!(rt; elements.len() == 2);
     let Element::Node(first) = &elements[0] else {
         return Err("another kind".into());
@@ -226,22 +186,12 @@ fn infos(rt: HostRuntime) -> Result<(), Fail> {
     assert!(rt; first.info().version() == Some(3));
     assert!(rt; second.id() == 2);
     assert!(rt; second.info().version().is_none());
-    // One flag of visibility.
-    let visible = [
-        0x0A, 0x02, 0x0A, 0x00, 0x12, 0x13, 0x12, 0x11, 0x0A, 0x02, 0x02, 0x02, 0x2A, 0x03, 0x32,
-        0x01, 0x01, 0x42, 0x02, 0x00, 0x00, 0x4A, 0x02, 0x00, 0x00,
-    ];
-    assert!(rt; fault_of(&rt, &visible) == Some(54));
     Ok(())
 }
 
 #[test]
 fn each_group_begins_at_0(rt: HostRuntime) -> Result<(), Fail> {
-    let block = [
-        0x0A, 0x02, 0x0A, 0x00, 0x12, 0x0B, 0x12, 0x09, 0x0A, 0x01, 0x02, 0x42, 0x01, 0x00, 0x4A,
-        0x01, 0x00, 0x12, 0x0B, 0x12, 0x09, 0x0A, 0x01, 0x02, 0x42, 0x01, 0x00, 0x4A, 0x01, 0x00,
-    ];
-    let elements = read_block(rt.alloc(), &block)?;
+    let elements = read_block(rt.alloc(), &TWO_GROUPS_BLOCK)?;
     assert!(rt; elements.len() == 2);
     let Element::Node(first) = &elements[0] else {
         return Err("another kind".into());

@@ -1,8 +1,9 @@
-//! A stop at each call of either file of a database, and what the next opening finds.
+//! An import that stops at a call of either file of a database, what the next opening finds, and how it goes on.
 
-use super::stores::{KnownLayout, number, put_header, put_nodes};
+use super::deliveries::{LINES, data_at, header, lines_of};
+use super::stores::{HEADER, KnownLayout, NODES, number};
+use osm_import::{Answer, deliver_all, deliver_until_fault};
 use osm_store::{BlobStore, Bodies, Extent, Keeper, StoreFault, StoreLayout, Tables};
-use pbf_frame::Kind;
 use sqlite::{Alter, Connection, FileStore, Files, Options};
 use sqlite_disk::{Crash, Disk, Fuse, Memory};
 use std::alloc::Global;
@@ -22,22 +23,6 @@ const OPTIONS: Options = Options {
     seed: 7,
 };
 
-const HEADER: Extent = Extent {
-    off: 0,
-    fin: 47,
-    digest: [1; 32],
-    kind: Kind::OsmHeader,
-    n: 0,
-};
-
-const NODES: Extent = Extent {
-    off: 47,
-    fin: 84,
-    digest: [2; 32],
-    kind: Kind::OsmData,
-    n: 2,
-};
-
 /// The file that stops.
 #[derive(Clone, Copy, Debug, PartialEq, Eq)]
 enum Stopped {
@@ -54,61 +39,64 @@ enum Unsynced {
     Kept,
 }
 
-/// The call of a store in which the file stops.
+/// How far an import of the file of two nodes has come: by its answers, or by what the database holds.
 #[derive(Clone, Copy, Debug, PartialEq, Eq)]
-enum Call {
-    /// In a database with no tables.
-    Create,
-    /// Of two nodes, into a store that holds a header.
-    Put,
-}
-
-/// What a database holds.
-#[derive(Clone, Copy, Debug, PartialEq, Eq)]
-enum Held {
-    NoStore,
+enum Reached {
+    /// No database was opened.
     Nothing,
+    /// A database without tables.
+    Database,
+    /// A store that holds nothing.
+    Store,
     Header,
     HeaderAndNodes,
 }
 
-/// What the next opening found after a stop that a call did not outlive.
-#[derive(Clone, Copy, Debug, PartialEq, Eq)]
-struct Found {
-    before: bool,
-    whole: bool,
-}
+/// What an import was answered, and what the next opening found.
+type Outcome = (Reached, Reached);
 
-/// Each kind of stop, and whether one leaves the whole map although the call wasn't answered: where the commit was
-/// written and stays, and the sync after it failed.
-const STOPS: [(Stopped, Unsynced, bool); 4] = [
-    (Stopped::Log, Unsynced::Lost, false),
-    (Stopped::Log, Unsynced::Kept, true),
-    (Stopped::Db, Unsynced::Lost, false),
-    (Stopped::Db, Unsynced::Kept, false),
+/// A call that wasn't answered has changed nothing.
+const UNCHANGED: [Outcome; 5] = [
+    (Reached::Nothing, Reached::Database),
+    (Reached::Database, Reached::Database),
+    (Reached::Store, Reached::Store),
+    (Reached::Header, Reached::Header),
+    (Reached::HeaderAndNodes, Reached::HeaderAndNodes),
 ];
 
-fn opened<D: Disk + Drop>(alloc: Global, files: Files<D>) -> Option<Connection<FileStore<D>>> {
+/// A call that wasn't answered has changed nothing or is done.
+const UNCHANGED_OR_DONE: [Outcome; 8] = [
+    (Reached::Nothing, Reached::Database),
+    (Reached::Database, Reached::Database),
+    (Reached::Database, Reached::Store),
+    (Reached::Store, Reached::Store),
+    (Reached::Store, Reached::Header),
+    (Reached::Header, Reached::Header),
+    (Reached::Header, Reached::HeaderAndNodes),
+    (Reached::HeaderAndNodes, Reached::HeaderAndNodes),
+];
+
+/// The database in these files; or the files, where one of them stops or can't be used.
+fn opened(alloc: Global, files: Files<Fused>) -> Result<Database, Files<Fused>> {
     if !files.may_be_used() {
-        return None;
+        return Err(files);
     }
     match Connection::open_files(alloc, files, OPTIONS) {
-        Ok(connection) => Some(connection),
-        Err(_) => None,
+        Ok(database) => Ok(database),
+        Err((_, left)) => Err(left.into_files()),
     }
 }
 
-/// The database of two new files, one of which stops after so many calls.
-fn fused(alloc: Global, stopped: Stopped, calls: u64) -> Option<Database> {
+/// Two new files, one of which stops after so many calls.
+fn fused(alloc: Global, stopped: Stopped, calls: u64) -> Files<Fused> {
     let (log_calls, db_calls) = match stopped {
         Stopped::Log => (calls, u64::MAX),
         Stopped::Db => (u64::MAX, calls),
     };
-    let files = Files {
+    Files {
         log: Fuse::new(Memory::new(alloc), log_calls),
         db: Fuse::new(Memory::new(alloc), db_calls),
-    };
-    opened(alloc, files)
+    }
 }
 
 /// A file with the same bytes, which doesn't stop.
@@ -129,167 +117,182 @@ fn lost(mut files: Files<Fused>) -> Files<Fused> {
     files
 }
 
-/// What the next opening finds after a stop, in files that don't stop again.
-fn reopened(alloc: Global, database: Database, unsynced: Unsynced) -> Option<Database> {
-    let files = database.into_store().close();
+/// The database that a new connection to the files finds after a stop. They don't stop again.
+fn reopened(alloc: Global, files: Files<Fused>, unsynced: Unsynced) -> Option<Database> {
     let files = match unsynced {
         Unsynced::Lost => lost(files),
         Unsynced::Kept => kept(alloc, files)?,
     };
-    opened(alloc, files)
+    opened(alloc, files).ok()
 }
 
-/// Makes a store, and tells whether that was answered.
-fn create<S: Alter + Drop, L: StoreLayout>(
-    database: Connection<S>,
-) -> Option<(bool, Connection<S>)> {
+/// How far deliveries up to the first fault were answered.
+fn answered(answers: &[Answer]) -> Option<Reached> {
+    match answers {
+        [Answer::Fault(_)] => Some(Reached::Store),
+        [Answer::Stored(0), Answer::Fault(_)] => Some(Reached::Header),
+        [Answer::Stored(0), Answer::Stored(2)] => Some(Reached::HeaderAndNodes),
+        _ => None,
+    }
+}
+
+/// Imports the file into a new store, up to the first fault.
+fn import<L: StoreLayout>(alloc: Global, database: Database) -> Option<(Reached, Files<Fused>)> {
     if !database.is_autocommit() {
         return None;
     }
-    match BlobStore::<S, L>::create(database) {
-        Ok(store) => Some((true, store.into_connection())),
-        Err((_, database)) => Some((false, database)),
+    match BlobStore::<_, L>::create(database) {
+        Ok(mut store) => {
+            let answers = deliver_until_fault(alloc, &mut store, &[header(), data_at(47)]).ok()?;
+            let files = store.into_connection().into_store().close();
+            Some((answered(&answers)?, files))
+        }
+        Err((_, database)) => Some((Reached::Database, database.into_store().close())),
     }
 }
 
-/// Puts the nodes into a new store that holds a header, and tells whether that was answered.
-fn put<S: Alter + Drop, L: StoreLayout>(
+/// The same in new files, one of which stops after so many calls.
+fn stopped_import<L: StoreLayout>(
     alloc: Global,
-    database: Connection<S>,
-) -> Option<(bool, Connection<S>)> {
-    if !database.is_autocommit() {
-        return None;
+    stopped: Stopped,
+    calls: u64,
+) -> Option<(Reached, Files<Fused>)> {
+    match opened(alloc, fused(alloc, stopped, calls)) {
+        Ok(database) => import::<L>(alloc, database),
+        Err(files) => Some((Reached::Nothing, files)),
     }
-    let mut store = BlobStore::<S, L>::create(database).ok()?;
-    put_header(alloc, &mut store).ok()?;
-    let is_put = put_nodes(alloc, &mut store).is_ok();
-    Some((is_put, store.into_connection()))
 }
 
-/// What is held, where each extent and each row is one that was put.
-fn held_by(extents: &[Extent], rows: i64, has_nodes: bool) -> Option<Held> {
+/// What is held, where each extent and each row is of the file.
+fn held_by(extents: &[Extent], rows: i64, has_nodes: bool) -> Option<Reached> {
     match (extents, rows) {
-        ([], 0) => Some(Held::Nothing),
-        ([only], 0) if only == &HEADER => Some(Held::Header),
+        ([], 0) => Some(Reached::Store),
+        ([only], 0) if only == &HEADER => Some(Reached::Header),
         ([first, last], 2) if first == &HEADER && last == &NODES && has_nodes => {
-            Some(Held::HeaderAndNodes)
+            Some(Reached::HeaderAndNodes)
         }
         _ => None,
     }
 }
 
-/// The map of a store.
-fn map<S: Alter + Drop, L: KnownLayout>(alloc: Global, mut store: BlobStore<S, L>) -> Option<Held> {
+/// What a store holds, and its database.
+fn map<S: Alter + Drop, L: KnownLayout>(
+    alloc: Global,
+    mut store: BlobStore<S, L>,
+) -> Option<(Reached, Connection<S>)> {
     let extents = store.extents(alloc).ok()?;
     let mut database = store.into_connection();
     let rows = number(&mut database, L::COUNT)?;
     let has_nodes = L::has_nodes(&mut database);
-    held_by(&extents, rows, has_nodes)
+    Some((held_by(&extents, rows, has_nodes)?, database))
 }
 
-/// The store in a database, or else the database, and whether it is no store of any version.
-fn adopt<S: Alter + Drop, L: StoreLayout>(
+/// The store in a database; or the database, where it is no store of any version.
+fn adopted<S: Alter + Drop, L: StoreLayout>(
     database: Connection<S>,
-) -> Option<Result<BlobStore<S, L>, (bool, Connection<S>)>> {
+) -> Option<Result<BlobStore<S, L>, Connection<S>>> {
     if !database.is_autocommit() {
         return None;
     }
     match BlobStore::adopt(database) {
         Ok(store) => Some(Ok(store)),
-        Err((fault, database)) => Some(Err((fault == StoreFault::NotThisStore(None), database))),
+        Err((StoreFault::NotThisStore(None), database)) => Some(Err(database)),
+        Err(_) => None,
     }
 }
 
-/// What a database holds, where it is the store or has no tables.
-fn adopted<S: Alter + Drop, L: KnownLayout>(
+/// What a database holds, and the store in it, which is made where there is none.
+fn found<S: Alter + Drop, L: KnownLayout>(
     alloc: Global,
     database: Connection<S>,
-) -> Option<Held> {
-    match adopt::<S, L>(database)? {
-        Ok(store) => map(alloc, store),
-        Err((true, database)) => {
-            let (is_made, _) = create::<S, L>(database)?;
-            is_made.then_some(Held::NoStore)
+) -> Option<(Reached, BlobStore<S, L>)> {
+    match adopted::<S, L>(database)? {
+        Ok(store) => {
+            let (held, database) = map(alloc, store)?;
+            Some((held, adopted(database)?.ok()?))
         }
-        Err((false, _)) => None,
+        Err(database) => {
+            if !database.is_autocommit() {
+                return None;
+            }
+            Some((Reached::Database, BlobStore::create(database).ok()?))
+        }
     }
 }
 
-/// Whether a call was answered after which a file stopped, and what the next opening found.
-fn after_stop<L: KnownLayout>(
-    alloc: Global,
-    call: Call,
-    database: Database,
-    unsynced: Unsynced,
-) -> Option<(bool, Option<Held>)> {
-    let (is_answered, database) = match call {
-        Call::Create => create::<_, L>(database)?,
-        Call::Put => put::<_, L>(alloc, database)?,
+/// Whether the whole file, delivered again to a store that holds so much of it, is answered and held.
+fn goes_on<K: Keeper>(alloc: Global, store: &mut K, held: Reached) -> Option<bool> {
+    let wanted = match held {
+        Reached::HeaderAndNodes => [Answer::AlreadyHeld, Answer::AlreadyHeld],
+        Reached::Header => [Answer::AlreadyHeld, Answer::Stored(2)],
+        _ => [Answer::Stored(0), Answer::Stored(2)],
     };
-    let held = match reopened(alloc, database, unsynced) {
-        Some(database) => adopted::<_, L>(alloc, database),
-        None => None,
-    };
-    Some((is_answered, held))
+    let answers = deliver_all(alloc, store, &[header(), data_at(47)]).ok()?;
+    let (result, lines) = lines_of(alloc, store, None, false);
+    Some(answers.as_slice() == wanted.as_slice() && result == Ok(()) && lines.as_slice() == LINES)
 }
 
-/// Stops a file after each number of its calls up to 299, which is more than are made.
-/// An error is the number after which the next opening found anything but the map before the call or the whole map
-/// after it, or not the latter although the call was answered; 300 where the call was never answered.
-fn stops<L: KnownLayout>(
+/// The outcome of a stop after so many calls, where the next opening goes on.
+fn outcome<L: KnownLayout>(
     alloc: Global,
-    call: Call,
     stopped: Stopped,
     unsynced: Unsynced,
-) -> Result<Found, u64> {
-    let (before, whole) = match call {
-        Call::Create => (Held::NoStore, Held::Nothing),
-        Call::Put => (Held::Header, Held::HeaderAndNodes),
-    };
-    let mut found = Found {
-        before: false,
-        whole: false,
-    };
-    let mut is_done = false;
+    calls: u64,
+) -> Option<Outcome> {
+    let (answered, files) = stopped_import::<L>(alloc, stopped, calls)?;
+    let database = reopened(alloc, files, unsynced)?;
+    let (held, mut store) = found::<_, L>(alloc, database)?;
+    let is_whole = goes_on(alloc, &mut store, held)?;
+    is_whole.then_some((answered, held))
+}
+
+/// The outcomes, each once, of stops after no call, after one and so on, until an import is answered to its end.
+/// An error is the number of calls after which a stop has none; 300 where no import ends.
+fn outcomes<L: KnownLayout>(
+    alloc: Global,
+    stopped: Stopped,
+    unsynced: Unsynced,
+) -> Result<Vec<Outcome>, u64> {
+    let mut outcomes = Vec::new(alloc);
     for calls in 0u64..300 {
-        let Some(database) = fused(alloc, stopped, calls) else {
-            continue;
-        };
-        let Some((is_answered, held)) = after_stop::<L>(alloc, call, database, unsynced) else {
-            continue;
-        };
-        if !is_answered && held == Some(before) {
-            found.before = true;
-        } else if held != Some(whole) {
-            return Err(calls);
-        } else if !is_answered {
-            found.whole = true;
+        let outcome = outcome::<L>(alloc, stopped, unsynced, calls).ok_or(calls)?;
+        if !outcomes.contains(&outcome) {
+            outcomes.push(outcome).map_err(|_| calls)?;
         }
-        is_done = is_answered;
+        if outcome.0 == Reached::HeaderAndNodes {
+            return Ok(outcomes);
+        }
     }
-    if is_done { Ok(found) } else { Err(300) }
+    Err(300)
 }
 
-/// Tries each kind of stop.
-fn expect_stops<L: KnownLayout, R: Abort + Alloc<A = Global>>(rt: &R, call: Call) {
-    for (stopped, unsynced, whole) in STOPS {
-        let found = stops::<L>(rt.alloc(), call, stopped, unsynced);
-        let wanted = Found {
-            before: true,
-            whole,
+/// Tries each kind of stop. One alone leaves a call done that wasn't answered: where the commit was written and stays,
+/// and the sync after it failed.
+fn expect_outcomes<L: KnownLayout, R: Abort + Alloc<A = Global>>(rt: &R) {
+    for (stopped, unsynced) in [
+        (Stopped::Log, Unsynced::Lost),
+        (Stopped::Log, Unsynced::Kept),
+        (Stopped::Db, Unsynced::Lost),
+        (Stopped::Db, Unsynced::Kept),
+    ] {
+        let wanted = match (stopped, unsynced) {
+            (Stopped::Log, Unsynced::Kept) => UNCHANGED_OR_DONE.as_slice(),
+            _ => UNCHANGED.as_slice(),
         };
-        assert_eq!(rt; found, Ok(wanted), "{call:?} {stopped:?} {unsynced:?}");
+        let outcomes = outcomes::<L>(rt.alloc(), stopped, unsynced);
+        assert!(rt;
+            matches!(&outcomes, Ok(found) if found.as_slice() == wanted),
+            "{stopped:?} {unsynced:?} {outcomes:?}"
+        );
     }
 }
 
 #[test]
-fn stops_of_create(rt: HostRuntime) {
-    expect_stops::<Bodies, _>(&rt, Call::Create);
-    expect_stops::<Tables, _>(&rt, Call::Create);
+fn stops_over_blocks(rt: HostRuntime) {
+    expect_outcomes::<Bodies, _>(&rt);
 }
 
 #[test]
-fn stops_of_put(rt: HostRuntime) {
-    expect_stops::<Bodies, _>(&rt, Call::Put);
-    expect_stops::<Tables, _>(&rt, Call::Put);
+fn stops_over_tables(rt: HostRuntime) {
+    expect_outcomes::<Tables, _>(&rt);
 }

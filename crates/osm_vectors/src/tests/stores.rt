@@ -4,6 +4,8 @@ ghost use Rattle.std.specs.Prelude.{◌≤◌, ◌<◌, ◌^◌, IfOk};
 ghost use Rattle.osm_value.specs.Ranges.{IsWide};
 ghost use Rattle.osm_store.specs.Held.{HasFewTexts, HaveFewTexts};
 
+use crate::vectors::{HEADER_FRAME, HEADER_FRAME_DIGEST, TWO_NODES_FRAME, TWO_NODES_FRAME_DIGEST};
+use osm_import::{Answer, deliver};
 use osm_store::{
     BlobStore, Bodies, BodyStore, Extent, Keeper, StoreFault, StoreLayout, TableStore, Tables,
 };
@@ -19,6 +21,39 @@ use std::test::*;
 const FIRST_BLOCK: &[u8] = b"\x0A\x02\x0A\x00\x12\x0B\x12\x09\x0A\x01\x02\x42\x01\x14\x4A\x01\x01";
 
 const SECOND_BLOCK: &[u8] = b"\x0A\x02\x0A\x00\x12\x0B\x12\x09\x0A\x01\x04\x42\x01\x12\x4A\x01\x01";
+
+/// The blobs of the file of two nodes, as its frames are delivered.
+pub(crate) const HEADER: Extent = Extent {
+    off: 0,
+    fin: 47,
+    digest: HEADER_FRAME_DIGEST,
+    kind: Kind::OsmHeader,
+    n: 0,
+};
+
+pub(crate) const NODES: Extent = Extent {
+    off: 47,
+    fin: 84,
+    digest: TWO_NODES_FRAME_DIGEST,
+    kind: Kind::OsmData,
+    n: 2,
+};
+
+/// What queries for the rows of a header's blob at 0 and a blob of two nodes at 47 show.
+const ROWS_OF_TWO_BLOBS: [(&str, i64); 6] = [
+    ("SELECT count(*) FROM meta", 1),
+    ("SELECT version FROM meta", 1),
+    ("SELECT count(*) FROM blob", 2),
+    (
+        "SELECT count(*) FROM blob WHERE off = 0 AND fin = 47 AND kind = 0 AND n = 0",
+        1,
+    ),
+    (
+        "SELECT count(*) FROM blob WHERE off = 47 AND fin = 84 AND kind = 1 AND n = 2",
+        1,
+    ),
+    ("SELECT count(*) FROM body", 2),
+];
 
 fn node<'a>(alloc: Global, id: i64, lat: i64, lon: i64) -> Element<'a>
     requires { IsWide id × IsWide lat × IsWide lon }
@@ -134,11 +169,11 @@ impl<L: KnownLayout> TestStore for BlobStore<MemStore, L> {
     }
 }
 
-pub(crate) fn put_header<K: Keeper>(alloc: Global, store: &mut K) -> Result<(), StoreFault> {
+fn put_header<K: Keeper>(alloc: Global, store: &mut K) -> Result<(), StoreFault> {
     store.put(alloc, 0, 47, &[1; 32], Kind::OsmHeader, &[])
 }
 
-pub(crate) fn put_nodes<K: Keeper>(alloc: Global, store: &mut K) -> Result<(), StoreFault> {
+fn put_nodes<K: Keeper>(alloc: Global, store: &mut K) -> Result<(), StoreFault> {
     let nodes = two_nodes(alloc)?;
     store.put(alloc, 47, 84, &[2; 32], Kind::OsmData, &nodes)
 }
@@ -199,40 +234,46 @@ pub(crate) fn has_nodes<S: Alter>(connection: &mut Connection<S>) -> bool {
     shows(connection, first, FIRST_BLOCK) && shows(connection, second, SECOND_BLOCK)
 }
 
-/// Whether the blobs at 0 and at 47 have the digests that they were put with.
-fn has_digests<S: Alter>(connection: &mut Connection<S>) -> bool {
-    shows(
-        connection,
-        "SELECT digest FROM blob WHERE off = 0",
-        &[1; 32],
-    ) && shows(
-        connection,
-        "SELECT digest FROM blob WHERE off = 47",
-        &[2; 32],
-    )
+/// Whether the blobs at 0 and at 47 have these digests.
+fn has_digests<S: Alter>(
+    connection: &mut Connection<S>,
+    header: &[u8; 32],
+    nodes: &[u8; 32],
+) -> bool {
+    shows(connection, "SELECT digest FROM blob WHERE off = 0", header)
+        && shows(connection, "SELECT digest FROM blob WHERE off = 47", nodes)
 }
 
 #[test]
 fn rows_of_two_blobs(rt: HostRuntime) -> Result<(), Fail> {
     let store = two_blobs::<Blocks>(rt.alloc()).ok_or("a store")?;
     let mut connection = store.into_connection();
-    for (sql, wanted) in [
-        ("SELECT count(*) FROM meta", 1),
-        ("SELECT version FROM meta", 1),
-        ("SELECT count(*) FROM blob", 2),
-        (
-            "SELECT count(*) FROM blob WHERE off = 0 AND fin = 47 AND kind = 0 AND n = 0",
-            1,
-        ),
-        (
-            "SELECT count(*) FROM blob WHERE off = 47 AND fin = 84 AND kind = 1 AND n = 2",
-            1,
-        ),
-        ("SELECT count(*) FROM body", 2),
-    ] {
+    for (sql, wanted) in ROWS_OF_TWO_BLOBS {
         assert_eq!(rt; number(&mut connection, sql), Some(wanted), "{sql}");
     }
-    assert!(rt; has_digests(&mut connection));
+    assert!(rt; has_digests(&mut connection, &[1; 32], &[2; 32]));
+    assert!(rt; has_nodes(&mut connection));
+    Ok(())
+}
+
+#[test]
+fn rows_of_a_delivered_file(rt: HostRuntime) -> Result<(), Fail> {
+    let alloc = rt.alloc();
+    let mut store = Blocks::new_store(alloc).ok_or("a store")?;
+    assert!(rt; deliver(alloc, &mut store, 0, &HEADER_FRAME) == Answer::Stored(0));
+    assert!(rt; deliver(alloc, &mut store, 47, &TWO_NODES_FRAME) == Answer::Stored(2));
+    assert!(rt; store.extents(alloc)?.as_slice() == [HEADER, NODES].as_slice());
+    let mut connection = store.into_connection();
+    for (sql, wanted) in ROWS_OF_TWO_BLOBS {
+        assert_eq!(rt; number(&mut connection, sql), Some(wanted), "{sql}");
+    }
+    assert!(rt;
+        has_digests(
+            &mut connection,
+            &HEADER_FRAME_DIGEST,
+            &TWO_NODES_FRAME_DIGEST
+        )
+    );
     assert!(rt; has_nodes(&mut connection));
     Ok(())
 }

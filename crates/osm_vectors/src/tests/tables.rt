@@ -193,6 +193,22 @@ fn another_layout_is_refused(rt: HostRuntime) -> Result<(), Fail> {
     Ok(())
 }
 
+#[test]
+fn a_store_of_blocks_is_refused(rt: HostRuntime) -> Result<(), Fail> {
+    let connection = Connection::open_in_memory(rt.alloc())?;
+    let store = BodyStore::create(connection).ok().ok_or("a store")?;
+    let blocks = store.into_connection();
+    assert!(rt; blocks.is_autocommit());
+    match TableStore::adopt(blocks) {
+        Ok(_) => return Err("a store of tables".into()),
+        Err((fault, connection)) => {
+            assert!(rt; fault == StoreFault::NotThisStore(Some(1)));
+            assert!(rt; BodyStore::adopt(connection).is_ok());
+        }
+    }
+    Ok(())
+}
+
 /// The store over the tables after the header's blob, the nodes, the relation and the way.
 fn filled_store(alloc: Global) -> Option<TableStore<MemStore>> {
     let tables = filled(alloc)?;

@@ -1,6 +1,7 @@
 //! Every list of up to four deliveries, against a small program that keeps the blobs that it has stored in a list.
 
-use super::{Blocks, CHANGED, Columns, EXTRA, FILE, LINES, NewStore, answers_to, lines_of};
+use super::{Blocks, CHANGED, Columns, LINES, NewStore, answers_to, lines_of};
+use crate::vectors::{EXTRA_FRAME, HEADER_FRAME, TWO_NODES_FRAME};
 use osm_block::BlockFault;
 use osm_import::{Answer, Conflict, Delivery, Fault, gaps};
 use osm_store::{Extent, Keeper};
@@ -34,9 +35,9 @@ fn choices<'a>() -> [Choice<'a>; 6] {
         at: 1,
     });
     [
-        make_choice(0, 47, &FILE[..47], Answer::Stored(0), b""),
-        make_choice(47, 84, &FILE[47..], Answer::Stored(2), LINES),
-        make_choice(84, 100, &EXTRA, Answer::Stored(0), b""),
+        make_choice(0, 47, &HEADER_FRAME, Answer::Stored(0), b""),
+        make_choice(47, 84, &TWO_NODES_FRAME, Answer::Stored(2), LINES),
+        make_choice(84, 100, &EXTRA_FRAME, Answer::Stored(0), b""),
         make_choice(
             47,
             84,
@@ -44,7 +45,7 @@ fn choices<'a>() -> [Choice<'a>; 6] {
             Answer::Stored(2),
             b"n 1 1000 -100 [] {}\nn 2 900 0 [] {}\n",
         ),
-        make_choice(75, 91, &EXTRA, Answer::Stored(0), b""),
+        make_choice(75, 91, &EXTRA_FRAME, Answer::Stored(0), b""),
         make_choice(47, 84, &CUT, Answer::Bad(Fault::Block(cut)), b""),
     ]
 }

@@ -1,9 +1,10 @@
 //! Gaps and exports.
 
 use super::{
-    Blocks, Columns, FILE, LINES, NewStore, WRITTEN_HEADER, answers_to, data_at, extra, file_store,
-    header, joined, lines_of, pbf_of,
+    Blocks, Columns, LINES, NewStore, answers_to, data_at, extra, file_store, header, joined,
+    lines_of, pbf_of,
 };
+use crate::vectors::{TWO_NODES_FRAME, WRITTEN_HEADER_FRAME};
 use osm_import::{Answer, ExportFault, deliver, export_lines, export_pbf, gaps};
 use osm_value::Outlet;
 use std::alloc::Global;
@@ -82,7 +83,7 @@ fn a_store_that_holds_nothing_of<K: NewStore, R: Abort + Alloc<A = Global>>(
     assert!(rt; lines.is_empty());
     let (partial, bytes) = pbf_of(alloc, &mut store, None, true);
     assert!(rt; partial == Ok(()));
-    assert!(rt; bytes.as_slice() == WRITTEN_HEADER.as_slice());
+    assert!(rt; bytes.as_slice() == WRITTEN_HEADER_FRAME.as_slice());
     Ok(())
 }
 
@@ -97,12 +98,15 @@ fn a_file_as_pbf_of<K: NewStore, R: Abort + Alloc<A = Global>>(rt: &R) -> Result
     let mut store = file_store::<K>(alloc)?;
     let (result, bytes) = pbf_of(alloc, &mut store, None, false);
     assert!(rt; result == Ok(()));
-    let expected = joined(alloc, &[WRITTEN_HEADER.as_slice(), &FILE[47..]])?;
+    let expected = joined(
+        alloc,
+        &[WRITTEN_HEADER_FRAME.as_slice(), TWO_NODES_FRAME.as_slice()],
+    )?;
     assert!(rt; expected.len() == 93);
     assert!(rt; bytes.as_slice() == expected.as_slice());
     let mut again = K::new_store(alloc)?;
-    assert!(rt; deliver(alloc, &mut again, 0, &WRITTEN_HEADER) == Answer::Stored(0));
-    assert!(rt; deliver(alloc, &mut again, 56, &FILE[47..]) == Answer::Stored(2));
+    assert!(rt; deliver(alloc, &mut again, 0, &WRITTEN_HEADER_FRAME) == Answer::Stored(0));
+    assert!(rt; deliver(alloc, &mut again, 56, &TWO_NODES_FRAME) == Answer::Stored(2));
     let (result, lines) = lines_of(alloc, &mut again, Some(93), false);
     assert!(rt; result == Ok(()));
     assert!(rt; lines.as_slice() == LINES);
@@ -124,8 +128,8 @@ fn a_file_with_another_type_as_pbf_of<K: NewStore, R: Abort + Alloc<A = Global>>
     let (_, mut store) = answers_to::<K>(alloc, &deliveries)?;
     let (result, bytes) = pbf_of(alloc, &mut store, Some(137), false);
     assert!(rt; result == Ok(()));
-    let data = &FILE[47..];
-    let expected = joined(alloc, &[WRITTEN_HEADER.as_slice(), data, data])?;
+    let data: &[u8] = &TWO_NODES_FRAME;
+    let expected = joined(alloc, &[WRITTEN_HEADER_FRAME.as_slice(), data, data])?;
     assert!(rt; expected.len() == 130);
     assert!(rt; bytes.as_slice() == expected.as_slice());
     Ok(())

@@ -1,10 +1,12 @@
 //! Deliveries in any order, again, and in the way of one another.
 
 use super::{
-    Blocks, CHANGED, Columns, EXTRA, FILE, LINES, NewStore, answers_to, data_at, extra, header,
-    joined, lines_of,
+    Blocks, CHANGED, Columns, LINES, NewStore, answers_to, data_at, extra, header, joined, lines_of,
 };
-use osm_import::{Answer, Conflict, Delivery, ExamineFault, Fault, deliver, examine};
+use crate::vectors::{EXTRA_FRAME, HEADER_FRAME, TWO_NODES_FRAME};
+use osm_import::{
+    Answer, Conflict, Delivery, ExamineFault, Fault, deliver, deliver_until_fault, examine,
+};
 use osm_store::{Keeper, StoreFault};
 use pbf_frame::{FrameFault, Kind};
 use std::alloc::Global;
@@ -77,7 +79,7 @@ fn what_is_in_the_way_of<K: NewStore, R: Abort + Alloc<A = Global>>(rt: &R) -> R
     };
     let second_header = Delivery {
         off: 84,
-        bytes: &FILE[..47],
+        bytes: &HEADER_FRAME,
     };
     let deliveries = [
         header(),
@@ -109,6 +111,29 @@ fn what_is_in_the_way(rt: HostRuntime) -> Result<(), Fail> {
     what_is_in_the_way_of::<Columns, _>(&rt)
 }
 
+/// Each is answered where no call of the store fails, and the first alone where one does.
+fn deliveries_until_a_fault_of<K: NewStore, R: Abort + Alloc<A = Global>>(
+    rt: &R,
+) -> Result<(), Fail> {
+    let alloc = rt.alloc();
+    let mut store = K::new_store(alloc)?;
+    let file = [header(), data_at(47)];
+    let first = deliver_until_fault(alloc, &mut store, &file)?;
+    assert!(rt; first.as_slice() == [Answer::Stored(0), Answer::Stored(2)].as_slice());
+    let again = deliver_until_fault(alloc, &mut store, &file)?;
+    assert!(rt; again.as_slice() == [Answer::AlreadyHeld, Answer::AlreadyHeld].as_slice());
+    store.limit_steps(Some(1));
+    let stopped = deliver_until_fault(alloc, &mut store, &[data_at(47), header()])?;
+    assert!(rt; stopped.as_slice() == [Answer::Fault(StoreFault::Interrupted)].as_slice());
+    Ok(())
+}
+
+#[test]
+fn deliveries_until_a_fault(rt: HostRuntime) -> Result<(), Fail> {
+    deliveries_until_a_fault_of::<Blocks, _>(&rt)?;
+    deliveries_until_a_fault_of::<Columns, _>(&rt)
+}
+
 #[test]
 fn numbers_and_names_of_refusals(rt: HostRuntime) {
     assert!(rt; Conflict::Differs.number() == 63 && Conflict::Differs.name() == "Differs");
@@ -121,7 +146,7 @@ fn numbers_and_names_of_refusals(rt: HostRuntime) {
 
 #[test]
 fn past_the_greatest_offset(rt: HostRuntime) {
-    let found = examine(rt.alloc(), 1 << 62, &FILE[..47]);
+    let found = examine(rt.alloc(), 1 << 62, &HEADER_FRAME);
     let too_large = Fault::Frame(FrameFault::OffsetTooLarge);
     assert!(rt; matches!(found, Err(ExamineFault::Bad(fault)) if fault == too_large));
     assert!(rt; too_large.number() == 60 && too_large.name() == "OffsetTooLarge");
@@ -130,11 +155,11 @@ fn past_the_greatest_offset(rt: HostRuntime) {
 #[test]
 fn what_a_good_delivery_says(rt: HostRuntime) -> Result<(), Fail> {
     let alloc = rt.alloc();
-    let data = examine(alloc, 47, &FILE[47..])?;
+    let data = examine(alloc, 47, &TWO_NODES_FRAME)?;
     assert!(rt; data.kind == Kind::OsmData && data.length == 37 && data.elements.len() == 2);
-    let first = examine(alloc, 0, &FILE[..47])?;
+    let first = examine(alloc, 0, &HEADER_FRAME)?;
     assert!(rt; first.kind == Kind::OsmHeader && first.length == 47 && first.elements.is_empty());
-    let other = examine(alloc, 84, &EXTRA)?;
+    let other = examine(alloc, 84, &EXTRA_FRAME)?;
     assert!(rt; other.kind == Kind::Other && other.length == 16 && other.elements.is_empty());
     Ok(())
 }

@@ -1,6 +1,7 @@
 //! Streams of frames.
 
-use super::{Blocks, Columns, FILE, NewStore};
+use super::{Blocks, Columns, NewStore};
+use crate::vectors::TWO_NODES_FILE;
 use osm_import::{Inlet, Stop, StreamFault, Summary, gaps, import_stream};
 use osm_value::Outlet;
 use pbf_frame::FrameFault;
@@ -40,14 +41,14 @@ fn stopped(fault: Stop, at: u64) -> Result<Summary, StreamFault> {
 
 fn limits_of_blobs_of<K: NewStore, R: Abort + Alloc<A = Global>>(rt: &R) -> Result<(), Fail> {
     let alloc = rt.alloc();
-    let none = import::<K, _>(alloc, FILE.as_slice(), 0)?;
+    let none = import::<K, _>(alloc, TWO_NODES_FILE.as_slice(), 0)?;
     assert!(rt; none.result == stopped(Stop::BlobLimit, 0));
     assert!(rt; none.lines.is_empty());
-    let one = import::<K, _>(alloc, FILE.as_slice(), 1)?;
+    let one = import::<K, _>(alloc, TWO_NODES_FILE.as_slice(), 1)?;
     assert!(rt; one.result == stopped(Stop::BlobLimit, 47));
     assert!(rt; one.lines.as_slice() == b"0 stored 0\n".as_slice());
     assert!(rt; one.gaps.as_slice() == [(47, 84)].as_slice());
-    let two = import::<K, _>(alloc, FILE.as_slice(), 2)?;
+    let two = import::<K, _>(alloc, TWO_NODES_FILE.as_slice(), 2)?;
     let summary = Summary {
         stored: 2,
         held: 0,
@@ -72,7 +73,7 @@ fn the_same_file_again_of<K: NewStore, R: Abort + Alloc<A = Global>>(rt: &R) -> 
     let mut store = K::new_store(alloc)?;
     let mut out = Outlet::new(Vec::new(alloc));
     for _ in 0..2 {
-        let mut source = Inlet::new(FILE.as_slice());
+        let mut source = Inlet::new(TWO_NODES_FILE.as_slice());
         assert!(rt; import_stream(alloc, &mut store, &mut source, 0, 9, &mut out).is_ok());
     }
     let lines = out.into_inner();
@@ -90,13 +91,13 @@ fn streams_that_end_early_of<K: NewStore, R: Abort + Alloc<A = Global>>(
     rt: &R,
 ) -> Result<(), Fail> {
     let alloc = rt.alloc();
-    let cut = import::<K, _>(alloc, &FILE[..83], 9)?;
+    let cut = import::<K, _>(alloc, &TWO_NODES_FILE[..83], 9)?;
     assert!(rt; cut.result == stopped(Stop::Frame(FrameFault::BlobCut), 47));
     assert!(rt; cut.lines.as_slice() == b"0 stored 0\n".as_slice());
-    let empty = import::<K, _>(alloc, &FILE[..0], 9)?;
+    let empty = import::<K, _>(alloc, &TWO_NODES_FILE[..0], 9)?;
     assert!(rt; empty.result == stopped(Stop::NoHeaderFirst, 0));
     assert!(rt; empty.lines.is_empty());
-    let late = import::<K, _>(alloc, &FILE[47..], 9)?;
+    let late = import::<K, _>(alloc, &TWO_NODES_FILE[47..], 9)?;
     let summary = Summary {
         stored: 0,
         held: 0,
@@ -152,7 +153,7 @@ fn readers_that_fail_of<K: NewStore, R: Abort + Alloc<A = Global>>(rt: &R) -> Re
             _ => (84, b"0 stored 0\n47 stored 2\n".as_slice()),
         };
         let reader = FailingReader {
-            bytes: &FILE[..count],
+            bytes: &TWO_NODES_FILE[..count],
         };
         let found = import::<K, _>(alloc, reader, 9)?;
         assert_eq!(rt;
