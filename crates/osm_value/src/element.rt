@@ -36,7 +36,8 @@ impl<'a> Model for Info<'a> {
 }
 
 impl<'a> Info<'a> {
-    /// An info of these parts, inside their ranges. `time` is in milliseconds since 1970; `visible` isn't held yet.
+    /// An info of these parts, inside their ranges. `time` is in milliseconds since 1970;
+    /// `visible` has to be None.
     pub fn new(
         version: Option<i32>,
         time: Option<i64>,
@@ -98,7 +99,7 @@ impl<'a> Info<'a> {
         self.user
     }
 
-    /// Whether the element is visible; None until it is held.
+    /// Whether the element is visible: always None, as the flag isn't held.
     pub fn visible(&self) -> Option<bool>
         ensures exact { result ≡ self.now.visible }
         ensures in_range { IsInfo self.now }

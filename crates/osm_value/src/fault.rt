@@ -13,7 +13,7 @@ pub enum LineFault {
 }
 
 impl LineFault {
-    /// The number that this fault has in every message of the program.
+    /// The number of this fault, 24. The program has no message of it.
     pub fn number(self) -> u8
         ensures { result ≡ number_of self }
     {
@@ -22,7 +22,7 @@ impl LineFault {
         }
     }
 
-    /// The name that this fault has in every message of the program.
+    /// The name of this fault, `WriteFailed`. The program has no message of it.
     pub fn name(self) -> &'static str
         ensures { result.now ≡ name_of self }
     {

@@ -1,4 +1,4 @@
--- The header block that is written (osmformat.proto, HeaderBlock; OSM wiki, "PBF Format", "Definition of the OSMHeader fileblock").
+-- The header block that is written (osmformat.proto, HeaderBlock; OpenStreetMap Wiki, "PBF Format", "Definition of the OSMHeader fileblock").
 use Rattle.std.specs.Prelude.{◌≡◌, ℕ, List, [], ◌∷◌, ◌++◌, codes, Bool, false, if◌then◌else◌, None, Some, refl}
 use Rattle.std.specs.List.{flat_map}
 use Rattle.std.specs.Str.{is_utf8, chars}

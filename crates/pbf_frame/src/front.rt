@@ -11,7 +11,7 @@ use crate::header::read_header;
 /// How many bytes say how long the header is.
 pub(crate) const LENGTH_BYTES: usize = 4;
 
-/// The longest header: it is less than 64 KiB (fileformat.proto; OSM wiki, "PBF Format", "File format").
+/// The longest header: it is less than 64 KiB (fileformat.proto; OpenStreetMap Wiki, "PBF Format", "File format").
 const MAX_HEADER: usize = 65_535;
 
 /// The part of a frame that isn't whole yet, as far as its length bytes and its header tell.

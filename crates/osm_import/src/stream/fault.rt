@@ -10,7 +10,7 @@ use thiserror::Error;
 /// Why a stream ends early.
 #[derive(Clone, Copy, Debug, PartialEq, Eq, Error)]
 pub enum Stop {
-    /// The input isn't a row of frames.
+    /// The input isn't a sequence of frames.
     #[error("{0}")]
     Frame(FrameFault),
     #[error("the input has no first blob")]
