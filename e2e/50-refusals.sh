@@ -16,6 +16,15 @@ for command in status export; do
   rm -f nowhere.db
 done
 expect "find in a database that isn't there" 1 "fault 66 NotThisStore${nl}" find nowhere.db n1
+rm -f blank.db
+for command in status export; do
+  : > blank.db
+  expect "$command of an empty file" 1 "fault 66 NotThisStore${nl}" "$command" blank.db
+done
+: > blank.db
+expect "find in an empty file" 1 "fault 66 NotThisStore${nl}" find blank.db n1
+: > blank.db
+expect "an import into an empty file" 0 "0 stored 0${nl}47 stored 2${nl}blobs stored 2 held 0 bad 0 refused 0${nl}" import "$two" blank.db
 rm -f nowhere.db
 
 # one_fault NAME WORD..: the program with these words ends with 1 and one line of fault 65 or 66.
