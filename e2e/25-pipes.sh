@@ -46,24 +46,30 @@ cat "$two" | "$pbfrow" import /dev/stdin pipe.db > of-pipe.txt
 lines "0 stored 0" "47 stored 2" "blobs stored 2 held 0 bad 0 refused 0" > want.txt
 same "import of a pipe" of-pipe.txt want.txt
 
-# peak NAME KILOBYTES COMMAND: the command takes at most so much memory for the large file.
+# peak NAME KILOBYTES LAST WORD..: the program takes at most so much memory, and ends its output with the line LAST.
 peak() {
-  local most
-  /usr/bin/time -v -o time.txt "$pbfrow" "$3" large.osm.pbf > /dev/null
+  local name=$1 allowed=$2 last=$3 most
+  shift 3
+  /usr/bin/time -v -o time.txt "$pbfrow" "$@" > large.txt
   most=$(sed -n 's/.*Maximum resident set size (kbytes): //p' time.txt)
-  if [ -n "$most" ] && [ "$most" -le "$2" ]; then
-    pass "$1"
+  if [ -n "$most" ] && [ "$most" -le "$allowed" ] && [ "$(tail -n 1 large.txt)" = "$last" ]; then
+    pass "$name"
   else
-    fail "$1"
-    echo "  it took $most kB and may take $2"
+    fail "$name"
+    echo "  it took $most kB and may take $allowed; its last line is: $(tail -n 1 large.txt)"
   fi
 }
 
 if has python3 && [ -x /usr/bin/time ] && /usr/bin/time -v true 2>/dev/null; then
-  python3 "$top/bench/frames.py" 200 1000000 large.osm.pbf
-  peak "list takes at most 40 MB for a file of 200 MB" 40000 list
-  peak "check takes at most 40 MB for a file of 200 MB" 40000 check
-  rm -f large.osm.pbf
+  # 160 times the data of the real extract: 98 bytes of header, and 160 times 1,311,872 bytes.
+  { head -c 98 "$country"; for _ in $(seq 160); do tail -c +99 "$country"; done; } > large.osm.pbf
+  peak "list takes at most 40 MB for a file of 209 MB" 40000 "209847339 OSMData 52262" list large.osm.pbf
+  counted="blobs 1761 nodes 10517280 ways 1139360 relations 18080 faults 0"
+  peak "check takes at most 40 MB for a file of 209 MB" 40000 "$counted" check large.osm.pbf
+  peak "check takes at most 40 MB for 209 MB from a pipe" 40000 "$counted" check < <(cat large.osm.pbf)
+  python3 "$top/bench/frames.py" 209 1000000 large.osm.pbf Extra
+  peak "import takes at most 40 MB for a file of 209 MB" 40000 "blobs stored 210 held 0 bad 0 refused 0" import large.osm.pbf large.db
+  rm -f large.osm.pbf large.db large.txt
 else
-  skip "the memory that list and check take" "python3 or /usr/bin/time isn't there"
+  skip "the memory that list, check and import take" "python3 or /usr/bin/time isn't there"
 fi
