@@ -1,5 +1,5 @@
 -- A block: what stands before its groups, and its groups.
-use Rattle.std.proofs.Common.{◌≡◌, ℕ, List, [], ◌∷◌, ◌++◌, map, refl, sym, ap, subst, ◌∙◌, Option, Some, None, append_assoc, not, ◌&&◌, pos}
+use Rattle.std.proofs.Common.{◌≡◌, ℕ, List, [], ◌∷◌, ◌++◌, map, sym, ap, subst, ◌∙◌, Some, None, append_assoc, not, ◌&&◌, pos}
 use Rattle.std.specs.Prelude.{int_le}
 use Rattle.std.specs.List.{flat_map}
 use Rattle.osm_block.specs.declared.fault.BlockFault.{BlockFault}

@@ -1,5 +1,5 @@
 -- A block that stands to some elements has no phase that stands, where this holds of each message.
-use Rattle.std.proofs.Common.{◌≡◌, ℕ, List, [], ◌∷◌, ◌++◌, map, refl, sym, ap, ◌∙◌, Option, Some, None, Bool, true, false, not, ◌≤◌, arith, ℤ, pos, ◌&&◌, T}
+use Rattle.std.proofs.Common.{◌≡◌, ℕ, List, [], ◌∷◌, map, refl, ap, ◌∙◌, Option, Some, None, Bool, true, false, not, ◌≤◌, arith, ℤ, pos, ◌&&◌, T}
 use Rattle.std.specs.Prelude.{option_map, nat_le, IsNone, int_le, ◌≤ℤ◌}
 use Rattle.std.specs.List.{flat_map, AllByRecursion}
 use Rattle.std.proofs.lemmas.Bool.Decides.{nat_tests}

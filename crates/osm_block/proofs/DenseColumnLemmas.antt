@@ -1,28 +1,28 @@
 -- Columns of dense nodes: one place, one more place, and all places.
-use Rattle.std.proofs.Common.{◌≡◌, ℕ, zero, suc, ◌+◌, ◌-◌, ◌<◌, ◌≤◌, List, [], ◌∷◌, ◌++◌, map, length, drop, get_or, replicate, Bool, true, false, not, ◌&&◌, refl, sym, ap, ◌∙◌, subst, ℤ, pos, negsuc, ◌+ℤ◌, arith, Option, Some, None, IsTrue, append_assoc, append-nil}
-use Rattle.std.specs.Prelude.{option_map, option_and_then, slice_get, ◌||◌, ◌==◌, is_none, unwrap_or}
-use Rattle.std.specs.List.{AllByRecursion, list_all}
+use Rattle.std.proofs.Common.{◌≡◌, ℕ, zero, suc, ◌+◌, ◌-◌, ◌<◌, ◌≤◌, List, [], ◌∷◌, ◌++◌, map, length, drop, get_or, replicate, Bool, true, false, not, ◌&&◌, refl, sym, ap, ◌∙◌, subst, ℤ, pos, ◌+ℤ◌, arith, Option, Some, None, append_assoc, append-nil}
+use Rattle.std.specs.Prelude.{option_map, option_and_then, slice_get, ◌||◌, ◌==◌}
+use Rattle.std.specs.List.{list_all}
 use Rattle.std.proofs.lemmas.List.{drop_more, drop_all, map-append, length-map, length-replicate, get_or-map}
 use Rattle.std.proofs.lemmas.Bool.{eqb-true}
-use Rattle.pbf_wire.specs.Readings.{is_there, int32, sint64}
+use Rattle.pbf_wire.specs.Readings.{is_there}
 use Rattle.osm_value.specs.declared.element.Element.{Element}
 use Rattle.osm_value.specs.declared.element.Element.TheVariants as elements
 use Rattle.osm_value.specs.Value.{Text, InfoValue, NodeValue}
 use Rattle.osm_value.specs.Ranges.{is_wide, is_version, is_uid, passes, AreTags, IsInfo, IsNode}
 use Rattle.osm_block.specs.declared.dense.columns.Columns.{Columns}
-use Rattle.osm_block.specs.Message.{Context, DenseMessage, DenseInfoMessage}
+use Rattle.osm_block.specs.Message.{Context, DenseMessage}
 use Rattle.osm_block.specs.Differences.{Diff, front_sums}
 use Rattle.osm_block.specs.DenseTags.{Pair, Tags, indexes_of}
 use Rattle.osm_block.specs.NodeTags.{front_pairs, node_pairs, pair_indexes}
-use Rattle.osm_block.specs.Block.{place, time, version, text_at, texts_at, all_there, column, Stands, StandsOrNone, DenseInfoOf, DenseOf}
-use Rattle.osm_block.specs.Phases.{is_index, place_in_range, fits_ids, same_length, dense_info_fits, first, tags_phases}
+use Rattle.osm_block.specs.Block.{place, time, version, text_at, texts_at, all_there, column, StandsOrNone, DenseOf}
+use Rattle.osm_block.specs.Phases.{is_index, place_in_range, fits_ids, same_length, dense_info_fits}
 use Rattle.osm_block.specs.Dense.{AreColumns, AreReady, columns_in_range, at_place, InfoAt, NodeAt}
 use Rattle.osm_block.specs.DenseRead.{InfosRead, NodesRead}
 use Rattle.osm_block.specs.Texts.{is_text}
 use Rattle.osm_block.proofs.RangeLemmas.{user_in_range, tags_in_range}
 use Rattle.osm_block.proofs.IndexesLemmas.{and_left, and_right}
 use Rattle.osm_block.proofs.DifferencesLemmas.{Diff-are_sums, AllByRecursion-push}
-use Rattle.osm_block.proofs.NodeTagsLemmas.{TagsFit, tags_fit, indexes_in_two}
+use Rattle.osm_block.proofs.NodeTagsLemmas.{TagsFit, indexes_in_two}
 
 -- ---- one place
 

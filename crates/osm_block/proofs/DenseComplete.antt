@@ -1,6 +1,6 @@
 -- A dense message to which nodes stand has no phase that stands.
-use Rattle.std.proofs.Common.{◌≡◌, ℕ, ◌+◌, List, [], ◌∷◌, ◌++◌, map, length, Bool, true, false, not, ◌&&◌, refl, sym, ap, ◌∙◌, subst, ℤ, pos, negsuc, arith, Option, Some, None, inl, inr, eq-eqb}
-use Rattle.std.specs.Prelude.{option_map, ◌||◌, ◌==◌, unwrap_or, is_none}
+use Rattle.std.proofs.Common.{◌≡◌, ℕ, List, [], ◌∷◌, map, length, Bool, true, false, not, ◌&&◌, refl, sym, ap, ◌∙◌, subst, ℤ, Option, Some, None, inl, inr, eq-eqb}
+use Rattle.std.specs.Prelude.{option_map, unwrap_or, is_none}
 use Rattle.std.specs.List.{AllByRecursion, flat_map, list_all}
 use Rattle.std.proofs.lemmas.List.{length-map}
 use Rattle.std.proofs.lemmas.List.Folds.{list_all-append}
@@ -11,18 +11,18 @@ use Rattle.pbf_wire.specs.Readings.{fields}
 use Rattle.osm_block.specs.declared.fault.BlockFault.TheVariants as faults
 use Rattle.osm_block.specs.Message.{Context, Dense, DenseMessage, dense_message, wires}
 use Rattle.osm_block.specs.Differences.{Diff, front_sums, fits_i64}
-use Rattle.osm_block.specs.DenseTags.{Pair, Tags, KeysAreNotZero, pairs_and_zero, pairs_of, pairs_for, indexes_of}
+use Rattle.osm_block.specs.DenseTags.{Pair, Tags, pairs_of, indexes_of}
 use Rattle.osm_block.specs.NodeTags.{pair_indexes}
 use Rattle.osm_block.specs.Block.{place, time, version, text_at, texts_at, all_there, column, StandsOrNone, DenseOf}
 use Rattle.osm_block.specs.Reads.{Says}
-use Rattle.osm_block.specs.Phases.{first, when, is_index, place_in_range, same_length, fits_ids, deltas_of, tags_phases, dense_phases, message_phases, wire_phases}
-use Rattle.osm_block.proofs.IndexesLemmas.{and_left, and_right}
+use Rattle.osm_block.specs.Phases.{first, when, is_index, place_in_range, fits_ids, deltas_of, tags_phases, dense_phases, message_phases, wire_phases}
+use Rattle.osm_block.proofs.IndexesLemmas.{and_left}
 use Rattle.osm_block.proofs.DifferencesLemmas.{Diff-are_sums, list_all-fits}
 use Rattle.osm_block.proofs.Unique.{pairs_of-joined}
 use Rattle.osm_block.proofs.WayComplete.{all_indexes_there}
 use Rattle.osm_block.proofs.ReadingLemmas.{first-append_none}
 use Rattle.osm_block.proofs.DenseColumnLemmas.{lengths_are, Diff-length, fits_by}
-use Rattle.osm_block.proofs.DensePhaseLemmas.{sums_fit, message_in_range, tags_phase, users_fit, dense_fault_is}
+use Rattle.osm_block.proofs.DensePhaseLemmas.{sums_fit, message_in_range, users_fit, dense_fault_is}
 
 both : (a b : Bool) → a ≡ true → b ≡ true → (a && b) ≡ true
 both a b h k = ap (λ x. x && b) h ∙ k

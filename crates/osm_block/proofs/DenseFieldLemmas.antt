@@ -1,5 +1,5 @@
 -- Reading the arrays of dense nodes: one field, one payload, all of them.
-use Rattle.std.proofs.Common.{◌≡◌, ℕ, zero, suc, ◌+◌, ◌<◌, List, [], ◌∷◌, ◌++◌, map, length, drop, get_or, Bool, true, false, refl, sym, ap, ◌∙◌, Option, Some, None, Result, Ok, Err, append_assoc, append-nil, ◌%◌, ◌^◌}
+use Rattle.std.proofs.Common.{◌≡◌, ℕ, ◌+◌, ◌<◌, List, [], ◌∷◌, ◌++◌, map, length, drop, get_or, Bool, true, false, refl, sym, ap, ◌∙◌, Option, Some, None, Result, Ok, Err, append_assoc, append-nil, ◌%◌, ◌^◌}
 use Rattle.std.specs.Prelude.{option_map, cond, ◌==◌, ◌||◌}
 use Rattle.std.specs.List.{flat_map, cons_option}
 use Rattle.std.specs.Option.{option_or, is_some}
@@ -11,13 +11,12 @@ use Rattle.pbf_wire.specs.Field.{Content, Number, Fixed64, Bytes, Fixed32, Entry
 use Rattle.pbf_wire.specs.FieldList.{view_item}
 use Rattle.pbf_wire.specs.Readings.{front, fields, wire, packed, fitting, numbers_of, bytes_of, each, nums, sub, is_there, sint64, sint32, int32}
 use Rattle.osm_block.specs.declared.fault.BlockFault.TheVariants as faults
-use Rattle.osm_block.specs.declared.column.Column.{Column}
 use Rattle.osm_block.specs.declared.dense.fields.DenseFields.{DenseFields}
 use Rattle.osm_block.specs.Message.{Dense, wires, arrays, some_visible, dense_message}
 use Rattle.osm_block.specs.Columns.{numbers_in, fault_in, first_there}
 use Rattle.osm_block.specs.Dense.{dense_message_of}
-use Rattle.osm_block.specs.DenseFieldsRead.{ColumnRead, ColumnRead32, DenseInfoRead}
-use Rattle.osm_block.specs.Phases.{Phase, first, wire_phases}
+use Rattle.osm_block.specs.DenseFieldsRead.{ColumnRead, DenseInfoRead}
+use Rattle.osm_block.specs.Phases.{first, wire_phases}
 use Rattle.osm_block.proofs.ReadingLemmas.{each-append}
 
 -- ---- one field

@@ -1,14 +1,13 @@
 -- Differences and the sums of fronts undo each other.
-use Rattle.std.proofs.Common.{◌≡◌, ℕ, ◌+◌, ◌<◌, ◌≤◌, List, [], ◌∷◌, ◌++◌, map, length, get_or, drop, Bool, true, false, ◌&&◌, ◌||◌, refl, sym, ap, ◌∙◌, ℤ, pos, negsuc, ◌+ℤ◌, ◌-ℤ◌, FitsSigned, arith, Option, Some, None, not, append_assoc}
+use Rattle.std.proofs.Common.{◌≡◌, ℕ, ◌+◌, ◌<◌, ◌≤◌, List, [], ◌∷◌, ◌++◌, map, length, get_or, drop, Bool, true, false, ◌&&◌, refl, sym, ap, ◌∙◌, ℤ, pos, ◌+ℤ◌, ◌-ℤ◌, FitsSigned, arith, Some, None, not, append_assoc}
 use Rattle.std.specs.List.{AllByRecursion, list_all}
 use Rattle.std.specs.Int.{w64}
 use Rattle.std.proofs.lemmas.Int.{ints}
 use Rattle.std.proofs.lemmas.List.{drop_more, drop_all, append-nil}
-use Rattle.std.proofs.lemmas.List.Folds.{list_all-append}
 use Rattle.osm_block.specs.declared.fault.BlockFault.TheVariants as faults
 use Rattle.osm_block.specs.Phases.{when}
 use Rattle.pbf_wire.specs.Readings.{sint64}
-use Rattle.osm_block.specs.Differences.{differences, differences_from, front_sums, fits_i64, Diff}
+use Rattle.osm_block.specs.Differences.{differences_from, front_sums, fits_i64, Diff}
 
 -- each of the sums with a number added
 abbrev pub onto : ℤ → List ℤ → List ℤ

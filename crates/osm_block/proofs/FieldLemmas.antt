@@ -1,12 +1,12 @@
 -- One more field of a message: what it adds, and what the rest of the fields still add.
-use Rattle.std.proofs.Common.{◌≡◌, ℕ, List, [], ◌∷◌, ◌++◌, map, refl, sym, ap, ◌∙◌, Option, Some, None, Result, Ok, Err, Bool, true, append-nil}
+use Rattle.std.proofs.Common.{◌≡◌, ℕ, List, [], ◌∷◌, ◌++◌, map, refl, sym, ap, ◌∙◌, Option, Some, None, Result, Ok, true, append-nil}
 use Rattle.std.specs.Prelude.{option_map}
 use Rattle.std.specs.List.{flat_map}
 use Rattle.std.specs.Option.{option_or, is_some}
 use Rattle.std.proofs.lemmas.List.Elements.{filter_map-append}
 use Rattle.pbf_wire.specs.declared.fault.WireFault.{WireFault}
 use Rattle.pbf_wire.specs.declared.field.Field.{Field}
-use Rattle.pbf_wire.specs.Field.{Content, Bytes, Entry, content_of}
+use Rattle.pbf_wire.specs.Field.{Bytes, Entry, content_of}
 use Rattle.pbf_wire.specs.FieldList.{last_or, view_item}
 use Rattle.pbf_wire.specs.Readings.{front, fields, wire, packed, fitting, number_of, last, each, nums, sub, is_there, int32, int64, uint32}
 use Rattle.osm_block.specs.declared.fault.BlockFault.{BlockFault}
@@ -20,7 +20,7 @@ use Rattle.osm_block.specs.declared.relation.RelationFields.{RelationFields}
 use Rattle.osm_block.specs.Message.{info_message, node_message, way_message, relation_message, arrays, wires_with, wires, Plain, Way, Relation}
 use Rattle.osm_block.specs.Fields.{info_message_of, node_message_of, way_message_of, relation_message_of}
 use Rattle.osm_block.specs.Phases.{first, wire_phases}
-use Rattle.osm_block.specs.Columns.{info_after, no_info, first_there, ColumnLeft, InfoLeft, NodeLeft, WayLeft, RelationLeft}
+use Rattle.osm_block.specs.Columns.{info_after, first_there, ColumnLeft, InfoLeft, NodeLeft, WayLeft, RelationLeft}
 
 pub last_or-append : (b : Option ℕ) (xs ys : List ℕ) → last_or b (xs ++ ys) ≡ last_or (last_or b xs) ys
 last_or-append b [] ys = refl

@@ -1,6 +1,6 @@
 -- What stands before the groups of a block.
-use Rattle.std.proofs.Common.{◌≡◌, ℕ, ◌+◌, ◌<◌, List, [], ◌∷◌, ◌++◌, map, length, drop, get_or, refl, sym, ap, ◌∙◌, Option, Some, None, Bool, true, false, not, ◌&&◌, pos, ℤ}
-use Rattle.std.specs.Prelude.{int_le, IsUtf8, option_map, ◌≤ℤ◌}
+use Rattle.std.proofs.Common.{◌≡◌, ℕ, ◌<◌, List, [], ◌∷◌, ◌++◌, map, length, drop, get_or, refl, sym, ap, ◌∙◌, Option, Some, None, Bool, true, false, not, ◌&&◌, pos, ℤ}
+use Rattle.std.specs.Prelude.{int_le, IsUtf8, option_map}
 use Rattle.std.specs.List.{flat_map, AllByRecursion}
 use Rattle.std.specs.Str.{is_utf8}
 use Rattle.std.proofs.lemmas.Str.{IsUtf8-from_is_utf8, is_utf8-from_IsUtf8}
@@ -9,7 +9,7 @@ use Rattle.pbf_wire.specs.declared.fault.WireFault.{WireFault}
 use Rattle.osm_block.specs.declared.fault.BlockFault.{BlockFault}
 use Rattle.osm_block.specs.declared.fault.BlockFault.TheVariants as faults
 use Rattle.pbf_wire.specs.Readings.{fields, wire}
-use Rattle.osm_block.specs.Message.{Context, context}
+use Rattle.osm_block.specs.Message.{context}
 use Rattle.pbf_wire.specs.Readings.{each, is_there}
 use Rattle.osm_value.specs.Ranges.{has_no_nul}
 use Rattle.osm_block.specs.Head.{head_phases}

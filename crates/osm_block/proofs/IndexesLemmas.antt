@@ -1,5 +1,5 @@
 -- Tests of indexes, as the code makes them and as the phases do.
-use Rattle.std.proofs.Common.{◌≡◌, ℕ, zero, suc, arith, ◌%◌, ◌^◌, ◌<◌, List, [], ◌∷◌, ◌++◌, map, length, get_or, refl, sym, ap, ◌∙◌, ℤ, pos, Option, Some, None, Bool, true, false, ◌&&◌, ltb}
+use Rattle.std.proofs.Common.{◌≡◌, ℕ, zero, suc, arith, ◌%◌, ◌^◌, ◌<◌, List, [], ◌∷◌, ◌++◌, map, length, get_or, refl, sym, ap, ◌∙◌, ℤ, Option, Some, None, Bool, true, false, ◌&&◌}
 use Rattle.std.specs.Prelude.{option_map, option_to_list, nat_lt}
 use Rattle.std.specs.List.{list_all}
 use Rattle.std.proofs.lemmas.List.Folds.{list_all-append}

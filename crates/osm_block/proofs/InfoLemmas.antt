@@ -1,5 +1,5 @@
 -- What an Info says is in its range where its fields are.
-use Rattle.std.proofs.Common.{◌≡◌, ℕ, List, map, Bool, true, ◌&&◌, refl, sym, ap, ◌∙◌, ℤ, pos, Option, Some, None, IsTrue}
+use Rattle.std.proofs.Common.{◌≡◌, ℕ, List, true, ◌&&◌, refl, sym, ap, ◌∙◌, ℤ, Option, Some, None}
 use Rattle.std.specs.Prelude.{option_map, unwrap_or}
 use Rattle.pbf_wire.specs.Readings.{uint32}
 use Rattle.osm_value.specs.Value.{Text}

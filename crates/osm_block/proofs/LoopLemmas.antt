@@ -1,5 +1,5 @@
 -- Messages read one after the other.
-use Rattle.std.proofs.Common.{◌≡◌, ℕ, zero, suc, ◌+◌, ◌<◌, List, [], ◌∷◌, ◌++◌, map, length, drop, take, get_or, refl, sym, ap, subst, ◌∙◌, Option, Some, None, append_assoc, append-nil, arith}
+use Rattle.std.proofs.Common.{◌≡◌, ℕ, ◌+◌, ◌<◌, List, [], ◌∷◌, ◌++◌, map, length, drop, take, get_or, refl, sym, ap, subst, ◌∙◌, Option, Some, None, append_assoc, append-nil, arith}
 use Rattle.std.specs.Prelude.{option_map, IsNone, OnOk, Result, Ok, Err, Bool, true, false, not, nat_le, ◌≤◌}
 use Rattle.std.proofs.lemmas.Bool.Decides.{nat_tests}
 use Rattle.pbf_wire.specs.Field.{Entry}
@@ -13,9 +13,9 @@ use Rattle.osm_value.specs.declared.element.Element.{Element}
 use Rattle.osm_value.specs.declared.element.Element.TheVariants as elements
 use Rattle.osm_value.specs.Value.{NodeValue, WayValue, RelationValue}
 use Rattle.pbf_wire.specs.Readings.{fields, wire}
-use Rattle.osm_block.specs.Message.{Context, Message, Plain, Dense, Way, Relation, wires, way_message, node_message, relation_message, dense_message, messages}
+use Rattle.osm_block.specs.Message.{Context, Message, Plain, Dense, Way, Relation, wires, way_message, node_message, relation_message, messages}
 use Rattle.pbf_wire.specs.Readings.{each, is_there}
-use Rattle.osm_block.specs.Block.{Joins, AllAreWire, MessageOf, NodeOf, WayOf, RelationOf, DenseOf, GroupOf, kinds_in}
+use Rattle.osm_block.specs.Block.{Joins, AllAreWire, NodeOf, WayOf, RelationOf, GroupOf, kinds_in}
 use Rattle.osm_block.specs.Phases.{Phase, first, wire_phases, message_phases, phases_after_wire, group_phases, when}
 use Rattle.osm_block.specs.Reads.{Says, Appended, AppendedOne}
 use Rattle.osm_block.proofs.ReadingLemmas.{first-append_none, first-append_some}

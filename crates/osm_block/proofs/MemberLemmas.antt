@@ -1,12 +1,11 @@
 -- The members of a relation, one after the other.
-use Rattle.std.proofs.Common.{◌≡◌, ℕ, zero, suc, ◌+◌, ◌<◌, ◌≤◌, List, [], ◌∷◌, ◌++◌, map, length, take, get_or, refl, sym, ap, subst, ◌∙◌, ℤ, pos, Option, Some, None, Bool, true, false, ◌&&◌, not, arith}
-use Rattle.std.specs.Prelude.{is_some}
+use Rattle.std.proofs.Common.{◌≡◌, ℕ, zero, suc, ◌+◌, ◌<◌, ◌≤◌, List, [], ◌∷◌, ◌++◌, map, length, take, get_or, refl, sym, ap, subst, ◌∙◌, ℤ, Some, None, Bool, true, false, ◌&&◌, not, arith}
 use Rattle.std.specs.List.{list_all, AllByRecursion}
-use Rattle.std.proofs.lemmas.List.{take_more, map-append, take_all, length-map}
+use Rattle.std.proofs.lemmas.List.{take_more, map-append, take_all}
 use Rattle.std.proofs.lemmas.List.Folds.{list_all-append}
 use Rattle.pbf_wire.specs.Readings.{int32}
 use Rattle.osm_value.specs.Value.{Text, MemberValue}
-use Rattle.osm_value.specs.Ranges.{is_wide, IsMember, IsText}
+use Rattle.osm_value.specs.Ranges.{IsMember}
 use Rattle.osm_block.specs.declared.fault.BlockFault.TheVariants as faults
 use Rattle.osm_block.specs.Block.{text_at, kind}
 use Rattle.osm_block.specs.Members.{MembersAt}

@@ -1,5 +1,5 @@
 -- A message that stands to a node has no phase that stands.
-use Rattle.std.proofs.Common.{◌≡◌, ℕ, List, [], ◌∷◌, ◌++◌, map, length, refl, sym, ap, ◌∙◌, ℤ, Option, Some, None, Bool, true, false, not, ◌&&◌, ◌||◌, eq-eqb, is_none}
+use Rattle.std.proofs.Common.{◌≡◌, [], ◌++◌, length, refl, sym, ap, ◌∙◌, ℤ, Option, Some, None, Bool, true, false, ◌&&◌, ◌||◌, eq-eqb, is_none}
 use Rattle.std.specs.Prelude.{option_map}
 use Rattle.std.specs.List.{list_all}
 use Rattle.std.proofs.lemmas.List.{length-map}

@@ -1,10 +1,10 @@
 -- The first phase of a node that stands, where the ones before it don't.
-use Rattle.std.proofs.Common.{◌≡◌, Bool, true, false, not, ◌&&◌, ◌||◌, refl, sym, ap, ◌∙◌, ℤ, ℕ, List, [], ◌∷◌, ◌++◌, length, Option, Some, None, is_none}
+use Rattle.std.proofs.Common.{◌≡◌, Bool, true, false, not, ◌&&◌, ◌||◌, sym, ap, ◌∙◌, ℤ, ℕ, [], ◌∷◌, ◌++◌, length, Option, Some, None, is_none}
 use Rattle.std.specs.List.{list_all}
 use Rattle.osm_block.specs.declared.fault.BlockFault.TheVariants as faults
 use Rattle.osm_value.specs.Ranges.{is_wide, passes}
 use Rattle.osm_block.specs.Message.{Context, NodeMessage}
-use Rattle.osm_block.specs.Phases.{Phase, first, when, node_phases, same_length, info_in_range, place_in_range, all_in, user_indexes, is_index}
+use Rattle.osm_block.specs.Phases.{first, when, node_phases, same_length, info_in_range, place_in_range, all_in, user_indexes, is_index}
 use Rattle.osm_block.proofs.IndexesLemmas.{and_left, and_right}
 use Rattle.osm_block.proofs.PhaseLemmas.{skip, pass, stop}
 

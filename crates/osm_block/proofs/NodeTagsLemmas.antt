@@ -9,10 +9,10 @@ use Rattle.std.proofs.lemmas.Option.{slice_get-map, slice_get-get_or}
 use Rattle.std.proofs.lemmas.Bool.{ltb-true}
 use Rattle.osm_value.specs.Value.{Text}
 use Rattle.osm_block.specs.declared.fault.BlockFault.TheVariants as faults
-use Rattle.osm_block.specs.DenseTags.{Pair, Tags, KeysAreNotZero, pairs_and_zero, pairs_of, pairs_for, indexes_of, with_pair}
+use Rattle.osm_block.specs.DenseTags.{Pair, Tags, KeysAreNotZero, pairs_and_zero, pairs_of, indexes_of, with_pair}
 use Rattle.osm_block.specs.NodeTags.{front_pairs, node_pairs, pair_indexes}
 use Rattle.osm_block.specs.Block.{text_at, texts_at, all_there}
-use Rattle.osm_block.specs.Phases.{Phase, first, when, tags_phases, is_index}
+use Rattle.osm_block.specs.Phases.{first, when, tags_phases, is_index}
 use Rattle.osm_block.proofs.IndexesLemmas.{and_left, and_right}
 
 -- ---- the front of an array

@@ -1,8 +1,7 @@
 -- The first phase that stands, where the ones before it don't.
-use Rattle.std.proofs.Common.{◌≡◌, List, [], ◌∷◌, Bool, true, false, not, ◌&&◌, refl, sym, ap, ◌∙◌, ℤ, Option, Some, None, IsTrue, ◌++◌, is_none, ℕ, length, map, pos, eq-eqb}
+use Rattle.std.proofs.Common.{◌≡◌, List, [], ◌∷◌, Bool, true, false, not, ◌&&◌, sym, ap, ◌∙◌, ℤ, Some, None, ◌++◌, is_none, ℕ, length, map, eq-eqb}
 use Rattle.std.proofs.lemmas.List.{length-map}
 use Rattle.osm_block.specs.Differences.{Diff}
-use Rattle.osm_block.proofs.IndexesLemmas.{and_left}
 use Rattle.osm_block.proofs.DifferencesLemmas.{Diff-are_sums}
 use Rattle.std.specs.List.{list_all}
 use Rattle.pbf_wire.specs.Readings.{uint32}

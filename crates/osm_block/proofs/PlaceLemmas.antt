@@ -1,5 +1,5 @@
 -- A sum is in a range where one part is in the range moved by the other.
-use Rattle.std.proofs.Common.{◌≡◌, ℕ, ap, ◌∙◌, sym, refl, arith, ◌&&◌, Bool, true, false, ℤ, pos, negsuc, ◌+ℤ◌, ◌-ℤ◌, ◌≤ℤ◌}
+use Rattle.std.proofs.Common.{◌≡◌, ap, ◌∙◌, sym, refl, arith, ◌&&◌, Bool, true, false, ℤ, pos, negsuc, ◌+ℤ◌, ◌-ℤ◌, ◌≤ℤ◌}
 use Rattle.std.specs.Prelude.{int_le, T}
 use Rattle.std.proofs.lemmas.Int.{ints}
 use Rattle.osm_value.specs.Ranges.{is_wide}

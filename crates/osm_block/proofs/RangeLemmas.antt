@@ -1,11 +1,11 @@
 -- What is in its range where the tests passed.
-use Rattle.std.proofs.Common.{◌≡◌, ℕ, zero, suc, List, [], ◌∷◌, map, refl, sym, ap, ◌∙◌, ℤ, pos, negsuc, Option, Some, None, Bool, true, false, ◌&&◌, IsTrue, subst}
+use Rattle.std.proofs.Common.{◌≡◌, ℕ, zero, suc, List, [], ◌∷◌, map, refl, sym, ap, ◌∙◌, ℤ, pos, negsuc, Option, Some, None, Bool, true, ◌&&◌, IsTrue}
 use Rattle.std.specs.Prelude.{option_map, unwrap_or, slice_get}
 use Rattle.std.specs.List.{list_all, AllByRecursion}
 use Rattle.std.specs.Str.{is_utf8}
 use Rattle.std.proofs.lemmas.Str.{IsUtf8-from_is_utf8, is_utf8-from_IsUtf8}
-use Rattle.osm_value.specs.Value.{Text, InfoValue, WayValue}
-use Rattle.osm_value.specs.Ranges.{has_no_nul, passes, is_wide, is_version, is_uid, IsWide, IsText, IsTextOrNone, AreTags, IsInfo, IsWay}
+use Rattle.osm_value.specs.Value.{Text, InfoValue}
+use Rattle.osm_value.specs.Ranges.{has_no_nul, passes, is_wide, is_version, is_uid, IsText, IsTextOrNone, AreTags, IsInfo, IsWay}
 use Rattle.osm_block.specs.Message.{Context, InfoMessage}
 use Rattle.osm_block.specs.Texts.{is_text}
 use Rattle.osm_block.specs.Block.{text_at, version, time, TagsAt}

@@ -1,19 +1,17 @@
 -- What is read from several payloads, one after the other.
-use Rattle.std.proofs.Common.{◌≡◌, ℕ, zero, suc, ◌+◌, ◌<◌, List, [], ◌∷◌, ◌++◌, map, length, drop, take, get_or, refl, sym, ap, ◌∙◌, Option, Some, None, Result, Ok, Err, append_assoc, subst, set, arith}
-use Rattle.std.specs.Prelude.{⊤, option_map, ℤ, Bool, is_some, true, ◌%◌, ◌^◌, pos}
-use Rattle.std.specs.List.{flat_map, filter_map}
-use Rattle.std.proofs.lemmas.List.{map-append, drop_more}
+use Rattle.std.proofs.Common.{◌≡◌, ℕ, zero, suc, ◌+◌, ◌<◌, List, [], ◌∷◌, ◌++◌, map, length, drop, take, get_or, refl, sym, ap, ◌∙◌, Some, None, Result, Err, append_assoc, subst, set, arith}
+use Rattle.std.specs.Prelude.{⊤}
+use Rattle.std.specs.List.{flat_map}
+use Rattle.std.proofs.lemmas.List.{drop_more}
 use Rattle.std.proofs.lemmas.List.Elements.{filter_map-append}
 use Rattle.std.proofs.lemmas.Grind.{flat_map-append}
 use Rattle.pbf_wire.specs.Field.{Entry}
-use Rattle.pbf_wire.specs.FieldList.{last_or}
 use Rattle.osm_block.specs.declared.fault.BlockFault.{BlockFault}
 use Rattle.osm_block.specs.declared.fault.BlockError.{BlockError}
 use Rattle.osm_block.specs.declared.fault.BlockError.TheVariants as errors
-use Rattle.pbf_wire.specs.Readings.{fields, packed}
-use Rattle.pbf_wire.specs.Readings.{fitting, number_of, bytes_of, numbers_of, each, nums, last, is_there, uint32, int32, int64}
-use Rattle.osm_block.specs.Message.{InfoMessage, info_message}
-use Rattle.osm_block.specs.Phases.{Phase, Gives, first, wire_phases}
+use Rattle.pbf_wire.specs.Readings.{fields}
+use Rattle.pbf_wire.specs.Readings.{fitting, numbers_of, each, nums}
+use Rattle.osm_block.specs.Phases.{Phase, Gives, first}
 
 -- ---- lists of phases
 

@@ -1,5 +1,5 @@
 -- A message that stands to a relation has no phase that stands.
-use Rattle.std.proofs.Common.{◌≡◌, ℕ, List, [], ◌∷◌, ◌++◌, map, length, refl, sym, ap, ◌∙◌, ℤ, pos, Option, Some, None, Bool, true, false, not, ◌&&◌, eq-eqb, is_none, arith}
+use Rattle.std.proofs.Common.{◌≡◌, List, [], ◌∷◌, ◌++◌, map, length, refl, sym, ap, ◌∙◌, ℤ, pos, Some, None, Bool, true, not, ◌&&◌, eq-eqb, is_none, arith}
 use Rattle.std.specs.Prelude.{is_some}
 use Rattle.std.specs.List.{list_all, AllByRecursion}
 use Rattle.std.proofs.lemmas.List.{length-map}
@@ -9,7 +9,7 @@ use Rattle.osm_value.specs.Value.{RelationValue, MemberValue}
 use Rattle.osm_value.specs.Ranges.{is_wide, passes, IsMember}
 use Rattle.osm_block.specs.Message.{Context, RelationMessage}
 use Rattle.osm_block.specs.Block.{RelationOf, text_at, kind}
-use Rattle.osm_block.specs.Differences.{Diff, differences, differences_from, front_sums, fits_i64}
+use Rattle.osm_block.specs.Differences.{Diff, differences_from, front_sums, fits_i64}
 use Rattle.osm_block.specs.Phases.{first, when, relation_phases, is_index, all_in, same_length, info_in_range, user_indexes}
 use Rattle.osm_block.proofs.DifferencesLemmas.{Diff-are_sums, gives}
 use Rattle.osm_block.proofs.PhaseLemmas.{skip, pass}

@@ -1,17 +1,16 @@
 -- The first phase of a relation that stands, where the ones before it don't.
-use Rattle.std.proofs.Common.{◌≡◌, Bool, true, false, not, ◌&&◌, ◌==◌, refl, sym, ap, subst, ◌∙◌, ℤ, ℕ, List, [], ◌∷◌, ◌++◌, map, length, Option, Some, None, is_none, arith, pos, eqb-true}
+use Rattle.std.proofs.Common.{◌≡◌, Bool, true, false, not, ◌&&◌, ◌==◌, refl, sym, ap, subst, ◌∙◌, ℤ, ℕ, List, [], ◌∷◌, ◌++◌, map, length, Some, None, is_none, arith, pos, eqb-true}
 use Rattle.std.specs.Prelude.{is_some}
-use Rattle.std.specs.List.{list_all, AllByRecursion}
+use Rattle.std.specs.List.{list_all}
 use Rattle.std.proofs.lemmas.List.{length-map}
 use Rattle.pbf_wire.specs.Readings.{uint32, int32, sint64}
 use Rattle.osm_value.specs.Value.{Text, MemberValue}
 use Rattle.osm_value.specs.Ranges.{is_wide, passes}
-use Rattle.osm_block.specs.declared.fault.BlockFault.{BlockFault}
 use Rattle.osm_block.specs.declared.fault.BlockFault.TheVariants as faults
 use Rattle.osm_block.specs.Message.{Context, RelationMessage}
 use Rattle.osm_block.specs.Block.{kind}
 use Rattle.osm_block.specs.Members.{MembersAt}
-use Rattle.osm_block.specs.Differences.{Diff, differences, differences_from, front_sums, fits_i64}
+use Rattle.osm_block.specs.Differences.{Diff, differences_from, front_sums, fits_i64}
 use Rattle.osm_block.specs.Phases.{Phase, first, when, relation_phases, same_length, info_in_range, all_in, user_indexes, is_index}
 use Rattle.osm_block.proofs.IndexesLemmas.{and_left, and_right}
 use Rattle.osm_block.proofs.DifferencesLemmas.{Diff-are_sums}

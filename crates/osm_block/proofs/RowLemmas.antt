@@ -1,18 +1,16 @@
 -- The numbers of a packed payload, from a place on.
-use Rattle.std.proofs.Common.{◌≡◌, ℕ, zero, suc, ◌+◌, ◌-◌, ◌<◌, ◌≤◌, List, [], ◌∷◌, ◌++◌, length, drop, refl, sym, ap, ◌∙◌, arith, Option, Some, None, Result, Ok, Err}
-use Rattle.std.proofs.Common.{get_or, Bool, true, cond}
+use Rattle.std.proofs.Common.{◌≡◌, ℕ, zero, suc, ◌+◌, ◌-◌, ◌<◌, ◌≤◌, List, [], ◌∷◌, ◌++◌, length, drop, refl, sym, ap, ◌∙◌, arith, Result, Ok, Err}
+use Rattle.std.proofs.Common.{get_or, true, cond}
 use Rattle.std.specs.Prelude.{nat_lt}
 use Rattle.std.proofs.lemmas.Bool.Decides.{nat_tests}
-use native.Mathlib.Numerals.{unary_clauses}
-use Rattle.std.specs.Option.{option_map}
-use Rattle.pbf_wire.specs.Readings.{front, first_fault}
+use Rattle.pbf_wire.specs.Readings.{front}
 use Rattle.std.proofs.Common.{append_assoc}
 use Rattle.std.proofs.lemmas.List.{length-drop, drop-drop, drop_all, drop_more}
 use Rattle.pbf_wire.specs.declared.fault.WireFault.{WireFault}
 use Rattle.pbf_wire.specs.declared.fault.WireFaultKind.{WireFaultKind}
 use Rattle.pbf_wire.specs.Fault.{placed}
 use Rattle.pbf_wire.specs.Number.{number_at, number_within, high_part}
-use Rattle.pbf_wire.specs.Readings.{number_and, row_within, row}
+use Rattle.pbf_wire.specs.Readings.{number_and, row_within}
 
 behind : (r : Result (ℕ × ℕ) WireFault) (f g : ℕ → List (Result ℕ WireFault)) → ((k : ℕ) → f k ≡ g k) → number_and r f ≡ number_and r g
 behind (Ok n) f g e = ap (λ l. Ok n.0 ∷ l) (e n.1)

@@ -1,14 +1,13 @@
 -- How the phases of an array of tags follow from those of what is left of it.
-use Rattle.std.proofs.Common.{◌≡◌, ◌≢◌, ℕ, zero, suc, ◌+◌, ◌-◌, ◌<◌, List, [], ◌∷◌, ◌++◌, Bool, true, false, not, ◌&&◌, refl, sym, ap, ◌∙◌, ℤ, pos, negsuc, arith, Option, Some, None, length, drop, get_or, ◌≤◌}
+use Rattle.std.proofs.Common.{◌≡◌, ◌≢◌, ℕ, zero, suc, ◌+◌, ◌-◌, ◌<◌, List, [], ◌∷◌, Bool, true, false, not, ◌&&◌, refl, sym, ap, ◌∙◌, ℤ, pos, negsuc, arith, Option, Some, None, length, drop, get_or, ◌≤◌}
 use Rattle.std.proofs.lemmas.List.{drop_more, drop_all}
 use Rattle.std.proofs.lemmas.Int.{ints}
 use Rattle.std.proofs.Common.{FitsSigned, of_z, w32}
 use Rattle.std.specs.Prelude.{option_map, is_none, unwrap_or}
 use Rattle.std.specs.List.{list_all}
-use Rattle.osm_block.specs.declared.fault.BlockFault.{BlockFault}
 use Rattle.osm_block.specs.declared.fault.BlockFault.TheVariants as faults
-use Rattle.osm_block.specs.DenseTags.{Pair, pairs_of, pairs_for, indexes_of, with_pair}
-use Rattle.osm_block.specs.Phases.{Phase, first, when, tags_phases, is_index}
+use Rattle.osm_block.specs.DenseTags.{Pair, pairs_of, indexes_of, with_pair}
+use Rattle.osm_block.specs.Phases.{Phase, first, when, is_index}
 
 -- the phase that stands, where these are the pairs of the nodes that are left, and b says that no index so far was bad
 abbrev pub stands : Bool → ℕ → Option (List (List Pair)) → Phase

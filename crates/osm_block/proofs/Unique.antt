@@ -1,11 +1,9 @@
 -- A message stands to one element at most.
-use Rattle.std.proofs.Common.{◌≡◌, ◌≢◌, ℕ, zero, suc, ◌+◌, List, [], ◌∷◌, ◌++◌, map, length, refl, sym, ap, ◌∙◌, ℤ, pos, negsuc, Option, Some, None, arith}
-use Rattle.std.specs.Prelude.{option_map, unwrap_or, flat_map}
+use Rattle.std.proofs.Common.{◌≡◌, zero, suc, List, [], ◌∷◌, ◌++◌, map, length, refl, sym, ap, ◌∙◌, ℤ, pos, negsuc, Option, Some, None}
+use Rattle.std.specs.Prelude.{option_map, flat_map}
 use Rattle.std.specs.List.{AllByRecursion}
 use Rattle.osm_value.specs.Value.{Text, InfoValue, NodeValue, WayValue, RelationValue, MemberValue}
-use Rattle.osm_value.specs.declared.element.MemberKind.{MemberKind}
 use Rattle.osm_block.specs.Message.{Context, InfoMessage, NodeMessage, WayMessage, RelationMessage}
-use Rattle.osm_block.specs.Differences.{Diff}
 use Rattle.osm_block.specs.DenseTags.{Pair, pairs_and_zero, KeysAreNotZero, pairs_of, with_pair}
 use Rattle.osm_block.specs.Block.{TagsAt, InfoOf, NodeOf, WayOf, RelationOf, Joins}
 use Rattle.osm_block.proofs.DifferencesLemmas.{Diff-unique}

@@ -1,6 +1,6 @@
 -- A dense message stands to one list of nodes at most, and a block to one list of elements.
-use Rattle.std.proofs.Common.{◌≡◌, ◌≢◌, ◌≤◌, ℕ, zero, suc, ◌+◌, List, [], ◌∷◌, ◌++◌, map, length, refl, sym, ap, ◌∙◌, ℤ, pos, negsuc, Option, Some, None, arith, ◌⊎◌, inl, inr, length-append}
-use Rattle.std.specs.Prelude.{option_map, unwrap_or, flat_map}
+use Rattle.std.proofs.Common.{◌≡◌, ℕ, List, [], ◌∷◌, map, length, refl, sym, ap, ◌∙◌, ℤ, Option, Some, arith, inl, inr}
+use Rattle.std.specs.Prelude.{option_map, flat_map}
 use Rattle.std.specs.List.{AllByRecursion}
 use Rattle.std.proofs.lemmas.List.{length-map}
 use Rattle.osm_value.specs.declared.element.Element.{Element}
@@ -10,9 +10,8 @@ use Rattle.osm_value.specs.Ranges.{IsInfo}
 use Rattle.pbf_wire.specs.Readings.{fields}
 use Rattle.osm_block.specs.Message.{Context, DenseInfoMessage, DenseMessage, Message, Plain, Dense, Way, Relation, node_message, dense_message, way_message, relation_message, context, messages}
 use Rattle.pbf_wire.specs.Readings.{each}
-use Rattle.osm_block.specs.Differences.{Diff}
 use Rattle.osm_block.specs.DenseTags.{Pair, Tags, pairs_and_zero, KeysAreNotZero, pairs_of}
-use Rattle.osm_block.specs.Block.{DenseInfoOf, DenseOf, Stands, StandsOrNone, column, version, all_there, texts_at, MessageOf, AllAreWire, GroupOf, Block, Joins}
+use Rattle.osm_block.specs.Block.{DenseInfoOf, DenseOf, Stands, StandsOrNone, column, version, all_there, texts_at, MessageOf, AllAreWire, GroupOf, Block}
 use Rattle.osm_block.proofs.DifferencesLemmas.{Diff-unique}
 use Rattle.osm_block.proofs.Unique.{some_one, option_one, pairs_of-joined, Joins-unique, NodeOf-unique, WayOf-unique, RelationOf-unique}
 

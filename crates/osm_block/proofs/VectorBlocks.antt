@@ -1,8 +1,7 @@
 -- What each vector says, by the relation.
-use Rattle.std.proofs.Common.{◌≡◌, ℕ, List, [], ◌∷◌, ◌++◌, refl, Option, Some, None, ℤ, pos, negsuc, inl, inr, lit<, lit≤, arith}
+use Rattle.std.proofs.Common.{[], ◌∷◌, refl, Some, None, pos, negsuc, inl, inr, lit<, lit≤, arith}
 use Rattle.std.proofs.lemmas.Int.{ints}
 use Rattle.osm_value.specs.declared.element.MemberKind.TheVariants as kinds
-use Rattle.osm_value.specs.declared.element.Element.{Element}
 use Rattle.osm_value.specs.declared.element.Element.TheVariants.{Node, Way, Relation}
 use Rattle.osm_block.specs.Block.{Block}
 use Rattle.pbf_wire.specs.Number.{number_within, number_at}

@@ -1,6 +1,6 @@
 -- A message that stands to a way has no phase that stands.
-use Rattle.std.proofs.Common.{◌≡◌, ℕ, zero, suc, ◌<◌, List, [], ◌∷◌, ◌++◌, map, length, refl, sym, ap, ◌∙◌, ℤ, pos, negsuc, Option, Some, None, Bool, true, false, not, ◌&&◌, arith, eq-eqb, IsTrue}
-use Rattle.std.specs.Prelude.{option_map, option_to_list, unwrap_or, slice_get, nat_lt, is_none}
+use Rattle.std.proofs.Common.{◌≡◌, ℕ, zero, suc, List, [], ◌∷◌, ◌++◌, map, length, refl, sym, ap, ◌∙◌, ℤ, pos, negsuc, Option, Some, None, Bool, true, ◌&&◌, arith, eq-eqb}
+use Rattle.std.specs.Prelude.{option_map, option_to_list, slice_get, nat_lt}
 use Rattle.std.specs.List.{list_all}
 use Rattle.std.proofs.lemmas.List.{length-map}
 use Rattle.std.proofs.lemmas.List.Folds.{list_all-append}
@@ -8,10 +8,10 @@ use Rattle.std.proofs.lemmas.Bool.Decides.{nat_tests}
 use Rattle.osm_block.specs.declared.fault.BlockFault.TheVariants as faults
 use Rattle.osm_value.specs.Value.{Text, InfoValue, WayValue}
 use Rattle.osm_block.specs.Message.{Context, InfoMessage, WayMessage}
-use Rattle.osm_block.specs.Block.{WayOf, InfoOf, TagsAt, text_at, version, time}
+use Rattle.osm_block.specs.Block.{WayOf, InfoOf, text_at, time}
 use Rattle.osm_value.specs.Ranges.{is_wide, is_version, is_uid, passes}
-use Rattle.osm_block.specs.Differences.{front_sums, fits_i64}
-use Rattle.osm_block.specs.Phases.{first, when, way_phases, is_index, all_in, same_length, info_in_range, user_indexes}
+use Rattle.osm_block.specs.Differences.{front_sums}
+use Rattle.osm_block.specs.Phases.{first, way_phases, is_index, all_in, same_length, info_in_range, user_indexes}
 use Rattle.osm_block.proofs.DifferencesLemmas.{Diff-are_sums, gives}
 use Rattle.osm_block.proofs.InfoLemmas.{version_passes, time_passes}
 use Rattle.osm_block.proofs.PhaseLemmas.{late_way, pass}

@@ -1,14 +1,14 @@
 -- What a primitive block says (osmformat.proto, PrimitiveBlock; OpenStreetMap Wiki, "PBF Format", "Definition of OSMData fileblock").
-use Rattle.std.specs.Prelude.{◌≡◌, ◌≢◌, ℕ, zero, suc, ◌+◌, ◌-◌, ◌^◌, ◌≤◌, List, [], ◌∷◌, ◌++◌, map, length, replicate, ℤ, pos, negsuc, ◌+ℤ◌, ◌*ℤ◌, ◌≤ℤ◌, Option, Some, None, option_map, IsNone, Bool, true, false, cond, IsTrue, not, ◌&&◌, int_le, slice_get, unwrap_or, ◌==◌, IsUtf8}
-use Rattle.std.specs.List.{AllByRecursion, flat_map, list_all, count_by}
+use Rattle.std.specs.Prelude.{◌≡◌, ℕ, zero, suc, ◌≤◌, List, [], ◌∷◌, ◌++◌, map, length, replicate, ℤ, pos, negsuc, ◌+ℤ◌, ◌*ℤ◌, ◌≤ℤ◌, Option, Some, None, option_map, IsNone, true, false, slice_get, unwrap_or}
+use Rattle.std.specs.List.{AllByRecursion, flat_map, count_by}
 use Rattle.osm_value.specs.declared.element.MemberKind.{MemberKind}
 use Rattle.osm_value.specs.declared.element.MemberKind.TheVariants as kinds
 use Rattle.osm_value.specs.declared.element.Element.{Element}
 use Rattle.osm_value.specs.declared.element.Element.TheVariants as elements
 use Rattle.osm_value.specs.Ranges.{IsText, IsInfo, IsNode, IsWay, IsRelation}
-use Rattle.osm_value.specs.Value.{Text, InfoValue, MemberValue, NodeValue, WayValue, RelationValue}
+use Rattle.osm_value.specs.Value.{Text, InfoValue, NodeValue, WayValue, RelationValue}
 use Rattle.pbf_wire.specs.Field.{Entry}
-use Rattle.pbf_wire.specs.Readings.{fields, wire, each, sub, is_there}
+use Rattle.pbf_wire.specs.Readings.{fields, wire, each, is_there}
 use Rattle.osm_block.specs.Message.{InfoMessage, DenseInfoMessage, NodeMessage, DenseMessage, WayMessage, RelationMessage, Context, Message, Plain, Dense, Way, Relation, messages, wires, context, node_message, dense_message, way_message, relation_message}
 use Rattle.osm_block.specs.Differences.{Diff}
 use Rattle.osm_block.specs.DenseTags.{Pair, Tags}

@@ -1,9 +1,9 @@
 -- What was read of a message so far, and what the fields that are left add to it.
-use Rattle.std.specs.Prelude.{◌≡◌, ℕ, ◌%◌, ◌^◌, List, [], ◌∷◌, ◌++◌, map, Option, Some, None, Bool, ◌&&◌, nat_lt}
+use Rattle.std.specs.Prelude.{◌≡◌, ℕ, ◌%◌, ◌^◌, List, [], ◌∷◌, ◌++◌, map, Option, None, Bool, ◌&&◌, nat_lt}
 use Rattle.std.specs.List.{flat_map, list_all}
 use Rattle.std.specs.Option.{option_or}
 use Rattle.pbf_wire.specs.declared.fault.WireFault.{WireFault}
-use Rattle.pbf_wire.specs.Field.{Content, Number, Fixed64, Bytes, Fixed32, Entry}
+use Rattle.pbf_wire.specs.Field.{Content, Number, Bytes, Entry}
 use Rattle.pbf_wire.specs.FieldList.{last_or}
 use Rattle.pbf_wire.specs.Readings.{fields, wire, numbers, packed, fitting, number_of, last, each, nums}
 use Rattle.osm_value.specs.Ranges.{passes}

@@ -1,15 +1,14 @@
 -- Dense nodes while they are read: their columns, and what each node takes of them.
-use Rattle.std.specs.Prelude.{◌≡◌, ℕ, zero, suc, List, [], ◌∷◌, ◌++◌, map, length, ℤ, pos, negsuc, Bool, true, false, ◌&&◌, slice_index_or, Option, Some, None, option_map}
-use Rattle.std.specs.List.{flat_map, list_all}
+use Rattle.std.specs.Prelude.{◌≡◌, ℕ, List, map, length, ℤ, pos, Bool, true, ◌&&◌, slice_index_or, Option, Some, None, option_map}
+use Rattle.std.specs.List.{list_all}
 use Rattle.pbf_wire.specs.Readings.{int32, sint64}
-use Rattle.osm_value.specs.Value.{Text, InfoValue, NodeValue}
+use Rattle.osm_value.specs.Value.{InfoValue, NodeValue}
 use Rattle.osm_value.specs.Ranges.{is_wide, is_version, is_uid, passes, IsInfo, IsNode}
 use Rattle.osm_block.specs.declared.dense.fields.DenseFields.{DenseFields}
 use Rattle.osm_block.specs.declared.dense.columns.Columns.{Columns}
 use Rattle.osm_block.specs.Message.{Context, DenseMessage}
 use Rattle.osm_block.specs.Differences.{Diff}
-use Rattle.osm_block.specs.DenseTags.{Pair}
-use Rattle.osm_block.specs.Block.{place, time, version, text_at, texts_at, all_there, column}
+use Rattle.osm_block.specs.Block.{place, time, version, text_at, column}
 use Rattle.osm_block.specs.Phases.{is_index, place_in_range, fits_ids}
 use Rattle.osm_block.specs.NodeTags.{node_pairs}
 use Rattle.osm_block.specs.DenseTags.{indexes_of}

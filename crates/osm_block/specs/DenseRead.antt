@@ -1,5 +1,5 @@
 -- What a call that appends dense nodes has read.
-use Rattle.std.specs.Prelude.{◌≡◌, ℕ, List, [], ◌∷◌, ◌++◌, map, length, drop, ◌-◌, ℤ, pos, Some, Option, option_map}
+use Rattle.std.specs.Prelude.{◌≡◌, ℕ, List, ◌++◌, map, length, drop, ◌-◌, ℤ, Some, option_map}
 use Rattle.std.specs.List.{AllByRecursion}
 use Rattle.osm_value.specs.declared.element.Element.{Element}
 use Rattle.osm_value.specs.declared.element.Element.TheVariants as elements

@@ -1,5 +1,5 @@
 -- What a block says before its groups, and the phases that test it.
-use Rattle.std.specs.Prelude.{◌≡◌, List, [], ◌∷◌, ◌++◌, map, ℕ, Bool, true, None, pos, ◌≤ℤ◌, not, ◌&&◌, int_le}
+use Rattle.std.specs.Prelude.{◌≡◌, List, [], ◌∷◌, ◌++◌, map, ℕ, true, None, pos, ◌≤ℤ◌, not, ◌&&◌, int_le}
 use Rattle.std.specs.List.{flat_map, AllByRecursion}
 use Rattle.osm_block.specs.declared.fault.BlockFault.TheVariants as faults
 use Rattle.pbf_wire.specs.Readings.{fields, wire}

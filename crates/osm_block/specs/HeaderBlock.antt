@@ -1,5 +1,5 @@
 -- What a header block says (osmformat.proto, HeaderBlock and HeaderBBox; OpenStreetMap Wiki, "PBF Format", "Definition of the OSMHeader fileblock").
-use Rattle.std.specs.Prelude.{◌≡◌, Result, Ok, Err, ℕ, ℤ, List, [], ◌∷◌, ◌++◌, map, codes, Option, Some, None, option_map, is_none, Bool, true, false, not, ◌&&◌, ◌||◌, cond}
+use Rattle.std.specs.Prelude.{◌≡◌, Result, Ok, Err, ℕ, ℤ, List, [], ◌∷◌, ◌++◌, map, codes, Option, Some, None, option_map, is_none, Bool, true, false, not, ◌&&◌, ◌||◌}
 use Rattle.std.specs.List.{list_all, position}
 use Rattle.std.specs.Str.{bytes_eq, is_utf8}
 use Rattle.osm_value.specs.Value.{Text}

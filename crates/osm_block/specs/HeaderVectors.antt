@@ -1,5 +1,5 @@
 -- The fault and the parts of some header blocks, computed.
-use Rattle.std.specs.Prelude.{◌≡◌, ℕ, List, [], ◌∷◌, refl, Option, Some, None, codes, pos, negsuc}
+use Rattle.std.specs.Prelude.{◌≡◌, ℕ, List, [], ◌∷◌, refl, Some, None, codes, pos, negsuc}
 use Rattle.std.specs.Str.{is_utf8, chars}
 use lib.Utf8
 use Rattle.osm_block.specs.declared.header.fault.HeaderFault.TheVariants as faults

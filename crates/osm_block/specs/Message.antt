@@ -1,11 +1,10 @@
 -- The messages of osmformat.proto, as they are read from field lists: nothing is computed from them yet.
-use Rattle.std.specs.Prelude.{ℕ, zero, suc, ◌+◌, ◌/◌, ◌%◌, ◌^◌, List, [], ◌∷◌, ◌++◌, map, Option, Some, None, ℤ, pos, negsuc, Bool, true, false, not, ◌==◌, cond, option_map, unwrap_or}
-use Rattle.std.specs.List.{flat_map, filter_map, list_any}
-use Rattle.std.specs.Int.{w32, w64, cast_signed}
+use Rattle.std.specs.Prelude.{ℕ, List, [], ◌∷◌, ◌++◌, map, Option, Some, None, ℤ, pos, Bool, option_map, unwrap_or}
+use Rattle.std.specs.List.{flat_map}
 use Rattle.pbf_wire.specs.declared.fault.WireFault.{WireFault}
 use Rattle.osm_value.specs.Value.{Text}
-use Rattle.pbf_wire.specs.Field.{Content, Number, Fixed64, Bytes, Fixed32, Entry}
-use Rattle.pbf_wire.specs.Readings.{fields, wire, numbers, packed, int64, int32, uint32, sint64, sint32, number_of, bytes_of, fitting, last, each, nums, sub, is_there}
+use Rattle.pbf_wire.specs.Field.{Content, Number, Bytes, Entry}
+use Rattle.pbf_wire.specs.Readings.{fields, wire, packed, int64, int32, uint32, sint64, sint32, number_of, fitting, last, each, nums, sub, is_there}
 
 -- ---- the messages (osmformat.proto)
 

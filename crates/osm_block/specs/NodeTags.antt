@@ -1,5 +1,5 @@
 -- The pairs of one dense node after the other.
-use Rattle.std.specs.Prelude.{ℕ, zero, suc, List, [], ◌∷◌, ℤ, pos, negsuc, Bool, true, false}
+use Rattle.std.specs.Prelude.{ℕ, zero, suc, List, [], ◌∷◌, ℤ, pos}
 use Rattle.std.specs.List.{flat_map}
 use Rattle.osm_block.specs.DenseTags.{Pair}
 

@@ -1,6 +1,6 @@
 -- Which fault a primitive block is answered with: the first phase that stands, in this order.
-use Rattle.std.specs.Prelude.{◌≡◌, ℕ, zero, suc, ◌+◌, ◌-◌, ◌^◌, List, [], ◌∷◌, ◌++◌, map, length, ℤ, pos, negsuc, ◌*ℤ◌, Option, Some, None, Result, Ok, Err, option_map, option_to_list, Bool, true, false, cond, not, ◌&&◌, ◌||◌, int_le, int_lt, nat_le, nat_lt, unwrap_or, ◌==◌, is_none, is_some}
-use Rattle.std.specs.List.{flat_map, list_all, list_any}
+use Rattle.std.specs.Prelude.{◌≡◌, ℕ, List, [], ◌∷◌, ◌++◌, map, length, ℤ, pos, negsuc, Option, Some, None, Result, Ok, Err, option_map, option_to_list, Bool, true, false, not, ◌&&◌, ◌||◌, int_le, nat_le, nat_lt, unwrap_or, ◌==◌, is_none, is_some}
+use Rattle.std.specs.List.{flat_map, list_all}
 use Rattle.std.specs.Str.{is_utf8}
 use Rattle.pbf_wire.specs.declared.fault.WireFault.{WireFault}
 use Rattle.osm_block.specs.declared.fault.BlockFault.{BlockFault}
@@ -13,7 +13,7 @@ use Rattle.osm_block.specs.Message.{InfoMessage, DenseInfoMessage, NodeMessage, 
 use Rattle.osm_block.specs.Differences.{front_sums, fits_i64}
 use Rattle.osm_block.specs.DenseTags.{pairs_for, indexes_of}
 use Rattle.osm_value.specs.Ranges.{is_wide, is_version, is_uid, has_no_nul, passes}
-use Rattle.osm_block.specs.Block.{place, time, version, kind, text_at, kinds_in}
+use Rattle.osm_block.specs.Block.{place, time, version, kind, kinds_in}
 
 -- a phase: the fault, where it stands
 abbrev pub Phase : Type 0

@@ -1,5 +1,5 @@
 -- What the vectors' blocks say.
-use Rattle.std.specs.Prelude.{ℕ, List, [], ◌∷◌, ◌++◌, Option, Some, None, ℤ, pos, negsuc}
+use Rattle.std.specs.Prelude.{List, [], ◌∷◌, Some, None, pos, negsuc}
 use Rattle.osm_value.specs.declared.element.MemberKind.TheVariants as kinds
 use Rattle.osm_value.specs.declared.element.Element.{Element}
 use Rattle.osm_value.specs.declared.element.Element.TheVariants.{Node, Way, Relation}

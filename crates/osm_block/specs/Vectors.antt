@@ -1,15 +1,13 @@
 -- The fault of each vector, computed.
-use Rattle.std.specs.Prelude.{◌≡◌, ℕ, List, [], ◌∷◌, ◌++◌, refl, Option, Some, None, take, ◌^◌, pos}
+use Rattle.std.specs.Prelude.{◌≡◌, ℕ, List, [], ◌∷◌, refl, Some, None, take}
 use Rattle.std.specs.Str.{is_utf8, chars}
 use lib.Utf8
-use Rattle.osm_block.specs.declared.fault.BlockFault.{BlockFault}
-use Rattle.pbf_wire.specs.declared.fault.WireFault.{WireFault}
 use Rattle.osm_block.specs.declared.fault.BlockFault.TheVariants as faults
 use Rattle.pbf_wire.specs.declared.fault.WireFaultKind.TheVariants as wires
 use Rattle.pbf_wire.specs.Number.{number_within, number_at}
 use Rattle.pbf_wire.specs.Field.{value_at, field_at, next_at}
 use Rattle.pbf_wire.specs.FieldList.{items_within, items_from}
-use Rattle.pbf_wire.specs.Readings.{fields, wire, row_within}
+use Rattle.pbf_wire.specs.Readings.{row_within}
 use Rattle.osm_block.specs.Phases.{fault}
 
 abbrev pub two_nodes : List ℕ

@@ -165,7 +165,7 @@ refusal-held held extents asked fault apart are refusal =
 max-parts : (a b n : ℕ) → max a b ≤ n → (a ≤ n) × (b ≤ n)
 max-parts a b n le = (omega arith, omega arith)
 
-greatest-within : (es : List (ℕ × Blob)) (size : ℕ) → greatest_end (map extent_of es) ≤ size → (at : ℕ) (blob : Blob) → finite.find nat_cmp at es ≡ Some blob → blob.fin ≤ size
+pub greatest-within : (es : List (ℕ × Blob)) (size : ℕ) → greatest_end (map extent_of es) ≤ size → (at : ℕ) (blob : Blob) → finite.find nat_cmp at es ≡ Some blob → blob.fin ≤ size
 greatest-within [] size le at blob found = absurd (cc)
 greatest-within (e ∷ es) size le at blob found =
     let parts : (e.1.fin ≤ size) × (greatest_end (map extent_of es) ≤ size) = max-parts e.1.fin (greatest_end (map extent_of es)) size le in

@@ -23,3 +23,7 @@ pub mod StreamLists
 pub mod StreamTakes
 pub mod StreamLemmas
 pub mod StreamFiles
+pub mod CopyLemmas
+pub mod MergeLemmas
+pub mod PartsLemmas
+pub mod InTurn

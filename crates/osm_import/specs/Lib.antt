@@ -18,3 +18,7 @@ pub mod ExamineFaults
 pub mod Streams
 pub mod StreamSteps
 pub mod FrameReads
+pub mod Copies
+pub mod CopyFaults
+pub mod Merges
+pub mod Parts

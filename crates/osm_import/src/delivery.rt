@@ -11,7 +11,7 @@ use osm_store::{Extent, Keeper, StoreFault};
 use sha2::{Digest, Sha256};
 use std::alloc::Global;
 
-fn extent_at(extents: &[Extent], off: u64) -> Option<Extent>
+pub(crate) fn extent_at(extents: &[Extent], off: u64) -> Option<Extent>
     ensures { result ≡ find (λ extent. extent.off == off) extents.now }
 {
     for extent in extents {

@@ -8,3 +8,4 @@ mod refusal;
 pub use fault::ExportFault;
 pub use lines::export_lines;
 pub use pbf::export_pbf;
+pub(crate) use refusal::greatest;

@@ -6,7 +6,7 @@ ghost use Rattle.osm_store.specs.Keeping.{Rereads, IsForeign};
 ghost use Rattle.osm_import.specs.Gaps.{AreGaps, ranges_between};
 ghost use Rattle.osm_import.specs.Step.{HasCause};
 
-use osm_store::{Extent, Keeper, StoreFault};
+use osm_store::{Extent, Reader, StoreFault};
 use std::alloc::{AllocError, Global};
 
 fn gaps_between(alloc: Global, extents: &[Extent], size: u64) -> Result<Vec<(u64, u64)>, AllocError>
@@ -31,7 +31,7 @@ fn gaps_between(alloc: Global, extents: &[Extent], size: u64) -> Result<Vec<(u64
 ///
 /// An error is that of a read of the store that has failed, or `Memory` where memory was refused. Over an honest disk,
 /// where the store holds a map, it is never `NotThisStore`.
-pub fn gaps<K: Keeper>(
+pub fn gaps<K: Reader>(
     alloc: Global,
     keeper: &mut K,
     size: u64,

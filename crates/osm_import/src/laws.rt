@@ -15,6 +15,8 @@ ghost use Rattle.osm_import.specs.Files.{AreFrames, IsFrameAt};
 ghost use Rattle.osm_import.specs.declared.fault.Fault.{Fault};
 ghost use Rattle.osm_import.specs.FrameReads.{Reading, GivesFrame, Halts};
 ghost use Rattle.osm_import.specs.Histories.{HistoriesRestart};
+ghost use Rattle.osm_import.specs.Merges.{UnionsAreImports, UnionsAreUnrefused, UnionsStay, UnionsAreTakenAgain, PartsAreOneImport};
+ghost use Rattle.osm_import.specs.Parts.{PartsJoin, ExtentsJoin, LinesJoin, FramesJoin, GapsJoin, ExportsJoin, ImportsAreParts};
 ghost use Rattle.osm_import.specs.declared.stream.fault.Stop.TheVariants.{Frame};
 ghost use Rattle.osm_import.specs.declared.stream.fault.StreamFault.{StreamFault};
 
@@ -57,4 +59,29 @@ pub fn end_of_an_input()
 /// fell; and delivering the whole list again without a fault gives all of it, as one unbroken run does.
 pub fn restart_law()
     ensures { HistoriesRestart }
+{}
+
+/// The maps of the parts of a file, united in any order, are the one map that an import of the whole comes to.
+pub fn union_is_one_import()
+    ensures union { UnionsAreImports }
+    ensures unrefused { UnionsAreUnrefused }
+    ensures again { UnionsStay }
+    ensures taken_again { UnionsAreTakenAgain }
+{}
+
+/// The parts of a file, each imported into a store of its own and then united, are what one import of the file comes to.
+pub fn parts_are_one_import()
+    ensures { PartsAreOneImport }
+{}
+
+/// Where a map's parts follow one another, what is read of them in turn is what is read of the map: its entries, its
+/// extents and so its gaps, its lines, and its frames behind one header.
+pub fn parts_are_read_in_turn()
+    ensures entries { PartsJoin }
+    ensures extents { ExtentsJoin }
+    ensures lines { LinesJoin }
+    ensures frames { FramesJoin }
+    ensures gaps { GapsJoin }
+    ensures exports { ExportsJoin }
+    ensures imports { ImportsAreParts }
 {}

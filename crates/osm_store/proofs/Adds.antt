@@ -45,7 +45,7 @@ free true e = absurd (true≢false (sym e))
 free false e = refl
 
 -- a row whose rowid no row has is the only new one
-put_fresh : (new : Row) (rows : List Row) → is_taken rows new ≡ false → IsPermutation (new ∷ rows) (put_row new rows)
+pub put_fresh : (new : Row) (rows : List Row) → is_taken rows new ≡ false → IsPermutation (new ∷ rows) (put_row new rows)
 put_fresh new [] free = IsPermutation-refl _
 put_fresh new (r ∷ rows) free = go (value_cmp (rowid r) (rowid new)) (neither _ _ free).0 (put_fresh new rows (neither _ _ free).1)
   where

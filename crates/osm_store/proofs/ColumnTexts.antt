@@ -5,12 +5,12 @@ use Rattle.sqlite.specs.Change.{created, indexed}
 use Rattle.sqlite_tied.specs.Compute.{everything}
 use Rattle.sqlite.specs.Source.TheVariants.{Values}
 use Rattle.sqlite.specs.Command.TheVariants.{Insert, CreateTable, CreateIndex}
-use Rattle.sqlite.specs.Term.{Term, lit, col}
+use Rattle.sqlite.specs.Term.{Term, lit}
 use Rattle.sqlite.specs.declared.types.Value.TheVariants.{Null, Int}
 use Rattle.sqlite.specs.Listing.{understood}
 use Rattle.sqlite.proofs.Callers.{IsPlain, command_of, statement_of}
 use Rattle.osm_store.specs.Tables.{insert_blob_text, two_tables}
-use Rattle.osm_store.specs.ColumnTables.{second_version_text, insert_element_text, insert_tag_text, insert_link_text, element_text, tag_text, link_text, element_index_text, element, tag, link, element_by_id, with_element, with_tag, with_link, column_schema}
+use Rattle.osm_store.specs.ColumnTables.{second_version_text, element_text, tag_text, link_text, element_index_text, element, tag, link, element_by_id, with_element, with_tag, with_link, column_schema}
 use Rattle.osm_store.proofs.WriteTexts.{blob_terms}
 
 pub element_defined : table_defined_by element_text ≡ Ok (record element { tree = 0 })
@@ -95,36 +95,3 @@ column_blob_is = refl
 pub column_blob_plain : IsPlain (understood column_schema insert_blob_text)
 unfolding understood everything
 column_blob_plain = (refl, refl)
-
-abbrev pub element_terms : List Term
-element_terms = lit Null ∷ col 0 0 ∷ col 0 1 ∷ col 0 2 ∷ col 0 3 ∷ col 0 4 ∷ col 0 5 ∷ col 0 6 ∷ col 0 7 ∷ col 0 8 ∷ col 0 9 ∷ col 0 10 ∷ col 0 11 ∷ []
-
-abbrev pub tag_terms : List Term
-tag_terms = lit Null ∷ col 0 0 ∷ col 0 1 ∷ col 0 2 ∷ col 0 3 ∷ col 0 4 ∷ []
-
-abbrev pub link_terms : List Term
-link_terms = lit Null ∷ col 0 0 ∷ col 0 1 ∷ col 0 2 ∷ col 0 3 ∷ col 0 4 ∷ col 0 5 ∷ []
-
-pub insert_element_is : command_of (understood column_schema insert_element_text) ≡ Insert 2 (Values element_terms 13)
-unfolding understood everything
-insert_element_is = refl
-
-pub insert_tag_is : command_of (understood column_schema insert_tag_text) ≡ Insert 3 (Values tag_terms 6)
-unfolding understood everything
-insert_tag_is = refl
-
-pub insert_link_is : command_of (understood column_schema insert_link_text) ≡ Insert 4 (Values link_terms 7)
-unfolding understood everything
-insert_link_is = refl
-
-pub insert_element_plain : IsPlain (understood column_schema insert_element_text)
-unfolding understood everything
-insert_element_plain = (refl, refl)
-
-pub insert_tag_plain : IsPlain (understood column_schema insert_tag_text)
-unfolding understood everything
-insert_tag_plain = (refl, refl)
-
-pub insert_link_plain : IsPlain (understood column_schema insert_link_text)
-unfolding understood everything
-insert_link_plain = (refl, refl)

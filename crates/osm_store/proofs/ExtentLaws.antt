@@ -1,11 +1,12 @@
 -- Held extents don't meet, so those that start before a held offset end there.
-use Rattle.std.proofs.Common.{◌≡◌, inl, inr, ℕ, ℤ, pos, ◌<◌, ◌≤◌, List, [], ◌∷◌, Some, cond, Ok, Result, refl, sym, ap, subst, ◌∙◌, arith}
+use Rattle.std.proofs.Common.{◌≡◌, inl, inr, ℕ, ℤ, pos, ◌<◌, ◌≤◌, List, [], ◌∷◌, Some, All, cond, Ok, Result, refl, sym, ap, subst, ◌∙◌, arith}
 use Rattle.std.specs.Prelude.{filter, MatchResult}
 use Rattle.std.specs.List.{AllByRecursion}
 use Rattle.std.specs.Ordering.{nat_cmp}
 use Rattle.std.specs.Cmp.{unsigned_tied}
 use Rattle.std.specs.FinMap.{entries, get, find, get-entries}
 use Rattle.std.proofs.lemmas.Bool.Decides.{eqb_tells, nat_tests}
+use Rattle.std.proofs.lemmas.List.Elements.{All-from_recursion}
 use Rattle.std.proofs.lemmas.Result.{MatchResult-weaker}
 use Rattle.sqlite.specs.declared.types.Value.TheVariants.{Int}
 use Rattle.sqlite.specs.Order.{Row}
@@ -16,6 +17,8 @@ use Rattle.osm_store.specs.Held.{HeldMap, IsApart}
 use Rattle.osm_store.specs.declared.fault.StoreFault.{StoreFault}
 use Rattle.osm_store.specs.declared.fault.StoreFault.TheVariants.{Memory}
 use Rattle.osm_store.specs.Keeping.{IsForeign, extent_of, extents_of, touches}
+use Rattle.osm_store.specs.declared.layout.Layout.{Layout}
+use Rattle.osm_store.specs.LayoutHolding.{IsBlob, IsKept, IsKeptExtent}
 use Rattle.osm_store.specs.Starting.{IsStart}
 use Rattle.osm_store.proofs.PlacedLaws.{Entry, entries_rise}
 use Rattle.osm_store.proofs.ReadLemmas.{ShowsOne, ascending_among, touches_from}
@@ -46,6 +49,15 @@ held_each held = all_weaker _ _ (λ e is. get-entries held e.0 ∙ is) (entries 
 
 filled_each : (held : HeldMap) → IsApart held → AllByRecursion (λ (e : Extent). e.off < e.fin) (extents_of held)
 filled_each held apart = all-map (λ (e : Extent). e.off < e.fin) extent_of (entries held) (all_weaker _ _ (λ e is. apart.filled e.0 e.1 is) (entries held) (held_each held))
+
+kept_each : (layout : Layout) (held : HeldMap) → IsKept layout held → AllByRecursion (λ (e : Extent). IsKeptExtent e) (extents_of held)
+kept_each layout held kept = all-map (λ (e : Extent). IsKeptExtent e) extent_of (entries held)
+    (all_both (λ (e : Entry). get held e.0 ≡ Some e.1) (λ (e : Entry). IsBlob layout e.1) (λ (e : Entry). IsKeptExtent (extent_of e))
+    (λ e is blob. record { digest = blob.digest; range = (kept.apart.filled e.0 e.1 is, kept.apart.limit e.0 e.1 is) }) (entries held) (held_each held) kept.blobs)
+
+-- what is kept of each extent
+pub extents_kept : (layout : Layout) (held : HeldMap) → IsKept layout held → All IsKeptExtent (extents_of held)
+extents_kept layout held kept = All-from_recursion _ _ (kept_each layout held kept)
 
 apart_each : (held : HeldMap) → IsApart held → IsAscending (λ (a b : Extent). a.fin ≤ b.off) (extents_of held)
 apart_each held apart =

@@ -1,17 +1,16 @@
 -- What the tables of a held map have.
-use Rattle.std.proofs.Common.{◌≡◌, inl, inr, ℕ, suc, ◌+◌, ◌<◌, List, [], ◌∷◌, Some, slice_get, cond, eqb, map, drop, length, refl, sym, ap, ap₂, subst, ◌∙◌, IsPermutation, All, pos}
+use Rattle.std.proofs.Common.{◌≡◌, inl, inr, ℕ, suc, ◌+◌, ◌<◌, List, [], ◌∷◌, Some, slice_get, cond, eqb, map, drop, length, refl, sym, ap, ap₂, subst, ◌∙◌, IsPermutation, pos}
 use Rattle.std.specs.Prelude.{filter}
 use Rattle.std.specs.List.{AllByRecursion}
 use Rattle.std.specs.Ordering.{nat_cmp}
 use Rattle.std.specs.Cmp.{unsigned_tied}
 use Rattle.std.specs.FinMap.{entries, get, find, get-entries}
 use Rattle.std.proofs.lemmas.Bool.Decides.{eqb_tells}
-use Rattle.std.proofs.lemmas.List.Elements.{All-from_recursion}
 use Rattle.std.proofs.lemmas.List.Sorted.{IsPermutation-sym}
 use Rattle.sqlite.specs.Order.{Row, column}
 use Rattle.sqlite.specs.Effect.{Database}
 use Rattle.sqlite_trees.specs.Tree.{IsAscending}
-use Rattle.sqlite_trees.proofs.ListLemmas.{all_weaker, all-map, all_from_map, all-permutation, ascending-map, IsPermutation-same}
+use Rattle.sqlite_trees.proofs.ListLemmas.{all_from_map, all-permutation, ascending-map, IsPermutation-same}
 use Rattle.osm_value.specs.declared.element.Element.{Element}
 use Rattle.osm_store.specs.declared.keeper.Extent.{Extent}
 use Rattle.osm_store.specs.Held.{Blob, HeldMap}
@@ -21,7 +20,7 @@ use Rattle.osm_store.specs.declared.layout.Layout.{Layout}
 use Rattle.osm_store.specs.declared.layout.Layout.TheVariants.{Blocks}
 use Rattle.osm_store.specs.Layouts.{schema_of, version_of}
 use Rattle.osm_store.specs.Tables.{store_schema}
-use Rattle.osm_store.specs.LayoutHolding.{TablesHold, IsBlob, IsKept}
+use Rattle.osm_store.specs.LayoutHolding.{TablesHold}
 use Rattle.osm_store.proofs.PlacedLaws.{Entry, within, entries_rise, placed_in_rise, here, by_position}
 use Rattle.osm_store.proofs.NestedLists.{nested_at}
 use Rattle.osm_store.proofs.ReadLemmas.{columns_at, HasExtents, HasElements, HasVersion}
@@ -77,12 +76,6 @@ pub has_version : (layout : Layout) (db : Database) (held : HeldMap) → db.sche
 has_version layout db held schema tables = record { schema = schema; rows = IsPermutation-same _ _ (ap (map (columns_at (0 ∷ []))) tables.meta) }
 
 -- ---- the rows of one blob
-
-digests : (layout : Layout) (es : List Entry) → AllByRecursion (λ (entry : Entry). IsBlob layout entry.1) es → All (λ (extent : Extent). length extent.digest ≡ 32) (map extent_of es)
-digests layout es all = All-from_recursion _ _ (all-map (λ (extent : Extent). length extent.digest ≡ 32) extent_of es (all_weaker _ _ (λ entry blob. blob.digest) es all))
-
-pub digests_of : (layout : Layout) (held : HeldMap) → IsKept layout held → All (λ (extent : Extent). length extent.digest ≡ 32) (extents_of held)
-digests_of layout held kept = digests layout (entries held) kept.blobs
 
 pub elements_of : (off position : ℕ) (es : List Element) → map (λ (p : Placed). p.2) (placed off position es) ≡ es
 elements_of off position [] = refl

@@ -30,10 +30,10 @@ use Rattle.sqlite.specs.declared.types.Value.TheVariants.{Null, Int}
 use Rattle.osm_store.specs.declared.layout.Layout.{Layout}
 use Rattle.osm_store.specs.declared.layout.Layout.TheVariants.{Blocks, Columns}
 use Rattle.osm_store.specs.Tables.{meta, blob, body, store_schema, insert_body_text, insert_blob_text, version_text}
-use Rattle.osm_store.specs.ColumnTables.{element, tag, link, column_schema, insert_element_text, insert_tag_text, insert_link_text, second_version_text}
+use Rattle.osm_store.specs.ColumnTables.{column_schema, second_version_text}
 use Rattle.osm_store.specs.Layouts.{schema_of, version_of, version_text_of}
 use Rattle.osm_store.proofs.WriteTexts.{body_terms, insert_body_is, insert_body_plain, blob_terms, insert_blob_is, insert_blob_plain, version_terms, version_is, version_plain}
-use Rattle.osm_store.proofs.ColumnTexts.{element_terms, insert_element_is, insert_element_plain, tag_terms, insert_tag_is, insert_tag_plain, link_terms, insert_link_is, insert_link_plain, column_blob_is, column_blob_plain, second_version_terms, second_version_is, second_version_plain}
+use Rattle.osm_store.proofs.ColumnTexts.{column_blob_is, column_blob_plain, second_version_terms, second_version_is, second_version_plain}
 
 abbrev pub edit_for : Trees → Table → Row → List Term → Edit
 edit_for db table params terms = edit_of db table [] Chosen 0 (eval_all terms (params ∷ []) ∷ [])
@@ -41,15 +41,15 @@ edit_for db table params terms = edit_of db table [] Chosen 0 (eval_all terms (p
 settled : (A B : Type 0) (b test : Bool) → b ≡ false → MatchBool (if b then test else false) A B → B
 settled A B b test e h = subst (λ b. MatchBool (if b then test else false) A B) e h
 
--- one row of constants and parameters
-module _ (schema : Schema) (sql : List ℕ) (at : ℕ) (table : Table) (terms : List Term) (params : Row) where
+-- rows of constants and parameters
+module _ (schema : Schema) (sql : List ℕ) (at : ℕ) (table : Table) (terms : List Term) (width : ℕ) (params : Row) (sources : List Row) where
   abbrev command : Command
-  command = Insert at (Values terms (length terms))
+  command = Insert at (Values terms width)
 
   -- the edit of a statement that ran
   inserted : (table_at : Table) (uncounted : table_at.is_counted ≡ false) (limit : Option ℕ) (mode : Mode) (db : Trees) (tally : Tally) (after : Database)
       → OnRows (record { limit = limit; keys = mode.keys; schema = schema; table = table_at; params = params }) mode None command db (Ok (tally, after))
-      → (rows : List Row) × (rows ≡ value_rows (stamped table_at params) (length terms) (length terms / length terms) terms) × (after.schema ≡ schema)
+      → (rows : List Row) × (rows ≡ value_rows (stamped table_at params) width (length terms / width) terms) × (after.schema ≡ schema)
       × ((next : Trees) × (after.trees ≡ next) × Writes schema mode.keys db (edit_of db table_at [] Chosen 0 rows) (Ok next))
   inserted table_at uncounted limit mode db tally after run =
       let done = went run in
@@ -62,36 +62,34 @@ module _ (schema : Schema) (sql : List ℕ) (at : ℕ) (table : Table) (terms : 
       let trees : done.0.trees ≡ written.0 = ap (λ (it : Written). it.trees) (same_value counted.2) ∙ same_value kept in
       (given.0, given.1.1, ap (λ (d : Database). d.schema) now, (written.0, ap (λ (d : Database). d.trees) now ∙ trees, subst (λ b. Writes schema mode.keys db (edit_of db table_at [] (if b then Above (count_of numbered.0) else Chosen) 0 given.0) (Ok written.0)) uncounted written.1))
 
-  pub inserts : command_of (understood schema sql) ≡ command → IsPlain (understood schema sql) → slice_get schema.tables at ≡ Some table → table.is_counted ≡ false
-      → value_rows (stamped table params) (length terms) (length terms / length terms) terms ≡ eval_all terms (params ∷ []) ∷ []
+  pub inserts_all : command_of (understood schema sql) ≡ command → IsPlain (understood schema sql) → slice_get schema.tables at ≡ Some table → table.is_counted ≡ false
+      → value_rows (stamped table params) width (length terms / width) terms ≡ sources
       → ((db : Trees) (news : List Row) → works schema Enforced 0 table.tree (taken_by db (record { table = table; gone = []; news = news })) news ≡ [])
       → (old new : State) (count : ℕ) → old.now.schema ≡ schema → Executes sql params old new (Ok count)
-      → (new.now.schema ≡ schema) × Applies schema Enforced old.now.trees (edit_for old.now.trees table params terms) new.now.trees × IsSound schema new.now.trees
-  inserts is plain there uncounted one free old new count has h =
+      → (new.now.schema ≡ schema) × Applies schema Enforced old.now.trees (edit_of old.now.trees table [] Chosen 0 sources) new.now.trees × IsSound schema new.now.trees
+  inserts_all is plain there uncounted these free old new count has h =
       let w = runs_as sql params old new schema has command is plain count h in
       let text = statement_of sql (understood schema sql) in
       let run = subst (λ s. Does old.step_limit (mode_of old) params (record old.now { schema = s }) text None command (Ok (w.tally, new.now))) has w.changed in
       let on_rows = placed _ (slice_get schema.tables at) table _ there run in
       let it = inserted table uncounted old.step_limit (mode_of old) old.now.trees w.tally new.now on_rows in
-      let edit = subst (λ rows. Writes schema Enforced old.now.trees (edit_of old.now.trees table [] Chosen 0 rows) (Ok it.3.0)) (it.1 ∙ one) it.3.2 in
-      let applied = one_step schema Enforced old.now.trees it.3.0 (edit_for old.now.trees table params terms) (free old.now.trees (edit_for old.now.trees table params terms).news) edit in
-      (it.2, subst (Applies schema Enforced old.now.trees (edit_for old.now.trees table params terms)) (sym it.3.1) applied, subst (λ s. IsSound s new.now.trees) it.2 w.sound)
+      let edit = subst (λ rows. Writes schema Enforced old.now.trees (edit_of old.now.trees table [] Chosen 0 rows) (Ok it.3.0)) (it.1 ∙ these) it.3.2 in
+      let wanted = edit_of old.now.trees table [] Chosen 0 sources in
+      let applied = one_step schema Enforced old.now.trees it.3.0 wanted (free old.now.trees wanted.news) edit in
+      (it.2, subst (Applies schema Enforced old.now.trees wanted) (sym it.3.1) applied, subst (λ s. IsSound s new.now.trees) it.2 w.sound)
+
+-- one row
+inserts : (schema : Schema) (sql : List ℕ) (at : ℕ) (table : Table) (terms : List Term) (params : Row) → command_of (understood schema sql) ≡ Insert at (Values terms (length terms)) → IsPlain (understood schema sql)
+    → slice_get schema.tables at ≡ Some table → table.is_counted ≡ false
+    → value_rows (stamped table params) (length terms) (length terms / length terms) terms ≡ eval_all terms (params ∷ []) ∷ []
+    → ((db : Trees) (news : List Row) → works schema Enforced 0 table.tree (taken_by db (record { table = table; gone = []; news = news })) news ≡ [])
+    → (old new : State) (count : ℕ) → old.now.schema ≡ schema → Executes sql params old new (Ok count)
+    → (new.now.schema ≡ schema) × Applies schema Enforced old.now.trees (edit_for old.now.trees table params terms) new.now.trees × IsSound schema new.now.trees
+inserts schema sql at table terms params = inserts_all schema sql at table terms (length terms) params (eval_all terms (params ∷ []) ∷ [])
 
 pub inserts_body : (params : Row) (old new : State) (count : ℕ) → old.now.schema ≡ store_schema → Executes insert_body_text params old new (Ok count)
     → (new.now.schema ≡ store_schema) × Applies store_schema Enforced old.now.trees (edit_for old.now.trees body params body_terms) new.now.trees × IsSound store_schema new.now.trees
 inserts_body params = inserts store_schema insert_body_text 2 body body_terms params insert_body_is insert_body_plain refl refl (rw append-nil) (λ db news. refl)
-
-pub inserts_element : (params : Row) (old new : State) (count : ℕ) → old.now.schema ≡ column_schema → Executes insert_element_text params old new (Ok count)
-    → (new.now.schema ≡ column_schema) × Applies column_schema Enforced old.now.trees (edit_for old.now.trees element params element_terms) new.now.trees × IsSound column_schema new.now.trees
-inserts_element params = inserts column_schema insert_element_text 2 element element_terms params insert_element_is insert_element_plain refl refl (rw append-nil) (λ db news. refl)
-
-pub inserts_tag : (params : Row) (old new : State) (count : ℕ) → old.now.schema ≡ column_schema → Executes insert_tag_text params old new (Ok count)
-    → (new.now.schema ≡ column_schema) × Applies column_schema Enforced old.now.trees (edit_for old.now.trees tag params tag_terms) new.now.trees × IsSound column_schema new.now.trees
-inserts_tag params = inserts column_schema insert_tag_text 3 tag tag_terms params insert_tag_is insert_tag_plain refl refl (rw append-nil) (λ db news. refl)
-
-pub inserts_link : (params : Row) (old new : State) (count : ℕ) → old.now.schema ≡ column_schema → Executes insert_link_text params old new (Ok count)
-    → (new.now.schema ≡ column_schema) × Applies column_schema Enforced old.now.trees (edit_for old.now.trees link params link_terms) new.now.trees × IsSound column_schema new.now.trees
-inserts_link params = inserts column_schema insert_link_text 4 link link_terms params insert_link_is insert_link_plain refl refl (rw append-nil) (λ db news. refl)
 
 -- a row of `blob`, whatever the layout
 pub inserts_blob : (layout : Layout) (params : Row) (old new : State) (count : ℕ) → old.now.schema ≡ schema_of layout → Executes insert_blob_text params old new (Ok count)

@@ -6,7 +6,10 @@ pub mod Makes
 pub mod Adds
 pub mod MakeSteps
 pub mod RowSteps
-pub mod ColumnSteps
+pub mod RowValues
+pub mod ManyRows
+pub mod InsertTexts
+pub mod InsertSteps
 pub mod Placing
 pub mod TableReads
 pub mod ReadTexts

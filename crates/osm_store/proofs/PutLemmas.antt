@@ -28,8 +28,7 @@ use Rattle.osm_store.specs.Layouts.{schema_of}
 use Rattle.osm_store.specs.Rows.{Placed, CanStore, placed, placed_in, body_row, extent_row}
 use Rattle.osm_store.specs.ColumnRows.{element_row, tags_at, links_at, tag_row, link_row}
 use Rattle.osm_store.specs.Steps.{Gains, GainsElements, Puts, HaveNoElements, IsEmptyStore}
-use Rattle.osm_store.specs.Asking.{Keeps, JustAsks}
-use Rattle.sqlite.proofs.StateLemmas.{survives_then}
+use Rattle.osm_store.specs.Asking.{JustAsks}
 use Rattle.osm_store.specs.LayoutHolding.{IsBlob, IsKept, HasRows, HoldElements, TablesHold, Holds, MayLeave, LeavesAMap}
 use Rattle.std.proofs.lemmas.List.Concat.{flat_map-append}
 use Rattle.osm_store.proofs.NumberOrder.{numbers_below}

@@ -36,16 +36,16 @@ pub record Wrote {T : Type 0} (layout : Layout) (off : ℕ) (blob : Blob) (n : �
 blob_is : (layout : Layout) (blob : Blob) → length blob.digest ≡ 32 → HaveFewTexts blob.elements → AllByRecursion (CanStore layout) blob.elements → IsBlob layout blob
 blob_is layout blob digest few can = record { digest = digest; can_store = can; few_texts = few }
 
-module _ {S T : Type 0} (layout : Layout) (g : Ghosts S) (old new : Store S) (off : ℕ) (blob : Blob) (order : off < blob.fin) (limit : blob.fin ≤ 2 ^ 62) (digest : length blob.digest ≡ 32) (few : HaveFewTexts blob.elements)
+module _ {S T : Type 0} (layout : Layout) (g : Ghosts S) (old new : Store S) (off : ℕ) (blob : Blob) (order : off < blob.fin) (limit : blob.fin ≤ 2 ^ 62) (digest : length blob.digest ≡ 32)
     (settles : IsSettled (state g old.connection)) where
   pub put_adds : (r : Result T StoreFault) → Wrote layout off blob (length blob.elements) (state g old.connection) (state g new.connection) r → new.failures ≡ failures_after r old.failures → AddsBlob layout g off blob old r new
   put_adds (Ok x) w counted = record {
     honest = λ clean. omega (arith, w.crash.clean, clean);
     open_if = λ up. (omega (arith, w.crash.clean, up.0), (w.committed up.0).0);
-    ok = λ clean held holds free. holds_more held off blob layout (state g old.connection) (state g new.connection) holds free order limit clean (w.added clean) (w.committed clean).1 (w.committed clean).2 (blob_is layout blob digest few w.can_store);
+    ok = λ clean held holds can. holds_more held off blob layout (state g old.connection) (state g new.connection) holds can.free order limit clean (w.added clean) (w.committed clean).1 (w.committed clean).2 (blob_is layout blob digest can.few_texts w.can_store);
     err = tt;
-    crash = λ clean held left holds free may. leaves_more held off blob layout (state g old.connection) (state g new.connection) holds free order limit w.crash (blob_is layout blob digest few) clean left may;
-    whole = λ clean held holds free. leaves_a_map held off blob layout (state g old.connection) (state g new.connection) holds free order limit w.crash (blob_is layout blob digest few) settles clean;
+    crash = λ clean held left holds can may. leaves_more held off blob layout (state g old.connection) (state g new.connection) holds can.free order limit w.crash (blob_is layout blob digest can.few_texts) clean left may;
+    whole = λ clean held holds can. leaves_a_map held off blob layout (state g old.connection) (state g new.connection) holds can.free order limit w.crash (blob_is layout blob digest can.few_texts) settles clean;
     own = λ held holds clean free. tt;
     counted = counted;
   }
@@ -54,8 +54,8 @@ module _ {S T : Type 0} (layout : Layout) (g : Ghosts S) (old new : Store S) (of
     open_if = λ up. (omega (arith, w.crash.clean, up.0), (w.unchanged up.0 up.1).0);
     ok = tt;
     err = λ clean up held holds free. holds_still layout held (state g old.connection) (state g new.connection) holds clean up.1 (w.unchanged clean up.1).1 (w.unchanged clean up.1).2;
-    crash = λ clean held left holds free may. leaves_more held off blob layout (state g old.connection) (state g new.connection) holds free order limit w.crash (blob_is layout blob digest few) clean left may;
-    whole = λ clean held holds free. leaves_a_map held off blob layout (state g old.connection) (state g new.connection) holds free order limit w.crash (blob_is layout blob digest few) settles clean;
+    crash = λ clean held left holds can may. leaves_more held off blob layout (state g old.connection) (state g new.connection) holds can.free order limit w.crash (blob_is layout blob digest can.few_texts) clean left may;
+    whole = λ clean held holds can. leaves_a_map held off blob layout (state g old.connection) (state g new.connection) holds can.free order limit w.crash (blob_is layout blob digest can.few_texts) settles clean;
     own = λ held holds clean free. w.ours;
     counted = counted;
   }

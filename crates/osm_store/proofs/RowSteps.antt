@@ -81,6 +81,15 @@ one_more layout tree old mid new rows row before h = record {
   rows = gains_then (old.now.trees tree) (mid.now.trees tree) (new.now.trees tree) rows (row ∷ []) before.rows h.rows;
 }
 
+pub rows_more : (layout : Layout) (tree : ℕ) (old mid new : State) (rows more : List Row) → AddsRows layout tree old mid rows → AddsRows layout tree mid new more → AddsRows layout tree old new (rows ++ more)
+rows_more layout tree old mid new rows more before h = record {
+  over = h.over;
+  kept = keeps_then old mid new before.kept h.kept;
+  sound = λ was. h.sound (before.sound was);
+  others = kept_then old.now.trees mid.now.trees new.now.trees (schema_of layout).tables tree before.others h.others;
+  rows = gains_then (old.now.trees tree) (mid.now.trees tree) (new.now.trees tree) rows more before.rows h.rows;
+}
+
 -- ---- what each statement adds
 
 abbrev pub five : ℤ → ℤ → ℤ → ℤ → List ℕ → Row

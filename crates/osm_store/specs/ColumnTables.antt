@@ -1,5 +1,6 @@
 -- The tables of a store that keeps each element as rows of numbers and texts.
-use Rattle.std.specs.Prelude.{ℕ, true, false, List, [], ◌∷◌, None, codes}
+use Rattle.std.specs.Prelude.{ℕ, true, false, List, [], ◌∷◌, ◌++◌, replicate, None, codes}
+use Rattle.std.specs.List.{concat}
 use Rattle.sqlite.specs.Collation.TheVariants.{Binary}
 use Rattle.sqlite.specs.declared.types.Value.TheVariants.{Null}
 use Rattle.sqlite_schema.specs.declared.schema.Column.{Column}
@@ -85,3 +86,13 @@ insert_tag_text = codes "INSERT INTO tag (off, pos, k, key, val) VALUES (?1, ?2,
 
 abbrev pub insert_link_text : List ℕ
 insert_link_text = codes "INSERT INTO link (off, pos, k, kind, ref, role) VALUES (?1, ?2, ?3, ?4, ?5, ?6)"
+
+-- each of these writes 32 rows
+abbrev pub insert_elements_text : List ℕ
+insert_elements_text = codes "INSERT INTO element (off, pos, kind, id, lat, lon, version, time, changeset, uid, user, visible) VALUES (?, ?, ?, ?, ?, ?, ?, ?, ?, ?, ?, ?)" ++ concat (replicate 31 (codes ", (?, ?, ?, ?, ?, ?, ?, ?, ?, ?, ?, ?)"))
+
+abbrev pub insert_tags_text : List ℕ
+insert_tags_text = codes "INSERT INTO tag (off, pos, k, key, val) VALUES (?, ?, ?, ?, ?)" ++ concat (replicate 31 (codes ", (?, ?, ?, ?, ?)"))
+
+abbrev pub insert_links_text : List ℕ
+insert_links_text = codes "INSERT INTO link (off, pos, k, kind, ref, role) VALUES (?, ?, ?, ?, ?, ?)" ++ concat (replicate 31 (codes ", (?, ?, ?, ?, ?, ?)"))

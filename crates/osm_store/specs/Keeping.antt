@@ -1,7 +1,7 @@
 -- What the calls of a keeper leave.
-use Rattle.std.specs.Prelude.{◌≡◌, ◌⊎◌, ℕ, ◌+◌, ◌-◌, ◌^◌, ◌==◌, Bool, ◌&&◌, nat_lt, List, map, length, Result, Ok, Err, if◌then◌else◌, OnOk, OnErr, IfErr}
+use Rattle.std.specs.Prelude.{◌≡◌, ◌⊎◌, ℕ, ◌+◌, ◌-◌, ◌^◌, ◌<◌, ◌≤◌, ◌==◌, Bool, ◌&&◌, nat_lt, List, map, length, Result, Ok, Err, if◌then◌else◌, OnOk, OnErr, IfErr}
 use Rattle.std.specs.FinMap.{entries, insert}
-use Rattle.osm_store.specs.Held.{Blob, HeldMap, IsFree}
+use Rattle.osm_store.specs.Held.{Blob, HeldMap, IsFree, HaveFewTexts}
 use Rattle.osm_store.specs.declared.keeper.Extent.{Extent}
 use Rattle.osm_store.specs.declared.fault.StoreFault.{StoreFault}
 use Rattle.osm_store.specs.declared.fault.StoreFault.TheVariants.{NotThisStore}
@@ -9,6 +9,10 @@ use Rattle.osm_store.specs.declared.fault.StoreFault.TheVariants.{NotThisStore}
 -- the extent of a held blob
 abbrev pub extent_of : ℕ × Blob → Extent
 extent_of (off, blob) = record { off = off; fin = blob.fin; digest = blob.digest; kind = blob.kind; n = length blob.elements }
+
+-- it has bytes, and ends at 2 ^ 62 at most
+abbrev pub IsRange : Extent → Type 0
+IsRange e = (e.off < e.fin) × (e.fin ≤ 2 ^ 62)
 
 -- all held extents, ascending
 abbrev pub extents_of : HeldMap → List Extent
@@ -52,13 +56,18 @@ pub record Rereads {S T E : Type 0} (holds leaves : S → HeldMap → Type 0) (l
 abbrev pub with_blob : HeldMap → ℕ → Blob → HeldMap
 with_blob held off blob = insert held off blob
 
+-- a blob that a map can take: its extent meets no held one, and each of its elements uses few texts
+pub record IsAddable (held : HeldMap) (off : ℕ) (blob : Blob) : Type 0 where
+  pub free : IsFree held off blob.fin
+  pub few_texts : HaveFewTexts blob.elements
+
 -- the call adds the blob at a free place, or has failed. A crash leaves what it left before or the new map
 pub record Adds {S T : Type 0} (holds leaves : S → HeldMap → Type 0) (leaves_a_map is_honest is_open : S → Type 0) (failures : S → ℕ) (off : ℕ) (blob : Blob) (old : S) (result : Result T StoreFault) (new : S) : Type 0 where
   pub honest : is_honest new → is_honest old
   pub open_if : is_open new → is_open old
-  pub ok : OnOk result (is_honest new → (held : HeldMap) → holds old held → IsFree held off blob.fin → holds new (with_blob held off blob))
-  pub err : OnErr result (is_honest new → is_open new → (held : HeldMap) → holds old held → IsFree held off blob.fin → holds new held)
-  pub crash : is_honest new → (held left : HeldMap) → holds old held → IsFree held off blob.fin → leaves new left → leaves old left ⊎ (left ≡ with_blob held off blob)
-  pub whole : is_honest new → (held : HeldMap) → holds old held → IsFree held off blob.fin → leaves_a_map new
-  pub own : (held : HeldMap) → holds old held → is_honest new → IsFree held off blob.fin → IfErr result (λ fault. ¬ (IsForeign fault))
+  pub ok : OnOk result (is_honest new → (held : HeldMap) → holds old held → IsAddable held off blob → holds new (with_blob held off blob))
+  pub err : OnErr result (is_honest new → is_open new → (held : HeldMap) → holds old held → IsAddable held off blob → holds new held)
+  pub crash : is_honest new → (held left : HeldMap) → holds old held → IsAddable held off blob → leaves new left → leaves old left ⊎ (left ≡ with_blob held off blob)
+  pub whole : is_honest new → (held : HeldMap) → holds old held → IsAddable held off blob → leaves_a_map new
+  pub own : (held : HeldMap) → holds old held → is_honest new → IsAddable held off blob → IfErr result (λ fault. ¬ (IsForeign fault))
   pub counted : failures new ≡ failures_after result (failures old)

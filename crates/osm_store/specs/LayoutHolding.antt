@@ -7,10 +7,11 @@ use Rattle.sqlite.specs.Order.{Row}
 use Rattle.sqlite.specs.Tree.{Trees}
 use Rattle.sqlite.specs.State.{State, HasCleanDisk}
 use Rattle.sqlite_catalog.specs.Listing.{IsSound}
+use Rattle.osm_store.specs.declared.keeper.Extent.{Extent}
 use Rattle.osm_store.specs.declared.layout.Layout.{Layout}
 use Rattle.osm_store.specs.declared.layout.Layout.TheVariants.{Blocks, Columns}
 use Rattle.osm_store.specs.Held.{Blob, HeldMap, HaveFewTexts, IsApart}
-use Rattle.osm_store.specs.Keeping.{extents_of}
+use Rattle.osm_store.specs.Keeping.{extents_of, IsRange}
 use Rattle.osm_store.specs.Rows.{Placed, CanStore, placed_in, version_row, extent_row, body_row}
 use Rattle.osm_store.specs.ColumnRows.{element_rows, tag_rows, link_rows}
 use Rattle.osm_store.specs.Layouts.{schema_of}
@@ -24,6 +25,11 @@ pub record IsBlob (layout : Layout) (blob : Blob) : Type 0 where
 pub record IsKept (layout : Layout) (held : HeldMap) : Type 0 where
   pub apart : IsApart held
   pub blobs : AllByRecursion (λ (entry : ℕ × Blob). IsBlob layout entry.1) (entries held)
+
+-- what is kept of an extent
+pub record IsKeptExtent (e : Extent) : Type 0 where
+  pub digest : length e.digest ≡ 32
+  pub range : IsRange e
 
 -- a table has these rows, in any order, under rowids that `sqlite` chose
 abbrev pub HasRows : List Row → List Row → Type 0

@@ -4,6 +4,7 @@ pub mod HeldLaws
 pub mod Loading
 pub mod Tables
 pub mod ColumnTables
+pub mod Batches
 pub mod Layouts
 pub mod Rows
 pub mod ColumnRows

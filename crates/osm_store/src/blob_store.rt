@@ -15,7 +15,7 @@ use crate::extents::{all_extents, touched_extents};
 use crate::fault::StoreFault;
 use crate::found::Found;
 use crate::held_elements::{find_held, load_held};
-use crate::keeper::{Extent, Keeper};
+use crate::keeper::{Extent, Keeper, Reader};
 use crate::layout::{Bodies, StoreLayout, Tables};
 use crate::loaded::Loaded;
 use crate::opening::{adopt_store, create_store, failures_after};
@@ -131,12 +131,12 @@ impl<S: Alter, L: StoreLayout> BlobStore<S, L> {
     }
 }
 
-impl<S: Alter, L: StoreLayout> Keeper for BlobStore<S, L> {
+impl<S: Alter, L: StoreLayout> Reader for BlobStore<S, L> {
     ghost use Rattle.sqlite.specs.State.{HasCleanDisk};
     ghost use Rattle.sqlite.specs.Held.{state};
     ghost use Rattle.std.specs.Prelude.{IsTrue};
     ghost use Rattle.osm_store.specs.LayoutHolding.{Holds, MayLeave, LeavesAMap};
-    ghost use Rattle.osm_store.specs.StoreLaws.{leaves_held_alone, leaves_held};
+    ghost use Rattle.osm_store.specs.StoreLaws.{leaves_held_alone, leaves_held, few_texts_of};
 
     ghost holds = { λ s held. Holds L.LAYOUT (state S.Store s.connection) held };
 
@@ -179,6 +179,20 @@ impl<S: Alter, L: StoreLayout> Keeper for BlobStore<S, L> {
         answer
     }
 
+    fn failures(&self) -> u64 {
+        self.failures
+    }
+
+    ghost settled = { λ store held left holds may. leaves_held_alone L.LAYOUT _ held holds (λ db there. S.settled store.connection.store db there) left may };
+
+    ghost leaves_held = { λ store held holds. leaves_held L.LAYOUT _ held holds (λ db there. S.settled store.connection.store db there) };
+
+    ghost is_apart = { λ store held holds. holds.kept.apart };
+
+    ghost has_few_texts = { λ store held holds. few_texts_of L.LAYOUT held holds.kept };
+}
+
+impl<S: Alter, L: StoreLayout> Keeper for BlobStore<S, L> {
     fn put(
         &mut self,
         alloc: Global,
@@ -199,14 +213,4 @@ impl<S: Alter, L: StoreLayout> Keeper for BlobStore<S, L> {
         self.failures = failures_after(&answer, self.failures);
         answer
     }
-
-    fn failures(&self) -> u64 {
-        self.failures
-    }
-
-    ghost settled = { λ store held left holds may. leaves_held_alone L.LAYOUT _ held holds (λ db there. S.settled store.connection.store db there) left may };
-
-    ghost leaves_held = { λ store held holds. leaves_held L.LAYOUT _ held holds (λ db there. S.settled store.connection.store db there) };
-
-    ghost is_apart = { λ store held holds. holds.kept.apart };
 }

@@ -235,6 +235,7 @@ fn link_rows<'a>(
 
 /// Writes the rows of elements, each table in turn.
 fn write_columns<S: Alter>(
+    alloc: Global,
     transaction: &mut Transaction<'_, S>,
     elements: &[ElementRow<'_>],
     tags: &[TagRow<'_>],
@@ -249,9 +250,9 @@ fn write_columns<S: Alter>(
     ensures ours { IfErr result (λ fault. ¬ (IsForeign fault)) }
     ensures survives { Survives (state S.Store transaction.old.conn.now) (state S.Store transaction.new.conn.now) (λ _. ⊥) }
 {
-    add_rows(transaction, elements)?;
-    add_rows(transaction, tags)?;
-    add_rows(transaction, links)
+    add_rows(alloc, transaction, elements)?;
+    add_rows(alloc, transaction, tags)?;
+    add_rows(alloc, transaction, links)
 }
 
 /// The elements of a blob, each with its tags and its links: first all rows are made, then they are written.
@@ -275,5 +276,5 @@ pub(crate) fn add_columns<S: Alter>(
     let element_rows = element_rows(alloc, off, elements)?;
     let tag_rows = tag_rows(alloc, off, elements)?;
     let link_rows = link_rows(alloc, off, elements)?;
-    write_columns(transaction, &element_rows, &tag_rows, &link_rows)
+    write_columns(alloc, transaction, &element_rows, &tag_rows, &link_rows)
 }

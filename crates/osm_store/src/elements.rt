@@ -23,7 +23,7 @@ use osm_value::MemberKind;
 use sqlite::{Alter, Connection};
 use std::alloc::Global;
 
-/// No blob is held from here on.
+/// No held blob starts here or later, or ends later.
 pub(crate) const OFFSET_LIMIT: u64 = 1 << 62;
 
 /// The rows of the blob at this offset; none where no blob is held there.

@@ -1,18 +1,19 @@
 //! The extents of the held blobs.
 
-ghost use Rattle.std.specs.Prelude.{◌≡◌, ◌∷◌, [], ◌<◌, ◌≤◌, ◌^◌, ℕ, ℤ, pos, Bool, true, filter, if◌then◌else◌, Some, None, Ok, List, map, length, IsTrue, MatchResult, All};
+ghost use Rattle.std.specs.Prelude.{◌≡◌, ◌∷◌, [], ◌<◌, ◌≤◌, ◌^◌, ℕ, ℤ, pos, Bool, true, filter, if◌then◌else◌, Some, None, Ok, List, map, length, IsTrue, MatchResult, IfOk, All};
 ghost use Rattle.sqlite.specs.declared.types.Value.TheVariants.{Int};
 ghost use Rattle.sqlite.specs.Order.{Row};
 ghost use Rattle.sqlite.specs.State.{HasCleanDisk};
 ghost use Rattle.sqlite.specs.Held.{state};
 ghost use Rattle.osm_store.specs.Asking.{JustAsks};
 ghost use Rattle.osm_store.specs.Held.{HeldMap};
-ghost use Rattle.osm_store.specs.LayoutHolding.{Holds};
-ghost use Rattle.osm_store.specs.Keeping.{IsForeign, extents_of, touches};
+ghost use Rattle.osm_store.specs.LayoutHolding.{Holds, IsKeptExtent};
+ghost use Rattle.osm_store.specs.Keeping.{IsForeign, IsRange, extents_of, touches};
 ghost use Rattle.osm_store.specs.Rows.{blob_code, extent_columns};
 ghost use Rattle.osm_store.specs.Starting.{IsStart};
 
 use crate::answer::{answer, integer, number};
+use crate::elements::OFFSET_LIMIT;
 use crate::fault::{StoreFault, unread};
 use crate::keeper::Extent;
 use crate::layout::Layout;
@@ -35,7 +36,8 @@ fn blob_kind(code: u64) -> Option<Kind>
 
 /// The extent that a row stands for.
 fn extent_of(row: &Row) -> Result<Extent, StoreFault>
-    ensures { (extent : Extent) → length extent.digest ≡ 32 → row.now ≡ extent_columns extent → MatchResult result (λ found. found ≡ extent) (λ fault. fault ≡ StoreFault.Memory) }
+    ensures exact { (extent : Extent) → IsKeptExtent extent → row.now ≡ extent_columns extent → MatchResult result (λ found. found ≡ extent) (λ fault. fault ≡ StoreFault.Memory) }
+    ensures range { IfOk result IsRange }
 {
     let off: u64 = row.get(0).map_err(unread)?;
     let fin: u64 = row.get(1).map_err(unread)?;
@@ -45,6 +47,9 @@ fn extent_of(row: &Row) -> Result<Extent, StoreFault>
     let (Some(digest), Some(kind)) = (digest.as_array(), blob_kind(code)) else {
         return Err(StoreFault::NotThisStore(None));
     };
+    if off >= fin || fin > OFFSET_LIMIT {
+        return Err(StoreFault::NotThisStore(None));
+    }
     Ok(Extent {
         off,
         fin,
@@ -56,7 +61,8 @@ fn extent_of(row: &Row) -> Result<Extent, StoreFault>
 
 /// The extents that the rows stand for.
 fn read_extents(alloc: Global, rows: &[Row]) -> Result<Vec<Extent>, StoreFault>
-    ensures { (extents : List Extent) → All (λ extent. length extent.digest ≡ 32) extents → rows.now ≡ map extent_columns extents → MatchResult result (λ found. found.items ≡ extents) (λ fault. fault ≡ StoreFault.Memory) }
+    ensures exact { (extents : List Extent) → All IsKeptExtent extents → rows.now ≡ map extent_columns extents → MatchResult result (λ found. found.items ≡ extents) (λ fault. fault ≡ StoreFault.Memory) }
+    ensures ranges { IfOk result (λ found. All IsRange found.items) }
 {
     let mut extents = Vec::new(alloc);
     for row in rows {
@@ -72,6 +78,7 @@ pub(crate) fn all_extents<S: Alter>(
 ) -> Result<Vec<Extent>, StoreFault>
     ensures held { HasCleanDisk (state S.Store connection.new) → (layout : Layout) (held : HeldMap) → Holds layout (state S.Store connection.old) held
         → MatchResult result (λ extents. (extents.items ≡ extents_of held) × IsTrue (state S.Store connection.new).is_open) (λ fault. ¬ (IsForeign fault)) }
+    ensures ranges { IfOk result (λ extents. All IsRange extents.items) }
     ensures asks { JustAsks (state S.Store connection.old) (state S.Store connection.new) }
 {
     let rows = answer(connection, SELECT_EXTENTS, &[])?;

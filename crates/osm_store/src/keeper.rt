@@ -1,10 +1,10 @@
 //! What is asked of a store.
-ghost use Rattle.std.specs.Prelude.{◌≡◌, ◌⊎◌, ℕ, ◌^◌, ◌<◌, ◌≤◌, Some, OnOk, OnErr, IfOk, filter, length};
+ghost use Rattle.std.specs.Prelude.{◌≡◌, ◌⊎◌, ℕ, ◌^◌, ◌<◌, ◌≤◌, Some, OnOk, OnErr, IfOk, All, filter, length};
 ghost use Rattle.std.specs.FinMap as map;
 ghost use Rattle.osm_store.specs.Held.{Blob, HeldMap, IsFree, IsApart, HaveFewTexts};
 ghost use Rattle.osm_store.specs.Loading.{HasRowsOf};
 ghost use Rattle.osm_store.specs.Finding.{AreMatches};
-ghost use Rattle.osm_store.specs.Keeping.{extents_of, touches, OnlyReads, Adds};
+ghost use Rattle.osm_store.specs.Keeping.{extents_of, touches, IsRange, OnlyReads, Adds};
 ghost use Rattle.osm_store.specs.Rows.{is_of, placed_in};
 
 use crate::fault::StoreFault;
@@ -29,8 +29,8 @@ pub struct Extent {
     pub n: u64,
 }
 
-/// A store of blobs, which stands for a finite map from offsets.
-pub trait Keeper {
+/// What is read of a store of blobs, which stands for a finite map from offsets.
+pub trait Reader {
     /// The store can go on, and its tables' rows are those of this map.
     ghost holds: { Self → HeldMap → Type 0 };
 
@@ -54,6 +54,7 @@ pub trait Keeper {
     fn extents(&mut self, alloc: Global) -> Result<Vec<Extent>, StoreFault>
         ensures all { (held : HeldMap) → holds self.old held → is_honest self.new
             → IfOk result (λ extents. extents.items ≡ extents_of held) }
+        ensures ranges { IfOk result (λ extents. All IsRange extents.items) }
         ensures reads { OnlyReads holds leaves leaves_a_map is_honest is_open failures self.old result self.new };
 
     /// The held extents that share a byte with `from..to`, ascending by offset; both are offsets in bytes, `to` at
@@ -84,6 +85,25 @@ pub trait Keeper {
             → IfOk result (λ found. AreMatches found (filter (is_of kind id) (placed_in held))) }
         ensures reads { OnlyReads holds leaves leaves_a_map is_honest is_open failures self.old result self.new };
 
+    /// How many calls have answered a fault, up to 2 ^ 64 - 1.
+    fn failures(&self) -> u64
+        ensures { result ≡ failures self.now };
+
+    /// While the store can go on, a crash leaves what it holds and nothing else.
+    ghost settled: { (store : Self) (held left : HeldMap) → holds store held → leaves store left → left ≡ held };
+
+    /// Where a map is held, whatever a crash leaves is a map.
+    ghost leaves_held: { (store : Self) (held : HeldMap) → holds store held → leaves_a_map store };
+
+    /// A map that is held is one of extents that don't meet.
+    ghost is_apart: { (store : Self) (held : HeldMap) → holds store held → IsApart held };
+
+    /// A map that is held is one of elements that use few texts.
+    ghost has_few_texts: { (store : Self) (held : HeldMap) → holds store held → (off : ℕ) (blob : Blob) → map.get held off ≡ Some blob → HaveFewTexts blob.elements };
+}
+
+/// A store of blobs that takes more of them.
+pub trait Keeper: Reader {
     /// Adds a blob where no held extent is touched: its bytes are those from `off` to `fin`, at most 2^62, and `digest` is
     /// the SHA-256 of its frame (FIPS 180-4). It is added whole, or a fault is answered and, where the store needn't be
     /// opened again, what is held stays. A crash during the call leaves what was held, or that with the whole blob.
@@ -98,20 +118,6 @@ pub trait Keeper {
     ) -> Result<(), StoreFault>
         requires order { off < fin }
         requires limit { fin ≤ 2 ^ 62 }
-        requires texts { HaveFewTexts elements.now }
-        ensures adds { Adds holds leaves leaves_a_map is_honest is_open failures off
+        ensures adds { Adds Self.holds Self.leaves Self.leaves_a_map Self.is_honest Self.is_open Self.failures off
             (record { fin = fin; digest = digest.now; kind = kind; elements = elements.now }) self.old result self.new };
-
-    /// How many calls have answered a fault, up to 2 ^ 64 - 1.
-    fn failures(&self) -> u64
-        ensures { result ≡ failures self.now };
-
-    /// While the store can go on, a crash leaves what it holds and nothing else.
-    ghost settled: { (store : Self) (held left : HeldMap) → holds store held → leaves store left → left ≡ held };
-
-    /// Where a map is held, whatever a crash leaves is a map.
-    ghost leaves_held: { (store : Self) (held : HeldMap) → holds store held → leaves_a_map store };
-
-    /// A map that is held is one of extents that don't meet.
-    ghost is_apart: { (store : Self) (held : HeldMap) → holds store held → IsApart held };
 }

@@ -29,6 +29,6 @@ mod version;
 pub use blob_store::{BlobStore, BodyStore, TableStore};
 pub use fault::StoreFault;
 pub use found::Found;
-pub use keeper::{Extent, Keeper};
+pub use keeper::{Extent, Keeper, Reader};
 pub use layout::{Bodies, StoreLayout, Tables};
 pub use loaded::Loaded;

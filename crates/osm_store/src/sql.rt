@@ -40,6 +40,33 @@ pub(crate) const INSERT_TAG: &str =
 pub(crate) const INSERT_LINK: &str =
     "INSERT INTO link (off, pos, k, kind, ref, role) VALUES (?1, ?2, ?3, ?4, ?5, ?6)";
 
+/// A statement with one row after VALUES, which is given 31 further rows. The prover reads the whole text, and a
+/// parameter is `?` alone: each stands for the value after the last one's, so that all rows are of one form.
+macro_rules! with_31_more {
+    ($statement:literal, $row:literal) => {
+        concat!(
+            $statement, $row, $row, $row, $row, $row, $row, $row, $row, $row, $row, $row, $row,
+            $row, $row, $row, $row, $row, $row, $row, $row, $row, $row, $row, $row, $row, $row,
+            $row, $row, $row, $row, $row
+        )
+    };
+}
+
+pub(crate) const INSERT_ELEMENTS: &str = with_31_more!(
+    "INSERT INTO element (off, pos, kind, id, lat, lon, version, time, changeset, uid, user, visible) VALUES (?, ?, ?, ?, ?, ?, ?, ?, ?, ?, ?, ?)",
+    ", (?, ?, ?, ?, ?, ?, ?, ?, ?, ?, ?, ?)"
+);
+
+pub(crate) const INSERT_TAGS: &str = with_31_more!(
+    "INSERT INTO tag (off, pos, k, key, val) VALUES (?, ?, ?, ?, ?)",
+    ", (?, ?, ?, ?, ?)"
+);
+
+pub(crate) const INSERT_LINKS: &str = with_31_more!(
+    "INSERT INTO link (off, pos, k, kind, ref, role) VALUES (?, ?, ?, ?, ?, ?)",
+    ", (?, ?, ?, ?, ?, ?)"
+);
+
 pub(crate) const SELECT_VERSION: &str = "SELECT version FROM meta";
 
 pub(crate) const SELECT_EXTENTS: &str = "SELECT off, fin, digest, kind, n FROM blob ORDER BY off";

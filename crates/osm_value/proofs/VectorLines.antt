@@ -1,8 +1,7 @@
 -- The lines of elements, computed.
-use Rattle.std.specs.Prelude.{◌≡◌, ℕ, List, [], ◌∷◌, ◌++◌, refl, Option, Some, None, ℤ, pos, negsuc, codes, map}
+use Rattle.std.specs.Prelude.{◌≡◌, [], ◌∷◌, ◌++◌, refl, Some, None, pos, negsuc, codes, map}
 use Rattle.std.specs.Fmt.{digits}
 use Rattle.osm_value.specs.declared.element.MemberKind.TheVariants as kinds
-use Rattle.osm_value.specs.declared.element.Element.{Element}
 use Rattle.osm_value.specs.declared.element.Element.TheVariants.{Node, Way, Relation}
 use Rattle.osm_value.specs.Line.{line}
 

@@ -3,6 +3,7 @@
 
 mod element;
 mod fault;
+mod form;
 pub mod laws;
 mod line;
 mod outlet;
@@ -12,11 +13,9 @@ mod sink;
 
 pub use element::{Element, Info, Member, MemberKind, Node, Relation, Way};
 pub use fault::LineFault;
+pub use form::Form;
 pub use line::write_line;
 pub use outlet::Outlet;
 pub use pieces::{put, put_digits, put_escaped, put_number};
 pub use range::{text_in_range, uid_in_range, version_in_range, wide_in_range};
 pub use sink::{Sink, SinkFailed};
-
-#[cfg(test)]
-mod tests;

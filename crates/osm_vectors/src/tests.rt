@@ -1,22 +1,22 @@
+mod blobs;
 mod blocks;
 mod changed;
-mod deliveries;
-mod dense;
 mod encoding;
 mod failing;
+mod framers;
 mod frames;
 mod header;
-mod reading;
-mod stops;
-mod stores;
-mod tables;
+mod lines;
+mod values;
+mod wire;
 mod writing;
 
 use osm_value::{Element, Info, Outlet, write_line};
+use std::alloc::Global;
 use std::test::*;
 
 /// The lines of elements.
-fn lines_of(rt: &HostRuntime, elements: &[Element]) -> Result<Vec<u8>, Fail> {
+fn lines_of(rt: &impl Alloc<A = Global>, elements: &[Element]) -> Result<Vec<u8>, Fail> {
     let mut outlet = Outlet::new(Vec::new(rt.alloc()));
     for element in elements {
         write_line(element, &mut outlet)?;

@@ -1,18 +1,18 @@
 -- When a framer takes nothing, and when its input may end.
-use Rattle.std.proofs.Common.{◌≡◌, ◌⊎◌, ℕ, ◌+◌, ◌-◌, ◌<◌, ◌≤◌, Bool, true, false, cond, eqb, List, [], ◌++◌, length, take, Option, Some, None, Result, Ok, Err, refl, sym, ap, subst, inl, inr, ◌∙◌, arith, append-nil, zero, suc}
+use Rattle.std.proofs.Common.{◌≡◌, ◌⊎◌, ℕ, ◌-◌, ◌<◌, ◌≤◌, Bool, true, false, cond, eqb, List, [], ◌++◌, length, take, Option, Some, Result, Ok, Err, refl, sym, ap, subst, inl, inr, ◌∙◌, arith, append-nil, zero, suc}
 use Rattle.std.specs.Prelude.{IfOk, IfErr, ◌↔◌}
 use Rattle.std.proofs.lemmas.Bool.{cases_lt, eqb-true, eqb-false, eq-eqb}
 use Rattle.std.proofs.lemmas.List.{length-take, nil_from_length}
-use Rattle.pbf_wire.specs.Fault.{◌>>=◌, outcome}
-use Rattle.pbf_wire.proofs.Choices.{chosen, ok_is, err_is, not_both, neither_both, then_ok, then_err}
+use Rattle.pbf_wire.specs.Fault.{outcome}
+use Rattle.pbf_wire.proofs.Choices.{chosen, err_is, not_both, neither_both, then_ok, then_err}
 use Rattle.pbf_frame.specs.declared.fault.FrameFault.{FrameFault}
 use Rattle.pbf_frame.specs.declared.fault.FrameFault.TheVariants.{LengthCut, HeaderTooLong, HeaderCut, HeaderWire, NoType, NoSize, SizeOutOfRange, BlobCut, Trailing, OffsetTooLarge}
 use Rattle.pbf_frame.specs.Frame.{FirstFault, Found, found_at, frame_at}
 use Rattle.pbf_frame.specs.Framer.{Framing, FaultStands, FrameWaits, IsKept, IsUnfinished, MayEnd, TakesNothing, ended, fed, lacking, let_go, rest_in, taken, waiting}
 use Rattle.pbf_frame.specs.Parts.{is_cut, is_early, part_end}
-use Rattle.pbf_frame.proofs.FrontLaws.{SameEnd, same_end}
+use Rattle.pbf_frame.proofs.FrontLaws.{same_end}
 use Rattle.pbf_frame.proofs.FrameLaws.{frame_faults, frame_again, frame_len}
-use Rattle.pbf_frame.proofs.PartLaws.{ends, faulted, empty_part}
+use Rattle.pbf_frame.proofs.PartLaws.{ends, empty_part}
 use Rattle.pbf_frame.proofs.WaitingLaws.{early_fault, fault_read, fault_again, waits_read, waits_again, waiting_again, waiting_faulted, waiting_faults, waiting_read}
 
 -- ---- what is taken

@@ -4,8 +4,8 @@ use Rattle.std.proofs.lemmas.Bool.{ltb-false}
 use Rattle.pbf_wire.proofs.Choices.{chosen, ok_is, neither_both}
 use Rattle.pbf_wire.specs.Fault.{◌>>=◌}
 use Rattle.pbf_frame.specs.declared.fault.FrameFault.{FrameFault}
-use Rattle.pbf_frame.specs.declared.fault.FrameFault.TheVariants.{LengthCut, HeaderTooLong, HeaderCut, BlobCut, OffsetTooLarge}
-use Rattle.pbf_frame.specs.Frame.{Found, found_at, frame_at, header_at, header_len, header_of}
+use Rattle.pbf_frame.specs.declared.fault.FrameFault.TheVariants.{LengthCut, HeaderCut, BlobCut, OffsetTooLarge}
+use Rattle.pbf_frame.specs.Frame.{Found, found_at, frame_at}
 use Rattle.pbf_frame.specs.Front.{Begun, Length, Header, Blob, front_at}
 use Rattle.pbf_frame.specs.Parts.{blob_end, part_end}
 

@@ -1,11 +1,11 @@
 -- The front of a frame, as far as it is there. OpenStreetMap Wiki, "PBF Format", "File format".
-use Rattle.std.specs.Prelude.{◌≡◌, ℕ, ◌+◌, ◌≤◌, nat_lt, List, length, Result, Ok, Err, if◌then◌else◌, ⊤}
+use Rattle.std.specs.Prelude.{ℕ, ◌+◌, ◌≤◌, nat_lt, List, length, Result, Ok, Err, if◌then◌else◌, ⊤}
 use Rattle.pbf_wire.specs.Fault.{◌>>=◌}
 use Rattle.pbf_frame.specs.declared.fault.FrameFault.{FrameFault}
-use Rattle.pbf_frame.specs.declared.fault.FrameFault.TheVariants.{LengthCut, HeaderTooLong, HeaderCut, BlobCut}
+use Rattle.pbf_frame.specs.declared.fault.FrameFault.TheVariants.{HeaderTooLong}
 use Rattle.pbf_frame.specs.declared.front.Front.{Front}
 use Rattle.pbf_frame.specs.declared.front.Front.TheVariants as fronts
-use Rattle.pbf_frame.specs.Frame.{Found, found_at, header_at, header_len, header_of}
+use Rattle.pbf_frame.specs.Frame.{header_at, header_len, header_of}
 
 -- the part that has begun: the length bytes; the header, with its end; the blob, with its type, start and size
 pub data Begun : Type 0 where

@@ -17,6 +17,3 @@ pub use frame::{Frame, read_frame, whole_frame};
 pub use framer::Framer;
 pub use kind::Kind;
 pub use write::write_frame;
-
-#[cfg(test)]
-mod tests;

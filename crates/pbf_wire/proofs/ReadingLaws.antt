@@ -1,5 +1,5 @@
 -- What is read from a payload against what a field list is.
-use Rattle.std.proofs.Common.{◌≡◌, ℕ, ◌-◌, List, [], ◌∷◌, ◌++◌, Option, Some, None, Result, Ok, Err, refl, sym, ap, inl, inr, ◌∙◌, arith, drop, take, subst}
+use Rattle.std.proofs.Common.{◌≡◌, ℕ, List, [], ◌∷◌, ◌++◌, Some, None, Result, Ok, Err, refl, ap, inl, inr, ◌∙◌, take}
 use Rattle.std.specs.Prelude.{map}
 use Rattle.pbf_wire.specs.declared.fault.WireFault.{WireFault}
 use Rattle.pbf_wire.specs.Field.{Entry, Fields, Wire}

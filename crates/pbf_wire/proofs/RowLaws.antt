@@ -1,7 +1,6 @@
 -- The plain reading of a row of numbers against what a row of numbers is.
-use Rattle.std.proofs.Common.{◌≡◌, ℕ, zero, suc, ◌+◌, ◌-◌, ◌<◌, ◌≤◌, List, [], ◌∷◌, ◌++◌, length, take, drop, Option, Some, None, Result, Ok, Err, refl, sym, ap, subst, inl, inr, ◌∙◌, arith, append_assoc}
-use Rattle.std.specs.Prelude.{map}
-use Rattle.std.proofs.lemmas.List.{drop_at, take_at, drop-drop, length-append, length-take, length-drop, take-append-drop}
+use Rattle.std.proofs.Common.{◌≡◌, ℕ, zero, suc, ◌+◌, ◌-◌, ◌<◌, ◌≤◌, List, [], ◌∷◌, ◌++◌, length, take, drop, Some, None, Result, Ok, Err, refl, sym, ap, subst, inl, inr, ◌∙◌, arith, append_assoc}
+use Rattle.std.proofs.lemmas.List.{drop_at, drop-drop, length-append, length-take, length-drop, take-append-drop}
 use Rattle.std.proofs.Math.Seq.{take-add}
 use Rattle.pbf_wire.specs.declared.fault.WireFaultKind.{WireFaultKind}
 use Rattle.pbf_wire.specs.declared.fault.WireFault.{WireFault}
@@ -9,7 +8,7 @@ use Rattle.pbf_wire.specs.Fault.{◌>>=◌, placed}
 use Rattle.pbf_wire.specs.Number.{Num, NumberFault, number_at}
 use Rattle.pbf_wire.specs.Row.{Row, RowFault}
 use Rattle.pbf_wire.specs.FieldList.{all_ok}
-use Rattle.pbf_wire.specs.Readings.{front, first_fault, number_and, row_within, row, numbers, packed}
+use Rattle.pbf_wire.specs.Readings.{number_and, row_within, row, numbers, packed}
 use Rattle.pbf_wire.proofs.Choices.{ok_is, err_is, not_both, neither_both, then_ok, then_err}
 use Rattle.pbf_wire.proofs.FieldLaws.{number_at_takes, number_at_again, number_at_faults, faults_at_again}
 use Rattle.pbf_wire.proofs.ReadingLaws.{is_front, is_fault, front_is, fault_is}

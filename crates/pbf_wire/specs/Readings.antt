@@ -7,7 +7,7 @@ use Rattle.std.specs.Int.{w32, w64, cast_signed}
 use Rattle.pbf_wire.specs.declared.fault.WireFault.{WireFault}
 use Rattle.pbf_wire.specs.Fault.{placed}
 use Rattle.pbf_wire.specs.Number.{number_at}
-use Rattle.pbf_wire.specs.Field.{Content, Number, Fixed64, Bytes, Fixed32, Entry}
+use Rattle.pbf_wire.specs.Field.{Content, Number, Bytes, Entry}
 use Rattle.pbf_wire.specs.FieldList.{items_from, last_or}
 
 -- what stands in front of the first fault

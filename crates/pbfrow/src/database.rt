@@ -1,22 +1,24 @@
 //! The commands on a database: its file is opened, and the answer goes to standard output.
 
-ghost use Rattle.std.specs.Prelude.{◌≤◌};
+ghost use Rattle.std.specs.Prelude.{◌≡◌, ◌≤◌, false};
+ghost use Rattle.sqlite.specs.Held.{state};
 
 use crate::FAULTY;
-use crate::export::export;
-use crate::find::find;
-use crate::import::import;
 use crate::meter::Meter;
 use crate::metered::{BlobLines, MeteredOutput, MeteredReader, MeteredStore};
-use crate::report::{put_fault_at, put_plain_fault};
-use crate::status::status;
-use crate::words::Form;
 use osm_import::{Inlet, Stop};
-use osm_store::{StoreFault, TableStore};
-use osm_value::{MemberKind, Outlet};
-use sqlite::{Connection, Error, ErrorCode, File, FileStore};
+use osm_store::{Keeper, Reader, StoreFault, TableStore};
+use osm_value::{Form, MemberKind, Outlet};
+use pbfrow_commands::export::export;
+use pbfrow_commands::find::find;
+use pbfrow_commands::import::import;
+use pbfrow_commands::report::{put_fault_at, put_store_fault};
+use pbfrow_commands::status::status;
+use sqlite::{Alter, Connection, Error, ErrorCode};
+use std::alloc::Global;
+use std::fs::File;
 use std::io;
-use std::io::{BufWriter, ErrorKind, LineWriter, Write};
+use std::io::{BufWriter, ErrorKind, LineWriter, Read, Write};
 
 /// What is asked of a database.
 #[derive(Clone, Copy, Debug, PartialEq, Eq)]
@@ -35,9 +37,6 @@ pub(crate) enum Question {
     },
 }
 
-/// A store in a file.
-type FileTables = TableStore<FileStore<File>>;
-
 /// Why a database isn't opened: memory was refused, or any other cause.
 fn unopened(error: Error) -> StoreFault {
     match error {
@@ -46,12 +45,28 @@ fn unopened(error: Error) -> StoreFault {
     }
 }
 
-/// Opens the store in a database file. Where the file has no store, it is made.
-fn open_or_create(rt: &HostRuntime, database: &str) -> Result<FileTables, StoreFault> {
-    let connection = match Connection::open(rt, database) {
-        Ok(connection) => connection,
-        Err(error) => return Err(unopened(error)),
-    };
+/// Writes the line of a fault of a database, and answers the exit status.
+fn refuse<W: Write>(out: &mut Outlet<W>, fault: StoreFault) -> u8 {
+    put_store_fault(out, fault);
+    FAULTY
+}
+
+/// The store that a connection has.
+fn adopted<S: Alter + Drop>(connection: Connection<S>) -> Result<TableStore<S>, StoreFault>
+    requires { (state S.Store connection).in_transaction ≡ false }
+{
+    match TableStore::adopt(connection) {
+        Ok(store) => Ok(store),
+        Err((fault, _)) => Err(fault),
+    }
+}
+
+/// The store that a connection has. Where it has none, it is made.
+fn adopted_or_created<S: Alter + Drop>(
+    connection: Connection<S>,
+) -> Result<TableStore<S>, StoreFault>
+    requires { (state S.Store connection).in_transaction ≡ false }
+{
     let (fault, connection) = match TableStore::adopt(connection) {
         Ok(store) => return Ok(store),
         Err(refused) => refused,
@@ -67,33 +82,109 @@ fn open_or_create(rt: &HostRuntime, database: &str) -> Result<FileTables, StoreF
 
 /// Whether a file isn't there. One that can't be looked at for another cause counts as there.
 fn is_missing(rt: &HostRuntime, name: &str) -> bool {
-    match std::fs::File::open(rt, name) {
+    match File::open(rt, name) {
         Ok(_) => false,
         Err(error) => error.kind() == ErrorKind::NotFound,
     }
 }
 
-/// Opens the store in a database file.
-fn open_store(rt: &HostRuntime, database: &str) -> Result<FileTables, StoreFault> {
-    if is_missing(rt, database) {
-        return Err(StoreFault::NotThisStore(None));
+/// Imports what a reader gives into a store, and answers the exit status.
+fn imported<R: Read + Drop, K: Keeper, W: Write>(
+    alloc: Global,
+    reader: R,
+    store: &mut K,
+    from: u64,
+    out: &mut Outlet<W>,
+) -> u8
+    requires { from ≤ 4611686018427387904 }
+{
+    import(alloc, &mut Inlet::new(reader), store, from, out)
+}
+
+/// Imports what a reader gives into the store of a connection, which is made where it has none. Answers the exit status,
+/// and gives the connection back unless it has another store.
+fn filled<S: Alter + Drop, R: Read + Drop, W: Write>(
+    alloc: Global,
+    connection: Connection<S>,
+    reader: R,
+    from: u64,
+    out: &mut Outlet<W>,
+) -> (u8, Option<Connection<S>>)
+    requires within { from ≤ 4611686018427387904 }
+    requires settled { (state S.Store connection).in_transaction ≡ false }
+{
+    match adopted_or_created(connection) {
+        Ok(mut store) => {
+            let status = imported(alloc, reader, &mut store, from, out);
+            (status, Some(store.into_connection()))
+        }
+        Err(fault) => (refuse(out, fault), None),
     }
-    let connection = match Connection::open(rt, database) {
-        Ok(connection) => connection,
-        Err(error) => return Err(unopened(error)),
+}
+
+/// Asks a question of a store, and answers the exit status.
+fn answer<K: Reader + Drop, W: Write>(
+    alloc: Global,
+    mut store: K,
+    question: Question,
+    meter: &Meter,
+    out: &mut Outlet<W>,
+) -> u8 {
+    match question {
+        Question::Status { size } => status(alloc, &mut store, size, out),
+        Question::Export {
+            size,
+            partial,
+            form,
+        } => {
+            let mut store = MeteredStore::new(store, meter);
+            export(alloc, &mut store, size, partial, form, out)
+        }
+        Question::Find { kind, id } => find(alloc, &mut store, kind, id, out),
+    }
+}
+
+/// Asks a question of the store of a connection, and answers the exit status.
+fn asked<S: Alter + Drop, W: Write>(
+    alloc: Global,
+    connection: Connection<S>,
+    question: Question,
+    meter: &Meter,
+    out: &mut Outlet<W>,
+) -> u8
+    requires { (state S.Store connection).in_transaction ≡ false }
+{
+    match adopted(connection) {
+        Ok(store) => answer(alloc, store, question, meter, out),
+        Err(fault) => refuse(out, fault),
+    }
+}
+
+/// Imports what a reader gives into a database file, and answers the exit status.
+fn fill_from<R: Read + Drop, W: Write>(
+    rt: &HostRuntime,
+    reader: R,
+    database: &str,
+    from: u64,
+    meter: &Meter,
+    out: &mut Outlet<W>,
+) -> u8
+    requires { from ≤ 4611686018427387904 }
+{
+    let (status, connection) = match Connection::open(rt, database) {
+        Ok(connection) => filled(rt.alloc(), connection, reader, from, out),
+        Err(error) => return refuse(out, unopened(error)),
     };
-    match TableStore::adopt(connection) {
-        Ok(store) => Ok(store),
-        Err((fault, _)) => Err(fault),
+    meter.erase();
+    if let Some(connection) = connection {
+        // the log is copied into the database; where that fails it stays, and the next opening reads it
+        let _closed = connection.close();
     }
+    status
 }
 
-/// Copies the log beside the database into it. Where that fails, the log stays, and the next opening reads it.
-fn close(store: FileTables) {
-    let _closed = store.into_connection().close();
-}
-
-/// Imports a file into a database, from the offset `from` on, and answers the exit status.
+/// Imports a file into a database, from the offset `from` on, and answers the exit status. Where the file can't be opened,
+/// no database is made.
 pub(crate) fn fill(rt: &HostRuntime, file: &str, database: &str, from: u64) -> io::Result<u8>
     requires { from ≤ 4611686018427387904 }
 {
@@ -101,64 +192,39 @@ pub(crate) fn fill(rt: &HostRuntime, file: &str, database: &str, from: u64) -> i
     let lines = BlobLines::new(MeteredOutput::new(io::writer(rt), &meter), &meter);
     // each line goes out before more is read
     let mut out = Outlet::new(LineWriter::new(rt.alloc(), lines)?);
-    let Ok(input) = std::fs::File::open(rt, file) else {
+    let Ok(input) = File::open(rt, file) else {
         let fault = Stop::ReadFailed;
         put_fault_at(&mut out, fault.number(), fault.name(), from);
         return Ok(FAULTY);
     };
-    let mut store = match open_or_create(rt, database) {
-        Ok(store) => store,
-        Err(fault) => {
-            put_plain_fault(&mut out, fault.number(), fault.name());
-            return Ok(FAULTY);
-        }
-    };
     meter.measure(&input);
-    let status = import(
-        rt.alloc(),
-        &mut Inlet::new(MeteredReader::new(input, &meter)),
-        &mut store,
-        from,
-        &mut out,
-    );
-    meter.erase();
-    close(store);
-    Ok(status)
+    let reader = MeteredReader::new(input, &meter);
+    Ok(fill_from(rt, reader, database, from, &meter, &mut out))
 }
 
-fn answer<W: Write>(
+/// Asks a question of a database file, and answers the exit status.
+fn ask_in<W: Write>(
     rt: &HostRuntime,
-    mut store: FileTables,
+    database: &str,
     question: Question,
     meter: &Meter,
     out: &mut Outlet<W>,
 ) -> u8 {
-    match question {
-        Question::Status { size } => status(rt.alloc(), &mut store, size, out),
-        Question::Export {
-            size,
-            partial,
-            form,
-        } => {
-            let mut store = MeteredStore::new(store, meter);
-            export(rt.alloc(), &mut store, size, partial, form, out)
-        }
-        Question::Find { kind, id } => find(rt.alloc(), &mut store, kind, id, out),
+    if is_missing(rt, database) {
+        return refuse(out, StoreFault::NotThisStore(None));
+    }
+    match Connection::open(rt, database) {
+        Ok(connection) => asked(rt.alloc(), connection, question, meter, out),
+        Err(error) => refuse(out, unopened(error)),
     }
 }
 
-/// Asks a question of a database, and answers the exit status.
+/// Asks a question of a database, and answers the exit status. Where there is no database, none is made.
 pub(crate) fn ask(rt: &HostRuntime, database: &str, question: Question) -> io::Result<u8> {
     let meter = Meter::new(rt, matches!(question, Question::Export { .. }));
     let output = MeteredOutput::new(io::writer(rt), &meter);
     let mut out = Outlet::new(BufWriter::new(rt.alloc(), output)?);
-    let status = match open_store(rt, database) {
-        Ok(store) => answer(rt, store, question, &meter, &mut out),
-        Err(fault) => {
-            put_plain_fault(&mut out, fault.number(), fault.name());
-            FAULTY
-        }
-    };
+    let status = ask_in(rt, database, question, &meter, &mut out);
     let flushed = out.flush();
     meter.erase();
     match flushed {

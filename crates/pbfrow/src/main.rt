@@ -3,41 +3,26 @@
 #![tactic(auto)]
 
 ghost use Rattle.std.specs.Prelude.{◌≤◌};
-ghost use Rattle.pbfrow.specs.Words.{BeginsWithin};
+ghost use Rattle.pbfrow_words.specs.Words.{BeginsWithin};
 
-mod check;
 mod database;
-mod definition;
-mod element;
-mod export;
-mod fault;
-mod find;
-mod import;
-mod input;
-pub mod laws;
-mod list;
 mod meter;
 mod metered;
-mod progress;
-mod report;
-mod show;
-mod status;
-mod words;
 
-use check::check;
 use clap::Error;
 use database::{Question, ask, fill};
-use input::refuse_input;
-use list::list;
 use meter::Meter;
 use metered::{MeteredOutput, MeteredReader};
-use show::show;
+use pbfrow_commands::check::check;
+use pbfrow_commands::input::refuse_input;
+use pbfrow_commands::list::list;
+use pbfrow_commands::show::show;
+use pbfrow_words::{Words, read_words};
 use std::alloc::Global;
 use std::fs::File;
 use std::io::{BufWriter, ErrorKind, Read, Write};
 use std::process::ExitCode;
 use std::{env, io};
-use words::{Words, read_words};
 
 /// The exit status where a fault was printed, or the output couldn't be written.
 const FAULTY: u8 = 1;
@@ -167,6 +152,3 @@ fn read_with<R: Read, W: Write>(
         Reading::Show => show(alloc, &mut input, out),
     }
 }
-
-#[cfg(test)]
-mod tests;

@@ -2,7 +2,8 @@
 
 ghost use Rattle.std.specs.Prelude.{◌≡◌, ◌<◌};
 
-use crate::progress::{Progress, print_progress};
+use pbfrow_commands::progress::{Progress, print_progress};
+use pbfrow_commands::watcher::Watcher;
 use std::cell::Cell;
 use std::fs::File;
 use std::io;
@@ -144,13 +145,6 @@ impl<'a> Meter<'a> {
             self.is_drawn.set(false);
         }
     }
-}
-
-/// What is told of each blob that a command is done with.
-pub trait Watcher {
-    /// Sees that a command is done with one more blob. What it makes of that, a count or a line for who waits, changes
-    /// neither what the command writes nor its exit status, and it has no error to answer.
-    fn see_blob(&self);
 }
 
 impl Watcher for Meter<'_> {

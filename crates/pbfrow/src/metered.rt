@@ -4,9 +4,8 @@ ghost use Rattle.std.specs.Prelude.{◌≡◌};
 ghost use Rattle.osm_store.specs.Held.{HeldMap};
 
 use crate::meter::Meter;
-use osm_store::{Extent, Found, Keeper, Loaded, StoreFault};
-use osm_value::{Element, MemberKind};
-use pbf_frame::Kind;
+use osm_store::{Extent, Found, Loaded, Reader, StoreFault};
+use osm_value::MemberKind;
 use std::alloc::Global;
 use std::io;
 use std::io::{Read, Write};
@@ -110,7 +109,7 @@ pub(crate) struct MeteredStore<'a, K> {
     meter: &'a Meter<'a>,
 }
 
-impl<'a, K: Keeper> MeteredStore<'a, K> {
+impl<'a, K: Reader> MeteredStore<'a, K> {
     pub(crate) fn new(store: K, meter: &'a Meter<'a>) -> MeteredStore<'a, K>
         ensures { result.store ≡ store }
     {
@@ -118,7 +117,7 @@ impl<'a, K: Keeper> MeteredStore<'a, K> {
     }
 }
 
-impl<K: Keeper> Keeper for MeteredStore<'_, K> {
+impl<K: Reader> Reader for MeteredStore<'_, K> {
     ghost holds = { λ m held. K.holds m.store held };
 
     ghost leaves = { λ m left. K.leaves m.store left };
@@ -161,18 +160,6 @@ impl<K: Keeper> Keeper for MeteredStore<'_, K> {
         self.store.find(alloc, kind, id)
     }
 
-    fn put(
-        &mut self,
-        alloc: Global,
-        off: u64,
-        fin: u64,
-        digest: &[u8; 32],
-        kind: Kind,
-        elements: &[Element],
-    ) -> Result<(), StoreFault> {
-        self.store.put(alloc, off, fin, digest, kind, elements)
-    }
-
     fn failures(&self) -> u64 {
         self.store.failures()
     }
@@ -182,4 +169,6 @@ impl<K: Keeper> Keeper for MeteredStore<'_, K> {
     ghost leaves_held = { λ m held h. K.leaves_held m.store held h };
 
     ghost is_apart = { λ m held h. K.is_apart m.store held h };
+
+    ghost has_few_texts = { λ m held h. K.has_few_texts m.store held h };
 }

@@ -1,6 +1,7 @@
 //! Why an export ends early.
 
 ghost use Rattle.std.specs.Prelude.{◌≡◌};
+ghost use Rattle.osm_import.specs.declared.export.fault.ExportFault.TheVariants.{Store};
 ghost use Rattle.osm_import.specs.ExportFaults.{export_number_of, export_name_of};
 
 use osm_store::StoreFault;
@@ -49,5 +50,13 @@ impl ExportFault {
             ExportFault::BlockTooLarge => "BlockTooLarge",
             ExportFault::Store(fault) => fault.name(),
         }
+    }
+}
+
+impl From<StoreFault> for ExportFault {
+    ghost from_gives = { λ fault e. e ≡ Store fault };
+
+    fn from(fault: StoreFault) -> ExportFault {
+        ExportFault::Store(fault)
     }
 }

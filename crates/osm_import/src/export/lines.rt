@@ -13,7 +13,7 @@ ghost use Rattle.osm_import.specs.ExportCauses.{ExportHasCause, ExportIsOwn};
 
 use super::ExportFault;
 use super::refusal::refused;
-use osm_store::{Extent, Keeper, StoreFault};
+use osm_store::{Extent, Reader, StoreFault};
 use osm_value::{Element, LineFault, Sink, write_line};
 use std::alloc::Global;
 
@@ -32,7 +32,7 @@ fn write_lines<S: Sink>(elements: &[Element], out: &mut S) -> Result<(), LineFau
 }
 
 /// Writes the lines of the blob at an offset.
-fn write_blob<K: Keeper, S: Sink>(
+fn write_blob<K: Reader, S: Sink>(
     alloc: Global,
     keeper: &mut K,
     off: u64,
@@ -60,14 +60,14 @@ fn write_blob<K: Keeper, S: Sink>(
 }
 
 /// Writes the lines of the blobs at these extents.
-fn write_blobs<K: Keeper, S: Sink>(
+fn write_blobs<K: Reader, S: Sink>(
     alloc: Global,
     keeper: &mut K,
     extents: &[Extent],
     out: &mut S,
 ) -> Result<(), ExportFault>
-    ensures wrote { (held : HeldMap) → K.holds keeper.old held → K.is_honest keeper.new → extents.now ≡ extents_of held
-        → WritesBlobs (S.written out.old) (entries held) (S.written out.new) result }
+    ensures wrote { (held run : HeldMap) → K.holds keeper.old held → K.is_honest keeper.new → ((off : ℕ) (blob : Blob) → get run off ≡ Some blob → get held off ≡ Some blob) → extents.now ≡ extents_of run
+        → WritesBlobs (S.written out.old) (entries run) (S.written out.new) result }
     ensures rereads { Rereads K.holds K.leaves K.leaves_a_map K.is_honest K.is_open keeper.old result keeper.new }
     ensures own { (held : HeldMap) → K.holds keeper.old held → K.is_honest keeper.new → ExportIsOwn result }
     ensures cause { ExportHasCause (K.failures keeper.old) (K.failures keeper.new) (S.has_failed out.new) result }
@@ -91,7 +91,7 @@ fn write_blobs<K: Keeper, S: Sink>(
 ///
 /// Over a map that tiles a file and holds the entries of that file alone it isn't refused, with the file's size or with
 /// none, and at `Ok` it has written the lines of exactly the file's elements, in file order.
-pub fn export_lines<K: Keeper, S: Sink>(
+pub fn export_lines<K: Reader, S: Sink>(
     alloc: Global,
     keeper: &mut K,
     size: Option<u64>,

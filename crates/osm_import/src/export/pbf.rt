@@ -14,7 +14,7 @@ ghost use Rattle.osm_import.specs.Pbf.{header_frame, WritesBlocks, WritesFrames,
 
 use super::ExportFault;
 use super::refusal::refused;
-use osm_store::{Extent, Keeper, StoreFault};
+use osm_store::{Extent, Reader, StoreFault};
 use osm_value::{Element, Sink, put};
 use osm_write::{BlobCutter, WriteFault, encode_header};
 use pbf_frame::{Kind, write_frame};
@@ -80,7 +80,7 @@ fn write_blocks<S: Sink>(
 }
 
 /// Writes the frames of the blob at an offset.
-fn write_blob<K: Keeper, S: Sink>(
+fn write_blob<K: Reader, S: Sink>(
     alloc: Global,
     keeper: &mut K,
     off: u64,
@@ -104,7 +104,7 @@ fn write_blob<K: Keeper, S: Sink>(
 }
 
 /// Writes the frames of the blobs at these extents.
-fn write_blobs<K: Keeper, S: Sink>(
+fn write_blobs<K: Reader, S: Sink>(
     alloc: Global,
     keeper: &mut K,
     extents: &[Extent],
@@ -135,7 +135,7 @@ fn write_blobs<K: Keeper, S: Sink>(
 ///
 /// Over a map that tiles a file and holds the entries of that file alone it isn't refused, with the file's size or with
 /// none, and at `Ok` it has written a file: one of the same elements, in the same order, where that is 2^62 bytes at most.
-pub fn export_pbf<K: Keeper, S: Sink>(
+pub fn export_pbf<K: Reader, S: Sink>(
     alloc: Global,
     keeper: &mut K,
     size: Option<u64>,

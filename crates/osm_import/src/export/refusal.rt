@@ -20,7 +20,7 @@ fn first_gap(extents: &[Extent], size: u64) -> Option<(u64, u64)>
     if end < size { Some((end, size)) } else { None }
 }
 
-fn greatest(extents: &[Extent]) -> u64
+pub(crate) fn greatest(extents: &[Extent]) -> u64
     ensures { result ≡ greatest_end extents.now }
 {
     let mut end = 0;

@@ -2,7 +2,9 @@
 
 ghost use Rattle.std.specs.Prelude.{◌≡◌, ◌≤◌, ◌<◌, ◌+◌, [], ℕ, List, Some, IfOk, IfErr};
 ghost use Rattle.std.specs.Io.KnownBytes.{prepend_known};
+ghost use Rattle.std.specs.FinMap.{empty};
 ghost use Rattle.osm_store.specs.Held.{HeldMap};
+ghost use Rattle.osm_import.specs.Merges.{ImportsPart};
 ghost use Rattle.osm_import.specs.Streams.{Streams, Takes, TakesOne, ended_at, ImportsFile};
 ghost use Rattle.osm_import.specs.StreamSteps.{FrameStep, Gave};
 
@@ -176,6 +178,10 @@ pub fn import_stream<K: Keeper, R: Source, S: Sink>(
         (λ deliveries answers. Takes K.holds K.leaves K.leaves_a_map K.is_honest K.is_open K.failures keeper.old keeper.new deliveries answers) result }
     ensures one_file { (file : List ℕ) (held : HeldMap) → R.bytes_left reader.old ≡ Some file → from ≡ 0 → K.holds keeper.old held → K.is_honest keeper.new
         → IfOk result (λ summary. ImportsFile (K.holds keeper.new) file held summary) }
+
+    // Into a store that holds nothing, from any offset: the bytes are a row of frames, and what is held is a run of them.
+    ensures part { (piece : List ℕ) → R.bytes_left reader.old ≡ Some piece → K.holds keeper.old empty → K.is_honest keeper.new
+        → IfOk result (λ _. ImportsPart (K.holds keeper.new) from piece) }
 {
     import_all(alloc, keeper, reader, from, max_blobs, out)
 }

@@ -1,72 +1,104 @@
-use super::{lines_of, nothing_known};
+//! Blocks and the canonical blocks that their elements become.
+
+use super::nothing_known;
 use crate::vectors::*;
 use osm_block::read_block;
 use osm_value::{Element, Info, Node, Way};
 use osm_write::{encode_block, encode_header, encode_one};
 use pbf_frame::{Kind, write_frame};
+use std::alloc::Global;
+use std::process::Abort;
 use std::test::*;
 
-/// The canonical block of the elements of a block.
-fn canonical(rt: &HostRuntime, block: &[u8]) -> Result<Vec<u8>, Fail> {
-    let elements = read_block(rt.alloc(), block)?;
-    Ok(encode_block(rt.alloc(), &elements)?)
-}
-
-#[test]
-fn canonical_blocks_stay(rt: HostRuntime) -> Result<(), Fail> {
-    let blocks: [&[u8]; 10] = [
-        &NO_ELEMENTS_BLOCK,
-        &TWO_NODES_BLOCK,
-        &ONE_GROUP_BLOCK,
-        &TAGGED_NODES_BLOCK,
-        &WIDEST_IDS_BLOCK,
-        &VERSION_IN_ITS_GROUP_BLOCK,
-        &NODES_WITH_INFO_BLOCK,
-        &WAY_BLOCK,
-        &WAY_WITH_INFO_BLOCK,
-        &RELATION_BLOCK,
-    ];
-    for block in blocks {
-        assert!(rt; canonical(&rt, block)?.as_slice() == block);
+/// The elements of each block become this canonical block.
+fn expect_canonical(
+    rt: &(impl Abort + Alloc<A = Global>),
+    rows: &[(&str, &[u8], &[u8])],
+) -> Result<(), Fail> {
+    for (name, block, canonical) in rows {
+        let elements = read_block(rt.alloc(), block).expect(rt, name);
+        let encoded = encode_block(rt.alloc(), &elements)?;
+        assert!(rt; encoded.as_slice() == *canonical, "{name}");
     }
     Ok(())
 }
 
+#[test]
+fn canonical_blocks_stay(rt: HostRuntime) -> Result<(), Fail> {
+    expect_canonical(
+        &rt,
+        &[
+            ("no elements", &NO_ELEMENTS_BLOCK, &NO_ELEMENTS_BLOCK),
+            ("two nodes", &TWO_NODES_BLOCK, &TWO_NODES_BLOCK),
+            ("one group", &ONE_GROUP_BLOCK, &ONE_GROUP_BLOCK),
+            ("tagged nodes", &TAGGED_NODES_BLOCK, &TAGGED_NODES_BLOCK),
+            ("widest ids", &WIDEST_IDS_BLOCK, &WIDEST_IDS_BLOCK),
+            (
+                "a version in its group",
+                &VERSION_IN_ITS_GROUP_BLOCK,
+                &VERSION_IN_ITS_GROUP_BLOCK,
+            ),
+            (
+                "nodes with an info",
+                &NODES_WITH_INFO_BLOCK,
+                &NODES_WITH_INFO_BLOCK,
+            ),
+            ("a way", &WAY_BLOCK, &WAY_BLOCK),
+            (
+                "a way with an info",
+                &WAY_WITH_INFO_BLOCK,
+                &WAY_WITH_INFO_BLOCK,
+            ),
+            ("a relation", &RELATION_BLOCK, &RELATION_BLOCK),
+        ],
+    )
+}
+
+/// The nodes 1 and 2 at 0, 0 without tags, and no text in the table.
+const UNTAGGED_BLOCK: [u8; 20] = [
+    0x0A, 0x02, 0x0A, 0x00, 0x12, 0x0E, 0x12, 0x0C, 0x0A, 0x02, 0x02, 0x02, 0x42, 0x02, 0x00, 0x00,
+    0x4A, 0x02, 0x00, 0x00,
+];
+
+/// The node of `PLAIN_NODE_BLOCK` as a dense one.
+const DENSE_NODE_BLOCK: [u8; 17] = [
+    0x0A, 0x02, 0x0A, 0x00, 0x12, 0x0B, 0x12, 0x09, 0x0A, 0x01, 0x02, 0x42, 0x01, 0x02, 0x4A, 0x01,
+    0x02,
+];
+
+/// The node of `GREATEST_PLACE_BLOCK` in units of 1, since 100 doesn't divide its latitude.
+const FINE_PLACE_BLOCK: [u8; 28] = [
+    0x0A, 0x02, 0x0A, 0x00, 0x12, 0x13, 0x12, 0x11, 0x0A, 0x01, 0x02, 0x42, 0x09, 0xFE, 0xFF, 0xFF,
+    0xFF, 0xFF, 0xFF, 0xFF, 0xFF, 0x7F, 0x4A, 0x01, 0x00, 0x88, 0x01, 0x01,
+];
+
 /// Groups are joined, arrays packed, and texts that no element uses left out.
 #[test]
 fn other_blocks_become_canonical(rt: HostRuntime) -> Result<(), Fail> {
-    let way = canonical(&rt, &WAY_IN_PIECES_BLOCK)?;
-    assert!(rt; way.as_slice() == WAY_BLOCK.as_slice());
-    let nodes = canonical(&rt, &TWO_GROUPS_BLOCK)?;
-    assert!(rt; nodes.as_slice() == ONE_GROUP_BLOCK.as_slice());
-    let nodes = canonical(&rt, &ABSENT_VERSION_BLOCK)?;
-    assert!(rt; nodes.as_slice() == VERSION_IN_ITS_GROUP_BLOCK.as_slice());
-
-    let untagged = [
-        0x0A, 0x02, 0x0A, 0x00, 0x12, 0x0E, 0x12, 0x0C, 0x0A, 0x02, 0x02, 0x02, 0x42, 0x02, 0x00,
-        0x00, 0x4A, 0x02, 0x00, 0x00,
-    ];
-    let nodes = canonical(&rt, &DELIMITERS_ALONE_BLOCK)?;
-    assert!(rt; nodes.as_slice() == untagged.as_slice());
-    let dense = [
-        0x0A, 0x02, 0x0A, 0x00, 0x12, 0x0B, 0x12, 0x09, 0x0A, 0x01, 0x02, 0x42, 0x01, 0x02, 0x4A,
-        0x01, 0x02,
-    ];
-    let node = canonical(&rt, &PLAIN_NODE_BLOCK)?;
-    assert!(rt; node.as_slice() == dense.as_slice());
-    Ok(())
+    expect_canonical(
+        &rt,
+        &[
+            ("a way in pieces", &WAY_IN_PIECES_BLOCK, &WAY_BLOCK),
+            ("two groups", &TWO_GROUPS_BLOCK, &ONE_GROUP_BLOCK),
+            (
+                "an absent version",
+                &ABSENT_VERSION_BLOCK,
+                &VERSION_IN_ITS_GROUP_BLOCK,
+            ),
+            ("delimiters alone", &DELIMITERS_ALONE_BLOCK, &UNTAGGED_BLOCK),
+            ("a plain node", &PLAIN_NODE_BLOCK, &DENSE_NODE_BLOCK),
+            (
+                "the greatest latitude",
+                &GREATEST_PLACE_BLOCK,
+                &FINE_PLACE_BLOCK,
+            ),
+        ],
+    )
 }
 
-/// Places that 100 doesn't divide and times that 1000 doesn't stand in units of 1.
+/// A time that 1000 doesn't divide stands in units of 1.
 #[test]
-fn fine_places_and_times(rt: HostRuntime) -> Result<(), Fail> {
-    let fine_place = [
-        0x0A, 0x02, 0x0A, 0x00, 0x12, 0x13, 0x12, 0x11, 0x0A, 0x01, 0x02, 0x42, 0x09, 0xFE, 0xFF,
-        0xFF, 0xFF, 0xFF, 0xFF, 0xFF, 0xFF, 0x7F, 0x4A, 0x01, 0x00, 0x88, 0x01, 0x01,
-    ];
-    let node = canonical(&rt, &GREATEST_PLACE_BLOCK)?;
-    assert!(rt; node.as_slice() == fine_place.as_slice());
-
+fn a_fine_time(rt: HostRuntime) -> Result<(), Fail> {
     let alloc = rt.alloc();
     let info = Info::new(None, Some(1500), None, None, None, None);
     let way = Element::Way(Way::new(7, vec![in alloc]?, vec![in alloc]?, info));
@@ -75,22 +107,6 @@ fn fine_places_and_times(rt: HostRuntime) -> Result<(), Fail> {
         0x90, 0x01, 0x01,
     ];
     assert!(rt; encode_one(alloc, &way)?.as_slice() == fine_time.as_slice());
-    Ok(())
-}
-
-/// Nodes with the greatest id and the least are written and read back.
-#[test]
-fn widest_ids(rt: HostRuntime) -> Result<(), Fail> {
-    let alloc = rt.alloc();
-    let greatest = 4_611_686_018_427_387_903;
-    let first = Node::new(greatest, 0, 0, vec![in alloc]?, nothing_known());
-    let second = Node::new(-greatest, 0, 0, vec![in alloc]?, nothing_known());
-    let nodes = vec![in alloc; Element::Node(first), Element::Node(second)]?;
-    let block = encode_block(alloc, &nodes)?;
-    assert!(rt; block.as_slice() == WIDEST_IDS_BLOCK.as_slice());
-    let lines = lines_of(&rt, &read_block(alloc, &block)?)?;
-    let expected = b"n 4611686018427387903 0 0 [] {}\nn -4611686018427387903 0 0 [] {}\n";
-    assert!(rt; lines.as_slice() == expected.as_slice());
     Ok(())
 }
 

@@ -61,35 +61,63 @@ fn boxes(rt: HostRuntime) {
     ];
     let header = read_header_block(&halves).expect(&rt, "all sides are there");
     assert!(rt; header.bbox() == Some(sides));
-    assert!(rt; fault_of(&[0x0A, 0x02, 0x08, 0x02]) == Some(HeaderFault::BBoxIncomplete));
-    assert!(rt; fault_of(&[0x0A, 0x01, 0x08]) == Some(wire(WireFaultKind::NumberCut, 0)));
-}
-
-fn fault_of(bytes: &[u8]) -> Option<HeaderFault> {
-    read_header_block(bytes).err()
 }
 
 #[test]
-fn other_faults(rt: HostRuntime) {
-    assert!(rt; fault_of(&[0x0B]) == Some(wire(WireFaultKind::BadWireType, 0)));
-    assert!(rt; fault_of(&[0x82, 0x01, 0x01, 0xFF]) == Some(HeaderFault::HeaderTextNotUtf8));
-    assert!(rt; fault_of(b"\x22\x03ABC") == Some(HeaderFault::UnknownFeature(0)));
-    let second = b"\x22\x0ADenseNodes\x22\x03ABC";
-    assert!(rt; fault_of(second) == Some(HeaderFault::UnknownFeature(1)));
-    let third = b"\x22\x0EOsmSchema-V0.6\x22\x0ADenseNodes\x22\x15HistoricalInformation";
-    assert!(rt; fault_of(third) == Some(HeaderFault::UnknownFeature(2)));
+fn a_timestamp_alone(rt: HostRuntime) {
     let header = read_header_block(&[0x80, 0x02, 0x05]).expect(&rt, "a timestamp alone");
     assert!(rt; header.timestamp() == Some(5));
 }
 
 #[test]
+fn faults_of_headers(rt: HostRuntime) {
+    let rows: [(&str, &[u8], HeaderFault); 7] = [
+        (
+            "a box with one side",
+            &[0x0A, 0x02, 0x08, 0x02],
+            HeaderFault::BBoxIncomplete,
+        ),
+        (
+            "a box whose number is cut",
+            &[0x0A, 0x01, 0x08],
+            wire(WireFaultKind::NumberCut, 0),
+        ),
+        ("a group", &[0x0B], wire(WireFaultKind::BadWireType, 0)),
+        (
+            "a program that isn't UTF-8",
+            &[0x82, 0x01, 0x01, 0xFF],
+            HeaderFault::HeaderTextNotUtf8,
+        ),
+        (
+            "an unknown feature",
+            b"\x22\x03ABC",
+            HeaderFault::UnknownFeature(0),
+        ),
+        (
+            "an unknown feature behind another",
+            b"\x22\x0ADenseNodes\x22\x03ABC",
+            HeaderFault::UnknownFeature(1),
+        ),
+        (
+            "historical information",
+            b"\x22\x0EOsmSchema-V0.6\x22\x0ADenseNodes\x22\x15HistoricalInformation",
+            HeaderFault::UnknownFeature(2),
+        ),
+    ];
+    for (name, bytes, fault) in rows {
+        assert!(rt; read_header_block(bytes).err() == Some(fault), "{name}");
+    }
+}
+
+#[test]
 fn numbers_and_names(rt: HostRuntime) {
-    assert!(rt; wire(WireFaultKind::NumberCut, 0).number() == 30);
-    assert!(rt; HeaderFault::BBoxIncomplete.number() == 31);
-    assert!(rt; HeaderFault::HeaderTextNotUtf8.number() == 32);
-    assert!(rt; HeaderFault::UnknownFeature(0).number() == 33);
-    assert!(rt; wire(WireFaultKind::NumberCut, 0).name() == "HeaderBlockWire");
-    assert!(rt; HeaderFault::BBoxIncomplete.name() == "BBoxIncomplete");
-    assert!(rt; HeaderFault::HeaderTextNotUtf8.name() == "HeaderTextNotUtf8");
-    assert!(rt; HeaderFault::UnknownFeature(0).name() == "UnknownFeature");
+    let rows = [
+        (wire(WireFaultKind::NumberCut, 0), 30, "HeaderBlockWire"),
+        (HeaderFault::BBoxIncomplete, 31, "BBoxIncomplete"),
+        (HeaderFault::HeaderTextNotUtf8, 32, "HeaderTextNotUtf8"),
+        (HeaderFault::UnknownFeature(0), 33, "UnknownFeature"),
+    ];
+    for (fault, number, name) in rows {
+        assert!(rt; fault.number() == number && fault.name() == name, "{name}");
+    }
 }

@@ -1,9 +1,17 @@
 //! Elements and the canonical blocks that they become.
 
 use super::nothing_known;
+use crate::vectors::*;
 use osm_value::{Element, Info, Member, MemberKind, Node, Relation, Way, text_in_range};
 use osm_write::{BlobCutter, WriteFault, encode_block, encode_header, encode_one};
+use std::alloc::Global;
 use std::test::*;
+
+/// The canonical block of two nodes.
+fn block_of(alloc: Global, first: Node, second: Node) -> Result<Vec<u8>, Fail> {
+    let nodes = vec![in alloc; Element::Node(first), Element::Node(second)]?;
+    Ok(encode_block(alloc, &nodes)?)
+}
 
 /// Two nodes of a file that the usual tools write.
 #[test]
@@ -11,13 +19,8 @@ fn two_nodes(rt: HostRuntime) -> Result<(), Fail> {
     let alloc = rt.alloc();
     let one = Node::new(1, 1000, -100, vec![in alloc]?, nothing_known());
     let two = Node::new(2, 900, -100, vec![in alloc]?, nothing_known());
-    let elements = vec![in alloc; Element::Node(one), Element::Node(two)]?;
-    let expected = [
-        0x0A, 0x02, 0x0A, 0x00, 0x12, 0x0E, 0x12, 0x0C, 0x0A, 0x02, 0x02, 0x02, 0x42, 0x02, 0x14,
-        0x01, 0x4A, 0x02, 0x01, 0x00,
-    ];
-    let block = encode_block(alloc, &elements)?;
-    assert!(rt; block.as_slice() == expected.as_slice());
+    let block = block_of(alloc, one, two)?;
+    assert!(rt; block.as_slice() == TWO_NODES_BLOCK.as_slice());
     Ok(())
 }
 
@@ -33,13 +36,31 @@ fn two_nodes_of_one_id(rt: HostRuntime) -> Result<(), Fail> {
     let alloc = rt.alloc();
     let one = Node::new(1, 0, 0, vec![in alloc]?, nothing_known());
     let two = Node::new(1, 0, 0, vec![in alloc]?, nothing_known());
-    let elements = vec![in alloc; Element::Node(one), Element::Node(two)]?;
-    let expected = [
-        0x0A, 0x02, 0x0A, 0x00, 0x12, 0x0E, 0x12, 0x0C, 0x0A, 0x02, 0x02, 0x00, 0x42, 0x02, 0x00,
-        0x00, 0x4A, 0x02, 0x00, 0x00,
-    ];
-    let block = encode_block(alloc, &elements)?;
-    assert!(rt; block.as_slice() == expected.as_slice());
+    let block = block_of(alloc, one, two)?;
+    assert!(rt; block.as_slice() == ONE_GROUP_BLOCK.as_slice());
+    Ok(())
+}
+
+#[test]
+fn greatest_and_least_id(rt: HostRuntime) -> Result<(), Fail> {
+    let alloc = rt.alloc();
+    let greatest = 4_611_686_018_427_387_903;
+    let first = Node::new(greatest, 0, 0, vec![in alloc]?, nothing_known());
+    let second = Node::new(-greatest, 0, 0, vec![in alloc]?, nothing_known());
+    let block = block_of(alloc, first, second)?;
+    assert!(rt; block.as_slice() == WIDEST_IDS_BLOCK.as_slice());
+    Ok(())
+}
+
+/// Nodes with different fields of info stand in groups of their own.
+#[test]
+fn nodes_with_different_info(rt: HostRuntime) -> Result<(), Fail> {
+    let alloc = rt.alloc();
+    let info = Info::new(Some(3), None, None, None, None, None);
+    let one = Node::new(1, 0, 0, vec![in alloc]?, info);
+    let two = Node::new(2, 0, 0, vec![in alloc]?, nothing_known());
+    let block = block_of(alloc, one, two)?;
+    assert!(rt; block.as_slice() == VERSION_IN_ITS_GROUP_BLOCK.as_slice());
     Ok(())
 }
 
@@ -55,14 +76,8 @@ fn relation_with_an_empty_role(rt: HostRuntime) -> Result<(), Fail> {
         vec![in alloc; ("name", "a b,c")]?,
         nothing_known(),
     );
-    let expected = [
-        0x0A, 0x18, 0x0A, 0x00, 0x0A, 0x04, 0x6E, 0x61, 0x6D, 0x65, 0x0A, 0x05, 0x61, 0x20, 0x62,
-        0x2C, 0x63, 0x0A, 0x05, 0x6F, 0x75, 0x74, 0x65, 0x72, 0x0A, 0x00, 0x12, 0x16, 0x22, 0x14,
-        0x08, 0x09, 0x12, 0x01, 0x01, 0x1A, 0x01, 0x02, 0x42, 0x02, 0x03, 0x04, 0x4A, 0x02, 0x02,
-        0x05, 0x52, 0x02, 0x00, 0x01,
-    ];
     let block = encode_one(alloc, &Element::Relation(relation))?;
-    assert!(rt; block.as_slice() == expected.as_slice());
+    assert!(rt; block.as_slice() == RELATION_BLOCK.as_slice());
     Ok(())
 }
 
@@ -72,31 +87,8 @@ fn way_with_all_of_info(rt: HostRuntime) -> Result<(), Fail> {
     let alloc = rt.alloc();
     let info = Info::new(Some(2), Some(3000), Some(4), Some(-1), Some("u"), None);
     let way = Way::new(7, vec![in alloc]?, vec![in alloc]?, info);
-    let expected = [
-        0x0A, 0x05, 0x0A, 0x00, 0x0A, 0x01, 0x75, 0x12, 0x19, 0x1A, 0x17, 0x08, 0x07, 0x22, 0x13,
-        0x08, 0x02, 0x10, 0x03, 0x18, 0x04, 0x20, 0xFF, 0xFF, 0xFF, 0xFF, 0xFF, 0xFF, 0xFF, 0xFF,
-        0xFF, 0x01, 0x28, 0x01,
-    ];
     let block = encode_one(alloc, &Element::Way(way))?;
-    assert!(rt; block.as_slice() == expected.as_slice());
-    Ok(())
-}
-
-/// Nodes with different fields of info stand in groups of their own.
-#[test]
-fn nodes_with_different_info(rt: HostRuntime) -> Result<(), Fail> {
-    let alloc = rt.alloc();
-    let info = Info::new(Some(3), None, None, None, None, None);
-    let one = Node::new(1, 0, 0, vec![in alloc]?, info);
-    let two = Node::new(2, 0, 0, vec![in alloc]?, nothing_known());
-    let elements = vec![in alloc; Element::Node(one), Element::Node(two)]?;
-    let expected = [
-        0x0A, 0x02, 0x0A, 0x00, 0x12, 0x10, 0x12, 0x0E, 0x0A, 0x01, 0x02, 0x2A, 0x03, 0x0A, 0x01,
-        0x03, 0x42, 0x01, 0x00, 0x4A, 0x01, 0x00, 0x12, 0x0B, 0x12, 0x09, 0x0A, 0x01, 0x04, 0x42,
-        0x01, 0x00, 0x4A, 0x01, 0x00,
-    ];
-    let block = encode_block(alloc, &elements)?;
-    assert!(rt; block.as_slice() == expected.as_slice());
+    assert!(rt; block.as_slice() == WAY_WITH_INFO_BLOCK.as_slice());
     Ok(())
 }
 

@@ -1,6 +1,5 @@
-use Rattle.std.proofs.Common.{rules, ◌≡◌, ◌∙◌, ◌++◌, ap, sym, map, List, Err, Vec, Global}
+use Rattle.std.proofs.Common.{rules, ◌∙◌, ◌++◌, ap, map, Err, Vec, Global}
 use Rattle.std.specs.Prelude.{⊤}
-use Rattle.std.specs.List.{flat_map}
 use Rattle.osm_value.specs.declared.element.Element.{Element}
 use Rattle.pbf_wire.specs.Readings.{fields}
 use Rattle.pbf_wire.specs.Readings.{each}

@@ -1,11 +1,10 @@
-use Rattle.std.proofs.Common.{rules, ◌≡◌, ◌∙◌, ◌++◌, ap, sym, subst, map, List, Err, None, true, ℕ, ℤ, pos, FitsSigned, w32, w64}
+use Rattle.std.proofs.Common.{rules, ◌≡◌, ◌∙◌, ap, sym, subst, map, List, Err, None, true, ℕ, ℤ, pos, FitsSigned, w32, w64}
 use Rattle.std.proofs.lemmas.Int.{to_z-of_z}
 use Rattle.std.specs.Prelude.{⊤, ◌≤ℤ◌}
 use Rattle.std.specs.List.{flat_map, AllByRecursion}
 use Rattle.osm_block.specs.declared.scale.Scale.{Scale}
 use Rattle.pbf_wire.specs.Readings.{fields, wire}
 use Rattle.pbf_wire.specs.Readings.{each, is_there}
-use Rattle.osm_block.specs.Message.{context}
 use Rattle.osm_value.specs.Ranges.{IsText}
 use Rattle.osm_block.specs.Head.{head_phases}
 use Rattle.osm_block.specs.Phases.{Gives, first, wire_phases, text_phases}

@@ -1,4 +1,4 @@
-use Rattle.std.proofs.Common.{rules, ◌≡◌, ℕ, List, [], ◌∷◌, ◌++◌, ◌+◌, ◌<◌, get_or, length, sym, ap, ◌∙◌, Ok, Err, arith, append-nil}
+use Rattle.std.proofs.Common.{rules, ◌≡◌, [], ◌∷◌, ◌++◌, ◌+◌, ◌<◌, get_or, length, sym, ap, ◌∙◌, Ok, arith, append-nil}
 use Rattle.std.proofs.lemmas.List.{take_rest}
 use Rattle.pbf_wire.specs.Readings.{front, first_fault}
 use Rattle.osm_block.proofs.RowLemmas.{row_from, row_at_number, row_at_byte, row_at_fault, row_at_end, grown}

@@ -1,9 +1,6 @@
 use Rattle.std.proofs.lemmas.Int.{to_z-of_z}
-use Rattle.std.proofs.Common.{rules, ◌∙◌, ◌≡◌, map, IfOk, IsErrOf, false, ℕ, ◌+◌, ◌-◌, ◌*◌, ◌<◌, ◌≤◌, length, ◌/◌, ◌%◌, Bool, true, nat_eq, nat_lt, List, [], ◌∷◌, ◌++◌, slice_index_or, slice_set, bit_and, bit_or, Fits, w8, w32, w64, Bor, MutBor, ℤ, pos, ◌+ℤ◌, ◌-ℤ◌, ◌*ℤ◌, ◌≤ℤ◌, ◌<ℤ◌, FitsSigned, to_z, of_z}
-use Rattle.std.specs.List.{list_all}
-use Rattle.pbf_wire.specs.Readings.{sint64}
-use Rattle.osm_block.specs.Differences.{Diff, front_sums, fits_i64}
-use Rattle.osm_block.proofs.DifferencesLemmas.{onto-zero, step, AllByRecursion-push, Diff-from_sums, stop, finish, gives, stops}
+use Rattle.std.proofs.Common.{rules, ◌∙◌, ◌≡◌, w64, FitsSigned, to_z, of_z}
+use Rattle.osm_block.proofs.DifferencesLemmas.{onto-zero, step, AllByRecursion-push, stop, finish, gives, stops}
 use Rattle.osm_block.proofs.deltas.absolute.Goals as goal
 
 pub loop-delta-init : goal.loop-delta-init

@@ -1,13 +1,12 @@
-use Rattle.std.proofs.Common.{rules, ◌≡◌, ◌∙◌, sym, ap, map, refl, length, true, false, Some, None, ℕ}
+use Rattle.std.proofs.Common.{rules, ◌≡◌, ◌∙◌, sym, ap, refl, length, true, false, Some, None}
 use Rattle.std.specs.List.{list_all}
 use Rattle.std.proofs.lemmas.List.{length-map}
-use Rattle.osm_block.specs.Block.{DenseOf}
 use Rattle.osm_block.specs.Dense.{dense_message_of, columns_in_range, AreReady}
 use Rattle.osm_block.specs.Fields.{context_of}
 use Rattle.osm_block.specs.Phases.{first, tags_phases, is_index}
 use Rattle.osm_block.proofs.NodeTagsLemmas.{TagsFit, tags_fit}
 use Rattle.osm_block.proofs.DenseColumnLemmas.{lengths_are, ready, all_read}
-use Rattle.osm_block.proofs.DensePhaseLemmas.{dense_fault_is, ranges_are, tags_are, users_are, tags_phase, users_fit}
+use Rattle.osm_block.proofs.DensePhaseLemmas.{dense_fault_is, ranges_are, tags_are, users_are}
 use Rattle.osm_block.proofs.dense.dense_of.Goals as goal
 
 pub returns-then-not-columns_in_range-clause-phase : goal.returns-then-not-columns_in_range-clause-phase

@@ -1,4 +1,4 @@
-use Rattle.std.proofs.Common.{rules, ◌≡◌, length, map, arith, List, ℕ}
+use Rattle.std.proofs.Common.{rules, ◌≡◌, length, map, List, ℕ}
 use Rattle.osm_block.specs.Message.{Dense}
 use Rattle.osm_block.specs.Dense.{dense_message_of}
 use Rattle.osm_block.specs.Fields.{context_of}

@@ -1,11 +1,10 @@
-use Rattle.std.proofs.Common.{rules, ◌≡◌, ◌∙◌, ap, sym, map, subst, List, length, take}
-use Rattle.std.specs.Prelude.{⊤}
+use Rattle.std.proofs.Common.{rules, map}
 use Rattle.std.specs.List.{flat_map}
-use Rattle.osm_block.specs.Block.{GroupOf, Joins}
+use Rattle.osm_block.specs.Block.{GroupOf}
 use Rattle.osm_block.specs.Fields.{context_of}
 use Rattle.osm_block.specs.Phases.{first, group_phases}
 use Rattle.osm_block.proofs.ReadingLemmas.{Refused, still_refused}
-use Rattle.osm_block.proofs.LoopLemmas.{phase-step, phase-stop, joins-step, map_same}
+use Rattle.osm_block.proofs.LoopLemmas.{phase-step, phase-stop, joins-step}
 use Rattle.osm_block.proofs.group.read_groups.Goals as goal
 
 pub returns-in_err-read_group-clause-phase : goal.returns-in_err-read_group-clause-phase

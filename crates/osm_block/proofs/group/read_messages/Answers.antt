@@ -1,14 +1,11 @@
-use Rattle.std.proofs.Common.{rules, ◌≡◌, ◌∙◌, ◌∷◌, ◌++◌, [], map, ap, sym, None, refl, not, nat_le}
-use Rattle.std.specs.Prelude.{⊤}
-use Rattle.std.specs.List.{flat_map, count_by}
-use Rattle.pbf_wire.specs.Readings.{fields, wire}
-use Rattle.osm_block.specs.Message.{Message, Plain, Dense, Way, Relation, messages}
-use Rattle.osm_block.specs.Block.{GroupOf, kinds_in}
+use Rattle.std.proofs.Common.{rules, ◌∙◌, ◌∷◌, ◌++◌, [], map, ap, sym, refl}
+use Rattle.std.specs.List.{flat_map}
+use Rattle.osm_block.specs.Message.{Plain, Dense, Way, Relation}
 use Rattle.osm_block.specs.Fields.{context_of}
 use Rattle.osm_block.specs.Parts.{messages_of}
-use Rattle.osm_block.specs.Phases.{first, message_phases, group_phases}
+use Rattle.osm_block.specs.Phases.{first, message_phases}
 use Rattle.osm_block.proofs.ReadingLemmas.{Refused, still_refused, as_it_is}
-use Rattle.osm_block.proofs.LoopLemmas.{stop_front, past_front, single, Appended-append, Appended-along, on_ok, kinds_are, messages_are, mixed, past_kinds, group_is, phase-step, phase-stop, joins-step}
+use Rattle.osm_block.proofs.LoopLemmas.{stop_front, past_front, single, Appended-append, Appended-along, on_ok}
 use Rattle.osm_block.proofs.group.read_messages.Goals as goal
 
 pub returns-in_err-read_nodes-clause-phase : goal.returns-in_err-read_nodes-clause-phase

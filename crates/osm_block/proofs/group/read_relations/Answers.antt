@@ -1,8 +1,6 @@
-use Rattle.std.proofs.Common.{rules, ◌≡◌, ◌∷◌, [], map}
-use Rattle.std.specs.Prelude.{⊤}
+use Rattle.std.proofs.Common.{rules, ◌∷◌, [], map}
 use Rattle.std.specs.List.{flat_map}
 use Rattle.osm_value.specs.declared.element.Element.TheVariants as elements
-use Rattle.osm_value.specs.Value.{RelationValue}
 use Rattle.osm_block.specs.Message.{Relation}
 use Rattle.osm_block.specs.Fields.{context_of}
 use Rattle.osm_block.specs.Phases.{first, message_phases}

@@ -1,11 +1,8 @@
-use Rattle.std.proofs.Common.{◌≡◌, List, map, None, true}
-use Rattle.std.specs.List.{list_all, flat_map}
+use Rattle.std.proofs.Common.{◌≡◌}
 use Rattle.std.specs.Option.{option_copied}
-use Rattle.std.specs.Str.{is_utf8}
 use Rattle.pbf_wire.specs.FieldList.{last_or}
-use Rattle.pbf_wire.specs.Readings.{fields, each, sub, last, fitting, number_of}
-use Rattle.osm_block.specs.HeaderBlock.{first, wire_phase, last_text}
-use Rattle.osm_block.specs.HeaderPayloads.{payloads_left}
+use Rattle.pbf_wire.specs.Readings.{fields}
+use Rattle.osm_block.specs.HeaderBlock.{last_text}
 use Rattle.osm_block.specs.HeaderTexts.{texts_left}
 use Rattle.osm_block.proofs.header.last_text.Given as goal
 

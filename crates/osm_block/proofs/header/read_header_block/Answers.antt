@@ -1,8 +1,7 @@
-use Rattle.std.proofs.Common.{◌≡◌, ◌∙◌, sym, ap, refl, None, Some, Bool, true, false, ℕ, Option}
+use Rattle.std.proofs.Common.{◌∙◌, sym, ap, refl, None, Some, true, false}
 use Rattle.std.specs.Prelude.{option_map}
-use Rattle.pbf_wire.specs.Readings.{fields, wire, each}
+use Rattle.pbf_wire.specs.Readings.{fields}
 use Rattle.osm_block.specs.declared.header.fault.HeaderFault.TheVariants as faults
-use Rattle.osm_block.specs.HeaderBlock.{first, wire_phase, is_incomplete, are_texts, unknown_feature}
 use Rattle.osm_block.proofs.HeaderLemmas.{header_fault_is, incomplete_is}
 use Rattle.osm_block.proofs.header.read_header_block.Goals as goal
 

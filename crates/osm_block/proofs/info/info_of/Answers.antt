@@ -1,9 +1,9 @@
-use Rattle.std.proofs.Common.{rules, ◌≡◌, ap, sym, ◌∙◌, refl, map, FitsSigned, to_z, of_z, w32}
+use Rattle.std.proofs.Common.{rules, ◌≡◌, ap, ◌∙◌, refl, map, FitsSigned, to_z, of_z, w32}
 use Rattle.std.proofs.lemmas.Int.{to_z-of_z}
 use Rattle.std.specs.Prelude.{option_map}
 use Rattle.pbf_wire.specs.Readings.{int64, uint32}
 use Rattle.osm_value.specs.Ranges.{passes, is_wide}
-use Rattle.osm_block.specs.Block.{InfoOf, text_at, time}
+use Rattle.osm_block.specs.Block.{text_at, time}
 use Rattle.osm_block.specs.Fields.{context_of, info_message_of}
 use Rattle.osm_block.proofs.InfoLemmas.{user_text}
 use Rattle.osm_block.proofs.RangeLemmas.{info_is_in_range, info_time}

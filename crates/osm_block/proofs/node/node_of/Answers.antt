@@ -1,4 +1,4 @@
-use Rattle.std.proofs.Common.{rules, ◌≡◌, ◌∙◌, ◌&&◌, ap, sym, subst, arith, length, map, Some, None, true, ℤ, FitsSigned, to_z, of_z, w32, w64}
+use Rattle.std.proofs.Common.{rules, ◌≡◌, ◌∙◌, ap, sym, arith, length, map, Some, true, ℤ, FitsSigned, to_z, of_z, w32, w64}
 use Rattle.std.proofs.lemmas.Int.{to_z-of_z}
 use Rattle.std.proofs.lemmas.List.{length-map}
 use Rattle.std.specs.Prelude.{option_map}
@@ -6,7 +6,7 @@ use Rattle.osm_value.specs.Ranges.{is_wide}
 use Rattle.osm_block.specs.Block.{place}
 use Rattle.osm_block.specs.Columns.{indexes_in, tag_indexes_in, user_in}
 use Rattle.osm_block.specs.Fields.{context_of, info_message_of, node_message_of}
-use Rattle.osm_block.specs.Phases.{first, when, node_phases, info_in_range, place_in_range}
+use Rattle.osm_block.specs.Phases.{info_in_range, place_in_range}
 use Rattle.osm_block.proofs.IndexesLemmas.{indexes_are, and_right}
 use Rattle.osm_block.proofs.PhaseLemmas.{even_from}
 use Rattle.osm_block.proofs.NodePhases.{NodeRead, four, range_is, fails_range, fails_index, no_phase}

@@ -1,4 +1,4 @@
-use Rattle.std.proofs.Common.{rules, ◌≡◌, ap}
+use Rattle.std.proofs.Common.{rules, ap}
 use Rattle.pbf_wire.specs.Field.{content_of}
 use Rattle.pbf_wire.specs.Readings.{front, fields}
 use Rattle.pbf_wire.specs.Walk.{items_left}

@@ -1,4 +1,4 @@
-use Rattle.std.proofs.Common.{rules, ◌≡◌, ◌∙◌, ◌&&◌, ap, ℤ, pos, negsuc, ◌-ℤ◌, FitsSigned, to_z, of_z}
+use Rattle.std.proofs.Common.{rules, ◌∙◌, ◌&&◌, ap, ℤ, pos, negsuc, ◌-ℤ◌, FitsSigned, to_z, of_z}
 use Rattle.std.specs.Prelude.{int_le}
 use Rattle.std.specs.Int.{w64, w128}
 use Rattle.std.proofs.lemmas.Int.{to_z-of_z}

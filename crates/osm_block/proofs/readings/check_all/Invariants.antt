@@ -1,8 +1,5 @@
-use Rattle.std.proofs.Common.{◌≡◌, ◌++◌, map, drop, List, ℕ, ◌%◌, ◌^◌, take}
-use Rattle.std.specs.List.{flat_map}
-use Rattle.pbf_wire.specs.FieldList.{last_or}
-use Rattle.pbf_wire.specs.Readings.{fields, wire, packed}
-use Rattle.pbf_wire.specs.Readings.{fitting, number_of, each, nums, last}
+use Rattle.std.proofs.Common.{◌≡◌, map, drop}
+use Rattle.pbf_wire.specs.Readings.{wire}
 use Rattle.osm_block.specs.Phases.{first, wire_phases}
 use Rattle.osm_block.proofs.readings.check_all.Given as goal
 

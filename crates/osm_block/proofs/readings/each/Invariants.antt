@@ -1,9 +1,7 @@
 use Rattle.std.proofs.Common.{◌≡◌, ◌++◌, map}
-use Rattle.pbf_wire.specs.FieldList.{last_or}
 use Rattle.pbf_wire.specs.Walk.{items_left}
-use Rattle.pbf_wire.specs.Readings.{front, first_fault, fields, wire, numbers, packed, row, row_within}
-use Rattle.pbf_wire.specs.Readings.{fitting, number_of, each, nums}
-use Rattle.osm_block.specs.Phases.{first, wire_phases}
+use Rattle.pbf_wire.specs.Readings.{front, fields}
+use Rattle.pbf_wire.specs.Readings.{each}
 use Rattle.osm_block.proofs.readings.each.Given as goal
 
 abbrev pub invariant-loop-field : goal.invariant-loop-field

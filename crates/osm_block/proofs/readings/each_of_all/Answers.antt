@@ -1,4 +1,3 @@
-use Rattle.std.proofs.Common.{rules, ◌≡◌, ℕ, List, map, length, arith}
 use Rattle.osm_block.proofs.ReadingLemmas.{each-step}
 use Rattle.osm_block.proofs.readings.each_of_all.Goals as goal
 

@@ -1,9 +1,7 @@
-use Rattle.std.proofs.Common.{◌≡◌, ◌++◌, map, drop, List, ℕ, ◌%◌, ◌^◌, take}
+use Rattle.std.proofs.Common.{◌≡◌, ◌++◌, map, drop}
 use Rattle.std.specs.List.{flat_map}
-use Rattle.pbf_wire.specs.FieldList.{last_or}
-use Rattle.pbf_wire.specs.Readings.{fields, wire, packed}
-use Rattle.pbf_wire.specs.Readings.{fitting, number_of, each, nums, last}
-use Rattle.osm_block.specs.Phases.{first, wire_phases}
+use Rattle.pbf_wire.specs.Readings.{fields}
+use Rattle.pbf_wire.specs.Readings.{each}
 use Rattle.osm_block.proofs.readings.each_of_all.Given as goal
 
 abbrev pub invariant-loop-payload : goal.invariant-loop-payload

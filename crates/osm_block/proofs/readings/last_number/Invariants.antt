@@ -1,9 +1,8 @@
-use Rattle.std.proofs.Common.{◌≡◌, ◌++◌, map}
+use Rattle.std.proofs.Common.{◌≡◌}
 use Rattle.pbf_wire.specs.FieldList.{last_or}
 use Rattle.pbf_wire.specs.Walk.{items_left}
-use Rattle.pbf_wire.specs.Readings.{front, first_fault, fields, wire, numbers, packed, row, row_within}
-use Rattle.pbf_wire.specs.Readings.{fitting, number_of, each, nums}
-use Rattle.osm_block.specs.Phases.{first, wire_phases}
+use Rattle.pbf_wire.specs.Readings.{front, fields}
+use Rattle.pbf_wire.specs.Readings.{fitting, number_of}
 use Rattle.osm_block.proofs.readings.last_number.Given as goal
 
 abbrev pub invariant-loop-field : goal.invariant-loop-field

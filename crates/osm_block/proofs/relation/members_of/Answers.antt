@@ -1,4 +1,4 @@
-use Rattle.std.proofs.Common.{rules, ◌≡◌, ◌∙◌, ◌<◌, ◌≤◌, length, map, get_or, sym, ap, subst, arith, pos, Some, FitsSigned, to_z, of_z, w64, true}
+use Rattle.std.proofs.Common.{rules, ◌∙◌, ◌<◌, ◌≤◌, length, map, get_or, sym, ap, subst, arith, pos, Some, FitsSigned, to_z, of_z, w64}
 use Rattle.std.specs.Prelude.{is_some}
 use Rattle.std.proofs.lemmas.Int.{to_z-of_z}
 use Rattle.pbf_wire.specs.Readings.{int32}

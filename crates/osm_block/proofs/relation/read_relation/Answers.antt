@@ -1,4 +1,4 @@
-use Rattle.std.proofs.Common.{rules, ◌≡◌, ◌∙◌, Err}
+use Rattle.std.proofs.Common.{rules, Err}
 use Rattle.std.specs.Prelude.{⊤}
 use Rattle.osm_value.specs.Value.{RelationValue}
 use Rattle.pbf_wire.specs.Readings.{fields}

@@ -1,10 +1,10 @@
-use Rattle.std.proofs.Common.{rules, ◌≡◌, ◌∙◌, ◌&&◌, ◌==◌, ap, sym, subst, arith, length, map, not, Some, None, Err, FitsSigned, to_z, of_z, w64}
+use Rattle.std.proofs.Common.{rules, ◌≡◌, ◌∙◌, ◌&&◌, ◌==◌, ap, sym, subst, length, map, not, Some, None, Err, FitsSigned, to_z, of_z, w64}
 use Rattle.std.specs.Prelude.{is_some, ⊤}
 use Rattle.std.specs.List.{list_all}
 use Rattle.std.proofs.lemmas.Int.{to_z-of_z}
 use Rattle.std.proofs.lemmas.List.{length-map}
 use Rattle.pbf_wire.specs.Readings.{sint64, int32}
-use Rattle.osm_value.specs.Value.{RelationValue, MemberValue}
+use Rattle.osm_value.specs.Value.{RelationValue}
 use Rattle.osm_value.specs.Ranges.{is_wide}
 use Rattle.osm_block.specs.declared.fault.BlockFault.TheVariants as faults
 use Rattle.osm_block.specs.Block.{RelationOf, kind}

@@ -1,5 +1,4 @@
-use Rattle.std.proofs.Common.{◌≡◌, ℕ, ◌+◌, ◌<◌, length, refl, arith, map}
-use Rattle.osm_block.specs.Block.{TagsAt}
+use Rattle.std.proofs.Common.{refl, arith}
 use Rattle.osm_block.proofs.TextsLemmas.{texts-step}
 use Rattle.osm_block.proofs.tag_list.tags_of.Goals as goal
 

@@ -1,6 +1,6 @@
-use Rattle.std.proofs.Common.{◌≡◌, take, map, Some}
+use Rattle.std.proofs.Common.{take, map}
 use Rattle.pbf_wire.specs.Readings.{uint32}
-use Rattle.osm_block.specs.Block.{text_at, TagsAt}
+use Rattle.osm_block.specs.Block.{TagsAt}
 use Rattle.osm_block.proofs.tag_list.tags_of.Given as goal
 
 abbrev pub invariant-loop-at : goal.invariant-loop-at

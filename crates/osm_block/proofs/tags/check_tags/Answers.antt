@@ -1,6 +1,5 @@
-use Rattle.std.proofs.Common.{rules, ◌≡◌, ◌<◌, ℕ, ◌+◌, ◌-◌, ◌≤◌, length, take, drop, get_or, ℤ, pos, FitsSigned, to_z, of_z, w32, arith}
-use Rattle.osm_block.specs.Phases.{Answers, first, tags_phases, is_index}
-use Rattle.osm_block.proofs.TagsLemmas.{stands, none_left_stops, zero_goes_on, single_stops, pair_goes_on, zero_from_bits, not_zero_from_bits}
+use Rattle.std.proofs.Common.{rules, ◌+◌, get_or, pos, FitsSigned, w32}
+use Rattle.osm_block.proofs.TagsLemmas.{none_left_stops, zero_goes_on, single_stops, pair_goes_on, zero_from_bits, not_zero_from_bits}
 use Rattle.std.proofs.lemmas.Int.{to_z-of_z}
 use Rattle.osm_block.proofs.tags.check_tags.Goals as goal
 

@@ -1,4 +1,4 @@
-use Rattle.std.proofs.Common.{◌≡◌, ◌∙◌, sym, ap, true, false}
+use Rattle.std.proofs.Common.{◌∙◌, sym, ap, true, false}
 use Rattle.osm_value.specs.Ranges.{has_no_nul}
 use Rattle.osm_block.proofs.HeadLemmas.{text_not_utf8, text_of_utf8}
 use Rattle.osm_block.proofs.texts.read_text.Goals as goal

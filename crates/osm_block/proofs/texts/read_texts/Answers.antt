@@ -1,4 +1,3 @@
-use Rattle.std.proofs.Common.{◌≡◌}
 use Rattle.osm_block.proofs.HeadLemmas.{texts_stop}
 use Rattle.osm_block.proofs.texts.read_texts.Goals as goal
 

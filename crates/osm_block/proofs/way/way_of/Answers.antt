@@ -1,4 +1,4 @@
-use Rattle.std.proofs.Common.{rules, ◌≡◌, ◌∙◌, ◌&&◌, ap, sym, subst, arith, length, map, not, Some, None, FitsSigned, to_z, of_z, w64}
+use Rattle.std.proofs.Common.{rules, ◌≡◌, ◌∙◌, ap, sym, subst, arith, length, map, not, Some, None, FitsSigned, to_z, of_z, w64}
 use Rattle.std.specs.List.{list_all}
 use Rattle.std.proofs.lemmas.Int.{to_z-of_z}
 use Rattle.std.proofs.lemmas.List.{length-map}
@@ -6,7 +6,7 @@ use Rattle.pbf_wire.specs.Readings.{sint64}
 use Rattle.osm_block.specs.declared.fault.BlockFault.TheVariants as faults
 use Rattle.osm_block.specs.Differences.{Diff, front_sums, fits_i64}
 use Rattle.osm_block.specs.Fields.{context_of, info_message_of, way_message_of}
-use Rattle.osm_block.specs.Phases.{first, when, way_phases, info_in_range}
+use Rattle.osm_block.specs.Phases.{when, info_in_range}
 use Rattle.osm_block.proofs.IndexesLemmas.{indexes_are}
 use Rattle.osm_block.proofs.PhaseLemmas.{WayRead, range_is, fails_range, fails_index, no_phase, even_from}
 use Rattle.osm_block.proofs.RangeLemmas.{tags_in_range, way_is_in_range}

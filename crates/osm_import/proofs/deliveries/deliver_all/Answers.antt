@@ -20,7 +20,7 @@ loop-delivery-init g c = record {
 
 pub loop-delivery-preserved : goal.loop-delivery-preserved
 loop-delivery-preserved g c =
-    let K = g.K.Keeper in
+    let K = g.K.Reader in
     let inv = c.loop-delivery.invariant in
     let made = c.deliver.ensures in
     let pushed : c.push.new.self.items ≡ c.loop-delivery.answers.items ++ c.deliver.result ∷ [] = rw c.unwrap.ensures at c.push.ensures.items in
@@ -51,7 +51,7 @@ loop-delivery-preserved g c =
 
 pub returns-clause-run : goal.returns-clause-run
 returns-clause-run g c = λ held holds honest is_open.
-    runs-all (g.K.Keeper.holds c.loop-delivery.keeper) held c.args.deliveries.now c.loop-delivery.delivery-index c.loop-delivery.answers.items (omega arith) (c.loop-delivery.invariant.run held holds honest is_open)
+    runs-all (g.K.Reader.holds c.loop-delivery.keeper) held c.args.deliveries.now c.loop-delivery.delivery-index c.loop-delivery.answers.items (omega arith) (c.loop-delivery.invariant.run held holds honest is_open)
 
 pub returns-clause-own : goal.returns-clause-own
 returns-clause-own g c = λ held holds honest either. elim either [
@@ -61,12 +61,12 @@ returns-clause-own g c = λ held holds honest either. elim either [
 
 pub returns-clause-unbroken : goal.returns-clause-unbroken
 returns-clause-unbroken g c = λ held holds honest sound.
-    runs-all (g.K.Keeper.holds c.loop-delivery.keeper) held c.args.deliveries.now c.loop-delivery.delivery-index c.loop-delivery.answers.items (omega arith) (c.loop-delivery.invariant.unbroken held holds honest sound)
+    runs-all (g.K.Reader.holds c.loop-delivery.keeper) held c.args.deliveries.now c.loop-delivery.delivery-index c.loop-delivery.answers.items (omega arith) (c.loop-delivery.invariant.unbroken held holds honest sound)
 
 pub returns-clause-one_file : goal.returns-clause-one_file
 returns-clause-one_file g c = λ held frames holds honest whole of_files of_file either.
     let inv = c.loop-delivery.invariant in
-    let so_far : Runs (g.K.Keeper.holds c.loop-delivery.keeper) held (take c.loop-delivery.delivery-index c.args.deliveries.now) c.loop-delivery.answers.items
+    let so_far : Runs (g.K.Reader.holds c.loop-delivery.keeper) held (take c.loop-delivery.delivery-index c.args.deliveries.now) c.loop-delivery.answers.items
     = elim either [ inl is_open ↦ inv.run held holds honest is_open | inr sound ↦ inv.unbroken held holds honest sound ] in
-    let run = runs-all (g.K.Keeper.holds c.loop-delivery.keeper) held c.args.deliveries.now c.loop-delivery.delivery-index c.loop-delivery.answers.items (omega arith) so_far in
+    let run = runs-all (g.K.Reader.holds c.loop-delivery.keeper) held c.args.deliveries.now c.loop-delivery.delivery-index c.loop-delivery.answers.items (omega arith) so_far in
     (run.0, run-imports frames whole held c.args.deliveries.now c.loop-delivery.answers.items run.0 run.1 of_files of_file, run.2)

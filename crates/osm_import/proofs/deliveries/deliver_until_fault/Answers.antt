@@ -19,7 +19,7 @@ loop-delivery-init g c = record {
 
 pub loop-delivery-preserved : goal.loop-delivery-preserved
 loop-delivery-preserved g c =
-    let K = g.K.Keeper in
+    let K = g.K.Reader in
     let inv = c.loop-delivery.invariant in
     let made = c.deliver-answer.ensures in
     let pushed : c.push.new.self.items ≡ c.loop-delivery.answers.items ++ c.deliver-answer.result ∷ [] = rw c.unwrap.ensures at c.push.ensures.items in
@@ -43,7 +43,7 @@ loop-delivery-preserved g c =
 
 pub returns-in-Fault-clause-crash : goal.returns-in-Fault-clause-crash
 returns-in-Fault-clause-crash g c = λ held holds honest.
-    let K = g.K.Keeper in
+    let K = g.K.Reader in
     let inv = c.loop-delivery.invariant in
     let made = c.deliver-answer.ensures in
     let pushed : c.push.new.self.items ≡ c.loop-delivery.answers.items ++ c.deliver-answer.result ∷ [] = rw c.unwrap.ensures at c.push.ensures.items in
@@ -73,7 +73,7 @@ returns-in-Fault-clause-ends g c =
 
 pub returns-in-Fault-clause-run : goal.returns-in-Fault-clause-run
 returns-in-Fault-clause-run g c = λ held holds honest either.
-    let K = g.K.Keeper in
+    let K = g.K.Reader in
     let inv = c.loop-delivery.invariant in
     let made = c.deliver-answer.ensures in
     let pushed : c.push.new.self.items ≡ c.loop-delivery.answers.items ++ c.deliver-answer.result ∷ [] = rw c.unwrap.ensures at c.push.ensures.items in
@@ -98,7 +98,7 @@ returns-in-Fault-clause-own g c = λ held holds honest.
 
 pub returns-in-Fault-clause-cause : goal.returns-in-Fault-clause-cause
 returns-in-Fault-clause-cause g c =
-    let K = g.K.Keeper in
+    let K = g.K.Reader in
     let inv = c.loop-delivery.invariant in
     let made = c.deliver-answer.ensures in
     let pushed : c.push.new.self.items ≡ c.loop-delivery.answers.items ++ c.deliver-answer.result ∷ [] = rw c.unwrap.ensures at c.push.ensures.items in
@@ -108,14 +108,14 @@ returns-in-Fault-clause-cause g c =
 
 pub returns-clause-crash : goal.returns-clause-crash
 returns-clause-crash g c = λ held holds honest.
-    let K = g.K.Keeper in
+    let K = g.K.Reader in
     let inv = c.loop-delivery.invariant in
     let run = runs-all (K.holds c.loop-delivery.keeper) held c.args.deliveries.now c.loop-delivery.delivery-index c.loop-delivery.answers.items (omega arith) (inv.unbroken held holds honest) in
-    leaves-run (K.leaves c.loop-delivery.keeper) held c.args.deliveries.now c.loop-delivery.answers.items run.0 run.1 inv.sound (λ left it. g.met.K.Keeper.settled _ run.0 left run.2 it)
+    leaves-run (K.leaves c.loop-delivery.keeper) held c.args.deliveries.now c.loop-delivery.answers.items run.0 run.1 inv.sound (λ left it. g.met.K.Reader.settled _ run.0 left run.2 it)
 
 pub returns-clause-whole : goal.returns-clause-whole
 returns-clause-whole g c = λ held holds honest.
-    let run = c.loop-delivery.invariant.unbroken held holds honest in g.met.K.Keeper.leaves_held c.loop-delivery.keeper run.0 run.2
+    let run = c.loop-delivery.invariant.unbroken held holds honest in g.met.K.Reader.leaves_held c.loop-delivery.keeper run.0 run.2
 
 pub returns-clause-ends : goal.returns-clause-ends
 returns-clause-ends g c = inl (c.loop-delivery.invariant.sound, (let count = c.loop-delivery.invariant.count in omega arith))
@@ -123,7 +123,7 @@ returns-clause-ends g c = inl (c.loop-delivery.invariant.sound, (let count = c.l
 pub returns-clause-run : goal.returns-clause-run
 returns-clause-run g c = λ held holds honest either.
     let inv = c.loop-delivery.invariant in
-    runs-answered (g.K.Keeper.holds c.loop-delivery.keeper) held c.args.deliveries.now c.loop-delivery.delivery-index (length c.loop-delivery.answers.items) c.loop-delivery.answers.items (let count = inv.count in omega arith) (inv.unbroken held holds honest)
+    runs-answered (g.K.Reader.holds c.loop-delivery.keeper) held c.args.deliveries.now c.loop-delivery.delivery-index (length c.loop-delivery.answers.items) c.loop-delivery.answers.items (let count = inv.count in omega arith) (inv.unbroken held holds honest)
 
 pub returns-clause-own : goal.returns-clause-own
 returns-clause-own g c = λ held holds honest. own-sound c.loop-delivery.answers.items c.loop-delivery.invariant.sound

@@ -6,7 +6,7 @@ use Rattle.osm_import.proofs.deliveries.deliver_until_fault.Given as goal
 
 abbrev pub invariant-loop-delivery : goal.invariant-loop-delivery
 invariant-loop-delivery g l =
-    let K = g.K.Keeper in
+    let K = g.K.Reader in
     record {
       room : length l.deliveries ≤ vec_capacity l.answers;
       count : vec_len l.answers ≡ l.delivery-index;

@@ -15,7 +15,7 @@ returns-then-eq-clause-step g c = λ held holds honest.
     = c.in-Some.ensures ∙ ap (find (λ (extent : Extent). extent.off == c.args.off)) c.deref.ensures.value in (
       held,
       (
-        held_already held c.args.off c.args.bytes.now _ _ c.in-Ok.touched.items c.in-Some.extent c.requires (g.met.K.Keeper.is_apart _ held holds) (c.in-Ok.ensures.touching held holds honest)
+        held_already held c.args.off c.args.bytes.now _ _ c.in-Ok.touched.items c.in-Some.extent c.requires (g.met.K.Reader.is_apart _ held holds) (c.in-Ok.ensures.touching held holds honest)
             found (same ∙ c.digest-digest.ensures),
         refl,
       ),
@@ -28,7 +28,7 @@ returns-in-Some-clause-step g c = λ held holds honest.
     = c.in-Some.ensures ∙ ap (find (λ (extent : Extent). extent.off == c.args.off)) c.deref.ensures.value in (
       held,
       (
-        held_otherwise held c.args.off c.args.bytes.now _ _ c.in-Ok.touched.items c.in-Some.extent c.requires (g.met.K.Keeper.is_apart _ held holds) (c.in-Ok.ensures.touching held holds honest)
+        held_otherwise held c.args.off c.args.bytes.now _ _ c.in-Ok.touched.items c.in-Some.extent c.requires (g.met.K.Reader.is_apart _ held holds) (c.in-Ok.ensures.touching held holds honest)
             found (λ same. not_from_Decides _ (bytes_eq-Decides c.in-Some.extent.digest c.digest-digest.result) (sym c.if-eq.ensures) (same ∙ sym c.digest-digest.ensures)),
         refl,
       ),
@@ -39,7 +39,7 @@ pub returns-then-not-is_empty-clause-step : goal.returns-then-not-is_empty-claus
 returns-then-not-is_empty-clause-step g c = λ held holds honest. (
   held,
   (
-    overlapping held c.args.off c.args.bytes.now _ _ c.in-Ok.touched.items c.requires (g.met.K.Keeper.is_apart _ held holds) (c.in-Ok.ensures.touching held holds honest)
+    overlapping held c.args.off c.args.bytes.now _ _ c.in-Ok.touched.items c.requires (g.met.K.Reader.is_apart _ held holds) (c.in-Ok.ensures.touching held holds honest)
         (λ extent is. c.in_default.not-Some extent (c.extent_at.ensures ∙ ap (find (λ (extent : Extent). extent.off == c.args.off)) c.deref.ensures.value ∙ is)) (search rules),
     refl,
   ),
@@ -53,8 +53,8 @@ returns-in-Ok-put-clause-step g c = λ held holds honest.
     let none : length c.in-Ok.touched.items ≡ 0 = search rules in
     let free = free-of held c.args.off (c.args.off + length c.args.bytes.now) c.in-Ok.touched.items (c.in-Ok.ensures.touching held holds earlier) none in (
       _,
-      storing held c.args.off c.args.bytes.now c.args.good.now.kind c.args.good.now.elements.items c.deref-2.result.now c.digest-digest.result c.len.result _ c.requires c.deref-2.ensures.value c.digest-digest.ensures (g.met.K.Keeper.is_apart _ held holds) free (search rules) refl,
-      c.in-Ok-put.ensures.adds.ok honest held kept free,
+      storing held c.args.off c.args.bytes.now c.args.good.now.kind c.args.good.now.elements.items c.deref-2.result.now c.digest-digest.result c.len.result _ c.requires c.deref-2.ensures.value c.digest-digest.ensures (g.met.K.Reader.is_apart _ held holds) free (search rules) refl,
+      c.in-Ok-put.ensures.adds.ok honest held kept (record { free = free; few_texts = subst (λ (es : List Element). HaveFewTexts es) (sym c.deref-2.ensures.value) (few-texts c.args.off c.args.bytes.now c.args.good.now.kind c.args.good.now.elements.items c.requires) }),
     )
 
 pub returns-in-Ok-put-clause-crash : goal.returns-in-Ok-put-clause-crash
@@ -63,9 +63,9 @@ returns-in-Ok-put-clause-crash g c = λ held holds honest left leaves.
     let kept = c.in-Ok.ensures.reads.ok earlier held holds in
     let none : length c.in-Ok.touched.items ≡ 0 = search rules in
     let free = free-of held c.args.off (c.args.off + length c.args.bytes.now) c.in-Ok.touched.items (c.in-Ok.ensures.touching held holds earlier) none in
-    elim (c.put.ensures.adds.crash honest held left kept free leaves) [
-      | inl old ↦ inl (g.met.K.Keeper.settled _ held left holds (c.in-Ok.ensures.reads.crash earlier left old))
-      | inr new ↦ inr (length c.deref-2.result.now, storing held c.args.off c.args.bytes.now c.args.good.now.kind c.args.good.now.elements.items c.deref-2.result.now c.digest-digest.result _ left c.requires c.deref-2.ensures.value c.digest-digest.ensures (g.met.K.Keeper.is_apart _ held holds) free refl new)
+    elim (c.put.ensures.adds.crash honest held left kept (record { free = free; few_texts = subst (λ (es : List Element). HaveFewTexts es) (sym c.deref-2.ensures.value) (few-texts c.args.off c.args.bytes.now c.args.good.now.kind c.args.good.now.elements.items c.requires) }) leaves) [
+      | inl old ↦ inl (g.met.K.Reader.settled _ held left holds (c.in-Ok.ensures.reads.crash earlier left old))
+      | inr new ↦ inr (length c.deref-2.result.now, storing held c.args.off c.args.bytes.now c.args.good.now.kind c.args.good.now.elements.items c.deref-2.result.now c.digest-digest.result _ left c.requires c.deref-2.ensures.value c.digest-digest.ensures (g.met.K.Reader.is_apart _ held holds) free refl new)
     ]
 
 pub returns-clause-step : goal.returns-clause-step
@@ -73,7 +73,7 @@ returns-clause-step g c = λ held holds honest open_now.
     let earlier = c.put.ensures.adds.honest honest in
     let none : length c.in-Ok.touched.items ≡ 0 = search rules in
     let free = free-of held c.args.off (c.args.off + length c.args.bytes.now) c.in-Ok.touched.items (c.in-Ok.ensures.touching held holds earlier) none in
-    c.in-Err-put.ensures.adds.err honest open_now held (c.in-Ok.ensures.reads.ok earlier held holds) free
+    c.in-Err-put.ensures.adds.err honest open_now held (c.in-Ok.ensures.reads.ok earlier held holds) (record { free = free; few_texts = subst (λ (es : List Element). HaveFewTexts es) (sym c.deref-2.ensures.value) (few-texts c.args.off c.args.bytes.now c.args.good.now.kind c.args.good.now.elements.items c.requires) })
 
 pub returns-clause-crash : goal.returns-clause-crash
 returns-clause-crash g c = λ held holds honest left leaves.
@@ -81,9 +81,9 @@ returns-clause-crash g c = λ held holds honest left leaves.
     let kept = c.in-Ok.ensures.reads.ok earlier held holds in
     let none : length c.in-Ok.touched.items ≡ 0 = search rules in
     let free = free-of held c.args.off (c.args.off + length c.args.bytes.now) c.in-Ok.touched.items (c.in-Ok.ensures.touching held holds earlier) none in
-    elim (c.put.ensures.adds.crash honest held left kept free leaves) [
-      | inl old ↦ inl (g.met.K.Keeper.settled _ held left holds (c.in-Ok.ensures.reads.crash earlier left old))
-      | inr new ↦ inr (length c.deref-2.result.now, storing held c.args.off c.args.bytes.now c.args.good.now.kind c.args.good.now.elements.items c.deref-2.result.now c.digest-digest.result _ left c.requires c.deref-2.ensures.value c.digest-digest.ensures (g.met.K.Keeper.is_apart _ held holds) free refl new)
+    elim (c.put.ensures.adds.crash honest held left kept (record { free = free; few_texts = subst (λ (es : List Element). HaveFewTexts es) (sym c.deref-2.ensures.value) (few-texts c.args.off c.args.bytes.now c.args.good.now.kind c.args.good.now.elements.items c.requires) }) leaves) [
+      | inl old ↦ inl (g.met.K.Reader.settled _ held left holds (c.in-Ok.ensures.reads.crash earlier left old))
+      | inr new ↦ inr (length c.deref-2.result.now, storing held c.args.off c.args.bytes.now c.args.good.now.kind c.args.good.now.elements.items c.deref-2.result.now c.digest-digest.result _ left c.requires c.deref-2.ensures.value c.digest-digest.ensures (g.met.K.Reader.is_apart _ held holds) free refl new)
     ]
 
 pub returns-in-Ok-put-clause-whole : goal.returns-in-Ok-put-clause-whole
@@ -91,21 +91,18 @@ returns-in-Ok-put-clause-whole g c = λ held holds honest.
     let earlier = c.put.ensures.adds.honest honest in
     let none : length c.in-Ok.touched.items ≡ 0 = search rules in
     let free = free-of held c.args.off (c.args.off + length c.args.bytes.now) c.in-Ok.touched.items (c.in-Ok.ensures.touching held holds earlier) none in
-    c.put.ensures.adds.whole honest held (c.in-Ok.ensures.reads.ok earlier held holds) free
+    c.put.ensures.adds.whole honest held (c.in-Ok.ensures.reads.ok earlier held holds) (record { free = free; few_texts = subst (λ (es : List Element). HaveFewTexts es) (sym c.deref-2.ensures.value) (few-texts c.args.off c.args.bytes.now c.args.good.now.kind c.args.good.now.elements.items c.requires) })
 
 pub returns-clause-whole : goal.returns-clause-whole
 returns-clause-whole g c = λ held holds honest.
     let earlier = c.put.ensures.adds.honest honest in
     let none : length c.in-Ok.touched.items ≡ 0 = search rules in
     let free = free-of held c.args.off (c.args.off + length c.args.bytes.now) c.in-Ok.touched.items (c.in-Ok.ensures.touching held holds earlier) none in
-    c.put.ensures.adds.whole honest held (c.in-Ok.ensures.reads.ok earlier held holds) free
+    c.put.ensures.adds.whole honest held (c.in-Ok.ensures.reads.ok earlier held holds) (record { free = free; few_texts = subst (λ (es : List Element). HaveFewTexts es) (sym c.deref-2.ensures.value) (few-texts c.args.off c.args.bytes.now c.args.good.now.kind c.args.good.now.elements.items c.requires) })
 
 pub returns-clause-own : goal.returns-clause-own
 returns-clause-own g c = λ held holds honest.
     let earlier = c.put.ensures.adds.honest honest in
     let none : length c.in-Ok.touched.items ≡ 0 = search rules in
     let free = free-of held c.args.off (c.args.off + length c.args.bytes.now) c.in-Ok.touched.items (c.in-Ok.ensures.touching held holds earlier) none in
-    c.in-Err-put.ensures.adds.own held (c.in-Ok.ensures.reads.ok earlier held holds) honest free
-
-pub put-requires-clause-texts : goal.put-requires-clause-texts
-put-requires-clause-texts g c = subst (λ (es : List Element). HaveFewTexts es) (sym c.deref-2.ensures.value) (few-texts c.args.off c.args.bytes.now c.args.good.now.kind c.args.good.now.elements.items c.requires)
+    c.in-Err-put.ensures.adds.own held (c.in-Ok.ensures.reads.ok earlier held holds) honest (record { free = free; few_texts = subst (λ (es : List Element). HaveFewTexts es) (sym c.deref-2.ensures.value) (few-texts c.args.off c.args.bytes.now c.args.good.now.kind c.args.good.now.elements.items c.requires) })

@@ -3,7 +3,8 @@ use Rattle.std.proofs.lemmas.Result.{MatchResult-weaker}
 use Rattle.sqlite_tied.specs.Compute.{everything}
 use Rattle.sqlite.specs.Held.{state}
 use Rattle.osm_store.specs.Keeping.{extents_of, IsForeign}
-use Rattle.osm_store.proofs.HeldLemmas.{has_extents, digests_of}
+use Rattle.osm_store.proofs.HeldLemmas.{has_extents}
+use Rattle.osm_store.proofs.ExtentLaws.{extents_kept}
 use Rattle.osm_store.proofs.ReadLemmas.{extents_read}
 use Rattle.osm_store.proofs.extents.all_extents.Goals as goal
 
@@ -16,4 +17,4 @@ returns-clause-held g c clean layout held holds =
     let old = state g.S.Store c.args.connection.now in
     let answered = c.in_ok-rows.ensures.rows clean in
     let read = extents_read layout old (state g.S.Store c.answer.new.connection) _ (extents_of held) (has_extents layout old.now held holds.schema holds.tables) answered.shown in
-    MatchResult-weaker c.read_extents.result (c.read_extents.ensures (extents_of held) (digests_of layout held holds.kept) (c.deref.ensures.value ∙ read)) (λ v same. (same, answered.is_open)) (λ fault is foreign. subst IsForeign is foreign)
+    MatchResult-weaker c.read_extents.result (c.read_extents.ensures.exact (extents_of held) (extents_kept layout held holds.kept) (c.deref.ensures.value ∙ read)) (λ v same. (same, answered.is_open)) (λ fault is foreign. subst IsForeign is foreign)

@@ -1,4 +1,4 @@
-use Rattle.std.proofs.Common.{◌≡◌, length, map, pos, refl, ◌∙◌, ap, subst, w64, SFits, rules}
+use Rattle.std.proofs.Common.{◌≡◌, map, pos, refl, ◌∙◌, ap, subst, w64, SFits, rules}
 use Rattle.std.proofs.lemmas.Int.{to_z-of_z}
 use Rattle.sqlite.specs.Value.{owned}
 use Rattle.std.proofs.lemmas.List.Elements.{All-filter}
@@ -6,12 +6,12 @@ use Rattle.std.proofs.lemmas.Result.{MatchResult-weaker}
 use Rattle.sqlite_tied.specs.Compute.{everything}
 use Rattle.sqlite.specs.Held.{state}
 use Rattle.sqlite.specs.declared.types.Value.TheVariants.{Int}
-use Rattle.osm_store.specs.declared.keeper.Extent.{Extent}
 use Rattle.osm_store.specs.Keeping.{extents_of, IsForeign}
+use Rattle.osm_store.specs.LayoutHolding.{IsKeptExtent}
 use Rattle.osm_store.specs.Rows.{extent_columns}
 use Rattle.osm_store.proofs.AnswerLemmas.{asks_then}
-use Rattle.osm_store.proofs.ExtentLaws.{touch_from}
-use Rattle.osm_store.proofs.HeldLemmas.{has_extents, digests_of}
+use Rattle.osm_store.proofs.ExtentLaws.{touch_from, extents_kept}
+use Rattle.osm_store.proofs.HeldLemmas.{has_extents}
 use Rattle.osm_store.proofs.PutLemmas.{clean_before, asks_holds}
 use Rattle.osm_store.proofs.ReadLemmas.{touching_read}
 use Rattle.osm_store.proofs.extents.touched_extents.Goals as goal
@@ -38,5 +38,5 @@ returns-clause-held g c clean layout held holds =
     let shown = rw (start, c.number.ensures, c.number-2.ensures) at answered.shown in
     let read = touching_read layout middle new _ (extents_of held) (has_extents layout middle.now held still.schema still.tables) started.0.off c.args.from c.args.to shown
     ∙ ap (map extent_columns) (touch_from started.0.off c.args.from c.args.to (extents_of held) started.0.later) in
-    let fit = All-filter _ (λ (extent : Extent). length extent.digest ≡ 32) (extents_of held) (digests_of layout held holds.kept) in
-    MatchResult-weaker c.read_extents.result (c.read_extents.ensures _ fit (c.deref.ensures.value ∙ read)) (λ v same. (same, answered.is_open)) (λ fault is foreign. subst IsForeign is foreign)
+    let fit = All-filter _ IsKeptExtent (extents_of held) (extents_kept layout held holds.kept) in
+    MatchResult-weaker c.read_extents.result (c.read_extents.ensures.exact _ fit (c.deref.ensures.value ∙ read)) (λ v same. (same, answered.is_open)) (λ fault is foreign. subst IsForeign is foreign)

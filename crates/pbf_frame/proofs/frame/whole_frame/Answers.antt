@@ -1,4 +1,4 @@
-use Rattle.std.proofs.Common.{◌≡◌, ◌≤◌, ◌<◌, length, arith, ◌∙◌, sym}
+use Rattle.std.proofs.Common.{arith, ◌∙◌, sym}
 use Rattle.pbf_frame.specs.View.{found}
 use Rattle.pbf_wire.proofs.Choices.{neither_both}
 use Rattle.pbf_frame.proofs.FrameLaws.{is_followed, front_read, none_follows}

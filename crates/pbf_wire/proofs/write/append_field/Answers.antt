@@ -1,4 +1,4 @@
-use Rattle.std.proofs.Common.{◌<◌, ◌≡◌, ◌^◌, arith, length, rules, ap, sym}
+use Rattle.std.proofs.Common.{◌<◌, ◌≡◌, ◌^◌, arith, length, rules, ap}
 use Rattle.pbf_wire.specs.Field.{Number, Fixed64, Bytes, Fixed32, content_of}
 use Rattle.pbf_wire.proofs.WriteLaws.{on_ok_spelled}
 use Rattle.pbf_wire.proofs.write.append_field.Goals as goal

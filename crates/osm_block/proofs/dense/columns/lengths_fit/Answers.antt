@@ -1,4 +1,4 @@
-use Rattle.std.proofs.Common.{rules, ◌≡◌, ap, ℕ, ℤ, List, length}
+use Rattle.std.proofs.Common.{rules, ◌≡◌, ℕ, List, length}
 use Rattle.pbf_wire.specs.Readings.{sint64, int32}
 use Rattle.osm_block.proofs.DensePhaseLemmas.{same_lengths, fits_lengths}
 use Rattle.osm_block.proofs.dense.columns.lengths_fit.Goals as goal

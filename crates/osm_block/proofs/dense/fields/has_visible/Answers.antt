@@ -1,5 +1,5 @@
-use Rattle.std.proofs.Common.{◌≡◌, ◌∙◌, sym, ap}
-use Rattle.osm_block.proofs.DenseFieldLemmas.{visible_more, visible_here, visible_not_here}
+use Rattle.std.proofs.Common.{◌∙◌, sym}
+use Rattle.osm_block.proofs.DenseFieldLemmas.{visible_here, visible_not_here}
 use Rattle.osm_block.proofs.dense.fields.has_visible.Goals as goal
 
 pub returns-then-payload_has_visible : goal.returns-then-payload_has_visible

@@ -1,10 +1,7 @@
-use Rattle.std.proofs.Common.{◌≡◌, ◌++◌, map, drop}
-use Rattle.std.specs.List.{flat_map}
-use Rattle.std.specs.Option.{option_or}
+use Rattle.std.proofs.Common.{◌≡◌}
 use Rattle.pbf_wire.specs.Walk.{items_left}
-use Rattle.pbf_wire.specs.Readings.{front, fields, wire, packed, each, nums, fitting, is_there}
+use Rattle.pbf_wire.specs.Readings.{front, fields, fitting, is_there}
 use Rattle.osm_block.specs.Message.{some_visible}
-use Rattle.osm_block.specs.Columns.{first_there}
 use Rattle.osm_block.proofs.dense.fields.payload_has_visible.Given as goal
 
 abbrev pub invariant-loop-field : goal.invariant-loop-field

@@ -1,4 +1,4 @@
-use Rattle.std.proofs.Common.{rules, ◌≡◌, ◌∙◌, sym, ap, map, length, FitsSigned, to_z, of_z, w32, Some}
+use Rattle.std.proofs.Common.{rules, ◌≡◌, ◌∙◌, ap, map, length, FitsSigned, to_z, of_z, w32}
 use Rattle.std.specs.Prelude.{option_map, option_and_then, slice_get}
 use Rattle.std.proofs.lemmas.Int.{to_z-of_z}
 use Rattle.osm_value.specs.Ranges.{is_wide, is_uid, passes}

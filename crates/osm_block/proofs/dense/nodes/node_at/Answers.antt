@@ -1,4 +1,4 @@
-use Rattle.std.proofs.Common.{rules, ◌≡◌, ap, sym, ◌∙◌, get_or, pos, FitsSigned, to_z, of_z, w32, w64}
+use Rattle.std.proofs.Common.{rules, ◌≡◌, ap, ◌∙◌, get_or, pos, FitsSigned, w32, w64}
 use Rattle.std.proofs.lemmas.Int.{to_z-of_z}
 use Rattle.osm_block.specs.Block.{place}
 use Rattle.osm_block.specs.Fields.{context_of}

@@ -1,11 +1,9 @@
-use Rattle.std.proofs.Common.{rules, ◌≡◌, ◌≢◌, ◌<◌, ◌+◌, ◌∙◌, [], sym, ap, map, length, get_or, drop, pos, List, FitsSigned, to_z, of_z, w32, w64, arith}
+use Rattle.std.proofs.Common.{rules, ◌≡◌, ◌+◌, ◌∙◌, ap, map, length, get_or, pos, FitsSigned, to_z, of_z, w32, w64, arith}
 use Rattle.std.proofs.lemmas.Int.{to_z-of_z}
-use Rattle.std.proofs.lemmas.List.{length-map}
 use Rattle.std.proofs.lemmas.List.{map-append}
 use Rattle.osm_block.specs.Phases.{is_index}
-use Rattle.osm_block.specs.NodeTags.{front_pairs}
 use Rattle.osm_block.proofs.TagsLemmas.{zero_from_bits, not_zero_from_bits}
-use Rattle.osm_block.proofs.NodeTagsLemmas.{PairsLeft, front_at_zero, front_at_end, nothing_behind, next_in_table, pair_more, pairs_end, text_of_index, along_length}
+use Rattle.osm_block.proofs.NodeTagsLemmas.{front_at_zero, front_at_end, nothing_behind, next_in_table, pair_more, pairs_end, text_of_index, along_length}
 use Rattle.osm_block.proofs.dense.tags.node_tags.Goals as goal
 
 pub returns-then-key-eq0-clause-texts : goal.returns-then-key-eq0-clause-texts

@@ -4,12 +4,12 @@ use Rattle.osm_import.proofs.ExportLemmas.{wrote-more, wrote-err, read-is, all-b
 use Rattle.osm_import.proofs.export.lines.write_blobs.Goals as goal
 
 pub returns-in-Err-clause-wrote : goal.returns-in-Err-clause-wrote
-returns-in-Err-clause-wrote g c = λ held holds honest are.
+returns-in-Err-clause-wrote g c = λ held run holds honest of are.
     let inv = c.loop-extent.invariant in
     let earlier = c.write_blob.ensures.rereads.honest honest in
-    wrote-err held c.args.extents.now c.loop-extent.extent-index _ (g.S.Sink.written c.args.out.now) (g.S.Sink.written c.loop-extent.out) (g.S.Sink.written c.write_blob.new.out) c.in-Err.fault are (omega arith)
-    (read-is c.args.extents.now c.loop-extent.extent-index _ _ (omega arith)) (inv.wrote held holds earlier are)
-    (λ blob found. c.in-Err.ensures.wrote held blob (inv.kept earlier held holds) honest found)
+    wrote-err run c.args.extents.now c.loop-extent.extent-index _ (g.S.Sink.written c.args.out.now) (g.S.Sink.written c.loop-extent.out) (g.S.Sink.written c.write_blob.new.out) c.in-Err.fault are (omega arith)
+    (read-is c.args.extents.now c.loop-extent.extent-index _ _ (omega arith)) (inv.wrote held run holds earlier of are)
+    (λ blob found. c.in-Err.ensures.wrote held blob (inv.kept earlier held holds) honest (of _ blob found))
 
 pub loop-extent-preserved : goal.loop-extent-preserved
 loop-extent-preserved g c =
@@ -22,10 +22,10 @@ loop-extent-preserved g c =
       crash = λ h held left. inv.crash (made.rereads.honest h) held (made.rereads.crash h held left);
       whole = λ h maps. made.rereads.whole h (inv.whole (made.rereads.honest h) maps);
       counted = omega (arith, inv.counted, made.counted);
-      wrote = λ held holds honest are.
-          wrote-more held c.args.extents.now c.loop-extent.extent-index _ (g.S.Sink.written c.args.out.now) (g.S.Sink.written c.loop-extent.out) (g.S.Sink.written c.write_blob.new.out) are (omega arith)
-          (read-is c.args.extents.now c.loop-extent.extent-index _ _ (omega arith)) (inv.wrote held holds (made.rereads.honest honest) are)
-          (λ blob found. made.wrote held blob (inv.kept (made.rereads.honest honest) held holds) honest found);
+      wrote = λ held run holds honest of are.
+          wrote-more run c.args.extents.now c.loop-extent.extent-index _ (g.S.Sink.written c.args.out.now) (g.S.Sink.written c.loop-extent.out) (g.S.Sink.written c.write_blob.new.out) are (omega arith)
+          (read-is c.args.extents.now c.loop-extent.extent-index _ _ (omega arith)) (inv.wrote held run holds (made.rereads.honest honest) of are)
+          (λ blob found. made.wrote held blob (inv.kept (made.rereads.honest honest) held holds) honest (of _ blob found));
     }
 
 pub loop-extent-init : goal.loop-extent-init
@@ -36,12 +36,12 @@ loop-extent-init g c = record {
   crash = λ h held left. left;
   whole = λ h maps. maps;
   counted = omega arith;
-  wrote = λ held holds honest are. Appends-nil (g.S.Sink.written c.args.out.now);
+  wrote = λ held run holds honest of are. Appends-nil (g.S.Sink.written c.args.out.now);
 }
 
 pub returns-in-Err-clause-own : goal.returns-in-Err-clause-own
 returns-in-Err-clause-own g c = λ held holds honest. c.in-Err.ensures.own held (c.loop-extent.invariant.kept (c.write_blob.ensures.rereads.honest honest) held holds) honest
 
 pub returns-clause-wrote : goal.returns-clause-wrote
-returns-clause-wrote g c = λ held holds honest are.
-    all-blobs held c.args.extents.now c.loop-extent.extent-index (g.S.Sink.written c.args.out.now) (g.S.Sink.written c.loop-extent.out) are (omega arith) (c.loop-extent.invariant.wrote held holds honest are)
+returns-clause-wrote g c = λ held run holds honest of are.
+    all-blobs run c.args.extents.now c.loop-extent.extent-index (g.S.Sink.written c.args.out.now) (g.S.Sink.written c.loop-extent.out) are (omega arith) (c.loop-extent.invariant.wrote held run holds honest of are)

@@ -7,7 +7,7 @@ use Rattle.osm_import.proofs.export.pbf.write_blobs.Given as goal
 
 abbrev pub invariant-loop-extent : goal.invariant-loop-extent
 invariant-loop-extent g l =
-    let K = g.K.Keeper in
+    let K = g.K.Reader in
     let S = g.S.Sink in
     record {
       honest : K.is_honest l.keeper → K.is_honest l.fn.keeper;

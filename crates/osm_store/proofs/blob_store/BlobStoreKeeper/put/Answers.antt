@@ -11,7 +11,7 @@ returns g c =
     let new : Store _ = record { connection = c.put_rows-answer.new.connection; failures = c.failures_after-self-inside.result } in
     let wide : length c.args.digest.now ≡ 32 = search rules in
     let says = c.put_rows-answer.ensures in
-    let adds = put_adds c.LAYOUT.result g.S.Store inside new c.args.off blob c.requires.order c.requires.limit wide c.requires.texts (λ db there left. g.met.S.Store.settled c.self.inside.connection.store db there left)
+    let adds = put_adds c.LAYOUT.result g.S.Store inside new c.args.off blob c.requires.order c.requires.limit wide (λ db there left. g.met.S.Store.settled c.self.inside.connection.store db there left)
     c.put_rows-answer.result
     (record { added = says.added; can_store = says.can_store; committed = says.committed; unchanged = says.unchanged; ours = says.ours; crash = says.crash })
     c.failures_after-self-inside.ensures in

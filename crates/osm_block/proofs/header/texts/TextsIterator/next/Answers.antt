@@ -1,4 +1,3 @@
-use Rattle.std.proofs.Common.{◌≡◌}
 use Rattle.osm_block.proofs.HeaderLemmas.{first_is_text}
 use Rattle.osm_block.proofs.header.texts.TextsIterator.next.Goals as goal
 

@@ -1,0 +1,85 @@
+//! Stores in memory for the tests of commands.
+
+use super::support::{EXTRA, TWO_NODES};
+use osm_import::Inlet;
+use osm_store::{BlobStore, BodyStore, Keeper, StoreLayout, TableStore};
+use osm_value::Outlet;
+use pbfrow_commands::import::import;
+use sqlite::{Connection, MemStore};
+use std::alloc::{AllocError, Global};
+use std::io::{Cursor, Read};
+use std::process::Abort;
+use std::test::*;
+
+pub type Blocks = BodyStore<MemStore>;
+
+pub type Columns = TableStore<MemStore>;
+
+/// A store in memory, which holds nothing at first.
+pub trait NewStore: Keeper + Drop {
+    fn new_store(alloc: Global) -> Option<Self>;
+}
+
+impl<L: StoreLayout> NewStore for BlobStore<MemStore, L> {
+    fn new_store(alloc: Global) -> Option<BlobStore<MemStore, L>> {
+        let Ok(connection) = Connection::open_in_memory(alloc) else {
+            return None;
+        };
+        BlobStore::create(connection).ok()
+    }
+}
+
+/// Imports an input and expects this exit status and exactly this text.
+pub fn expect_import<K: Keeper, R: Read + Drop>(
+    rt: &(impl Abort + Alloc<A = Global>),
+    store: &mut K,
+    input: R,
+    from: u8,
+    status: u8,
+    text: &[u8],
+) {
+    let mut out = Outlet::new(Vec::new(rt.alloc()));
+    let from = u64::from(from);
+    let ended = import(rt.alloc(), &mut Inlet::new(input), store, from, &mut out);
+    assert_eq!(rt; ended, status);
+    assert!(rt; out.into_inner().as_slice() == text);
+}
+
+/// Imports the file of two nodes.
+pub fn import_two_nodes<K: Keeper>(rt: &(impl Abort + Alloc<A = Global>), store: &mut K) {
+    expect_import(
+        rt,
+        store,
+        Cursor::new(&TWO_NODES[..]),
+        0,
+        0,
+        b"0 stored 0\n47 stored 2\nblobs stored 2 held 0 bad 0 refused 0\n",
+    );
+}
+
+/// The file of two nodes, a blob of another type at 84, and the blob of two nodes again at 100.
+pub fn four_blobs(alloc: Global) -> Result<Vec<u8>, AllocError> {
+    let two_nodes = &TWO_NODES[..];
+    let mut bytes = Vec::new(alloc);
+    bytes.extend_from_slice(two_nodes)?;
+    bytes.extend_from_slice(EXTRA)?;
+    bytes.extend_from_slice(&two_nodes[47..])?;
+    Ok(bytes)
+}
+
+/// Imports the file of four blobs.
+pub fn import_four_blobs<K: Keeper>(
+    rt: &(impl Abort + Alloc<A = Global>),
+    store: &mut K,
+) -> Result<(), AllocError> {
+    let bytes = four_blobs(rt.alloc())?;
+    expect_import(
+        rt,
+        store,
+        Cursor::new(&bytes[..]),
+        0,
+        0,
+        b"0 stored 0\n47 stored 2\n84 stored 0\n100 stored 2\nblobs stored 4 held 0 bad 0 refused 0\n",
+    );
+    Ok(())
+}

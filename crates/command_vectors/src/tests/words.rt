@@ -1,0 +1,155 @@
+//! Tests of the words that name a command.
+
+use osm_value::{Form, MemberKind};
+use pbfrow_words::{Words, read_element, read_words};
+use std::test::*;
+
+static IMPORT: [&str; 6] = ["pbfrow", "import", "F", "D", "--from", "47"];
+
+static IMPORT_TOO_FAR: [&str; 6] = [
+    "pbfrow",
+    "import",
+    "F",
+    "D",
+    "--from",
+    "4611686018427387905",
+];
+
+static IMPORT_FARTHEST: [&str; 6] = [
+    "pbfrow",
+    "import",
+    "F",
+    "D",
+    "--from",
+    "4611686018427387904",
+];
+
+static FIND: [&str; 4] = ["pbfrow", "find", "D", "n2"];
+
+static FIND_NO_ELEMENT: [&str; 4] = ["pbfrow", "find", "D", "x2"];
+
+static LIST: [&str; 2] = ["pbfrow", "list"];
+
+static CHECK: [&str; 3] = ["pbfrow", "check", "F"];
+
+static SHOW_TWO: [&str; 4] = ["pbfrow", "show", "F", "G"];
+
+static STATUS: [&str; 5] = ["pbfrow", "status", "D", "--size", "85"];
+
+static EXPORT: [&str; 3] = ["pbfrow", "export", "D"];
+
+static EXPORT_PBF: [&str; 6] = ["pbfrow", "export", "D", "--partial", "--form", "pbf"];
+
+static EXPORT_XML: [&str; 5] = ["pbfrow", "export", "D", "--form", "xml"];
+
+static NOTHING: [&str; 1] = ["pbfrow"];
+
+#[test]
+fn words_of_reading_commands(rt: HostRuntime) {
+    assert!(rt;
+        matches!(
+            read_words(rt.alloc(), LIST.as_slice()),
+            Ok(Words::List { file: None })
+        )
+    );
+    assert!(rt;
+        matches!(
+            read_words(rt.alloc(), CHECK.as_slice()),
+            Ok(Words::Check { file: Some("F") })
+        )
+    );
+    assert!(rt; read_words(rt.alloc(), SHOW_TWO.as_slice()).is_err());
+    assert!(rt; read_words(rt.alloc(), NOTHING.as_slice()).is_err());
+}
+
+#[test]
+fn words_of_import(rt: HostRuntime) {
+    assert!(rt;
+        matches!(
+            read_words(rt.alloc(), IMPORT.as_slice()),
+            Ok(Words::Import {
+                file: "F",
+                database: "D",
+                from: Some(47)
+            })
+        )
+    );
+    assert!(rt; read_words(rt.alloc(), IMPORT_FARTHEST.as_slice()).is_ok());
+    assert!(rt; read_words(rt.alloc(), IMPORT_TOO_FAR.as_slice()).is_err());
+}
+
+#[test]
+fn words_of_database_commands(rt: HostRuntime) {
+    assert!(rt;
+        matches!(
+            read_words(rt.alloc(), STATUS.as_slice()),
+            Ok(Words::Status {
+                database: "D",
+                size: Some(85)
+            })
+        )
+    );
+    assert!(rt;
+        matches!(
+            read_words(rt.alloc(), EXPORT.as_slice()),
+            Ok(Words::Export {
+                database: "D",
+                size: None,
+                partial: false,
+                form: Form::Lines
+            })
+        )
+    );
+    assert!(rt;
+        matches!(
+            read_words(rt.alloc(), EXPORT_PBF.as_slice()),
+            Ok(Words::Export {
+                database: "D",
+                size: None,
+                partial: true,
+                form: Form::Pbf
+            })
+        )
+    );
+    assert!(rt; read_words(rt.alloc(), EXPORT_XML.as_slice()).is_err());
+}
+
+#[test]
+fn words_of_find(rt: HostRuntime) {
+    assert!(rt;
+        matches!(
+            read_words(rt.alloc(), FIND.as_slice()),
+            Ok(Words::Find {
+                database: "D",
+                kind: MemberKind::Node,
+                id: 2
+            })
+        )
+    );
+    assert!(rt; read_words(rt.alloc(), FIND_NO_ELEMENT.as_slice()).is_err());
+}
+
+#[test]
+fn elements(rt: HostRuntime) {
+    for (text, wanted) in [
+        ("n2", Some((MemberKind::Node, 2))),
+        ("w-2", Some((MemberKind::Way, -2))),
+        ("w007", Some((MemberKind::Way, 7))),
+        (
+            "n4611686018427387903",
+            Some((MemberKind::Node, 4611686018427387903)),
+        ),
+        (
+            "r-4611686018427387903",
+            Some((MemberKind::Relation, -4611686018427387903)),
+        ),
+        ("n4611686018427387904", None),
+        ("x2", None),
+        ("n+1", None),
+        ("n", None),
+        ("n-", None),
+        ("", None),
+    ] {
+        assert!(rt; read_element(text) == wanted, "{text}");
+    }
+}

@@ -1,0 +1,126 @@
+use Rattle.std.proofs.Common.{◌≡◌, ◌≢◌, ◌==◌, ◌∙◌, ◌<◌, ℕ, List, length, Some, refl, sym, subst, ap, inl, inr, arith, rules}
+use Rattle.std.specs.Prelude.{find}
+use Rattle.std.specs.FinMap.{get, insert}
+use Rattle.std.proofs.lemmas.Slice.Eq.{bytes_eq-Decides}
+use Rattle.std.proofs.lemmas.Bool.Decides.{not_from_Decides}
+use Rattle.osm_value.specs.declared.element.Element.{Element}
+use Rattle.osm_store.specs.Held.{Blob, HeldMap, IsFree, HaveFewTexts}
+use Rattle.osm_store.specs.Keeping.{extent_of}
+use Rattle.osm_store.specs.declared.keeper.Extent.{Extent}
+use Rattle.osm_import.proofs.Delivering.{found-at, unheld-at, free-of}
+use Rattle.osm_import.proofs.CopyLemmas.{blob_put, met_of}
+use Rattle.osm_import.proofs.copy.copy_blob.Goals as goal
+
+pub returns-then-eq-clause-step : goal.returns-then-eq-clause-step
+returns-then-eq-clause-step g c = λ source held blob from_holds from_honest holds honest of is.
+    let same = (bytes_eq-Decides c.in-Some.found.digest c.args.extent.now.digest).0 (sym c.if-eq.ensures) in
+    let found : Some c.in-Some.found ≡ find (λ (extent : Extent). extent.off == c.args.extent.now.off) c.in_ok-touched.touched.items
+    = c.in-Some.ensures ∙ ap (find (λ (extent : Extent). extent.off == c.args.extent.now.off)) c.deref.ensures.value in
+    let it = found-at held c.args.extent.now.off c.args.extent.now.fin c.in_ok-touched.touched.items c.in-Some.found (g.met.T.Reader.is_apart _ held holds) c.requires.range.0 (c.in_ok-touched.ensures.touching held holds honest) found in
+    (held, (it.0, it.1, sym it.2 ∙ same ∙ ap (λ (e : Extent). e.digest) is, refl), c.in_ok-touched.ensures.reads.ok honest held holds)
+
+pub returns-in-Some-clause-step : goal.returns-in-Some-clause-step
+returns-in-Some-clause-step g c = λ source held blob from_holds from_honest holds honest of is.
+    let found : Some c.in-Some.found ≡ find (λ (extent : Extent). extent.off == c.args.extent.now.off) c.in_ok-touched.touched.items
+    = c.in-Some.ensures ∙ ap (find (λ (extent : Extent). extent.off == c.args.extent.now.off)) c.deref.ensures.value in
+    let it = found-at held c.args.extent.now.off c.args.extent.now.fin c.in_ok-touched.touched.items c.in-Some.found (g.met.T.Reader.is_apart _ held holds) c.requires.range.0 (c.in_ok-touched.ensures.touching held holds honest) found in (
+      held,
+      (it.0, it.1, (λ same. not_from_Decides _ (bytes_eq-Decides c.in-Some.found.digest c.args.extent.now.digest) (sym c.if-eq.ensures) (it.2 ∙ same ∙ sym (ap (λ (e : Extent). e.digest) is))), refl),
+      c.in_ok-touched.ensures.reads.ok honest held holds,
+    )
+
+pub returns-then-not-is_empty-clause-step : goal.returns-then-not-is_empty-clause-step
+returns-then-not-is_empty-clause-step g c = λ source held blob from_holds from_honest holds honest of is.
+    let are = c.in_ok-touched.ensures.touching held holds honest in
+    let met = met_of held c.args.extent.now.off c.args.extent.now.fin c.in_ok-touched.touched.items are (search rules) in (
+      held,
+      (
+        unheld-at held c.args.extent.now.off c.args.extent.now.fin c.in_ok-touched.touched.items (g.met.T.Reader.is_apart _ held holds) c.requires.range.0 are
+            (λ extent here. c.in_default.not-Some extent (c.extent_at.ensures ∙ ap (find (λ (extent : Extent). extent.off == c.args.extent.now.off)) c.deref.ensures.value ∙ here)),
+        record { at = met.at; blob = met.blob; found = met.found; starts = subst (λ (e : Extent). met.at < e.fin) is met.starts; ends = met.ends },
+        refl,
+      ),
+      c.in_ok-touched.ensures.reads.ok honest held holds,
+    )
+
+pub returns-in-Ok-clause-step : goal.returns-in-Ok-clause-step
+returns-in-Ok-clause-step g c = λ source held blob from_holds from_honest holds honest of is.
+    let off : ℕ = c.args.extent.now.off in
+    let earlier = c.put.ensures.adds.honest honest in
+    let none : length c.in_ok-touched.touched.items ≡ 0 = search rules in
+    let free = free-of held off c.args.extent.now.fin c.in_ok-touched.touched.items (c.in_ok-touched.ensures.touching held holds earlier) none in
+    let are : c.deref-2.result.now ≡ blob.elements = c.deref-2.ensures.value ∙ c.in_ok-elements.ensures blob.elements (c.in_ok-loaded.ensures.rows source blob from_holds from_honest of) in
+    let few = subst (λ (es : List Element). HaveFewTexts es) (sym are) (g.met.F.Reader.has_few_texts _ source from_holds off blob of) in
+    let one = blob_put off c.args.extent.now blob c.deref-2.result.now is are in (
+      insert held off blob,
+      (subst (λ (e : Extent). IsFree held off e.fin) is free, refl),
+      subst (λ (b : Blob). g.T.Reader.holds c.put.new.self (insert held off b)) one (c.in-Ok.ensures.adds.ok honest held (c.in_ok-touched.ensures.reads.ok earlier held holds) (record { free = free; few_texts = few })),
+    )
+
+pub returns-in-Ok-clause-crash : goal.returns-in-Ok-clause-crash
+returns-in-Ok-clause-crash g c = λ source held blob from_holds from_honest holds honest of is left leaves.
+    let off : ℕ = c.args.extent.now.off in
+    let earlier = c.put.ensures.adds.honest honest in
+    let none : length c.in_ok-touched.touched.items ≡ 0 = search rules in
+    let free = free-of held off c.args.extent.now.fin c.in_ok-touched.touched.items (c.in_ok-touched.ensures.touching held holds earlier) none in
+    let are : c.deref-2.result.now ≡ blob.elements = c.deref-2.ensures.value ∙ c.in_ok-elements.ensures blob.elements (c.in_ok-loaded.ensures.rows source blob from_holds from_honest of) in
+    let few = subst (λ (es : List Element). HaveFewTexts es) (sym are) (g.met.F.Reader.has_few_texts _ source from_holds off blob of) in
+    let one = blob_put off c.args.extent.now blob c.deref-2.result.now is are in
+    elim (c.put.ensures.adds.crash honest held left (c.in_ok-touched.ensures.reads.ok earlier held holds) (record { free = free; few_texts = few }) leaves) [
+      | inl old ↦ inl (g.met.T.Reader.settled _ held left holds (c.in_ok-touched.ensures.reads.crash earlier left old))
+      | inr new ↦ inr (subst (λ (e : Extent). IsFree held off e.fin) is free, new ∙ ap (insert held off) one)
+    ]
+
+pub returns-in-Ok-clause-whole : goal.returns-in-Ok-clause-whole
+returns-in-Ok-clause-whole g c = λ source held blob from_holds from_honest holds honest of is.
+    let off : ℕ = c.args.extent.now.off in
+    let earlier = c.put.ensures.adds.honest honest in
+    let none : length c.in_ok-touched.touched.items ≡ 0 = search rules in
+    let free = free-of held off c.args.extent.now.fin c.in_ok-touched.touched.items (c.in_ok-touched.ensures.touching held holds earlier) none in
+    let are : c.deref-2.result.now ≡ blob.elements = c.deref-2.ensures.value ∙ c.in_ok-elements.ensures blob.elements (c.in_ok-loaded.ensures.rows source blob from_holds from_honest of) in
+    let few = subst (λ (es : List Element). HaveFewTexts es) (sym are) (g.met.F.Reader.has_few_texts _ source from_holds off blob of) in
+    c.put.ensures.adds.whole honest held (c.in_ok-touched.ensures.reads.ok earlier held holds) (record { free = free; few_texts = few })
+
+pub returns-clause-step : goal.returns-clause-step
+returns-clause-step g c = λ source held blob from_holds from_honest holds honest of is open_now.
+    let off : ℕ = c.args.extent.now.off in
+    let earlier = c.put.ensures.adds.honest honest in
+    let none : length c.in_ok-touched.touched.items ≡ 0 = search rules in
+    let free = free-of held off c.args.extent.now.fin c.in_ok-touched.touched.items (c.in_ok-touched.ensures.touching held holds earlier) none in
+    let are : c.deref-2.result.now ≡ blob.elements = c.deref-2.ensures.value ∙ c.in_ok-elements.ensures blob.elements (c.in_ok-loaded.ensures.rows source blob from_holds from_honest of) in
+    let few = subst (λ (es : List Element). HaveFewTexts es) (sym are) (g.met.F.Reader.has_few_texts _ source from_holds off blob of) in
+    c.in-Err.ensures.adds.err honest open_now held (c.in_ok-touched.ensures.reads.ok earlier held holds) (record { free = free; few_texts = few })
+
+pub returns-clause-crash : goal.returns-clause-crash
+returns-clause-crash g c = λ source held blob from_holds from_honest holds honest of is left leaves.
+    let off : ℕ = c.args.extent.now.off in
+    let earlier = c.put.ensures.adds.honest honest in
+    let none : length c.in_ok-touched.touched.items ≡ 0 = search rules in
+    let free = free-of held off c.args.extent.now.fin c.in_ok-touched.touched.items (c.in_ok-touched.ensures.touching held holds earlier) none in
+    let are : c.deref-2.result.now ≡ blob.elements = c.deref-2.ensures.value ∙ c.in_ok-elements.ensures blob.elements (c.in_ok-loaded.ensures.rows source blob from_holds from_honest of) in
+    let few = subst (λ (es : List Element). HaveFewTexts es) (sym are) (g.met.F.Reader.has_few_texts _ source from_holds off blob of) in
+    let one = blob_put off c.args.extent.now blob c.deref-2.result.now is are in
+    elim (c.put.ensures.adds.crash honest held left (c.in_ok-touched.ensures.reads.ok earlier held holds) (record { free = free; few_texts = few }) leaves) [
+      | inl old ↦ inl (g.met.T.Reader.settled _ held left holds (c.in_ok-touched.ensures.reads.crash earlier left old))
+      | inr new ↦ inr (subst (λ (e : Extent). IsFree held off e.fin) is free, new ∙ ap (insert held off) one)
+    ]
+
+pub returns-clause-whole : goal.returns-clause-whole
+returns-clause-whole g c = λ source held blob from_holds from_honest holds honest of is.
+    let off : ℕ = c.args.extent.now.off in
+    let earlier = c.put.ensures.adds.honest honest in
+    let none : length c.in_ok-touched.touched.items ≡ 0 = search rules in
+    let free = free-of held off c.args.extent.now.fin c.in_ok-touched.touched.items (c.in_ok-touched.ensures.touching held holds earlier) none in
+    let are : c.deref-2.result.now ≡ blob.elements = c.deref-2.ensures.value ∙ c.in_ok-elements.ensures blob.elements (c.in_ok-loaded.ensures.rows source blob from_holds from_honest of) in
+    let few = subst (λ (es : List Element). HaveFewTexts es) (sym are) (g.met.F.Reader.has_few_texts _ source from_holds off blob of) in
+    c.put.ensures.adds.whole honest held (c.in_ok-touched.ensures.reads.ok earlier held holds) (record { free = free; few_texts = few })
+
+pub returns-clause-own : goal.returns-clause-own
+returns-clause-own g c = λ source held blob from_holds from_honest holds honest of is.
+    let off : ℕ = c.args.extent.now.off in
+    let earlier = c.put.ensures.adds.honest honest in
+    let none : length c.in_ok-touched.touched.items ≡ 0 = search rules in
+    let free = free-of held off c.args.extent.now.fin c.in_ok-touched.touched.items (c.in_ok-touched.ensures.touching held holds earlier) none in
+    let are : c.deref-2.result.now ≡ blob.elements = c.deref-2.ensures.value ∙ c.in_ok-elements.ensures blob.elements (c.in_ok-loaded.ensures.rows source blob from_holds from_honest of) in
+    let few = subst (λ (es : List Element). HaveFewTexts es) (sym are) (g.met.F.Reader.has_few_texts _ source from_holds off blob of) in
+    c.in-Err.ensures.adds.own held (c.in_ok-touched.ensures.reads.ok earlier held holds) honest (record { free = free; few_texts = few })

@@ -1,0 +1,130 @@
+use Rattle.std.proofs.Common.{◌≡◌, ◌≤◌, ◌<◌, ◌+◌, ◌∙◌, [], take, length, Ok, refl, sym, subst, ap, arith, rules}
+use Rattle.osm_store.specs.Held.{HeldMap}
+use Rattle.osm_store.specs.Keeping.{extents_of}
+use Rattle.osm_import.specs.Copies.{IsMerged}
+use Rattle.osm_import.proofs.CopyLemmas.{IsAt, at_blob, taken_more, taken_below, taken_all, counted_all, merged_none, merged_step, crash_below, stops_at, cause_wider, held_more, held_by, held_all, already}
+use Rattle.osm_import.proofs.ExportLemmas.{read-is}
+use Rattle.osm_import.proofs.copy.copy_blobs.Goals as goal
+use Rattle.osm_import.proofs.copy.copy_blobs.Goals.{in-Added, in-AlreadyHeld}
+
+pub loop-extent-init : goal.loop-extent-init
+loop-extent-init g c = record {
+  counts = refl;
+  from_honest = λ h. h;
+  from_open_if = λ h. h;
+  from_kept = λ h source holds. holds;
+  from_crash = λ h source left. left;
+  from_whole = λ h maps. maps;
+  from_counted = omega arith;
+  honest = λ h. h;
+  open_if = λ h. h;
+  counted = omega arith;
+  merged = λ source held from_holds from_honest holds honest are. (held, merged_none (λ off. IsAt [] off) source held (λ off none. none), holds, refl);
+}
+
+pub loop-extent-preserved : goal.loop-extent-preserved
+loop-extent-preserved g c =
+    let T = g.T.Reader in
+    let new_held : c.match-answer.held ≡ c.loop-extent.held + already c.in-Ok.answer = elim c.match-answer.branch [
+      | in-Added w ↦ (let known = w.in-Added.is in let same = ap already known in let kept = w.held-is in omega (arith, same, kept))
+      | in-AlreadyHeld w ↦ (let known = w.in-AlreadyHeld.is in let same = ap already known in let more = w.held-is in omega (arith, same, more))
+    ] in
+    let inv = c.loop-extent.invariant in
+    let made = c.in-Ok.ensures in
+    record {
+      counts = search rules;
+      from_honest = λ h. inv.from_honest (made.source.honest h);
+      from_open_if = λ h. inv.from_open_if (made.source.open_if h);
+      from_kept = λ h source holds. made.source.ok h source (inv.from_kept (made.source.honest h) source holds);
+      from_crash = λ h source left. inv.from_crash (made.source.honest h) source (made.source.crash h source left);
+      from_whole = λ h maps. made.source.whole h (inv.from_whole (made.source.honest h) maps);
+      from_counted = omega (arith, inv.from_counted, made.counted.0);
+      honest = λ h. inv.honest (made.honest h);
+      open_if = λ h. inv.open_if (made.open_if h);
+      counted = omega (arith, inv.counted, made.counted.1);
+      merged = λ source held from_holds from_honest holds honest are.
+          let before = inv.merged source held from_holds (made.source.honest from_honest) holds (made.honest honest) are in
+          let is = read-is c.args.extents.now c.loop-extent.extent-index _ _ (omega arith) in
+          let at = at_blob source c.args.extents.now c.loop-extent.extent-index _ are (omega arith) is in
+          let from_now = inv.from_kept (made.source.honest from_honest) source from_holds in
+          let step = made.step source before.0 at.blob from_now from_honest before.2 honest at.found at.same in (
+            step.0,
+            taken_more c.args.extents.now c.loop-extent.extent-index _ source held step.0 (omega arith) is
+                (merged_step (λ off. IsAt (take c.loop-extent.extent-index c.args.extents.now) off) source held before.0 step.0 _ at.blob c.in-Ok.answer before.1 (g.met.T.Reader.is_apart _ before.0 before.2)
+                ((g.met.F.Reader.is_apart _ source from_now).filled _ at.blob at.found) at.found step.1),
+            step.2,
+            held_more source held c.args.extents.now c.loop-extent.extent-index _ c.loop-extent.held _ are (omega arith) is before.3
+                (new_held ∙ ap (λ n. c.loop-extent.held + n) (sym (held_by source held before.0 step.0 c.args.extents.now c.loop-extent.extent-index _ at.blob c.in-Ok.answer are (omega arith) is before.1 (g.met.T.Reader.is_apart _ before.0 before.2)
+                ((g.met.F.Reader.is_apart _ source from_now).filled _ at.blob at.found) at.found step.1))),
+          );
+    }
+
+pub returns-in-Err-clause-copies : goal.returns-in-Err-clause-copies
+returns-in-Err-clause-copies g c = λ source held from_holds from_honest holds honest are.
+    let inv = c.loop-extent.invariant in
+    let made = c.in-Err.ensures in
+    let before = inv.merged source held from_holds (made.source.honest from_honest) holds (made.honest honest) are in
+    let is = read-is c.args.extents.now c.loop-extent.extent-index _ _ (omega arith) in
+    let at = at_blob source c.args.extents.now c.loop-extent.extent-index _ are (omega arith) is in
+    let from_now = inv.from_kept (made.source.honest from_honest) source from_holds in
+    stops_at (g.T.Reader.is_open c.copy_blob.new.to) (g.T.Reader.holds c.copy_blob.new.to) source held before.0 _ at.blob c.in-Err.fault
+    (taken_below c.args.extents.now c.loop-extent.extent-index _ source held before.0 are (omega arith) is before.1) at.found
+    (made.step source before.0 at.blob from_now from_honest before.2 honest at.found at.same)
+
+pub returns-in-Err-clause-crash : goal.returns-in-Err-clause-crash
+returns-in-Err-clause-crash g c = λ source held from_holds from_honest holds honest are left leaves.
+    let inv = c.loop-extent.invariant in
+    let made = c.in-Err.ensures in
+    let before = inv.merged source held from_holds (made.source.honest from_honest) holds (made.honest honest) are in
+    let is = read-is c.args.extents.now c.loop-extent.extent-index _ _ (omega arith) in
+    let at = at_blob source c.args.extents.now c.loop-extent.extent-index _ are (omega arith) is in
+    let from_now = inv.from_kept (made.source.honest from_honest) source from_holds in
+    crash_below source held before.0 left _ at.blob (taken_below c.args.extents.now c.loop-extent.extent-index _ source held before.0 are (omega arith) is before.1) (g.met.T.Reader.is_apart _ before.0 before.2)
+    ((g.met.F.Reader.is_apart _ source from_now).filled _ at.blob at.found) at.found
+    (made.crash source before.0 at.blob from_now from_honest before.2 honest at.found at.same left leaves)
+
+pub returns-in-Err-clause-whole : goal.returns-in-Err-clause-whole
+returns-in-Err-clause-whole g c = λ source held from_holds from_honest holds honest are.
+    let inv = c.loop-extent.invariant in
+    let made = c.in-Err.ensures in
+    let before = inv.merged source held from_holds (made.source.honest from_honest) holds (made.honest honest) are in
+    let is = read-is c.args.extents.now c.loop-extent.extent-index _ _ (omega arith) in
+    let at = at_blob source c.args.extents.now c.loop-extent.extent-index _ are (omega arith) is in
+    let from_now = inv.from_kept (made.source.honest from_honest) source from_holds in
+    made.whole source before.0 at.blob from_now from_honest before.2 honest at.found at.same
+
+pub returns-in-Err-clause-own : goal.returns-in-Err-clause-own
+returns-in-Err-clause-own g c = λ source held from_holds from_honest holds honest are.
+    let inv = c.loop-extent.invariant in
+    let made = c.in-Err.ensures in
+    let before = inv.merged source held from_holds (made.source.honest from_honest) holds (made.honest honest) are in
+    let is = read-is c.args.extents.now c.loop-extent.extent-index _ _ (omega arith) in
+    let at = at_blob source c.args.extents.now c.loop-extent.extent-index _ are (omega arith) is in
+    let from_now = inv.from_kept (made.source.honest from_honest) source from_holds in
+    made.own source before.0 at.blob from_now from_honest before.2 honest at.found at.same
+
+pub returns-in-Err-clause-cause : goal.returns-in-Err-clause-cause
+returns-in-Err-clause-cause g c =
+    let F = g.F.Reader in
+    let T = g.T.Reader in
+    let inv = c.loop-extent.invariant in
+    cause_wider (F.failures c.args.from.now) (F.failures c.loop-extent.from) (F.failures c.copy_blob.new.from) (T.failures c.args.to.now) (T.failures c.loop-extent.to) (T.failures c.copy_blob.new.to) c.in-Err.fault
+    inv.from_counted inv.counted c.in-Err.ensures.cause
+
+pub returns-clause-copies : goal.returns-clause-copies
+returns-clause-copies g c = λ source held from_holds from_honest holds honest are.
+    let inv = c.loop-extent.invariant in
+    let made = inv.merged source held from_holds from_honest holds honest are in
+    let count = inv.counts in
+    let all = counted_all source c.args.extents.now are in
+    (made.0, taken_all c.args.extents.now c.loop-extent.extent-index source held made.0 are (omega arith) made.1, made.2, omega (arith, count, all), held_all source held c.args.extents.now c.loop-extent.extent-index _ are (omega arith) made.3)
+
+pub returns-clause-crash : goal.returns-clause-crash
+returns-clause-crash g c = λ source held from_holds from_honest holds honest are left leaves.
+    let made = c.loop-extent.invariant.merged source held from_holds from_honest holds honest are in
+    subst (λ (h : HeldMap). IsMerged (λ off. Unit {0}) source held h) (sym (g.met.T.Reader.settled _ made.0 left made.2 leaves))
+    (taken_all c.args.extents.now c.loop-extent.extent-index source held made.0 are (omega arith) made.1)
+
+pub returns-clause-whole : goal.returns-clause-whole
+returns-clause-whole g c = λ source held from_holds from_honest holds honest are.
+    let made = c.loop-extent.invariant.merged source held from_holds from_honest holds honest are in g.met.T.Reader.leaves_held _ made.0 made.2

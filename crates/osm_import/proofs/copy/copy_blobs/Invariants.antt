@@ -1,0 +1,26 @@
+use Rattle.std.proofs.Common.{◌≡◌, ◌≤◌, ◌+◌, take}
+use Rattle.std.specs.FinMap.{entries}
+use Rattle.osm_store.specs.Held.{HeldMap}
+use Rattle.osm_store.specs.Keeping.{extents_of}
+use Rattle.osm_import.specs.Copies.{IsMerged, held_among}
+use Rattle.osm_import.proofs.CopyLemmas.{IsAt}
+use Rattle.osm_import.proofs.copy.copy_blobs.Given as goal
+
+abbrev pub invariant-loop-extent : goal.invariant-loop-extent
+invariant-loop-extent g l =
+    let F = g.F.Reader in
+    let T = g.T.Reader in
+    record {
+      counts : l.copied + l.held ≡ l.extent-index;
+      from_honest : F.is_honest l.from → F.is_honest l.fn.from;
+      from_open_if : F.is_open l.from → F.is_open l.fn.from;
+      from_kept : F.is_honest l.from → (source : HeldMap) → F.holds l.fn.from source → F.holds l.from source;
+      from_crash : F.is_honest l.from → (source : HeldMap) → F.leaves l.from source → F.leaves l.fn.from source;
+      from_whole : F.is_honest l.from → F.leaves_a_map l.fn.from → F.leaves_a_map l.from;
+      from_counted : F.failures l.fn.from ≤ F.failures l.from;
+      honest : T.is_honest l.to → T.is_honest l.fn.to;
+      open_if : T.is_open l.to → T.is_open l.fn.to;
+      counted : T.failures l.fn.to ≤ T.failures l.to;
+      merged : (source held : HeldMap) → F.holds l.fn.from source → F.is_honest l.from → T.holds l.fn.to held → T.is_honest l.to → l.extents ≡ extents_of source
+          → (after : HeldMap) × IsMerged (λ off. IsAt (take l.extent-index l.extents) off) source held after × T.holds l.to after × (l.held ≡ held_among held (take l.extent-index (entries source)));
+    }

@@ -1,0 +1,12 @@
+use Rattle.std.proofs.Common.{◌<◌, arith, sym, subst}
+use Rattle.osm_store.specs.Held.{HeldMap}
+use Rattle.osm_import.specs.Copies.{IsUnitedBelow}
+use Rattle.osm_import.proofs.CopyLemmas.{merged_none}
+use Rattle.osm_import.proofs.copy.copy_held.Goals as goal
+
+pub returns-in-Err-clause-copies : goal.returns-in-Err-clause-copies
+returns-in-Err-clause-copies g c = λ source held from_holds from_honest holds honest. (held, merged_none (λ off. off < 0) source held (λ off low. omega arith), λ up. holds)
+
+pub returns-in-Err-clause-crash : goal.returns-in-Err-clause-crash
+returns-in-Err-clause-crash g c = λ source held from_holds from_honest holds honest left leaves.
+    (0, subst (λ (h : HeldMap). IsUnitedBelow 0 source held h) (sym (g.met.T.Reader.settled _ held left holds leaves)) (merged_none (λ off. off < 0) source held (λ off low. omega arith)))

@@ -1,0 +1,109 @@
+-- From what was skipped, streamed and told to what an import has done.
+use Rattle.std.proofs.Common.{◌≡◌, ◌≢◌, ℕ, ◌+◌, ◌<◌, ◌≤◌, List, [], ◌++◌, length, take, Bool, true, false, ◌&&◌, ◌==◌, not, cond, Some, None, Ok, Err, refl, sym, ap, subst, ◌∙◌, inl, inr, arith, length-append, zero-add}
+use Rattle.std.proofs.lemmas.List.{length-take, nil_from_length}
+use Rattle.std.proofs.lemmas.Bool.Decides.{nat_tests}
+use Rattle.std.proofs.KnownBytes.{Consumes-nil, Consumes-trans}
+use Rattle.std.specs.Io.KnownBytes.{Consumes, IsAtEnd}
+use Rattle.osm_store.specs.Held.{HeldMap}
+use Rattle.osm_import.specs.Deliveries.{DeliveryValue}
+use Rattle.osm_import.specs.Exports.{Known}
+use Rattle.osm_import.specs.Streams.{Reply, Stops, IsStop, ImportsFile}
+use Rattle.osm_import.specs.declared.answer.Answer.{Answer}
+use Rattle.osm_import.specs.declared.stream.summary.Summary.{Summary}
+use Rattle.osm_import.specs.declared.stream.fault.Stop.{Stop}
+use Rattle.osm_import.specs.declared.stream.fault.Stop.TheVariants.{Frame, NoHeaderFirst, WriteFailed, Store, ReadFailed, BlobLimit}
+use Rattle.osm_import.specs.declared.stream.fault.StreamFault.{StreamFault}
+use Rattle.osm_value.specs.Sink.{Wrote}
+use Rattle.pbfrow_commands.specs.Importing.{Skips, IsShort, Imports, HoldsFile, EndsStop, import_status, stop_line}
+
+-- ---- skipping
+
+-- of so many bytes the first were read, and these many are left
+pub record IsSkipping (count left : ℕ) (old new : Known) : Type 0 where
+  pub bytes : List ℕ
+  pub all : length bytes + left ≡ count
+  pub read : Consumes old new bytes
+
+pub skip-begins : (count : ℕ) (old : Known) → IsSkipping count count old old
+skip-begins count old = record { bytes = []; all = zero-add count; read = Consumes-nil old }
+
+pub skip-more : (count left n next : ℕ) (old mid new : Known) (buffer : List ℕ) → n ≤ length buffer → n ≤ left → next + n ≡ left → IsSkipping count left old mid → Consumes mid new (take n buffer) → IsSkipping count next old new
+skip-more count left n next old mid new buffer within most rest h read = record {
+  bytes = h.bytes ++ take n buffer;
+  all = omega (arith, h.all, length-append h.bytes (take n buffer), length-take n buffer);
+  read = Consumes-trans old mid new h.bytes (take n buffer) h.read read;
+}
+
+pub skip-ends : (count left : ℕ) (old new : Known) → left ≤ 0 → IsSkipping count left old new → Skips count old new
+skip-ends count left old new none h = record { bytes = h.bytes; all = omega (arith, h.all); read = h.read }
+
+take-none : (n : ℕ) (buffer : List ℕ) → n ≡ 0 → take n buffer ≡ []
+take-none n buffer is = nil_from_length (take n buffer) (omega (arith, length-take n buffer))
+
+pub skip-short : (count left n : ℕ) (old mid new : Known) (buffer : List ℕ) (failed : Bool) → n ≡ 0 → 0 < left → IsSkipping count left old mid → Consumes mid new (take n buffer) → IsAtEnd new → IsShort count old new failed
+skip-short count left n old mid new buffer failed none some h read end =
+    let bytes = h.bytes ++ take n buffer in
+    inr (bytes, omega (arith, h.all, length-append h.bytes (take n buffer), length-take n buffer), Consumes-trans old mid new h.bytes (take n buffer) h.read read, end)
+
+-- no bytes were skipped
+pub skips-nothing : (file : List ℕ) (old new : Known) → old ≡ Some file → Skips 0 old new → new ≡ Some file
+skips-nothing file old None is h = absurd (subst (λ (k : Known). Consumes k None h.bytes) is h.read)
+skips-nothing file old (Some ys) is h =
+    let none : h.bytes ≡ [] = nil_from_length h.bytes h.all in
+    let whole : file ≡ h.bytes ++ ys = subst (λ (k : Known). Consumes k (Some ys) h.bytes) is h.read in
+    ap (λ (v : List ℕ). Some v) (sym (whole ∙ ap (λ (v : List ℕ). v ++ ys) none))
+
+-- ---- the output goes on after a stop, but for a failed write
+
+stop-on : (from limit : ℕ) (left written_old written_new : Known) (source_failed a b : Bool) (replies last : List Reply) (rest : List ℕ) (fault : Stop) → (fault ≡ WriteFailed → b ≡ a)
+    → IsStop from limit left written_old written_new source_failed a replies last rest fault → IsStop from limit left written_old written_new source_failed b replies last rest fault
+stop-on from limit left written_old written_new source_failed a b replies last rest (Frame fault) same why = why
+stop-on from limit left written_old written_new source_failed a b replies last rest NoHeaderFirst same why = why
+stop-on from limit left written_old written_new source_failed a b replies last rest WriteFailed same why = (same refl ∙ why.0, why.1, why.2, why.3)
+stop-on from limit left written_old written_new source_failed a b replies last rest (Store fault) same why = why
+stop-on from limit left written_old written_new source_failed a b replies last rest ReadFailed same why = why
+stop-on from limit left written_old written_new source_failed a b replies last rest BlobLimit same why = why
+
+stops-on : (from limit : ℕ) (left_old left_new written_old written_new : Known) (source_failed a b : Bool) (Took : List DeliveryValue → List Answer → Type 0) (stop : StreamFault) → (stop.fault ≡ WriteFailed → b ≡ a)
+    → Stops from limit left_old left_new written_old written_new source_failed a Took stop → Stops from limit left_old left_new written_old written_new source_failed b Took stop
+stops-on from limit left_old left_new written_old written_new source_failed a b Took stop same h = record {
+  replies = h.replies;
+  last = h.last;
+  rest = h.rest;
+  frames = h.frames;
+  took = h.took;
+  answered = h.answered;
+  few = h.few;
+  stands = h.stands;
+  read = h.read;
+  why = stop-on from limit left_new written_old written_new source_failed a b h.replies h.last h.rest stop.fault same h.why;
+}
+
+pub imports-stop : (from : ℕ) (left_old left_new written_old written_new : Known) (source_failed a b : Bool) (Same : Type 0) (Took : List DeliveryValue → List Answer → Type 0) (stop : StreamFault) → (stop.fault ≡ WriteFailed → b ≡ a)
+    → Imports from left_old left_new written_old written_new source_failed a Same Took (Err stop) → Imports from left_old left_new written_old written_new source_failed b Same Took (Err stop)
+imports-stop from left_old left_new written_old written_new source_failed a b Same Took stop same (inl h) =
+    inl (h.0, h.1, stops-on from 4294967295 h.0 left_new written_old written_new source_failed a b Took stop same h.2)
+imports-stop from left_old left_new written_old written_new source_failed a b Same Took stop same (inr h) = inr h
+
+zero-first : (b c d : Bool) (n : ℕ) → n ≡ cond ((b && c) && d) 0 1 → n ≡ 0 → b ≡ true
+zero-first true c d n is zero = refl
+zero-first false c d n is zero = absurd (omega arith)
+
+is-none : (n : ℕ) → (n == 0) ≡ true → n ≡ 0
+is-none n h = grind (arith, nat_tests)
+
+pub none-bad : (summary : Summary) (failed : Bool) (status : ℕ) → status ≡ import_status (Ok summary) failed → status ≡ 0 → summary.bad ≡ 0
+none-bad summary failed status is zero = is-none summary.bad (zero-first (summary.bad == 0) (summary.refused == 0) (not failed) status is zero)
+
+-- no blob was bad
+pub file-held : (holds : HeldMap → Type 0) (file : List ℕ) (start : HeldMap) (summary : Summary) → summary.bad ≡ 0 → ImportsFile holds file start summary → HoldsFile holds file start
+file-held holds file start summary none h = (h.0, h.1, λ of_file. h.2 of_file none)
+
+-- the stop's line went out
+pub ends-stop : (listed written : Known) (failed : Bool) (at : ℕ) (fault : Stop) → fault ≢ WriteFailed → Wrote listed (stop_line fault at) written failed → EndsStop listed written failed at fault
+ends-stop listed written failed at (Frame fault) other h = h
+ends-stop listed written failed at NoHeaderFirst other h = h
+ends-stop listed written failed at WriteFailed other h = absurd (other refl)
+ends-stop listed written failed at (Store fault) other h = h
+ends-stop listed written failed at ReadFailed other h = h
+ends-stop listed written failed at BlobLimit other h = h

@@ -1,0 +1,9 @@
+pub mod CommandLines
+pub mod Exporting
+pub mod FaultLine
+pub mod Finding
+pub mod Importing
+pub mod Listing
+pub mod Progress
+pub mod Reading
+pub mod Status

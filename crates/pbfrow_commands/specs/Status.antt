@@ -1,0 +1,47 @@
+-- What the command `status` tells.
+use Rattle.std.specs.Prelude.{◌≡◌, ◌⊎◌, ℕ, Bool, true, List, ◌++◌, length, Option}
+use Rattle.std.specs.FinMap.{entries}
+use Rattle.std.specs.Io.KnownBytes.{Appends}
+use Rattle.osm_value.specs.Sink.{AppendsFront, Wrote}
+use Rattle.osm_store.specs.Held.{HeldMap}
+use Rattle.osm_store.specs.Keeping.{extents_of}
+use Rattle.osm_store.specs.declared.fault.StoreFault.{StoreFault}
+use Rattle.osm_import.specs.Exports.{Known, greatest_end, size_of}
+use Rattle.osm_import.specs.Gaps.{AreGaps}
+use Rattle.osm_import.specs.Step.{HasCause}
+use Rattle.pbfrow_commands.specs.CommandLines.{counts_line, gap_lines, store_fault_line}
+use Rattle.pbfrow_commands.specs.declared.status.Holdings.{Holdings}
+
+-- the text went out, and the exit status is 0; or a front of it, the output has failed, and it is 1
+abbrev pub Tells : List ℕ → Known → Known → Bool → ℕ → Type 0
+Tells text old new failed status = ((status ≡ 0) × Appends old new text) ⊎ ((status ≡ 1) × (failed ≡ true) × AppendsFront old new text)
+
+-- the line of a fault of the store went out, with its cause, and the exit status is 1
+pub record TellsFault (failures_old failures_new : ℕ) (old new : Known) (failed : Bool) (status : ℕ) : Type 0 where
+  pub fault : StoreFault
+  pub cause : HasCause failures_old failures_new fault
+  pub line : Wrote old (store_fault_line fault) new failed
+  pub one : status ≡ 1
+
+-- what is held: how many blobs, the greatest end, and the gaps up to the size or else that end
+pub record IsSurvey (held : HeldMap) (size : Option ℕ) (h : Holdings) : Type 0 where
+  pub blobs : h.blobs ≡ length (entries held)
+  pub end : h.end ≡ greatest_end (extents_of held)
+  pub gaps : AreGaps held (size_of size (extents_of held)) h.gaps.items
+
+-- a line for each gap, and then the counts
+abbrev pub status_text : HeldMap → List (ℕ × ℕ) → List ℕ
+status_text held gaps = gap_lines gaps ++ counts_line (length (entries held)) (greatest_end (extents_of held)) (length gaps)
+
+abbrev pub TellsStatus : HeldMap → Option ℕ → ℕ → ℕ → Known → Known → Bool → ℕ → Type 0
+TellsStatus held size failures_old failures_new old new failed status =
+    ((gaps : List (ℕ × ℕ)) × AreGaps held (size_of size (extents_of held)) gaps × Tells (status_text held gaps) old new failed status)
+    ⊎ TellsFault failures_old failures_new old new failed status
+
+-- Whatever a command answered, the store keeps what it holds, if it can go on, and what a crash may leave.
+pub record Stays {S : Type 0} (holds leaves : S → HeldMap → Type 0) (leaves_a_map is_honest is_open : S → Type 0) (old new : S) : Type 0 where
+  pub honest : is_honest new → is_honest old
+  pub open_if : is_open new → is_open old
+  pub kept : is_honest new → is_open new → (held : HeldMap) → holds old held → holds new held
+  pub crash : is_honest new → (held : HeldMap) → leaves new held → leaves old held
+  pub whole : is_honest new → leaves_a_map old → leaves_a_map new

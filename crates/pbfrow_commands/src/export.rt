@@ -1,0 +1,75 @@
+//! The command `export`: the elements of a store.
+
+ghost use Rattle.std.specs.Prelude.{◌≡◌, Err, Result};
+ghost use Rattle.osm_store.specs.Held.{HeldMap};
+ghost use Rattle.osm_store.specs.Keeping.{extents_of};
+ghost use Rattle.osm_import.specs.ExportCauses.{ExportHasCause, ExportIsOwn};
+ghost use Rattle.osm_import.specs.Exports.{IsExport, Known, size_of};
+ghost use Rattle.osm_import.specs.Pbf.{IsPbfExport};
+ghost use Rattle.osm_import.specs.declared.export.fault.ExportFault.{ExportFault as ExportFaultValue};
+ghost use Rattle.pbfrow_commands.specs.Exporting.{EndsExport};
+ghost use Rattle.pbfrow_commands.specs.Status.{Stays};
+
+use crate::report::put_plain_fault;
+use osm_import::{ExportFault, export_lines, export_pbf};
+use osm_store::Reader;
+use osm_value::{Form, Sink};
+use std::alloc::Global;
+
+/// Writes the line of the fault at which an export stopped. Where the output has failed nothing is written.
+fn put_export_fault<S: Sink>(out: &mut S, fault: ExportFault)
+    ensures ends { EndsExport (S.written out.old) (S.written out.new) (S.has_failed out.new) 1 (Err fault) }
+    ensures kept { fault ≡ ExportFault.WriteFailed → S.has_failed out.new ≡ S.has_failed out.old }
+{
+    match fault {
+        ExportFault::WriteFailed => {}
+        fault => put_plain_fault(out, fault.number(), fault.name()),
+    }
+}
+
+/// Writes what follows the exported text, and answers the exit status.
+fn finish<S: Sink>(out: &mut S, answer: Result<(), ExportFault>) -> u8
+    ensures ends { EndsExport (S.written out.old) (S.written out.new) (S.has_failed out.new) result answer }
+    ensures kept { answer ≡ Err ExportFault.WriteFailed → S.has_failed out.new ≡ S.has_failed out.old }
+{
+    match answer {
+        Ok(()) => 0,
+        Err(fault) => {
+            put_export_fault(out, fault);
+            1
+        }
+    }
+}
+
+/// Writes the elements of a store as lines or as a PBF file, or the line of the fault at which it stopped. The file has
+/// `size` bytes, or where none is given ends with the last blob held; where blobs of it are missing nothing is exported,
+/// but for a `partial` export, which has what is held. Answers the exit status: 0 where all was written, else 1.
+pub fn export<K: Reader, S: Sink>(
+    alloc: Global,
+    store: &mut K,
+    size: Option<u64>,
+    partial: bool,
+    form: Form,
+    out: &mut S,
+) -> u8
+    ensures lines { (held : HeldMap) → K.holds store.old held → K.is_honest store.new → form ≡ Form.Lines
+        → (answer : Result (Unit {0}) ExportFaultValue) × (text : Known) × IsExport held (size_of size (extents_of held)) partial (S.written out.old) text answer
+        × ExportHasCause (K.failures store.old) (K.failures store.new) (S.has_failed out.new) answer × ExportIsOwn answer
+        × EndsExport text (S.written out.new) (S.has_failed out.new) result answer }
+    ensures pbf { (held : HeldMap) → K.holds store.old held → K.is_honest store.new → form ≡ Form.Pbf
+        → (answer : Result (Unit {0}) ExportFaultValue) × (text : Known) × IsPbfExport held (size_of size (extents_of held)) partial (S.written out.old) text answer
+        × ExportHasCause (K.failures store.old) (K.failures store.new) (S.has_failed out.new) answer × ExportIsOwn answer
+        × EndsExport text (S.written out.new) (S.has_failed out.new) result answer }
+    ensures stays { Stays K.holds K.leaves K.leaves_a_map K.is_honest K.is_open store.old store.new }
+{
+    match form {
+        Form::Lines => {
+            let answer = export_lines(alloc, store, size, partial, out);
+            finish(out, answer)
+        }
+        Form::Pbf => {
+            let answer = export_pbf(alloc, store, size, partial, out);
+            finish(out, answer)
+        }
+    }
+}

@@ -1,0 +1,80 @@
+//! The command `find`: where a store holds an element.
+
+ghost use Rattle.std.specs.Prelude.{◌≡◌, List, OnOk, OnErr, filter};
+ghost use Rattle.osm_value.specs.Sink.{Writes};
+ghost use Rattle.osm_store.specs.Finding.{AreMatches};
+ghost use Rattle.osm_store.specs.Held.{HeldMap};
+ghost use Rattle.osm_store.specs.Rows.{Placed, is_of, placed_in};
+ghost use Rattle.pbfrow_commands.specs.CommandLines.{match_line, match_lines};
+ghost use Rattle.pbfrow_commands.specs.Finding.{TellsMatches};
+ghost use Rattle.pbfrow_commands.specs.Status.{Stays};
+
+use crate::report::put_store_fault;
+use osm_store::{Found, Reader, StoreFault};
+use osm_value::{Element, MemberKind, Sink, put, put_digits, write_line};
+use std::alloc::{AllocError, Global};
+
+/// Writes `OFFSET POSITION LINE`.
+fn put_match<S: Sink>(out: &mut S, off: u64, position: u64, element: &Element)
+    ensures { Writes (S.written out.old) (S.has_failed out.old) (S.written out.new) (S.has_failed out.new) (match_line (off, position, element.now)) }
+{
+    put_digits(out, off);
+    put(out, b" ");
+    put_digits(out, position);
+    put(out, b" ");
+    let _written = write_line(element, out);
+}
+
+/// Writes a line for each element.
+fn put_matches<S: Sink>(out: &mut S, matches: &[(u64, u64, Element)])
+    ensures { Writes (S.written out.old) (S.has_failed out.old) (S.written out.new) (S.has_failed out.new) (match_lines matches.now) }
+{
+    for (off, position, element) in matches {
+        put_match(out, *off, *position, element);
+    }
+}
+
+/// Writes a line for each element that was found.
+fn write_found<S: Sink>(alloc: Global, found: &Found, out: &mut S) -> Result<(), AllocError>
+    ensures lines { (matches : List Placed) → AreMatches found.now matches
+        → OnOk result (Writes (S.written out.old) (S.has_failed out.old) (S.written out.new) (S.has_failed out.new) (match_lines matches)) }
+    ensures none { OnErr result (out.new ≡ out.old) }
+{
+    let matches = match found.matches(alloc) {
+        Ok(matches) => matches,
+        Err(error) => return Err(error),
+    };
+    put_matches(out, &matches);
+    Ok(())
+}
+
+/// Writes a line for each time that the element is held, by offset and position, or the line of a fault of the store.
+/// Answers the exit status: 0 where all was written, also where nothing was found, and 1 at a fault or where the output
+/// failed.
+pub fn find<K: Reader, S: Sink>(
+    alloc: Global,
+    store: &mut K,
+    kind: MemberKind,
+    id: i64,
+    out: &mut S,
+) -> u8
+    ensures told { (held : HeldMap) → K.holds store.old held → K.is_honest store.new
+        → TellsMatches (filter (is_of kind id) (placed_in held)) (K.failures store.old) (K.failures store.new) (S.written out.old) (S.written out.new) (S.has_failed out.new) result }
+    ensures stays { Stays K.holds K.leaves K.leaves_a_map K.is_honest K.is_open store.old store.new }
+{
+    let found = match store.find(alloc, kind, id) {
+        Ok(found) => found,
+        Err(fault) => {
+            put_store_fault(out, fault);
+            return 1;
+        }
+    };
+    match write_found(alloc, &found, out) {
+        Ok(()) => {}
+        Err(_) => {
+            put_store_fault(out, StoreFault::Memory);
+            return 1;
+        }
+    }
+    if out.failed() { 1 } else { 0 }
+}

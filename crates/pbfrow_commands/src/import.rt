@@ -1,0 +1,123 @@
+//! The command `import`: the blobs of a file go into a store.
+
+ghost use Rattle.std.specs.Prelude.{◌≡◌, ◌≤◌, List, ℕ, Some, Ok, Result, OnOk, OnErr, IfOk};
+ghost use Rattle.osm_store.specs.Held.{HeldMap};
+ghost use Rattle.osm_import.specs.Exports.{Known};
+ghost use Rattle.osm_import.specs.Streams.{Takes, ImportsFile};
+ghost use Rattle.osm_import.specs.declared.stream.summary.Summary.{Summary as SummaryValue};
+ghost use Rattle.osm_import.specs.declared.stream.fault.StreamFault.{StreamFault as StreamFaultValue};
+ghost use Rattle.pbfrow_commands.specs.Importing.{Skips, IsShort, Imports, EndsLine, EndsStop, import_status, HoldsFile};
+
+use crate::report::{put_fault_at, put_summary};
+use osm_import::{Source, Stop, StreamFault, Summary, import_stream};
+use osm_store::Keeper;
+use osm_value::Sink;
+use std::alloc::Global;
+
+/// The most blobs that one import may have.
+const MAX_BLOBS: u32 = 4_294_967_295;
+
+/// How many bytes are asked of a reader at a time.
+const PIECE: usize = 65_536;
+
+/// A read that failed, or an input that ended early.
+#[derive(Drop)]
+struct Short;
+
+/// Reads so many bytes and drops them.
+fn skip<R: Source>(reader: &mut R, count: u64) -> Result<(), Short>
+    ensures all { OnOk result (Skips count (R.bytes_left reader.old) (R.bytes_left reader.new)) }
+    ensures short { OnErr result (IsShort count (R.bytes_left reader.old) (R.bytes_left reader.new) (R.has_failed reader.new)) }
+{
+    let mut piece = [0u8; PIECE];
+    let mut left = count;
+    while left > 0 {
+        let wanted = left.min(PIECE as u64) as usize;
+        let taken = match reader.read(&mut piece[..wanted]) {
+            Ok(taken) => taken,
+            Err(_) => return Err(Short),
+        };
+        if taken == 0 {
+            return Err(Short);
+        }
+        left -= taken as u64;
+    }
+    Ok(())
+}
+
+/// Reads and drops the bytes before the offset, and imports the blobs from there on.
+fn import_from<R: Source, K: Keeper, S: Sink>(
+    alloc: Global,
+    reader: &mut R,
+    store: &mut K,
+    from: u64,
+    out: &mut S,
+) -> Result<Summary, StreamFault>
+    requires { from ≤ 4611686018427387904 }
+    ensures imports { Imports from (R.bytes_left reader.old) (R.bytes_left reader.new) (S.written out.old) (S.written out.new) (R.has_failed reader.new) (S.has_failed out.new) (store.new ≡ store.old)
+        (λ deliveries answers. Takes K.holds K.leaves K.leaves_a_map K.is_honest K.is_open K.failures store.old store.new deliveries answers) result }
+    ensures one_file { (file : List ℕ) (held : HeldMap) → R.bytes_left reader.old ≡ Some file → from ≡ 0 → K.holds store.old held → K.is_honest store.new
+        → IfOk result (λ summary. ImportsFile (K.holds store.new) file held summary) }
+{
+    match skip(reader, from) {
+        Ok(()) => import_stream(alloc, store, reader, from, MAX_BLOBS, out),
+        Err(_) => Err(StreamFault {
+            fault: Stop::ReadFailed,
+            at: from,
+        }),
+    }
+}
+
+/// Writes the last line of an import that came to the end of its input, and answers the exit status.
+fn finish<S: Sink>(out: &mut S, summary: &Summary) -> u8
+    ensures line { EndsLine (S.written out.old) (S.written out.new) (S.has_failed out.new) (Ok summary.now) }
+    ensures status { result ≡ import_status (Ok summary.now) (S.has_failed out.new) }
+{
+    put_summary(out, summary);
+    if summary.bad == 0 && summary.refused == 0 && !out.failed() {
+        0
+    } else {
+        1
+    }
+}
+
+/// Writes the line of the fault at which an import stopped. Where the output has failed nothing is written.
+fn put_stop<S: Sink>(out: &mut S, stop: StreamFault)
+    ensures line { EndsStop (S.written out.old) (S.written out.new) (S.has_failed out.new) stop.at stop.fault }
+    ensures kept { stop.fault ≡ Stop.WriteFailed → S.has_failed out.new ≡ S.has_failed out.old }
+{
+    match stop.fault {
+        Stop::WriteFailed => {}
+        fault => put_fault_at(out, fault.number(), fault.name(), stop.at),
+    }
+}
+
+/// Imports the blobs of a reader into a store, from the offset `from` on, which is at most 2^62; the bytes before it are
+/// read and dropped. Writes a line for each blob, and last the counts, or the line of the fault at which it stopped.
+/// Answers the exit status: 0 where all blobs are held, and 1 where a blob was bad or refused, it stopped, or the output
+/// failed.
+///
+/// Where it answers 0 from the offset 0 over a reader that tells its bytes, these are a file; and where the store held
+/// nothing but blobs of that file, what it holds now tiles the file.
+pub fn import<R: Source, K: Keeper, S: Sink>(
+    alloc: Global,
+    reader: &mut R,
+    store: &mut K,
+    from: u64,
+    out: &mut S,
+) -> u8
+    requires { from ≤ 4611686018427387904 }
+    ensures imports { (outcome : Result SummaryValue StreamFaultValue) × (listed : Known) × Imports from (R.bytes_left reader.old) (R.bytes_left reader.new) (S.written out.old) listed (R.has_failed reader.new) (S.has_failed out.new) (store.new ≡ store.old)
+        (λ deliveries answers. Takes K.holds K.leaves K.leaves_a_map K.is_honest K.is_open K.failures store.old store.new deliveries answers) outcome
+        × EndsLine listed (S.written out.new) (S.has_failed out.new) outcome × (result ≡ import_status outcome (S.has_failed out.new)) }
+    ensures one_file { (file : List ℕ) (held : HeldMap) → R.bytes_left reader.old ≡ Some file → from ≡ 0 → K.holds store.old held → K.is_honest store.new
+        → result ≡ 0 → HoldsFile (K.holds store.new) file held }
+{
+    match import_from(alloc, reader, store, from, out) {
+        Ok(summary) => finish(out, &summary),
+        Err(stop) => {
+            put_stop(out, stop);
+            1
+        }
+    }
+}

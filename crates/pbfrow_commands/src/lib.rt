@@ -1,0 +1,17 @@
+//! The commands of pbfrow, each a function over the readers, writers and stores that it is given: it answers the exit
+//! status, 0 or 1, and opens no file and reads no command line.
+#![tactic(auto)]
+
+pub mod check;
+pub mod export;
+mod fault;
+pub mod find;
+pub mod import;
+pub mod input;
+pub mod laws;
+pub mod list;
+pub mod progress;
+pub mod report;
+pub mod show;
+pub mod status;
+pub mod watcher;

@@ -1,0 +1,123 @@
+//! The command `status`: what a store lacks of its file.
+
+ghost use Rattle.std.specs.Prelude.{◌≡◌, IfOk, IfErr};
+ghost use Rattle.osm_value.specs.Sink.{Writes};
+ghost use Rattle.osm_store.specs.Held.{HeldMap};
+ghost use Rattle.osm_store.specs.Keeping.{Rereads};
+ghost use Rattle.osm_import.specs.Exports.{greatest_end};
+ghost use Rattle.osm_import.specs.Step.{HasCause};
+ghost use Rattle.pbfrow_commands.specs.CommandLines.{counts_line, gap_line, gap_lines};
+ghost use Rattle.pbfrow_commands.specs.Status.{IsSurvey, TellsStatus, Stays};
+
+use crate::report::put_store_fault;
+use osm_import::gaps;
+use osm_store::{Extent, Reader, StoreFault};
+use osm_value::{Sink, put, put_digits};
+use std::alloc::Global;
+
+/// How many blobs a store holds, the greatest end of one, and which ranges none covers.
+#[derive(Debug, Drop)]
+struct Holdings {
+    blobs: u64,
+    end: u64,
+    gaps: Vec<(u64, u64)>,
+}
+
+/// The greatest end of extents, 0 where there is none.
+fn greatest_end(extents: &[Extent]) -> u64
+    ensures { result ≡ greatest_end extents.now }
+{
+    let mut end = 0;
+    for extent in extents {
+        end = end.max(extent.fin);
+    }
+    end
+}
+
+/// What a store holds, and the gaps up to the size, or up to the greatest end where no size is given.
+fn survey<K: Reader>(
+    alloc: Global,
+    store: &mut K,
+    size: Option<u64>,
+) -> Result<Holdings, StoreFault>
+    ensures told { (held : HeldMap) → K.holds store.old held → K.is_honest store.new → IfOk result (IsSurvey held size) }
+    ensures rereads { Rereads K.holds K.leaves K.leaves_a_map K.is_honest K.is_open store.old result store.new }
+    ensures cause { IfErr result (HasCause (K.failures store.old) (K.failures store.new)) }
+{
+    let extents = match store.extents(alloc) {
+        Ok(extents) => extents,
+        Err(fault) => return Err(fault),
+    };
+    let end = greatest_end(&extents);
+    match gaps(alloc, store, size.unwrap_or(end)) {
+        Ok(gaps) => Ok(Holdings {
+            blobs: extents.len() as u64,
+            end,
+            gaps,
+        }),
+        Err(fault) => Err(fault),
+    }
+}
+
+/// Writes `gap FROM TO`.
+fn put_gap<S: Sink>(out: &mut S, from: u64, to: u64)
+    ensures { Writes (S.written out.old) (S.has_failed out.old) (S.written out.new) (S.has_failed out.new) (gap_line (from, to)) }
+{
+    put(out, b"gap ");
+    put_digits(out, from);
+    put(out, b" ");
+    put_digits(out, to);
+    put(out, b"\n");
+}
+
+/// Writes a line for each gap.
+fn put_gaps<S: Sink>(out: &mut S, gaps: &[(u64, u64)])
+    ensures { Writes (S.written out.old) (S.has_failed out.old) (S.written out.new) (S.has_failed out.new) (gap_lines gaps.now) }
+{
+    for (from, to) in gaps {
+        put_gap(out, *from, *to);
+    }
+}
+
+/// Writes `blobs BLOBS end END gaps GAPS`.
+fn put_counts<S: Sink>(out: &mut S, blobs: u64, end: u64, gaps: u64)
+    ensures { Writes (S.written out.old) (S.has_failed out.old) (S.written out.new) (S.has_failed out.new) (counts_line blobs end gaps) }
+{
+    put(out, b"blobs ");
+    put_digits(out, blobs);
+    put(out, b" end ");
+    put_digits(out, end);
+    put(out, b" gaps ");
+    put_digits(out, gaps);
+    put(out, b"\n");
+}
+
+/// Writes a line for each range that no blob covers, up to the size in bytes or else the greatest held end, and last the
+/// counts; or the line of a fault of the store. Answers the exit status: 0 where all was written, and 1 at a fault or
+/// where the output failed.
+pub fn status<K: Reader, S: Sink>(
+    alloc: Global,
+    store: &mut K,
+    size: Option<u64>,
+    out: &mut S,
+) -> u8
+    ensures told { (held : HeldMap) → K.holds store.old held → K.is_honest store.new
+        → TellsStatus held size (K.failures store.old) (K.failures store.new) (S.written out.old) (S.written out.new) (S.has_failed out.new) result }
+    ensures stays { Stays K.holds K.leaves K.leaves_a_map K.is_honest K.is_open store.old store.new }
+{
+    let holdings = match survey(alloc, store, size) {
+        Ok(holdings) => holdings,
+        Err(fault) => {
+            put_store_fault(out, fault);
+            return 1;
+        }
+    };
+    put_gaps(out, &holdings.gaps);
+    put_counts(
+        out,
+        holdings.blobs,
+        holdings.end,
+        holdings.gaps.len() as u64,
+    );
+    if out.failed() { 1 } else { 0 }
+}

@@ -1,0 +1,3 @@
+pub mod DefinitionLemmas
+pub mod ElementLaws
+pub mod WordsLemmas

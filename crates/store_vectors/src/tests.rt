@@ -1,0 +1,7 @@
+mod batches;
+mod copies;
+mod deliveries;
+mod parts;
+mod stops;
+mod stores;
+mod tables;

@@ -1,0 +1,124 @@
+//! Blobs whose rows fill statements of 32 rows, fall short of that, or go past it: rows are written 32 by one statement,
+//! and those that are left one by one.
+
+ghost use Rattle.osm_value.specs.Ranges.{IsWide};
+
+use super::deliveries::{Columns, NewStore};
+use super::stores::number;
+use osm_store::{Keeper, Reader, TableStore};
+use osm_value::{Element, Info, Member, MemberKind, Node, Outlet, Relation, Way, write_line};
+use pbf_frame::Kind;
+use sqlite::{Connection, MemStore};
+use std::alloc::{AllocError, Global};
+use std::test::Fail;
+
+/// How many elements a blob has, in turn.
+const SIZES: [u8; 7] = [0, 1, 31, 32, 33, 64, 65];
+
+fn no_info<'a>() -> Info<'a> {
+    Info::new(None, None, None, None, None, None)
+}
+
+/// A way with two nodes and one tag.
+fn way(alloc: Global, id: i64) -> Result<Element<'static>, AllocError>
+    requires { IsWide id }
+{
+    let nodes = vec![in alloc; 5, 6]?;
+    let tags = vec![in alloc; ("a", "bb")]?;
+    Ok(Element::Way(Way::new(id, nodes, tags, no_info())))
+}
+
+/// A relation with three members and two tags.
+fn relation(alloc: Global, id: i64) -> Result<Element<'static>, AllocError>
+    requires { IsWide id }
+{
+    let members = vec![in alloc;
+        Member::new(MemberKind::Way, 7, "c"),
+        Member::new(MemberKind::Node, -1, ""),
+        Member::new(MemberKind::Node, 2, ""),
+    ]?;
+    let tags = vec![in alloc; ("a", ""), ("bb", "a")]?;
+    Ok(Element::Relation(Relation::new(id, members, tags, no_info())))
+}
+
+/// Nodes, ways and relations by turns, so that statements end between elements and inside them.
+fn element_at(alloc: Global, position: u8) -> Result<Element<'static>, AllocError> {
+    let place = i64::from(position);
+    match position % 3 {
+        0 => {
+            let node = Node::new(place + 1000, place, place, Vec::new(alloc), no_info());
+            Ok(Element::Node(node))
+        }
+        1 => way(alloc, place + 1000),
+        _ => relation(alloc, place + 1000),
+    }
+}
+
+fn elements_of(alloc: Global, size: u8) -> Result<Vec<Element<'static>>, AllocError> {
+    let mut elements = Vec::new(alloc);
+    for position in 0..size {
+        elements.push(element_at(alloc, position)?)?;
+    }
+    Ok(elements)
+}
+
+/// The lines of so many elements.
+fn lines_of(alloc: Global, size: u8) -> Result<Vec<u8>, Fail> {
+    let mut lines = Vec::new(alloc);
+    for position in 0..size {
+        let id = i64::from(position) + 1000;
+        let line = match position % 3 {
+            0 => format!(in alloc; "n {id} {position} {position} [] {{}}\n")?,
+            1 => format!(in alloc; "w {id} (5,6) [] {{a=bb}}\n")?,
+            _ => format!(in alloc; "r {id} (w7@c,n-1@,n2@) [] {{a=,bb=a}}\n")?,
+        };
+        lines.extend_from_slice(line.as_bytes())?;
+    }
+    Ok(lines)
+}
+
+/// The lines of what is loaded of a blob of so many elements.
+fn loaded_lines<K: NewStore>(alloc: Global, size: u8) -> Result<Vec<u8>, Fail> {
+    let mut store = K::new_store(alloc)?;
+    let elements = elements_of(alloc, size)?;
+    store.put(alloc, 100, 200, &[5; 32], Kind::OsmData, &elements)?;
+    let loaded = store.load(alloc, 100)?;
+    let mut out = Outlet::new(Vec::new(alloc));
+    for element in loaded.elements(alloc)?.iter() {
+        write_line(element, &mut out)?;
+    }
+    Ok(out.into_inner())
+}
+
+#[test]
+fn loaded_batches(rt: HostRuntime) -> Result<(), Fail> {
+    for size in SIZES {
+        let loaded = loaded_lines::<Columns>(rt.alloc(), size)?;
+        let wanted = lines_of(rt.alloc(), size)?;
+        assert!(rt; loaded.as_slice() == wanted.as_slice(), "{size}");
+    }
+    Ok(())
+}
+
+/// The tables of one blob of 65 elements.
+fn filled(alloc: Global) -> Option<Connection<MemStore>> {
+    let mut store = TableStore::create(Connection::open_in_memory(alloc).ok()?).ok()?;
+    let elements = elements_of(alloc, 65).ok()?;
+    store
+        .put(alloc, 100, 200, &[5; 32], Kind::OsmData, &elements)
+        .ok()?;
+    Some(store.into_connection())
+}
+
+/// 65 elements are 22 nodes, 22 ways and 21 relations.
+#[test]
+fn rows_of_batches(rt: HostRuntime) -> Result<(), Fail> {
+    let mut tables = filled(rt.alloc()).ok_or("a store")?;
+    assert_eq!(rt;
+        number(&mut tables, "SELECT count(*) FROM element"),
+        Some(65)
+    );
+    assert_eq!(rt; number(&mut tables, "SELECT count(*) FROM tag"), Some(64));
+    assert_eq!(rt; number(&mut tables, "SELECT count(*) FROM link"), Some(107));
+    Ok(())
+}
