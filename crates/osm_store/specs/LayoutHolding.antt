@@ -8,13 +8,13 @@ use Rattle.sqlite.specs.Tree.{Trees}
 use Rattle.sqlite.specs.State.{State, HasCleanDisk}
 use Rattle.sqlite_catalog.specs.Listing.{IsSound}
 use Rattle.osm_store.specs.declared.keeper.Extent.{Extent}
-use Rattle.osm_store.specs.declared.layout.Layout.{Layout}
-use Rattle.osm_store.specs.declared.layout.Layout.TheVariants.{Blocks, Columns}
+use Rattle.osm_store.specs.declared.schema.layout.Layout.{Layout}
+use Rattle.osm_store.specs.declared.schema.layout.Layout.TheVariants.{Blocks, Columns}
 use Rattle.osm_store.specs.Held.{Blob, HeldMap, HaveFewTexts, IsApart}
 use Rattle.osm_store.specs.Keeping.{extents_of, IsRange}
 use Rattle.osm_store.specs.Rows.{Placed, CanStore, placed_in, version_row, extent_row, body_row}
-use Rattle.osm_store.specs.ColumnRows.{element_rows, tag_rows, link_rows}
-use Rattle.osm_store.specs.Layouts.{schema_of}
+use Rattle.osm_store.specs.TableRows.{element_rows, tag_rows, link_rows}
+use Rattle.osm_store.specs.Schema.Layouts.{schema_of}
 
 -- what is kept of a blob: a digest of 32 bytes, and elements that the layout can store
 pub record IsBlob (layout : Layout) (blob : Blob) : Type 0 where

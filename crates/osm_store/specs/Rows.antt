@@ -12,10 +12,10 @@ use Rattle.osm_write.specs.Canon.{canon}
 use Rattle.pbf_frame.specs.declared.kind.Kind.{Kind}
 use Rattle.pbf_frame.specs.declared.kind.Kind.TheVariants.{OsmHeader, OsmData, Other}
 use Rattle.osm_store.specs.declared.keeper.Extent.{Extent}
-use Rattle.osm_store.specs.declared.layout.Layout.{Layout}
-use Rattle.osm_store.specs.declared.layout.Layout.TheVariants.{Blocks, Columns}
+use Rattle.osm_store.specs.declared.schema.layout.Layout.{Layout}
+use Rattle.osm_store.specs.declared.schema.layout.Layout.TheVariants.{Blocks, Columns}
 use Rattle.osm_store.specs.Held.{Blob, HeldMap, HasFewTexts}
-use Rattle.osm_store.specs.Layouts.{version_of}
+use Rattle.osm_store.specs.Schema.Layouts.{version_of}
 
 abbrev pub blob_code : Kind → ℕ
 blob_code OsmHeader = 0

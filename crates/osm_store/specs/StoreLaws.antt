@@ -8,7 +8,7 @@ use Rattle.std.proofs.lemmas.Bool.Decides.{eqb_tells}
 use Rattle.sqlite.specs.Tree.{Trees}
 use Rattle.sqlite.specs.Effect.{Database}
 use Rattle.sqlite.specs.State.{State}
-use Rattle.osm_store.specs.declared.layout.Layout.{Layout}
+use Rattle.osm_store.specs.declared.schema.layout.Layout.{Layout}
 use Rattle.osm_store.specs.Held.{Blob, HeldMap, HaveFewTexts}
 use Rattle.osm_store.specs.LayoutHolding.{IsBlob, IsKept, TablesHold, Holds, MayLeave, LeavesAMap}
 

@@ -4,22 +4,18 @@ ghost use Rattle.std.specs.Prelude.{◌≡◌, ◌≢◌, ◌⊎◌, ℤ, pos, S
 ghost use Rattle.std.specs.FinMap.{empty};
 ghost use Rattle.sqlite.specs.State.{HasCleanDisk};
 ghost use Rattle.sqlite.specs.Held.{state};
-ghost use Rattle.osm_store.specs.Asking.{JustAsks, NamesVersion};
+ghost use Rattle.osm_store.specs.Load.Asking.{JustAsks, NamesVersion};
 ghost use Rattle.osm_store.specs.Faults.{NamesNoVersion};
 ghost use Rattle.osm_store.specs.Held.{HeldMap};
 ghost use Rattle.osm_store.specs.LayoutHolding.{Holds, TablesHold};
 ghost use Rattle.osm_store.specs.Keeping.{IsForeign};
-ghost use Rattle.osm_store.specs.Layouts.{version_of};
+ghost use Rattle.osm_store.specs.Schema.Layouts.{version_of};
 
-use crate::extents::{all_extents, touched_extents};
 use crate::fault::StoreFault;
-use crate::found::Found;
-use crate::held_elements::{find_held, load_held};
 use crate::keeper::{Extent, Keeper, Reader};
-use crate::layout::{Bodies, StoreLayout, Tables};
-use crate::loaded::Loaded;
-use crate::opening::{adopt_store, create_store, failures_after};
-use crate::rows::put_rows;
+use crate::load::{Found, Loaded, all_extents, find_held, load_held, touched_extents};
+use crate::put::put_rows;
+use crate::schema::{Bodies, StoreLayout, Tables, adopt_store, create_store, failures_after};
 use osm_value::{Element, MemberKind};
 use pbf_frame::Kind;
 use sqlite::{Alter, Connection};

@@ -2,14 +2,13 @@
 ghost use Rattle.std.specs.Prelude.{◌≡◌, ◌⊎◌, ℕ, ◌^◌, ◌<◌, ◌≤◌, Some, OnOk, OnErr, IfOk, All, filter, length};
 ghost use Rattle.std.specs.FinMap as map;
 ghost use Rattle.osm_store.specs.Held.{Blob, HeldMap, IsFree, IsApart, HaveFewTexts};
-ghost use Rattle.osm_store.specs.Loading.{HasRowsOf};
-ghost use Rattle.osm_store.specs.Finding.{AreMatches};
+ghost use Rattle.osm_store.specs.Load.Loading.{HasRowsOf};
+ghost use Rattle.osm_store.specs.Load.Finding.{AreMatches};
 ghost use Rattle.osm_store.specs.Keeping.{extents_of, touches, IsRange, OnlyReads, Adds};
 ghost use Rattle.osm_store.specs.Rows.{is_of, placed_in};
 
 use crate::fault::StoreFault;
-use crate::found::Found;
-use crate::loaded::Loaded;
+use crate::load::{Found, Loaded};
 use osm_value::{Element, MemberKind};
 use pbf_frame::Kind;
 use std::alloc::Global;

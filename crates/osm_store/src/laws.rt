@@ -6,13 +6,13 @@ ghost use Rattle.sqlite.specs.Held.{state};
 ghost use Rattle.sqlite.specs.State.{HasCleanDisk, IsLive, Opens};
 ghost use Rattle.sqlite.specs.Steps.{over_memory};
 ghost use Rattle.sqlite.specs.Tree.{Trees};
-ghost use Rattle.osm_store.specs.ColumnExamples.{a_node, a_way, a_relation, eight_nulls};
-ghost use Rattle.osm_store.specs.ColumnRows.{element_rows, tag_rows, link_rows};
+ghost use Rattle.osm_store.specs.RowExamples.{a_node, a_way, a_relation, eight_nulls};
+ghost use Rattle.osm_store.specs.TableRows.{element_rows, tag_rows, link_rows};
 ghost use Rattle.osm_store.specs.Held.{HeldMap};
 ghost use Rattle.osm_store.specs.LayoutHolding.{Holds, IsKept, LeavesAMap, MayLeave, TablesHold};
 
 use crate::blob_store::BlobStore;
-use crate::layout::{Layout, StoreLayout};
+use crate::schema::{Layout, StoreLayout};
 use sqlite::{Alter, Connection, MemStore};
 
 /// The rows of a map are those of no other map.

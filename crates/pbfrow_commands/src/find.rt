@@ -2,7 +2,7 @@
 
 ghost use Rattle.std.specs.Prelude.{◌≡◌, List, OnOk, OnErr, filter};
 ghost use Rattle.osm_value.specs.Sink.{Writes};
-ghost use Rattle.osm_store.specs.Finding.{AreMatches};
+ghost use Rattle.osm_store.specs.Load.Finding.{AreMatches};
 ghost use Rattle.osm_store.specs.Held.{HeldMap};
 ghost use Rattle.osm_store.specs.Rows.{Placed, is_of, placed_in};
 ghost use Rattle.pbfrow_commands.specs.CommandLines.{match_line, match_lines};

@@ -1,6 +1,6 @@
 use Rattle.sqlite.specs.Held.{state}
 use Rattle.sqlite_catalog.proofs.ReadLemmas.{lists_once}
-use Rattle.osm_store.proofs.OneMap.{one_map}
+use Rattle.osm_store.proofs.MapLemmas.OneMap.{one_map}
 use Rattle.osm_store.proofs.laws.holds_again.Goals as goal
 
 pub returns : goal.returns

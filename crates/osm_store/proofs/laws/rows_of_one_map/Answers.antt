@@ -1,4 +1,4 @@
-use Rattle.osm_store.proofs.OneMap.{one_map}
+use Rattle.osm_store.proofs.MapLemmas.OneMap.{one_map}
 use Rattle.osm_store.proofs.laws.rows_of_one_map.Goals as goal
 
 pub returns : goal.returns

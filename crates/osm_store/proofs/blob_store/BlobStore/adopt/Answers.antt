@@ -1,5 +1,5 @@
 use Rattle.std.proofs.Common.{pos, ◌∙◌, ap, sym}
-use Rattle.osm_store.specs.Layouts.{version_of}
+use Rattle.osm_store.specs.Schema.Layouts.{version_of}
 use Rattle.osm_store.proofs.blob_store.BlobStore.adopt.Goals as goal
 
 pub returns-in-Err-clause-other : goal.returns-in-Err-clause-other

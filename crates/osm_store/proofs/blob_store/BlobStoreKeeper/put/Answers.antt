@@ -1,7 +1,7 @@
 use Rattle.std.proofs.Common.{◌≡◌, length, rules, subst}
 use Rattle.osm_store.specs.Held.{Blob}
 use Rattle.osm_store.specs.Store.{Store, AddsBlob}
-use Rattle.osm_store.proofs.PuttingLemmas.{put_adds}
+use Rattle.osm_store.proofs.PutLemmas.KeeperPromises.{put_adds}
 use Rattle.osm_store.proofs.blob_store.BlobStoreKeeper.put.Goals as goal
 
 pub returns : goal.returns

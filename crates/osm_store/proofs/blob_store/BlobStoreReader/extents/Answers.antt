@@ -3,7 +3,7 @@ use Rattle.std.proofs.Common.{subst, sym}
 use Rattle.sqlite.specs.Held.{state}
 use Rattle.osm_store.specs.LayoutHolding.{Holds}
 use Rattle.osm_store.specs.Store.{Store, JustReads}
-use Rattle.osm_store.proofs.ReadingLemmas.{just_reads, ok_of}
+use Rattle.osm_store.proofs.LoadLemmas.ReaderPromises.{just_reads, ok_of}
 use Rattle.osm_store.proofs.blob_store.BlobStoreReader.extents.Goals as goal
 
 pub returns-clause-reads : goal.returns-clause-reads

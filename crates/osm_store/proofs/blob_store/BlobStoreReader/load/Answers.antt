@@ -1,7 +1,7 @@
 use Rattle.std.proofs.lemmas.Result.{MatchResult-weaker}
 use Rattle.std.proofs.Common.{subst}
 use Rattle.osm_store.specs.Store.{Store, JustReads}
-use Rattle.osm_store.proofs.ReadingLemmas.{just_reads}
+use Rattle.osm_store.proofs.LoadLemmas.ReaderPromises.{just_reads}
 use Rattle.osm_store.proofs.blob_store.BlobStoreReader.load.Goals as goal
 
 pub returns-clause-reads : goal.returns-clause-reads

@@ -1,0 +1,44 @@
+-- A call that only asks leaves what the store holds.
+use Rattle.std.proofs.Common.{◌≡◌, IsTrue, Result, Ok, Err}
+use Rattle.std.specs.Prelude.{MatchResult, IfOk}
+use Rattle.sqlite.specs.Store.{Ghosts}
+use Rattle.sqlite.specs.Held.{state}
+use Rattle.sqlite.specs.State.{HasCleanDisk}
+use Rattle.osm_store.specs.declared.fault.StoreFault.{StoreFault}
+use Rattle.osm_store.specs.declared.schema.layout.Layout.{Layout}
+use Rattle.osm_store.specs.Load.Asking.{JustAsks}
+use Rattle.osm_store.specs.Held.{HeldMap}
+use Rattle.osm_store.specs.LayoutHolding.{Holds}
+use Rattle.osm_store.specs.Keeping.{IsForeign, failures_after}
+use Rattle.osm_store.specs.Store.{Store, JustReads}
+use Rattle.osm_store.proofs.MapLemmas.OneMore.{clean_before, asks_holds, asks_leaves, asks_leaves_a_map}
+
+module _ {S T : Type 0} (layout : Layout) (g : Ghosts S) (old new : Store S) (asks : JustAsks (state g old.connection) (state g new.connection)) where
+  abbrev pub Answers : Result T StoreFault → Type 0
+  Answers r = HasCleanDisk (state g new.connection) → (held : HeldMap) → Holds layout (state g old.connection) held → MatchResult r (λ _. IsTrue (state g new.connection).is_open) (λ fault. ¬ (IsForeign fault))
+
+  pub just_reads : (r : Result T StoreFault) → Answers r → new.failures ≡ failures_after r old.failures → JustReads layout g old r new
+  just_reads (Ok x) answers counted = record {
+    honest = clean_before (state g old.connection) (state g new.connection) asks;
+    open_if = λ up. (clean_before (state g old.connection) (state g new.connection) asks up.0, (asks.keeps up.0).was_open up.1);
+    ok = λ clean held holds. asks_holds layout (state g old.connection) (state g new.connection) asks held holds clean (answers clean held holds);
+    err = tt;
+    crash = λ clean held may. asks_leaves layout (state g old.connection) (state g new.connection) asks clean held may;
+    whole = λ clean all. asks_leaves_a_map layout (state g old.connection) (state g new.connection) asks clean all;
+    own = λ held holds clean. tt;
+    counted = counted;
+  }
+  just_reads (Err fault) answers counted = record {
+    honest = clean_before (state g old.connection) (state g new.connection) asks;
+    open_if = λ up. (clean_before (state g old.connection) (state g new.connection) asks up.0, (asks.keeps up.0).was_open up.1);
+    ok = tt;
+    err = λ clean up held holds. asks_holds layout (state g old.connection) (state g new.connection) asks held holds clean up.1;
+    crash = λ clean held may. asks_leaves layout (state g old.connection) (state g new.connection) asks clean held may;
+    whole = λ clean all. asks_leaves_a_map layout (state g old.connection) (state g new.connection) asks clean all;
+    own = λ held holds clean. answers clean held holds;
+    counted = counted;
+  }
+
+pub ok_of : {A E : Type 0} (P : A → Type 0) (Q : Type 0) (F : E → Type 0) (r : Result A E) → MatchResult r (λ v. P v × Q) F → IfOk r P
+ok_of P Q F (Ok v) h = h.0
+ok_of P Q F (Err e) h = tt

@@ -1,0 +1,106 @@
+-- What the tables of a held map have.
+use Rattle.std.proofs.Common.{◌≡◌, inl, inr, ℕ, suc, ◌+◌, ◌<◌, List, [], ◌∷◌, Some, slice_get, cond, eqb, map, drop, length, refl, sym, ap, ap₂, subst, ◌∙◌, IsPermutation, pos}
+use Rattle.std.specs.Prelude.{filter}
+use Rattle.std.specs.List.{AllByRecursion}
+use Rattle.std.specs.Ordering.{nat_cmp}
+use Rattle.std.specs.Cmp.{unsigned_tied}
+use Rattle.std.specs.FinMap.{entries, get, find, get-entries}
+use Rattle.std.proofs.lemmas.Bool.Decides.{eqb_tells}
+use Rattle.std.proofs.lemmas.List.Sorted.{IsPermutation-sym}
+use Rattle.sqlite.specs.Order.{Row, column}
+use Rattle.sqlite.specs.Effect.{Database}
+use Rattle.sqlite_trees.specs.Tree.{IsAscending}
+use Rattle.sqlite_trees.proofs.ListLemmas.{all_from_map, all-permutation, ascending-map, IsPermutation-same}
+use Rattle.osm_value.specs.declared.element.Element.{Element}
+use Rattle.osm_store.specs.declared.keeper.Extent.{Extent}
+use Rattle.osm_store.specs.Held.{Blob, HeldMap}
+use Rattle.osm_store.specs.Keeping.{extent_of, extents_of}
+use Rattle.osm_store.specs.Rows.{Placed, placed, placed_in, is_in, body_row, extent_row, extent_columns}
+use Rattle.osm_store.specs.declared.schema.layout.Layout.{Layout}
+use Rattle.osm_store.specs.declared.schema.layout.Layout.TheVariants.{Blocks}
+use Rattle.osm_store.specs.Schema.Layouts.{schema_of, version_of}
+use Rattle.osm_store.specs.Schema.Bodies.{store_schema}
+use Rattle.osm_store.specs.LayoutHolding.{TablesHold}
+use Rattle.osm_store.proofs.MapLemmas.PlacedLaws.{Entry, within, entries_rise, placed_in_rise, here, by_position}
+use Rattle.osm_store.proofs.ListLemmas.NestedLists.{nested_at}
+use Rattle.osm_store.proofs.LoadLemmas.ReadLemmas.{columns_at, HasExtents, HasElements, HasVersion}
+
+-- ---- the tables
+
+blob_shown : (extents : List Extent) → map (columns_at (0 ∷ 2 ∷ 3 ∷ 4 ∷ 5 ∷ [])) (map extent_row extents) ≡ map extent_columns extents
+blob_shown [] = refl
+blob_shown (e ∷ extents) = ap (λ rows. extent_columns e ∷ rows) (blob_shown extents)
+
+extents_rise : (held : HeldMap) → IsAscending (λ (a b : Extent). a.off < b.off) (extents_of held)
+extents_rise held = ascending-map _ extent_of (entries held) (entries_rise held)
+
+pub has_extents : (layout : Layout) (db : Database) (held : HeldMap) → db.schema ≡ schema_of layout → TablesHold layout held db.trees → HasExtents layout db (extents_of held)
+has_extents layout db held schema tables = record {
+  schema = schema;
+  rows = IsPermutation-same _ _ (ap (map (columns_at (0 ∷ 2 ∷ 3 ∷ 4 ∷ 5 ∷ []))) tables.blob ∙ blob_shown (extents_of held));
+  ascending = extents_rise held;
+}
+
+five : (row : Row) → length row ≡ 5 → map (column row) (0 ∷ 1 ∷ 2 ∷ 3 ∷ 4 ∷ []) ≡ row
+five [] e = absurd (cc)
+five (a ∷ []) e = absurd (cc)
+five (a ∷ b ∷ []) e = absurd (cc)
+five (a ∷ b ∷ c ∷ []) e = absurd (cc)
+five (a ∷ b ∷ c ∷ d ∷ []) e = absurd (cc)
+five (a ∷ b ∷ c ∷ d ∷ f ∷ []) e = refl
+five (a ∷ b ∷ c ∷ d ∷ f ∷ g ∷ row) e = absurd (cc)
+
+-- a row without its rowid shows all its columns
+dropped : (row : Row) → length (drop 1 row) ≡ 5 → columns_at (1 ∷ 2 ∷ 3 ∷ 4 ∷ 5 ∷ []) row ≡ drop 1 row
+dropped [] e = absurd (cc)
+dropped (x ∷ row) e = five row e
+
+all_dropped : (rows : List Row) → AllByRecursion (λ row. length (drop 1 row) ≡ 5) rows → map (columns_at (1 ∷ 2 ∷ 3 ∷ 4 ∷ 5 ∷ [])) rows ≡ map (drop 1) rows
+all_dropped [] h = refl
+all_dropped (row ∷ rows) h = ap₂ ◌∷◌ (dropped row h.0) (all_dropped rows h.1)
+
+each_five : (ps : List Placed) → AllByRecursion (λ (row : Row). length row ≡ 5) (map body_row ps)
+each_five [] = tt
+each_five (p ∷ ps) = (refl, each_five ps)
+
+pub has_elements : (db : Database) (held : HeldMap) → db.schema ≡ store_schema → TablesHold Blocks held db.trees → HasElements db (placed_in held)
+has_elements db held schema tables =
+    let fives = all_from_map (λ (row : Row). length row ≡ 5) (drop 1) (db.trees 2) (all-permutation _ (map body_row (placed_in held)) (map (drop 1) (db.trees 2)) tables.elements (each_five (placed_in held))) in
+    record {
+      schema = schema;
+      rows = subst (λ rows. IsPermutation rows (map body_row (placed_in held))) (sym (all_dropped (db.trees 2) fives)) (IsPermutation-sym _ _ tables.elements);
+      ascending = placed_in_rise held;
+    }
+
+pub has_version : (layout : Layout) (db : Database) (held : HeldMap) → db.schema ≡ schema_of layout → TablesHold layout held db.trees → HasVersion layout db (pos (version_of layout))
+has_version layout db held schema tables = record { schema = schema; rows = IsPermutation-same _ _ (ap (map (columns_at (0 ∷ []))) tables.meta) }
+
+-- ---- the rows of one blob
+
+pub elements_of : (off position : ℕ) (es : List Element) → map (λ (p : Placed). p.2) (placed off position es) ≡ es
+elements_of off position [] = refl
+elements_of off position (e ∷ es) = ap (λ l. e ∷ l) (elements_of off (position + 1) es)
+
+at_entry : (es : List Entry) (off : ℕ) (blob : Blob) → find nat_cmp off es ≡ Some blob → (k : ℕ) × (slice_get es k ≡ Some (off, blob))
+at_entry [] off blob is = absurd (cc)
+at_entry (e ∷ es) off blob is =
+    let known : cond (eqb off e.0) (Some e.1) (find nat_cmp off es) ≡ Some blob = ap (λ b. cond b (Some e.1) (find nat_cmp off es)) (sym (unsigned_tied off e.0)) ∙ is in
+    elim (eqb_tells off e.0) [
+      | inl (test, same) ↦
+          let there : Some e.1 ≡ Some blob = ap (λ b. cond b (Some e.1) (find nat_cmp off es)) (sym test) ∙ known in
+          let one : e.1 ≡ blob = cc in
+          let make : ℕ → Blob → Entry = λ n b. (n, b) in
+          (0, ap Some (ap₂ make (sym same) one))
+      | inr (test, apart) ↦
+          let later = at_entry es off blob (ap (λ b. cond b (Some e.1) (find nat_cmp off es)) (sym test) ∙ known) in
+          (suc later.0, later.1)
+    ]
+
+-- the elements at an offset are those of the blob there, each at its position
+pub placed_at : (held : HeldMap) (off : ℕ) (blob : Blob) → get held off ≡ Some blob → filter (is_in off) (placed_in held) ≡ placed off 0 blob.elements
+placed_at held off blob is =
+    let there = at_entry (entries held) off blob (sym (get-entries held off) ∙ is) in
+    nested_at (λ (e : Entry). e.0) (λ (p : Placed). p.0) (λ (a b : Placed). a.1 < b.1) within here by_position (entries held) there.0 (off, blob) (entries_rise held) there.1
+
+pub elements_at : (held : HeldMap) (off : ℕ) (blob : Blob) → get held off ≡ Some blob → map (λ (p : Placed). p.2) (filter (is_in off) (placed_in held)) ≡ blob.elements
+elements_at held off blob is = ap (map (λ (p : Placed). p.2)) (placed_at held off blob is) ∙ elements_of off 0 blob.elements

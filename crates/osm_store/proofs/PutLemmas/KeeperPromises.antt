@@ -1,0 +1,61 @@
+-- A put keeps what a keeper promises of it.
+use Rattle.std.proofs.Common.{◌≡◌, ℕ, ◌^◌, ◌<◌, ◌≤◌, List, length, IsTrue, Result, Ok, Err, arith}
+use Rattle.std.specs.Prelude.{OnOk, OnErr, IfErr}
+use Rattle.std.specs.List.{AllByRecursion}
+use Rattle.sqlite.specs.Store.{Ghosts}
+use Rattle.sqlite.specs.Held.{state}
+use Rattle.sqlite.specs.State.{State, HasCleanDisk, Survives}
+use Rattle.osm_store.specs.declared.keeper.Extent.{Extent}
+use Rattle.osm_store.specs.declared.fault.StoreFault.{StoreFault}
+use Rattle.osm_store.specs.Held.{Blob, HaveFewTexts}
+use Rattle.osm_store.specs.LayoutHolding.{IsBlob}
+use Rattle.osm_store.specs.Keeping.{IsForeign, failures_after}
+use Rattle.osm_store.specs.declared.schema.layout.Layout.{Layout}
+use Rattle.osm_store.specs.Schema.Layouts.{schema_of}
+use Rattle.osm_store.specs.Rows.{Placed, CanStore, placed}
+use Rattle.osm_store.specs.Put.Steps.{Puts}
+use Rattle.osm_store.specs.Store.{Store, AddsBlob}
+use Rattle.osm_store.specs.StoreLaws.{IsSettled}
+use Rattle.osm_store.proofs.MapLemmas.OneMore.{holds_more, leaves_more, leaves_a_map, holds_still}
+
+abbrev placed_of : ℕ → Blob → List Placed
+placed_of off blob = placed off 0 blob.elements
+
+abbrev extent_with : ℕ → Blob → ℕ → Extent
+extent_with off blob n = record { off = off; fin = blob.fin; digest = blob.digest; kind = blob.kind; n = n }
+
+-- what the writing of a blob's rows says, where n is the count of its elements
+pub record Wrote {T : Type 0} (layout : Layout) (off : ℕ) (blob : Blob) (n : ℕ) (old new : State) (r : Result T StoreFault) : Type 0 where
+  pub added : HasCleanDisk new → old.now.schema ≡ schema_of layout → OnOk r ((new.now.schema ≡ schema_of layout) × Puts layout old.now.trees new.now.trees (extent_with off blob n) (placed_of off blob))
+  pub can_store : OnOk r (AllByRecursion (CanStore layout) blob.elements)
+  pub committed : HasCleanDisk new → OnOk r (IsTrue old.is_open × IsTrue new.is_open × (new.committed ≡ new.now))
+  pub unchanged : HasCleanDisk new → IsTrue new.is_open → OnErr r (IsTrue old.is_open × (new.now ≡ old.now) × (new.committed ≡ old.committed))
+  pub ours : IfErr r (λ fault. ¬ (IsForeign fault))
+  pub crash : Survives old new (λ trees. IsTrue old.is_open × AllByRecursion (CanStore layout) blob.elements × (old.now.schema ≡ schema_of layout → Puts layout old.now.trees trees (extent_with off blob n) (placed_of off blob)))
+
+blob_is : (layout : Layout) (blob : Blob) → length blob.digest ≡ 32 → HaveFewTexts blob.elements → AllByRecursion (CanStore layout) blob.elements → IsBlob layout blob
+blob_is layout blob digest few can = record { digest = digest; can_store = can; few_texts = few }
+
+module _ {S T : Type 0} (layout : Layout) (g : Ghosts S) (old new : Store S) (off : ℕ) (blob : Blob) (order : off < blob.fin) (limit : blob.fin ≤ 2 ^ 62) (digest : length blob.digest ≡ 32)
+    (settles : IsSettled (state g old.connection)) where
+  pub put_adds : (r : Result T StoreFault) → Wrote layout off blob (length blob.elements) (state g old.connection) (state g new.connection) r → new.failures ≡ failures_after r old.failures → AddsBlob layout g off blob old r new
+  put_adds (Ok x) w counted = record {
+    honest = λ clean. omega (arith, w.crash.clean, clean);
+    open_if = λ up. (omega (arith, w.crash.clean, up.0), (w.committed up.0).0);
+    ok = λ clean held holds can. holds_more held off blob layout (state g old.connection) (state g new.connection) holds can.free order limit clean (w.added clean) (w.committed clean).1 (w.committed clean).2 (blob_is layout blob digest can.few_texts w.can_store);
+    err = tt;
+    crash = λ clean held left holds can may. leaves_more held off blob layout (state g old.connection) (state g new.connection) holds can.free order limit w.crash (blob_is layout blob digest can.few_texts) clean left may;
+    whole = λ clean held holds can. leaves_a_map held off blob layout (state g old.connection) (state g new.connection) holds can.free order limit w.crash (blob_is layout blob digest can.few_texts) settles clean;
+    own = λ held holds clean free. tt;
+    counted = counted;
+  }
+  put_adds (Err fault) w counted = record {
+    honest = λ clean. omega (arith, w.crash.clean, clean);
+    open_if = λ up. (omega (arith, w.crash.clean, up.0), (w.unchanged up.0 up.1).0);
+    ok = tt;
+    err = λ clean up held holds free. holds_still layout held (state g old.connection) (state g new.connection) holds clean up.1 (w.unchanged clean up.1).1 (w.unchanged clean up.1).2;
+    crash = λ clean held left holds can may. leaves_more held off blob layout (state g old.connection) (state g new.connection) holds can.free order limit w.crash (blob_is layout blob digest can.few_texts) clean left may;
+    whole = λ clean held holds can. leaves_a_map held off blob layout (state g old.connection) (state g new.connection) holds can.free order limit w.crash (blob_is layout blob digest can.few_texts) settles clean;
+    own = λ held holds clean free. w.ours;
+    counted = counted;
+  }

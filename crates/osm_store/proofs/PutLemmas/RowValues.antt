@@ -1,0 +1,25 @@
+-- What `sqlite` makes of the values of a row of numbers and texts.
+use Rattle.std.proofs.Common.{◌≡◌, ℕ, ℤ, List, Option, Some, None, Bor, refl, ap}
+use Rattle.std.specs.Option.{option_copied}
+use Rattle.sqlite.specs.declared.types.Value.{Value}
+use Rattle.sqlite.specs.declared.types.Value.TheVariants.{Int, Text as Words}
+use Rattle.sqlite.specs.Values.{or_null, bound_value}
+use Rattle.sqlite.specs.Cast.{cast}
+use Rattle.sqlite.specs.Kind.TheVariants.{Integer, Text}
+use Rattle.osm_store.proofs.PutLemmas.Adds.{cast_null, cast_int}
+
+pub cast_or_null : {X : Type 0} (f : X → ℤ) (o : Option X) → cast Integer (or_null (λ x. Int (f x)) o) ≡ or_null (λ x. Int (f x)) o
+cast_or_null f None = cast_null
+cast_or_null f (Some x) = cast_int (f x)
+
+pub cast_words : (o : Option (List ℕ)) → cast Text (or_null Words o) ≡ or_null Words o
+cast_words None = refl
+cast_words (Some x) = refl
+
+pub bound_or_null : {X : Type 0} (f : X → ℤ) (v : Value) (o : Option X) → v ≡ or_null (λ x. Int (f x)) o → bound_value v ≡ or_null (λ x. Int (f x)) o
+bound_or_null f v None e = ap bound_value e
+bound_or_null f v (Some x) e = ap bound_value e
+
+pub bound_words : (v : Value) (o : Option (Bor (List ℕ))) → v ≡ or_null (λ (s : Bor (List ℕ)). Words s.now) o → bound_value v ≡ or_null Words (option_copied o)
+bound_words v None e = ap bound_value e
+bound_words v (Some x) e = ap bound_value e

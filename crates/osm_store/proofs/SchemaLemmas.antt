@@ -1,0 +1,7 @@
+-- What the statements mean that make the tables.
+pub mod BodyTexts
+pub mod TableTexts
+pub mod StatementParts
+pub mod Makes
+pub mod MakeSteps
+pub mod VersionLemmas

@@ -1,0 +1,79 @@
+-- What the functions that make the tables do, from what `sqlite` says of their statements.
+use Rattle.std.proofs.Common.{◌≡◌, ℕ, [], Ok, true, refl, ◌∙◌}
+use Rattle.sqlite.specs.Schema.{Schema}
+use Rattle.sqlite.specs.State.{State, Shows, ExecutesInside}
+use Rattle.sqlite_catalog.specs.Listing.{IsSound}
+use Rattle.osm_store.specs.Schema.Bodies.{meta_text, blob_text, body_text, index_text, meta, blob, body, by_element, no_schema, one_table, two_tables, three_tables, store_schema}
+use Rattle.osm_store.specs.declared.schema.layout.Layout.{Layout}
+use Rattle.osm_store.specs.declared.schema.layout.Layout.TheVariants.{Blocks, Columns}
+use Rattle.osm_store.specs.Schema.Tables.{element_text, tag_text, link_text, element_index_text, element, tag, link, element_by_id, with_element, with_tag, with_link, column_schema}
+use Rattle.osm_store.specs.Schema.Layouts.{schema_of, version_text_of}
+use Rattle.osm_store.specs.Put.Steps.{IsOver, IsWriting, Becomes, KeepsOthers, HaveNoElements, MakesMeta, MakesBlob, MakesBody, MakesIndex, MakesElement, MakesTag, MakesLink, MakesElementIndex, WritesVersion}
+use Rattle.osm_store.proofs.SchemaLemmas.TableTexts.{element_is, element_plain, element_defined, element_created, tag_is, tag_plain, tag_defined, tag_created, link_is, link_plain, link_defined, link_created, element_index_is, element_index_plain, element_index_defined, element_index_created}
+use Rattle.osm_store.proofs.SchemaLemmas.BodyTexts.{meta_is, meta_plain, meta_defined, meta_created, blob_is, blob_plain, blob_defined, blob_created, body_is, body_plain, body_defined, body_created, index_is, index_plain, index_defined, index_created}
+use Rattle.osm_store.proofs.SchemaLemmas.Makes.{creates, indexes}
+use Rattle.osm_store.proofs.PutLemmas.Inserts.{inserts_version}
+use Rattle.osm_store.proofs.PutLemmas.Adds.{version_added}
+
+pub becomes : (old new : State) (schema : Schema) → new.now.schema ≡ schema → IsSound schema new.now.trees → Shows old new new.now old.committed true → Becomes old new schema
+becomes old new schema is sound shown = record { over = record { schema_is = is; inside = shown.mode }; kept = record { was_open = λ _. shown.was_open; committed = λ _. shown.committed_is }; sound = sound }
+
+module _ (old new : State) (count : ℕ) where
+  pub makes_meta : IsOver no_schema old → ExecutesInside 0 meta_text [] old new (Ok count) → MakesMeta old new
+  makes_meta over h =
+      let it = creates meta_text no_schema one_table meta_plain meta_is.1 meta meta_is.0 meta_defined meta_created refl old new count over.schema_is h.0 in
+      (becomes old new one_table it.0 it.1 h.1, it.2)
+
+  pub makes_blob : IsOver one_table old → ExecutesInside 0 blob_text [] old new (Ok count) → MakesBlob old new
+  makes_blob over h =
+      let it = creates blob_text one_table two_tables blob_plain blob_is.1 (record blob { tree = 0 }) blob_is.0 blob_defined blob_created refl old new count over.schema_is h.0 in
+      (becomes old new two_tables it.0 it.1 h.1, it.3.0, it.2)
+
+  pub makes_body : IsOver two_tables old → ExecutesInside 0 body_text [] old new (Ok count) → MakesBody old new
+  makes_body over h =
+      let it = creates body_text two_tables three_tables body_plain body_is.1 (record body { tree = 0 }) body_is.0 body_defined body_created refl old new count over.schema_is h.0 in
+      (becomes old new three_tables it.0 it.1 h.1, it.3.0, it.3.1.0, it.2)
+
+  pub makes_index : IsOver three_tables old → ExecutesInside 0 index_text [] old new (Ok count) → MakesIndex old new
+  makes_index over h =
+      let it = indexes index_text three_tables store_schema index_plain index_is.1 2 body (record by_element { tree = 0 }) index_is.0 refl index_defined index_created old new count over.schema_is h.0 in
+      (becomes old new store_schema it.0 it.1 h.1, it.2.0, it.2.1.0, it.2.1.1.0)
+
+  pub makes_element : IsOver two_tables old → ExecutesInside 0 element_text [] old new (Ok count) → MakesElement old new
+  makes_element over h =
+      let it = creates element_text two_tables with_element element_plain element_is.1 (record element { tree = 0 }) element_is.0 element_defined element_created refl old new count over.schema_is h.0 in
+      (becomes old new with_element it.0 it.1 h.1, it.3.0, it.3.1.0, it.2)
+
+  pub makes_tag : IsOver with_element old → ExecutesInside 0 tag_text [] old new (Ok count) → MakesTag old new
+  makes_tag over h =
+      let it = creates tag_text with_element with_tag tag_plain tag_is.1 (record tag { tree = 0 }) tag_is.0 tag_defined tag_created refl old new count over.schema_is h.0 in
+      (becomes old new with_tag it.0 it.1 h.1, it.3.0, it.3.1.0, it.3.1.1.0, it.2)
+
+  pub makes_link : IsOver with_tag old → ExecutesInside 0 link_text [] old new (Ok count) → MakesLink old new
+  makes_link over h =
+      let it = creates link_text with_tag with_link link_plain link_is.1 (record link { tree = 0 }) link_is.0 link_defined link_created refl old new count over.schema_is h.0 in
+      (becomes old new with_link it.0 it.1 h.1, it.3.0, it.3.1.0, it.3.1.1.0, it.3.1.1.1.0, it.2)
+
+  pub makes_element_index : IsOver with_link old → ExecutesInside 0 element_index_text [] old new (Ok count) → MakesElementIndex old new
+  makes_element_index over h =
+      let it = indexes element_index_text with_link column_schema element_index_plain element_index_is.1 2 element (record element_by_id { tree = 0 }) element_index_is.0 refl element_index_defined element_index_created old new count over.schema_is h.0 in
+      (becomes old new column_schema it.0 it.1 h.1, it.2.0, it.2.1.0, it.2.1.1.0, it.2.1.1.1.0, it.2.1.1.1.1.0)
+
+  -- the tables of elements stay without rows
+  none_still : (layout : Layout) → KeepsOthers layout 0 old.now.trees new.now.trees → HaveNoElements layout old.now.trees → HaveNoElements layout new.now.trees
+  none_still Blocks kept none = kept.1.1.0 (λ e. cc) ∙ none
+  none_still Columns kept none = (kept.1.1.0 (λ e. cc) ∙ none.0, kept.1.1.1.0 (λ e. cc) ∙ none.1, kept.1.1.1.1.0 (λ e. cc) ∙ none.2)
+
+  blob_still : (layout : Layout) → KeepsOthers layout 0 old.now.trees new.now.trees → new.now.trees 1 ≡ old.now.trees 1
+  blob_still Blocks kept = kept.1.0 (λ e. cc)
+  blob_still Columns kept = kept.1.0 (λ e. cc)
+
+  pub writes_version : (layout : Layout) → IsWriting layout old → ExecutesInside 0 (version_text_of layout) [] old new (Ok count) → WritesVersion layout old new
+  writes_version layout over h =
+      let it = inserts_version layout old new count over.schema_is h.0 in
+      record {
+        becomes = becomes old new (schema_of layout) it.0 it.2 h.1;
+        meta = version_added layout old.now.trees new.now.trees it.1;
+        blob = blob_still layout it.1.tables;
+        elements = none_still layout it.1.tables;
+      }

@@ -1,0 +1,97 @@
+-- What the texts mean that make and fill the tables of numbers and texts.
+use Rattle.std.proofs.Common.{◌≡◌, List, [], ◌∷◌, Ok, refl, pos}
+use Rattle.sqlite.specs.Compile.{table_defined_by, index_defined_by}
+use Rattle.sqlite.specs.Change.{created, indexed}
+use Rattle.sqlite_tied.specs.Compute.{everything}
+use Rattle.sqlite.specs.Source.TheVariants.{Values}
+use Rattle.sqlite.specs.Command.TheVariants.{Insert, CreateTable, CreateIndex}
+use Rattle.sqlite.specs.Term.{Term, lit}
+use Rattle.sqlite.specs.declared.types.Value.TheVariants.{Null, Int}
+use Rattle.sqlite.specs.Listing.{understood}
+use Rattle.sqlite.proofs.Callers.{IsPlain, command_of, statement_of}
+use Rattle.osm_store.specs.Schema.Bodies.{insert_blob_text, two_tables}
+use Rattle.osm_store.specs.Schema.Tables.{second_version_text, element_text, tag_text, link_text, element_index_text, element, tag, link, element_by_id, with_element, with_tag, with_link, column_schema}
+use Rattle.osm_store.proofs.SchemaLemmas.BodyTexts.{blob_terms}
+
+pub element_defined : table_defined_by element_text ≡ Ok (record element { tree = 0 })
+unfolding everything
+element_defined = refl
+
+pub tag_defined : table_defined_by tag_text ≡ Ok (record tag { tree = 0 })
+unfolding everything
+tag_defined = refl
+
+pub link_defined : table_defined_by link_text ≡ Ok (record link { tree = 0 })
+unfolding everything
+link_defined = refl
+
+pub element_index_defined : index_defined_by element element_index_text ≡ Ok (record element_by_id { tree = 0 })
+unfolding everything
+element_index_defined = refl
+
+pub element_created : created two_tables (record element { tree = 0 }) ≡ with_element
+unfolding everything
+element_created = refl
+
+pub tag_created : created with_element (record tag { tree = 0 }) ≡ with_tag
+unfolding everything
+tag_created = refl
+
+pub link_created : created with_tag (record link { tree = 0 }) ≡ with_link
+unfolding everything
+link_created = refl
+
+pub element_index_created : indexed with_link element (record element_by_id { tree = 0 }) ≡ column_schema
+unfolding everything
+element_index_created = refl
+
+pub element_is : (command_of (understood two_tables element_text) ≡ CreateTable) × (statement_of element_text (understood two_tables element_text) ≡ element_text)
+unfolding understood everything
+element_is = (refl, refl)
+
+pub tag_is : (command_of (understood with_element tag_text) ≡ CreateTable) × (statement_of tag_text (understood with_element tag_text) ≡ tag_text)
+unfolding understood everything
+tag_is = (refl, refl)
+
+pub link_is : (command_of (understood with_tag link_text) ≡ CreateTable) × (statement_of link_text (understood with_tag link_text) ≡ link_text)
+unfolding understood everything
+link_is = (refl, refl)
+
+pub element_index_is : (command_of (understood with_link element_index_text) ≡ CreateIndex 2) × (statement_of element_index_text (understood with_link element_index_text) ≡ element_index_text)
+unfolding understood everything
+element_index_is = (refl, refl)
+
+pub element_plain : IsPlain (understood two_tables element_text)
+unfolding understood everything
+element_plain = (refl, refl)
+
+pub tag_plain : IsPlain (understood with_element tag_text)
+unfolding understood everything
+tag_plain = (refl, refl)
+
+pub link_plain : IsPlain (understood with_tag link_text)
+unfolding understood everything
+link_plain = (refl, refl)
+
+pub element_index_plain : IsPlain (understood with_link element_index_text)
+unfolding understood everything
+element_index_plain = (refl, refl)
+
+abbrev pub second_version_terms : List Term
+second_version_terms = lit (Int (pos 2)) ∷ lit Null ∷ []
+
+pub second_version_is : command_of (understood column_schema second_version_text) ≡ Insert 0 (Values second_version_terms 2)
+unfolding understood everything
+second_version_is = refl
+
+pub second_version_plain : IsPlain (understood column_schema second_version_text)
+unfolding understood everything
+second_version_plain = (refl, refl)
+
+pub column_blob_is : command_of (understood column_schema insert_blob_text) ≡ Insert 1 (Values blob_terms 6)
+unfolding understood everything
+column_blob_is = refl
+
+pub column_blob_plain : IsPlain (understood column_schema insert_blob_text)
+unfolding understood everything
+column_blob_plain = (refl, refl)

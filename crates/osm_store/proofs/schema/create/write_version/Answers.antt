@@ -1,0 +1,10 @@
+use Rattle.std.proofs.Common.{arith}
+use Rattle.sqlite.specs.Held.{state}
+use Rattle.osm_store.proofs.SchemaLemmas.MakeSteps.{writes_version}
+use Rattle.osm_store.proofs.schema.create.write_version.Goals as goal
+
+pub returns-clause-made : goal.returns-clause-made
+returns-clause-made g c clean =
+    let over = c.requires (omega (arith, c.execute.ensures.survives.clean)) in
+    let ran = rw c.version_text.ensures at c.in_ok-execute.ensures.runs clean over.inside in
+    writes_version (state g.S.Store c.args.transaction.now.conn.now) (state g.S.Store c.execute.new.self.conn.now) c.in_ok-execute.field-0 c.args.layout over ran

@@ -1,0 +1,10 @@
+-- What queries answer, and what their rows stand for.
+pub mod Loading
+pub mod TableQueries
+pub mod TableElements
+pub mod TableParts
+pub mod TableRows
+pub mod Asking
+pub mod Selects
+pub mod Finding
+pub mod Starting

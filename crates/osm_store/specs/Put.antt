@@ -1,0 +1,4 @@
+-- What the steps of a put write.
+pub mod Batches
+pub mod WrittenRows
+pub mod Steps

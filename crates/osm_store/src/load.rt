@@ -1,0 +1,15 @@
+//! What is read of the held blobs: their extents, the elements of one, and those of one kind and id.
+
+mod answer;
+mod bodies;
+mod extents;
+mod found;
+mod held;
+mod loaded;
+mod tables;
+
+pub(crate) use answer::ask;
+pub(crate) use extents::{all_extents, touched_extents};
+pub use found::Found;
+pub(crate) use held::{find_held, load_held};
+pub use loaded::Loaded;

@@ -1,0 +1,127 @@
+//! The extents of the held blobs.
+
+ghost use Rattle.std.specs.Prelude.{◌≡◌, ◌∷◌, [], ◌<◌, ◌≤◌, ◌^◌, ℕ, ℤ, pos, Bool, true, filter, if◌then◌else◌, Some, None, Ok, List, map, length, IsTrue, MatchResult, IfOk, All};
+ghost use Rattle.sqlite.specs.declared.types.Value.TheVariants.{Int};
+ghost use Rattle.sqlite.specs.Order.{Row};
+ghost use Rattle.sqlite.specs.State.{HasCleanDisk};
+ghost use Rattle.sqlite.specs.Held.{state};
+ghost use Rattle.osm_store.specs.Load.Asking.{JustAsks};
+ghost use Rattle.osm_store.specs.Held.{HeldMap};
+ghost use Rattle.osm_store.specs.LayoutHolding.{Holds, IsKeptExtent};
+ghost use Rattle.osm_store.specs.Keeping.{IsForeign, IsRange, extents_of, touches};
+ghost use Rattle.osm_store.specs.Rows.{blob_code, extent_columns};
+ghost use Rattle.osm_store.specs.Load.Starting.{IsStart};
+
+use crate::fault::{StoreFault, unread};
+use crate::keeper::Extent;
+use crate::load::answer::{answer, integer, number};
+use crate::load::bodies::OFFSET_LIMIT;
+use crate::schema::Layout;
+use crate::schema::sql::{SELECT_EXTENTS, SELECT_LAST_START, SELECT_TOUCHING};
+use pbf_frame::Kind;
+use sqlite::{Alter, Connection, Row};
+use std::alloc::Global;
+
+/// The kind of blob that a row names by this number.
+fn blob_kind(code: u64) -> Option<Kind>
+    ensures { (kind : Kind) → code ≡ blob_code kind → result ≡ Some kind }
+{
+    match code {
+        0 => Some(Kind::OsmHeader),
+        1 => Some(Kind::OsmData),
+        2 => Some(Kind::Other),
+        _ => None,
+    }
+}
+
+/// The extent that a row stands for.
+fn extent_of(row: &Row) -> Result<Extent, StoreFault>
+    ensures exact { (extent : Extent) → IsKeptExtent extent → row.now ≡ extent_columns extent → MatchResult result (λ found. found ≡ extent) (λ fault. fault ≡ StoreFault.Memory) }
+    ensures range { IfOk result IsRange }
+{
+    let off: u64 = row.get(0).map_err(unread)?;
+    let fin: u64 = row.get(1).map_err(unread)?;
+    let digest: Vec<u8> = row.get(2).map_err(unread)?;
+    let code: u64 = row.get(3).map_err(unread)?;
+    let n: u64 = row.get(4).map_err(unread)?;
+    let (Some(digest), Some(kind)) = (digest.as_array(), blob_kind(code)) else {
+        return Err(StoreFault::NotThisStore(None));
+    };
+    if off >= fin || fin > OFFSET_LIMIT {
+        return Err(StoreFault::NotThisStore(None));
+    }
+    Ok(Extent {
+        off,
+        fin,
+        digest: *digest,
+        kind,
+        n,
+    })
+}
+
+/// The extents that the rows stand for.
+fn read_extents(alloc: Global, rows: &[Row]) -> Result<Vec<Extent>, StoreFault>
+    ensures exact { (extents : List Extent) → All IsKeptExtent extents → rows.now ≡ map extent_columns extents → MatchResult result (λ found. found.items ≡ extents) (λ fault. fault ≡ StoreFault.Memory) }
+    ensures ranges { IfOk result (λ found. All IsRange found.items) }
+{
+    let mut extents = Vec::new(alloc);
+    for row in rows {
+        extents.push(extent_of(row)?)?;
+    }
+    Ok(extents)
+}
+
+/// All extents, ascending by their offsets.
+pub(crate) fn all_extents<S: Alter>(
+    alloc: Global,
+    connection: &mut Connection<S>,
+) -> Result<Vec<Extent>, StoreFault>
+    ensures held { HasCleanDisk (state S.Store connection.new) → (layout : Layout) (held : HeldMap) → Holds layout (state S.Store connection.old) held
+        → MatchResult result (λ extents. (extents.items ≡ extents_of held) × IsTrue (state S.Store connection.new).is_open) (λ fault. ¬ (IsForeign fault)) }
+    ensures ranges { IfOk result (λ extents. All IsRange extents.items) }
+    ensures asks { JustAsks (state S.Store connection.old) (state S.Store connection.new) }
+{
+    let rows = answer(connection, SELECT_EXTENTS, &[])?;
+    read_extents(alloc, &rows)
+}
+
+/// The offset that the first row shows; 0 where there is none.
+fn first_offset(rows: &[Row]) -> Result<i64, StoreFault>
+    ensures none { rows.now ≡ [] → result ≡ Ok (pos 0) }
+    ensures first { (off : ℤ) (more : List Row) → rows.now ≡ (Int off ∷ []) ∷ more → MatchResult result (λ found. found ≡ off) (λ fault. fault ≡ StoreFault.Memory) }
+{
+    match rows.first() {
+        Some(row) => row.get(0).map_err(unread),
+        None => Ok(0),
+    }
+}
+
+/// The offset of the last blob that starts at `from` or before. Since extents don't meet, those before it end there.
+fn last_start<S: Alter>(connection: &mut Connection<S>, from: u64) -> Result<i64, StoreFault>
+    requires { from ≤ 2 ^ 62 }
+    ensures held { HasCleanDisk (state S.Store connection.new) → (layout : Layout) (held : HeldMap) → Holds layout (state S.Store connection.old) held
+        → MatchResult result (λ start. IsStart from (extents_of held) start × IsTrue (state S.Store connection.new).is_open) (λ fault. ¬ (IsForeign fault)) }
+    ensures asks { JustAsks (state S.Store connection.old) (state S.Store connection.new) }
+{
+    let rows = answer(connection, SELECT_LAST_START, &[number(from)])?;
+    first_offset(&rows)
+}
+
+/// The extents that share a byte with `from..to`, ascending by their offsets.
+/// Both queries go by the primary key, so the time grows with the depth of its tree alone.
+pub(crate) fn touched_extents<S: Alter>(
+    alloc: Global,
+    connection: &mut Connection<S>,
+    from: u64,
+    to: u64,
+) -> Result<Vec<Extent>, StoreFault>
+    requires { (from < to) × (to ≤ 2 ^ 62) }
+    ensures held { HasCleanDisk (state S.Store connection.new) → (layout : Layout) (held : HeldMap) → Holds layout (state S.Store connection.old) held
+        → MatchResult result (λ extents. (extents.items ≡ filter (touches from to) (extents_of held)) × IsTrue (state S.Store connection.new).is_open) (λ fault. ¬ (IsForeign fault)) }
+    ensures asks { JustAsks (state S.Store connection.old) (state S.Store connection.new) }
+{
+    let start = last_start(connection, from)?;
+    let bounds = [integer(start), number(to), number(from)];
+    let rows = answer(connection, SELECT_TOUCHING, &bounds)?;
+    read_extents(alloc, &rows)
+}

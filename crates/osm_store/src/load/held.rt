@@ -1,0 +1,58 @@
+//! The elements of the held blobs, from the tables of either layout.
+
+ghost use Rattle.std.specs.Prelude.{◌≡◌, Some, filter, IsTrue, MatchResult};
+ghost use Rattle.std.specs.FinMap as map;
+ghost use Rattle.sqlite.specs.State.{HasCleanDisk};
+ghost use Rattle.sqlite.specs.Held.{state};
+ghost use Rattle.osm_store.specs.Load.Asking.{JustAsks};
+ghost use Rattle.osm_store.specs.Load.Finding.{AreMatches};
+ghost use Rattle.osm_store.specs.Held.{Blob, HeldMap};
+ghost use Rattle.osm_store.specs.LayoutHolding.{Holds};
+ghost use Rattle.osm_store.specs.Keeping.{IsForeign};
+ghost use Rattle.osm_store.specs.Load.Loading.{HasRowsOf};
+ghost use Rattle.osm_store.specs.Rows.{is_of, placed_in};
+
+use crate::fault::StoreFault;
+use crate::load::bodies::{find_rows, load_rows};
+use crate::load::found::Found;
+use crate::load::loaded::Loaded;
+use crate::load::tables::{find_elements, load_elements};
+use crate::schema::Layout;
+use osm_value::MemberKind;
+use sqlite::{Alter, Connection};
+use std::alloc::Global;
+
+/// The rows of the blob at this offset; none where no blob is held there.
+pub(crate) fn load_held<S: Alter>(
+    alloc: Global,
+    connection: &mut Connection<S>,
+    layout: Layout,
+    off: u64,
+) -> Result<Loaded, StoreFault>
+    ensures held { HasCleanDisk (state S.Store connection.new) → (held : HeldMap) → Holds layout (state S.Store connection.old) held
+        → MatchResult result (λ loaded. ((blob : Blob) → map.get held off ≡ Some blob → HasRowsOf loaded blob.elements) × IsTrue (state S.Store connection.new).is_open) (λ fault. ¬ (IsForeign fault)) }
+    ensures asks { JustAsks (state S.Store connection.old) (state S.Store connection.new) }
+{
+    match layout {
+        Layout::Blocks => load_rows(alloc, connection, off),
+        Layout::Columns => load_elements(alloc, connection, off),
+    }
+}
+
+/// The rows of all held elements of this kind and id, by offset and position.
+pub(crate) fn find_held<S: Alter>(
+    alloc: Global,
+    connection: &mut Connection<S>,
+    layout: Layout,
+    kind: MemberKind,
+    id: i64,
+) -> Result<Found, StoreFault>
+    ensures held { HasCleanDisk (state S.Store connection.new) → (held : HeldMap) → Holds layout (state S.Store connection.old) held
+        → MatchResult result (λ found. AreMatches found (filter (is_of kind id) (placed_in held)) × IsTrue (state S.Store connection.new).is_open) (λ fault. ¬ (IsForeign fault)) }
+    ensures asks { JustAsks (state S.Store connection.old) (state S.Store connection.new) }
+{
+    match layout {
+        Layout::Blocks => find_rows(alloc, connection, kind, id),
+        Layout::Columns => find_elements(alloc, connection, kind, id),
+    }
+}

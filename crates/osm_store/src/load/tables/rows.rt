@@ -1,0 +1,45 @@
+//! The rows of numbers and texts of one blob.
+
+ghost use Rattle.std.specs.Prelude.{◌<◌, ◌^◌, filter, IsTrue, MatchResult};
+ghost use Rattle.sqlite.specs.State.{HasCleanDisk};
+ghost use Rattle.sqlite.specs.Held.{state};
+ghost use Rattle.osm_store.specs.Load.Asking.{JustAsks};
+ghost use Rattle.osm_store.specs.Load.TableRows.{AreRowsOf};
+ghost use Rattle.osm_store.specs.Held.{HeldMap};
+ghost use Rattle.osm_store.specs.LayoutHolding.{Holds};
+ghost use Rattle.osm_store.specs.Keeping.{IsForeign};
+ghost use Rattle.osm_store.specs.Rows.{is_in, placed_in};
+
+use crate::fault::StoreFault;
+use crate::load::answer::{answer, number};
+use crate::schema::Layout;
+use crate::schema::sql::{SELECT_ELEMENTS, SELECT_LINKS, SELECT_TAGS};
+use sqlite::{Alter, Connection, Row};
+
+/// The rows of some elements, and those of their tags and links, by offset, position and number.
+#[derive(Debug, Drop)]
+pub(crate) struct ColumnRows {
+    pub(crate) elements: Vec<Row>,
+    pub(crate) tags: Vec<Row>,
+    pub(crate) links: Vec<Row>,
+}
+
+/// The rows of the blob at this offset; none where no blob is held there.
+pub(crate) fn load_columns<S: Alter>(
+    connection: &mut Connection<S>,
+    off: u64,
+) -> Result<ColumnRows, StoreFault>
+    requires { off < 2 ^ 62 }
+    ensures held { HasCleanDisk (state S.Store connection.new) → (held : HeldMap) → Holds Layout.Columns (state S.Store connection.old) held
+        → MatchResult result (λ rows. AreRowsOf rows (filter (is_in off) (placed_in held)) × IsTrue (state S.Store connection.new).is_open) (λ fault. ¬ (IsForeign fault)) }
+    ensures asks { JustAsks (state S.Store connection.old) (state S.Store connection.new) }
+{
+    let elements = answer(connection, SELECT_ELEMENTS, &[number(off)])?;
+    let tags = answer(connection, SELECT_TAGS, &[number(off)])?;
+    let links = answer(connection, SELECT_LINKS, &[number(off)])?;
+    Ok(ColumnRows {
+        elements,
+        tags,
+        links,
+    })
+}

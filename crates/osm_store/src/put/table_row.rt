@@ -1,0 +1,293 @@
+//! Rows of the tables of numbers and texts, and how they are written.
+
+ghost use Rattle.std.specs.Prelude.{◌≡◌, ℕ, ◌<◌, ◌≤◌, ◌++◌, List, map, flat_map, length, IsTrue, OnOk, IfErr};
+ghost use Rattle.sqlite.specs.Order.{Row};
+ghost use Rattle.sqlite.specs.Values.{bound};
+ghost use Rattle.sqlite.specs.State.{HasCleanDisk, KeepsCommit, Survives};
+ghost use Rattle.sqlite.specs.Held.{state};
+ghost use Rattle.osm_store.specs.Keeping.{IsForeign};
+ghost use Rattle.osm_store.specs.Put.Steps.{IsWriting, AddsRows};
+ghost use Rattle.osm_store.specs.Put.Batches.{rows_of, element_statement, tag_statement, link_statement};
+
+use crate::fault::StoreFault;
+use crate::put::element_code;
+use crate::schema::Layout;
+use crate::schema::sql::{
+    INSERT_ELEMENT, INSERT_ELEMENTS, INSERT_LINK, INSERT_LINKS, INSERT_TAG, INSERT_TAGS,
+};
+use osm_value::MemberKind;
+use sqlite::types::ValueRef;
+use sqlite::{Alter, Transaction, params};
+use std::alloc::Global;
+
+/// How many rows one statement writes.
+#[derive(Clone, Copy)]
+pub(crate) enum Batch {
+    One,
+    /// To run a statement costs more than to write a row, and 32 rows share that; the text is still short enough to be
+    /// proved within seconds.
+    ThirtyTwo,
+}
+
+impl Batch {
+    /// The largest that so many rows fill.
+    fn filled_by(rows: usize) -> Batch
+        requires { 0 < rows }
+        ensures { rows_of result ≤ rows }
+    {
+        if rows >= 32 {
+            Batch::ThirtyTwo
+        } else {
+            Batch::One
+        }
+    }
+
+    fn rows(self) -> usize
+        ensures { result ≡ rows_of self }
+    {
+        match self {
+            Batch::One => 1,
+            Batch::ThirtyTwo => 32,
+        }
+    }
+}
+
+/// A row of one of the tables of elements.
+pub(crate) trait TableRow {
+    /// The tree of its table.
+    ghost tree: { ℕ };
+
+    /// What it writes there, without the rowid, which `sqlite` chooses.
+    ghost columns: { Self → Row };
+
+    /// Adds what it writes to the parameters of a statement.
+    fn push_values<'v>(&'v self, values: &mut Vec<ValueRef<'v>>) -> Result<(), StoreFault>
+        ensures pushed { OnOk result (bound values.new.items ≡ bound values.old.items ++ columns self.now) }
+        ensures ours { IfErr result (λ fault. ¬ (IsForeign fault)) };
+
+    /// Adds as many rows as the batch has, whose values are the parameters. It is called on any of them: an `impl` takes
+    /// the clauses of a trait over only for a method with a receiver.
+    fn insert<S: Alter>(
+        &self,
+        transaction: &mut Transaction<'_, S>,
+        batch: Batch,
+        values: &[ValueRef<'_>],
+    ) -> Result<(), StoreFault>
+        ensures same_reference { transaction.new.conn.ghost_name ≡ transaction.old.conn.ghost_name }
+        ensures added { HasCleanDisk (state S.Store transaction.new.conn.now) → IsWriting Layout.Columns (state S.Store transaction.old.conn.now)
+            → OnOk result ((rows : List Self) → length rows ≡ rows_of batch → bound values.now ≡ flat_map columns rows → AddsRows Layout.Columns tree (state S.Store transaction.old.conn.now) (state S.Store transaction.new.conn.now) (map columns rows)) }
+        ensures inside { HasCleanDisk (state S.Store transaction.new.conn.now) → IsTrue (state S.Store transaction.old.conn.now).in_transaction → OnOk result (IsTrue (state S.Store transaction.new.conn.now).in_transaction) }
+        ensures kept { HasCleanDisk (state S.Store transaction.new.conn.now) → KeepsCommit (state S.Store transaction.old.conn.now) (state S.Store transaction.new.conn.now) }
+        ensures ours { IfErr result (λ fault. ¬ (IsForeign fault)) }
+        ensures survives { Survives (state S.Store transaction.old.conn.now) (state S.Store transaction.new.conn.now) (λ _. ⊥) };
+}
+
+/// A row of the table `element`. What is absent is None.
+#[derive(Drop)]
+pub(crate) struct ElementRow<'a> {
+    pub(crate) off: i64,
+    pub(crate) position: i64,
+    pub(crate) kind: MemberKind,
+    pub(crate) id: i64,
+    pub(crate) lat: Option<i64>,
+    pub(crate) lon: Option<i64>,
+    pub(crate) version: Option<i32>,
+    pub(crate) time: Option<i64>,
+    pub(crate) changeset: Option<i64>,
+    pub(crate) uid: Option<i32>,
+    pub(crate) user: Option<&'a str>,
+    pub(crate) visible: Option<bool>,
+}
+
+/// A row of the table `tag`; `number` counts the tags of the element.
+#[derive(Drop)]
+pub(crate) struct TagRow<'a> {
+    pub(crate) off: i64,
+    pub(crate) position: i64,
+    pub(crate) number: i64,
+    pub(crate) key: &'a str,
+    pub(crate) val: &'a str,
+}
+
+/// A row of the table `link`: a node of a way, or a member of a relation; `number` counts those of the element.
+#[derive(Drop)]
+pub(crate) struct LinkRow<'a> {
+    pub(crate) off: i64,
+    pub(crate) position: i64,
+    pub(crate) number: i64,
+    pub(crate) kind: MemberKind,
+    pub(crate) id: i64,
+    pub(crate) role: &'a str,
+}
+
+fn element_statement(batch: Batch) -> &'static str
+    ensures { result.now ≡ element_statement batch }
+{
+    match batch {
+        Batch::One => INSERT_ELEMENT,
+        Batch::ThirtyTwo => INSERT_ELEMENTS,
+    }
+}
+
+impl<'a> TableRow for ElementRow<'a> {
+    ghost use Rattle.osm_store.specs.Put.WrittenRows.{element_columns};
+
+    ghost tree = { 2 };
+
+    ghost columns = { element_columns };
+
+    fn push_values<'v>(&'v self, values: &mut Vec<ValueRef<'v>>) -> Result<(), StoreFault> {
+        values.extend_from_slice(params![
+            self.off,
+            self.position,
+            element_code(self.kind),
+            self.id,
+            self.lat,
+            self.lon,
+            self.version,
+            self.time,
+            self.changeset,
+            self.uid,
+            self.user,
+            self.visible,
+        ])?;
+        Ok(())
+    }
+
+    fn insert<S: Alter>(
+        &self,
+        transaction: &mut Transaction<'_, S>,
+        batch: Batch,
+        values: &[ValueRef<'_>],
+    ) -> Result<(), StoreFault> {
+        transaction.execute(element_statement(batch), values)?;
+        Ok(())
+    }
+}
+
+fn tag_statement(batch: Batch) -> &'static str
+    ensures { result.now ≡ tag_statement batch }
+{
+    match batch {
+        Batch::One => INSERT_TAG,
+        Batch::ThirtyTwo => INSERT_TAGS,
+    }
+}
+
+impl<'a> TableRow for TagRow<'a> {
+    ghost use Rattle.osm_store.specs.Put.WrittenRows.{tag_columns};
+
+    ghost tree = { 4 };
+
+    ghost columns = { tag_columns };
+
+    fn push_values<'v>(&'v self, values: &mut Vec<ValueRef<'v>>) -> Result<(), StoreFault> {
+        values.extend_from_slice(params![
+            self.off,
+            self.position,
+            self.number,
+            self.key,
+            self.val,
+        ])?;
+        Ok(())
+    }
+
+    fn insert<S: Alter>(
+        &self,
+        transaction: &mut Transaction<'_, S>,
+        batch: Batch,
+        values: &[ValueRef<'_>],
+    ) -> Result<(), StoreFault> {
+        transaction.execute(tag_statement(batch), values)?;
+        Ok(())
+    }
+}
+
+fn link_statement(batch: Batch) -> &'static str
+    ensures { result.now ≡ link_statement batch }
+{
+    match batch {
+        Batch::One => INSERT_LINK,
+        Batch::ThirtyTwo => INSERT_LINKS,
+    }
+}
+
+impl<'a> TableRow for LinkRow<'a> {
+    ghost use Rattle.osm_store.specs.Put.WrittenRows.{link_columns};
+
+    ghost tree = { 6 };
+
+    ghost columns = { link_columns };
+
+    fn push_values<'v>(&'v self, values: &mut Vec<ValueRef<'v>>) -> Result<(), StoreFault> {
+        values.extend_from_slice(params![
+            self.off,
+            self.position,
+            self.number,
+            element_code(self.kind),
+            self.id,
+            self.role,
+        ])?;
+        Ok(())
+    }
+
+    fn insert<S: Alter>(
+        &self,
+        transaction: &mut Transaction<'_, S>,
+        batch: Batch,
+        values: &[ValueRef<'_>],
+    ) -> Result<(), StoreFault> {
+        transaction.execute(link_statement(batch), values)?;
+        Ok(())
+    }
+}
+
+/// Adds as many rows as the batch has.
+fn add_batch<S: Alter, R: TableRow>(
+    alloc: Global,
+    transaction: &mut Transaction<'_, S>,
+    batch: Batch,
+    rows: &[R],
+) -> Result<(), StoreFault>
+    requires { length rows.now ≡ rows_of batch }
+    ensures same_reference { transaction.new.conn.ghost_name ≡ transaction.old.conn.ghost_name }
+    ensures added { HasCleanDisk (state S.Store transaction.new.conn.now) → IsWriting Layout.Columns (state S.Store transaction.old.conn.now)
+        → OnOk result (AddsRows Layout.Columns R.tree (state S.Store transaction.old.conn.now) (state S.Store transaction.new.conn.now) (map R.columns rows.now)) }
+    ensures inside { HasCleanDisk (state S.Store transaction.new.conn.now) → IsTrue (state S.Store transaction.old.conn.now).in_transaction → OnOk result (IsTrue (state S.Store transaction.new.conn.now).in_transaction) }
+    ensures kept { HasCleanDisk (state S.Store transaction.new.conn.now) → KeepsCommit (state S.Store transaction.old.conn.now) (state S.Store transaction.new.conn.now) }
+    ensures ours { IfErr result (λ fault. ¬ (IsForeign fault)) }
+    ensures survives { Survives (state S.Store transaction.old.conn.now) (state S.Store transaction.new.conn.now) (λ _. ⊥) }
+{
+    let mut values = Vec::new(alloc);
+    for row in rows {
+        row.push_values(&mut values)?;
+    }
+    match rows.first() {
+        Some(row) => row.insert(transaction, batch, &values),
+        None => Ok(()),
+    }
+}
+
+/// Adds all rows of a table.
+pub(crate) fn add_rows<S: Alter, R: TableRow>(
+    alloc: Global,
+    transaction: &mut Transaction<'_, S>,
+    rows: &[R],
+) -> Result<(), StoreFault>
+    ensures same_reference { transaction.new.conn.ghost_name ≡ transaction.old.conn.ghost_name }
+    ensures added { HasCleanDisk (state S.Store transaction.new.conn.now) → IsWriting Layout.Columns (state S.Store transaction.old.conn.now)
+        → OnOk result (AddsRows Layout.Columns R.tree (state S.Store transaction.old.conn.now) (state S.Store transaction.new.conn.now) (map R.columns rows.now)) }
+    ensures inside { HasCleanDisk (state S.Store transaction.new.conn.now) → IsTrue (state S.Store transaction.old.conn.now).in_transaction → OnOk result (IsTrue (state S.Store transaction.new.conn.now).in_transaction) }
+    ensures kept { HasCleanDisk (state S.Store transaction.new.conn.now) → KeepsCommit (state S.Store transaction.old.conn.now) (state S.Store transaction.new.conn.now) }
+    ensures ours { IfErr result (λ fault. ¬ (IsForeign fault)) }
+    ensures survives { Survives (state S.Store transaction.old.conn.now) (state S.Store transaction.new.conn.now) (λ _. ⊥) }
+{
+    let mut rest = rows;
+    while !rest.is_empty() {
+        let batch = Batch::filled_by(rest.len());
+        let (chunk, after) = rest.split_at(batch.rows());
+        add_batch(alloc, transaction, batch, chunk)?;
+        rest = after;
+    }
+    Ok(())
+}

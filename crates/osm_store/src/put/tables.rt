@@ -1,0 +1,280 @@
+//! The rows of numbers and texts that the elements of a blob stand for.
+
+ghost use Rattle.std.specs.Prelude.{◌≡◌, ◌++◌, ◌≤◌, ◌^◌, pos, List, map, IsTrue, OnOk, IfOk, IfErr};
+ghost use Rattle.std.specs.List.{AllByRecursion};
+ghost use Rattle.sqlite.specs.State.{HasCleanDisk, KeepsCommit, Survives};
+ghost use Rattle.sqlite.specs.Held.{state};
+ghost use Rattle.osm_store.specs.Keeping.{IsForeign};
+ghost use Rattle.osm_value.specs.Elements.{tags_of_element};
+ghost use Rattle.osm_store.specs.Rows.{Placed, placed, CanStore};
+ghost use Rattle.osm_store.specs.TableRows.{lat_of, lon_of, links_of, node_link, parts, element_row, tag_row, link_row, element_rows, tag_rows, link_rows};
+ghost use Rattle.osm_store.specs.Put.WrittenRows.{element_columns, tag_columns, link_columns};
+ghost use Rattle.osm_store.specs.Put.Steps.{IsWriting, AddsElements, AddsRows};
+
+use crate::fault::StoreFault;
+use crate::put::table_row::{ElementRow, LinkRow, TagRow, add_rows};
+use crate::schema::Layout;
+use osm_value::laws::elements_in_range;
+use osm_value::{Element, Member, MemberKind};
+use sqlite::{Alter, Transaction};
+use std::alloc::{AllocError, Global};
+
+/// A number as `sqlite` keeps it.
+fn signed(number: u64) -> i64
+    requires { number ≤ 2 ^ 62 }
+    ensures { result ≡ pos number }
+{
+    number as i64
+}
+
+fn lat_of(element: &Element) -> Option<i64>
+    ensures { result ≡ lat_of element.now }
+{
+    match element {
+        Element::Node(node) => Some(node.lat()),
+        Element::Way(_) | Element::Relation(_) => None,
+    }
+}
+
+fn lon_of(element: &Element) -> Option<i64>
+    ensures { result ≡ lon_of element.now }
+{
+    match element {
+        Element::Node(node) => Some(node.lon()),
+        Element::Way(_) | Element::Relation(_) => None,
+    }
+}
+
+fn element_row<'a>(off: u64, position: u64, element: &Element<'a>) -> ElementRow<'a>
+    requires bounds { (off ≤ 2 ^ 62) × (position ≤ 2 ^ 62) }
+    ensures { element_columns result ≡ element_row (off, position, element.now) }
+{
+    let info = element.info();
+    ElementRow {
+        off: signed(off),
+        position: signed(position),
+        kind: element.kind(),
+        id: element.id(),
+        lat: lat_of(element),
+        lon: lon_of(element),
+        version: info.version(),
+        time: info.time(),
+        changeset: info.changeset(),
+        uid: info.uid(),
+        user: info.user(),
+        visible: info.visible(),
+    }
+}
+
+/// The rows of the table `element`.
+fn element_rows<'a>(
+    alloc: Global,
+    off: u64,
+    elements: &[Element<'a>],
+) -> Result<Vec<ElementRow<'a>>, AllocError>
+    requires bounds { off ≤ 2 ^ 62 }
+    ensures { IfOk result (λ rows. map element_columns rows.items ≡ element_rows (placed off 0 elements.now)) }
+{
+    let mut rows = Vec::new(alloc);
+    for (position, element) in elements.iter().enumerate() {
+        rows.push(element_row(off, position as u64, element))?;
+    }
+    Ok(rows)
+}
+
+fn tag_row<'a>(off: u64, position: u64, number: u64, tag: &(&'a str, &'a str)) -> TagRow<'a>
+    requires bounds { (off ≤ 2 ^ 62) × (position ≤ 2 ^ 62) × (number ≤ 2 ^ 62) }
+    ensures { tag_columns result ≡ tag_row (record { off = off; position = position; number = number; item = (tag.now.0.now, tag.now.1.now) }) }
+{
+    TagRow {
+        off: signed(off),
+        position: signed(position),
+        number: signed(number),
+        key: tag.0,
+        val: tag.1,
+    }
+}
+
+/// Adds the rows of tags.
+fn push_pairs<'a>(
+    rows: &mut Vec<TagRow<'a>>,
+    off: u64,
+    position: u64,
+    tags: &[(&'a str, &'a str)],
+) -> Result<(), AllocError>
+    requires bounds { (off ≤ 2 ^ 62) × (position ≤ 2 ^ 62) }
+    ensures { OnOk result (map tag_columns rows.new.items ≡ map tag_columns rows.old.items ++ map tag_row (parts off position 0 (map (λ t. (t.0.now, t.1.now)) tags.now))) }
+{
+    for (number, tag) in tags.iter().enumerate() {
+        rows.push(tag_row(off, position, number as u64, tag))?;
+    }
+    Ok(())
+}
+
+/// Adds the rows of one element's tags.
+fn push_tags<'a>(
+    rows: &mut Vec<TagRow<'a>>,
+    off: u64,
+    position: u64,
+    element: &Element<'a>,
+) -> Result<(), AllocError>
+    requires bounds { (off ≤ 2 ^ 62) × (position ≤ 2 ^ 62) }
+    ensures { OnOk result (map tag_columns rows.new.items ≡ map tag_columns rows.old.items ++ map tag_row (parts off position 0 (tags_of_element element.now))) }
+{
+    push_pairs(rows, off, position, element.tags())
+}
+
+/// The rows of the table `tag`.
+fn tag_rows<'a>(
+    alloc: Global,
+    off: u64,
+    elements: &[Element<'a>],
+) -> Result<Vec<TagRow<'a>>, AllocError>
+    requires bounds { off ≤ 2 ^ 62 }
+    ensures { IfOk result (λ rows. map tag_columns rows.items ≡ tag_rows (placed off 0 elements.now)) }
+{
+    let mut rows = Vec::new(alloc);
+    for (position, element) in elements.iter().enumerate() {
+        push_tags(&mut rows, off, position as u64, element)?;
+    }
+    Ok(rows)
+}
+
+fn node_row<'a>(off: u64, position: u64, number: u64, node: &i64) -> LinkRow<'a>
+    requires bounds { (off ≤ 2 ^ 62) × (position ≤ 2 ^ 62) × (number ≤ 2 ^ 62) }
+    ensures { link_columns result ≡ link_row (record { off = off; position = position; number = number; item = node_link node.now }) }
+{
+    LinkRow {
+        off: signed(off),
+        position: signed(position),
+        number: signed(number),
+        kind: MemberKind::Node,
+        id: *node,
+        role: "",
+    }
+}
+
+fn member_row<'a>(off: u64, position: u64, number: u64, member: &Member<'a>) -> LinkRow<'a>
+    requires bounds { (off ≤ 2 ^ 62) × (position ≤ 2 ^ 62) × (number ≤ 2 ^ 62) }
+    ensures { link_columns result ≡ link_row (record { off = off; position = position; number = number; item = member.now }) }
+{
+    LinkRow {
+        off: signed(off),
+        position: signed(position),
+        number: signed(number),
+        kind: member.kind(),
+        id: member.id(),
+        role: member.role(),
+    }
+}
+
+/// Adds the rows of one way's nodes.
+fn push_nodes<'a>(
+    rows: &mut Vec<LinkRow<'a>>,
+    off: u64,
+    position: u64,
+    refs: &[i64],
+) -> Result<(), AllocError>
+    requires bounds { (off ≤ 2 ^ 62) × (position ≤ 2 ^ 62) }
+    ensures { OnOk result (map link_columns rows.new.items ≡ map link_columns rows.old.items ++ map link_row (parts off position 0 (map node_link refs.now))) }
+{
+    for (number, node) in refs.iter().enumerate() {
+        rows.push(node_row(off, position, number as u64, node))?;
+    }
+    Ok(())
+}
+
+/// Adds the rows of one relation's members.
+fn push_members<'a>(
+    rows: &mut Vec<LinkRow<'a>>,
+    off: u64,
+    position: u64,
+    members: &[Member<'a>],
+) -> Result<(), AllocError>
+    requires bounds { (off ≤ 2 ^ 62) × (position ≤ 2 ^ 62) }
+    ensures { OnOk result (map link_columns rows.new.items ≡ map link_columns rows.old.items ++ map link_row (parts off position 0 members.now)) }
+{
+    for (number, member) in members.iter().enumerate() {
+        rows.push(member_row(off, position, number as u64, member))?;
+    }
+    Ok(())
+}
+
+/// Adds the rows of what one element refers to.
+fn push_links<'a>(
+    rows: &mut Vec<LinkRow<'a>>,
+    off: u64,
+    position: u64,
+    element: &Element<'a>,
+) -> Result<(), AllocError>
+    requires bounds { (off ≤ 2 ^ 62) × (position ≤ 2 ^ 62) }
+    ensures { OnOk result (map link_columns rows.new.items ≡ map link_columns rows.old.items ++ map link_row (parts off position 0 (links_of element.now))) }
+{
+    match element {
+        Element::Node(_) => Ok(()),
+        Element::Way(way) => push_nodes(rows, off, position, way.refs()),
+        Element::Relation(relation) => push_members(rows, off, position, relation.members()),
+    }
+}
+
+/// The rows of the table `link`.
+fn link_rows<'a>(
+    alloc: Global,
+    off: u64,
+    elements: &[Element<'a>],
+) -> Result<Vec<LinkRow<'a>>, AllocError>
+    requires bounds { off ≤ 2 ^ 62 }
+    ensures { IfOk result (λ rows. map link_columns rows.items ≡ link_rows (placed off 0 elements.now)) }
+{
+    let mut rows = Vec::new(alloc);
+    for (position, element) in elements.iter().enumerate() {
+        push_links(&mut rows, off, position as u64, element)?;
+    }
+    Ok(rows)
+}
+
+/// Writes the rows of elements, each table in turn.
+fn write_columns<S: Alter>(
+    alloc: Global,
+    transaction: &mut Transaction<'_, S>,
+    elements: &[ElementRow<'_>],
+    tags: &[TagRow<'_>],
+    links: &[LinkRow<'_>],
+) -> Result<(), StoreFault>
+    ensures same_reference { transaction.new.conn.ghost_name ≡ transaction.old.conn.ghost_name }
+    ensures added { HasCleanDisk (state S.Store transaction.new.conn.now) → IsWriting Layout.Columns (state S.Store transaction.old.conn.now)
+        → OnOk result ((placed : List Placed) → map element_columns elements.now ≡ element_rows placed → map tag_columns tags.now ≡ tag_rows placed → map link_columns links.now ≡ link_rows placed
+        → AddsElements Layout.Columns (state S.Store transaction.old.conn.now) (state S.Store transaction.new.conn.now) placed) }
+    ensures inside { HasCleanDisk (state S.Store transaction.new.conn.now) → IsTrue (state S.Store transaction.old.conn.now).in_transaction → OnOk result (IsTrue (state S.Store transaction.new.conn.now).in_transaction) }
+    ensures kept { HasCleanDisk (state S.Store transaction.new.conn.now) → KeepsCommit (state S.Store transaction.old.conn.now) (state S.Store transaction.new.conn.now) }
+    ensures ours { IfErr result (λ fault. ¬ (IsForeign fault)) }
+    ensures survives { Survives (state S.Store transaction.old.conn.now) (state S.Store transaction.new.conn.now) (λ _. ⊥) }
+{
+    add_rows(alloc, transaction, elements)?;
+    add_rows(alloc, transaction, tags)?;
+    add_rows(alloc, transaction, links)
+}
+
+/// The elements of a blob, each with its tags and its links: first all rows are made, then they are written.
+pub(crate) fn add_columns<S: Alter>(
+    alloc: Global,
+    transaction: &mut Transaction<'_, S>,
+    off: u64,
+    elements: &[Element],
+) -> Result<(), StoreFault>
+    requires bounds { off ≤ 2 ^ 62 }
+    ensures same_reference { transaction.new.conn.ghost_name ≡ transaction.old.conn.ghost_name }
+    ensures added { HasCleanDisk (state S.Store transaction.new.conn.now) → IsWriting Layout.Columns (state S.Store transaction.old.conn.now)
+        → OnOk result (AddsElements Layout.Columns (state S.Store transaction.old.conn.now) (state S.Store transaction.new.conn.now) (placed off 0 elements.now)) }
+    ensures can_store { OnOk result (AllByRecursion (CanStore Layout.Columns) elements.now) }
+    ensures inside { HasCleanDisk (state S.Store transaction.new.conn.now) → IsTrue (state S.Store transaction.old.conn.now).in_transaction → OnOk result (IsTrue (state S.Store transaction.new.conn.now).in_transaction) }
+    ensures kept { HasCleanDisk (state S.Store transaction.new.conn.now) → KeepsCommit (state S.Store transaction.old.conn.now) (state S.Store transaction.new.conn.now) }
+    ensures ours { IfErr result (λ fault. ¬ (IsForeign fault)) }
+    ensures survives { Survives (state S.Store transaction.old.conn.now) (state S.Store transaction.new.conn.now) (λ _. ⊥) }
+{
+    elements_in_range(elements);
+    let element_rows = element_rows(alloc, off, elements)?;
+    let tag_rows = tag_rows(alloc, off, elements)?;
+    let link_rows = link_rows(alloc, off, elements)?;
+    write_columns(alloc, transaction, &element_rows, &tag_rows, &link_rows)
+}

@@ -1,0 +1,11 @@
+//! The tables of a store: their two layouts, every statement on them, and how they are made and known again.
+
+mod create;
+mod layout;
+mod opening;
+pub(crate) mod sql;
+mod version;
+
+pub(crate) use layout::Layout;
+pub use layout::{Bodies, StoreLayout, Tables};
+pub(crate) use opening::{adopt_store, create_store, failures_after};
