@@ -9,7 +9,7 @@ use Rattle.sqlite.specs.State.{State, HasCleanDisk}
 use Rattle.sqlite_catalog.specs.Listing.{IsSound}
 use Rattle.osm_store.specs.declared.keeper.Extent.{Extent}
 use Rattle.osm_store.specs.declared.schema.layout.Layout.{Layout}
-use Rattle.osm_store.specs.declared.schema.layout.Layout.TheVariants.{Blocks, Columns}
+use Rattle.osm_store.specs.declared.schema.layout.Layout.TheVariants.{Bodies, Tables}
 use Rattle.osm_store.specs.Held.{Blob, HeldMap, HaveFewTexts, IsApart}
 use Rattle.osm_store.specs.Keeping.{extents_of, IsRange}
 use Rattle.osm_store.specs.Rows.{Placed, CanStore, placed_in, version_row, extent_row, body_row}
@@ -37,8 +37,8 @@ HasRows rows table = IsPermutation rows (map (drop 1) table)
 
 -- the tables of elements have exactly the rows that these elements stand for
 abbrev pub HoldElements : Layout → List Placed → Trees → Type 0
-HoldElements Blocks elements db = HasRows (map body_row elements) (db 2)
-HoldElements Columns elements db = HasRows (element_rows elements) (db 2) × HasRows (tag_rows elements) (db 4) × HasRows (link_rows elements) (db 6)
+HoldElements Bodies elements db = HasRows (map body_row elements) (db 2)
+HoldElements Tables elements db = HasRows (element_rows elements) (db 2) × HasRows (tag_rows elements) (db 4) × HasRows (link_rows elements) (db 6)
 
 -- the tables have exactly the rows that the map stands for
 pub record TablesHold (layout : Layout) (held : HeldMap) (db : Trees) : Type 0 where

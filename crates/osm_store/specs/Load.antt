@@ -3,7 +3,7 @@ pub mod Loading
 pub mod TableQueries
 pub mod TableElements
 pub mod TableParts
-pub mod TableRows
+pub mod TableAnswers
 pub mod Asking
 pub mod Selects
 pub mod Finding

@@ -13,7 +13,7 @@ use Rattle.pbf_frame.specs.declared.kind.Kind.{Kind}
 use Rattle.pbf_frame.specs.declared.kind.Kind.TheVariants.{OsmHeader, OsmData, Other}
 use Rattle.osm_store.specs.declared.keeper.Extent.{Extent}
 use Rattle.osm_store.specs.declared.schema.layout.Layout.{Layout}
-use Rattle.osm_store.specs.declared.schema.layout.Layout.TheVariants.{Blocks, Columns}
+use Rattle.osm_store.specs.declared.schema.layout.Layout.TheVariants.{Bodies, Tables}
 use Rattle.osm_store.specs.Held.{Blob, HeldMap, HasFewTexts}
 use Rattle.osm_store.specs.Schema.Layouts.{version_of}
 
@@ -64,8 +64,8 @@ abbrev pub extent_columns : Extent → Row
 extent_columns e = Int (pos e.off) ∷ Int (pos e.fin) ∷ Octets e.digest ∷ Int (pos (blob_code e.kind)) ∷ Int (pos e.n) ∷ []
 
 -- what a query on one blob shows of an element, and what one on all blobs shows
-abbrev pub block_row : Element → Row
-block_row e = Octets (canon (e ∷ [])) ∷ []
+abbrev pub data_row : Element → Row
+data_row e = Octets (canon (e ∷ [])) ∷ []
 
 abbrev pub found_row : Placed → Row
 found_row p = Int (pos p.0) ∷ Int (pos p.1) ∷ Octets (canon (p.2 ∷ [])) ∷ []
@@ -83,10 +83,10 @@ pub record HasBlock (e : Element) : Type 0 where
   pub in_range : IsElement e
   pub short : length (canon (e ∷ [])) < 2 ^ 64
 
--- what is known of an element that is kept as a block, and of one that is kept as columns
+-- what is known of an element that is kept as a body, and of one that is kept in tables
 abbrev pub CanStore : Layout → Element → Type 0
-CanStore Blocks e = HasBlock e
-CanStore Columns e = IsElement e
+CanStore Bodies e = HasBlock e
+CanStore Tables e = IsElement e
 
 -- what is known of each stored element
 abbrev pub IsStored : Layout → Element → Type 0

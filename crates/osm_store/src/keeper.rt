@@ -1,7 +1,7 @@
 //! What is asked of a store.
-ghost use Rattle.std.specs.Prelude.{◌≡◌, ◌⊎◌, ℕ, ◌^◌, ◌<◌, ◌≤◌, Some, OnOk, OnErr, IfOk, All, filter, length};
+ghost use Rattle.std.specs.Prelude.{◌≡◌, ℕ, ◌^◌, ◌<◌, ◌≤◌, Some, IfOk, All, filter};
 ghost use Rattle.std.specs.FinMap as map;
-ghost use Rattle.osm_store.specs.Held.{Blob, HeldMap, IsFree, IsApart, HaveFewTexts};
+ghost use Rattle.osm_store.specs.Held.{Blob, HeldMap, IsApart, HaveFewTexts};
 ghost use Rattle.osm_store.specs.Load.Loading.{HasRowsOf};
 ghost use Rattle.osm_store.specs.Load.Finding.{AreMatches};
 ghost use Rattle.osm_store.specs.Keeping.{extents_of, touches, IsRange, OnlyReads, Adds};
@@ -27,6 +27,9 @@ pub struct Extent {
     /// The number of its elements.
     pub n: u64,
 }
+
+/// No held blob starts here or later, or ends later.
+pub(crate) const OFFSET_LIMIT: u64 = 1 << 62;
 
 /// What is read of a store of blobs, which stands for a finite map from offsets.
 pub trait Reader {

@@ -7,6 +7,7 @@ mod found;
 mod held;
 mod loaded;
 mod tables;
+mod values;
 
 pub(crate) use answer::ask;
 pub(crate) use extents::{all_extents, touched_extents};

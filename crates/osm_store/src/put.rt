@@ -1,7 +1,8 @@
 //! One blob more, with its elements: in one transaction, all of it or nothing.
 
+mod bodies;
 mod table_row;
 mod tables;
 mod transaction;
 
-pub(crate) use transaction::{element_code, put_rows};
+pub(crate) use transaction::put_rows;

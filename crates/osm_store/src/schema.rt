@@ -1,5 +1,6 @@
 //! The tables of a store: their two layouts, every statement on them, and how they are made and known again.
 
+pub(crate) mod codes;
 mod create;
 mod layout;
 mod opening;

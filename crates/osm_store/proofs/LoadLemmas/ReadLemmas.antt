@@ -29,12 +29,12 @@ use Rattle.std.proofs.lemmas.Bool.Decides.{nat_tests}
 use Rattle.osm_value.specs.declared.element.MemberKind.{MemberKind}
 use Rattle.osm_store.specs.declared.keeper.Extent.{Extent}
 use Rattle.osm_store.specs.declared.schema.layout.Layout.{Layout}
-use Rattle.osm_store.specs.declared.schema.layout.Layout.TheVariants.{Blocks, Columns}
+use Rattle.osm_store.specs.declared.schema.layout.Layout.TheVariants.{Bodies, Tables}
 use Rattle.osm_store.specs.Schema.Layouts.{schema_of}
 use Rattle.osm_store.specs.Keeping.{touches}
-use Rattle.osm_store.specs.Schema.Bodies.{store_schema, select_version_text, select_extents_text, select_last_start_text, select_touching_text, select_rows_text, select_element_text}
+use Rattle.osm_store.specs.Schema.Bodies.{body_schema, select_version_text, select_extents_text, select_last_start_text, select_touching_text, select_bodies_text, find_bodies_text}
 use Rattle.osm_value.specs.Elements.{kind_of_element, id_of_element}
-use Rattle.osm_store.specs.Rows.{Placed, body_row, extent_columns as shown_extent, block_row, found_row, element_code, is_in, is_of}
+use Rattle.osm_store.specs.Rows.{Placed, body_row, extent_columns as shown_extent, data_row, found_row, element_code, is_in, is_of}
 use Rattle.osm_store.specs.Load.Selects.{selects}
 use Rattle.osm_store.proofs.LoadLemmas.CauseLemmas.{IsCause, takes, query_causes}
 use Rattle.osm_store.proofs.LoadLemmas.OneTable.{select, orders, answer_is}
@@ -55,7 +55,7 @@ pub record HasExtents (layout : Layout) (db : Database) (held : List Extent) : T
 
 -- the table `body` has the rows of these elements, which ascend; its rowid means nothing
 pub record HasElements (db : Database) (held : List Placed) : Type 0 where
-  pub schema : db.schema ≡ store_schema
+  pub schema : db.schema ≡ body_schema
   pub rows : IsPermutation (map (columns_at (1 ∷ 2 ∷ 3 ∷ 4 ∷ 5 ∷ [])) (db.trees 2)) (map body_row held)
   pub ascending : IsAscending IsBefore held
 
@@ -164,20 +164,20 @@ abbrev found_output : Row → Output
 found_output v = (column v 0 ∷ column v 1 ∷ [], column v 0 ∷ column v 1 ∷ column v 4 ∷ [])
 
 module _ (old new : State) (rows : List Row) (held : List Placed) (h : HasElements old.now held) where
-  pub element_read : (kind : MemberKind) (id : ℤ) → Shown select_element_text (Int (pos (element_code kind)) ∷ Int id ∷ []) old new rows → rows ≡ map found_row (filter (is_of kind id) held)
+  pub element_read : (kind : MemberKind) (id : ℤ) → Shown find_bodies_text (Int (pos (element_code kind)) ∷ Int id ∷ []) old new rows → rows ≡ map found_row (filter (is_of kind id) held)
   element_read kind id shown =
       let params = Int (pos (element_code kind)) ∷ Int id ∷ [] in
-      let read = reads_as select_element_text params old new store_schema h.schema _ element_is.0 element_is.2 element_is.1 rows shown in
+      let read = reads_as find_bodies_text params old new body_schema h.schema _ element_is.0 element_is.2 element_is.1 rows shown in
       answer_is 2 (compares Eq (col 1 3) (col 0 0) ∷ compares Eq (col 1 4) (col 0 1) ∷ []) (col 1 1 ∷ col 1 2 ∷ col 1 5 ∷ []) (col 1 1 ∷ col 1 2 ∷ []) (overlay old.now.trees []) params rows
       (columns_at (1 ∷ 2 ∷ 3 ∷ 4 ∷ 5 ∷ [])) body_row held h.rows
       (λ v. is Eq (column v 2) (Int (pos (element_code kind))) && (is Eq (column v 3) (Int id) && true)) (λ r. refl) found_output (λ r. refl)
       (is_of kind id) (λ x. rw (same_number (element_code (kind_of_element x.2)) (element_code kind), same_int (id_of_element x.2) id) (and_true (element_code (kind_of_element x.2) == element_code kind) _))
       (ascending-filter _ (is_of kind id) held (ascending_weaker _ _ in_order held h.ascending)) (read.answer Null)
 
-  pub rows_read : (off : ℕ) → Shown select_rows_text (Int (pos off) ∷ []) old new rows → rows ≡ map (λ p. block_row p.2) (filter (is_in off) held)
+  pub rows_read : (off : ℕ) → Shown select_bodies_text (Int (pos off) ∷ []) old new rows → rows ≡ map (λ p. data_row p.2) (filter (is_in off) held)
   rows_read off shown =
       let params = Int (pos off) ∷ [] in
-      let read = reads_as select_rows_text params old new store_schema h.schema _ rows_are.0 rows_are.2 rows_are.1 rows shown in
+      let read = reads_as select_bodies_text params old new body_schema h.schema _ rows_are.0 rows_are.2 rows_are.1 rows shown in
       answer_is 2 (compares Eq (col 1 1) (col 0 0) ∷ []) (col 1 5 ∷ []) (col 1 2 ∷ []) (overlay old.now.trees []) params rows
       (columns_at (1 ∷ 2 ∷ 3 ∷ 4 ∷ 5 ∷ [])) body_row held h.rows
       (λ v. is Eq (column v 0) (Int (pos off)) && true) (λ r. refl) row_output (λ r. refl)
@@ -195,12 +195,12 @@ version_read layout old new rows version h shown =
 
 version_takes : (layout : Layout) → takes (understood (schema_of layout) select_version_text) (length select_version_text) 0 ≡ true
 unfolding understood everything
-version_takes Blocks = refl
-version_takes Columns = refl
+version_takes Bodies = refl
+version_takes Tables = refl
 
 version_typed : (layout : Layout) → accepts_program (schema_of layout) [] (select 0 [] (col 1 0 ∷ []) []) [] ≡ true
-version_typed Blocks = refl
-version_typed Columns = refl
+version_typed Bodies = refl
+version_typed Tables = refl
 
 version_selects : selects select_version_text ≡ true
 unfolding everything

@@ -1,4 +1,4 @@
--- What a search for the elements of one kind and id reads of the tables of numbers and texts.
+-- What a search for the elements of one kind and id reads of the layout of tables.
 use Rattle.std.proofs.Common.{◌≡◌, inl, inr, true, false, List, [], ◌∷◌, ◌++◌, map, refl, sym, ap, ap₂, ◌∙◌, append-nil, arith}
 use Rattle.std.specs.Prelude.{flat_map, filter}
 use Rattle.std.specs.List.{AllByRecursion}

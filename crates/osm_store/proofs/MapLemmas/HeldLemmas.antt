@@ -17,9 +17,9 @@ use Rattle.osm_store.specs.Held.{Blob, HeldMap}
 use Rattle.osm_store.specs.Keeping.{extent_of, extents_of}
 use Rattle.osm_store.specs.Rows.{Placed, placed, placed_in, is_in, body_row, extent_row, extent_columns}
 use Rattle.osm_store.specs.declared.schema.layout.Layout.{Layout}
-use Rattle.osm_store.specs.declared.schema.layout.Layout.TheVariants.{Blocks}
+use Rattle.osm_store.specs.declared.schema.layout.Layout.TheVariants.{Bodies}
 use Rattle.osm_store.specs.Schema.Layouts.{schema_of, version_of}
-use Rattle.osm_store.specs.Schema.Bodies.{store_schema}
+use Rattle.osm_store.specs.Schema.Bodies.{body_schema}
 use Rattle.osm_store.specs.LayoutHolding.{TablesHold}
 use Rattle.osm_store.proofs.MapLemmas.PlacedLaws.{Entry, within, entries_rise, placed_in_rise, here, by_position}
 use Rattle.osm_store.proofs.ListLemmas.NestedLists.{nested_at}
@@ -63,7 +63,7 @@ each_five : (ps : List Placed) → AllByRecursion (λ (row : Row). length row �
 each_five [] = tt
 each_five (p ∷ ps) = (refl, each_five ps)
 
-pub has_elements : (db : Database) (held : HeldMap) → db.schema ≡ store_schema → TablesHold Blocks held db.trees → HasElements db (placed_in held)
+pub has_elements : (db : Database) (held : HeldMap) → db.schema ≡ body_schema → TablesHold Bodies held db.trees → HasElements db (placed_in held)
 has_elements db held schema tables =
     let fives = all_from_map (λ (row : Row). length row ≡ 5) (drop 1) (db.trees 2) (all-permutation _ (map body_row (placed_in held)) (map (drop 1) (db.trees 2)) tables.elements (each_five (placed_in held))) in
     record {

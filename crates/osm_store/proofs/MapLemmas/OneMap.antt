@@ -20,7 +20,7 @@ use Rattle.pbf_frame.specs.declared.kind.Kind.{Kind}
 use Rattle.pbf_frame.specs.declared.kind.Kind.TheVariants.{OsmHeader, OsmData, Other}
 use Rattle.osm_store.specs.declared.keeper.Extent.{Extent}
 use Rattle.osm_store.specs.declared.schema.layout.Layout.{Layout}
-use Rattle.osm_store.specs.declared.schema.layout.Layout.TheVariants.{Blocks, Columns}
+use Rattle.osm_store.specs.declared.schema.layout.Layout.TheVariants.{Bodies, Tables}
 use Rattle.osm_store.specs.Held.{Blob, HeldMap}
 use Rattle.osm_store.specs.Keeping.{extent_of}
 use Rattle.osm_store.specs.Rows.{Placed, placed, placed_in, IsStored, blob_code, body_row, extent_row}
@@ -31,7 +31,7 @@ use Rattle.osm_store.proofs.ListLemmas.NumberOrder.{numbers_below, numbers_tied}
 use Rattle.osm_store.proofs.MapLemmas.PlacedLaws.{Entry, IsBefore, placed_in_rise, within}
 use Rattle.osm_store.proofs.MapLemmas.PartLaws.{IsPartBefore, all_parts_rise}
 use Rattle.osm_store.proofs.MapLemmas.OneElement.{canon_once}
-use Rattle.osm_store.proofs.MapLemmas.SameElements.{same_columns}
+use Rattle.osm_store.proofs.MapLemmas.SameElements.{same_tables}
 use Rattle.osm_store.proofs.MapLemmas.StoredElements.{all_stored}
 
 -- ---- rows in the order of some columns
@@ -85,30 +85,30 @@ links_rise ps up = rises (0 ∷ 1 ∷ 2 ∷ []) (λ x y. IsPartBefore x y) link_
 
 -- ---- from rows back to elements
 
-same_blocks : (ps qs : List Placed) → AllByRecursion (λ (p : Placed). IsStored Blocks p.2) ps → AllByRecursion (λ (p : Placed). IsStored Blocks p.2) qs → map body_row ps ≡ map body_row qs → ps ≡ qs
-same_blocks [] [] hp hq is = refl
-same_blocks [] (q ∷ qs) hp hq is = absurd (cc)
-same_blocks (p ∷ ps) [] hp hq is = absurd (cc)
-same_blocks (p ∷ ps) (q ∷ qs) hp hq is =
+same_bodies : (ps qs : List Placed) → AllByRecursion (λ (p : Placed). IsStored Bodies p.2) ps → AllByRecursion (λ (p : Placed). IsStored Bodies p.2) qs → map body_row ps ≡ map body_row qs → ps ≡ qs
+same_bodies [] [] hp hq is = refl
+same_bodies [] (q ∷ qs) hp hq is = absurd (cc)
+same_bodies (p ∷ ps) [] hp hq is = absurd (cc)
+same_bodies (p ∷ ps) (q ∷ qs) hp hq is =
     let off : p.0 ≡ q.0 = cc in
     let position : p.1 ≡ q.1 = cc in
     let block : canon (p.2 ∷ []) ≡ canon (q.2 ∷ []) = cc in
     let more : map body_row ps ≡ map body_row qs = cc in
     let element = canon_once p.2 q.2 hp.0.0 hp.0.1 hq.0.0 hq.0.1 block in
     let make : ℕ → ℕ → Element → Placed = λ a b e. (a, b, e) in
-    ap₂ ◌∷◌ (ap (λ n. make n p.1 p.2) off ∙ ap (λ n. make q.0 n p.2) position ∙ ap (make q.0 q.1) element) (same_blocks ps qs hp.1 hq.1 more)
+    ap₂ ◌∷◌ (ap (λ n. make n p.1 p.2) off ∙ ap (λ n. make q.0 n p.2) position ∙ ap (make q.0 q.1) element) (same_bodies ps qs hp.1 hq.1 more)
 
 same_placed : (layout : Layout) (one other : HeldMap) (db : Trees) → IsKept layout one → IsKept layout other → HoldElements layout (placed_in one) db → HoldElements layout (placed_in other) db → placed_in one ≡ placed_in other
-same_placed Blocks one other db kept kept_too has has_too =
+same_placed Bodies one other db kept kept_too has has_too =
     let up = rises (0 ∷ 1 ∷ []) IsBefore body_row body_before (placed_in one) (placed_in_rise one) in
     let vp = rises (0 ∷ 1 ∷ []) IsBefore body_row body_before (placed_in other) (placed_in_rise other) in
-    same_blocks (placed_in one) (placed_in other) (all_stored Blocks one kept) (all_stored Blocks other kept_too) (same_table (0 ∷ 1 ∷ []) _ _ (db 2) up vp has has_too)
-same_placed Columns one other db kept kept_too has has_too =
+    same_bodies (placed_in one) (placed_in other) (all_stored Bodies one kept) (all_stored Bodies other kept_too) (same_table (0 ∷ 1 ∷ []) _ _ (db 2) up vp has has_too)
+same_placed Tables one other db kept kept_too has has_too =
     let rise = placed_in_rise one in
     let rise_too = placed_in_rise other in
     let up = rises (0 ∷ 1 ∷ []) IsBefore element_row element_before (placed_in one) rise in
     let vp = rises (0 ∷ 1 ∷ []) IsBefore element_row element_before (placed_in other) rise_too in
-    same_columns (placed_in one) (placed_in other) rise rise_too (same_table (0 ∷ 1 ∷ []) _ _ (db 2) up vp has.0 has_too.0)
+    same_tables (placed_in one) (placed_in other) rise rise_too (same_table (0 ∷ 1 ∷ []) _ _ (db 2) up vp has.0 has_too.0)
     (same_table (0 ∷ 1 ∷ 2 ∷ []) _ _ (db 4) (tags_rise (placed_in one) rise) (tags_rise (placed_in other) rise_too) has.1 has_too.1)
     (same_table (0 ∷ 1 ∷ 2 ∷ []) _ _ (db 6) (links_rise (placed_in one) rise) (links_rise (placed_in other) rise_too) has.2 has_too.2)
 

@@ -23,7 +23,7 @@ use Rattle.osm_store.specs.Held.{Blob, HeldMap, IsFree}
 use Rattle.osm_store.specs.HeldLaws.{IsFree-unheld, IsApart-insert}
 use Rattle.osm_store.specs.Keeping.{extent_of, with_blob}
 use Rattle.osm_store.specs.declared.schema.layout.Layout.{Layout}
-use Rattle.osm_store.specs.declared.schema.layout.Layout.TheVariants.{Blocks, Columns}
+use Rattle.osm_store.specs.declared.schema.layout.Layout.TheVariants.{Bodies, Tables}
 use Rattle.osm_store.specs.Schema.Layouts.{schema_of}
 use Rattle.osm_store.specs.Rows.{Placed, CanStore, placed, placed_in, body_row, extent_row}
 use Rattle.osm_store.specs.TableRows.{element_row, tags_at, links_at, tag_row, link_row}
@@ -145,8 +145,8 @@ module _ (held : HeldMap) (off : ℕ) (blob : Blob) (layout : Layout) (kept : Is
   has_more_rows row = has_more (map row) (map-append row) (IsPermutation-map row)
 
   more_elements : (layout : Layout) (old new : Trees) → HoldElements layout (placed_in held) old → GainsElements layout (placed off 0 blob.elements) old new → HoldElements layout (placed_in (with_blob held off blob)) new
-  more_elements Blocks old new has gains = has_more_rows body_row (old 2) (new 2) has gains
-  more_elements Columns old new has gains = (has_more_rows element_row (old 2) (new 2) has.0 gains.0, has_more_parts tags_at tag_row (old 4) (new 4) has.1 gains.1, has_more_parts links_at link_row (old 6) (new 6) has.2 gains.2)
+  more_elements Bodies old new has gains = has_more_rows body_row (old 2) (new 2) has gains
+  more_elements Tables old new has gains = (has_more_rows element_row (old 2) (new 2) has.0 gains.0, has_more_parts tags_at tag_row (old 4) (new 4) has.1 gains.1, has_more_parts links_at link_row (old 6) (new 6) has.2 gains.2)
 
   pub hold_more : (old new : Trees) → TablesHold layout held old → Puts layout old new (extent_of (off, blob)) (placed off 0 blob.elements) → TablesHold layout (with_blob held off blob) new
   hold_more old new tables puts = record {
@@ -185,8 +185,8 @@ has_none : (table : List Row) → table ≡ [] → HasRows [] table
 has_none table none = subst (λ rows. IsPermutation [] (map (drop 1) rows)) (sym none) (IsPermutation-refl [])
 
 no_elements : (layout : Layout) (db : Trees) → HaveNoElements layout db → HoldElements layout [] db
-no_elements Blocks db none = has_none (db 2) none
-no_elements Columns db none = (has_none (db 2) none.0, has_none (db 4) none.1, has_none (db 6) none.2)
+no_elements Bodies db none = has_none (db 2) none
+no_elements Tables db none = (has_none (db 2) none.0, has_none (db 4) none.1, has_none (db 6) none.2)
 
 pub hold_nothing : (layout : Layout) (db : Trees) → IsEmptyStore layout db → TablesHold layout empty db
 hold_nothing layout db h = record {

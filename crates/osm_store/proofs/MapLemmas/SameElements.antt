@@ -1,4 +1,4 @@
--- The rows of numbers and texts of an element are those of no other.
+-- The rows of the layout of tables of an element are those of no other.
 use Rattle.std.proofs.Common.{◌≡◌, ℕ, ℤ, List, [], ◌∷◌, map, Option, Some, None, Bool, true, false, refl, sym, ap, ap₂, ◌∙◌, arith}
 use Rattle.std.specs.Prelude.{flat_map}
 use Rattle.sqlite.specs.declared.types.Value.{Value}
@@ -200,7 +200,7 @@ same_parts (p ∷ ps) (q ∷ qs) up vp rows tags links =
     } in
     ap₂ ◌∷◌ (one_placed p q off position (one_element p.2 q.2 same)) (same_parts ps qs up.1 vp.1 tail its_tags.1 its_links.1)
 
-pub same_columns : (ps qs : List Placed) → IsAscending IsBefore ps → IsAscending IsBefore qs → element_rows ps ≡ element_rows qs → map tag_row (flat_map tags_at ps) ≡ map tag_row (flat_map tags_at qs)
+pub same_tables : (ps qs : List Placed) → IsAscending IsBefore ps → IsAscending IsBefore qs → element_rows ps ≡ element_rows qs → map tag_row (flat_map tags_at ps) ≡ map tag_row (flat_map tags_at qs)
     → map link_row (flat_map links_at ps) ≡ map link_row (flat_map links_at qs) → ps ≡ qs
-same_columns ps qs up vp rows tags links =
+same_tables ps qs up vp rows tags links =
     same_parts ps qs up vp rows (same_items tag_row same_tag (flat_map tags_at ps) (flat_map tags_at qs) tags) (same_items link_row same_link (flat_map links_at ps) (flat_map links_at qs) links)

@@ -1,4 +1,4 @@
--- What the tables of numbers and texts of a held map have, and which of their rows are those of one blob.
+-- What the layout of tables of a held map have, and which of their rows are those of one blob.
 use Rattle.std.proofs.Common.{◌≡◌, inl, inr, ℕ, Bool, true, false, cond, ◌==◌, List, [], ◌∷◌, ◌++◌, map, drop, refl, sym, ap, ap₂, subst, ◌∙◌, IsPermutation}
 use Rattle.std.specs.Prelude.{flat_map, filter}
 use Rattle.std.specs.List.{AllByRecursion}
@@ -10,16 +10,16 @@ use Rattle.sqlite.specs.Order.{Row, column}
 use Rattle.sqlite.specs.Effect.{Database}
 use Rattle.sqlite_trees.proofs.ListLemmas.{all_weaker, all-permutation, filter_all, filter_none}
 use Rattle.osm_value.specs.Value.{Text, MemberValue}
-use Rattle.osm_store.specs.declared.schema.layout.Layout.TheVariants.{Columns}
+use Rattle.osm_store.specs.declared.schema.layout.Layout.TheVariants.{Tables}
 use Rattle.osm_store.specs.Held.{HeldMap}
-use Rattle.osm_store.specs.Schema.Tables.{column_schema}
+use Rattle.osm_store.specs.Schema.Tables.{table_schema}
 use Rattle.osm_store.specs.Rows.{Placed, placed_in, is_in}
 use Rattle.osm_store.specs.TableRows.{Part, element_row, tags_at, tag_row, links_at, link_row}
 use Rattle.osm_store.specs.LayoutHolding.{HasRows, TablesHold}
 use Rattle.osm_store.proofs.MapLemmas.PlacedLaws.{placed_in_rise}
 use Rattle.osm_store.proofs.MapLemmas.PartLaws.{parts_own, parts_in}
 use Rattle.osm_store.proofs.LoadLemmas.ReadLemmas.{columns_at}
-use Rattle.osm_store.proofs.LoadLemmas.TableReads.{twelve_places, five_places, six_places, HasColumns}
+use Rattle.osm_store.proofs.LoadLemmas.TableReads.{twelve_places, five_places, six_places, HasTables}
 
 -- ---- a row without its rowid shows all its columns
 
@@ -57,8 +57,8 @@ whole_links : (xs : List (Part MemberValue)) → AllByRecursion (λ (r : Row). m
 whole_links [] = tt
 whole_links (x ∷ xs) = (refl, whole_links xs)
 
-pub has_columns : (db : Database) (held : HeldMap) → db.schema ≡ column_schema → TablesHold Columns held db.trees → HasColumns db (placed_in held)
-has_columns db held schema tables = record {
+pub has_tables : (db : Database) (held : HeldMap) → db.schema ≡ table_schema → TablesHold Tables held db.trees → HasTables db (placed_in held)
+has_tables db held schema tables = record {
   schema = schema;
   elements = seen twelve_places twelve_shown (λ x r. refl) (λ e. cc) (map element_row (placed_in held)) (db.trees 2) (whole_elements (placed_in held)) tables.elements.0;
   tags = seen five_places five_shown (λ x r. refl) (λ e. cc) (map tag_row (flat_map tags_at (placed_in held))) (db.trees 4) (whole_tags (flat_map tags_at (placed_in held))) tables.elements.1;

@@ -1,4 +1,4 @@
--- What the statements add that write rows of numbers and texts.
+-- What the statements add that write rows of the layout of tables.
 use Rattle.std.proofs.Common.{◌≡◌, ℕ, ℤ, pos, Bool, if◌then◌else◌, append-nil, ◌/◌, suc, List, [], ◌∷◌, map, length, slice_get, Some, Ok, true, false, refl, sym, ap, subst, ◌∙◌}
 use Rattle.std.specs.Prelude.{flat_map}
 use Rattle.sqlite.specs.Order.{Row}
@@ -18,13 +18,13 @@ use Rattle.sqlite_rules.specs.Action.{works}
 use Rattle.sqlite_rules.specs.Cast.{cast_row}
 use Rattle.sqlite_rules.specs.Edit.{numbered, taken_by}
 use Rattle.sqlite_schema.specs.declared.schema.Keys.TheVariants.{Enforced}
-use Rattle.osm_store.specs.declared.schema.layout.Layout.TheVariants.{Columns}
+use Rattle.osm_store.specs.declared.schema.layout.Layout.TheVariants.{Tables}
 use Rattle.osm_store.specs.declared.put.table_row.ElementRow.{ElementRow}
 use Rattle.osm_store.specs.declared.put.table_row.TagRow.{TagRow}
 use Rattle.osm_store.specs.declared.put.table_row.LinkRow.{LinkRow}
 use Rattle.osm_store.specs.Put.WrittenRows.{element_columns, tag_columns, link_columns}
 use Rattle.osm_store.specs.Rows.{element_code}
-use Rattle.osm_store.specs.Schema.Tables.{element, tag, link, insert_element_text, insert_tag_text, insert_link_text, insert_elements_text, insert_tags_text, insert_links_text, column_schema}
+use Rattle.osm_store.specs.Schema.Tables.{element, tag, link, insert_element_text, insert_tag_text, insert_link_text, insert_elements_text, insert_tags_text, insert_links_text, table_schema}
 use Rattle.osm_store.proofs.PutLemmas.Adds.{cast_null, cast_int}
 use Rattle.osm_store.proofs.PutLemmas.RowValues.{cast_or_null, cast_words}
 use Rattle.osm_store.proofs.PutLemmas.InsertTexts.{insert_element_is, insert_element_plain, insert_tag_is, insert_tag_plain, insert_link_is, insert_link_plain, insert_elements_is, insert_elements_plain, insert_tags_is, insert_tags_plain, insert_links_is, insert_links_plain}
@@ -40,8 +40,8 @@ use Rattle.osm_store.proofs.PutLemmas.ManyRows.{terms_of_rows, given, reads_rows
 -- the statement, given the values of this many rows, one row after the other, adds these rows to a table
 abbrev pub Inserts : {X : Type 0} → (X → Row) → ℕ → List ℕ → ℕ → Type 1
 Inserts {X} columns tree statement count =
-    (rows : List X) → length rows ≡ count → (params : Row) → params ≡ flat_map columns rows → (old new : State) (changed : ℕ) → IsWriting Columns old → ExecutesInside 0 statement params old new (Ok changed)
-    → AddsRows Columns tree old new (map columns rows)
+    (rows : List X) → length rows ≡ count → (params : Row) → params ≡ flat_map columns rows → (old new : State) (changed : ℕ) → IsWriting Tables old → ExecutesInside 0 statement params old new (Ok changed)
+    → AddsRows Tables tree old new (map columns rows)
 
 -- the text writes this many rows of a table, each a value of X
 module _ {X : Type 0} (columns : X → Row) (table : Table) (width : ℕ) (sql : List ℕ) (at count : ℕ)
@@ -51,23 +51,23 @@ module _ {X : Type 0} (columns : X → Row) (table : Table) (width : ℕ) (sql :
   casts [] = refl
   casts (x ∷ xs) = ap (λ r. r ∷ map (cast_row table) (given columns width wide xs)) (cast x) ∙ ap (λ rs. (Null ∷ columns x) ∷ rs) (casts xs)
 
-  rows_added : (xs : List X) (db next : Trees) → Applies column_schema Enforced db (edit_of db table [] Chosen 0 (given columns width wide xs)) next → Gains (db table.tree) (map columns xs) (next table.tree)
+  rows_added : (xs : List X) (db next : Trees) → Applies table_schema Enforced db (edit_of db table [] Chosen 0 (given columns width wide xs)) next → Gains (db table.tree) (map columns xs) (next table.tree)
   rows_added xs db next h =
       let news = λ (rows : List Row). numbered Chosen (db table.tree) rows in
       let fresh = subst (λ rows. are_fresh (db table.tree) (news rows) ≡ true) (casts xs) h.fresh in
       let rows = subst (λ rows. next table.tree ≡ put_all (db table.tree) (news rows)) (casts xs) h.rows in
       subst (Gains (db table.tree) (map columns xs)) (sym rows) (all_fresh (db table.tree) (map columns xs) fresh)
 
-  pub inserts : command_of (understood column_schema sql) ≡ Insert at (Values (terms_of_rows width count 0) (suc width)) → IsPlain (understood column_schema sql)
-      → slice_get column_schema.tables at ≡ Some table → table.is_counted ≡ false → ((params : Row) → stamped table params ≡ params) → length (terms_of_rows width count 0) / suc width ≡ count
-      → ((db : Trees) (news : List Row) → works column_schema Enforced 0 table.tree (taken_by db (record { table = table; gone = []; news = news })) news ≡ [])
+  pub inserts : command_of (understood table_schema sql) ≡ Insert at (Values (terms_of_rows width count 0) (suc width)) → IsPlain (understood table_schema sql)
+      → slice_get table_schema.tables at ≡ Some table → table.is_counted ≡ false → ((params : Row) → stamped table params ≡ params) → length (terms_of_rows width count 0) / suc width ≡ count
+      → ((db : Trees) (news : List Row) → works table_schema Enforced 0 table.tree (taken_by db (record { table = table; gone = []; news = news })) news ≡ [])
       → Inserts columns table.tree sql count
   inserts is plain there uncounted unstamped counts free xs many params these old new n over run =
       let read = subst (λ k. value_rows params (suc width) k (terms_of_rows width k 0) ≡ given columns width wide xs) many (reads_rows columns width wide params xs 0 these) in
       let rows = subst (λ k. value_rows params (suc width) k (terms_of_rows width count 0) ≡ given columns width wide xs) (sym counts) read in
       let all = subst (λ ps. value_rows ps (suc width) (length (terms_of_rows width count 0) / suc width) (terms_of_rows width count 0) ≡ given columns width wide xs) (sym (unstamped params)) rows in
-      let it = inserts_all column_schema sql at table (terms_of_rows width count 0) (suc width) params (given columns width wide xs) is plain there uncounted all free old new n over.schema_is run.0 in
-      let went = becomes old new column_schema it.0 it.2 run.1 in
+      let it = inserts_all table_schema sql at table (terms_of_rows width count 0) (suc width) params (given columns width wide xs) is plain there uncounted all free old new n over.schema_is run.0 in
+      let went = becomes old new table_schema it.0 it.2 run.1 in
       record {
         over = went.over;
         kept = went.kept;

@@ -28,12 +28,12 @@ use Rattle.osm_store.proofs.SchemaLemmas.StatementParts.{went, same_value, place
 use Rattle.sqlite.specs.Term.{lit}
 use Rattle.sqlite.specs.declared.types.Value.TheVariants.{Null, Int}
 use Rattle.osm_store.specs.declared.schema.layout.Layout.{Layout}
-use Rattle.osm_store.specs.declared.schema.layout.Layout.TheVariants.{Blocks, Columns}
-use Rattle.osm_store.specs.Schema.Bodies.{meta, blob, body, store_schema, insert_body_text, insert_blob_text, version_text}
-use Rattle.osm_store.specs.Schema.Tables.{column_schema, second_version_text}
+use Rattle.osm_store.specs.declared.schema.layout.Layout.TheVariants.{Bodies, Tables}
+use Rattle.osm_store.specs.Schema.Bodies.{meta, blob, body, body_schema, insert_body_text, insert_blob_text, body_version_text}
+use Rattle.osm_store.specs.Schema.Tables.{table_schema, table_version_text}
 use Rattle.osm_store.specs.Schema.Layouts.{schema_of, version_of, version_text_of}
 use Rattle.osm_store.proofs.SchemaLemmas.BodyTexts.{body_terms, insert_body_is, insert_body_plain, blob_terms, insert_blob_is, insert_blob_plain, version_terms, version_is, version_plain}
-use Rattle.osm_store.proofs.SchemaLemmas.TableTexts.{column_blob_is, column_blob_plain, second_version_terms, second_version_is, second_version_plain}
+use Rattle.osm_store.proofs.SchemaLemmas.TableTexts.{table_blob_is, table_blob_plain, table_version_terms, table_version_is, table_version_plain}
 
 abbrev pub edit_for : Trees → Table → Row → List Term → Edit
 edit_for db table params terms = edit_of db table [] Chosen 0 (eval_all terms (params ∷ []) ∷ [])
@@ -87,20 +87,20 @@ inserts : (schema : Schema) (sql : List ℕ) (at : ℕ) (table : Table) (terms :
     → (new.now.schema ≡ schema) × Applies schema Enforced old.now.trees (edit_for old.now.trees table params terms) new.now.trees × IsSound schema new.now.trees
 inserts schema sql at table terms params = inserts_all schema sql at table terms (length terms) params (eval_all terms (params ∷ []) ∷ [])
 
-pub inserts_body : (params : Row) (old new : State) (count : ℕ) → old.now.schema ≡ store_schema → Executes insert_body_text params old new (Ok count)
-    → (new.now.schema ≡ store_schema) × Applies store_schema Enforced old.now.trees (edit_for old.now.trees body params body_terms) new.now.trees × IsSound store_schema new.now.trees
-inserts_body params = inserts store_schema insert_body_text 2 body body_terms params insert_body_is insert_body_plain refl refl (rw append-nil) (λ db news. refl)
+pub inserts_body : (params : Row) (old new : State) (count : ℕ) → old.now.schema ≡ body_schema → Executes insert_body_text params old new (Ok count)
+    → (new.now.schema ≡ body_schema) × Applies body_schema Enforced old.now.trees (edit_for old.now.trees body params body_terms) new.now.trees × IsSound body_schema new.now.trees
+inserts_body params = inserts body_schema insert_body_text 2 body body_terms params insert_body_is insert_body_plain refl refl (rw append-nil) (λ db news. refl)
 
 -- a row of `blob`, whatever the layout
 pub inserts_blob : (layout : Layout) (params : Row) (old new : State) (count : ℕ) → old.now.schema ≡ schema_of layout → Executes insert_blob_text params old new (Ok count)
     → (new.now.schema ≡ schema_of layout) × Applies (schema_of layout) Enforced old.now.trees (edit_for old.now.trees blob params blob_terms) new.now.trees × IsSound (schema_of layout) new.now.trees
-inserts_blob Blocks params = inserts store_schema insert_blob_text 1 blob blob_terms params insert_blob_is insert_blob_plain refl refl (rw append-nil) (λ db news. refl)
-inserts_blob Columns params = inserts column_schema insert_blob_text 1 blob blob_terms params column_blob_is column_blob_plain refl refl (rw append-nil) (λ db news. refl)
+inserts_blob Bodies params = inserts body_schema insert_blob_text 1 blob blob_terms params insert_blob_is insert_blob_plain refl refl (rw append-nil) (λ db news. refl)
+inserts_blob Tables params = inserts table_schema insert_blob_text 1 blob blob_terms params table_blob_is table_blob_plain refl refl (rw append-nil) (λ db news. refl)
 
 abbrev pub version_terms_of : Layout → List Term
 version_terms_of layout = lit (Int (pos (version_of layout))) ∷ lit Null ∷ []
 
 pub inserts_version : (layout : Layout) (old new : State) (count : ℕ) → old.now.schema ≡ schema_of layout → Executes (version_text_of layout) [] old new (Ok count)
     → (new.now.schema ≡ schema_of layout) × Applies (schema_of layout) Enforced old.now.trees (edit_for old.now.trees meta [] (version_terms_of layout)) new.now.trees × IsSound (schema_of layout) new.now.trees
-inserts_version Blocks = inserts store_schema version_text 0 meta version_terms [] version_is version_plain refl refl refl (λ db news. refl)
-inserts_version Columns = inserts column_schema second_version_text 0 meta second_version_terms [] second_version_is second_version_plain refl refl refl (λ db news. refl)
+inserts_version Bodies = inserts body_schema body_version_text 0 meta version_terms [] version_is version_plain refl refl refl (λ db news. refl)
+inserts_version Tables = inserts table_schema table_version_text 0 meta table_version_terms [] table_version_is table_version_plain refl refl refl (λ db news. refl)

@@ -23,8 +23,8 @@ use Rattle.osm_store.specs.declared.fault.StoreFault.{StoreFault}
 use Rattle.std.specs.List.{AllByRecursion}
 use Rattle.sqlite.specs.declared.types.Value.TheVariants.{Int, Blob as Octets}
 use Rattle.osm_store.specs.declared.schema.layout.Layout.{Layout}
-use Rattle.osm_store.specs.declared.schema.layout.Layout.TheVariants.{Blocks, Columns}
-use Rattle.osm_store.specs.Schema.Bodies.{store_schema, body, insert_body_text, insert_blob_text}
+use Rattle.osm_store.specs.declared.schema.layout.Layout.TheVariants.{Bodies, Tables}
+use Rattle.osm_store.specs.Schema.Bodies.{body_schema, body, insert_body_text, insert_blob_text}
 use Rattle.osm_store.specs.Schema.Layouts.{schema_of}
 use Rattle.osm_store.specs.Rows.{Placed, body_row, extent_row}
 use Rattle.osm_store.specs.TableRows.{element_rows, tag_rows, link_rows}
@@ -95,16 +95,16 @@ rows_more layout tree old mid new rows more before h = record {
 abbrev pub five : ℤ → ℤ → ℤ → ℤ → List ℕ → Row
 five off place kind id content = Int off ∷ Int place ∷ Int kind ∷ Int id ∷ Octets content ∷ []
 
-pub adds_body : (old new : State) (off place kind id : ℤ) (content : List ℕ) (count : ℕ) → IsWriting Blocks old → ExecutesInside 0 insert_body_text (five off place kind id content) old new (Ok count)
-    → AddsRow Blocks 2 old new (five off place kind id content)
+pub adds_body : (old new : State) (off place kind id : ℤ) (content : List ℕ) (count : ℕ) → IsWriting Bodies old → ExecutesInside 0 insert_body_text (five off place kind id content) old new (Ok count)
+    → AddsRow Bodies 2 old new (five off place kind id content)
 adds_body old new off place kind id content count over h =
     let row = five off place kind id content in
     let it = inserts_body row old new count over.schema_is h.0 in
     record {
-      becomes = becomes old new store_schema it.0 it.2 h.1;
+      becomes = becomes old new body_schema it.0 it.2 h.1;
       shown = h.1;
       others = it.1.tables;
-      rows = row_added store_schema body old.now.trees new.now.trees row row body_terms it.1 (rw (cast_null, cast_int off, cast_int place, cast_int kind, cast_int id) refl);
+      rows = row_added body_schema body old.now.trees new.now.trees row row body_terms it.1 (rw (cast_null, cast_int off, cast_int place, cast_int kind, cast_int id) refl);
     }
 
 pub adds_extent : (layout : Layout) (old new : State) (off fin : ℤ) (digest : List ℕ) (kind n : ℤ) (count : ℕ) → IsWriting layout old → ExecutesInside 0 insert_blob_text (blob_values off fin digest kind n) old new (Ok count)
@@ -120,8 +120,8 @@ adds_extent layout old new off fin digest kind n count over h =
 
 -- ---- all elements of a blob
 
-pub adds_blocks : (old new : State) (elements : List Placed) → AddsRows Blocks 2 old new (map body_row elements) → AddsElements Blocks old new elements
-adds_blocks old new elements h = record {
+pub adds_bodies : (old new : State) (elements : List Placed) → AddsRows Bodies 2 old new (map body_row elements) → AddsElements Bodies old new elements
+adds_bodies old new elements h = record {
   over = h.over;
   kept = h.kept;
   sound = h.sound;
@@ -130,9 +130,9 @@ adds_blocks old new elements h = record {
   elements = h.rows;
 }
 
-pub adds_columns : (old first second new : State) (elements : List Placed) → AddsRows Columns 2 old first (element_rows elements) → AddsRows Columns 4 first second (tag_rows elements) → AddsRows Columns 6 second new (link_rows elements)
-    → AddsElements Columns old new elements
-adds_columns old first second new elements a b c =
+pub adds_tables : (old first second new : State) (elements : List Placed) → AddsRows Tables 2 old first (element_rows elements) → AddsRows Tables 4 first second (tag_rows elements) → AddsRows Tables 6 second new (link_rows elements)
+    → AddsElements Tables old new elements
+adds_tables old first second new elements a b c =
     let meta : new.now.trees 0 ≡ old.now.trees 0 = c.others.0 (λ e. cc) ∙ b.others.0 (λ e. cc) ∙ a.others.0 (λ e. cc) in
     let blob : new.now.trees 1 ≡ old.now.trees 1 = c.others.1.0 (λ e. cc) ∙ b.others.1.0 (λ e. cc) ∙ a.others.1.0 (λ e. cc) in
     let element : new.now.trees 2 ≡ first.now.trees 2 = c.others.1.1.0 (λ e. cc) ∙ b.others.1.1.0 (λ e. cc) in
@@ -155,16 +155,16 @@ adds_columns old first second new elements a b c =
 
 -- what was so before a row of `blob` was written
 gains_after : (layout : Layout) (elements : List Placed) (old mid new : Trees) → KeepsOthers layout 1 old mid → GainsElements layout elements mid new → GainsElements layout elements old new
-gains_after Blocks elements old mid new kept h = subst (λ rows. Gains rows (map body_row elements) (new 2)) (kept.1.1.0 (λ e. cc)) h
-gains_after Columns elements old mid new kept h = (
+gains_after Bodies elements old mid new kept h = subst (λ rows. Gains rows (map body_row elements) (new 2)) (kept.1.1.0 (λ e. cc)) h
+gains_after Tables elements old mid new kept h = (
   subst (λ rows. Gains rows (element_rows elements) (new 2)) (kept.1.1.0 (λ e. cc)) h.0,
   subst (λ rows. Gains rows (tag_rows elements) (new 4)) (kept.1.1.1.0 (λ e. cc)) h.1,
   subst (λ rows. Gains rows (link_rows elements) (new 6)) (kept.1.1.1.1.0 (λ e. cc)) h.2,
 )
 
 meta_kept : (layout : Layout) (old mid : Trees) → KeepsOthers layout 1 old mid → mid 0 ≡ old 0
-meta_kept Blocks old mid kept = kept.0 (λ e. cc)
-meta_kept Columns old mid kept = kept.0 (λ e. cc)
+meta_kept Bodies old mid kept = kept.0 (λ e. cc)
+meta_kept Tables old mid kept = kept.0 (λ e. cc)
 
 pub puts : (layout : Layout) (old mid new : State) (extent : Extent) (elements : List Placed) → AddsExtent layout old mid (extent_row extent) → AddsElements layout mid new elements
     → Puts layout old.now.trees new.now.trees extent elements

@@ -9,7 +9,7 @@ use Rattle.sqlite.specs.Term.{Term, lit, col}
 use Rattle.sqlite.specs.declared.types.Value.TheVariants.{Null, Int}
 use Rattle.sqlite.specs.Listing.{understood}
 use Rattle.sqlite.proofs.Callers.{IsPlain, command_of, statement_of}
-use Rattle.osm_store.specs.Schema.Bodies.{version_text, select_version_text, insert_blob_text, insert_body_text, meta_text, blob_text, body_text, index_text, meta, blob, body, by_element, no_schema, one_table, two_tables, three_tables, store_schema}
+use Rattle.osm_store.specs.Schema.Bodies.{body_version_text, select_version_text, insert_blob_text, insert_body_text, meta_text, blob_text, body_text, index_text, meta, blob, body, by_element, no_schema, one_table, two_tables, three_tables, body_schema}
 
 pub meta_defined : table_defined_by meta_text ≡ Ok meta
 unfolding everything
@@ -37,7 +37,7 @@ pub body_created : created two_tables (record body { tree = 0 }) ≡ three_table
 unfolding everything
 body_created = refl
 
-pub index_created : indexed three_tables body (record by_element { tree = 0 }) ≡ store_schema
+pub index_created : indexed three_tables body (record by_element { tree = 0 }) ≡ body_schema
 unfolding everything
 index_created = refl
 
@@ -50,27 +50,27 @@ blob_terms = col 0 0 ∷ lit Null ∷ col 0 1 ∷ col 0 2 ∷ col 0 3 ∷ col 0 
 abbrev pub body_terms : List Term
 body_terms = lit Null ∷ col 0 0 ∷ col 0 1 ∷ col 0 2 ∷ col 0 3 ∷ col 0 4 ∷ []
 
-pub version_is : command_of (understood store_schema version_text) ≡ Insert 0 (Values version_terms 2)
+pub version_is : command_of (understood body_schema body_version_text) ≡ Insert 0 (Values version_terms 2)
 unfolding understood everything
 version_is = refl
 
-pub insert_blob_is : command_of (understood store_schema insert_blob_text) ≡ Insert 1 (Values blob_terms 6)
+pub insert_blob_is : command_of (understood body_schema insert_blob_text) ≡ Insert 1 (Values blob_terms 6)
 unfolding understood everything
 insert_blob_is = refl
 
-pub insert_body_is : command_of (understood store_schema insert_body_text) ≡ Insert 2 (Values body_terms 6)
+pub insert_body_is : command_of (understood body_schema insert_body_text) ≡ Insert 2 (Values body_terms 6)
 unfolding understood everything
 insert_body_is = refl
 
-pub version_plain : IsPlain (understood store_schema version_text)
+pub version_plain : IsPlain (understood body_schema body_version_text)
 unfolding understood everything
 version_plain = (refl, refl)
 
-pub insert_blob_plain : IsPlain (understood store_schema insert_blob_text)
+pub insert_blob_plain : IsPlain (understood body_schema insert_blob_text)
 unfolding understood everything
 insert_blob_plain = (refl, refl)
 
-pub insert_body_plain : IsPlain (understood store_schema insert_body_text)
+pub insert_body_plain : IsPlain (understood body_schema insert_body_text)
 unfolding understood everything
 insert_body_plain = (refl, refl)
 
@@ -106,6 +106,6 @@ pub index_plain : IsPlain (understood three_tables index_text)
 unfolding understood everything
 index_plain = (refl, refl)
 
-pub select_version_plain : IsPlain (understood store_schema select_version_text)
+pub select_version_plain : IsPlain (understood body_schema select_version_text)
 unfolding understood everything
 select_version_plain = (refl, refl)

@@ -3,10 +3,10 @@ use Rattle.std.proofs.Common.{◌≡◌, ℕ, [], Ok, true, refl, ◌∙◌}
 use Rattle.sqlite.specs.Schema.{Schema}
 use Rattle.sqlite.specs.State.{State, Shows, ExecutesInside}
 use Rattle.sqlite_catalog.specs.Listing.{IsSound}
-use Rattle.osm_store.specs.Schema.Bodies.{meta_text, blob_text, body_text, index_text, meta, blob, body, by_element, no_schema, one_table, two_tables, three_tables, store_schema}
+use Rattle.osm_store.specs.Schema.Bodies.{meta_text, blob_text, body_text, index_text, meta, blob, body, by_element, no_schema, one_table, two_tables, three_tables, body_schema}
 use Rattle.osm_store.specs.declared.schema.layout.Layout.{Layout}
-use Rattle.osm_store.specs.declared.schema.layout.Layout.TheVariants.{Blocks, Columns}
-use Rattle.osm_store.specs.Schema.Tables.{element_text, tag_text, link_text, element_index_text, element, tag, link, element_by_id, with_element, with_tag, with_link, column_schema}
+use Rattle.osm_store.specs.declared.schema.layout.Layout.TheVariants.{Bodies, Tables}
+use Rattle.osm_store.specs.Schema.Tables.{element_text, tag_text, link_text, element_index_text, element, tag, link, element_by_id, with_element, with_tag, with_link, table_schema}
 use Rattle.osm_store.specs.Schema.Layouts.{schema_of, version_text_of}
 use Rattle.osm_store.specs.Put.Steps.{IsOver, IsWriting, Becomes, KeepsOthers, HaveNoElements, MakesMeta, MakesBlob, MakesBody, MakesIndex, MakesElement, MakesTag, MakesLink, MakesElementIndex, WritesVersion}
 use Rattle.osm_store.proofs.SchemaLemmas.TableTexts.{element_is, element_plain, element_defined, element_created, tag_is, tag_plain, tag_defined, tag_created, link_is, link_plain, link_defined, link_created, element_index_is, element_index_plain, element_index_defined, element_index_created}
@@ -36,8 +36,8 @@ module _ (old new : State) (count : ℕ) where
 
   pub makes_index : IsOver three_tables old → ExecutesInside 0 index_text [] old new (Ok count) → MakesIndex old new
   makes_index over h =
-      let it = indexes index_text three_tables store_schema index_plain index_is.1 2 body (record by_element { tree = 0 }) index_is.0 refl index_defined index_created old new count over.schema_is h.0 in
-      (becomes old new store_schema it.0 it.1 h.1, it.2.0, it.2.1.0, it.2.1.1.0)
+      let it = indexes index_text three_tables body_schema index_plain index_is.1 2 body (record by_element { tree = 0 }) index_is.0 refl index_defined index_created old new count over.schema_is h.0 in
+      (becomes old new body_schema it.0 it.1 h.1, it.2.0, it.2.1.0, it.2.1.1.0)
 
   pub makes_element : IsOver two_tables old → ExecutesInside 0 element_text [] old new (Ok count) → MakesElement old new
   makes_element over h =
@@ -56,17 +56,17 @@ module _ (old new : State) (count : ℕ) where
 
   pub makes_element_index : IsOver with_link old → ExecutesInside 0 element_index_text [] old new (Ok count) → MakesElementIndex old new
   makes_element_index over h =
-      let it = indexes element_index_text with_link column_schema element_index_plain element_index_is.1 2 element (record element_by_id { tree = 0 }) element_index_is.0 refl element_index_defined element_index_created old new count over.schema_is h.0 in
-      (becomes old new column_schema it.0 it.1 h.1, it.2.0, it.2.1.0, it.2.1.1.0, it.2.1.1.1.0, it.2.1.1.1.1.0)
+      let it = indexes element_index_text with_link table_schema element_index_plain element_index_is.1 2 element (record element_by_id { tree = 0 }) element_index_is.0 refl element_index_defined element_index_created old new count over.schema_is h.0 in
+      (becomes old new table_schema it.0 it.1 h.1, it.2.0, it.2.1.0, it.2.1.1.0, it.2.1.1.1.0, it.2.1.1.1.1.0)
 
   -- the tables of elements stay without rows
   none_still : (layout : Layout) → KeepsOthers layout 0 old.now.trees new.now.trees → HaveNoElements layout old.now.trees → HaveNoElements layout new.now.trees
-  none_still Blocks kept none = kept.1.1.0 (λ e. cc) ∙ none
-  none_still Columns kept none = (kept.1.1.0 (λ e. cc) ∙ none.0, kept.1.1.1.0 (λ e. cc) ∙ none.1, kept.1.1.1.1.0 (λ e. cc) ∙ none.2)
+  none_still Bodies kept none = kept.1.1.0 (λ e. cc) ∙ none
+  none_still Tables kept none = (kept.1.1.0 (λ e. cc) ∙ none.0, kept.1.1.1.0 (λ e. cc) ∙ none.1, kept.1.1.1.1.0 (λ e. cc) ∙ none.2)
 
   blob_still : (layout : Layout) → KeepsOthers layout 0 old.now.trees new.now.trees → new.now.trees 1 ≡ old.now.trees 1
-  blob_still Blocks kept = kept.1.0 (λ e. cc)
-  blob_still Columns kept = kept.1.0 (λ e. cc)
+  blob_still Bodies kept = kept.1.0 (λ e. cc)
+  blob_still Tables kept = kept.1.0 (λ e. cc)
 
   pub writes_version : (layout : Layout) → IsWriting layout old → ExecutesInside 0 (version_text_of layout) [] old new (Ok count) → WritesVersion layout old new
   writes_version layout over h =

@@ -1,4 +1,4 @@
--- What the texts mean that make and fill the tables of numbers and texts.
+-- What the texts mean that make and fill the layout of tables.
 use Rattle.std.proofs.Common.{◌≡◌, List, [], ◌∷◌, Ok, refl, pos}
 use Rattle.sqlite.specs.Compile.{table_defined_by, index_defined_by}
 use Rattle.sqlite.specs.Change.{created, indexed}
@@ -10,7 +10,7 @@ use Rattle.sqlite.specs.declared.types.Value.TheVariants.{Null, Int}
 use Rattle.sqlite.specs.Listing.{understood}
 use Rattle.sqlite.proofs.Callers.{IsPlain, command_of, statement_of}
 use Rattle.osm_store.specs.Schema.Bodies.{insert_blob_text, two_tables}
-use Rattle.osm_store.specs.Schema.Tables.{second_version_text, element_text, tag_text, link_text, element_index_text, element, tag, link, element_by_id, with_element, with_tag, with_link, column_schema}
+use Rattle.osm_store.specs.Schema.Tables.{table_version_text, element_text, tag_text, link_text, element_index_text, element, tag, link, element_by_id, with_element, with_tag, with_link, table_schema}
 use Rattle.osm_store.proofs.SchemaLemmas.BodyTexts.{blob_terms}
 
 pub element_defined : table_defined_by element_text ≡ Ok (record element { tree = 0 })
@@ -41,7 +41,7 @@ pub link_created : created with_tag (record link { tree = 0 }) ≡ with_link
 unfolding everything
 link_created = refl
 
-pub element_index_created : indexed with_link element (record element_by_id { tree = 0 }) ≡ column_schema
+pub element_index_created : indexed with_link element (record element_by_id { tree = 0 }) ≡ table_schema
 unfolding everything
 element_index_created = refl
 
@@ -77,21 +77,21 @@ pub element_index_plain : IsPlain (understood with_link element_index_text)
 unfolding understood everything
 element_index_plain = (refl, refl)
 
-abbrev pub second_version_terms : List Term
-second_version_terms = lit (Int (pos 2)) ∷ lit Null ∷ []
+abbrev pub table_version_terms : List Term
+table_version_terms = lit (Int (pos 2)) ∷ lit Null ∷ []
 
-pub second_version_is : command_of (understood column_schema second_version_text) ≡ Insert 0 (Values second_version_terms 2)
+pub table_version_is : command_of (understood table_schema table_version_text) ≡ Insert 0 (Values table_version_terms 2)
 unfolding understood everything
-second_version_is = refl
+table_version_is = refl
 
-pub second_version_plain : IsPlain (understood column_schema second_version_text)
+pub table_version_plain : IsPlain (understood table_schema table_version_text)
 unfolding understood everything
-second_version_plain = (refl, refl)
+table_version_plain = (refl, refl)
 
-pub column_blob_is : command_of (understood column_schema insert_blob_text) ≡ Insert 1 (Values blob_terms 6)
+pub table_blob_is : command_of (understood table_schema insert_blob_text) ≡ Insert 1 (Values blob_terms 6)
 unfolding understood everything
-column_blob_is = refl
+table_blob_is = refl
 
-pub column_blob_plain : IsPlain (understood column_schema insert_blob_text)
+pub table_blob_plain : IsPlain (understood table_schema insert_blob_text)
 unfolding understood everything
-column_blob_plain = (refl, refl)
+table_blob_plain = (refl, refl)

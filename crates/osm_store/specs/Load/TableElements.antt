@@ -1,4 +1,4 @@
--- What rows of numbers and texts say of the element that they belong to.
+-- What rows of `element`, `tag` and `link` say of the element that they belong to.
 use Rattle.std.specs.Prelude.{◌≡◌, ◌<◌, ℕ, pos, length}
 use Rattle.sqlite.specs.declared.types.Value.TheVariants.{Int}
 use Rattle.sqlite.specs.Order.{Row, column}

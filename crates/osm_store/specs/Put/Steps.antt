@@ -8,9 +8,9 @@ use Rattle.sqlite.specs.Tree.{Trees, put_row}
 use Rattle.sqlite_catalog.specs.Listing.{IsSound}
 use Rattle.osm_store.specs.declared.keeper.Extent.{Extent}
 use Rattle.osm_store.specs.declared.schema.layout.Layout.{Layout}
-use Rattle.osm_store.specs.declared.schema.layout.Layout.TheVariants.{Blocks, Columns}
-use Rattle.osm_store.specs.Schema.Bodies.{one_table, two_tables, three_tables, store_schema}
-use Rattle.osm_store.specs.Schema.Tables.{with_element, with_tag, with_link, column_schema}
+use Rattle.osm_store.specs.declared.schema.layout.Layout.TheVariants.{Bodies, Tables}
+use Rattle.osm_store.specs.Schema.Bodies.{one_table, two_tables, three_tables, body_schema}
+use Rattle.osm_store.specs.Schema.Tables.{with_element, with_tag, with_link, table_schema}
 use Rattle.osm_store.specs.Schema.Layouts.{schema_of}
 use Rattle.osm_store.specs.Rows.{Placed, extent_row, body_row, version_row}
 use Rattle.osm_store.specs.TableRows.{element_rows, tag_rows, link_rows}
@@ -63,8 +63,8 @@ pub record AddsRows (layout : Layout) (tree : ℕ) (old new : State) (added : Li
 
 -- the tables of elements have the rows of these elements more
 abbrev pub GainsElements : Layout → List Placed → Trees → Trees → Type 0
-GainsElements Blocks elements old new = Gains (old 2) (map body_row elements) (new 2)
-GainsElements Columns elements old new = Gains (old 2) (element_rows elements) (new 2) × Gains (old 4) (tag_rows elements) (new 4) × Gains (old 6) (link_rows elements) (new 6)
+GainsElements Bodies elements old new = Gains (old 2) (map body_row elements) (new 2)
+GainsElements Tables elements old new = Gains (old 2) (element_rows elements) (new 2) × Gains (old 4) (tag_rows elements) (new 4) × Gains (old 6) (link_rows elements) (new 6)
 
 -- these elements are added, and the tables `meta` and `blob` are as they were
 pub record AddsElements (layout : Layout) (old new : State) (added : List Placed) : Type 0 where
@@ -100,7 +100,7 @@ abbrev pub MakesBody : State → State → Type 0
 MakesBody old new = Becomes old new three_tables × (new.now.trees 0 ≡ old.now.trees 0) × (new.now.trees 1 ≡ old.now.trees 1) × (new.now.trees 2 ≡ [])
 
 abbrev pub MakesIndex : State → State → Type 0
-MakesIndex old new = Becomes old new store_schema × (new.now.trees 0 ≡ old.now.trees 0) × (new.now.trees 1 ≡ old.now.trees 1) × (new.now.trees 2 ≡ old.now.trees 2)
+MakesIndex old new = Becomes old new body_schema × (new.now.trees 0 ≡ old.now.trees 0) × (new.now.trees 1 ≡ old.now.trees 1) × (new.now.trees 2 ≡ old.now.trees 2)
 
 abbrev pub MakesElement : State → State → Type 0
 MakesElement old new = Becomes old new with_element × (new.now.trees 0 ≡ old.now.trees 0) × (new.now.trees 1 ≡ old.now.trees 1) × (new.now.trees 2 ≡ [])
@@ -112,12 +112,12 @@ abbrev pub MakesLink : State → State → Type 0
 MakesLink old new = Becomes old new with_link × (new.now.trees 0 ≡ old.now.trees 0) × (new.now.trees 1 ≡ old.now.trees 1) × (new.now.trees 2 ≡ old.now.trees 2) × (new.now.trees 4 ≡ old.now.trees 4) × (new.now.trees 6 ≡ [])
 
 abbrev pub MakesElementIndex : State → State → Type 0
-MakesElementIndex old new = Becomes old new column_schema × (new.now.trees 0 ≡ old.now.trees 0) × (new.now.trees 1 ≡ old.now.trees 1) × (new.now.trees 2 ≡ old.now.trees 2) × (new.now.trees 4 ≡ old.now.trees 4) × (new.now.trees 6 ≡ old.now.trees 6)
+MakesElementIndex old new = Becomes old new table_schema × (new.now.trees 0 ≡ old.now.trees 0) × (new.now.trees 1 ≡ old.now.trees 1) × (new.now.trees 2 ≡ old.now.trees 2) × (new.now.trees 4 ≡ old.now.trees 4) × (new.now.trees 6 ≡ old.now.trees 6)
 
 -- the tables of elements have no rows
 abbrev pub HaveNoElements : Layout → Trees → Type 0
-HaveNoElements Blocks db = db 2 ≡ []
-HaveNoElements Columns db = (db 2 ≡ []) × (db 4 ≡ []) × (db 6 ≡ [])
+HaveNoElements Bodies db = db 2 ≡ []
+HaveNoElements Tables db = (db 2 ≡ []) × (db 4 ≡ []) × (db 6 ≡ [])
 
 -- the tables of elements are made, and `meta` and `blob` are as they were
 pub record MakesElements (layout : Layout) (old new : State) : Type 0 where

@@ -1,4 +1,4 @@
--- The tables of a store that keeps each element as rows of numbers and texts.
+-- The tables of a store in the layout of tables: each element is rows of numbers and texts.
 use Rattle.std.specs.Prelude.{ℕ, true, false, List, [], ◌∷◌, ◌++◌, replicate, None, codes}
 use Rattle.std.specs.List.{concat}
 use Rattle.sqlite.specs.Collation.TheVariants.{Binary}
@@ -72,11 +72,11 @@ with_tag = record { tables = meta ∷ blob ∷ element ∷ tag ∷ []; indexes =
 abbrev pub with_link : Schema
 with_link = record { tables = meta ∷ blob ∷ element ∷ tag ∷ link ∷ []; indexes = element_key ∷ tag_key ∷ link_key ∷ []; views = [] }
 
-abbrev pub column_schema : Schema
-column_schema = record { tables = meta ∷ blob ∷ element ∷ tag ∷ link ∷ []; indexes = element_key ∷ tag_key ∷ link_key ∷ element_by_id ∷ []; views = [] }
+abbrev pub table_schema : Schema
+table_schema = record { tables = meta ∷ blob ∷ element ∷ tag ∷ link ∷ []; indexes = element_key ∷ tag_key ∷ link_key ∷ element_by_id ∷ []; views = [] }
 
-abbrev pub second_version_text : List ℕ
-second_version_text = codes "INSERT INTO meta (version) VALUES (2)"
+abbrev pub table_version_text : List ℕ
+table_version_text = codes "INSERT INTO meta (version) VALUES (2)"
 
 abbrev pub insert_element_text : List ℕ
 insert_element_text = codes "INSERT INTO element (off, pos, kind, id, lat, lon, version, time, changeset, uid, user, visible) VALUES (?1, ?2, ?3, ?4, ?5, ?6, ?7, ?8, ?9, ?10, ?11, ?12)"

@@ -1,4 +1,4 @@
-//! The elements of the held blobs.
+//! The elements of the held blobs, in the layout of bodies.
 
 ghost use Rattle.std.specs.Prelude.{◌≡◌, Some, filter, IsTrue, MatchResult};
 ghost use Rattle.std.specs.FinMap as map;
@@ -13,64 +13,62 @@ ghost use Rattle.osm_store.specs.Load.Loading.{HasRowsOf};
 ghost use Rattle.osm_store.specs.Rows.{is_of, placed_in};
 
 use crate::fault::StoreFault;
+use crate::keeper::OFFSET_LIMIT;
 use crate::load::answer::{answer, integer, number};
-use crate::load::found::{Found, FoundBlocks, FoundRows};
-use crate::load::loaded::{Loaded, LoadedBlocks, LoadedRows};
-use crate::put::element_code;
+use crate::load::found::{Found, FoundBodies, FoundRows};
+use crate::load::loaded::{Loaded, LoadedBodies, LoadedRows};
 use crate::schema::Layout;
-use crate::schema::sql::{SELECT_ELEMENT, SELECT_ROWS};
+use crate::schema::codes::element_code;
+use crate::schema::sql::{FIND_BODIES, SELECT_BODIES};
 use osm_value::MemberKind;
 use sqlite::{Alter, Connection};
 use std::alloc::Global;
 
-/// No held blob starts here or later, or ends later.
-pub(crate) const OFFSET_LIMIT: u64 = 1 << 62;
-
 /// The rows of the blob at this offset; none where no blob is held there.
-pub(crate) fn load_rows<S: Alter>(
+pub(crate) fn load_bodies<S: Alter>(
     alloc: Global,
     connection: &mut Connection<S>,
     off: u64,
 ) -> Result<Loaded, StoreFault>
-    ensures held { HasCleanDisk (state S.Store connection.new) → (held : HeldMap) → Holds Layout.Blocks (state S.Store connection.old) held
+    ensures held { HasCleanDisk (state S.Store connection.new) → (held : HeldMap) → Holds Layout.Bodies (state S.Store connection.old) held
         → MatchResult result (λ loaded. ((blob : Blob) → map.get held off ≡ Some blob → HasRowsOf loaded blob.elements) × IsTrue (state S.Store connection.new).is_open) (λ fault. ¬ (IsForeign fault)) }
     ensures asks { JustAsks (state S.Store connection.old) (state S.Store connection.new) }
 {
     if off >= OFFSET_LIMIT {
-        let blocks = LoadedBlocks {
+        let bodies = LoadedBodies {
             rows: Vec::new(alloc),
         };
         return Ok(Loaded {
-            rows: LoadedRows::Blocks(blocks),
+            rows: LoadedRows::Bodies(bodies),
         });
     }
-    let rows = answer(connection, SELECT_ROWS, &[number(off)])?;
-    let blocks = LoadedBlocks { rows };
-    match blocks.check(alloc) {
+    let rows = answer(connection, SELECT_BODIES, &[number(off)])?;
+    let bodies = LoadedBodies { rows };
+    match bodies.check(alloc) {
         Ok(()) => Ok(Loaded {
-            rows: LoadedRows::Blocks(blocks),
+            rows: LoadedRows::Bodies(bodies),
         }),
         Err(fault) => Err(fault),
     }
 }
 
 /// The rows of all held elements of this kind and id, by offset and position.
-pub(crate) fn find_rows<S: Alter>(
+pub(crate) fn find_bodies<S: Alter>(
     alloc: Global,
     connection: &mut Connection<S>,
     kind: MemberKind,
     id: i64,
 ) -> Result<Found, StoreFault>
-    ensures held { HasCleanDisk (state S.Store connection.new) → (held : HeldMap) → Holds Layout.Blocks (state S.Store connection.old) held
+    ensures held { HasCleanDisk (state S.Store connection.new) → (held : HeldMap) → Holds Layout.Bodies (state S.Store connection.old) held
         → MatchResult result (λ found. AreMatches found (filter (is_of kind id) (placed_in held)) × IsTrue (state S.Store connection.new).is_open) (λ fault. ¬ (IsForeign fault)) }
     ensures asks { JustAsks (state S.Store connection.old) (state S.Store connection.new) }
 {
     let code = u64::from(element_code(kind));
-    let rows = answer(connection, SELECT_ELEMENT, &[number(code), integer(id)])?;
-    let blocks = FoundBlocks { rows };
-    match blocks.check(alloc) {
+    let rows = answer(connection, FIND_BODIES, &[number(code), integer(id)])?;
+    let bodies = FoundBodies { rows };
+    match bodies.check(alloc) {
         Ok(()) => Ok(Found {
-            rows: FoundRows::Blocks(blocks),
+            rows: FoundRows::Bodies(bodies),
         }),
         Err(fault) => Err(fault),
     }

@@ -1,6 +1,6 @@
 //! The extents of the held blobs.
 
-ghost use Rattle.std.specs.Prelude.{◌≡◌, ◌∷◌, [], ◌<◌, ◌≤◌, ◌^◌, ℕ, ℤ, pos, Bool, true, filter, if◌then◌else◌, Some, None, Ok, List, map, length, IsTrue, MatchResult, IfOk, All};
+ghost use Rattle.std.specs.Prelude.{◌≡◌, ◌∷◌, [], ◌<◌, ◌≤◌, ◌^◌, ℤ, pos, filter, Some, None, Ok, List, map, IsTrue, MatchResult, IfOk, All};
 ghost use Rattle.sqlite.specs.declared.types.Value.TheVariants.{Int};
 ghost use Rattle.sqlite.specs.Order.{Row};
 ghost use Rattle.sqlite.specs.State.{HasCleanDisk};
@@ -9,30 +9,17 @@ ghost use Rattle.osm_store.specs.Load.Asking.{JustAsks};
 ghost use Rattle.osm_store.specs.Held.{HeldMap};
 ghost use Rattle.osm_store.specs.LayoutHolding.{Holds, IsKeptExtent};
 ghost use Rattle.osm_store.specs.Keeping.{IsForeign, IsRange, extents_of, touches};
-ghost use Rattle.osm_store.specs.Rows.{blob_code, extent_columns};
+ghost use Rattle.osm_store.specs.Rows.{extent_columns};
 ghost use Rattle.osm_store.specs.Load.Starting.{IsStart};
 
 use crate::fault::{StoreFault, unread};
-use crate::keeper::Extent;
+use crate::keeper::{Extent, OFFSET_LIMIT};
 use crate::load::answer::{answer, integer, number};
-use crate::load::bodies::OFFSET_LIMIT;
 use crate::schema::Layout;
+use crate::schema::codes::blob_kind;
 use crate::schema::sql::{SELECT_EXTENTS, SELECT_LAST_START, SELECT_TOUCHING};
-use pbf_frame::Kind;
 use sqlite::{Alter, Connection, Row};
 use std::alloc::Global;
-
-/// The kind of blob that a row names by this number.
-fn blob_kind(code: u64) -> Option<Kind>
-    ensures { (kind : Kind) → code ≡ blob_code kind → result ≡ Some kind }
-{
-    match code {
-        0 => Some(Kind::OsmHeader),
-        1 => Some(Kind::OsmData),
-        2 => Some(Kind::Other),
-        _ => None,
-    }
-}
 
 /// The extent that a row stands for.
 fn extent_of(row: &Row) -> Result<Extent, StoreFault>

@@ -1,18 +1,16 @@
 //! The rows of the elements of one kind and id.
 
-ghost use Rattle.std.specs.Prelude.{◌≡◌, ◌<◌, ℕ, pos, List, length, Some, IfOk, IfErr};
-ghost use Rattle.sqlite.specs.declared.types.Value.TheVariants.{Int};
-ghost use Rattle.sqlite.specs.Order.{column};
-ghost use Rattle.osm_store.specs.Load.Finding.{AreMatches, AreBlockMatches};
+ghost use Rattle.std.specs.Prelude.{◌≡◌, ◌<◌, List, Some, IfOk, IfErr};
+ghost use Rattle.osm_store.specs.Load.Finding.{AreMatches, AreBodyMatches};
 ghost use Rattle.osm_store.specs.Rows.{Placed, found_row, IsStored};
 
 use crate::fault::StoreFault;
 use crate::load::loaded::element_at;
-use crate::load::tables::ColumnRows;
+use crate::load::tables::TableRows;
+use crate::load::values::number_at;
 use crate::schema::Layout;
 use osm_value::Element;
 use sqlite::Row;
-use sqlite::types::ValueRef;
 use std::alloc::{AllocError, Global};
 
 /// The rows of the elements of one kind and id.
@@ -28,8 +26,8 @@ impl Found {
         ensures { (matches : List Placed) → AreMatches self.now matches → IfOk result (λ found. found.items ≡ matches) }
     {
         match &self.rows {
-            FoundRows::Blocks(blocks) => blocks.matches(alloc),
-            FoundRows::Columns(columns) => columns.matches(alloc),
+            FoundRows::Bodies(bodies) => bodies.matches(alloc),
+            FoundRows::Tables(tables) => tables.matches(alloc),
         }
     }
 }
@@ -37,20 +35,20 @@ impl Found {
 /// The rows of the elements of one kind and id, as their store keeps elements.
 #[derive(Debug, Drop)]
 pub(crate) enum FoundRows {
-    Blocks(FoundBlocks),
-    Columns(ColumnRows),
+    Bodies(FoundBodies),
+    Tables(TableRows),
 }
 
 /// The rows of the elements of one kind and id, each with its place and its block.
 #[derive(Debug, Drop)]
-pub(crate) struct FoundBlocks {
+pub(crate) struct FoundBodies {
     pub(crate) rows: Vec<Row>,
 }
 
-impl FoundBlocks {
+impl FoundBodies {
     /// The elements, each after its place.
     fn matches(&self, alloc: Global) -> Result<Vec<(u64, u64, Element<'_>)>, AllocError>
-        ensures { (matches : List Placed) → AreBlockMatches self.now matches → IfOk result (λ found. found.items ≡ matches) }
+        ensures { (matches : List Placed) → AreBodyMatches self.now matches → IfOk result (λ found. found.items ≡ matches) }
     {
         let mut matches = Vec::new(alloc);
         for row in &self.rows {
@@ -63,7 +61,7 @@ impl FoundBlocks {
 
     /// Whether each row has a place and the block of one element.
     pub(crate) fn check(&self, alloc: Global) -> Result<(), StoreFault>
-        ensures { (matches : List Placed) → AreBlockMatches self.now matches → IfErr result (λ fault. fault ≡ StoreFault.Memory) }
+        ensures { (matches : List Placed) → AreBodyMatches self.now matches → IfErr result (λ fault. fault ≡ StoreFault.Memory) }
     {
         for row in &self.rows {
             if match_at(alloc, row)?.is_none() {
@@ -76,7 +74,7 @@ impl FoundBlocks {
 
 /// The element that a row stands for; None where it stands for none.
 fn match_at(alloc: Global, row: &Row) -> Result<Option<(u64, u64, Element<'_>)>, AllocError>
-    ensures { (p : Placed) → IsStored Layout.Blocks p.2 → row.now ≡ found_row p → IfOk result (λ found. found ≡ Some p) }
+    ensures { (p : Placed) → IsStored Layout.Bodies p.2 → row.now ≡ found_row p → IfOk result (λ found. found ≡ Some p) }
 {
     let (Some(off), Some(position)) = (number_at(row, 0), number_at(row, 1)) else {
         return Ok(None);
@@ -84,15 +82,5 @@ fn match_at(alloc: Global, row: &Row) -> Result<Option<(u64, u64, Element<'_>)>,
     match element_at(alloc, row, 2)? {
         Some(element) => Ok(Some((off, position, element))),
         None => Ok(None),
-    }
-}
-
-/// The number in a column; None where no such number stands there.
-pub(crate) fn number_at(row: &Row, at: usize) -> Option<u64>
-    ensures { (n : ℕ) → at < length row.now → column row.now at ≡ Int (pos n) → result ≡ Some n }
-{
-    match row.get_ref(at) {
-        Ok(ValueRef::Int(number)) if number >= 0 => Some(number as u64),
-        _ => None,
     }
 }

@@ -1,4 +1,4 @@
-//! The elements of the held blobs, from the tables of either layout.
+//! The elements of the held blobs, in either layout.
 
 ghost use Rattle.std.specs.Prelude.{◌≡◌, Some, filter, IsTrue, MatchResult};
 ghost use Rattle.std.specs.FinMap as map;
@@ -13,10 +13,10 @@ ghost use Rattle.osm_store.specs.Load.Loading.{HasRowsOf};
 ghost use Rattle.osm_store.specs.Rows.{is_of, placed_in};
 
 use crate::fault::StoreFault;
-use crate::load::bodies::{find_rows, load_rows};
+use crate::load::bodies::{find_bodies, load_bodies};
 use crate::load::found::Found;
 use crate::load::loaded::Loaded;
-use crate::load::tables::{find_elements, load_elements};
+use crate::load::tables::{find_tables, load_tables};
 use crate::schema::Layout;
 use osm_value::MemberKind;
 use sqlite::{Alter, Connection};
@@ -34,8 +34,8 @@ pub(crate) fn load_held<S: Alter>(
     ensures asks { JustAsks (state S.Store connection.old) (state S.Store connection.new) }
 {
     match layout {
-        Layout::Blocks => load_rows(alloc, connection, off),
-        Layout::Columns => load_elements(alloc, connection, off),
+        Layout::Bodies => load_bodies(alloc, connection, off),
+        Layout::Tables => load_tables(alloc, connection, off),
     }
 }
 
@@ -52,7 +52,7 @@ pub(crate) fn find_held<S: Alter>(
     ensures asks { JustAsks (state S.Store connection.old) (state S.Store connection.new) }
 {
     match layout {
-        Layout::Blocks => find_rows(alloc, connection, kind, id),
-        Layout::Columns => find_elements(alloc, connection, kind, id),
+        Layout::Bodies => find_bodies(alloc, connection, kind, id),
+        Layout::Tables => find_tables(alloc, connection, kind, id),
     }
 }

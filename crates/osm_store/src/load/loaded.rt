@@ -1,20 +1,20 @@
 //! The rows of one blob.
 
-ghost use Rattle.std.specs.Prelude.{◌≡◌, ◌∷◌, [], ◌<◌, ℕ, List, length, Some, IfOk, IfErr, IsSomeAnd};
+ghost use Rattle.std.specs.Prelude.{◌≡◌, ◌∷◌, [], ◌<◌, List, length, Some, IfOk, IfErr};
 ghost use Rattle.sqlite.specs.declared.types.Value.TheVariants.{Blob as Octets};
 ghost use Rattle.sqlite.specs.Order.{column};
 ghost use Rattle.osm_value.specs.declared.element.Element.{Element};
 ghost use Rattle.osm_write.specs.Canon.{canon};
 ghost use Rattle.osm_store.specs.Held.{HasFewTexts};
-ghost use Rattle.osm_store.specs.Load.Loading.{HasRowsOf, AreBlocksOf};
+ghost use Rattle.osm_store.specs.Load.Loading.{HasRowsOf, AreBodiesOf};
 ghost use Rattle.osm_store.specs.Rows.{HasBlock};
 
 use crate::fault::StoreFault;
-use crate::load::tables::ColumnRows;
+use crate::load::tables::TableRows;
+use crate::load::values::bytes_at;
 use osm_block::{BlockError, read_block};
 use osm_value::Element;
 use sqlite::Row;
-use sqlite::types::ValueRef;
 use std::alloc::{AllocError, Global};
 
 /// The rows of one blob.
@@ -29,8 +29,8 @@ impl Loaded {
         ensures { (elements : List Element) → HasRowsOf self.now elements → IfOk result (λ found. found.items ≡ elements) }
     {
         match &self.rows {
-            LoadedRows::Blocks(blocks) => blocks.elements(alloc),
-            LoadedRows::Columns(columns) => columns.elements(alloc),
+            LoadedRows::Bodies(bodies) => bodies.elements(alloc),
+            LoadedRows::Tables(tables) => tables.elements(alloc),
         }
     }
 }
@@ -38,20 +38,20 @@ impl Loaded {
 /// The rows of one blob, as its store keeps elements.
 #[derive(Debug, Drop)]
 pub(crate) enum LoadedRows {
-    Blocks(LoadedBlocks),
-    Columns(ColumnRows),
+    Bodies(LoadedBodies),
+    Tables(TableRows),
 }
 
 /// The rows of one blob, each with the block of one element.
 #[derive(Debug, Drop)]
-pub(crate) struct LoadedBlocks {
+pub(crate) struct LoadedBodies {
     pub(crate) rows: Vec<Row>,
 }
 
-impl LoadedBlocks {
+impl LoadedBodies {
     /// The elements, in order.
     fn elements(&self, alloc: Global) -> Result<Vec<Element<'_>>, AllocError>
-        ensures { (elements : List Element) → AreBlocksOf self.now elements → IfOk result (λ found. found.items ≡ elements) }
+        ensures { (elements : List Element) → AreBodiesOf self.now elements → IfOk result (λ found. found.items ≡ elements) }
     {
         let mut elements = Vec::new(alloc);
         for row in &self.rows {
@@ -64,7 +64,7 @@ impl LoadedBlocks {
 
     /// Whether each row has the block of one element.
     pub(crate) fn check(&self, alloc: Global) -> Result<(), StoreFault>
-        ensures { (elements : List Element) → AreBlocksOf self.now elements → IfErr result (λ fault. fault ≡ StoreFault.Memory) }
+        ensures { (elements : List Element) → AreBodiesOf self.now elements → IfErr result (λ fault. fault ≡ StoreFault.Memory) }
     {
         for row in &self.rows {
             if element_at(alloc, row, 0)?.is_none() {
@@ -93,16 +93,6 @@ fn element_in<'a>(alloc: Global, block: &'a [u8]) -> Result<Option<Element<'a>>,
         Ok(elements) => Ok(only_element(elements)),
         Err(BlockError::Memory) => Err(AllocError),
         Err(BlockError::Fault(_)) => Ok(None),
-    }
-}
-
-/// The bytes in a column, which lie in the row.
-fn bytes_at(row: &Row, at: usize) -> Option<&[u8]>
-    ensures { (bytes : List ℕ) → at < length row.now → column row.now at ≡ Octets bytes → IsSomeAnd result (λ found. found.now ≡ bytes) }
-{
-    match row.get_ref(at) {
-        Ok(ValueRef::Blob(bytes)) => Some(bytes),
-        _ => None,
     }
 }
 

@@ -1,10 +1,9 @@
-//! The elements of the held blobs, from the tables of numbers and texts.
+//! The elements of the held blobs, in the layout of tables.
 
 mod elements;
 mod parts;
 mod rows;
 mod search;
-mod values;
 
 ghost use Rattle.std.specs.Prelude.{◌≡◌, Some, filter, IsTrue, MatchResult};
 ghost use Rattle.std.specs.FinMap as map;
@@ -19,61 +18,61 @@ ghost use Rattle.osm_store.specs.Load.Loading.{HasRowsOf};
 ghost use Rattle.osm_store.specs.Rows.{is_of, placed_in};
 
 use crate::fault::StoreFault;
-use crate::load::bodies::OFFSET_LIMIT;
+use crate::keeper::OFFSET_LIMIT;
 use crate::load::found::{Found, FoundRows};
 use crate::load::loaded::{Loaded, LoadedRows};
 use crate::schema::Layout;
 use osm_value::MemberKind;
-pub(crate) use rows::ColumnRows;
-use rows::load_columns;
-use search::find_columns;
+pub(crate) use rows::TableRows;
+use rows::load_table_rows;
+use search::find_table_rows;
 use sqlite::{Alter, Connection};
 use std::alloc::Global;
 
 /// The rows of the blob at this offset; none where no blob is held there.
-pub(crate) fn load_elements<S: Alter>(
+pub(crate) fn load_tables<S: Alter>(
     alloc: Global,
     connection: &mut Connection<S>,
     off: u64,
 ) -> Result<Loaded, StoreFault>
-    ensures held { HasCleanDisk (state S.Store connection.new) → (held : HeldMap) → Holds Layout.Columns (state S.Store connection.old) held
+    ensures held { HasCleanDisk (state S.Store connection.new) → (held : HeldMap) → Holds Layout.Tables (state S.Store connection.old) held
         → MatchResult result (λ loaded. ((blob : Blob) → map.get held off ≡ Some blob → HasRowsOf loaded blob.elements) × IsTrue (state S.Store connection.new).is_open) (λ fault. ¬ (IsForeign fault)) }
     ensures asks { JustAsks (state S.Store connection.old) (state S.Store connection.new) }
 {
     if off >= OFFSET_LIMIT {
-        let columns = ColumnRows {
+        let rows = TableRows {
             elements: Vec::new(alloc),
             tags: Vec::new(alloc),
             links: Vec::new(alloc),
         };
         return Ok(Loaded {
-            rows: LoadedRows::Columns(columns),
+            rows: LoadedRows::Tables(rows),
         });
     }
-    let columns = load_columns(connection, off)?;
-    match columns.check(alloc) {
+    let rows = load_table_rows(connection, off)?;
+    match rows.check(alloc) {
         Ok(()) => Ok(Loaded {
-            rows: LoadedRows::Columns(columns),
+            rows: LoadedRows::Tables(rows),
         }),
         Err(fault) => Err(fault),
     }
 }
 
 /// The rows of all held elements of this kind and id, by offset and position.
-pub(crate) fn find_elements<S: Alter>(
+pub(crate) fn find_tables<S: Alter>(
     alloc: Global,
     connection: &mut Connection<S>,
     kind: MemberKind,
     id: i64,
 ) -> Result<Found, StoreFault>
-    ensures held { HasCleanDisk (state S.Store connection.new) → (held : HeldMap) → Holds Layout.Columns (state S.Store connection.old) held
+    ensures held { HasCleanDisk (state S.Store connection.new) → (held : HeldMap) → Holds Layout.Tables (state S.Store connection.old) held
         → MatchResult result (λ found. AreMatches found (filter (is_of kind id) (placed_in held)) × IsTrue (state S.Store connection.new).is_open) (λ fault. ¬ (IsForeign fault)) }
     ensures asks { JustAsks (state S.Store connection.old) (state S.Store connection.new) }
 {
-    let columns = find_columns(alloc, connection, kind, id)?;
-    match columns.check(alloc) {
+    let rows = find_table_rows(alloc, connection, kind, id)?;
+    match rows.check(alloc) {
         Ok(()) => Ok(Found {
-            rows: FoundRows::Columns(columns),
+            rows: FoundRows::Tables(rows),
         }),
         Err(fault) => Err(fault),
     }

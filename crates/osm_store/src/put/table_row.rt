@@ -1,4 +1,4 @@
-//! Rows of the tables of numbers and texts, and how they are written.
+//! Rows of `element`, `tag` and `link`, the layout of tables, and how they are written.
 
 ghost use Rattle.std.specs.Prelude.{◌≡◌, ℕ, ◌<◌, ◌≤◌, ◌++◌, List, map, flat_map, length, IsTrue, OnOk, IfErr};
 ghost use Rattle.sqlite.specs.Order.{Row};
@@ -10,8 +10,8 @@ ghost use Rattle.osm_store.specs.Put.Steps.{IsWriting, AddsRows};
 ghost use Rattle.osm_store.specs.Put.Batches.{rows_of, element_statement, tag_statement, link_statement};
 
 use crate::fault::StoreFault;
-use crate::put::element_code;
 use crate::schema::Layout;
+use crate::schema::codes::element_code;
 use crate::schema::sql::{
     INSERT_ELEMENT, INSERT_ELEMENTS, INSERT_LINK, INSERT_LINKS, INSERT_TAG, INSERT_TAGS,
 };
@@ -74,8 +74,8 @@ pub(crate) trait TableRow {
         values: &[ValueRef<'_>],
     ) -> Result<(), StoreFault>
         ensures same_reference { transaction.new.conn.ghost_name ≡ transaction.old.conn.ghost_name }
-        ensures added { HasCleanDisk (state S.Store transaction.new.conn.now) → IsWriting Layout.Columns (state S.Store transaction.old.conn.now)
-            → OnOk result ((rows : List Self) → length rows ≡ rows_of batch → bound values.now ≡ flat_map columns rows → AddsRows Layout.Columns tree (state S.Store transaction.old.conn.now) (state S.Store transaction.new.conn.now) (map columns rows)) }
+        ensures added { HasCleanDisk (state S.Store transaction.new.conn.now) → IsWriting Layout.Tables (state S.Store transaction.old.conn.now)
+            → OnOk result ((rows : List Self) → length rows ≡ rows_of batch → bound values.now ≡ flat_map columns rows → AddsRows Layout.Tables tree (state S.Store transaction.old.conn.now) (state S.Store transaction.new.conn.now) (map columns rows)) }
         ensures inside { HasCleanDisk (state S.Store transaction.new.conn.now) → IsTrue (state S.Store transaction.old.conn.now).in_transaction → OnOk result (IsTrue (state S.Store transaction.new.conn.now).in_transaction) }
         ensures kept { HasCleanDisk (state S.Store transaction.new.conn.now) → KeepsCommit (state S.Store transaction.old.conn.now) (state S.Store transaction.new.conn.now) }
         ensures ours { IfErr result (λ fault. ¬ (IsForeign fault)) }
@@ -251,8 +251,8 @@ fn add_batch<S: Alter, R: TableRow>(
 ) -> Result<(), StoreFault>
     requires { length rows.now ≡ rows_of batch }
     ensures same_reference { transaction.new.conn.ghost_name ≡ transaction.old.conn.ghost_name }
-    ensures added { HasCleanDisk (state S.Store transaction.new.conn.now) → IsWriting Layout.Columns (state S.Store transaction.old.conn.now)
-        → OnOk result (AddsRows Layout.Columns R.tree (state S.Store transaction.old.conn.now) (state S.Store transaction.new.conn.now) (map R.columns rows.now)) }
+    ensures added { HasCleanDisk (state S.Store transaction.new.conn.now) → IsWriting Layout.Tables (state S.Store transaction.old.conn.now)
+        → OnOk result (AddsRows Layout.Tables R.tree (state S.Store transaction.old.conn.now) (state S.Store transaction.new.conn.now) (map R.columns rows.now)) }
     ensures inside { HasCleanDisk (state S.Store transaction.new.conn.now) → IsTrue (state S.Store transaction.old.conn.now).in_transaction → OnOk result (IsTrue (state S.Store transaction.new.conn.now).in_transaction) }
     ensures kept { HasCleanDisk (state S.Store transaction.new.conn.now) → KeepsCommit (state S.Store transaction.old.conn.now) (state S.Store transaction.new.conn.now) }
     ensures ours { IfErr result (λ fault. ¬ (IsForeign fault)) }
@@ -275,8 +275,8 @@ pub(crate) fn add_rows<S: Alter, R: TableRow>(
     rows: &[R],
 ) -> Result<(), StoreFault>
     ensures same_reference { transaction.new.conn.ghost_name ≡ transaction.old.conn.ghost_name }
-    ensures added { HasCleanDisk (state S.Store transaction.new.conn.now) → IsWriting Layout.Columns (state S.Store transaction.old.conn.now)
-        → OnOk result (AddsRows Layout.Columns R.tree (state S.Store transaction.old.conn.now) (state S.Store transaction.new.conn.now) (map R.columns rows.now)) }
+    ensures added { HasCleanDisk (state S.Store transaction.new.conn.now) → IsWriting Layout.Tables (state S.Store transaction.old.conn.now)
+        → OnOk result (AddsRows Layout.Tables R.tree (state S.Store transaction.old.conn.now) (state S.Store transaction.new.conn.now) (map R.columns rows.now)) }
     ensures inside { HasCleanDisk (state S.Store transaction.new.conn.now) → IsTrue (state S.Store transaction.old.conn.now).in_transaction → OnOk result (IsTrue (state S.Store transaction.new.conn.now).in_transaction) }
     ensures kept { HasCleanDisk (state S.Store transaction.new.conn.now) → KeepsCommit (state S.Store transaction.old.conn.now) (state S.Store transaction.new.conn.now) }
     ensures ours { IfErr result (λ fault. ¬ (IsForeign fault)) }

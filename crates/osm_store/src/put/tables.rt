@@ -1,4 +1,4 @@
-//! The rows of numbers and texts that the elements of a blob stand for.
+//! A blob's elements in the layout of tables: all their rows are made, and then written.
 
 ghost use Rattle.std.specs.Prelude.{◌≡◌, ◌++◌, ◌≤◌, ◌^◌, pos, List, map, IsTrue, OnOk, IfOk, IfErr};
 ghost use Rattle.std.specs.List.{AllByRecursion};
@@ -9,7 +9,7 @@ ghost use Rattle.osm_value.specs.Elements.{tags_of_element};
 ghost use Rattle.osm_store.specs.Rows.{Placed, placed, CanStore};
 ghost use Rattle.osm_store.specs.TableRows.{lat_of, lon_of, links_of, node_link, parts, element_row, tag_row, link_row, element_rows, tag_rows, link_rows};
 ghost use Rattle.osm_store.specs.Put.WrittenRows.{element_columns, tag_columns, link_columns};
-ghost use Rattle.osm_store.specs.Put.Steps.{IsWriting, AddsElements, AddsRows};
+ghost use Rattle.osm_store.specs.Put.Steps.{IsWriting, AddsElements};
 
 use crate::fault::StoreFault;
 use crate::put::table_row::{ElementRow, LinkRow, TagRow, add_rows};
@@ -234,7 +234,7 @@ fn link_rows<'a>(
 }
 
 /// Writes the rows of elements, each table in turn.
-fn write_columns<S: Alter>(
+fn write_table_rows<S: Alter>(
     alloc: Global,
     transaction: &mut Transaction<'_, S>,
     elements: &[ElementRow<'_>],
@@ -242,9 +242,9 @@ fn write_columns<S: Alter>(
     links: &[LinkRow<'_>],
 ) -> Result<(), StoreFault>
     ensures same_reference { transaction.new.conn.ghost_name ≡ transaction.old.conn.ghost_name }
-    ensures added { HasCleanDisk (state S.Store transaction.new.conn.now) → IsWriting Layout.Columns (state S.Store transaction.old.conn.now)
+    ensures added { HasCleanDisk (state S.Store transaction.new.conn.now) → IsWriting Layout.Tables (state S.Store transaction.old.conn.now)
         → OnOk result ((placed : List Placed) → map element_columns elements.now ≡ element_rows placed → map tag_columns tags.now ≡ tag_rows placed → map link_columns links.now ≡ link_rows placed
-        → AddsElements Layout.Columns (state S.Store transaction.old.conn.now) (state S.Store transaction.new.conn.now) placed) }
+        → AddsElements Layout.Tables (state S.Store transaction.old.conn.now) (state S.Store transaction.new.conn.now) placed) }
     ensures inside { HasCleanDisk (state S.Store transaction.new.conn.now) → IsTrue (state S.Store transaction.old.conn.now).in_transaction → OnOk result (IsTrue (state S.Store transaction.new.conn.now).in_transaction) }
     ensures kept { HasCleanDisk (state S.Store transaction.new.conn.now) → KeepsCommit (state S.Store transaction.old.conn.now) (state S.Store transaction.new.conn.now) }
     ensures ours { IfErr result (λ fault. ¬ (IsForeign fault)) }
@@ -256,7 +256,7 @@ fn write_columns<S: Alter>(
 }
 
 /// The elements of a blob, each with its tags and its links: first all rows are made, then they are written.
-pub(crate) fn add_columns<S: Alter>(
+pub(crate) fn add_table_rows<S: Alter>(
     alloc: Global,
     transaction: &mut Transaction<'_, S>,
     off: u64,
@@ -264,9 +264,9 @@ pub(crate) fn add_columns<S: Alter>(
 ) -> Result<(), StoreFault>
     requires bounds { off ≤ 2 ^ 62 }
     ensures same_reference { transaction.new.conn.ghost_name ≡ transaction.old.conn.ghost_name }
-    ensures added { HasCleanDisk (state S.Store transaction.new.conn.now) → IsWriting Layout.Columns (state S.Store transaction.old.conn.now)
-        → OnOk result (AddsElements Layout.Columns (state S.Store transaction.old.conn.now) (state S.Store transaction.new.conn.now) (placed off 0 elements.now)) }
-    ensures can_store { OnOk result (AllByRecursion (CanStore Layout.Columns) elements.now) }
+    ensures added { HasCleanDisk (state S.Store transaction.new.conn.now) → IsWriting Layout.Tables (state S.Store transaction.old.conn.now)
+        → OnOk result (AddsElements Layout.Tables (state S.Store transaction.old.conn.now) (state S.Store transaction.new.conn.now) (placed off 0 elements.now)) }
+    ensures can_store { OnOk result (AllByRecursion (CanStore Layout.Tables) elements.now) }
     ensures inside { HasCleanDisk (state S.Store transaction.new.conn.now) → IsTrue (state S.Store transaction.old.conn.now).in_transaction → OnOk result (IsTrue (state S.Store transaction.new.conn.now).in_transaction) }
     ensures kept { HasCleanDisk (state S.Store transaction.new.conn.now) → KeepsCommit (state S.Store transaction.old.conn.now) (state S.Store transaction.new.conn.now) }
     ensures ours { IfErr result (λ fault. ¬ (IsForeign fault)) }
@@ -276,5 +276,5 @@ pub(crate) fn add_columns<S: Alter>(
     let element_rows = element_rows(alloc, off, elements)?;
     let tag_rows = tag_rows(alloc, off, elements)?;
     let link_rows = link_rows(alloc, off, elements)?;
-    write_columns(alloc, transaction, &element_rows, &tag_rows, &link_rows)
+    write_table_rows(alloc, transaction, &element_rows, &tag_rows, &link_rows)
 }

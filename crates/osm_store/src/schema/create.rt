@@ -1,9 +1,9 @@
 //! The tables of a store that holds nothing.
 
-ghost use Rattle.std.specs.Prelude.{◌≡◌, false, [], ◌⊎◌, IsTrue, OnOk, OnErr};
-ghost use Rattle.sqlite.specs.State.{HasCleanDisk, IsUnchanged, IsRolledBack, KeepsCommit, Survives};
+ghost use Rattle.std.specs.Prelude.{◌≡◌, false, [], IsTrue, OnOk, OnErr};
+ghost use Rattle.sqlite.specs.State.{HasCleanDisk, KeepsCommit, Survives};
 ghost use Rattle.sqlite.specs.Held.{state};
-ghost use Rattle.osm_store.specs.Schema.Bodies.{no_schema, one_table, two_tables, three_tables, store_schema};
+ghost use Rattle.osm_store.specs.Schema.Bodies.{no_schema, one_table, two_tables, three_tables};
 ghost use Rattle.osm_store.specs.Schema.Tables.{with_element, with_tag, with_link};
 ghost use Rattle.osm_store.specs.Schema.Layouts.{schema_of, version_text_of};
 ghost use Rattle.osm_store.specs.Put.Steps.{IsOver, IsWriting, MakesMeta, MakesBlob, MakesBody, MakesIndex, MakesElement, MakesTag, MakesLink, MakesElementIndex, MakesElements, WritesVersion, IsEmptyStore};
@@ -11,7 +11,7 @@ ghost use Rattle.osm_store.specs.Put.Steps.{IsOver, IsWriting, MakesMeta, MakesB
 use crate::schema::Layout;
 use crate::schema::sql::{
     CREATE_BLOB, CREATE_BODY, CREATE_ELEMENT, CREATE_ELEMENT_INDEX, CREATE_INDEX, CREATE_LINK,
-    CREATE_META, CREATE_TAG, INSERT_SECOND_VERSION, INSERT_VERSION,
+    CREATE_META, CREATE_TAG, INSERT_BODY_VERSION, INSERT_TABLE_VERSION,
 };
 use sqlite::{Alter, Connection, Error, Transaction};
 
@@ -103,10 +103,10 @@ fn make_element_index<S: Alter>(transaction: &mut Transaction<'_, S>) -> Result<
     Ok(())
 }
 
-fn make_block_tables<S: Alter>(transaction: &mut Transaction<'_, S>) -> Result<(), Error>
+fn make_body_tables<S: Alter>(transaction: &mut Transaction<'_, S>) -> Result<(), Error>
     requires { HasCleanDisk (state S.Store transaction.old.conn.now) → IsOver two_tables (state S.Store transaction.old.conn.now) }
     ensures same_reference { transaction.new.conn.ghost_name ≡ transaction.old.conn.ghost_name }
-    ensures made { HasCleanDisk (state S.Store transaction.new.conn.now) → OnOk result (MakesElements Layout.Blocks (state S.Store transaction.old.conn.now) (state S.Store transaction.new.conn.now)) }
+    ensures made { HasCleanDisk (state S.Store transaction.new.conn.now) → OnOk result (MakesElements Layout.Bodies (state S.Store transaction.old.conn.now) (state S.Store transaction.new.conn.now)) }
     ensures kept { HasCleanDisk (state S.Store transaction.new.conn.now) → KeepsCommit (state S.Store transaction.old.conn.now) (state S.Store transaction.new.conn.now) }
     ensures survives { Survives (state S.Store transaction.old.conn.now) (state S.Store transaction.new.conn.now) (λ _. ⊥) }
 {
@@ -114,10 +114,10 @@ fn make_block_tables<S: Alter>(transaction: &mut Transaction<'_, S>) -> Result<(
     make_index(transaction)
 }
 
-fn make_column_tables<S: Alter>(transaction: &mut Transaction<'_, S>) -> Result<(), Error>
+fn make_row_tables<S: Alter>(transaction: &mut Transaction<'_, S>) -> Result<(), Error>
     requires { HasCleanDisk (state S.Store transaction.old.conn.now) → IsOver two_tables (state S.Store transaction.old.conn.now) }
     ensures same_reference { transaction.new.conn.ghost_name ≡ transaction.old.conn.ghost_name }
-    ensures made { HasCleanDisk (state S.Store transaction.new.conn.now) → OnOk result (MakesElements Layout.Columns (state S.Store transaction.old.conn.now) (state S.Store transaction.new.conn.now)) }
+    ensures made { HasCleanDisk (state S.Store transaction.new.conn.now) → OnOk result (MakesElements Layout.Tables (state S.Store transaction.old.conn.now) (state S.Store transaction.new.conn.now)) }
     ensures kept { HasCleanDisk (state S.Store transaction.new.conn.now) → KeepsCommit (state S.Store transaction.old.conn.now) (state S.Store transaction.new.conn.now) }
     ensures survives { Survives (state S.Store transaction.old.conn.now) (state S.Store transaction.new.conn.now) (λ _. ⊥) }
 {
@@ -138,8 +138,8 @@ fn make_element_tables<S: Alter>(
     ensures survives { Survives (state S.Store transaction.old.conn.now) (state S.Store transaction.new.conn.now) (λ _. ⊥) }
 {
     match layout {
-        Layout::Blocks => make_block_tables(transaction),
-        Layout::Columns => make_column_tables(transaction),
+        Layout::Bodies => make_body_tables(transaction),
+        Layout::Tables => make_row_tables(transaction),
     }
 }
 
@@ -148,8 +148,8 @@ fn version_text(layout: Layout) -> &'static str
     ensures { result.now ≡ version_text_of layout }
 {
     match layout {
-        Layout::Blocks => INSERT_VERSION,
-        Layout::Columns => INSERT_SECOND_VERSION,
+        Layout::Bodies => INSERT_BODY_VERSION,
+        Layout::Tables => INSERT_TABLE_VERSION,
     }
 }
 

@@ -3,10 +3,10 @@
 /// How a store keeps elements.
 #[derive(Clone, Copy, Debug, PartialEq, Eq)]
 pub enum Layout {
-    /// Each as a row with a block of its own.
-    Blocks,
-    /// Each as a row of numbers and texts, with further rows for its tags, and for its nodes or members.
-    Columns,
+    /// Each is a row of one table, with a block of its own, its body.
+    Bodies,
+    /// Each is a row of numbers and texts, with further rows for its tags, and for its nodes or members.
+    Tables,
 }
 
 /// The layout of all stores of a type.
@@ -23,20 +23,20 @@ pub trait StoreLayout {
 pub struct Bodies;
 
 impl StoreLayout for Bodies {
-    ghost use Rattle.osm_store.specs.declared.schema.layout.Layout.TheVariants.{Blocks};
+    ghost use Rattle.osm_store.specs.declared.schema.layout.Layout.TheVariants as layouts;
 
-    ghost LAYOUT = { Blocks };
+    ghost LAYOUT = { layouts.Bodies };
 
-    const LAYOUT: Layout = Layout::Blocks;
+    const LAYOUT: Layout = Layout::Bodies;
 }
 
 /// Each element is a row of numbers and texts, with further rows for its tags, and for its nodes or members.
 pub struct Tables;
 
 impl StoreLayout for Tables {
-    ghost use Rattle.osm_store.specs.declared.schema.layout.Layout.TheVariants.{Columns};
+    ghost use Rattle.osm_store.specs.declared.schema.layout.Layout.TheVariants as layouts;
 
-    ghost LAYOUT = { Columns };
+    ghost LAYOUT = { layouts.Tables };
 
-    const LAYOUT: Layout = Layout::Columns;
+    const LAYOUT: Layout = Layout::Tables;
 }

@@ -31,8 +31,8 @@ fn version_of(layout: Layout) -> i64
     ensures { result ≡ pos (version_of layout) }
 {
     match layout {
-        Layout::Blocks => 1,
-        Layout::Columns => 2,
+        Layout::Bodies => 1,
+        Layout::Tables => 2,
     }
 }
 

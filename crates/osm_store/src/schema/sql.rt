@@ -21,9 +21,9 @@ pub(crate) const CREATE_LINK: &str =
 
 pub(crate) const CREATE_ELEMENT_INDEX: &str = "CREATE INDEX element_by_id ON element (kind, id)";
 
-pub(crate) const INSERT_VERSION: &str = "INSERT INTO meta (version) VALUES (1)";
+pub(crate) const INSERT_BODY_VERSION: &str = "INSERT INTO meta (version) VALUES (1)";
 
-pub(crate) const INSERT_SECOND_VERSION: &str = "INSERT INTO meta (version) VALUES (2)";
+pub(crate) const INSERT_TABLE_VERSION: &str = "INSERT INTO meta (version) VALUES (2)";
 
 pub(crate) const INSERT_BLOB: &str =
     "INSERT INTO blob (off, fin, digest, kind, n) VALUES (?1, ?2, ?3, ?4, ?5)";
@@ -77,9 +77,9 @@ pub(crate) const SELECT_LAST_START: &str =
 pub(crate) const SELECT_TOUCHING: &str =
     "SELECT off, fin, digest, kind, n FROM blob WHERE off >= ?1 AND off < ?2 AND fin > ?3 ORDER BY off";
 
-pub(crate) const SELECT_ROWS: &str = "SELECT data FROM body WHERE off = ?1 ORDER BY pos";
+pub(crate) const SELECT_BODIES: &str = "SELECT data FROM body WHERE off = ?1 ORDER BY pos";
 
-pub(crate) const SELECT_ELEMENT: &str =
+pub(crate) const FIND_BODIES: &str =
     "SELECT off, pos, data FROM body WHERE kind = ?1 AND id = ?2 ORDER BY off, pos";
 
 pub(crate) const SELECT_ELEMENTS: &str =
@@ -91,7 +91,7 @@ pub(crate) const SELECT_TAGS: &str =
 pub(crate) const SELECT_LINKS: &str =
     "SELECT off, pos, k, kind, ref, role FROM link WHERE off = ?1 ORDER BY off, pos, k";
 
-pub(crate) const SELECT_FOUND: &str =
+pub(crate) const FIND_ELEMENTS: &str =
     "SELECT off, pos, kind, id, lat, lon, version, time, changeset, uid, user, visible FROM element WHERE kind = ?1 AND id = ?2 ORDER BY off, pos";
 
 pub(crate) const SELECT_ITS_TAGS: &str =

@@ -1,22 +1,22 @@
-//! Elements, read from the rows of numbers and texts of one table and the next.
+//! Elements, read from rows of `element`, `tag` and `link`.
 
 ghost use Rattle.std.specs.Prelude.{◌≡◌, ◌++◌, ◌<◌, ℕ, List, length, [], map, All, Some, true, false, IfOk, IfErr, IsSomeAnd, IfSome};
 ghost use Rattle.std.specs.List.{AllByRecursion};
 ghost use Rattle.sqlite.specs.declared.types.Value.TheVariants.{Null};
 ghost use Rattle.sqlite.specs.Order.{Row as SqlRow, column};
 ghost use Rattle.osm_value.specs.declared.element.Element.TheVariants as elements;
-ghost use Rattle.osm_value.specs.Elements.{IsElement, tags_of_element};
-ghost use Rattle.osm_value.specs.Ranges.{IsText, IsWide, IsMember, IsNode, IsWay, IsRelation, AreTags};
+ghost use Rattle.osm_value.specs.Elements.{IsElement};
+ghost use Rattle.osm_value.specs.Ranges.{IsWide, IsMember, IsNode, IsWay, IsRelation, AreTags};
 ghost use Rattle.osm_value.specs.Value.{Text, MemberValue, NodeValue, WayValue, RelationValue};
 ghost use Rattle.osm_store.specs.Load.TableElements.{StandsAt, StandsApart, IsTagPart, IsMemberPart, IsNodePart, item_of};
-ghost use Rattle.osm_store.specs.Load.TableRows.{AreRowsOf};
-ghost use Rattle.osm_store.specs.TableRows.{Part, node_link, element_row, tag_row, tags_at, link_row, links_at};
+ghost use Rattle.osm_store.specs.Load.TableAnswers.{AreRowsOf};
+ghost use Rattle.osm_store.specs.TableRows.{Part, element_row, tag_row, tags_at, link_row, links_at};
 ghost use Rattle.osm_store.specs.Rows.{Placed};
 
 use crate::fault::StoreFault;
-use crate::load::tables::ColumnRows;
+use crate::load::tables::TableRows;
 use crate::load::tables::parts::{info_of, member_of, tag_of};
-use crate::load::tables::values::{is_null_at, kind_at, place_of, wide_at};
+use crate::load::values::{is_null_at, kind_at, place_of, wide_at};
 use osm_value::{Element, Member, MemberKind, Node, Relation, Way};
 use sqlite::Row;
 use std::alloc::{AllocError, Global};
@@ -192,7 +192,7 @@ fn element_of<'a>(
     }
 }
 
-impl ColumnRows {
+impl TableRows {
     /// The elements, each after the offset of its blob and its position there; None where a row is of no element.
     pub(crate) fn placed(
         &self,

@@ -1,4 +1,4 @@
-//! Tags, members and infos, read from the rows of numbers and texts.
+//! Tags, members and infos, read from rows of `element`, `tag` and `link`.
 
 ghost use Rattle.std.specs.Prelude.{◌≡◌, Some, IsSomeAnd, IfSome};
 ghost use Rattle.osm_value.specs.Elements.{info_of_element};
@@ -7,7 +7,7 @@ ghost use Rattle.osm_value.specs.Value.{Text, MemberValue};
 ghost use Rattle.osm_store.specs.TableRows.{Part, element_row, tag_row, link_row};
 ghost use Rattle.osm_store.specs.Rows.{Placed};
 
-use crate::load::tables::values::{
+use crate::load::values::{
     free_text_at, free_uid_at, free_version_at, free_wide_at, is_null_at, kind_at, text_at, wide_at,
 };
 use osm_value::{Info, Member};

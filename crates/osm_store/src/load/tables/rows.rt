@@ -1,10 +1,10 @@
-//! The rows of numbers and texts of one blob.
+//! The rows of one blob, in the layout of tables.
 
 ghost use Rattle.std.specs.Prelude.{◌<◌, ◌^◌, filter, IsTrue, MatchResult};
 ghost use Rattle.sqlite.specs.State.{HasCleanDisk};
 ghost use Rattle.sqlite.specs.Held.{state};
 ghost use Rattle.osm_store.specs.Load.Asking.{JustAsks};
-ghost use Rattle.osm_store.specs.Load.TableRows.{AreRowsOf};
+ghost use Rattle.osm_store.specs.Load.TableAnswers.{AreRowsOf};
 ghost use Rattle.osm_store.specs.Held.{HeldMap};
 ghost use Rattle.osm_store.specs.LayoutHolding.{Holds};
 ghost use Rattle.osm_store.specs.Keeping.{IsForeign};
@@ -18,26 +18,26 @@ use sqlite::{Alter, Connection, Row};
 
 /// The rows of some elements, and those of their tags and links, by offset, position and number.
 #[derive(Debug, Drop)]
-pub(crate) struct ColumnRows {
+pub(crate) struct TableRows {
     pub(crate) elements: Vec<Row>,
     pub(crate) tags: Vec<Row>,
     pub(crate) links: Vec<Row>,
 }
 
 /// The rows of the blob at this offset; none where no blob is held there.
-pub(crate) fn load_columns<S: Alter>(
+pub(crate) fn load_table_rows<S: Alter>(
     connection: &mut Connection<S>,
     off: u64,
-) -> Result<ColumnRows, StoreFault>
+) -> Result<TableRows, StoreFault>
     requires { off < 2 ^ 62 }
-    ensures held { HasCleanDisk (state S.Store connection.new) → (held : HeldMap) → Holds Layout.Columns (state S.Store connection.old) held
+    ensures held { HasCleanDisk (state S.Store connection.new) → (held : HeldMap) → Holds Layout.Tables (state S.Store connection.old) held
         → MatchResult result (λ rows. AreRowsOf rows (filter (is_in off) (placed_in held)) × IsTrue (state S.Store connection.new).is_open) (λ fault. ¬ (IsForeign fault)) }
     ensures asks { JustAsks (state S.Store connection.old) (state S.Store connection.new) }
 {
     let elements = answer(connection, SELECT_ELEMENTS, &[number(off)])?;
     let tags = answer(connection, SELECT_TAGS, &[number(off)])?;
     let links = answer(connection, SELECT_LINKS, &[number(off)])?;
-    Ok(ColumnRows {
+    Ok(TableRows {
         elements,
         tags,
         links,

@@ -1,4 +1,4 @@
-//! The rows of numbers and texts of the elements of one kind and id.
+//! The rows of the elements of one kind and id, in the layout of tables.
 
 ghost use Rattle.std.specs.Prelude.{◌≡◌, pos, List, filter, map, IsTrue, MatchResult};
 ghost use Rattle.std.specs.List.{AllByRecursion};
@@ -6,7 +6,7 @@ ghost use Rattle.sqlite.specs.State.{HasCleanDisk};
 ghost use Rattle.sqlite.specs.Held.{state};
 ghost use Rattle.osm_store.specs.Load.Asking.{JustAsks};
 ghost use Rattle.osm_store.specs.Load.TableParts.{IsAlone};
-ghost use Rattle.osm_store.specs.Load.TableRows.{AreRowsOf};
+ghost use Rattle.osm_store.specs.Load.TableAnswers.{AreRowsOf};
 ghost use Rattle.osm_store.specs.TableRows.{element_row, element_rows, tag_row, tag_rows, tags_at, link_row, link_rows, links_at};
 ghost use Rattle.osm_store.specs.Held.{HeldMap};
 ghost use Rattle.osm_store.specs.LayoutHolding.{Holds};
@@ -15,10 +15,10 @@ ghost use Rattle.osm_store.specs.Rows.{Placed, is_of, placed_in};
 
 use crate::fault::{StoreFault, unread};
 use crate::load::answer::{answer, integer, number};
-use crate::load::tables::ColumnRows;
-use crate::put::element_code;
+use crate::load::tables::TableRows;
 use crate::schema::Layout;
-use crate::schema::sql::{SELECT_FOUND, SELECT_ITS_LINKS, SELECT_ITS_TAGS};
+use crate::schema::codes::element_code;
+use crate::schema::sql::{FIND_ELEMENTS, SELECT_ITS_LINKS, SELECT_ITS_TAGS};
 use osm_value::MemberKind;
 use sqlite::{Alter, Connection, Row};
 use std::alloc::Global;
@@ -37,7 +37,7 @@ fn parts_of<S: Alter>(
     connection: &mut Connection<S>,
     row: &Row,
 ) -> Result<(Vec<Row>, Vec<Row>), StoreFault>
-    ensures held { HasCleanDisk (state S.Store connection.new) → (held : HeldMap) (p : Placed) → Holds Layout.Columns (state S.Store connection.old) held → row.now ≡ element_row p → IsAlone (placed_in held) p
+    ensures held { HasCleanDisk (state S.Store connection.new) → (held : HeldMap) (p : Placed) → Holds Layout.Tables (state S.Store connection.old) held → row.now ≡ element_row p → IsAlone (placed_in held) p
         → MatchResult result (λ parts. (parts.0.items ≡ map tag_row (tags_at p)) × (parts.1.items ≡ map link_row (links_at p)) × IsTrue (state S.Store connection.new).is_open) (λ fault. ¬ (IsForeign fault)) }
     ensures asks { JustAsks (state S.Store connection.old) (state S.Store connection.new) }
 {
@@ -61,7 +61,7 @@ fn all_parts<S: Alter>(
     connection: &mut Connection<S>,
     elements: &[Row],
 ) -> Result<(Vec<Row>, Vec<Row>), StoreFault>
-    ensures held { HasCleanDisk (state S.Store connection.new) → (held : HeldMap) (found : List Placed) → Holds Layout.Columns (state S.Store connection.old) held → elements.now ≡ element_rows found → AllByRecursion (IsAlone (placed_in held)) found
+    ensures held { HasCleanDisk (state S.Store connection.new) → (held : HeldMap) (found : List Placed) → Holds Layout.Tables (state S.Store connection.old) held → elements.now ≡ element_rows found → AllByRecursion (IsAlone (placed_in held)) found
         → MatchResult result (λ parts. (parts.0.items ≡ tag_rows found) × (parts.1.items ≡ link_rows found) × IsTrue (state S.Store connection.new).is_open) (λ fault. ¬ (IsForeign fault)) }
     ensures asks { JustAsks (state S.Store connection.old) (state S.Store connection.new) }
 {
@@ -76,20 +76,20 @@ fn all_parts<S: Alter>(
 }
 
 /// The rows of all held elements of this kind and id, by offset and position.
-pub(crate) fn find_columns<S: Alter>(
+pub(crate) fn find_table_rows<S: Alter>(
     alloc: Global,
     connection: &mut Connection<S>,
     kind: MemberKind,
     id: i64,
-) -> Result<ColumnRows, StoreFault>
-    ensures held { HasCleanDisk (state S.Store connection.new) → (held : HeldMap) → Holds Layout.Columns (state S.Store connection.old) held
+) -> Result<TableRows, StoreFault>
+    ensures held { HasCleanDisk (state S.Store connection.new) → (held : HeldMap) → Holds Layout.Tables (state S.Store connection.old) held
         → MatchResult result (λ rows. AreRowsOf rows (filter (is_of kind id) (placed_in held)) × IsTrue (state S.Store connection.new).is_open) (λ fault. ¬ (IsForeign fault)) }
     ensures asks { JustAsks (state S.Store connection.old) (state S.Store connection.new) }
 {
     let code = u64::from(element_code(kind));
-    let elements = answer(connection, SELECT_FOUND, &[number(code), integer(id)])?;
+    let elements = answer(connection, FIND_ELEMENTS, &[number(code), integer(id)])?;
     let (tags, links) = all_parts(alloc, connection, &elements)?;
-    Ok(ColumnRows {
+    Ok(TableRows {
         elements,
         tags,
         links,

@@ -6,7 +6,7 @@ use Rattle.sqlite.specs.State.{HasCleanDisk}
 use Rattle.sqlite.specs.Held.{state}
 use Rattle.sqlite.proofs.StateLemmas.{survives_then}
 use Rattle.sqlite.proofs.InsideLemmas.{keeps_then}
-use Rattle.osm_store.specs.declared.schema.layout.Layout.TheVariants.{Columns}
+use Rattle.osm_store.specs.declared.schema.layout.Layout.TheVariants.{Tables}
 use Rattle.osm_store.specs.Put.Steps.{AddsRows}
 use Rattle.osm_store.proofs.PutLemmas.RowSteps.{survives_nothing, no_rows, rows_more}
 use Rattle.osm_store.proofs.put.table_row.add_rows.Goals as goal
@@ -21,7 +21,7 @@ loop-rest-init g c =
         survives = survives_nothing start;
         kept = λ clean. record { was_open = λ h. h; committed = λ _. refl };
         inside = λ clean inside. inside;
-        added = λ clean over. no_rows Columns g.R.TableRow.tree start over;
+        added = λ clean over. no_rows Tables g.R.TableRow.tree start over;
       },
     )
 
@@ -45,7 +45,7 @@ loop-rest-preserved g c =
         inside = λ clean inside. c.in_ok-add_batch.ensures.inside clean (it.inside (before clean) inside);
         added = λ clean over.
             let added = it.added (before clean) over in
-            rows_more Columns g.R.TableRow.tree start now next done chunk added (c.in_ok-add_batch.ensures.added clean added.over);
+            rows_more Tables g.R.TableRow.tree start now next done chunk added (c.in_ok-add_batch.ensures.added clean added.over);
       },
     )
 
@@ -60,4 +60,4 @@ returns-clause-added g c clean over =
     let columns = g.R.TableRow.columns in
     let none : length c.loop-rest.rest.now ≡ 0 = grind (arith, nat_tests) in
     let whole = all_done columns c.loop-rest.rest.now c.loop-rest.invariant.0 _ none it.whole in
-    subst (AddsRows Columns g.R.TableRow.tree (state g.S.Store c.args.transaction.now.conn.now) (state g.S.Store c.loop-rest.transaction.conn.now)) (sym whole) (it.added clean over)
+    subst (AddsRows Tables g.R.TableRow.tree (state g.S.Store c.args.transaction.now.conn.now) (state g.S.Store c.loop-rest.transaction.conn.now)) (sym whole) (it.added clean over)

@@ -2,7 +2,7 @@ use Rattle.std.proofs.Common.{◌≡◌, ◌++◌, List, map, length, IsTrue}
 use Rattle.sqlite.specs.Order.{Row}
 use Rattle.sqlite.specs.State.{HasCleanDisk, KeepsCommit, Survives}
 use Rattle.sqlite.specs.Held.{state}
-use Rattle.osm_store.specs.declared.schema.layout.Layout.TheVariants.{Columns}
+use Rattle.osm_store.specs.declared.schema.layout.Layout.TheVariants.{Tables}
 use Rattle.osm_store.specs.Put.Steps.{IsWriting, AddsRows}
 use Rattle.osm_store.proofs.put.table_row.add_rows.Given as goal
 
@@ -16,7 +16,7 @@ invariant-loop-rest g l =
       survives : Survives old now (λ _. ⊥);
       kept : HasCleanDisk now → KeepsCommit old now;
       inside : HasCleanDisk now → IsTrue old.in_transaction → IsTrue now.in_transaction;
-      added : HasCleanDisk now → IsWriting Columns old → AddsRows Columns g.R.TableRow.tree old now done;
+      added : HasCleanDisk now → IsWriting Tables old → AddsRows Tables g.R.TableRow.tree old now done;
     }
 
 abbrev pub decreases-loop-rest : goal.decreases-loop-rest

@@ -3,7 +3,7 @@ use Rattle.std.proofs.lemmas.List.Elements.{All-from_recursion}
 use Rattle.std.proofs.lemmas.Result.{err_from_is_err_and}
 use Rattle.sqlite.specs.State.{HasCleanDisk}
 use Rattle.sqlite.specs.Held.{state}
-use Rattle.osm_store.specs.declared.schema.layout.Layout.TheVariants.{Columns}
+use Rattle.osm_store.specs.declared.schema.layout.Layout.TheVariants.{Tables}
 use Rattle.osm_store.specs.Load.TableParts.{IsAlone}
 use Rattle.osm_store.specs.TableRows.{element_row, tag_row, tags_at, link_row, links_at}
 use Rattle.osm_store.specs.Rows.{placed_in}
@@ -26,7 +26,7 @@ loop-row-preserved g c =
           let before = c.loop-row.invariant.read clean_now held found holds is alone in
           let it = row_at (IsAlone (placed_in held)) element_row found _ _ _ (All-from_recursion _ _ alone) is c.loop-row-test.true c.row-item.is in
           let parts = c.in_ok-its_tags.ensures.held clean held it.item before.0 it.is it.fits in (
-            asks_holds Columns now next asks held before.0 clean parts.2,
+            asks_holds Tables now next asks held before.0 clean parts.2,
             several_more tag_row tags_at (take c.loop-row.row-index found) _ it.item _ _ _ it.more before.1 parts.0 c.in_ok-append.ensures.items,
             several_more link_row links_at (take c.loop-row.row-index found) _ it.item _ _ _ it.more before.2 parts.1 c.in_ok-append-2.ensures.items,
           );

@@ -2,7 +2,7 @@ use Rattle.std.proofs.Common.{◌≡◌, List, take}
 use Rattle.std.specs.List.{AllByRecursion}
 use Rattle.sqlite.specs.State.{HasCleanDisk}
 use Rattle.sqlite.specs.Held.{state}
-use Rattle.osm_store.specs.declared.schema.layout.Layout.TheVariants.{Columns}
+use Rattle.osm_store.specs.declared.schema.layout.Layout.TheVariants.{Tables}
 use Rattle.osm_store.specs.Load.Asking.{JustAsks}
 use Rattle.osm_store.specs.Load.TableParts.{IsAlone}
 use Rattle.osm_store.specs.TableRows.{element_rows, tag_rows, link_rows}
@@ -17,6 +17,6 @@ invariant-loop-row g l =
     let now = state g.S.Store l.connection in
     record {
       asks : JustAsks old now;
-      read : HasCleanDisk now → (held : HeldMap) (found : List Placed) → Holds Columns old held → l.elements ≡ element_rows found → AllByRecursion (IsAlone (placed_in held)) found
-          → Holds Columns now held × (l.tags.items ≡ tag_rows (take l.row-index found)) × (l.links.items ≡ link_rows (take l.row-index found));
+      read : HasCleanDisk now → (held : HeldMap) (found : List Placed) → Holds Tables old held → l.elements ≡ element_rows found → AllByRecursion (IsAlone (placed_in held)) found
+          → Holds Tables now held × (l.tags.items ≡ tag_rows (take l.row-index found)) × (l.links.items ≡ link_rows (take l.row-index found));
     }

@@ -5,13 +5,13 @@ use Rattle.sqlite.specs.Value.{owned}
 use Rattle.sqlite.specs.State.{HasCleanDisk}
 use Rattle.sqlite.specs.Held.{state}
 use Rattle.sqlite_tied.specs.Compute.{everything}
-use Rattle.osm_store.specs.declared.schema.layout.Layout.TheVariants.{Columns}
+use Rattle.osm_store.specs.declared.schema.layout.Layout.TheVariants.{Tables}
 use Rattle.osm_store.specs.Rows.{placed_in}
 use Rattle.osm_store.specs.TableRows.{tag_row, link_row}
 use Rattle.osm_store.proofs.LoadLemmas.AnswerLemmas.{asks_then}
 use Rattle.osm_store.proofs.MapLemmas.OneMore.{clean_before, asks_holds}
 use Rattle.osm_store.proofs.LoadLemmas.TableReads.{its_tags_read, its_links_read}
-use Rattle.osm_store.proofs.MapLemmas.TableHeld.{has_columns}
+use Rattle.osm_store.proofs.MapLemmas.TableHeld.{has_tables}
 use Rattle.osm_store.proofs.load.tables.search.parts_of.Goals as goal
 
 pub answer-requires : goal.answer-requires
@@ -30,7 +30,7 @@ returns-clause-held g c clean held p holds is alone =
     let clean_one : HasCleanDisk one = clean_before one two c.answer-2.ensures.asks clean in
     let first = c.in_ok-tags.ensures.rows clean_one in
     let second = c.in_ok-links.ensures.rows clean in
-    let still = asks_holds Columns old one c.answer.ensures.asks held holds clean_one first.is_open in
+    let still = asks_holds Tables old one c.answer.ensures.asks held holds clean_one first.is_open in
     let place = c.in_ok-place.ensures p is in
     let off_fits : SFits w64 c.in_ok-place.place.0 = search rules in
     let position_fits : SFits w64 c.in_ok-place.place.1 = search rules in
@@ -40,8 +40,8 @@ returns-clause-held g c clean held p holds is alone =
     let position_again : owned c.integer-4.result ≡ Int (pos p.1) = c.integer-4.ensures ∙ ap Int (to_z-of_z w64 c.in_ok-place.place.1 position_fits ∙ place.1) in
     let tags_shown = rw (off, position) at first.shown in
     let links_shown = rw (off_again, position_again) at second.shown in
-    let tags = its_tags_read old one _ (placed_in held) (has_columns old.now held holds.schema holds.tables) p.0 p.1 tags_shown in
-    let links = its_links_read one two _ (placed_in held) (has_columns one.now held still.schema still.tables) p.0 p.1 links_shown in
+    let tags = its_tags_read old one _ (placed_in held) (has_tables old.now held holds.schema holds.tables) p.0 p.1 tags_shown in
+    let links = its_links_read one two _ (placed_in held) (has_tables one.now held still.schema still.tables) p.0 p.1 links_shown in
     (tags ∙ ap (map tag_row) alone.tags, links ∙ ap (map link_row) alone.links, second.is_open)
 
 pub returns-clause-asks : goal.returns-clause-asks

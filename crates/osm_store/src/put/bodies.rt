@@ -1,0 +1,96 @@
+//! A blob's elements in the layout of bodies: each as a row with the canonical block of it alone.
+
+ghost use Rattle.std.specs.Prelude.{◌≡◌, ◌≤◌, ◌^◌, IsTrue, OnOk, IfErr, map};
+ghost use Rattle.std.specs.List.{AllByRecursion};
+ghost use Rattle.sqlite.specs.State.{HasCleanDisk, KeepsCommit, Survives};
+ghost use Rattle.sqlite.specs.Held.{state};
+ghost use Rattle.osm_store.specs.Keeping.{IsForeign};
+ghost use Rattle.osm_store.specs.Put.Steps.{IsWriting, AddsRow, AddsRows};
+ghost use Rattle.osm_store.specs.Rows.{placed, body_columns, body_row, HasBlock};
+
+use crate::fault::StoreFault;
+use crate::schema::Layout;
+use crate::schema::codes::element_code;
+use crate::schema::sql::INSERT_BODY;
+use osm_value::{Element, MemberKind};
+use osm_write::encode_one;
+use sqlite::{Alter, Transaction, params};
+use std::alloc::Global;
+
+/// Adds a row of the table `body`.
+fn add_body<S: Alter>(
+    transaction: &mut Transaction<'_, S>,
+    off: u64,
+    position: u64,
+    kind: MemberKind,
+    id: i64,
+    block: &[u8],
+) -> Result<(), StoreFault>
+    requires bounds { (off ≤ 2 ^ 62) × (position ≤ 2 ^ 62) }
+    ensures same_reference { transaction.new.conn.ghost_name ≡ transaction.old.conn.ghost_name }
+    ensures added { HasCleanDisk (state S.Store transaction.new.conn.now) → IsWriting Layout.Bodies (state S.Store transaction.old.conn.now)
+        → OnOk result (AddsRow Layout.Bodies 2 (state S.Store transaction.old.conn.now) (state S.Store transaction.new.conn.now) (body_columns off position kind id block.now)) }
+    ensures inside { HasCleanDisk (state S.Store transaction.new.conn.now) → IsTrue (state S.Store transaction.old.conn.now).in_transaction → OnOk result (IsTrue (state S.Store transaction.new.conn.now).in_transaction) }
+    ensures kept { HasCleanDisk (state S.Store transaction.new.conn.now) → KeepsCommit (state S.Store transaction.old.conn.now) (state S.Store transaction.new.conn.now) }
+    ensures ours { IfErr result (λ fault. ¬ (IsForeign fault)) }
+    ensures survives { Survives (state S.Store transaction.old.conn.now) (state S.Store transaction.new.conn.now) (λ _. ⊥) }
+{
+    let code = element_code(kind);
+    transaction.execute(
+        INSERT_BODY,
+        params![off as i64, position as i64, code, id, block],
+    )?;
+    Ok(())
+}
+
+/// Adds an element as its body, which is made first.
+fn add_element<S: Alter>(
+    alloc: Global,
+    transaction: &mut Transaction<'_, S>,
+    off: u64,
+    position: u64,
+    element: &Element,
+) -> Result<(), StoreFault>
+    requires bounds { (off ≤ 2 ^ 62) × (position ≤ 2 ^ 62) }
+    ensures same_reference { transaction.new.conn.ghost_name ≡ transaction.old.conn.ghost_name }
+    ensures added { HasCleanDisk (state S.Store transaction.new.conn.now) → IsWriting Layout.Bodies (state S.Store transaction.old.conn.now)
+        → OnOk result (AddsRow Layout.Bodies 2 (state S.Store transaction.old.conn.now) (state S.Store transaction.new.conn.now) (body_row (off, position, element.now))) }
+    ensures has_block { OnOk result (HasBlock element.now) }
+    ensures inside { HasCleanDisk (state S.Store transaction.new.conn.now) → IsTrue (state S.Store transaction.old.conn.now).in_transaction → OnOk result (IsTrue (state S.Store transaction.new.conn.now).in_transaction) }
+    ensures kept { HasCleanDisk (state S.Store transaction.new.conn.now) → KeepsCommit (state S.Store transaction.old.conn.now) (state S.Store transaction.new.conn.now) }
+    ensures ours { IfErr result (λ fault. ¬ (IsForeign fault)) }
+    ensures survives { Survives (state S.Store transaction.old.conn.now) (state S.Store transaction.new.conn.now) (λ _. ⊥) }
+{
+    let block = encode_one(alloc, element)?;
+    add_body(
+        transaction,
+        off,
+        position,
+        element.kind(),
+        element.id(),
+        &block,
+    )
+}
+
+/// The elements of a blob, each at its position.
+pub(crate) fn add_bodies<S: Alter>(
+    alloc: Global,
+    transaction: &mut Transaction<'_, S>,
+    off: u64,
+    elements: &[Element],
+) -> Result<(), StoreFault>
+    requires bounds { off ≤ 2 ^ 62 }
+    ensures same_reference { transaction.new.conn.ghost_name ≡ transaction.old.conn.ghost_name }
+    ensures added { HasCleanDisk (state S.Store transaction.new.conn.now) → IsWriting Layout.Bodies (state S.Store transaction.old.conn.now)
+        → OnOk result (AddsRows Layout.Bodies 2 (state S.Store transaction.old.conn.now) (state S.Store transaction.new.conn.now) (map body_row (placed off 0 elements.now))) }
+    ensures have_blocks { OnOk result (AllByRecursion HasBlock elements.now) }
+    ensures inside { HasCleanDisk (state S.Store transaction.new.conn.now) → IsTrue (state S.Store transaction.old.conn.now).in_transaction → OnOk result (IsTrue (state S.Store transaction.new.conn.now).in_transaction) }
+    ensures kept { HasCleanDisk (state S.Store transaction.new.conn.now) → KeepsCommit (state S.Store transaction.old.conn.now) (state S.Store transaction.new.conn.now) }
+    ensures ours { IfErr result (λ fault. ¬ (IsForeign fault)) }
+    ensures survives { Survives (state S.Store transaction.old.conn.now) (state S.Store transaction.new.conn.now) (λ _. ⊥) }
+{
+    for (position, element) in elements.iter().enumerate() {
+        add_element(alloc, transaction, off, position as u64, element)?;
+    }
+    Ok(())
+}
