@@ -1,3 +1,4 @@
+pub mod StepLemmas
 pub mod SchemaLemmas
 pub mod PutLemmas
 pub mod LoadLemmas

@@ -2,6 +2,7 @@ pub mod Held
 pub mod Keeping
 pub mod HeldLaws
 pub mod Load
+pub mod Inside
 pub mod Schema
 pub mod Put
 pub mod Rows

@@ -2,3 +2,5 @@
 pub mod Bodies
 pub mod Tables
 pub mod Layouts
+pub mod Over
+pub mod Making

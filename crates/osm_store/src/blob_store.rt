@@ -11,11 +11,11 @@ ghost use Rattle.osm_store.specs.LayoutHolding.{Holds, TablesHold};
 ghost use Rattle.osm_store.specs.Keeping.{IsForeign};
 ghost use Rattle.osm_store.specs.Schema.Layouts.{version_of};
 
-use crate::fault::StoreFault;
+use crate::fault::{StoreFault, failures_after};
 use crate::keeper::{Extent, Keeper, Reader};
 use crate::load::{Found, Loaded, all_extents, find_held, load_held, touched_extents};
 use crate::put::put_rows;
-use crate::schema::{Bodies, StoreLayout, Tables, adopt_store, create_store, failures_after};
+use crate::schema::{Bodies, StoreLayout, Tables, adopt_store, create_store};
 use osm_value::{Element, MemberKind};
 use pbf_frame::Kind;
 use sqlite::{Alter, Connection};

@@ -3,6 +3,7 @@
 ghost use Rattle.std.specs.Prelude.{◌≡◌};
 ghost use Rattle.osm_store.specs.declared.fault.StoreFault.TheVariants.{Memory};
 ghost use Rattle.osm_store.specs.Faults.{fault_of, fault_of_code, fault_over_unknown, fault_of_unknown_code, unread_fault, number_of, name_of, NamesNoVersion};
+ghost use Rattle.osm_store.specs.Keeping.{failures_after};
 
 use sqlite::{Error as SqlError, ErrorCode};
 use std::alloc::{AllocError, AllocFailed};
@@ -128,5 +129,16 @@ pub(crate) fn unread(error: SqlError) -> StoreFault
     match error {
         SqlError::SqliteFailure(ErrorCode::OutOfMemory) => StoreFault::Memory,
         _ => StoreFault::NotThisStore(None),
+    }
+}
+
+/// The count of failures after a call with this answer; it stays at the greatest number.
+pub(crate) fn failures_after<T>(answer: &Result<T, StoreFault>, failures: u64) -> u64
+    ensures { result ≡ failures_after answer.now failures }
+{
+    if answer.is_err() {
+        failures.saturating_add(1)
+    } else {
+        failures
     }
 }

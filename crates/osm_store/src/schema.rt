@@ -9,4 +9,4 @@ mod version;
 
 pub(crate) use layout::Layout;
 pub use layout::{Bodies, StoreLayout, Tables};
-pub(crate) use opening::{adopt_store, create_store, failures_after};
+pub(crate) use opening::{adopt_store, create_store};

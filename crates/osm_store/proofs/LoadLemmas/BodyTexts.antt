@@ -1,4 +1,4 @@
--- What the queries of the store mean.
+-- What the queries mean that both layouts share, and those on the layout of bodies.
 use Rattle.std.proofs.Common.{◌≡◌, ℕ, List, [], ◌∷◌, codes, pos, true, false, refl}
 use Rattle.sqlite.specs.declared.types.Value.TheVariants.{Int}
 use Rattle.sqlite.specs.Term.{Term, col, lit, op2}

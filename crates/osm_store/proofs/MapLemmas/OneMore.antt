@@ -27,7 +27,8 @@ use Rattle.osm_store.specs.declared.schema.layout.Layout.TheVariants.{Bodies, Ta
 use Rattle.osm_store.specs.Schema.Layouts.{schema_of}
 use Rattle.osm_store.specs.Rows.{Placed, CanStore, placed, placed_in, body_row, extent_row}
 use Rattle.osm_store.specs.TableRows.{element_row, tags_at, links_at, tag_row, link_row}
-use Rattle.osm_store.specs.Put.Steps.{Gains, GainsElements, Puts, HaveNoElements, IsEmptyStore}
+use Rattle.osm_store.specs.Schema.Making.{HaveNoElements, IsEmptyStore}
+use Rattle.osm_store.specs.Put.Steps.{Gains, GainsElements, Puts}
 use Rattle.osm_store.specs.Load.Asking.{JustAsks}
 use Rattle.osm_store.specs.LayoutHolding.{IsBlob, IsKept, HasRows, HoldElements, TablesHold, Holds, MayLeave, LeavesAMap}
 use Rattle.std.proofs.lemmas.List.Concat.{flat_map-append}

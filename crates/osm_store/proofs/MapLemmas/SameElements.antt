@@ -1,4 +1,4 @@
--- The rows of the layout of tables of an element are those of no other.
+-- In the layout of tables, an element's rows are those of no other.
 use Rattle.std.proofs.Common.{◌≡◌, ℕ, ℤ, List, [], ◌∷◌, map, Option, Some, None, Bool, true, false, refl, sym, ap, ap₂, ◌∙◌, arith}
 use Rattle.std.specs.Prelude.{flat_map}
 use Rattle.sqlite.specs.declared.types.Value.{Value}

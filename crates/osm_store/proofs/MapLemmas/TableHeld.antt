@@ -1,4 +1,4 @@
--- What the layout of tables of a held map have, and which of their rows are those of one blob.
+-- What the tables of a held map have in the layout of tables, and which of their rows are those of one blob.
 use Rattle.std.proofs.Common.{◌≡◌, inl, inr, ℕ, Bool, true, false, cond, ◌==◌, List, [], ◌∷◌, ◌++◌, map, drop, refl, sym, ap, ap₂, subst, ◌∙◌, IsPermutation}
 use Rattle.std.specs.Prelude.{flat_map, filter}
 use Rattle.std.specs.List.{AllByRecursion}

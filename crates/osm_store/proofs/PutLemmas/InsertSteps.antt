@@ -29,7 +29,8 @@ use Rattle.osm_store.proofs.PutLemmas.Adds.{cast_null, cast_int}
 use Rattle.osm_store.proofs.PutLemmas.RowValues.{cast_or_null, cast_words}
 use Rattle.osm_store.proofs.PutLemmas.InsertTexts.{insert_element_is, insert_element_plain, insert_tag_is, insert_tag_plain, insert_link_is, insert_link_plain, insert_elements_is, insert_elements_plain, insert_tags_is, insert_tags_plain, insert_links_is, insert_links_plain}
 use Rattle.std.specs.Option.{option_copied}
-use Rattle.osm_store.specs.Put.Steps.{IsWriting, Gains, AddsRows}
+use Rattle.osm_store.specs.Schema.Over.{IsWriting}
+use Rattle.osm_store.specs.Put.Steps.{Gains, AddsRows}
 use Rattle.osm_store.specs.Put.Batches.{rows_of, element_statement, tag_statement, link_statement}
 use Rattle.osm_store.specs.declared.put.table_row.Batch.{Batch}
 use Rattle.osm_store.specs.declared.put.table_row.Batch.TheVariants.{One, ThirtyTwo}

@@ -28,7 +28,8 @@ use Rattle.osm_store.specs.Schema.Bodies.{body_schema, body, insert_body_text, i
 use Rattle.osm_store.specs.Schema.Layouts.{schema_of}
 use Rattle.osm_store.specs.Rows.{Placed, body_row, extent_row}
 use Rattle.osm_store.specs.TableRows.{element_rows, tag_rows, link_rows}
-use Rattle.osm_store.specs.Put.Steps.{IsWriting, Gains, KeepsOthers, GainsElements, AddsRow, AddsRows, AddsElements, AddsExtent, Puts, Writes}
+use Rattle.osm_store.specs.Schema.Over.{IsWriting}
+use Rattle.osm_store.specs.Put.Steps.{Gains, KeepsOthers, GainsElements, AddsRow, AddsRows, AddsElements, AddsExtent, Puts, Writes}
 use Rattle.osm_store.proofs.SchemaLemmas.BodyTexts.{body_terms}
 use Rattle.osm_store.proofs.PutLemmas.Inserts.{inserts_body, inserts_blob}
 use Rattle.osm_store.proofs.SchemaLemmas.MakeSteps.{becomes}

@@ -1,4 +1,4 @@
--- What `sqlite` makes of the values of a row of numbers and texts.
+-- What `sqlite` makes of the values of a row of the layout of tables.
 use Rattle.std.proofs.Common.{◌≡◌, ℕ, ℤ, List, Option, Some, None, Bor, refl, ap}
 use Rattle.std.specs.Option.{option_copied}
 use Rattle.sqlite.specs.declared.types.Value.{Value}

@@ -1,4 +1,4 @@
--- What the texts of the store mean.
+-- What the texts mean that make and fill the layout of bodies, and `meta` and `blob` in both.
 use Rattle.std.proofs.Common.{◌≡◌, List, [], ◌∷◌, Ok, refl, pos}
 use Rattle.sqlite.specs.Compile.{table_defined_by, index_defined_by}
 use Rattle.sqlite.specs.Change.{created, indexed}
@@ -9,7 +9,7 @@ use Rattle.sqlite.specs.Term.{Term, lit, col}
 use Rattle.sqlite.specs.declared.types.Value.TheVariants.{Null, Int}
 use Rattle.sqlite.specs.Listing.{understood}
 use Rattle.sqlite.proofs.Callers.{IsPlain, command_of, statement_of}
-use Rattle.osm_store.specs.Schema.Bodies.{body_version_text, select_version_text, insert_blob_text, insert_body_text, meta_text, blob_text, body_text, index_text, meta, blob, body, by_element, no_schema, one_table, two_tables, three_tables, body_schema}
+use Rattle.osm_store.specs.Schema.Bodies.{body_version_text, select_version_text, insert_blob_text, insert_body_text, meta_text, blob_text, body_text, body_index_text, meta, blob, body, by_element, no_schema, one_table, two_tables, three_tables, body_schema}
 
 pub meta_defined : table_defined_by meta_text ≡ Ok meta
 unfolding everything
@@ -23,7 +23,7 @@ pub body_defined : table_defined_by body_text ≡ Ok (record body { tree = 0 })
 unfolding everything
 body_defined = refl
 
-pub index_defined : index_defined_by body index_text ≡ Ok (record by_element { tree = 0 })
+pub index_defined : index_defined_by body body_index_text ≡ Ok (record by_element { tree = 0 })
 unfolding everything
 index_defined = refl
 
@@ -86,7 +86,7 @@ pub body_is : (command_of (understood two_tables body_text) ≡ CreateTable) × 
 unfolding understood everything
 body_is = (refl, refl)
 
-pub index_is : (command_of (understood three_tables index_text) ≡ CreateIndex 2) × (statement_of index_text (understood three_tables index_text) ≡ index_text)
+pub index_is : (command_of (understood three_tables body_index_text) ≡ CreateIndex 2) × (statement_of body_index_text (understood three_tables body_index_text) ≡ body_index_text)
 unfolding understood everything
 index_is = (refl, refl)
 
@@ -102,7 +102,7 @@ pub body_plain : IsPlain (understood two_tables body_text)
 unfolding understood everything
 body_plain = (refl, refl)
 
-pub index_plain : IsPlain (understood three_tables index_text)
+pub index_plain : IsPlain (understood three_tables body_index_text)
 unfolding understood everything
 index_plain = (refl, refl)
 

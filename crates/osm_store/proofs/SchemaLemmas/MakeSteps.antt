@@ -1,14 +1,21 @@
 -- What the functions that make the tables do, from what `sqlite` says of their statements.
-use Rattle.std.proofs.Common.{◌≡◌, ℕ, [], Ok, true, refl, ◌∙◌}
+use Rattle.std.proofs.Common.{◌≡◌, ℕ, [], Ok, true, refl, ap, ◌∙◌}
+use Rattle.sqlite.specs.Tree.{put_row}
+use Rattle.osm_store.specs.Rows.{version_row}
 use Rattle.sqlite.specs.Schema.{Schema}
-use Rattle.sqlite.specs.State.{State, Shows, ExecutesInside}
+use Rattle.sqlite.proofs.InsideLemmas.{keeps_then}
+use Rattle.sqlite.specs.State.{State, Shows, KeepsCommit, ExecutesInside}
 use Rattle.sqlite_catalog.specs.Listing.{IsSound}
-use Rattle.osm_store.specs.Schema.Bodies.{meta_text, blob_text, body_text, index_text, meta, blob, body, by_element, no_schema, one_table, two_tables, three_tables, body_schema}
+use Rattle.osm_store.specs.Schema.Bodies.{meta_text, blob_text, body_text, body_index_text, meta, blob, body, by_element, no_schema, one_table, two_tables, three_tables, body_schema}
 use Rattle.osm_store.specs.declared.schema.layout.Layout.{Layout}
 use Rattle.osm_store.specs.declared.schema.layout.Layout.TheVariants.{Bodies, Tables}
 use Rattle.osm_store.specs.Schema.Tables.{element_text, tag_text, link_text, element_index_text, element, tag, link, element_by_id, with_element, with_tag, with_link, table_schema}
 use Rattle.osm_store.specs.Schema.Layouts.{schema_of, version_text_of}
-use Rattle.osm_store.specs.Put.Steps.{IsOver, IsWriting, Becomes, KeepsOthers, HaveNoElements, MakesMeta, MakesBlob, MakesBody, MakesIndex, MakesElement, MakesTag, MakesLink, MakesElementIndex, WritesVersion}
+use Rattle.osm_store.specs.Schema.Over.{IsOver, IsWriting, Becomes}
+use Rattle.osm_store.specs.declared.schema.create.Making.{Making}
+use Rattle.osm_store.specs.declared.schema.create.Making.TheVariants as making
+use Rattle.osm_store.specs.Schema.Making.{text_of, before, Makes, HaveNoElements, MakesElements, WritesVersion, IsEmptyStore}
+use Rattle.osm_store.specs.Put.Steps.{KeepsOthers}
 use Rattle.osm_store.proofs.SchemaLemmas.TableTexts.{element_is, element_plain, element_defined, element_created, tag_is, tag_plain, tag_defined, tag_created, link_is, link_plain, link_defined, link_created, element_index_is, element_index_plain, element_index_defined, element_index_created}
 use Rattle.osm_store.proofs.SchemaLemmas.BodyTexts.{meta_is, meta_plain, meta_defined, meta_created, blob_is, blob_plain, blob_defined, blob_created, body_is, body_plain, body_defined, body_created, index_is, index_plain, index_defined, index_created}
 use Rattle.osm_store.proofs.SchemaLemmas.Makes.{creates, indexes}
@@ -19,45 +26,31 @@ pub becomes : (old new : State) (schema : Schema) → new.now.schema ≡ schema 
 becomes old new schema is sound shown = record { over = record { schema_is = is; inside = shown.mode }; kept = record { was_open = λ _. shown.was_open; committed = λ _. shown.committed_is }; sound = sound }
 
 module _ (old new : State) (count : ℕ) where
-  pub makes_meta : IsOver no_schema old → ExecutesInside 0 meta_text [] old new (Ok count) → MakesMeta old new
-  makes_meta over h =
+  pub makes : (what : Making) → IsOver (before what) old → ExecutesInside 0 (text_of what) [] old new (Ok count) → Makes what old new
+  makes making.Meta over h =
       let it = creates meta_text no_schema one_table meta_plain meta_is.1 meta meta_is.0 meta_defined meta_created refl old new count over.schema_is h.0 in
-      (becomes old new one_table it.0 it.1 h.1, it.2)
-
-  pub makes_blob : IsOver one_table old → ExecutesInside 0 blob_text [] old new (Ok count) → MakesBlob old new
-  makes_blob over h =
+      record { becomes = becomes old new one_table it.0 it.1 h.1; others = it.3; empty = (it.2, tt) }
+  makes making.Blob over h =
       let it = creates blob_text one_table two_tables blob_plain blob_is.1 (record blob { tree = 0 }) blob_is.0 blob_defined blob_created refl old new count over.schema_is h.0 in
-      (becomes old new two_tables it.0 it.1 h.1, it.3.0, it.2)
-
-  pub makes_body : IsOver two_tables old → ExecutesInside 0 body_text [] old new (Ok count) → MakesBody old new
-  makes_body over h =
+      record { becomes = becomes old new two_tables it.0 it.1 h.1; others = it.3; empty = (it.2, tt) }
+  makes making.Body over h =
       let it = creates body_text two_tables three_tables body_plain body_is.1 (record body { tree = 0 }) body_is.0 body_defined body_created refl old new count over.schema_is h.0 in
-      (becomes old new three_tables it.0 it.1 h.1, it.3.0, it.3.1.0, it.2)
-
-  pub makes_index : IsOver three_tables old → ExecutesInside 0 index_text [] old new (Ok count) → MakesIndex old new
-  makes_index over h =
-      let it = indexes index_text three_tables body_schema index_plain index_is.1 2 body (record by_element { tree = 0 }) index_is.0 refl index_defined index_created old new count over.schema_is h.0 in
-      (becomes old new body_schema it.0 it.1 h.1, it.2.0, it.2.1.0, it.2.1.1.0)
-
-  pub makes_element : IsOver two_tables old → ExecutesInside 0 element_text [] old new (Ok count) → MakesElement old new
-  makes_element over h =
+      record { becomes = becomes old new three_tables it.0 it.1 h.1; others = it.3; empty = (it.2, tt) }
+  makes making.BodyIndex over h =
+      let it = indexes body_index_text three_tables body_schema index_plain index_is.1 2 body (record by_element { tree = 0 }) index_is.0 refl index_defined index_created old new count over.schema_is h.0 in
+      record { becomes = becomes old new body_schema it.0 it.1 h.1; others = it.2; empty = tt }
+  makes making.Element over h =
       let it = creates element_text two_tables with_element element_plain element_is.1 (record element { tree = 0 }) element_is.0 element_defined element_created refl old new count over.schema_is h.0 in
-      (becomes old new with_element it.0 it.1 h.1, it.3.0, it.3.1.0, it.2)
-
-  pub makes_tag : IsOver with_element old → ExecutesInside 0 tag_text [] old new (Ok count) → MakesTag old new
-  makes_tag over h =
+      record { becomes = becomes old new with_element it.0 it.1 h.1; others = it.3; empty = (it.2, tt) }
+  makes making.Tag over h =
       let it = creates tag_text with_element with_tag tag_plain tag_is.1 (record tag { tree = 0 }) tag_is.0 tag_defined tag_created refl old new count over.schema_is h.0 in
-      (becomes old new with_tag it.0 it.1 h.1, it.3.0, it.3.1.0, it.3.1.1.0, it.2)
-
-  pub makes_link : IsOver with_tag old → ExecutesInside 0 link_text [] old new (Ok count) → MakesLink old new
-  makes_link over h =
+      record { becomes = becomes old new with_tag it.0 it.1 h.1; others = it.3; empty = (it.2, tt) }
+  makes making.Link over h =
       let it = creates link_text with_tag with_link link_plain link_is.1 (record link { tree = 0 }) link_is.0 link_defined link_created refl old new count over.schema_is h.0 in
-      (becomes old new with_link it.0 it.1 h.1, it.3.0, it.3.1.0, it.3.1.1.0, it.3.1.1.1.0, it.2)
-
-  pub makes_element_index : IsOver with_link old → ExecutesInside 0 element_index_text [] old new (Ok count) → MakesElementIndex old new
-  makes_element_index over h =
+      record { becomes = becomes old new with_link it.0 it.1 h.1; others = it.3; empty = (it.2, tt) }
+  makes making.ElementIndex over h =
       let it = indexes element_index_text with_link table_schema element_index_plain element_index_is.1 2 element (record element_by_id { tree = 0 }) element_index_is.0 refl element_index_defined element_index_created old new count over.schema_is h.0 in
-      (becomes old new table_schema it.0 it.1 h.1, it.2.0, it.2.1.0, it.2.1.1.0, it.2.1.1.1.0, it.2.1.1.1.1.0)
+      record { becomes = becomes old new table_schema it.0 it.1 h.1; others = it.2; empty = tt }
 
   -- the tables of elements stay without rows
   none_still : (layout : Layout) → KeepsOthers layout 0 old.now.trees new.now.trees → HaveNoElements layout old.now.trees → HaveNoElements layout new.now.trees
@@ -77,3 +70,37 @@ module _ (old new : State) (count : ℕ) where
         blob = blob_still layout it.1.tables;
         elements = none_still layout it.1.tables;
       }
+
+-- ---- the tables of a layout
+
+goes_to : (old mid new : State) (schema : Schema) → KeepsCommit old mid → Becomes mid new schema → Becomes old new schema
+goes_to old mid new schema first last = record { over = last.over; kept = keeps_then old mid new first last.kept; sound = last.sound }
+
+pub makes_bodies : (old mid new : State) → Makes making.Body old mid → Makes making.BodyIndex mid new → MakesElements Bodies old new
+makes_bodies old mid new a b = record {
+  becomes = goes_to old mid new body_schema a.becomes.kept b.becomes;
+  meta = b.others.0 ∙ a.others.0;
+  blob = b.others.1.0 ∙ a.others.1.0;
+  elements = b.others.1.1.0 ∙ a.empty.0;
+}
+
+pub makes_tables : (old one two three new : State) → Makes making.Element old one → Makes making.Tag one two → Makes making.Link two three → Makes making.ElementIndex three new → MakesElements Tables old new
+makes_tables old one two three new a b c d = record {
+  becomes = goes_to old three new table_schema (keeps_then old two three (keeps_then old one two a.becomes.kept b.becomes.kept) c.becomes.kept) d.becomes;
+  meta = d.others.0 ∙ c.others.0 ∙ b.others.0 ∙ a.others.0;
+  blob = d.others.1.0 ∙ c.others.1.0 ∙ b.others.1.0 ∙ a.others.1.0;
+  elements = (
+    d.others.1.1.0 ∙ c.others.1.1.0 ∙ b.others.1.1.0 ∙ a.empty.0,
+    d.others.1.1.1.0 ∙ c.others.1.1.1.0 ∙ b.empty.0,
+    d.others.1.1.1.1.0 ∙ c.empty.0,
+  );
+}
+
+-- all tables of a store that holds nothing
+pub makes_empty_store : (layout : Layout) (old one two three new : State) → Makes making.Meta old one → Makes making.Blob one two → MakesElements layout two three → WritesVersion layout three new → IsEmptyStore layout new.now.trees
+makes_empty_store layout old one two three new a b c d = record {
+  sound = d.becomes.sound;
+  meta = d.meta ∙ ap (put_row (version_row layout)) (c.meta ∙ b.others.0 ∙ a.empty.0);
+  blob = d.blob ∙ c.blob ∙ b.empty.0;
+  elements = d.elements c.elements;
+}

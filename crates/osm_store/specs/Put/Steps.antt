@@ -1,4 +1,4 @@
--- What a row function does to an open transaction.
+-- What the steps of a put add, in an open transaction.
 use Rattle.std.specs.Prelude.{◌≡◌, ◌≢◌, ℕ, true, List, [], ◌∷◌, ◌++◌, map, drop, IsTrue}
 use Rattle.std.specs.List.{AllByRecursion}
 use Rattle.std.specs.List.Sorted.{IsPermutation}
@@ -9,27 +9,10 @@ use Rattle.sqlite_catalog.specs.Listing.{IsSound}
 use Rattle.osm_store.specs.declared.keeper.Extent.{Extent}
 use Rattle.osm_store.specs.declared.schema.layout.Layout.{Layout}
 use Rattle.osm_store.specs.declared.schema.layout.Layout.TheVariants.{Bodies, Tables}
-use Rattle.osm_store.specs.Schema.Bodies.{one_table, two_tables, three_tables, body_schema}
-use Rattle.osm_store.specs.Schema.Tables.{with_element, with_tag, with_link, table_schema}
 use Rattle.osm_store.specs.Schema.Layouts.{schema_of}
-use Rattle.osm_store.specs.Rows.{Placed, extent_row, body_row, version_row}
+use Rattle.osm_store.specs.Schema.Over.{IsWriting, Becomes}
+use Rattle.osm_store.specs.Rows.{Placed, extent_row, body_row}
 use Rattle.osm_store.specs.TableRows.{element_rows, tag_rows, link_rows}
-use Rattle.sqlite.specs.Schema.{Schema}
-
--- a transaction is open over this schema
-pub record IsOver (schema : Schema) (s : State) : Type 0 where
-  pub schema_is : s.now.schema ≡ schema
-  pub inside : IsTrue s.in_transaction
-
--- the transaction goes on over this schema, and nothing is committed
-pub record Becomes (old new : State) (schema : Schema) : Type 0 where
-  pub over : IsOver schema new
-  pub kept : KeepsCommit old new
-  pub sound : IsSound schema new.now.trees
-
--- a transaction is open over the store's schema
-abbrev pub IsWriting : Layout → State → Type 0
-IsWriting layout = IsOver (schema_of layout)
 
 -- the other tables have the rows of before
 abbrev pub KeepsOthers : Layout → ℕ → Trees → Trees → Type 0
@@ -87,55 +70,3 @@ pub record Writes (layout : Layout) (old new : State) (extent : Extent) (element
   pub was_open : IsTrue old.is_open
   pub inside : IsTrue new.in_transaction
   pub puts : old.now.schema ≡ schema_of layout → (new.now.schema ≡ schema_of layout) × Puts layout old.now.trees new.now.trees extent elements
-
--- ---- making the tables
-
-abbrev pub MakesMeta : State → State → Type 0
-MakesMeta old new = Becomes old new one_table × (new.now.trees 0 ≡ [])
-
-abbrev pub MakesBlob : State → State → Type 0
-MakesBlob old new = Becomes old new two_tables × (new.now.trees 0 ≡ old.now.trees 0) × (new.now.trees 1 ≡ [])
-
-abbrev pub MakesBody : State → State → Type 0
-MakesBody old new = Becomes old new three_tables × (new.now.trees 0 ≡ old.now.trees 0) × (new.now.trees 1 ≡ old.now.trees 1) × (new.now.trees 2 ≡ [])
-
-abbrev pub MakesIndex : State → State → Type 0
-MakesIndex old new = Becomes old new body_schema × (new.now.trees 0 ≡ old.now.trees 0) × (new.now.trees 1 ≡ old.now.trees 1) × (new.now.trees 2 ≡ old.now.trees 2)
-
-abbrev pub MakesElement : State → State → Type 0
-MakesElement old new = Becomes old new with_element × (new.now.trees 0 ≡ old.now.trees 0) × (new.now.trees 1 ≡ old.now.trees 1) × (new.now.trees 2 ≡ [])
-
-abbrev pub MakesTag : State → State → Type 0
-MakesTag old new = Becomes old new with_tag × (new.now.trees 0 ≡ old.now.trees 0) × (new.now.trees 1 ≡ old.now.trees 1) × (new.now.trees 2 ≡ old.now.trees 2) × (new.now.trees 4 ≡ [])
-
-abbrev pub MakesLink : State → State → Type 0
-MakesLink old new = Becomes old new with_link × (new.now.trees 0 ≡ old.now.trees 0) × (new.now.trees 1 ≡ old.now.trees 1) × (new.now.trees 2 ≡ old.now.trees 2) × (new.now.trees 4 ≡ old.now.trees 4) × (new.now.trees 6 ≡ [])
-
-abbrev pub MakesElementIndex : State → State → Type 0
-MakesElementIndex old new = Becomes old new table_schema × (new.now.trees 0 ≡ old.now.trees 0) × (new.now.trees 1 ≡ old.now.trees 1) × (new.now.trees 2 ≡ old.now.trees 2) × (new.now.trees 4 ≡ old.now.trees 4) × (new.now.trees 6 ≡ old.now.trees 6)
-
--- the tables of elements have no rows
-abbrev pub HaveNoElements : Layout → Trees → Type 0
-HaveNoElements Bodies db = db 2 ≡ []
-HaveNoElements Tables db = (db 2 ≡ []) × (db 4 ≡ []) × (db 6 ≡ [])
-
--- the tables of elements are made, and `meta` and `blob` are as they were
-pub record MakesElements (layout : Layout) (old new : State) : Type 0 where
-  pub becomes : Becomes old new (schema_of layout)
-  pub meta : new.now.trees 0 ≡ old.now.trees 0
-  pub blob : new.now.trees 1 ≡ old.now.trees 1
-  pub elements : HaveNoElements layout new.now.trees
-
--- `meta` has the version's row more, and the other tables are as they were
-pub record WritesVersion (layout : Layout) (old new : State) : Type 0 where
-  pub becomes : Becomes old new (schema_of layout)
-  pub meta : new.now.trees 0 ≡ put_row (version_row layout) (old.now.trees 0)
-  pub blob : new.now.trees 1 ≡ old.now.trees 1
-  pub elements : HaveNoElements layout old.now.trees → HaveNoElements layout new.now.trees
-
--- the tables of a store that holds nothing
-pub record IsEmptyStore (layout : Layout) (db : Trees) : Type 0 where
-  pub sound : IsSound (schema_of layout) db
-  pub meta : db 0 ≡ version_row layout ∷ []
-  pub blob : db 1 ≡ []
-  pub elements : HaveNoElements layout db

@@ -1,11 +1,12 @@
 //! A blob's elements in the layout of bodies: each as a row with the canonical block of it alone.
 
-ghost use Rattle.std.specs.Prelude.{◌≡◌, ◌≤◌, ◌^◌, IsTrue, OnOk, IfErr, map};
+ghost use Rattle.std.specs.Prelude.{◌≤◌, ◌^◌, OnOk, map};
 ghost use Rattle.std.specs.List.{AllByRecursion};
-ghost use Rattle.sqlite.specs.State.{HasCleanDisk, KeepsCommit, Survives};
+ghost use Rattle.sqlite.specs.State.{HasCleanDisk};
 ghost use Rattle.sqlite.specs.Held.{state};
-ghost use Rattle.osm_store.specs.Keeping.{IsForeign};
-ghost use Rattle.osm_store.specs.Put.Steps.{IsWriting, AddsRow, AddsRows};
+ghost use Rattle.osm_store.specs.Inside.{WorksInside};
+ghost use Rattle.osm_store.specs.Schema.Over.{IsWriting};
+ghost use Rattle.osm_store.specs.Put.Steps.{AddsRow, AddsRows};
 ghost use Rattle.osm_store.specs.Rows.{placed, body_columns, body_row, HasBlock};
 
 use crate::fault::StoreFault;
@@ -27,13 +28,9 @@ fn add_body<S: Alter>(
     block: &[u8],
 ) -> Result<(), StoreFault>
     requires bounds { (off ≤ 2 ^ 62) × (position ≤ 2 ^ 62) }
-    ensures same_reference { transaction.new.conn.ghost_name ≡ transaction.old.conn.ghost_name }
+    ensures step { WorksInside S.Store transaction.old.conn result transaction.new.conn }
     ensures added { HasCleanDisk (state S.Store transaction.new.conn.now) → IsWriting Layout.Bodies (state S.Store transaction.old.conn.now)
         → OnOk result (AddsRow Layout.Bodies 2 (state S.Store transaction.old.conn.now) (state S.Store transaction.new.conn.now) (body_columns off position kind id block.now)) }
-    ensures inside { HasCleanDisk (state S.Store transaction.new.conn.now) → IsTrue (state S.Store transaction.old.conn.now).in_transaction → OnOk result (IsTrue (state S.Store transaction.new.conn.now).in_transaction) }
-    ensures kept { HasCleanDisk (state S.Store transaction.new.conn.now) → KeepsCommit (state S.Store transaction.old.conn.now) (state S.Store transaction.new.conn.now) }
-    ensures ours { IfErr result (λ fault. ¬ (IsForeign fault)) }
-    ensures survives { Survives (state S.Store transaction.old.conn.now) (state S.Store transaction.new.conn.now) (λ _. ⊥) }
 {
     let code = element_code(kind);
     transaction.execute(
@@ -52,14 +49,10 @@ fn add_element<S: Alter>(
     element: &Element,
 ) -> Result<(), StoreFault>
     requires bounds { (off ≤ 2 ^ 62) × (position ≤ 2 ^ 62) }
-    ensures same_reference { transaction.new.conn.ghost_name ≡ transaction.old.conn.ghost_name }
+    ensures step { WorksInside S.Store transaction.old.conn result transaction.new.conn }
     ensures added { HasCleanDisk (state S.Store transaction.new.conn.now) → IsWriting Layout.Bodies (state S.Store transaction.old.conn.now)
         → OnOk result (AddsRow Layout.Bodies 2 (state S.Store transaction.old.conn.now) (state S.Store transaction.new.conn.now) (body_row (off, position, element.now))) }
     ensures has_block { OnOk result (HasBlock element.now) }
-    ensures inside { HasCleanDisk (state S.Store transaction.new.conn.now) → IsTrue (state S.Store transaction.old.conn.now).in_transaction → OnOk result (IsTrue (state S.Store transaction.new.conn.now).in_transaction) }
-    ensures kept { HasCleanDisk (state S.Store transaction.new.conn.now) → KeepsCommit (state S.Store transaction.old.conn.now) (state S.Store transaction.new.conn.now) }
-    ensures ours { IfErr result (λ fault. ¬ (IsForeign fault)) }
-    ensures survives { Survives (state S.Store transaction.old.conn.now) (state S.Store transaction.new.conn.now) (λ _. ⊥) }
 {
     let block = encode_one(alloc, element)?;
     add_body(
@@ -80,14 +73,10 @@ pub(crate) fn add_bodies<S: Alter>(
     elements: &[Element],
 ) -> Result<(), StoreFault>
     requires bounds { off ≤ 2 ^ 62 }
-    ensures same_reference { transaction.new.conn.ghost_name ≡ transaction.old.conn.ghost_name }
+    ensures step { WorksInside S.Store transaction.old.conn result transaction.new.conn }
     ensures added { HasCleanDisk (state S.Store transaction.new.conn.now) → IsWriting Layout.Bodies (state S.Store transaction.old.conn.now)
         → OnOk result (AddsRows Layout.Bodies 2 (state S.Store transaction.old.conn.now) (state S.Store transaction.new.conn.now) (map body_row (placed off 0 elements.now))) }
     ensures have_blocks { OnOk result (AllByRecursion HasBlock elements.now) }
-    ensures inside { HasCleanDisk (state S.Store transaction.new.conn.now) → IsTrue (state S.Store transaction.old.conn.now).in_transaction → OnOk result (IsTrue (state S.Store transaction.new.conn.now).in_transaction) }
-    ensures kept { HasCleanDisk (state S.Store transaction.new.conn.now) → KeepsCommit (state S.Store transaction.old.conn.now) (state S.Store transaction.new.conn.now) }
-    ensures ours { IfErr result (λ fault. ¬ (IsForeign fault)) }
-    ensures survives { Survives (state S.Store transaction.old.conn.now) (state S.Store transaction.new.conn.now) (λ _. ⊥) }
 {
     for (position, element) in elements.iter().enumerate() {
         add_element(alloc, transaction, off, position as u64, element)?;

@@ -1,12 +1,14 @@
 //! Rows of `element`, `tag` and `link`, the layout of tables, and how they are written.
 
-ghost use Rattle.std.specs.Prelude.{◌≡◌, ℕ, ◌<◌, ◌≤◌, ◌++◌, List, map, flat_map, length, IsTrue, OnOk, IfErr};
+ghost use Rattle.std.specs.Prelude.{◌≡◌, ℕ, ◌<◌, ◌≤◌, ◌++◌, List, map, flat_map, length, OnOk, IfErr};
 ghost use Rattle.sqlite.specs.Order.{Row};
 ghost use Rattle.sqlite.specs.Values.{bound};
-ghost use Rattle.sqlite.specs.State.{HasCleanDisk, KeepsCommit, Survives};
+ghost use Rattle.sqlite.specs.State.{HasCleanDisk};
 ghost use Rattle.sqlite.specs.Held.{state};
+ghost use Rattle.osm_store.specs.Inside.{WorksInside};
 ghost use Rattle.osm_store.specs.Keeping.{IsForeign};
-ghost use Rattle.osm_store.specs.Put.Steps.{IsWriting, AddsRows};
+ghost use Rattle.osm_store.specs.Schema.Over.{IsWriting};
+ghost use Rattle.osm_store.specs.Put.Steps.{AddsRows};
 ghost use Rattle.osm_store.specs.Put.Batches.{rows_of, element_statement, tag_statement, link_statement};
 
 use crate::fault::StoreFault;
@@ -73,13 +75,9 @@ pub(crate) trait TableRow {
         batch: Batch,
         values: &[ValueRef<'_>],
     ) -> Result<(), StoreFault>
-        ensures same_reference { transaction.new.conn.ghost_name ≡ transaction.old.conn.ghost_name }
+        ensures step { WorksInside S.Store transaction.old.conn result transaction.new.conn }
         ensures added { HasCleanDisk (state S.Store transaction.new.conn.now) → IsWriting Layout.Tables (state S.Store transaction.old.conn.now)
-            → OnOk result ((rows : List Self) → length rows ≡ rows_of batch → bound values.now ≡ flat_map columns rows → AddsRows Layout.Tables tree (state S.Store transaction.old.conn.now) (state S.Store transaction.new.conn.now) (map columns rows)) }
-        ensures inside { HasCleanDisk (state S.Store transaction.new.conn.now) → IsTrue (state S.Store transaction.old.conn.now).in_transaction → OnOk result (IsTrue (state S.Store transaction.new.conn.now).in_transaction) }
-        ensures kept { HasCleanDisk (state S.Store transaction.new.conn.now) → KeepsCommit (state S.Store transaction.old.conn.now) (state S.Store transaction.new.conn.now) }
-        ensures ours { IfErr result (λ fault. ¬ (IsForeign fault)) }
-        ensures survives { Survives (state S.Store transaction.old.conn.now) (state S.Store transaction.new.conn.now) (λ _. ⊥) };
+            → OnOk result ((rows : List Self) → length rows ≡ rows_of batch → bound values.now ≡ flat_map columns rows → AddsRows Layout.Tables tree (state S.Store transaction.old.conn.now) (state S.Store transaction.new.conn.now) (map columns rows)) };
 }
 
 /// A row of the table `element`. What is absent is None.
@@ -250,13 +248,9 @@ fn add_batch<S: Alter, R: TableRow>(
     rows: &[R],
 ) -> Result<(), StoreFault>
     requires { length rows.now ≡ rows_of batch }
-    ensures same_reference { transaction.new.conn.ghost_name ≡ transaction.old.conn.ghost_name }
+    ensures step { WorksInside S.Store transaction.old.conn result transaction.new.conn }
     ensures added { HasCleanDisk (state S.Store transaction.new.conn.now) → IsWriting Layout.Tables (state S.Store transaction.old.conn.now)
         → OnOk result (AddsRows Layout.Tables R.tree (state S.Store transaction.old.conn.now) (state S.Store transaction.new.conn.now) (map R.columns rows.now)) }
-    ensures inside { HasCleanDisk (state S.Store transaction.new.conn.now) → IsTrue (state S.Store transaction.old.conn.now).in_transaction → OnOk result (IsTrue (state S.Store transaction.new.conn.now).in_transaction) }
-    ensures kept { HasCleanDisk (state S.Store transaction.new.conn.now) → KeepsCommit (state S.Store transaction.old.conn.now) (state S.Store transaction.new.conn.now) }
-    ensures ours { IfErr result (λ fault. ¬ (IsForeign fault)) }
-    ensures survives { Survives (state S.Store transaction.old.conn.now) (state S.Store transaction.new.conn.now) (λ _. ⊥) }
 {
     let mut values = Vec::new(alloc);
     for row in rows {
@@ -274,13 +268,9 @@ pub(crate) fn add_rows<S: Alter, R: TableRow>(
     transaction: &mut Transaction<'_, S>,
     rows: &[R],
 ) -> Result<(), StoreFault>
-    ensures same_reference { transaction.new.conn.ghost_name ≡ transaction.old.conn.ghost_name }
+    ensures step { WorksInside S.Store transaction.old.conn result transaction.new.conn }
     ensures added { HasCleanDisk (state S.Store transaction.new.conn.now) → IsWriting Layout.Tables (state S.Store transaction.old.conn.now)
         → OnOk result (AddsRows Layout.Tables R.tree (state S.Store transaction.old.conn.now) (state S.Store transaction.new.conn.now) (map R.columns rows.now)) }
-    ensures inside { HasCleanDisk (state S.Store transaction.new.conn.now) → IsTrue (state S.Store transaction.old.conn.now).in_transaction → OnOk result (IsTrue (state S.Store transaction.new.conn.now).in_transaction) }
-    ensures kept { HasCleanDisk (state S.Store transaction.new.conn.now) → KeepsCommit (state S.Store transaction.old.conn.now) (state S.Store transaction.new.conn.now) }
-    ensures ours { IfErr result (λ fault. ¬ (IsForeign fault)) }
-    ensures survives { Survives (state S.Store transaction.old.conn.now) (state S.Store transaction.new.conn.now) (λ _. ⊥) }
 {
     let mut rest = rows;
     while !rest.is_empty() {

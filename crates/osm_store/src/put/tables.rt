@@ -1,15 +1,16 @@
 //! A blob's elements in the layout of tables: all their rows are made, and then written.
 
-ghost use Rattle.std.specs.Prelude.{◌≡◌, ◌++◌, ◌≤◌, ◌^◌, pos, List, map, IsTrue, OnOk, IfOk, IfErr};
+ghost use Rattle.std.specs.Prelude.{◌≡◌, ◌++◌, ◌≤◌, ◌^◌, pos, List, map, OnOk, IfOk};
 ghost use Rattle.std.specs.List.{AllByRecursion};
-ghost use Rattle.sqlite.specs.State.{HasCleanDisk, KeepsCommit, Survives};
+ghost use Rattle.sqlite.specs.State.{HasCleanDisk};
 ghost use Rattle.sqlite.specs.Held.{state};
-ghost use Rattle.osm_store.specs.Keeping.{IsForeign};
+ghost use Rattle.osm_store.specs.Inside.{WorksInside};
 ghost use Rattle.osm_value.specs.Elements.{tags_of_element};
 ghost use Rattle.osm_store.specs.Rows.{Placed, placed, CanStore};
 ghost use Rattle.osm_store.specs.TableRows.{lat_of, lon_of, links_of, node_link, parts, element_row, tag_row, link_row, element_rows, tag_rows, link_rows};
 ghost use Rattle.osm_store.specs.Put.WrittenRows.{element_columns, tag_columns, link_columns};
-ghost use Rattle.osm_store.specs.Put.Steps.{IsWriting, AddsElements};
+ghost use Rattle.osm_store.specs.Schema.Over.{IsWriting};
+ghost use Rattle.osm_store.specs.Put.Steps.{AddsElements};
 
 use crate::fault::StoreFault;
 use crate::put::table_row::{ElementRow, LinkRow, TagRow, add_rows};
@@ -241,14 +242,10 @@ fn write_table_rows<S: Alter>(
     tags: &[TagRow<'_>],
     links: &[LinkRow<'_>],
 ) -> Result<(), StoreFault>
-    ensures same_reference { transaction.new.conn.ghost_name ≡ transaction.old.conn.ghost_name }
+    ensures step { WorksInside S.Store transaction.old.conn result transaction.new.conn }
     ensures added { HasCleanDisk (state S.Store transaction.new.conn.now) → IsWriting Layout.Tables (state S.Store transaction.old.conn.now)
         → OnOk result ((placed : List Placed) → map element_columns elements.now ≡ element_rows placed → map tag_columns tags.now ≡ tag_rows placed → map link_columns links.now ≡ link_rows placed
         → AddsElements Layout.Tables (state S.Store transaction.old.conn.now) (state S.Store transaction.new.conn.now) placed) }
-    ensures inside { HasCleanDisk (state S.Store transaction.new.conn.now) → IsTrue (state S.Store transaction.old.conn.now).in_transaction → OnOk result (IsTrue (state S.Store transaction.new.conn.now).in_transaction) }
-    ensures kept { HasCleanDisk (state S.Store transaction.new.conn.now) → KeepsCommit (state S.Store transaction.old.conn.now) (state S.Store transaction.new.conn.now) }
-    ensures ours { IfErr result (λ fault. ¬ (IsForeign fault)) }
-    ensures survives { Survives (state S.Store transaction.old.conn.now) (state S.Store transaction.new.conn.now) (λ _. ⊥) }
 {
     add_rows(alloc, transaction, elements)?;
     add_rows(alloc, transaction, tags)?;
@@ -263,14 +260,10 @@ pub(crate) fn add_table_rows<S: Alter>(
     elements: &[Element],
 ) -> Result<(), StoreFault>
     requires bounds { off ≤ 2 ^ 62 }
-    ensures same_reference { transaction.new.conn.ghost_name ≡ transaction.old.conn.ghost_name }
+    ensures step { WorksInside S.Store transaction.old.conn result transaction.new.conn }
     ensures added { HasCleanDisk (state S.Store transaction.new.conn.now) → IsWriting Layout.Tables (state S.Store transaction.old.conn.now)
         → OnOk result (AddsElements Layout.Tables (state S.Store transaction.old.conn.now) (state S.Store transaction.new.conn.now) (placed off 0 elements.now)) }
     ensures can_store { OnOk result (AllByRecursion (CanStore Layout.Tables) elements.now) }
-    ensures inside { HasCleanDisk (state S.Store transaction.new.conn.now) → IsTrue (state S.Store transaction.old.conn.now).in_transaction → OnOk result (IsTrue (state S.Store transaction.new.conn.now).in_transaction) }
-    ensures kept { HasCleanDisk (state S.Store transaction.new.conn.now) → KeepsCommit (state S.Store transaction.old.conn.now) (state S.Store transaction.new.conn.now) }
-    ensures ours { IfErr result (λ fault. ¬ (IsForeign fault)) }
-    ensures survives { Survives (state S.Store transaction.old.conn.now) (state S.Store transaction.new.conn.now) (λ _. ⊥) }
 {
     elements_in_range(elements);
     let element_rows = element_rows(alloc, off, elements)?;

@@ -2,12 +2,14 @@
 
 ghost use Rattle.std.specs.Prelude.{◌≡◌, ◌≤◌, ◌^◌, false, IsTrue, OnOk, OnErr, IfErr};
 ghost use Rattle.std.specs.List.{AllByRecursion};
-ghost use Rattle.sqlite.specs.State.{HasCleanDisk, KeepsCommit, Survives};
+ghost use Rattle.sqlite.specs.State.{HasCleanDisk, Survives};
 ghost use Rattle.sqlite.specs.Held.{state};
+ghost use Rattle.osm_store.specs.Inside.{WorksInside};
 ghost use Rattle.osm_store.specs.Keeping.{IsForeign};
 ghost use Rattle.osm_store.specs.Schema.Layouts.{schema_of};
 ghost use Rattle.osm_store.specs.Rows.{blob_code, placed, extent_row, CanStore};
-ghost use Rattle.osm_store.specs.Put.Steps.{IsWriting, AddsElements, AddsExtent, Puts, Writes};
+ghost use Rattle.osm_store.specs.Schema.Over.{IsWriting};
+ghost use Rattle.osm_store.specs.Put.Steps.{AddsElements, AddsExtent, Puts, Writes};
 
 use crate::fault::StoreFault;
 use crate::keeper::Extent;
@@ -26,13 +28,10 @@ fn add_extent<S: Alter>(
 ) -> Result<(), StoreFault>
     requires inside { IsTrue (state S.Store transaction.old.conn.now).in_transaction }
     requires bounds { (extent.now.off ≤ 2 ^ 62) × (extent.now.fin ≤ 2 ^ 62) × (extent.now.n ≤ 2 ^ 62) }
-    ensures same_reference { transaction.new.conn.ghost_name ≡ transaction.old.conn.ghost_name }
+    ensures step { WorksInside S.Store transaction.old.conn result transaction.new.conn }
     ensures added { HasCleanDisk (state S.Store transaction.new.conn.now) → (layout : Layout) → IsWriting layout (state S.Store transaction.old.conn.now)
         → OnOk result (AddsExtent layout (state S.Store transaction.old.conn.now) (state S.Store transaction.new.conn.now) (extent_row extent.now)) }
-    ensures inside { HasCleanDisk (state S.Store transaction.new.conn.now) → OnOk result (IsTrue (state S.Store transaction.new.conn.now).in_transaction × IsTrue (state S.Store transaction.old.conn.now).is_open) }
-    ensures kept { HasCleanDisk (state S.Store transaction.new.conn.now) → KeepsCommit (state S.Store transaction.old.conn.now) (state S.Store transaction.new.conn.now) }
-    ensures ours { IfErr result (λ fault. ¬ (IsForeign fault)) }
-    ensures survives { Survives (state S.Store transaction.old.conn.now) (state S.Store transaction.new.conn.now) (λ _. ⊥) }
+    ensures opened { HasCleanDisk (state S.Store transaction.new.conn.now) → OnOk result (IsTrue (state S.Store transaction.old.conn.now).is_open) }
 {
     let kind = blob_code(extent.kind);
     transaction.execute(
@@ -57,14 +56,10 @@ fn write_elements<S: Alter>(
     elements: &[Element],
 ) -> Result<(), StoreFault>
     requires bounds { off ≤ 2 ^ 62 }
-    ensures same_reference { transaction.new.conn.ghost_name ≡ transaction.old.conn.ghost_name }
+    ensures step { WorksInside S.Store transaction.old.conn result transaction.new.conn }
     ensures added { HasCleanDisk (state S.Store transaction.new.conn.now) → IsWriting layout (state S.Store transaction.old.conn.now)
         → OnOk result (AddsElements layout (state S.Store transaction.old.conn.now) (state S.Store transaction.new.conn.now) (placed off 0 elements.now)) }
     ensures can_store { OnOk result (AllByRecursion (CanStore layout) elements.now) }
-    ensures inside { HasCleanDisk (state S.Store transaction.new.conn.now) → IsTrue (state S.Store transaction.old.conn.now).in_transaction → OnOk result (IsTrue (state S.Store transaction.new.conn.now).in_transaction) }
-    ensures kept { HasCleanDisk (state S.Store transaction.new.conn.now) → KeepsCommit (state S.Store transaction.old.conn.now) (state S.Store transaction.new.conn.now) }
-    ensures ours { IfErr result (λ fault. ¬ (IsForeign fault)) }
-    ensures survives { Survives (state S.Store transaction.old.conn.now) (state S.Store transaction.new.conn.now) (λ _. ⊥) }
 {
     match layout {
         Layout::Bodies => add_bodies(alloc, transaction, off, elements),
@@ -81,13 +76,10 @@ fn write_rows<S: Alter>(
 ) -> Result<(), StoreFault>
     requires inside { IsTrue (state S.Store transaction.old.conn.now).in_transaction }
     requires bounds { (extent.now.off ≤ 2 ^ 62) × (extent.now.fin ≤ 2 ^ 62) × (extent.now.n ≤ 2 ^ 62) }
-    ensures same_reference { transaction.new.conn.ghost_name ≡ transaction.old.conn.ghost_name }
+    ensures step { WorksInside S.Store transaction.old.conn result transaction.new.conn }
     ensures written { HasCleanDisk (state S.Store transaction.new.conn.now)
         → OnOk result (Writes layout (state S.Store transaction.old.conn.now) (state S.Store transaction.new.conn.now) extent.now (placed extent.now.off 0 elements.now)) }
     ensures can_store { OnOk result (AllByRecursion (CanStore layout) elements.now) }
-    ensures kept { HasCleanDisk (state S.Store transaction.new.conn.now) → KeepsCommit (state S.Store transaction.old.conn.now) (state S.Store transaction.new.conn.now) }
-    ensures ours { IfErr result (λ fault. ¬ (IsForeign fault)) }
-    ensures survives { Survives (state S.Store transaction.old.conn.now) (state S.Store transaction.new.conn.now) (λ _. ⊥) }
 {
     add_extent(transaction, extent)?;
     write_elements(alloc, transaction, layout, extent.off, elements)

@@ -1,145 +1,90 @@
 //! The tables of a store that holds nothing.
 
-ghost use Rattle.std.specs.Prelude.{◌≡◌, false, [], IsTrue, OnOk, OnErr};
-ghost use Rattle.sqlite.specs.State.{HasCleanDisk, KeepsCommit, Survives};
+ghost use Rattle.std.specs.Prelude.{◌≡◌, false, IsTrue, OnOk, OnErr};
+ghost use Rattle.sqlite.specs.State.{HasCleanDisk, Survives};
 ghost use Rattle.sqlite.specs.Held.{state};
-ghost use Rattle.osm_store.specs.Schema.Bodies.{no_schema, one_table, two_tables, three_tables};
-ghost use Rattle.osm_store.specs.Schema.Tables.{with_element, with_tag, with_link};
+ghost use Rattle.osm_store.specs.Inside.{GoesOn};
+ghost use Rattle.osm_store.specs.Schema.Bodies.{no_schema, two_tables};
 ghost use Rattle.osm_store.specs.Schema.Layouts.{schema_of, version_text_of};
-ghost use Rattle.osm_store.specs.Put.Steps.{IsOver, IsWriting, MakesMeta, MakesBlob, MakesBody, MakesIndex, MakesElement, MakesTag, MakesLink, MakesElementIndex, MakesElements, WritesVersion, IsEmptyStore};
+ghost use Rattle.osm_store.specs.Schema.Making.{text_of, before, Makes, MakesElements, WritesVersion, IsEmptyStore};
+ghost use Rattle.osm_store.specs.Schema.Over.{IsOver, IsWriting};
 
-use crate::schema::Layout;
+use crate::schema::layout::Layout;
 use crate::schema::sql::{
-    CREATE_BLOB, CREATE_BODY, CREATE_ELEMENT, CREATE_ELEMENT_INDEX, CREATE_INDEX, CREATE_LINK,
+    CREATE_BLOB, CREATE_BODY, CREATE_BODY_INDEX, CREATE_ELEMENT, CREATE_ELEMENT_INDEX, CREATE_LINK,
     CREATE_META, CREATE_TAG, INSERT_BODY_VERSION, INSERT_TABLE_VERSION,
 };
 use sqlite::{Alter, Connection, Error, Transaction};
 
-fn make_meta<S: Alter>(transaction: &mut Transaction<'_, S>) -> Result<(), Error>
-    requires { HasCleanDisk (state S.Store transaction.old.conn.now) → IsOver no_schema (state S.Store transaction.old.conn.now) }
-    ensures same_reference { transaction.new.conn.ghost_name ≡ transaction.old.conn.ghost_name }
-    ensures made { HasCleanDisk (state S.Store transaction.new.conn.now) → OnOk result (MakesMeta (state S.Store transaction.old.conn.now) (state S.Store transaction.new.conn.now)) }
-    ensures kept { HasCleanDisk (state S.Store transaction.new.conn.now) → KeepsCommit (state S.Store transaction.old.conn.now) (state S.Store transaction.new.conn.now) }
-    ensures survives { Survives (state S.Store transaction.old.conn.now) (state S.Store transaction.new.conn.now) (λ _. ⊥) }
+/// A statement that makes a table or an index of a store.
+#[derive(Clone, Copy)]
+pub(crate) enum Making {
+    Meta,
+    Blob,
+    Body,
+    BodyIndex,
+    Element,
+    Tag,
+    Link,
+    ElementIndex,
+}
+
+impl Making {
+    fn text(self) -> &'static str
+        ensures { result.now ≡ text_of self }
+    {
+        match self {
+            Making::Meta => CREATE_META,
+            Making::Blob => CREATE_BLOB,
+            Making::Body => CREATE_BODY,
+            Making::BodyIndex => CREATE_BODY_INDEX,
+            Making::Element => CREATE_ELEMENT,
+            Making::Tag => CREATE_TAG,
+            Making::Link => CREATE_LINK,
+            Making::ElementIndex => CREATE_ELEMENT_INDEX,
+        }
+    }
+}
+
+/// Runs one statement, over the tables that the ones before it made.
+fn make<S: Alter>(transaction: &mut Transaction<'_, S>, what: Making) -> Result<(), Error>
+    requires { HasCleanDisk (state S.Store transaction.old.conn.now) → IsOver (before what) (state S.Store transaction.old.conn.now) }
+    ensures goes_on { GoesOn S.Store transaction.old.conn transaction.new.conn }
+    ensures made { HasCleanDisk (state S.Store transaction.new.conn.now) → OnOk result (Makes what (state S.Store transaction.old.conn.now) (state S.Store transaction.new.conn.now)) }
 {
-    transaction.execute(CREATE_META, &[])?;
+    transaction.execute(what.text(), &[])?;
     Ok(())
 }
 
-fn make_blob<S: Alter>(transaction: &mut Transaction<'_, S>) -> Result<(), Error>
-    requires { HasCleanDisk (state S.Store transaction.old.conn.now) → IsOver one_table (state S.Store transaction.old.conn.now) }
-    ensures same_reference { transaction.new.conn.ghost_name ≡ transaction.old.conn.ghost_name }
-    ensures made { HasCleanDisk (state S.Store transaction.new.conn.now) → OnOk result (MakesBlob (state S.Store transaction.old.conn.now) (state S.Store transaction.new.conn.now)) }
-    ensures kept { HasCleanDisk (state S.Store transaction.new.conn.now) → KeepsCommit (state S.Store transaction.old.conn.now) (state S.Store transaction.new.conn.now) }
-    ensures survives { Survives (state S.Store transaction.old.conn.now) (state S.Store transaction.new.conn.now) (λ _. ⊥) }
-{
-    transaction.execute(CREATE_BLOB, &[])?;
-    Ok(())
-}
-
-fn make_body<S: Alter>(transaction: &mut Transaction<'_, S>) -> Result<(), Error>
+fn make_body_layout<S: Alter>(transaction: &mut Transaction<'_, S>) -> Result<(), Error>
     requires { HasCleanDisk (state S.Store transaction.old.conn.now) → IsOver two_tables (state S.Store transaction.old.conn.now) }
-    ensures same_reference { transaction.new.conn.ghost_name ≡ transaction.old.conn.ghost_name }
-    ensures made { HasCleanDisk (state S.Store transaction.new.conn.now) → OnOk result (MakesBody (state S.Store transaction.old.conn.now) (state S.Store transaction.new.conn.now)) }
-    ensures kept { HasCleanDisk (state S.Store transaction.new.conn.now) → KeepsCommit (state S.Store transaction.old.conn.now) (state S.Store transaction.new.conn.now) }
-    ensures survives { Survives (state S.Store transaction.old.conn.now) (state S.Store transaction.new.conn.now) (λ _. ⊥) }
-{
-    transaction.execute(CREATE_BODY, &[])?;
-    Ok(())
-}
-
-fn make_index<S: Alter>(transaction: &mut Transaction<'_, S>) -> Result<(), Error>
-    requires { HasCleanDisk (state S.Store transaction.old.conn.now) → IsOver three_tables (state S.Store transaction.old.conn.now) }
-    ensures same_reference { transaction.new.conn.ghost_name ≡ transaction.old.conn.ghost_name }
-    ensures made { HasCleanDisk (state S.Store transaction.new.conn.now) → OnOk result (MakesIndex (state S.Store transaction.old.conn.now) (state S.Store transaction.new.conn.now)) }
-    ensures kept { HasCleanDisk (state S.Store transaction.new.conn.now) → KeepsCommit (state S.Store transaction.old.conn.now) (state S.Store transaction.new.conn.now) }
-    ensures survives { Survives (state S.Store transaction.old.conn.now) (state S.Store transaction.new.conn.now) (λ _. ⊥) }
-{
-    transaction.execute(CREATE_INDEX, &[])?;
-    Ok(())
-}
-
-fn make_element<S: Alter>(transaction: &mut Transaction<'_, S>) -> Result<(), Error>
-    requires { HasCleanDisk (state S.Store transaction.old.conn.now) → IsOver two_tables (state S.Store transaction.old.conn.now) }
-    ensures same_reference { transaction.new.conn.ghost_name ≡ transaction.old.conn.ghost_name }
-    ensures made { HasCleanDisk (state S.Store transaction.new.conn.now) → OnOk result (MakesElement (state S.Store transaction.old.conn.now) (state S.Store transaction.new.conn.now)) }
-    ensures kept { HasCleanDisk (state S.Store transaction.new.conn.now) → KeepsCommit (state S.Store transaction.old.conn.now) (state S.Store transaction.new.conn.now) }
-    ensures survives { Survives (state S.Store transaction.old.conn.now) (state S.Store transaction.new.conn.now) (λ _. ⊥) }
-{
-    transaction.execute(CREATE_ELEMENT, &[])?;
-    Ok(())
-}
-
-fn make_tag<S: Alter>(transaction: &mut Transaction<'_, S>) -> Result<(), Error>
-    requires { HasCleanDisk (state S.Store transaction.old.conn.now) → IsOver with_element (state S.Store transaction.old.conn.now) }
-    ensures same_reference { transaction.new.conn.ghost_name ≡ transaction.old.conn.ghost_name }
-    ensures made { HasCleanDisk (state S.Store transaction.new.conn.now) → OnOk result (MakesTag (state S.Store transaction.old.conn.now) (state S.Store transaction.new.conn.now)) }
-    ensures kept { HasCleanDisk (state S.Store transaction.new.conn.now) → KeepsCommit (state S.Store transaction.old.conn.now) (state S.Store transaction.new.conn.now) }
-    ensures survives { Survives (state S.Store transaction.old.conn.now) (state S.Store transaction.new.conn.now) (λ _. ⊥) }
-{
-    transaction.execute(CREATE_TAG, &[])?;
-    Ok(())
-}
-
-fn make_link<S: Alter>(transaction: &mut Transaction<'_, S>) -> Result<(), Error>
-    requires { HasCleanDisk (state S.Store transaction.old.conn.now) → IsOver with_tag (state S.Store transaction.old.conn.now) }
-    ensures same_reference { transaction.new.conn.ghost_name ≡ transaction.old.conn.ghost_name }
-    ensures made { HasCleanDisk (state S.Store transaction.new.conn.now) → OnOk result (MakesLink (state S.Store transaction.old.conn.now) (state S.Store transaction.new.conn.now)) }
-    ensures kept { HasCleanDisk (state S.Store transaction.new.conn.now) → KeepsCommit (state S.Store transaction.old.conn.now) (state S.Store transaction.new.conn.now) }
-    ensures survives { Survives (state S.Store transaction.old.conn.now) (state S.Store transaction.new.conn.now) (λ _. ⊥) }
-{
-    transaction.execute(CREATE_LINK, &[])?;
-    Ok(())
-}
-
-fn make_element_index<S: Alter>(transaction: &mut Transaction<'_, S>) -> Result<(), Error>
-    requires { HasCleanDisk (state S.Store transaction.old.conn.now) → IsOver with_link (state S.Store transaction.old.conn.now) }
-    ensures same_reference { transaction.new.conn.ghost_name ≡ transaction.old.conn.ghost_name }
-    ensures made { HasCleanDisk (state S.Store transaction.new.conn.now) → OnOk result (MakesElementIndex (state S.Store transaction.old.conn.now) (state S.Store transaction.new.conn.now)) }
-    ensures kept { HasCleanDisk (state S.Store transaction.new.conn.now) → KeepsCommit (state S.Store transaction.old.conn.now) (state S.Store transaction.new.conn.now) }
-    ensures survives { Survives (state S.Store transaction.old.conn.now) (state S.Store transaction.new.conn.now) (λ _. ⊥) }
-{
-    transaction.execute(CREATE_ELEMENT_INDEX, &[])?;
-    Ok(())
-}
-
-fn make_body_tables<S: Alter>(transaction: &mut Transaction<'_, S>) -> Result<(), Error>
-    requires { HasCleanDisk (state S.Store transaction.old.conn.now) → IsOver two_tables (state S.Store transaction.old.conn.now) }
-    ensures same_reference { transaction.new.conn.ghost_name ≡ transaction.old.conn.ghost_name }
+    ensures goes_on { GoesOn S.Store transaction.old.conn transaction.new.conn }
     ensures made { HasCleanDisk (state S.Store transaction.new.conn.now) → OnOk result (MakesElements Layout.Bodies (state S.Store transaction.old.conn.now) (state S.Store transaction.new.conn.now)) }
-    ensures kept { HasCleanDisk (state S.Store transaction.new.conn.now) → KeepsCommit (state S.Store transaction.old.conn.now) (state S.Store transaction.new.conn.now) }
-    ensures survives { Survives (state S.Store transaction.old.conn.now) (state S.Store transaction.new.conn.now) (λ _. ⊥) }
 {
-    make_body(transaction)?;
-    make_index(transaction)
+    make(transaction, Making::Body)?;
+    make(transaction, Making::BodyIndex)
 }
 
-fn make_row_tables<S: Alter>(transaction: &mut Transaction<'_, S>) -> Result<(), Error>
+fn make_table_layout<S: Alter>(transaction: &mut Transaction<'_, S>) -> Result<(), Error>
     requires { HasCleanDisk (state S.Store transaction.old.conn.now) → IsOver two_tables (state S.Store transaction.old.conn.now) }
-    ensures same_reference { transaction.new.conn.ghost_name ≡ transaction.old.conn.ghost_name }
+    ensures goes_on { GoesOn S.Store transaction.old.conn transaction.new.conn }
     ensures made { HasCleanDisk (state S.Store transaction.new.conn.now) → OnOk result (MakesElements Layout.Tables (state S.Store transaction.old.conn.now) (state S.Store transaction.new.conn.now)) }
-    ensures kept { HasCleanDisk (state S.Store transaction.new.conn.now) → KeepsCommit (state S.Store transaction.old.conn.now) (state S.Store transaction.new.conn.now) }
-    ensures survives { Survives (state S.Store transaction.old.conn.now) (state S.Store transaction.new.conn.now) (λ _. ⊥) }
 {
-    make_element(transaction)?;
-    make_tag(transaction)?;
-    make_link(transaction)?;
-    make_element_index(transaction)
+    make(transaction, Making::Element)?;
+    make(transaction, Making::Tag)?;
+    make(transaction, Making::Link)?;
+    make(transaction, Making::ElementIndex)
 }
 
-fn make_element_tables<S: Alter>(
-    transaction: &mut Transaction<'_, S>,
-    layout: Layout,
-) -> Result<(), Error>
+/// Makes the tables in which a layout keeps elements, and their index.
+fn make_layout<S: Alter>(transaction: &mut Transaction<'_, S>, layout: Layout) -> Result<(), Error>
     requires { HasCleanDisk (state S.Store transaction.old.conn.now) → IsOver two_tables (state S.Store transaction.old.conn.now) }
-    ensures same_reference { transaction.new.conn.ghost_name ≡ transaction.old.conn.ghost_name }
+    ensures goes_on { GoesOn S.Store transaction.old.conn transaction.new.conn }
     ensures made { HasCleanDisk (state S.Store transaction.new.conn.now) → OnOk result (MakesElements layout (state S.Store transaction.old.conn.now) (state S.Store transaction.new.conn.now)) }
-    ensures kept { HasCleanDisk (state S.Store transaction.new.conn.now) → KeepsCommit (state S.Store transaction.old.conn.now) (state S.Store transaction.new.conn.now) }
-    ensures survives { Survives (state S.Store transaction.old.conn.now) (state S.Store transaction.new.conn.now) (λ _. ⊥) }
 {
     match layout {
-        Layout::Bodies => make_body_tables(transaction),
-        Layout::Tables => make_row_tables(transaction),
+        Layout::Bodies => make_body_layout(transaction),
+        Layout::Tables => make_table_layout(transaction),
     }
 }
 
@@ -158,10 +103,8 @@ fn write_version<S: Alter>(
     layout: Layout,
 ) -> Result<(), Error>
     requires { HasCleanDisk (state S.Store transaction.old.conn.now) → IsWriting layout (state S.Store transaction.old.conn.now) }
-    ensures same_reference { transaction.new.conn.ghost_name ≡ transaction.old.conn.ghost_name }
+    ensures goes_on { GoesOn S.Store transaction.old.conn transaction.new.conn }
     ensures made { HasCleanDisk (state S.Store transaction.new.conn.now) → OnOk result (WritesVersion layout (state S.Store transaction.old.conn.now) (state S.Store transaction.new.conn.now)) }
-    ensures kept { HasCleanDisk (state S.Store transaction.new.conn.now) → KeepsCommit (state S.Store transaction.old.conn.now) (state S.Store transaction.new.conn.now) }
-    ensures survives { Survives (state S.Store transaction.old.conn.now) (state S.Store transaction.new.conn.now) (λ _. ⊥) }
 {
     transaction.execute(version_text(layout), &[])?;
     Ok(())
@@ -169,15 +112,13 @@ fn write_version<S: Alter>(
 
 fn make_tables<S: Alter>(transaction: &mut Transaction<'_, S>, layout: Layout) -> Result<(), Error>
     requires { HasCleanDisk (state S.Store transaction.old.conn.now) → IsOver no_schema (state S.Store transaction.old.conn.now) }
-    ensures same_reference { transaction.new.conn.ghost_name ≡ transaction.old.conn.ghost_name }
+    ensures goes_on { GoesOn S.Store transaction.old.conn transaction.new.conn }
     ensures over { HasCleanDisk (state S.Store transaction.new.conn.now) → OnOk result (IsWriting layout (state S.Store transaction.new.conn.now)) }
     ensures made { HasCleanDisk (state S.Store transaction.new.conn.now) → OnOk result (IsEmptyStore layout (state S.Store transaction.new.conn.now).now.trees) }
-    ensures kept { HasCleanDisk (state S.Store transaction.new.conn.now) → KeepsCommit (state S.Store transaction.old.conn.now) (state S.Store transaction.new.conn.now) }
-    ensures survives { Survives (state S.Store transaction.old.conn.now) (state S.Store transaction.new.conn.now) (λ _. ⊥) }
 {
-    make_meta(transaction)?;
-    make_blob(transaction)?;
-    make_element_tables(transaction, layout)?;
+    make(transaction, Making::Meta)?;
+    make(transaction, Making::Blob)?;
+    make_layout(transaction, layout)?;
     write_version(transaction, layout)
 }
 

@@ -8,7 +8,7 @@ ghost use Rattle.osm_store.specs.Load.Asking.{JustAsks, NamesVersion};
 ghost use Rattle.osm_store.specs.Faults.{NamesNoVersion};
 ghost use Rattle.osm_store.specs.Held.{HeldMap};
 ghost use Rattle.osm_store.specs.LayoutHolding.{Holds, TablesHold};
-ghost use Rattle.osm_store.specs.Keeping.{IsForeign, failures_after};
+ghost use Rattle.osm_store.specs.Keeping.{IsForeign};
 ghost use Rattle.osm_store.specs.Schema.Layouts.{version_of};
 ghost use Rattle.osm_store.specs.Schema.Bodies.{no_schema};
 
@@ -33,17 +33,6 @@ fn version_of(layout: Layout) -> i64
     match layout {
         Layout::Bodies => 1,
         Layout::Tables => 2,
-    }
-}
-
-/// The count of failures after a call with this answer; it stays at the greatest number.
-pub(crate) fn failures_after<T>(answer: &Result<T, StoreFault>, failures: u64) -> u64
-    ensures { result ≡ failures_after answer.now failures }
-{
-    if answer.is_err() {
-        failures.saturating_add(1)
-    } else {
-        failures
     }
 }
 

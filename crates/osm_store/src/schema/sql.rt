@@ -8,7 +8,7 @@ pub(crate) const CREATE_BLOB: &str =
 pub(crate) const CREATE_BODY: &str =
     "CREATE TABLE body (off INTEGER NOT NULL, pos INTEGER NOT NULL, kind INTEGER NOT NULL, id INTEGER NOT NULL, data BLOB NOT NULL, PRIMARY KEY (off, pos)) STRICT";
 
-pub(crate) const CREATE_INDEX: &str = "CREATE INDEX body_element ON body (kind, id)";
+pub(crate) const CREATE_BODY_INDEX: &str = "CREATE INDEX body_element ON body (kind, id)";
 
 pub(crate) const CREATE_ELEMENT: &str =
     "CREATE TABLE element (off INTEGER NOT NULL, pos INTEGER NOT NULL, kind INTEGER NOT NULL, id INTEGER NOT NULL, lat INTEGER, lon INTEGER, version INTEGER, time INTEGER, changeset INTEGER, uid INTEGER, user TEXT, visible INTEGER, PRIMARY KEY (off, pos)) STRICT";

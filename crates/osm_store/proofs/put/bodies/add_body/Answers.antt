@@ -1,9 +1,10 @@
-use Rattle.std.proofs.Common.{arith, ap, ◌∙◌, pos, w64}
+use Rattle.std.proofs.Common.{arith, ap, ◌∙◌, pos, w64, rules}
 use Rattle.std.proofs.lemmas.Int.{to_z-of_z, to_z_pos}
 use Rattle.sqlite.specs.declared.types.Value.TheVariants.{Int}
 use Rattle.sqlite.specs.Held.{state}
 use Rattle.osm_store.specs.Rows.{element_code}
-use Rattle.osm_store.proofs.PutLemmas.RowSteps.{adds_body, keeps}
+use Rattle.osm_store.proofs.PutLemmas.RowSteps.{adds_body}
+use Rattle.osm_store.proofs.StepLemmas.{runs_on}
 use Rattle.osm_store.proofs.put.bodies.add_body.Goals as goal
 
 pub returns-clause-added : goal.returns-clause-added
@@ -14,6 +15,16 @@ returns-clause-added g c clean over =
     let ran = rw (off, position, c.params-to_sql-3.ensures, id, c.params-to_sql-5.ensures, c.element_code-code.ensures) at c.in_ok-execute.ensures.runs clean over.inside in
     adds_body (state g.S.Store c.args.transaction.now.conn.now) (state g.S.Store c.execute.new.self.conn.now) (pos c.args.off) (pos c.args.position) (pos (element_code c.args.kind)) c.args.id c.args.block.now c.in_ok-execute.field-0 over ran
 
-pub returns-in_err-execute-clause-kept : goal.returns-in_err-execute-clause-kept
-returns-in_err-execute-clause-kept g c clean =
-    keeps g.S.Store c.args.transaction.now.conn.now c.execute.new.self.conn.now _ _ _ _ c.execute.ensures.ended (c.execute.ensures.runs clean)
+pub returns-clause-step : goal.returns-clause-step
+returns-clause-step g c = record {
+  goes_on = runs_on g.S.Store c.args.transaction.now.conn c.execute.new.self.conn _ _ _ _ c.execute.ensures.same_reference c.execute.ensures.ended c.execute.ensures.runs c.execute.ensures.survives;
+  inside = search rules;
+  ours = search rules;
+}
+
+pub returns-in_err-execute-clause-step : goal.returns-in_err-execute-clause-step
+returns-in_err-execute-clause-step g c = record {
+  goes_on = runs_on g.S.Store c.args.transaction.now.conn c.execute.new.self.conn _ _ _ _ c.execute.ensures.same_reference c.execute.ensures.ended c.execute.ensures.runs c.execute.ensures.survives;
+  inside = search rules;
+  ours = search rules;
+}

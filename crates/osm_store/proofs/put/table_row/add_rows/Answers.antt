@@ -1,14 +1,12 @@
-use Rattle.std.proofs.Common.{◌≡◌, List, [], ◌∷◌, ◌++◌, map, length, refl, ◌∙◌, sym, ap, subst, arith, append-nil, append_assoc}
+use Rattle.std.proofs.Common.{◌≡◌, List, [], ◌∷◌, ◌++◌, map, length, rules, refl, ◌∙◌, sym, ap, subst, arith, append-nil, append_assoc}
 use Rattle.std.proofs.lemmas.Bool.Decides.{nat_tests}
 use Rattle.std.proofs.lemmas.List.{map-append}
 use Rattle.sqlite.specs.Order.{Row}
-use Rattle.sqlite.specs.State.{HasCleanDisk}
 use Rattle.sqlite.specs.Held.{state}
-use Rattle.sqlite.proofs.StateLemmas.{survives_then}
-use Rattle.sqlite.proofs.InsideLemmas.{keeps_then}
 use Rattle.osm_store.specs.declared.schema.layout.Layout.TheVariants.{Tables}
 use Rattle.osm_store.specs.Put.Steps.{AddsRows}
-use Rattle.osm_store.proofs.PutLemmas.RowSteps.{survives_nothing, no_rows, rows_more}
+use Rattle.osm_store.proofs.PutLemmas.RowSteps.{no_rows, rows_more}
+use Rattle.osm_store.proofs.StepLemmas.{clean_at, stays, goes_on_then}
 use Rattle.osm_store.proofs.put.table_row.add_rows.Goals as goal
 
 pub loop-rest-init : goal.loop-rest-init
@@ -17,9 +15,7 @@ loop-rest-init g c =
       [],
       record {
         whole = refl;
-        same_reference = refl;
-        survives = survives_nothing start;
-        kept = λ clean. record { was_open = λ h. h; committed = λ _. refl };
+        goes_on = stays g.S.Store c.args.transaction.now.conn;
         inside = λ clean inside. inside;
         added = λ clean over. no_rows Tables g.R.TableRow.tree start over;
       },
@@ -28,26 +24,35 @@ loop-rest-init g c =
 pub loop-rest-preserved : goal.loop-rest-preserved
 loop-rest-preserved g c =
     let start = state g.S.Store c.args.transaction.now.conn.now in
-    let now = state g.S.Store c.loop-rest.transaction.conn.now in
-    let next = state g.S.Store c.add_batch.new.transaction.conn.now in
+    let now = c.loop-rest.transaction.conn in
+    let next = c.add_batch.new.transaction.conn in
     let columns = g.R.TableRow.columns in
     let it = c.loop-rest.invariant.1 in
     let done = c.loop-rest.invariant.0 in
     let chunk = map columns c.split_at.result.0.now in
     let rest = map columns c.split_at.result.1.now in
-    let before = λ (clean : HasCleanDisk next). (let c : HasCleanDisk now = omega (arith, c.add_batch.ensures.survives.clean) in c) in (
+    let step = c.in_ok-add_batch.ensures.step in
+    let before = clean_at g.S.Store now next step.goes_on in (
       done ++ chunk,
       record {
         whole = it.whole ∙ ap (λ l. done ++ l) (ap (map columns) c.split_at.ensures.by_index.0 ∙ map-append columns c.split_at.result.0.now c.split_at.result.1.now) ∙ sym (append_assoc done chunk rest);
-        same_reference = c.add_batch.ensures.same_reference ∙ it.same_reference;
-        survives = survives_then start now next _ _ (λ _. ⊥) (λ _ db none. none) (λ _ db none. none) it.survives c.add_batch.ensures.survives;
-        kept = λ clean. keeps_then start now next (it.kept (before clean)) (c.add_batch.ensures.kept clean);
-        inside = λ clean inside. c.in_ok-add_batch.ensures.inside clean (it.inside (before clean) inside);
+        goes_on = goes_on_then g.S.Store c.args.transaction.now.conn now next it.goes_on step.goes_on;
+        inside = λ clean inside. step.inside clean (it.inside (before clean) inside);
         added = λ clean over.
             let added = it.added (before clean) over in
-            rows_more Tables g.R.TableRow.tree start now next done chunk added (c.in_ok-add_batch.ensures.added clean added.over);
+            rows_more Tables g.R.TableRow.tree start (state g.S.Store now.now) (state g.S.Store next.now) done chunk added (c.in_ok-add_batch.ensures.added clean added.over);
       },
     )
+
+pub returns-in_err-add_batch-clause-step : goal.returns-in_err-add_batch-clause-step
+returns-in_err-add_batch-clause-step g c = record {
+  goes_on = goes_on_then g.S.Store c.args.transaction.now.conn c.loop-rest.transaction.conn c.add_batch.new.transaction.conn c.loop-rest.invariant.1.goes_on c.add_batch.ensures.step.goes_on;
+  inside = search rules;
+  ours = search (rules, c.add_batch.ensures.step.ours);
+}
+
+pub returns-clause-step : goal.returns-clause-step
+returns-clause-step g c = record { goes_on = c.loop-rest.invariant.1.goes_on; inside = c.loop-rest.invariant.1.inside; ours = search rules }
 
 -- once no row is left, all are added
 all_done : {X : Type 0} (columns : X → Row) (rest : List X) (done all : List Row) → length rest ≡ 0 → all ≡ done ++ map columns rest → all ≡ done

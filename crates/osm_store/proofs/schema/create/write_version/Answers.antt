@@ -1,7 +1,16 @@
 use Rattle.std.proofs.Common.{arith}
 use Rattle.sqlite.specs.Held.{state}
 use Rattle.osm_store.proofs.SchemaLemmas.MakeSteps.{writes_version}
+use Rattle.osm_store.proofs.StepLemmas.{runs_on}
 use Rattle.osm_store.proofs.schema.create.write_version.Goals as goal
+
+pub returns-clause-goes_on : goal.returns-clause-goes_on
+returns-clause-goes_on g c =
+    runs_on g.S.Store c.args.transaction.now.conn c.execute.new.self.conn _ _ _ _ c.execute.ensures.same_reference c.execute.ensures.ended c.execute.ensures.runs c.execute.ensures.survives
+
+pub returns-in_err-execute-clause-goes_on : goal.returns-in_err-execute-clause-goes_on
+returns-in_err-execute-clause-goes_on g c =
+    runs_on g.S.Store c.args.transaction.now.conn c.execute.new.self.conn _ _ _ _ c.execute.ensures.same_reference c.execute.ensures.ended c.execute.ensures.runs c.execute.ensures.survives
 
 pub returns-clause-made : goal.returns-clause-made
 returns-clause-made g c clean =

@@ -1,8 +1,8 @@
-use Rattle.std.proofs.Common.{Ok, subst}
+use Rattle.std.proofs.Common.{Ok, subst, rules}
 use Rattle.sqlite.specs.State.{ExecutesInside}
 use Rattle.sqlite.specs.Values.{bound}
 use Rattle.sqlite.specs.Held.{state}
-use Rattle.osm_store.proofs.PutLemmas.RowSteps.{keeps}
+use Rattle.osm_store.proofs.StepLemmas.{runs_on}
 use Rattle.osm_store.proofs.PutLemmas.InsertSteps.{inserts_element}
 use Rattle.osm_store.proofs.put.table_row.ElementRowTableRow.insert.Goals as goal
 
@@ -15,6 +15,16 @@ returns-clause-added g c clean over rows many these =
     let ran = subst (λ text. ExecutesInside 0 text params old new (Ok changed)) c.element_statement.ensures (c.in_ok-execute.ensures.runs clean over.inside) in
     inserts_element c.args.batch rows many params these old new changed over ran
 
-pub returns-in_err-execute-clause-kept : goal.returns-in_err-execute-clause-kept
-returns-in_err-execute-clause-kept g c clean =
-    keeps g.S.Store c.args.transaction.now.conn.now c.execute.new.self.conn.now _ _ _ _ c.execute.ensures.ended (c.execute.ensures.runs clean)
+pub returns-clause-step : goal.returns-clause-step
+returns-clause-step g c = record {
+  goes_on = runs_on g.S.Store c.args.transaction.now.conn c.execute.new.self.conn _ _ _ _ c.execute.ensures.same_reference c.execute.ensures.ended c.execute.ensures.runs c.execute.ensures.survives;
+  inside = search rules;
+  ours = search rules;
+}
+
+pub returns-in_err-execute-clause-step : goal.returns-in_err-execute-clause-step
+returns-in_err-execute-clause-step g c = record {
+  goes_on = runs_on g.S.Store c.args.transaction.now.conn c.execute.new.self.conn _ _ _ _ c.execute.ensures.same_reference c.execute.ensures.ended c.execute.ensures.runs c.execute.ensures.survives;
+  inside = search rules;
+  ours = search rules;
+}

@@ -1,9 +1,0 @@
-use Rattle.std.proofs.Common.{arith}
-use Rattle.sqlite.specs.Held.{state}
-use Rattle.osm_store.proofs.SchemaLemmas.MakeSteps.{makes_index}
-use Rattle.osm_store.proofs.schema.create.make_index.Goals as goal
-
-pub returns-clause-made : goal.returns-clause-made
-returns-clause-made g c clean =
-    let over = c.requires (omega (arith, c.execute.ensures.survives.clean)) in
-    makes_index (state g.S.Store c.args.transaction.now.conn.now) (state g.S.Store c.execute.new.self.conn.now) c.in_ok-execute.field-0 over (c.in_ok-execute.ensures.runs clean over.inside)
