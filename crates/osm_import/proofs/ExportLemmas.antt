@@ -1,11 +1,10 @@
 -- From the extents of a map to what an export writes.
-use Rattle.std.proofs.Common.{◌≡◌, ◌≢◌, ℕ, suc, zero, cond, ◌+◌, ◌<◌, ◌≤◌, max, Bool, true, false, List, [], ◌∷◌, ◌++◌, map, length, take, drop, get_or, slice_get, Option, Some, None, Result, Ok, Err, refl, sym, ◌∙◌, ap, subst, inl, inr, arith, append_assoc, append-nil, add-one, length-append}
+use Rattle.std.proofs.Common.{◌≡◌, ◌≢◌, ℕ, suc, zero, cond, ◌+◌, ◌<◌, ◌≤◌, max, Bool, true, false, List, [], ◌∷◌, ◌++◌, map, length, take, slice_get, Option, Some, None, Result, Ok, Err, refl, sym, ◌∙◌, ap, subst, inl, inr, arith, append_assoc, length-append}
 use Rattle.std.specs.Prelude.{unwrap_or}
 use Rattle.std.specs.FinMap as finite
-use Rattle.std.specs.FinMap.{get, entries, get-entries, entries_sorted, is_sorted}
+use Rattle.std.specs.FinMap.{entries, get-entries, entries_sorted, is_sorted}
 use Rattle.std.specs.Ordering.{nat_cmp}
 use Rattle.std.proofs.lemmas.Bool.Decides.{eqb_tells}
-use Rattle.std.proofs.lemmas.List.{take-append-drop, take_all, length-map}
 use Rattle.std.specs.Io.KnownBytes.{Appends}
 use Rattle.std.proofs.KnownBytes.{Appends-trans, Appends-nil}
 use Rattle.osm_value.specs.declared.element.Element.{Element}
@@ -14,11 +13,11 @@ use Rattle.osm_import.proofs.GoodLaws.{frame-filled}
 use Rattle.osm_store.specs.Held.{Blob, HeldMap, IsApart}
 use Rattle.osm_store.specs.Keeping.{extents_of, extent_of}
 use Rattle.osm_store.specs.declared.keeper.Extent.{Extent}
-use Rattle.osm_store.specs.declared.fault.StoreFault.{StoreFault}
 use Rattle.osm_import.specs.Gaps.{AreGaps, Tiles, ranges_between}
 use Rattle.osm_import.specs.Files.{AreFrames, StandsAt, IsFile, IsHeldOfFile, joined}
 use Rattle.osm_import.specs.Step.{IsEntry}
-use Rattle.osm_import.specs.Exports.{Known, lines_of, blob_lines, AreElements, greatest_end, size_of, IsRefusalOf, AreTiling, IsRefusal, WritesBlob, WritesBlobs, WritesFile, IsExport, IsAskedFor}
+use Rattle.osm_import.specs.Exports.{Known, lines_of, blob_lines, AreElements, greatest_end, size_of, IsRefusalOf, AreTiling, IsRefusal, WritesLines, WritesFile, IsExport, IsUnbegun, IsAskedFor}
+use Rattle.osm_import.specs.Walks.{elements_at, WritesInTurn, Walks}
 use Rattle.osm_import.specs.declared.export.fault.ExportFault.{ExportFault}
 use Rattle.osm_import.specs.declared.export.fault.ExportFault.TheVariants.{Incomplete, PastEnd, WriteFailed, BlockTooLarge, Store}
 use Rattle.osm_import.proofs.Touching.{find-cons, find-tail, find-head, sorted-tail}
@@ -56,82 +55,22 @@ tiling extents asked g size is_g is none some within = record {
   within = subst (λ n. n ≤ size_of asked extents) is_g (subst (λ n. g ≤ n) (size-is extents asked g size is_g is) within);
 }
 
-blob_lines-append : (xs ys : List (ℕ × Blob)) → blob_lines (xs ++ ys) ≡ blob_lines xs ++ blob_lines ys
-blob_lines-append [] ys = refl
-blob_lines-append (x ∷ xs) ys = ap (λ l. lines_of x.1.elements ++ l) (blob_lines-append xs ys) ∙ sym (append_assoc (lines_of x.1.elements) (blob_lines xs) (blob_lines ys))
+-- ---- the lines of blobs
 
--- the entry behind an extent
-record AtEntry (es : List (ℕ × Blob)) (i : ℕ) (x : Extent) : Type 0 where
-  pub entry : ℕ × Blob
-  pub taken : take (suc i) es ≡ take i es ++ entry ∷ []
-  pub same : x ≡ extent_of entry
-  pub found : finite.find nat_cmp entry.0 es ≡ Some entry.1
+lines-in-turn : (es : List (ℕ × Blob)) (before after : Known) → WritesInTurn WritesLines before es after → Appends before after (blob_lines es)
+lines-in-turn [] before after turns = subst (λ (o : Known). Appends before o []) (sym turns) (Appends-nil before)
+lines-in-turn (e ∷ es) before after turns = Appends-trans before turns.0 after (lines_of e.1.elements) (blob_lines es) turns.1 (lines-in-turn es turns.0 after turns.2)
 
-at-entry : (es : List (ℕ × Blob)) → is_sorted nat_cmp es ≡ true → (i : ℕ) (x : Extent) → i < length (map extent_of es) → x ≡ get_or (map extent_of es) i x → AtEntry es i x
-at-entry [] sorted i x within is = absurd (omega arith)
-at-entry (e ∷ es) sorted zero x within is = record { entry = e; taken = refl; same = is; found = find-head e es }
-at-entry (e ∷ es) sorted (suc i) x within is =
-    let it = at-entry es (sorted-tail e es sorted) i x (omega arith) is in
-    record { entry = it.entry; taken = ap (λ l. e ∷ l) it.taken; same = it.same; found = (find-tail e es sorted it.entry.0 it.entry.1 it.found).1 }
-
--- the blob of the extent at i, and the lines up to and with it
-pub record AtBlob (held : HeldMap) (i : ℕ) (x : Extent) : Type 0 where
-  pub blob : Blob
-  pub found : get held x.off ≡ Some blob
-  pub more : blob_lines (take (i + 1) (entries held)) ≡ blob_lines (take i (entries held)) ++ lines_of blob.elements
-
-pub at-blob : (held : HeldMap) (extents : List Extent) (i : ℕ) (x : Extent) → extents ≡ extents_of held → i < length extents → x ≡ get_or extents i x → AtBlob held i x
-at-blob held extents i x are within is =
-    let it = at-entry (entries held) (true-of _ (entries_sorted held)) i x (subst (λ (xs : List Extent). i < length xs) are within) (is ∙ ap (λ (xs : List Extent). get_or xs i x) are) in
-    record {
-      blob = it.entry.1;
-      found = ap (λ (y : Extent). get held y.off) it.same ∙ get-entries held it.entry.0 ∙ it.found;
-      more = ap (λ n. blob_lines (take n (entries held))) (add-one i) ∙ ap blob_lines it.taken ∙ blob_lines-append (take i (entries held)) (it.entry ∷ [])
-          ∙ ap (λ l. blob_lines (take i (entries held)) ++ l) (append-nil (lines_of it.entry.1.elements));
-    }
-
-length-extents : (held : HeldMap) (extents : List Extent) → extents ≡ extents_of held → length extents ≡ length (entries held)
-length-extents held extents are = ap length are ∙ length-map (entries held) extent_of
-
-pub wrote-more : (held : HeldMap) (extents : List Extent) (i : ℕ) (x : Extent) (before middle after : Known) → extents ≡ extents_of held → i < length extents → x ≡ get_or extents i x
-    → Appends before middle (blob_lines (take i (entries held))) → ((blob : Blob) → get held x.off ≡ Some blob → Appends middle after (lines_of blob.elements))
-    → Appends before after (blob_lines (take (i + 1) (entries held)))
-wrote-more held extents i x before middle after are within is so_far wrote =
-    let it = at-blob held extents i x are within is in
-    subst (λ (text : List ℕ). Appends before after text) (sym it.more)
-    (Appends-trans before middle after (blob_lines (take i (entries held))) (lines_of it.blob.elements) so_far (wrote it.blob it.found))
-
-pub all-blobs : (held : HeldMap) (extents : List Extent) (i : ℕ) (before after : Known) → extents ≡ extents_of held → length extents ≤ i
-    → Appends before after (blob_lines (take i (entries held))) → Appends before after (blob_lines (entries held))
-all-blobs held extents i before after are all wrote =
-    let some = length-extents held extents are in
-    subst (λ (es : List (ℕ × Blob)). Appends before after (blob_lines es)) (take_all i (entries held) (omega arith)) wrote
-
--- a call for one blob that failed has left what the whole is to leave then
-pub wrote-err : (held : HeldMap) (extents : List Extent) (i : ℕ) (x : Extent) (before middle after : Known) (fault : ExportFault) → extents ≡ extents_of held → i < length extents → x ≡ get_or extents i x
-    → Appends before middle (blob_lines (take i (entries held))) → ((blob : Blob) → get held x.off ≡ Some blob → WritesBlob middle (lines_of blob.elements) after (Err fault))
-    → WritesBlobs before (entries held) after (Err fault)
-wrote-err held extents i x before middle after WriteFailed are within is so_far wrote =
-    let it = at-blob held extents i x are within is in
-    front-of-piece before middle after (blob_lines (take i (entries held))) (lines_of it.blob.elements) (blob_lines (drop (i + 1) (entries held))) (blob_lines (entries held)) so_far
-    (ap (λ (l : List ℕ). l ++ blob_lines (drop (i + 1) (entries held))) (sym it.more) ∙ sym (blob_lines-append (take (i + 1) (entries held)) (drop (i + 1) (entries held))) ∙ ap blob_lines (take-append-drop (i + 1) (entries held)))
-    (wrote it.blob it.found)
-wrote-err held extents i x before middle after (Store fault) are within is so_far wrote =
-    let it = at-blob held extents i x are within is in
-    let some = length-extents held extents are in
-    (i, inl (omega arith), subst (λ (o : Known). Appends before o (blob_lines (take i (entries held)))) (sym (wrote it.blob it.found)) so_far)
-wrote-err held extents i x before middle after BlockTooLarge are within is so_far wrote =
-    let it = at-blob held extents i x are within is in wrote it.blob it.found
-wrote-err held extents i x before middle after (Incomplete from to) are within is so_far wrote =
-    let it = at-blob held extents i x are within is in wrote it.blob it.found
-wrote-err held extents i x before middle after (PastEnd fin) are within is so_far wrote =
-    let it = at-blob held extents i x are within is in wrote it.blob it.found
-
--- an element that is there doesn't depend on the default
-pub read-is : {A : Type 0} (xs : List A) (i : ℕ) (d e : A) → i < length xs → get_or xs i d ≡ get_or xs i e
-read-is [] i d e within = absurd (omega arith)
-read-is (x ∷ xs) zero d e within = refl
-read-is (x ∷ xs) (suc i) d e within = read-is xs i d e (omega arith)
+-- what stands behind the lines of the blob at i
+lines-behind : (es : List (ℕ × Blob)) (i : ℕ) → i < length es → (behind : List ℕ) × ((blob_lines (take i es) ++ lines_of (elements_at es i)) ++ behind ≡ blob_lines es)
+lines-behind [] i within = absurd (omega arith)
+lines-behind (e ∷ es) zero within = (blob_lines es, refl)
+lines-behind (e ∷ es) (suc i) within =
+    let it = lines-behind es i (omega arith) in (
+      it.0,
+      ap (λ (l : List ℕ). l ++ it.0) (append_assoc (lines_of e.1.elements) (blob_lines (take i es)) (lines_of (elements_at es i)))
+          ∙ append_assoc (lines_of e.1.elements) (blob_lines (take i es) ++ lines_of (elements_at es i)) it.0 ∙ ap (λ (l : List ℕ). lines_of e.1.elements ++ l) it.1,
+    )
 
 empty_of : (held : HeldMap) → extents_of held ≡ [] → entries held ≡ []
 empty_of held none = no_map (entries held) none
@@ -290,39 +229,50 @@ unrefused held asked size WriteFailed tiles is refusal = refusal
 unrefused held asked size BlockTooLarge tiles is refusal = refusal
 unrefused held asked size (Store fault) tiles is refusal = refusal
 
-pub unrefused-file : (held : HeldMap) (asked : Option ℕ) (size : ℕ) (extents : List Extent) (frames : List (List ℕ)) (text : Known) (fault : ExportFault) → IsApart held → Tiles held size → IsAskedFor asked size → extents ≡ extents_of held
-    → IsRefusalOf extents (size_of asked extents) fault → WritesFile frames text text (Err fault)
-unrefused-file held asked size extents frames text (Incomplete from to) apart tiles is are refusal = unrefused held asked size (Incomplete from to) tiles is (refusal-held held extents asked (Incomplete from to) apart are refusal)
-unrefused-file held asked size extents frames text (PastEnd fin) apart tiles is are refusal = unrefused held asked size (PastEnd fin) tiles is (refusal-held held extents asked (PastEnd fin) apart are refusal)
-unrefused-file held asked size extents frames text WriteFailed apart tiles is are refusal = tt
-unrefused-file held asked size extents frames text BlockTooLarge apart tiles is are refusal = absurd refusal
-unrefused-file held asked size extents frames text (Store fault) apart tiles is are refusal = tt
+-- an export over a map that tiles a file has written the lines of the file's elements
+pub file-lines : (held : HeldMap) (file : List ℕ) (frames : List (List ℕ)) (asked : Option ℕ) (partial : Bool) (before after : Known) (result : Result (Unit {0}) ExportFault)
+    → IsApart held → IsFile file frames → IsHeldOfFile frames held → Tiles held (length file) → IsAskedFor asked (length file)
+    → IsExport held (size_of asked (extents_of held)) partial before after result → WritesFile frames before after result
+file-lines held file frames asked partial before after (Ok _) apart is_file of_file tiles is wrote =
+    (elements_in (entries held), file-elements held file frames apart is_file of_file tiles, subst (λ (text : List ℕ). Appends before after text) (lines-in (entries held)) wrote.0)
+file-lines held file frames asked partial before after (Err WriteFailed) apart is_file of_file tiles is wrote = tt
+file-lines held file frames asked partial before after (Err (Store fault)) apart is_file of_file tiles is wrote = tt
+file-lines held file frames asked partial before after (Err BlockTooLarge) apart is_file of_file tiles is wrote = wrote
+file-lines held file frames asked partial before after (Err (Incomplete from to)) apart is_file of_file tiles is wrote = unrefused held asked (length file) (Incomplete from to) tiles is wrote.2
+file-lines held file frames asked partial before after (Err (PastEnd fin)) apart is_file of_file tiles is wrote = unrefused held asked (length file) (PastEnd fin) tiles is wrote.2
 
-pub file-lines : (held : HeldMap) (file : List ℕ) (frames : List (List ℕ)) (before after : Known) (result : Result (Unit {0}) ExportFault) → IsApart held → IsFile file frames → IsHeldOfFile frames held → Tiles held (length file)
-    → WritesBlobs before (entries held) after result → WritesFile frames before after result
-file-lines held file frames before after (Ok _) apart is_file of_file tiles wrote =
-    (elements_in (entries held), file-elements held file frames apart is_file of_file tiles, subst (λ (text : List ℕ). Appends before after text) (lines-in (entries held)) wrote)
-file-lines held file frames before after (Err WriteFailed) apart is_file of_file tiles wrote = tt
-file-lines held file frames before after (Err (Store fault)) apart is_file of_file tiles wrote = tt
-file-lines held file frames before after (Err BlockTooLarge) apart is_file of_file tiles wrote = wrote
-file-lines held file frames before after (Err (Incomplete from to)) apart is_file of_file tiles wrote = wrote
-file-lines held file frames before after (Err (PastEnd fin)) apart is_file of_file tiles wrote = wrote
+-- a walk over all blobs
+pub exported : (held : HeldMap) (size : ℕ) (partial : Bool) (before after : Known) (result : Result (Unit {0}) ExportFault) → Walks WritesLines before (entries held) after result → (partial ≡ false → Tiles held size) → IsExport held size partial before after result
+exported held size partial before after (Ok _) walk tiles = (lines-in-turn (entries held) before after walk, tiles)
+exported held size partial before after (Err WriteFailed) walk tiles =
+    let behind = lines-behind (entries held) walk.count walk.here in (
+      front-of-piece before walk.middle after (blob_lines (take walk.count (entries held))) (lines_of (elements_at (entries held) walk.count)) behind.0 (blob_lines (entries held))
+          (lines-in-turn (take walk.count (entries held)) before walk.middle walk.turns) behind.1 walk.stopped,
+      tiles,
+    )
+exported held size partial before after (Err (Store fault)) walk tiles =
+    let same : after ≡ walk.middle = elim walk.stopped [ inl is ↦ is | inr is ↦ is ] in (
+      walk.count,
+      inl walk.here,
+      subst (λ (o : Known). Appends before o (blob_lines (take walk.count (entries held)))) (sym same) (lines-in-turn (take walk.count (entries held)) before walk.middle walk.turns),
+      λ whole. inl (tiles whole),
+    )
+exported held size partial before after (Err BlockTooLarge) walk tiles = walk.stopped
+exported held size partial before after (Err (Incomplete from to)) walk tiles = absurd walk.stopped
+exported held size partial before after (Err (PastEnd fin)) walk tiles = absurd walk.stopped
 
-pub exported : (held : HeldMap) (size : ℕ) (partial : Bool) (before after : Known) (result : Result (Unit {0}) ExportFault) → WritesBlobs before (entries held) after result → (partial ≡ false → Tiles held size) → IsExport held size partial before after result
-exported held size partial before after (Ok _) wrote tiles = (wrote, tiles)
-exported held size partial before after (Err WriteFailed) wrote tiles = (wrote, tiles)
-exported held size partial before after (Err (Store fault)) wrote tiles = (wrote.0, wrote.1, wrote.2, λ whole. inl (tiles whole))
-exported held size partial before after (Err BlockTooLarge) wrote tiles = wrote
-exported held size partial before after (Err (Incomplete from to)) wrote tiles = absurd wrote
-exported held size partial before after (Err (PastEnd fin)) wrote tiles = absurd wrote
+-- nothing was written
+pub export-unbegun : (held : HeldMap) (size : ℕ) (partial : Bool) (text : Known) (fault : ExportFault) → IsUnbegun held size partial fault → IsExport held size partial text text (Err fault)
+export-unbegun held size partial text (Store fault) h = (0, inr refl, Appends-nil text, λ whole. inr refl)
+export-unbegun held size partial text (Incomplete from to) h = (h.0, refl, h.1)
+export-unbegun held size partial text (PastEnd fin) h = (h.0, refl, h.1)
+export-unbegun held size partial text WriteFailed h = absurd h
+export-unbegun held size partial text BlockTooLarge h = absurd h
 
-pub refused : (held : HeldMap) (size : ℕ) (text : Known) (fault : ExportFault) → IsRefusal held size fault → IsExport held size false text text (Err fault)
-refused held size text (Incomplete from to) refusal = (refl, refl, refusal)
-refused held size text (PastEnd fin) refusal = (refl, refl, refusal)
-refused held size text WriteFailed refusal = absurd refusal
-refused held size text BlockTooLarge refusal = absurd refusal
-refused held size text (Store fault) refusal = absurd refusal
-
--- a store fault before any byte
-pub export-none : (held : HeldMap) (size : ℕ) (partial : Bool) (text : Known) (fault : StoreFault) → IsExport held size partial text text (Err (Store fault))
-export-none held size partial text fault = (0, inr refl, Appends-nil text, λ whole. inr refl)
+-- a refusal by the extents of a map
+pub unbegun : (held : HeldMap) (size : ℕ) (partial : Bool) (fault : ExportFault) → partial ≡ false → IsRefusal held size fault → IsUnbegun held size partial fault
+unbegun held size partial (Incomplete from to) whole refusal = (whole, refusal)
+unbegun held size partial (PastEnd fin) whole refusal = (whole, refusal)
+unbegun held size partial WriteFailed whole refusal = refusal
+unbegun held size partial BlockTooLarge whole refusal = refusal
+unbegun held size partial (Store fault) whole refusal = tt

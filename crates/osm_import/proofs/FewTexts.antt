@@ -1,17 +1,17 @@
 -- The elements of a block that a raw payload holds use few texts: each text stands in the string table, and each entry
 -- of the table takes a byte or more of the payload.
-use Rattle.std.proofs.Common.{◌≡◌, ◌≢◌, ℕ, zero, suc, ◌+◌, ◌-◌, ◌^◌, ◌<◌, ◌≤◌, ◌==◌, cond, Bool, true, false, not, ◌||◌, List, [], ◌∷◌, ◌++◌, map, filter, length, Option, Some, None, refl, sym, ap, subst, ◌∙◌, arith, bytes_eq, slice_get, length-append}
+use Rattle.std.proofs.Common.{◌≡◌, ℕ, zero, suc, ◌+◌, ◌≤◌, ◌==◌, cond, Bool, true, false, not, ◌||◌, List, [], ◌∷◌, ◌++◌, map, filter, length, Option, Some, None, refl, sym, ap, subst, ◌∙◌, arith, bytes_eq, slice_get, length-append}
 use Rattle.std.specs.Prelude.{ℤ, pos, negsuc, option_map, option_to_list, replicate}
 use Rattle.std.specs.Cmp.{IsEquivalence}
-use Rattle.std.specs.List.{AllByRecursion, IsDistinct, cons_option, filter_map, flat_map, list_any}
+use Rattle.std.specs.List.{AllByRecursion, IsDistinct, cons_option, flat_map, list_any}
 use Rattle.std.proofs.lemmas.Slice.Eq.{bytes_eq-Decides}
 use Rattle.std.proofs.lemmas.List.Elements.{filter_map-append}
 use Rattle.std.proofs.lemmas.Map.Made.{length-le_from_is_member}
-use Rattle.pbf_wire.specs.Number.{EndsOnce, Num}
+use Rattle.pbf_wire.specs.Number.{EndsOnce}
 use Rattle.pbf_wire.specs.Field.{Content, Number, Fixed64, Bytes, Fixed32, Entry, Fields, Spells, SpellsValue}
-use Rattle.pbf_wire.specs.Readings.{fields, wire, bytes_of, each, sub}
+use Rattle.pbf_wire.specs.Readings.{fields, wire, bytes_of, each}
 use Rattle.pbf_wire.proofs.ReadingLaws.{read_list}
-use Rattle.osm_value.specs.Value.{Text, InfoValue, MemberValue, NodeValue, WayValue, RelationValue}
+use Rattle.osm_value.specs.Value.{Text, InfoValue, MemberValue, NodeValue}
 use Rattle.osm_value.specs.declared.element.Element.{Element}
 use Rattle.osm_value.specs.declared.element.Element.TheVariants as elements
 use Rattle.osm_block.specs.Message.{Context, Message, Plain, Dense, Way, Relation, context, messages}

@@ -1,5 +1,5 @@
 -- Good or bad, never both: the plain reading of a delivery against what it is.
-use Rattle.std.proofs.Common.{◌≡◌, ◌≢◌, ◌⊎◌, ℕ, ◌+◌, ◌^◌, ◌<◌, ◌≤◌, cond, eqb, ltb, Bool, true, false, List, [], ◌++◌, length, Option, Some, None, Result, Ok, Err, refl, sym, ap, subst, inl, inr, ◌∙◌, arith, eq-eqb}
+use Rattle.std.proofs.Common.{◌≡◌, ◌≢◌, ◌⊎◌, ℕ, ◌+◌, ◌^◌, ◌≤◌, cond, eqb, ltb, Bool, true, false, List, [], ◌++◌, length, Option, Some, None, Result, Ok, Err, refl, sym, ap, subst, inl, inr, ◌∙◌, arith, eq-eqb}
 use Rattle.std.specs.Option.{option_or, option_map}
 use Rattle.std.proofs.lemmas.List.{length-append}
 use Rattle.std.proofs.lemmas.Bool.{eqb-true, ltb-true, ltb-false, le-ltb, lt-ltb}
@@ -10,7 +10,7 @@ use Rattle.pbf_frame.specs.declared.kind.Kind.TheVariants.{OsmHeader, OsmData, O
 use Rattle.pbf_frame.specs.declared.fault.FrameFault.{FrameFault}
 use Rattle.pbf_frame.specs.declared.fault.FrameFault.TheVariants as frames
 use Rattle.pbf_frame.specs.declared.blob.BlobFault.{BlobFault}
-use Rattle.pbf_frame.specs.Frame.{Frame, FirstFault, Found, found_at, kind_of, frame_at, whole_at}
+use Rattle.pbf_frame.specs.Frame.{Frame, Found, found_at, kind_of, frame_at, whole_at}
 use Rattle.pbf_frame.specs.Blob.{Raw, IsBlobFault, raw_at}
 use Rattle.pbf_frame.proofs.FrameLaws.{faults_again, whole_again, whole_trailing}
 use Rattle.pbf_frame.proofs.BlobLaws.{raw_takes, raw_again, blob_faults, blob_faults_again}

@@ -1,14 +1,14 @@
 -- One part more.
-use Rattle.std.proofs.Common.{◌≡◌, ℕ, suc, zero, ◌+◌, ◌<◌, ◌≤◌, true, List, [], ◌∷◌, ◌++◌, length, take, map, cond, slice_get, Option, Some, None, Result, Ok, Err, refl, sym, ◌∙◌, ap, subst, arith, append_assoc, append-nil, add-one}
+use Rattle.std.proofs.Common.{◌≡◌, ℕ, suc, zero, ◌+◌, ◌<◌, ◌≤◌, true, List, [], ◌∷◌, ◌++◌, length, take, map, cond, slice_get, Some, Ok, refl, sym, ◌∙◌, ap, subst, arith, append_assoc, append-nil, add-one}
 use Rattle.std.proofs.Common.{inl, inr}
 use Rattle.std.specs.Ordering.{nat_cmp}
-use Rattle.std.specs.FinMap.{get, entries, find, is_sorted, get-entries, entries_sorted}
+use Rattle.std.specs.FinMap.{entries, find, is_sorted, get-entries, entries_sorted}
 use Rattle.std.proofs.lemmas.Bool.Decides.{eqb_tells}
 use Rattle.osm_store.specs.Held.{Blob, HeldMap, IsApart}
 use Rattle.osm_store.specs.Keeping.{extents_of, extent_of}
 use Rattle.osm_import.specs.Exports.{Known, IsExport}
 use Rattle.osm_import.specs.Parts.{ExportsInTurn, extents_in, LiesIn, FollowFrom, FollowTo, AreApart, Reaches}
-use Rattle.osm_import.proofs.Touching.{find-cons, find-tail, find-head}
+use Rattle.osm_import.proofs.Touching.{find-cons, find-tail}
 use Rattle.osm_import.proofs.Delivering.{true-of}
 use Rattle.osm_import.proofs.ExportLemmas.{greatest-within}
 

@@ -12,6 +12,8 @@ pub mod RunsLemmas
 pub mod StepLaws
 pub mod Touching
 pub mod WritingLemmas
+pub mod HandedOn
+pub mod WalkLemmas
 pub mod AnswerLines
 pub mod FrameLemmas
 pub mod Moves

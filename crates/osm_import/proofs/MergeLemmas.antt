@@ -1,9 +1,9 @@
 -- The maps of the parts of a file, united, are the map of the file.
-use Rattle.std.proofs.Common.{◌≡◌, ◌≢◌, ◌⊎◌, ℕ, ◌+◌, ◌<◌, ◌≤◌, List, [], ◌∷◌, ◌++◌, length, Bool, true, false, Ordering, Less, Equal, Greater, Option, Some, None, Result, Ok, Err, refl, sym, ◌∙◌, ap, subst, inl, inr, arith, append_assoc, length-append, append-nil}
+use Rattle.std.proofs.Common.{◌≡◌, ◌≢◌, ◌⊎◌, ℕ, ◌+◌, ◌<◌, ◌≤◌, List, [], ◌∷◌, ◌++◌, length, Bool, true, false, Ordering, Less, Equal, Greater, Option, Some, None, Result, Ok, Err, refl, sym, ◌∙◌, ap, subst, inl, inr, arith, length-append, append-nil}
 use Rattle.std.specs.Prelude.{◌↔◌, IfOk}
-use Rattle.std.specs.Ordering.{nat_cmp, is_eq}
+use Rattle.std.specs.Ordering.{nat_cmp}
 use Rattle.std.specs.Cmp.{nat_cmp_total, unsigned_tied}
-use Rattle.std.specs.FinMap.{get, empty, entries, find, get-empty, get-entries, entries_sorted, same_entries_map}
+use Rattle.std.specs.FinMap.{get, empty, entries, get-empty, get-entries, entries_sorted, same_entries_map}
 use Rattle.std.specs.FinMap.Entries.{same_entries}
 use Rattle.std.proofs.lemmas.Bool.Decides.{eqb_tells, leb_tells}
 use Rattle.osm_store.specs.Held.{Blob, HeldMap}
@@ -12,12 +12,12 @@ use Rattle.osm_import.specs.Files.{AreFrames, AreOfFile, StandsAt, IsFrameAt, Is
 use Rattle.osm_import.specs.Histories.{IsAmong}
 use Rattle.osm_import.specs.Runs.{IsRun, Runs, IsFault, IsNone, IsGoodIn}
 use Rattle.osm_import.specs.declared.answer.Answer.{Answer}
-use Rattle.osm_import.specs.declared.answer.Conflict.{Conflict}
 use Rattle.osm_import.specs.Step.{IsEntry}
-use Rattle.osm_import.specs.Copies.{IsMerged, IsUnited, IsUnitedBelow, IsRefused, IsMet}
+use Rattle.osm_import.specs.Copies.{IsMerged, IsUnited}
 use Rattle.osm_import.specs.Merges.{AreUnited, IsImported, AreImported, all_of, UnionsAreImports, UnionsAreUnrefused, UnionsStay, placed_from, frames_in, AreRuns, PartsAreOneImport, UnionsAreTakenAgain, ImportsPart}
 use Rattle.std.specs.Io.KnownBytes.{Consumes, IsAtEnd}
 use Rattle.osm_import.specs.Exports.{Known}
+use Rattle.osm_import.specs.Flows.{Input, Output}
 use Rattle.osm_import.specs.Streams.{Reply, frames_of, answers_of, deliveries_at, Streams}
 use Rattle.osm_import.specs.declared.stream.summary.Summary.{Summary}
 use Rattle.osm_import.specs.declared.stream.fault.StreamFault.{StreamFault}
@@ -267,14 +267,14 @@ delivered_at : (from : ℕ) (rs : List Reply) → deliveries_at from rs ≡ plac
 delivered_at from [] = refl
 delivered_at from (r ∷ rs) = ap (λ ds. record { off = from; bytes = r.0 } ∷ ds) (delivered_at (from + length r.0) rs)
 
-pub stream_part : (from limit : ℕ) (piece : List ℕ) (left written_old written_new : Known) (source_failed sink_failed : Bool) (Took : List DeliveryValue → List Answer → Type 0) (now : HeldMap → Type 0)
+pub stream_part : (from limit : ℕ) (piece : List ℕ) (input : Input) (output : Output) (Took : List DeliveryValue → List Answer → Type 0) (now : HeldMap → Type 0) → input.before ≡ Some piece
     → ((ds : List DeliveryValue) (rs : List Answer) → Took ds rs → IsNone IsFault rs → Runs now empty ds rs) → (result : Result Summary StreamFault)
-    → Streams from limit (Some piece) left written_old written_new source_failed sink_failed Took result → IfOk result (λ summary. ImportsPart now from piece)
-stream_part from limit piece left written_old written_new source_failed sink_failed Took now runs (Err stop) end = tt
-stream_part from limit piece left written_old written_new source_failed sink_failed Took now runs (Ok summary) end = (
+    → Streams from limit input output Took result → IfOk result (λ summary. ImportsPart now from piece)
+stream_part from limit piece input output Took now is runs (Err stop) end = tt
+stream_part from limit piece input output Took now is runs (Ok summary) end = (
   frames_of end.replies,
   end.frames,
-  all_read piece left (joined (frames_of end.replies)) end.read end.ended,
+  all_read piece input.after (joined (frames_of end.replies)) (subst (λ (o : Known). Consumes o input.after (joined (frames_of end.replies))) is end.read) end.ended,
   answers_of end.replies,
   end.answered,
   subst (λ (ds : List DeliveryValue). Runs now empty ds (answers_of end.replies)) (delivered_at from end.replies) (runs (deliveries_at from end.replies) (answers_of end.replies) end.took end.answered),

@@ -1,8 +1,8 @@
 -- A map in parts that follow one another: its entries, extents, lines and frames are those of the parts in turn.
-use Rattle.std.proofs.Common.{◌≡◌, ◌≢◌, ◌⊎◌, ℕ, ◌+◌, ◌<◌, ◌≤◌, cond, eqb, ◌&&◌, T, ◌^◌, List, [], ◌∷◌, ◌++◌, map, Bool, true, false, Ordering, Less, Equal, Greater, Option, Some, None, Result, Ok, Err, refl, sym, ◌∙◌, ap, subst, inl, inr, arith, append_assoc}
+use Rattle.std.proofs.Common.{◌≡◌, ℕ, ◌+◌, ◌<◌, ◌≤◌, cond, ◌&&◌, T, ◌^◌, List, [], ◌∷◌, ◌++◌, map, Bool, true, false, Ordering, Less, Option, Some, None, refl, sym, ◌∙◌, ap, subst, inl, inr, arith, append_assoc}
 use Rattle.std.specs.Ordering.{nat_cmp, is_lt}
 use Rattle.std.specs.Cmp.{nat_cmp_total, nat_cmp_is}
-use Rattle.std.specs.FinMap.{get, entries, find, is_sorted, get-entries, entries_sorted, same_entries_map, nat_cmp-IsAntisymmetric}
+use Rattle.std.specs.FinMap.{get, entries, find, is_sorted, get-entries, entries_sorted, nat_cmp-IsAntisymmetric}
 use Rattle.std.specs.FinMap.Entries.{same_entries, below_all}
 use Rattle.std.proofs.lemmas.Bool.Decides.{eqb_tells}
 use Rattle.std.proofs.lemmas.List.{map-append}
@@ -10,14 +10,14 @@ use Rattle.std.specs.Io.KnownBytes.{Appends}
 use Rattle.std.proofs.KnownBytes.{Appends-trans, Appends-nil}
 use Rattle.osm_store.specs.Held.{Blob, HeldMap, IsApart}
 use Rattle.osm_store.specs.Keeping.{extents_of, extent_of}
-use Rattle.osm_import.specs.Exports.{Known, IsExport, AreTiling, lines_of, blob_lines, map_lines, size_of}
-use Rattle.osm_import.specs.Gaps.{AreGaps, Tiles, ranges_between}
-use Rattle.osm_import.specs.Pbf.{data_frames, Cuts, AreFramesOf}
+use Rattle.osm_import.specs.Exports.{Known, lines_of, blob_lines, map_lines}
+use Rattle.osm_import.specs.Gaps.{AreGaps, ranges_between}
+use Rattle.osm_import.specs.Pbf.{data_frames, AreFramesOf}
 use Rattle.osm_import.specs.Parts.{LiesIn, FollowFrom, IsInPart, AreParts, AreApart, entries_in, extents_in, lines_in, AreFramesIn, ExportsInTurn, PartsJoin, ExtentsJoin, LinesJoin, FramesJoin, GapsJoin, ExportsJoin, ImportsAreParts}
 use Rattle.std.specs.Prelude.{◌↔◌}
 use Rattle.osm_import.specs.Deliveries.{DeliveryValue}
 use Rattle.osm_import.specs.Runs.{IsGoodIn}
-use Rattle.osm_import.specs.Merges.{IsImported, AreImported, all_of}
+use Rattle.osm_import.specs.Merges.{AreImported, all_of}
 use Rattle.osm_import.proofs.MergeLemmas.{good_both}
 use Rattle.osm_import.proofs.Touching.{find-cons, find-head, find-tail, sorted-tail}
 use Rattle.osm_import.proofs.Delivering.{true-of}

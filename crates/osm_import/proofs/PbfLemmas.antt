@@ -1,9 +1,6 @@
 -- From what a cutter gives for one blob to what an export as PBF writes.
-use Rattle.std.proofs.Common.{◌≡◌, ℕ, suc, zero, ◌+◌, ◌<◌, ◌≤◌, Bool, true, false, List, [], ◌∷◌, ◌++◌, map, length, take, drop, get_or, Some, Result, Ok, Err, refl, sym, ◌∙◌, ap, subst, inl, inr, arith, append_assoc, append-nil, add-one}
-use Rattle.std.specs.FinMap as finite
-use Rattle.std.specs.FinMap.{get, entries, get-entries, entries_sorted, is_sorted}
-use Rattle.std.specs.Ordering.{nat_cmp}
-use Rattle.std.proofs.lemmas.List.{take_all, length-map}
+use Rattle.std.proofs.Common.{◌≡◌, ℕ, ◌≤◌, Bool, false, List, [], ◌∷◌, ◌++◌, length, take, drop, Result, Ok, Err, refl, sym, ◌∙◌, ap, subst, inl, inr, arith, append_assoc, append-nil}
+use Rattle.std.specs.FinMap.{entries}
 use Rattle.std.specs.Io.KnownBytes.{Appends}
 use Rattle.std.proofs.KnownBytes.{Appends-trans, Appends-nil}
 use Rattle.osm_value.specs.declared.element.Element.{Element}
@@ -11,16 +8,13 @@ use Rattle.osm_value.specs.Sink.{AppendsFront}
 use Rattle.osm_write.specs.Cutter.{StepOk, ComesToOne}
 use Rattle.osm_write.specs.Header.{header_block, plain_header, plain_header_is}
 use Rattle.osm_store.specs.Held.{Blob, HeldMap}
-use Rattle.osm_store.specs.Keeping.{extents_of, extent_of}
-use Rattle.osm_store.specs.declared.keeper.Extent.{Extent}
 use Rattle.osm_store.specs.declared.fault.StoreFault.{StoreFault}
-use Rattle.osm_import.specs.Exports.{Known, WritesBlob, IsRefusal}
+use Rattle.osm_import.specs.Exports.{Known, WritesBlob, IsUnbegun}
 use Rattle.osm_import.specs.Gaps.{Tiles}
-use Rattle.osm_import.specs.Pbf.{header_frame, data_frame, data_frames, Cuts, AreFramesOf, elements_at, AreFirstFrames, WritesBlocks, WritesFrames, IsPbfExport}
+use Rattle.osm_import.specs.Pbf.{header_frame, data_frame, data_frames, Cuts, AreFramesOf, AreFirstFrames, WritesBlocks, IsPbfExport}
+use Rattle.osm_import.specs.Walks.{elements_at, WritesInTurn, Walks}
 use Rattle.osm_import.specs.declared.export.fault.ExportFault.{ExportFault}
 use Rattle.osm_import.specs.declared.export.fault.ExportFault.TheVariants.{Incomplete, PastEnd, WriteFailed, BlockTooLarge, Store}
-use Rattle.osm_import.proofs.Touching.{find-tail, find-head, sorted-tail}
-use Rattle.osm_import.proofs.Delivering.{true-of}
 use Rattle.osm_import.proofs.WritingLemmas.{front-of-piece}
 
 -- ---- one blob
@@ -87,136 +81,64 @@ cut-err before middle after es rest block count (PastEnd fin) so_far step wrote 
 
 -- ---- the blobs of a map
 
-frames-more : (xs : List (ℕ × Blob)) (bytes : List ℕ) (entry : ℕ × Blob) (blocks : List (List ℕ)) → AreFramesOf xs bytes → Cuts entry.1.elements blocks [] → AreFramesOf (xs ++ entry ∷ []) (bytes ++ data_frames blocks)
-frames-more [] bytes entry blocks frames cuts = (blocks, [], cuts, refl, ap (λ (l : List ℕ). l ++ data_frames blocks) frames ∙ sym (append-nil (data_frames blocks)))
-frames-more (x ∷ xs) bytes entry blocks frames cuts = (
-  frames.0,
-  frames.1 ++ data_frames blocks,
-  frames.2,
-  frames-more xs frames.1 entry blocks frames.3 cuts,
-  ap (λ (l : List ℕ). l ++ data_frames blocks) frames.4 ∙ append_assoc (data_frames frames.0) frames.1 (data_frames blocks),
-)
-
--- the entry behind an extent
-record AtEntry (es : List (ℕ × Blob)) (i : ℕ) (x : Extent) : Type 0 where
-  pub entry : ℕ × Blob
-  pub taken : take (suc i) es ≡ take i es ++ entry ∷ []
-  pub same : x ≡ extent_of entry
-  pub found : finite.find nat_cmp entry.0 es ≡ Some entry.1
-  pub here : elements_at es i ≡ entry.1.elements
-
-at-entry : (es : List (ℕ × Blob)) → is_sorted nat_cmp es ≡ true → (i : ℕ) (x : Extent) → i < length (map extent_of es) → x ≡ get_or (map extent_of es) i x → AtEntry es i x
-at-entry [] sorted i x within is = absurd (omega arith)
-at-entry (e ∷ es) sorted zero x within is = record { entry = e; taken = refl; same = is; found = find-head e es; here = refl }
-at-entry (e ∷ es) sorted (suc i) x within is =
-    let it = at-entry es (sorted-tail e es sorted) i x (omega arith) is in
-    record { entry = it.entry; taken = ap (λ l. e ∷ l) it.taken; same = it.same; found = (find-tail e es sorted it.entry.0 it.entry.1 it.found).1; here = it.here }
-
--- the blob of the extent at i
-record AtBlob (held : HeldMap) (i : ℕ) (x : Extent) : Type 0 where
-  pub entry : ℕ × Blob
-  pub found : get held x.off ≡ Some entry.1
-  pub taken : take (i + 1) (entries held) ≡ take i (entries held) ++ entry ∷ []
-  pub here : entry.1.elements ≡ elements_at (entries held) i
-
-at-blob : (held : HeldMap) (extents : List Extent) (i : ℕ) (x : Extent) → extents ≡ extents_of held → i < length extents → x ≡ get_or extents i x → AtBlob held i x
-at-blob held extents i x are within is =
-    let it = at-entry (entries held) (true-of _ (entries_sorted held)) i x (subst (λ (xs : List Extent). i < length xs) are within) (is ∙ ap (λ (xs : List Extent). get_or xs i x) are) in
-    record {
-      entry = it.entry;
-      found = ap (λ (y : Extent). get held y.off) it.same ∙ get-entries held it.entry.0 ∙ it.found;
-      taken = ap (λ n. take n (entries held)) (add-one i) ∙ it.taken;
-      here = sym it.here;
-    }
-
 -- the frames of so many blobs have gone out
-pub record WroteSoFar (before after : Known) (es : List (ℕ × Blob)) : Type 0 where
+record WroteSoFar (before after : Known) (es : List (ℕ × Blob)) : Type 0 where
   pub bytes : List ℕ
   pub frames : AreFramesOf es bytes
   pub wrote : Appends before after bytes
 
-pub wrote-none : (before : Known) → WroteSoFar before before []
-wrote-none before = record { bytes = []; frames = refl; wrote = Appends-nil before }
-
-pub frames-wrote : (held : HeldMap) (extents : List Extent) (i : ℕ) (x : Extent) (before middle after : Known) → extents ≡ extents_of held → i < length extents → x ≡ get_or extents i x
-    → WroteSoFar before middle (take i (entries held)) → ((blob : Blob) → get held x.off ≡ Some blob → WritesBlocks middle blob.elements after (Ok tt))
-    → WroteSoFar before after (take (i + 1) (entries held))
-frames-wrote held extents i x before middle after are within is so_far wrote =
-    let it = at-blob held extents i x are within is in
-    let made = wrote it.entry.1 it.found in
+frames-in-turn : (es : List (ℕ × Blob)) (before after : Known) → WritesInTurn WritesBlocks before es after → WroteSoFar before after es
+frames-in-turn [] before after turns = record { bytes = []; frames = refl; wrote = subst (λ (o : Known). Appends before o []) (sym turns) (Appends-nil before) }
+frames-in-turn (e ∷ es) before after turns =
+    let made = turns.1 in
+    let rest = frames-in-turn es turns.0 after turns.2 in
     record {
-      bytes = so_far.bytes ++ data_frames made.0;
-      frames = subst (λ (es : List (ℕ × Blob)). AreFramesOf es (so_far.bytes ++ data_frames made.0)) (sym it.taken) (frames-more (take i (entries held)) so_far.bytes it.entry made.0 so_far.frames made.1);
-      wrote = Appends-trans before middle after so_far.bytes (data_frames made.0) so_far.wrote made.2;
+      bytes = data_frames made.0 ++ rest.bytes;
+      frames = (made.0, rest.bytes, made.1, rest.frames, refl);
+      wrote = Appends-trans before turns.0 after (data_frames made.0) rest.bytes made.2 rest.wrote;
     }
 
-pub frames-all : (held : HeldMap) (extents : List Extent) (i : ℕ) (before after : Known) → extents ≡ extents_of held → length extents ≤ i
-    → WroteSoFar before after (take i (entries held)) → WritesFrames before (entries held) after (Ok tt)
-frames-all held extents i before after are all so_far =
-    let some : length extents ≡ length (entries held) = ap length are ∙ length-map (entries held) extent_of in
-    (so_far.bytes, subst (λ (es : List (ℕ × Blob)). AreFramesOf es so_far.bytes) (take_all i (entries held) (omega arith)) so_far.frames, so_far.wrote)
-
 -- blocks of the next blob, behind those of the blobs before
-first-frames : (held : HeldMap) (i : ℕ) (es : List Element) (before : List ℕ) (blocks : List (List ℕ)) (rest : List Element) → es ≡ elements_at (entries held) i → AreFramesOf (take i (entries held)) before → Cuts es blocks rest
-    → AreFirstFrames (entries held) (before ++ data_frames blocks) rest
-first-frames held i es before blocks rest here frames cuts =
-    record { count = i; before = before; blocks = blocks; whole = frames; cut = subst (λ (xs : List Element). Cuts xs blocks rest) here cuts; joined = refl }
+first-frames : (es : List (ℕ × Blob)) (i : ℕ) (before : List ℕ) (blocks : List (List ℕ)) (rest : List Element) → AreFramesOf (take i es) before → Cuts (elements_at es i) blocks rest → AreFirstFrames es (before ++ data_frames blocks) rest
+first-frames es i before blocks rest frames cuts = record { count = i; before = before; blocks = blocks; whole = frames; cut = cuts; joined = refl }
 
-pub frames-err : (held : HeldMap) (extents : List Extent) (i : ℕ) (x : Extent) (before middle after : Known) (fault : ExportFault) → extents ≡ extents_of held → i < length extents → x ≡ get_or extents i x
-    → WroteSoFar before middle (take i (entries held)) → ((blob : Blob) → get held x.off ≡ Some blob → WritesBlocks middle blob.elements after (Err fault))
-    → WritesFrames before (entries held) after (Err fault)
-frames-err held extents i x before middle after WriteFailed are within is so_far wrote =
-    let it = at-blob held extents i x are within is in
-    let made = wrote it.entry.1 it.found in (
-      so_far.bytes ++ data_frames made.0,
-      made.1,
-      first-frames held i it.entry.1.elements so_far.bytes made.0 made.1 it.here so_far.frames made.2,
-      front-of-piece before middle after so_far.bytes (data_frames made.0) [] (so_far.bytes ++ data_frames made.0) so_far.wrote (append-nil (so_far.bytes ++ data_frames made.0)) made.3,
-    )
-frames-err held extents i x before middle after (Store fault) are within is so_far wrote =
-    let it = at-blob held extents i x are within is in
-    let made = wrote it.entry.1 it.found in (
-      so_far.bytes ++ data_frames made.0,
-      made.1,
-      first-frames held i it.entry.1.elements so_far.bytes made.0 made.1 it.here so_far.frames made.2,
-      front-of-piece before middle after so_far.bytes (data_frames made.0) [] (so_far.bytes ++ data_frames made.0) so_far.wrote (append-nil (so_far.bytes ++ data_frames made.0)) made.3,
-    )
-frames-err held extents i x before middle after BlockTooLarge are within is so_far wrote =
-    let it = at-blob held extents i x are within is in
-    let made = wrote it.entry.1 it.found in (
-      so_far.bytes ++ data_frames made.0,
-      made.1,
-      first-frames held i it.entry.1.elements so_far.bytes made.0 made.1 it.here so_far.frames made.2,
-      made.3,
-      Appends-trans before middle after so_far.bytes (data_frames made.0) so_far.wrote made.4,
-    )
-frames-err held extents i x before middle after (Incomplete from to) are within is so_far wrote =
-    let it = at-blob held extents i x are within is in wrote it.entry.1 it.found
-frames-err held extents i x before middle after (PastEnd fin) are within is so_far wrote =
-    let it = at-blob held extents i x are within is in wrote it.entry.1 it.found
+-- a front of that went out
+abbrev FrontOf : Known → List (ℕ × Blob) → Known → Type 0
+FrontOf before es after = (bytes : List ℕ) × (rest : List Element) × AreFirstFrames es bytes rest × AppendsFront before after bytes
+
+front-of : (es : List (ℕ × Blob)) (i : ℕ) (before middle after : Known) → WroteSoFar before middle (take i es)
+    → (blocks : List (List ℕ)) (rest : List Element) → Cuts (elements_at es i) blocks rest → AppendsFront middle after (data_frames blocks) → FrontOf before es after
+front-of es i before middle after so_far blocks rest cuts front = (
+  so_far.bytes ++ data_frames blocks,
+  rest,
+  first-frames es i so_far.bytes blocks rest so_far.frames cuts,
+  front-of-piece before middle after so_far.bytes (data_frames blocks) [] (so_far.bytes ++ data_frames blocks) so_far.wrote (append-nil (so_far.bytes ++ data_frames blocks)) front,
+)
+
+-- none of the next blob's blocks did
+front-before : (es : List (ℕ × Blob)) (i : ℕ) (before middle after : Known) → WroteSoFar before middle (take i es) → after ≡ middle → FrontOf before es after
+front-before es i before middle after so_far same =
+    front-of es i before middle after so_far [] (elements_at es i) refl (subst (λ (o : Known). AppendsFront middle o []) (sym same) (all-front middle middle [] (Appends-nil middle)))
 
 -- ---- the whole export
 
 none-yet : (held : HeldMap) → AreFirstFrames (entries held) [] (elements_at (entries held) 0)
 none-yet held = record { count = 0; before = []; blocks = []; whole = refl; cut = refl; joined = refl }
 
-pub pbf-refused : (held : HeldMap) (size : ℕ) (text : Known) (fault : ExportFault) → IsRefusal held size fault → IsPbfExport held size false text text (Err fault)
-pbf-refused held size text (Incomplete from to) refusal = (refl, refl, refusal)
-pbf-refused held size text (PastEnd fin) refusal = (refl, refl, refusal)
-pbf-refused held size text WriteFailed refusal = absurd refusal
-pbf-refused held size text BlockTooLarge refusal = absurd refusal
-pbf-refused held size text (Store fault) refusal = absurd refusal
-
--- a store fault before any byte
-pub pbf-none : (held : HeldMap) (size : ℕ) (partial : Bool) (text : Known) (fault : StoreFault) → IsPbfExport held size partial text text (Err (Store fault))
-pbf-none held size partial text fault = ([], elements_at (entries held) 0, none-yet held, ([], header_frame ++ [], refl, Appends-nil text), λ whole. inr refl)
+-- nothing was written
+pub pbf-unbegun : (held : HeldMap) (size : ℕ) (partial : Bool) (text : Known) (fault : ExportFault) → IsUnbegun held size partial fault → IsPbfExport held size partial text text (Err fault)
+pbf-unbegun held size partial text (Store fault) h = ([], elements_at (entries held) 0, none-yet held, ([], header_frame ++ [], refl, Appends-nil text), λ whole. inr refl)
+pbf-unbegun held size partial text (Incomplete from to) h = (h.0, refl, h.1)
+pbf-unbegun held size partial text (PastEnd fin) h = (h.0, refl, h.1)
+pbf-unbegun held size partial text WriteFailed h = absurd h
+pbf-unbegun held size partial text BlockTooLarge h = absurd h
 
 -- the header frame didn't go out whole
 pub pbf-no_header : (held : HeldMap) (size : ℕ) (partial : Bool) (before after : Known) (fault : ExportFault) → WritesBlob before header_frame after (Err fault) → (partial ≡ false → Tiles held size) → IsPbfExport held size partial before after (Err fault)
 pbf-no_header held size partial before after WriteFailed wrote tiles =
     ([], elements_at (entries held) 0, none-yet held, subst (λ (text : List ℕ). AppendsFront before after text) (sym (append-nil header_frame)) wrote, tiles)
 pbf-no_header held size partial before after (Store fault) wrote tiles =
-    subst (λ (k : Known). IsPbfExport held size partial before k (Err (Store fault))) (sym wrote) (pbf-none held size partial before fault)
+    subst (λ (k : Known). IsPbfExport held size partial before k (Err (Store fault))) (sym wrote) (pbf-unbegun held size partial before (Store fault) tt)
 pbf-no_header held size partial before after BlockTooLarge wrote tiles = absurd wrote
 pbf-no_header held size partial before after (Incomplete from to) wrote tiles = absurd wrote
 pbf-no_header held size partial before after (PastEnd fin) wrote tiles = absurd wrote
@@ -224,13 +146,32 @@ pbf-no_header held size partial before after (PastEnd fin) wrote tiles = absurd 
 behind-header : (before middle after : Known) (bytes : List ℕ) → Appends before middle header_frame → AppendsFront middle after bytes → AppendsFront before after (header_frame ++ bytes)
 behind-header before middle after bytes header front = front-of-piece before middle after header_frame bytes [] (header_frame ++ bytes) header (append-nil (header_frame ++ bytes)) front
 
+-- a walk over all blobs, behind the header
 pub pbf-exported : (held : HeldMap) (size : ℕ) (partial : Bool) (before middle after : Known) (result : Result (Unit {0}) ExportFault) → Appends before middle header_frame
-    → WritesFrames middle (entries held) after result → (partial ≡ false → Tiles held size) → IsPbfExport held size partial before after result
-pbf-exported held size partial before middle after (Ok _) header wrote tiles = (wrote.0, wrote.1, Appends-trans before middle after header_frame wrote.0 header wrote.2, tiles)
-pbf-exported held size partial before middle after (Err WriteFailed) header wrote tiles = (wrote.0, wrote.1, wrote.2, behind-header before middle after wrote.0 header wrote.3, tiles)
-pbf-exported held size partial before middle after (Err BlockTooLarge) header wrote tiles =
-    (wrote.0, wrote.1, wrote.2, wrote.3, Appends-trans before middle after header_frame wrote.0 header wrote.4, tiles)
-pbf-exported held size partial before middle after (Err (Store fault)) header wrote tiles =
-    (wrote.0, wrote.1, wrote.2, behind-header before middle after wrote.0 header wrote.3, λ whole. inl (tiles whole))
-pbf-exported held size partial before middle after (Err (Incomplete from to)) header wrote tiles = absurd wrote
-pbf-exported held size partial before middle after (Err (PastEnd fin)) header wrote tiles = absurd wrote
+    → Walks WritesBlocks middle (entries held) after result → (partial ≡ false → Tiles held size) → IsPbfExport held size partial before after result
+pbf-exported held size partial before middle after (Ok _) header walk tiles =
+    let all = frames-in-turn (entries held) middle after walk in
+    (all.bytes, all.frames, Appends-trans before middle after header_frame all.bytes header all.wrote, tiles)
+pbf-exported held size partial before middle after (Err WriteFailed) header walk tiles =
+    let made = walk.stopped in
+    let front = front-of (entries held) walk.count middle walk.middle after (frames-in-turn (take walk.count (entries held)) middle walk.middle walk.turns) made.0 made.1 made.2 made.3 in
+    (front.0, front.1, front.2, behind-header before middle after front.0 header front.3, tiles)
+pbf-exported held size partial before middle after (Err BlockTooLarge) header walk tiles =
+    let made = walk.stopped in
+    let so_far = frames-in-turn (take walk.count (entries held)) middle walk.middle walk.turns in (
+      so_far.bytes ++ data_frames made.0,
+      made.1,
+      first-frames (entries held) walk.count so_far.bytes made.0 made.1 so_far.frames made.2,
+      made.3,
+      Appends-trans before middle after header_frame (so_far.bytes ++ data_frames made.0) header (Appends-trans middle walk.middle after so_far.bytes (data_frames made.0) so_far.wrote made.4),
+      tiles,
+    )
+pbf-exported held size partial before middle after (Err (Store fault)) header walk tiles =
+    let so_far = frames-in-turn (take walk.count (entries held)) middle walk.middle walk.turns in
+    let front : FrontOf middle (entries held) after = elim walk.stopped [
+      | inl same ↦ front-before (entries held) walk.count middle walk.middle after so_far same
+      | inr made ↦ front-of (entries held) walk.count middle walk.middle after so_far made.0 made.1 made.2 made.3
+    ] in
+    (front.0, front.1, front.2, behind-header before middle after front.0 header front.3, λ whole. inl (tiles whole))
+pbf-exported held size partial before middle after (Err (Incomplete from to)) header walk tiles = absurd walk.stopped
+pbf-exported held size partial before middle after (Err (PastEnd fin)) header walk tiles = absurd walk.stopped

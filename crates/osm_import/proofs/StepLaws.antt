@@ -1,5 +1,5 @@
 -- A step has one answer that is no fault, and one map after it.
-use Rattle.std.proofs.Common.{◌≡◌, ◌≢◌, ◌⊎◌, ℕ, ◌+◌, ◌<◌, ◌≤◌, Bool, true, false, List, length, filter, Option, Some, None, refl, sym, ap, subst, inl, inr, ◌∙◌, arith}
+use Rattle.std.proofs.Common.{◌≡◌, ◌≢◌, ◌⊎◌, ℕ, ◌+◌, Bool, true, false, List, length, filter, Option, Some, None, refl, sym, ap, inl, inr, ◌∙◌, arith}
 use Rattle.std.specs.Str.{bytes_eq}
 use Rattle.std.proofs.lemmas.Bool.Decides.{eqb_tells, not_from_Decides}
 use Rattle.std.proofs.lemmas.Slice.Eq.{bytes_eq-Decides}
@@ -7,21 +7,19 @@ use Rattle.std.specs.FinMap.{get, insert, entries, get-entries, entries_sorted}
 use Rattle.sha2.specs.Sha256.{sha256}
 use Rattle.osm_value.specs.declared.element.Element.{Element}
 use Rattle.pbf_frame.specs.declared.kind.Kind.{Kind}
-use Rattle.osm_store.specs.Held.{Blob, HeldMap, IsFree, IsApart}
+use Rattle.osm_store.specs.Held.{Blob, HeldMap}
 use Rattle.osm_store.specs.Keeping.{touches, extents_of}
-use Rattle.osm_store.specs.declared.fault.StoreFault.{StoreFault}
 use Rattle.osm_import.specs.Good.{IsGood}
 use Rattle.osm_import.specs.Bad.{IsBad}
 use Rattle.osm_import.specs.Step.{IsStep, IsEntry, IsHeldAlready, IsHeldOtherwise, IsOverlapping, IsStoring}
 use Rattle.osm_import.specs.Runs.{IsFault}
 use Rattle.osm_import.specs.declared.fault.Fault as the
-use Rattle.osm_import.specs.declared.answer.Conflict.{Conflict}
 use Rattle.osm_import.specs.declared.answer.Conflict.TheVariants.{Differs, Overlap}
 use Rattle.osm_import.specs.declared.answer.Answer.{Answer}
 use Rattle.osm_import.specs.declared.answer.Answer.TheVariants.{Stored, AlreadyHeld, Bad, Refused, Fault}
 use Rattle.osm_import.proofs.GoodLaws.{good-or-bad, good-not_bad, bad-one}
 use Rattle.osm_import.proofs.FilesLemmas.{entry-same}
-use Rattle.osm_import.proofs.Delivering.{true-of, entry_at, entry_at-is, free-of, good-filled}
+use Rattle.osm_import.proofs.Delivering.{true-of, entry_at, entry_at-is, free-of}
 use Rattle.osm_import.proofs.Touching.{Meets, touching-meets}
 
 -- ---- some answer

@@ -1,5 +1,5 @@
 -- A stream that ended well, over the bytes of a file.
-use Rattle.std.proofs.Common.{◌≡◌, ◌≢◌, ◌⊎◌, ℕ, ◌+◌, ◌<◌, ◌≤◌, List, [], ◌∷◌, ◌++◌, length, Bool, Option, Some, None, Result, Ok, Err, refl, sym, ap, subst, ◌∙◌, inl, inr, arith, append-nil, length-append}
+use Rattle.std.proofs.Common.{◌≡◌, ◌≢◌, ℕ, ◌+◌, ◌<◌, ◌≤◌, List, [], ◌∷◌, ◌++◌, length, Some, None, Result, Ok, Err, refl, sym, ap, subst, ◌∙◌, inl, inr, arith, append-nil, length-append}
 use Rattle.std.specs.Prelude.{IfOk}
 use Rattle.std.specs.FinMap.{get}
 use Rattle.std.proofs.lemmas.Bool.{cases_lt}
@@ -8,17 +8,17 @@ use Rattle.osm_store.specs.Held.{Blob, HeldMap}
 use Rattle.osm_store.specs.HeldLaws.{get-insert_here}
 use Rattle.osm_import.specs.Deliveries.{DeliveryValue}
 use Rattle.osm_import.specs.Files.{AreFrames, joined, IsFile, StandsAt, IsFrameAt, AreOfFile, IsHeldOfFile}
-use Rattle.osm_import.specs.Gaps.{AreGaps, IsCovered, Tiles}
-use Rattle.osm_import.specs.Step.{IsStep, IsEntry}
+use Rattle.osm_import.specs.Gaps.{IsCovered, Tiles}
+use Rattle.osm_import.specs.Step.{IsStep}
 use Rattle.osm_import.specs.Runs.{IsRun, Runs, IsFault, IsRefused, IsNone}
 use Rattle.osm_import.specs.Exports.{Known}
+use Rattle.osm_import.specs.Flows.{Input, Output}
 use Rattle.osm_import.specs.Streams.{Reply, frames_of, answers_of, deliveries_at, counted, summary_from, nothing_at, EndsWell, Streams, ImportsFile}
 use Rattle.osm_import.specs.declared.answer.Answer.{Answer}
 use Rattle.osm_import.specs.declared.answer.Answer.TheVariants.{Stored, AlreadyHeld, Bad, Refused, Fault}
 use Rattle.osm_import.specs.declared.stream.summary.Summary.{Summary}
 use Rattle.osm_import.specs.declared.stream.fault.StreamFault.{StreamFault}
-use Rattle.osm_import.proofs.FilesLemmas.{stands-from, stands-same}
-use Rattle.osm_import.proofs.GoodLaws.{frame-filled}
+use Rattle.osm_import.proofs.FilesLemmas.{stands-same}
 use Rattle.osm_import.proofs.RunsLemmas.{run-keep, run-imports}
 
 -- ---- the input was a file
@@ -31,12 +31,12 @@ no-replies : (rs : List Reply) → frames_of rs ≡ [] → rs ≡ []
 no-replies [] e = refl
 no-replies (r ∷ rs) e = absurd cc
 
-pub stream-file : (limit : ℕ) (file : List ℕ) (left written_old written_new : Known) (Took : List DeliveryValue → List Answer → Type 0) (summary : Summary) → (end : EndsWell 0 limit (Some file) left written_old written_new Took summary)
+pub stream-file : (limit : ℕ) (file : List ℕ) (input : Input) (output : Output) (Took : List DeliveryValue → List Answer → Type 0) (summary : Summary) → input.before ≡ Some file → (end : EndsWell 0 limit input output Took summary)
     → IsFile file (frames_of end.replies)
-stream-file limit file left written_old written_new Took summary end = record {
+stream-file limit file input output Took summary is end = record {
   some = λ none. end.some refl (no-replies end.replies none);
   whole = end.frames;
-  is_joined = all-read file left (joined (frames_of end.replies)) end.read end.ended;
+  is_joined = all-read file input.after (joined (frames_of end.replies)) (subst (λ (o : Known). Consumes o input.after (joined (frames_of end.replies))) is end.read) end.ended;
 }
 
 -- ---- and its frames were delivered at their offsets
@@ -135,12 +135,12 @@ first-held : (frames : List (List ℕ)) (after : HeldMap) → frames ≢ [] → 
 first-held [] after some all = absurd (some refl)
 first-held (w ∷ ws) after some all = let it = all 0 w (inl (refl, refl)) in (0, it.0, it.1)
 
-pub stream-tiles : (limit : ℕ) (file : List ℕ) (left written_old written_new : Known) (Took : List DeliveryValue → List Answer → Type 0) (summary : Summary) (start after : HeldMap) → (end : EndsWell 0 limit (Some file) left written_old written_new Took summary)
+pub stream-tiles : (limit : ℕ) (file : List ℕ) (input : Input) (output : Output) (Took : List DeliveryValue → List Answer → Type 0) (summary : Summary) (start after : HeldMap) → input.before ≡ Some file → (end : EndsWell 0 limit input output Took summary)
     → IsHeldOfFile (frames_of end.replies) start → IsRun start (deliveries_at 0 end.replies) (answers_of end.replies) after → summary.bad ≡ 0
     → Tiles after (length file) × IsHeldOfFile (frames_of end.replies) after
-stream-tiles limit file left written_old written_new Took summary start after end of_file run none =
+stream-tiles limit file input output Took summary start after is end of_file run none =
     let frames : List (List ℕ) = frames_of end.replies in
-    let is_file = stream-file limit file left written_old written_new Took summary end in
+    let is_file = stream-file limit file input output Took summary is end in
     let import = run-imports frames end.frames start (deliveries_at 0 end.replies) (answers_of end.replies) after run (of-file frames 0 end.replies (λ o w stands. stands)) of_file in
     let kept = all-kept (nothing_at 0) 0 end.replies end.answered import.unrefused (sym (ap (λ (s : Summary). s.bad) end.sums) ∙ none) in
     let all = frame-held 0 end.replies start after run kept in
@@ -160,14 +160,20 @@ stream-tiles limit file left written_old written_new Took summary start after en
       import.of_file,
     )
 
-pub stream-one-file : (limit : ℕ) (file : List ℕ) (left written_old written_new : Known) (source_failed sink_failed : Bool) (Took : List DeliveryValue → List Answer → Type 0) (now : HeldMap → Type 0) (start : HeldMap)
+one-file : (limit : ℕ) (file : List ℕ) (input : Input) (output : Output) (Took : List DeliveryValue → List Answer → Type 0) (now : HeldMap → Type 0) (start : HeldMap) → input.before ≡ Some file
     → ((ds : List DeliveryValue) (rs : List Answer) → Took ds rs → IsNone IsFault rs → Runs now start ds rs) → (result : Result Summary StreamFault)
-    → Streams 0 limit (Some file) left written_old written_new source_failed sink_failed Took result → IfOk result (λ summary. ImportsFile now file start summary)
-stream-one-file limit file left written_old written_new source_failed sink_failed Took now start runs (Err stop) end = tt
-stream-one-file limit file left written_old written_new source_failed sink_failed Took now start runs (Ok summary) end =
+    → Streams 0 limit input output Took result → IfOk result (λ summary. ImportsFile now file start summary)
+one-file limit file input output Took now start is runs (Err stop) end = tt
+one-file limit file input output Took now start is runs (Ok summary) end =
     let run = runs (deliveries_at 0 end.replies) (answers_of end.replies) end.took end.answered in (
       frames_of end.replies,
-      stream-file limit file left written_old written_new Took summary end,
+      stream-file limit file input output Took summary is end,
       λ of_file none.
-          (let it = stream-tiles limit file left written_old written_new Took summary start run.0 end of_file run.1 none in (run.0, run.2, it.0, it.1)),
+          (let it = stream-tiles limit file input output Took summary start run.0 is end of_file run.1 none in (run.0, run.2, it.0, it.1)),
     )
+
+pub stream-one-file : (from limit : ℕ) (file : List ℕ) (input : Input) (output : Output) (Took : List DeliveryValue → List Answer → Type 0) (now : HeldMap → Type 0) (start : HeldMap) → input.before ≡ Some file → from ≡ 0
+    → ((ds : List DeliveryValue) (rs : List Answer) → Took ds rs → IsNone IsFault rs → Runs now start ds rs) → (result : Result Summary StreamFault)
+    → Streams from limit input output Took result → IfOk result (λ summary. ImportsFile now file start summary)
+stream-one-file from limit file input output Took now start is zero runs result streams =
+    one-file limit file input output Took now start is runs result (subst (λ n. Streams n limit input output Took result) zero streams)

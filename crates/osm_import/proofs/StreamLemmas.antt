@@ -1,30 +1,28 @@
 -- From frame to frame of a stream.
-use Rattle.std.proofs.Common.{◌≡◌, ◌≢◌, ◌⊎◌, ℕ, ◌+◌, ◌^◌, ◌<◌, ◌≤◌, ◌&&◌, eqb, cond, Bool, true, false, List, [], ◌∷◌, ◌++◌, length, Option, Some, None, Result, Ok, Err, refl, sym, ap, subst, ◌∙◌, inl, inr, arith, append_assoc, append-nil, length-append}
+use Rattle.std.proofs.Common.{◌≡◌, ◌⊎◌, ℕ, ◌+◌, ◌^◌, ◌<◌, ◌≤◌, ◌&&◌, eqb, cond, Bool, true, false, List, [], ◌∷◌, ◌++◌, length, Option, Some, None, Ok, Err, refl, sym, ap, subst, ◌∙◌, inl, inr, arith, append_assoc, append-nil, length-append}
 use Rattle.std.proofs.lemmas.Bool.Decides.{nat_tests}
 use Rattle.std.specs.Io.KnownBytes.{Appends, Consumes, IsAtEnd, prepend_known}
 use Rattle.std.proofs.KnownBytes.{Appends-trans, Consumes-trans, prepend_known-nil, Consumes-nil, Appends-nil}
 use Rattle.pbf_frame.specs.declared.fault.FrameFault.{FrameFault}
-use Rattle.pbf_frame.specs.Framer.{Framing, FrameWaits, FaultStands, IsUnfinished, MayEnd, given, let_go, waiting}
-use Rattle.pbf_frame.proofs.WaitingLaws.{waiting_again, waiting_read, waiting_faults, waiting_faulted, fault_read}
-use Rattle.pbf_wire.proofs.Choices.{ok_is, not_both}
-use Rattle.osm_value.specs.Sink.{AppendsFront}
-use Rattle.osm_store.specs.declared.fault.StoreFault.{StoreFault}
+use Rattle.pbf_frame.specs.Framer.{Framing, FrameWaits, FaultStands, IsUnfinished, waiting}
+use Rattle.pbf_frame.proofs.WaitingLaws.{waiting_again}
+use Rattle.pbf_wire.proofs.Choices.{ok_is}
 use Rattle.osm_store.specs.declared.fault.StoreFault.TheVariants.{Memory}
 use Rattle.osm_import.specs.Good.{IsFrame}
 use Rattle.osm_import.specs.Files.{AreFrames, joined}
 use Rattle.osm_import.specs.Deliveries.{DeliveryValue}
 use Rattle.osm_import.specs.Exports.{Known}
+use Rattle.osm_import.specs.Flows.{Input, Output}
 use Rattle.osm_import.specs.Runs.{IsFault, IsNone}
 use Rattle.osm_import.specs.Lines.{answer_line}
-use Rattle.osm_import.specs.Streams.{Reply, frames_of, answers_of, deliveries_at, lines_at, end_at, counted, summary_from, nothing_at, ended_at, Moved, HasRoom, IsStop, EndsWell, Stops, Streams}
-use Rattle.osm_import.specs.StreamSteps.{IsFull, HasNoFrame, FrameAnswered, FrameStop}
+use Rattle.osm_import.specs.Streams.{Reply, frames_of, answers_of, deliveries_at, lines_at, end_at, counted, summary_from, nothing_at, ended_at, HasRoom, IsStop, Stops, Streams}
+use Rattle.osm_import.specs.StreamSteps.{HasNoFrame, FrameAnswered, FrameStop}
 use Rattle.osm_import.specs.declared.answer.Answer.{Answer}
 use Rattle.osm_import.specs.declared.answer.Answer.TheVariants as answers
 use Rattle.osm_import.specs.declared.stream.summary.Summary.{Summary}
 use Rattle.osm_import.specs.declared.stream.run.Delivered.{Delivered}
 use Rattle.osm_import.specs.declared.stream.fault.Stop.{Stop}
 use Rattle.osm_import.specs.declared.stream.fault.Stop.TheVariants.{Frame, NoHeaderFirst, WriteFailed, Store, ReadFailed, BlobLimit}
-use Rattle.osm_import.specs.declared.stream.fault.StreamFault.{StreamFault}
 use Rattle.osm_import.proofs.RunsLemmas.{none-push}
 use Rattle.osm_import.proofs.GoodLaws.{frame-filled}
 use Rattle.osm_import.proofs.WritingLemmas.{front-of-piece}
@@ -37,14 +35,6 @@ nothing_given = None
 
 pub none-waits : (f : Framing) → waiting f ≡ Ok None → FrameWaits f → ⊥
 none-waits f none waits = let e : nothing_given ≡ Some (f.offset, f.rest) = ok_is {E = FrameFault} nothing_given (Some (f.offset, f.rest)) (sym none ∙ waiting_again f waits) in cc
-
--- a frame waits where the input has ended, or the framer was full, and none was given
-pub at-end-unless-full : (f : Framing) (b : Bool) (AtEnd : Type 0) → (b ≡ true → IsFull f) → (b ≡ false → AtEnd) → waiting f ≡ Ok None → AtEnd
-at-end-unless-full f false AtEnd full end none = end refl
-at-end-unless-full f true AtEnd full end none = elim (full refl) [
-  | inl waits ↦ absurd (none-waits f none waits)
-  | inr (fault, stands) ↦ not_both {A = Option (ℕ × List ℕ)} None fault (sym none ∙ waiting_faulted f fault stands)
-]
 
 nil-of-both : (xs ys : List ℕ) → xs ++ ys ≡ [] → ys ≡ []
 nil-of-both [] ys e = e
@@ -100,10 +90,10 @@ counted-next s (answers.Bad fault) next sound = refl
 counted-next s (answers.Refused conflict) next sound = refl
 counted-next s (answers.Fault fault) next sound = absurd (sound tt)
 
-pub stream-more : (from count : ℕ) (f g : Framing) (before mid now written_old written_mid written_now : Known) (summary next : Summary) (Then Now : List DeliveryValue → List Answer → Type 0) (One : ℕ → List ℕ → Answer → Type 0) (blob : Delivered)
-    → InStream from count f before mid written_old written_mid summary Then → FrameAnswered f g mid now written_mid written_now One blob → Grows Then One Now → next ≡ counted summary blob.answer blob.fin
-    → InStream from (count + 1) g before now written_old written_now next Now
-stream-more from count f g before mid now written_old written_mid written_now summary next Then Now One blob so_far one grows is =
+pub stream-more : (from count : ℕ) (f g : Framing) (before written_old : Known) (input : Input) (output : Output) (summary next : Summary) (Then Now : List DeliveryValue → List Answer → Type 0) (One : ℕ → List ℕ → Answer → Type 0) (blob : Delivered)
+    → InStream from count f before input.before written_old output.before summary Then → FrameAnswered f g input output One blob → Grows Then One Now → next ≡ counted summary blob.answer blob.fin
+    → InStream from (count + 1) g before input.after written_old output.after next Now
+stream-more from count f g before written_old input output summary next Then Now One blob so_far one grows is =
     let rs = so_far.replies in
     let r : Reply = (one.frame, blob.answer) in
     let fin : blob.fin ≡ end_at from rs + length one.frame = one.ends ∙ ap (λ n. n + length one.frame) so_far.stands in
@@ -116,9 +106,9 @@ stream-more from count f g before mid now written_old written_mid written_now su
       stands = one.moved ∙ ap (λ n. n + length one.frame) so_far.stands ∙ sym (end-push from rs r);
       inside = (let fits = one.fits in let moved = one.moved in omega arith);
       empty = one.empty;
-      read = subst (λ (v : List ℕ). Consumes before now v) (sym (ap joined (frames-push rs r) ∙ joined-push (frames_of rs) one.frame)) (Consumes-trans before mid now (joined (frames_of rs)) one.frame so_far.read one.read);
-      lines = subst (λ (v : List ℕ). Appends written_old written_now v) (sym (lines-push from rs r))
-          (Appends-trans written_old written_mid written_now (lines_at from rs) (answer_line (end_at from rs) blob.answer) so_far.lines (subst (λ n. Appends written_mid written_now (answer_line n blob.answer)) so_far.stands one.line));
+      read = subst (λ (v : List ℕ). Consumes before input.after v) (sym (ap joined (frames-push rs r) ∙ joined-push (frames_of rs) one.frame)) (Consumes-trans before input.before input.after (joined (frames_of rs)) one.frame so_far.read one.read);
+      lines = subst (λ (v : List ℕ). Appends written_old output.after v) (sym (lines-push from rs r))
+          (Appends-trans written_old output.before output.after (lines_at from rs) (answer_line (end_at from rs) blob.answer) so_far.lines (subst (λ n. Appends output.before output.after (answer_line n blob.answer)) so_far.stands one.line));
       sums = is ∙ ap (λ (s : Summary). counted s blob.answer blob.fin) so_far.sums ∙ ap (λ n. counted (summary_from (nothing_at from) from rs) blob.answer n) fin ∙ sym (summary-push (nothing_at from) from rs r);
       next = ap (λ (s : Summary). s.next) is ∙ counted-next summary blob.answer blob.fin one.answered ∙ one.ends ∙ sym one.moved;
       small = subst (λ (s : Summary). Small s (count + 1)) (sym is) (small-more summary blob.answer blob.fin count so_far.small);
@@ -146,21 +136,21 @@ both-zero a b e = grind (arith, nat_tests)
 not-both-zero : (a b : ℕ) → (eqb a 0 && eqb b 0) ≡ false → a ≡ 0 → b ≡ 0 → ⊥
 not-both-zero a b e x y = grind (arith, nat_tests)
 
-pub stream-ends : (from limit count : ℕ) (f : Framing) (left_old : Known) (piece : List ℕ) (left_new written_old written_now : Known) (source_failed sink_failed : Bool) (summary : Summary) (Took : List DeliveryValue → List Answer → Type 0)
-    → InStream from count f left_old (prepend_known piece left_new) written_old written_now summary Took → IsAtEnd (prepend_known piece left_new) → count ≤ limit
-    → Streams from limit left_old left_new written_old written_now source_failed sink_failed Took (ended_at from summary)
-stream-ends from limit count f left_old piece left_new written_old written_now source_failed sink_failed summary Took so_far end few = by (eqb from 0 && eqb summary.next 0) refl
+pub stream-ends : (from limit count : ℕ) (f : Framing) (input : Input) (piece : List ℕ) (output : Output) (summary : Summary) (Took : List DeliveryValue → List Answer → Type 0)
+    → InStream from count f input.before (prepend_known piece input.after) output.before output.after summary Took → IsAtEnd (prepend_known piece input.after) → count ≤ limit
+    → Streams from limit input output Took (ended_at from summary)
+stream-ends from limit count f input piece output summary Took so_far end few = by (eqb from 0 && eqb summary.next 0) refl
   where
     rs : List Reply
     rs = so_far.replies
 
-    left : IsAtEnd left_new × Consumes left_old left_new (joined (frames_of rs))
-    left = at-end left_old piece left_new (joined (frames_of rs)) end so_far.read
+    left : IsAtEnd input.after × Consumes input.before input.after (joined (frames_of rs))
+    left = at-end input.before piece input.after (joined (frames_of rs)) end so_far.read
 
     all : rs ++ [] ≡ rs
     all = append-nil rs
 
-    by : (b : Bool) → (eqb from 0 && eqb summary.next 0) ≡ b → Streams from limit left_old left_new written_old written_now source_failed sink_failed Took (cond b (Err (record { fault = NoHeaderFirst; at = 0 })) (Ok summary))
+    by : (b : Bool) → (eqb from 0 && eqb summary.next 0) ≡ b → Streams from limit input output Took (cond b (Err (record { fault = NoHeaderFirst; at = 0 })) (Ok summary))
     by false e = record {
       replies = rs;
       frames = so_far.frames;
@@ -185,8 +175,8 @@ stream-ends from limit count f left_old piece left_new written_old written_now s
           answered = so_far.answered;
           few = (let many = so_far.many in let len = ap length all in omega arith);
           stands = sym zeros.0 ∙ sym (ap (end_at from) none);
-          read = subst (λ (v : List ℕ). Consumes left_old left_new v) (sym (append-nil (joined (frames_of (rs ++ []))) ∙ ap (λ (xs : List Reply). joined (frames_of xs)) all)) left.1;
-          why = (refl, zeros.0, none, refl, left.0, subst (λ (xs : List Reply). Appends written_old written_now (lines_at from xs)) none so_far.lines);
+          read = subst (λ (v : List ℕ). Consumes input.before input.after v) (sym (append-nil (joined (frames_of (rs ++ []))) ∙ ap (λ (xs : List Reply). joined (frames_of xs)) all)) left.1;
+          why = (refl, zeros.0, none, refl, left.0, subst (λ (xs : List Reply). Appends output.before output.after (lines_at from xs)) none so_far.lines);
         }
 
 -- ---- a stop
@@ -195,14 +185,14 @@ abbrev pub Stays : (List DeliveryValue → List Answer → Type 0) → Type 0 �
 Stays Then Same Now = (ds : List DeliveryValue) (rs : List Answer) → Same → Then ds rs → Now ds rs
 
 -- a stop at which no frame was being delivered
-pub stop-between : (from limit count : ℕ) (f : Framing) (left_old : Known) (piece : List ℕ) (mid left_new written_old written_mid written_now : Known) (source_failed sink_failed : Bool) (summary : Summary) (Then Now : List DeliveryValue → List Answer → Type 0) (Same : Type 0) (stop : Stop) (got : List ℕ)
-    → InStream from count f left_old mid written_old written_mid summary Then → Consumes mid (prepend_known piece left_new) got → Stays Then Same Now → Same → count ≤ limit
-    → ((rs : List Reply) → length rs ≡ count → f.offset ≡ end_at from rs → Appends written_old written_mid (lines_at from rs) → IsStop from limit left_new written_old written_now source_failed sink_failed rs [] (got ++ piece) stop)
-    → Stops from limit left_old left_new written_old written_now source_failed sink_failed Now (record { fault = stop; at = summary.next })
-stop-between from limit count f left_old piece mid left_new written_old written_mid written_now source_failed sink_failed summary Then Now Same stop got so_far read stays same few why =
+pub stop-between : (from limit count : ℕ) (f : Framing) (input : Input) (piece : List ℕ) (mid : Known) (output : Output) (written_mid : Known) (summary : Summary) (Then Now : List DeliveryValue → List Answer → Type 0) (Same : Type 0) (stop : Stop) (got : List ℕ)
+    → InStream from count f input.before mid output.before written_mid summary Then → Consumes mid (prepend_known piece input.after) got → Stays Then Same Now → Same → count ≤ limit
+    → ((rs : List Reply) → length rs ≡ count → f.offset ≡ end_at from rs → Appends output.before written_mid (lines_at from rs) → IsStop from limit input output rs [] (got ++ piece) stop)
+    → Stops from limit input output Now (record { fault = stop; at = summary.next })
+stop-between from limit count f input piece mid output written_mid summary Then Now Same stop got so_far read stays same few why =
     let rs = so_far.replies in
     let all : rs ++ [] ≡ rs = append-nil rs in
-    let both : Consumes left_old left_new ((joined (frames_of rs) ++ got) ++ piece) = unread left_old piece left_new (joined (frames_of rs) ++ got) (Consumes-trans left_old mid (prepend_known piece left_new) (joined (frames_of rs)) got so_far.read read) in
+    let both : Consumes input.before input.after ((joined (frames_of rs) ++ got) ++ piece) = unread input.before piece input.after (joined (frames_of rs) ++ got) (Consumes-trans input.before mid (prepend_known piece input.after) (joined (frames_of rs)) got so_far.read read) in
     record {
       replies = rs;
       last = [];
@@ -212,16 +202,16 @@ stop-between from limit count f left_old piece mid left_new written_old written_
       answered = so_far.answered;
       few = (let many = so_far.many in let len = ap length all in omega arith);
       stands = so_far.next ∙ so_far.stands;
-      read = subst (λ (v : List ℕ). Consumes left_old left_new v) (append_assoc (joined (frames_of rs)) got piece ∙ ap (λ (xs : List Reply). joined (frames_of xs) ++ (got ++ piece)) (sym all)) both;
+      read = subst (λ (v : List ℕ). Consumes input.before input.after v) (append_assoc (joined (frames_of rs)) got piece ∙ ap (λ (xs : List Reply). joined (frames_of xs) ++ (got ++ piece)) (sym all)) both;
       why = why rs so_far.many so_far.stands so_far.lines;
     }
 
 -- a stop at a frame that was being delivered
-pub stop-at : (from limit count : ℕ) (f : Framing) (left_old : Known) (piece : List ℕ) (mid left_new written_old written_mid written_now : Known) (source_failed sink_failed : Bool) (summary : Summary) (Then Now : List DeliveryValue → List Answer → Type 0) (One : ℕ → List ℕ → Answer → Type 0) (stop : Stop) (w : List ℕ) (a : Answer)
-    → InStream from count f left_old mid written_old written_mid summary Then → Consumes mid (prepend_known piece left_new) w → Grows Then One Now → IsFrame w → One f.offset w a → count < limit
-    → ((rs : List Reply) → f.offset ≡ end_at from rs → Appends written_old written_mid (lines_at from rs) → IsStop from limit left_new written_old written_now source_failed sink_failed rs ((w, a) ∷ []) piece stop)
-    → Stops from limit left_old left_new written_old written_now source_failed sink_failed Now (record { fault = stop; at = summary.next })
-stop-at from limit count f left_old piece mid left_new written_old written_mid written_now source_failed sink_failed summary Then Now One stop w a so_far read grows whole one few why =
+pub stop-at : (from limit count : ℕ) (f : Framing) (input : Input) (piece : List ℕ) (mid : Known) (output : Output) (written_mid : Known) (summary : Summary) (Then Now : List DeliveryValue → List Answer → Type 0) (One : ℕ → List ℕ → Answer → Type 0) (stop : Stop) (w : List ℕ) (a : Answer)
+    → InStream from count f input.before mid output.before written_mid summary Then → Consumes mid (prepend_known piece input.after) w → Grows Then One Now → IsFrame w → One f.offset w a → count < limit
+    → ((rs : List Reply) → f.offset ≡ end_at from rs → Appends output.before written_mid (lines_at from rs) → IsStop from limit input output rs ((w, a) ∷ []) piece stop)
+    → Stops from limit input output Now (record { fault = stop; at = summary.next })
+stop-at from limit count f input piece mid output written_mid summary Then Now One stop w a so_far read grows whole one few why =
     let rs = so_far.replies in
     let r : Reply = (w, a) in
     let all : joined (frames_of (rs ++ r ∷ [])) ≡ joined (frames_of rs) ++ w = ap joined (frames-push rs r) ∙ joined-push (frames_of rs) w in
@@ -234,51 +224,51 @@ stop-at from limit count f left_old piece mid left_new written_old written_mid w
       answered = so_far.answered;
       few = (let many = so_far.many in let len = length-append rs (r ∷ []) in omega arith);
       stands = so_far.next ∙ so_far.stands;
-      read = subst (λ (v : List ℕ). Consumes left_old left_new (v ++ piece)) (sym all) (unread left_old piece left_new (joined (frames_of rs) ++ w) (Consumes-trans left_old mid (prepend_known piece left_new) (joined (frames_of rs)) w so_far.read read));
+      read = subst (λ (v : List ℕ). Consumes input.before input.after (v ++ piece)) (sym all) (unread input.before piece input.after (joined (frames_of rs) ++ w) (Consumes-trans input.before mid (prepend_known piece input.after) (joined (frames_of rs)) w so_far.read read));
       why = why rs so_far.stands so_far.lines;
     }
 
 -- what the call for a frame stopped at, after the frames so far
-pub stream-stops : (from limit count : ℕ) (f : Framing) (left_old : Known) (piece : List ℕ) (mid left_new written_old written_mid written_now : Known) (source_failed sink_failed : Bool) (summary : Summary) (Then Now : List DeliveryValue → List Answer → Type 0) (One : ℕ → List ℕ → Answer → Type 0) (Same : Type 0) (stop : Stop)
-    → InStream from count f left_old mid written_old written_mid summary Then → FrameStop f mid (prepend_known piece left_new) written_mid written_now source_failed sink_failed Same One stop
+pub stream-stops : (from limit count : ℕ) (f : Framing) (input : Input) (piece : List ℕ) (mid : Known) (output : Output) (written_mid : Known) (summary : Summary) (Then Now : List DeliveryValue → List Answer → Type 0) (One : ℕ → List ℕ → Answer → Type 0) (Same : Type 0) (stop : Stop)
+    → InStream from count f input.before mid output.before written_mid summary Then → FrameStop f (record { before = mid; after = prepend_known piece input.after; has_failed = input.has_failed }) (record { before = written_mid; after = output.after; has_failed = output.has_failed }) Same One stop
     → Stays Then Same Now → Grows Then One Now → count < limit → (stop ≡ ReadFailed → piece ≡ [])
-    → Stops from limit left_old left_new written_old written_now source_failed sink_failed Now (record { fault = stop; at = summary.next })
-stream-stops from limit count f left_old piece mid left_new written_old written_mid written_now source_failed sink_failed summary Then Now One Same (Frame fault) so_far h stays grows few spent =
+    → Stops from limit input output Now (record { fault = stop; at = summary.next })
+stream-stops from limit count f input piece mid output written_mid summary Then Now One Same (Frame fault) so_far h stays grows few spent =
     let it = h.2 in
-    stop-between from limit count f left_old piece mid left_new written_old written_mid written_now source_failed sink_failed summary Then Now Same (Frame fault) it.0 so_far it.2 stays h.1 (omega arith)
+    stop-between from limit count f input piece mid output written_mid summary Then Now Same (Frame fault) it.0 so_far it.2 stays h.1 (omega arith)
     (λ rs many here lines. (
       refl,
-      subst (λ (o : Known). Appends written_old o (lines_at from rs)) (sym h.0) lines,
-      (it.0, piece, it.1, refl, subst (λ n. FaultStands fault (record { offset = n; rest = it.0; lent = it.1 }) ⊎ (IsUnfinished fault (record { offset = n; rest = it.0; lent = it.1 }) × IsAtEnd (prepend_known piece left_new))) here it.3),
+      subst (λ (o : Known). Appends output.before o (lines_at from rs)) (sym h.0) lines,
+      (it.0, piece, it.1, refl, subst (λ n. FaultStands fault (record { offset = n; rest = it.0; lent = it.1 }) ⊎ (IsUnfinished fault (record { offset = n; rest = it.0; lent = it.1 }) × IsAtEnd (prepend_known piece input.after))) here it.3),
     ))
-stream-stops from limit count f left_old piece mid left_new written_old written_mid written_now source_failed sink_failed summary Then Now One Same ReadFailed so_far h stays grows few spent =
-    stop-between from limit count f left_old piece mid left_new written_old written_mid written_now source_failed sink_failed summary Then Now Same ReadFailed h.3.0 so_far h.3.1 stays h.1 (omega arith)
+stream-stops from limit count f input piece mid output written_mid summary Then Now One Same ReadFailed so_far h stays grows few spent =
+    stop-between from limit count f input piece mid output written_mid summary Then Now Same ReadFailed h.3.0 so_far h.3.1 stays h.1 (omega arith)
     (λ rs many here lines. (
       h.2,
       refl,
-      subst (λ (o : Known). Appends written_old o (lines_at from rs)) (sym h.0) lines,
+      subst (λ (o : Known). Appends output.before o (lines_at from rs)) (sym h.0) lines,
       subst (λ n. HasNoFrame n (h.3.0 ++ piece)) here (subst (λ (v : List ℕ). HasNoFrame f.offset v) (sym (ap (λ (v : List ℕ). h.3.0 ++ v) (spent refl) ∙ append-nil h.3.0)) h.3.2),
     ))
-stream-stops from limit count f left_old piece mid left_new written_old written_mid written_now source_failed sink_failed summary Then Now One Same (Store fault) so_far h stays grows few spent = elim h.1 [
+stream-stops from limit count f input piece mid output written_mid summary Then Now One Same (Store fault) so_far h stays grows few spent = elim h.1 [
   | inl own ↦
-      stop-between from limit count f left_old piece mid left_new written_old written_mid written_now source_failed sink_failed summary Then Now Same (Store fault) own.2.0 so_far own.2.1 stays own.0 (omega arith)
-      (λ rs many here lines. (subst (λ (o : Known). Appends written_old o (lines_at from rs)) (sym h.0) lines, inl (refl, own.1)))
+      stop-between from limit count f input piece mid output written_mid summary Then Now Same (Store fault) own.2.0 so_far own.2.1 stays own.0 (omega arith)
+      (λ rs many here lines. (subst (λ (o : Known). Appends output.before o (lines_at from rs)) (sym h.0) lines, inl (refl, own.1)))
   | inr one ↦
-      stop-at from limit count f left_old piece mid left_new written_old written_mid written_now source_failed sink_failed summary Then Now One (Store fault) one.0 (answers.Fault fault) so_far one.2 grows one.1 one.3 few
-      (λ rs here lines. (subst (λ (o : Known). Appends written_old o (lines_at from rs)) (sym h.0) lines, inr refl))
+      stop-at from limit count f input piece mid output written_mid summary Then Now One (Store fault) one.0 (answers.Fault fault) so_far one.2 grows one.1 one.3 few
+      (λ rs here lines. (subst (λ (o : Known). Appends output.before o (lines_at from rs)) (sym h.0) lines, inr refl))
 ]
-stream-stops from limit count f left_old piece mid left_new written_old written_mid written_now source_failed sink_failed summary Then Now One Same WriteFailed so_far h stays grows few spent =
+stream-stops from limit count f input piece mid output written_mid summary Then Now One Same WriteFailed so_far h stays grows few spent =
     let it = h.1 in
-    stop-at from limit count f left_old piece mid left_new written_old written_mid written_now source_failed sink_failed summary Then Now One WriteFailed it.0 it.1 so_far it.3 grows it.2 it.4 few
+    stop-at from limit count f input piece mid output written_mid summary Then Now One WriteFailed it.0 it.1 so_far it.3 grows it.2 it.4 few
     (λ rs here lines. (
       h.0,
       refl,
       (it.5, tt),
-      front-of-piece written_old written_mid written_now (lines_at from rs) (answer_line f.offset it.1) [] (lines_at from (rs ++ (it.0, it.1) ∷ [])) lines
+      front-of-piece output.before written_mid output.after (lines_at from rs) (answer_line f.offset it.1) [] (lines_at from (rs ++ (it.0, it.1) ∷ [])) lines
           (append-nil (lines_at from rs ++ answer_line f.offset it.1) ∙ ap (λ n. lines_at from rs ++ answer_line n it.1) here ∙ sym (lines-push from rs (it.0, it.1))) it.6,
     ))
-stream-stops from limit count f left_old piece mid left_new written_old written_mid written_now source_failed sink_failed summary Then Now One Same NoHeaderFirst so_far h stays grows few spent = absurd h
-stream-stops from limit count f left_old piece mid left_new written_old written_mid written_now source_failed sink_failed summary Then Now One Same BlobLimit so_far h stays grows few spent = absurd h
+stream-stops from limit count f input piece mid output written_mid summary Then Now One Same NoHeaderFirst so_far h stays grows few spent = absurd h
+stream-stops from limit count f input piece mid output written_mid summary Then Now One Same BlobLimit so_far h stays grows few spent = absurd h
 
 -- nothing was read yet
 pub stream-begins : (from : ℕ) (left written : Known) (f : Framing) (summary : Summary) (Took : List DeliveryValue → List Answer → Type 0) → f.offset ≡ from → f.rest ≡ [] → from ≤ 4611686018427387904 → summary ≡ nothing_at from → Took [] []
@@ -301,7 +291,7 @@ stream-begins from left written f summary Took here empty inside is took = recor
 
 -- no memory for a piece
 pub never-begun : (from limit : ℕ) (left written : Known) (source_failed sink_failed : Bool) (Took : List DeliveryValue → List Answer → Type 0) → Took [] []
-    → Stops from limit left left written written source_failed sink_failed Took (record { fault = Store Memory; at = from })
+    → Stops from limit (record { before = left; after = left; has_failed = source_failed }) (record { before = written; after = written; has_failed = sink_failed }) Took (record { fault = Store Memory; at = from })
 never-begun from limit left written source_failed sink_failed Took took = record {
   replies = [];
   last = [];

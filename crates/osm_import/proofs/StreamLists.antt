@@ -1,10 +1,10 @@
 -- One more frame and its answer.
-use Rattle.std.proofs.Common.{◌≡◌, ℕ, ◌+◌, ◌<◌, ◌≤◌, List, [], ◌∷◌, ◌++◌, length, refl, sym, ap, subst, ◌∙◌, arith, append_assoc, append-nil}
+use Rattle.std.proofs.Common.{◌≡◌, ℕ, ◌+◌, ◌≤◌, List, [], ◌∷◌, ◌++◌, length, refl, sym, ap, ◌∙◌, arith, append_assoc, append-nil}
 use Rattle.osm_import.specs.Good.{IsFrame}
 use Rattle.osm_import.specs.Files.{AreFrames, joined}
 use Rattle.osm_import.specs.Deliveries.{DeliveryValue}
 use Rattle.osm_import.specs.Lines.{answer_line}
-use Rattle.osm_import.specs.Streams.{Reply, frames_of, answers_of, deliveries_at, lines_at, end_at, counted, summary_from, nothing_at}
+use Rattle.osm_import.specs.Streams.{Reply, frames_of, answers_of, deliveries_at, lines_at, end_at, counted, summary_from}
 use Rattle.osm_import.specs.declared.answer.Answer.{Answer}
 use Rattle.osm_import.specs.declared.answer.Answer.TheVariants as answers
 use Rattle.osm_import.specs.declared.stream.summary.Summary.{Summary}

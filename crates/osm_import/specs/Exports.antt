@@ -70,7 +70,7 @@ IsRefusal held size WriteFailed = ⊥
 IsRefusal held size BlockTooLarge = ⊥
 IsRefusal held size (Store fault) = ⊥
 
--- what one blob's lines have done to what was written before
+-- what the text of one blob has done to what was written before
 abbrev pub WritesBlob : Known → List ℕ → Known → Result (Unit {0}) ExportFault → Type 0
 WritesBlob before text after (Ok _) = Appends before after text
 WritesBlob before text after (Err WriteFailed) = AppendsFront before after text
@@ -79,18 +79,21 @@ WritesBlob before text after (Err BlockTooLarge) = ⊥
 WritesBlob before text after (Err (Incomplete from to)) = ⊥
 WritesBlob before text after (Err (PastEnd fin)) = ⊥
 
+-- the same of its lines
+abbrev pub WritesLines : Known → List Element → Known → Result (Unit {0}) ExportFault → Type 0
+WritesLines before elements after result = WritesBlob before (lines_of elements) after result
+
 -- so many of the blobs stand before one that is left, or before any
 abbrev pub IsBefore : ℕ → List (ℕ × Blob) → Type 0
 IsBefore count es = (count < length es) ⊎ (count ≡ 0)
 
--- the same of the blobs of a map: a store fault leaves the lines of the blobs before the one at fault
-abbrev pub WritesBlobs : Known → List (ℕ × Blob) → Known → Result (Unit {0}) ExportFault → Type 0
-WritesBlobs before es after (Ok _) = Appends before after (blob_lines es)
-WritesBlobs before es after (Err WriteFailed) = AppendsFront before after (blob_lines es)
-WritesBlobs before es after (Err (Store fault)) = (count : ℕ) × IsBefore count es × Appends before after (blob_lines (take count es))
-WritesBlobs before es after (Err BlockTooLarge) = ⊥
-WritesBlobs before es after (Err (Incomplete from to)) = ⊥
-WritesBlobs before es after (Err (PastEnd fin)) = ⊥
+-- why an export hasn't begun: a call of the store has failed or memory was refused, or, unless partial, it is refused
+abbrev pub IsUnbegun : HeldMap → ℕ → Bool → ExportFault → Type 0
+IsUnbegun held size partial (Store fault) = Unit {0}
+IsUnbegun held size partial (Incomplete from to) = (partial ≡ false) × IsRefusal held size (Incomplete from to)
+IsUnbegun held size partial (PastEnd fin) = (partial ≡ false) × IsRefusal held size (PastEnd fin)
+IsUnbegun held size partial WriteFailed = ⊥
+IsUnbegun held size partial BlockTooLarge = ⊥
 
 -- unless partial, what is held tiles the size, or nothing was written
 abbrev pub IsGuarded : HeldMap → ℕ → Bool → Known → Known → Type 0

@@ -12,9 +12,12 @@ pub mod Faults
 pub mod Inlets
 pub mod Lines
 pub mod Pbf
+pub mod Walks
 pub mod StopFaults
 pub mod ExportFaults
 pub mod ExamineFaults
+pub mod Flows
+pub mod Stores
 pub mod Streams
 pub mod StreamSteps
 pub mod FrameReads

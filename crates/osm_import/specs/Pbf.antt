@@ -1,6 +1,6 @@
 -- What an export as PBF writes: the frame of a header, and then, blob by blob, the frames of the blocks that the
 -- blob's elements are cut into (OpenStreetMap Wiki, "PBF Format").
-use Rattle.std.specs.Prelude.{◌≡◌, ℕ, zero, suc, ◌^◌, ◌≤◌, Bool, false, List, [], ◌∷◌, ◌++◌, length, take, drop, codes, Result, Ok, Err}
+use Rattle.std.specs.Prelude.{◌≡◌, ℕ, ◌^◌, ◌≤◌, Bool, false, List, [], ◌∷◌, ◌++◌, length, take, drop, codes, Result, Ok, Err}
 use Rattle.std.specs.FinMap.{entries}
 use Rattle.std.specs.Io.KnownBytes.{Appends}
 use Rattle.pbf_frame.specs.Write.{frame_bytes}
@@ -11,6 +11,7 @@ use Rattle.osm_write.specs.Header.{header_block}
 use Rattle.osm_store.specs.Held.{Blob, HeldMap}
 use Rattle.osm_import.specs.Exports.{Known, AreElements, IsGuarded, IsRefusal}
 use Rattle.osm_import.specs.Files.{IsFile}
+use Rattle.osm_import.specs.Walks.{elements_at}
 use Rattle.osm_import.specs.Gaps.{Tiles}
 use Rattle.osm_import.specs.declared.export.fault.ExportFault.{ExportFault}
 use Rattle.osm_import.specs.declared.export.fault.ExportFault.TheVariants.{Incomplete, PastEnd, WriteFailed, BlockTooLarge, Store}
@@ -37,12 +38,6 @@ AreFramesOf [] bytes = bytes ≡ []
 AreFramesOf (entry ∷ entries) bytes =
     (blocks : List (List ℕ)) × (behind : List ℕ) × Cuts entry.1.elements blocks [] × AreFramesOf entries behind × (bytes ≡ data_frames blocks ++ behind)
 
--- the elements of the blob at a place in the list, none behind the last
-abbrev pub elements_at : List (ℕ × Blob) → ℕ → List Element
-elements_at [] at = []
-elements_at (entry ∷ entries) zero = entry.1.elements
-elements_at (entry ∷ entries) (suc at) = elements_at entries at
-
 -- the frames of some of the blobs, each cut to its end, and of the next one's first blocks; that one has the rest left
 pub record AreFirstFrames (entries : List (ℕ × Blob)) (bytes : List ℕ) (rest : List Element) : Type 0 where
   pub count : ℕ
@@ -60,15 +55,6 @@ WritesBlocks before elements after (Err BlockTooLarge) = (blocks : List (List �
 WritesBlocks before elements after (Err (Store fault)) = (blocks : List (List ℕ)) × (rest : List Element) × Cuts elements blocks rest × AppendsFront before after (data_frames blocks)
 WritesBlocks before elements after (Err (Incomplete from to)) = ⊥
 WritesBlocks before elements after (Err (PastEnd fin)) = ⊥
-
--- the same of the blobs of a map
-abbrev pub WritesFrames : Known → List (ℕ × Blob) → Known → Result (Unit {0}) ExportFault → Type 0
-WritesFrames before entries after (Ok _) = (bytes : List ℕ) × AreFramesOf entries bytes × Appends before after bytes
-WritesFrames before entries after (Err WriteFailed) = (bytes : List ℕ) × (rest : List Element) × AreFirstFrames entries bytes rest × AppendsFront before after bytes
-WritesFrames before entries after (Err BlockTooLarge) = (bytes : List ℕ) × (rest : List Element) × AreFirstFrames entries bytes rest × ComesToOne rest × Appends before after bytes
-WritesFrames before entries after (Err (Store fault)) = (bytes : List ℕ) × (rest : List Element) × AreFirstFrames entries bytes rest × AppendsFront before after bytes
-WritesFrames before entries after (Err (Incomplete from to)) = ⊥
-WritesFrames before entries after (Err (PastEnd fin)) = ⊥
 
 -- What an export as PBF has done: the header frame and the frames of all held blobs went out; or those up to the place
 -- where a cutter came to an element whose block alone is too large; or a front of that where a write failed or at a

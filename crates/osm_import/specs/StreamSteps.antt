@@ -1,13 +1,12 @@
 -- What reading and delivering one frame of a stream does.
-use Rattle.std.specs.Prelude.{◌≡◌, ◌⊎◌, ℕ, ◌+◌, ◌^◌, ◌<◌, ◌≤◌, Bool, true, List, [], ◌∷◌, ◌++◌, length, Option, Some, None, Result, Ok, Err}
+use Rattle.std.specs.Prelude.{◌≡◌, ◌⊎◌, ℕ, ◌+◌, ◌<◌, ◌≤◌, true, List, [], ◌++◌, length, Option, Some, None, Result, Ok, Err}
 use Rattle.std.specs.Io.KnownBytes.{Appends, Consumes, IsAtEnd}
 use Rattle.pbf_frame.specs.declared.fault.FrameFault.{FrameFault}
 use Rattle.pbf_frame.specs.Framer.{Framing, FrameWaits, FaultStands, IsUnfinished, waiting}
 use Rattle.osm_value.specs.Sink.{AppendsFront}
 use Rattle.osm_store.specs.declared.fault.StoreFault.TheVariants.{Memory}
 use Rattle.osm_import.specs.Good.{IsFrame}
-use Rattle.osm_import.specs.Files.{joined}
-use Rattle.osm_import.specs.Exports.{Known}
+use Rattle.osm_import.specs.Flows.{Input, Output}
 use Rattle.osm_import.specs.Runs.{IsFault}
 use Rattle.osm_import.specs.Lines.{answer_line}
 use Rattle.osm_import.specs.declared.answer.Answer.{Answer}
@@ -35,36 +34,36 @@ Gave f g Same Took (Ok None) = (waiting f ≡ Ok None) × (g.offset ≡ f.offset
 Gave f g Same Took (Err fault) = FaultStands fault f × Same
 
 -- one frame was read and answered, and its line written
-pub record FrameAnswered (f g : Framing) (before after written_old written_new : Known) (Took : ℕ → List ℕ → Answer → Type 0) (blob : Delivered) : Type 0 where
+pub record FrameAnswered (f g : Framing) (input : Input) (output : Output) (Took : ℕ → List ℕ → Answer → Type 0) (blob : Delivered) : Type 0 where
   pub frame : List ℕ
   pub whole : IsFrame frame
   pub fits : f.offset + length frame ≤ 4611686018427387904
   pub ends : blob.fin ≡ f.offset + length frame
   pub moved : g.offset ≡ f.offset + length frame
   pub empty : g.rest ≡ []
-  pub read : Consumes before after frame
+  pub read : Consumes input.before input.after frame
   pub took : Took f.offset frame blob.answer
   pub answered : ¬ (IsFault blob.answer)
-  pub line : Appends written_old written_new (answer_line f.offset blob.answer)
+  pub line : Appends output.before output.after (answer_line f.offset blob.answer)
 
 -- the frame at which it stopped
-abbrev pub FrameStop : Framing → Known → Known → Known → Known → Bool → Bool → Type 0 → (ℕ → List ℕ → Answer → Type 0) → Stop → Type 0
-FrameStop f before after written_old written_new source_failed sink_failed Same Took (Frame fault) =
-    (written_new ≡ written_old) × Same × ((got lent : List ℕ) × Consumes before after got
-    × (FaultStands fault (record { offset = f.offset; rest = got; lent = lent }) ⊎ (IsUnfinished fault (record { offset = f.offset; rest = got; lent = lent }) × IsAtEnd after)))
-FrameStop f before after written_old written_new source_failed sink_failed Same Took ReadFailed =
-    (written_new ≡ written_old) × Same × (source_failed ≡ true) × ((got : List ℕ) × Consumes before after got × HasNoFrame f.offset got)
-FrameStop f before after written_old written_new source_failed sink_failed Same Took (Store fault) =
-    (written_new ≡ written_old) × ((Same × (fault ≡ Memory) × ((got : List ℕ) × Consumes before after got))
-    ⊎ ((frame : List ℕ) × IsFrame frame × Consumes before after frame × Took f.offset frame (answers.Fault fault)))
-FrameStop f before after written_old written_new source_failed sink_failed Same Took WriteFailed =
-    (sink_failed ≡ true) × ((frame : List ℕ) × (answer : Answer) × IsFrame frame × Consumes before after frame × Took f.offset frame answer × ¬ (IsFault answer)
-    × AppendsFront written_old written_new (answer_line f.offset answer))
-FrameStop f before after written_old written_new source_failed sink_failed Same Took NoHeaderFirst = ⊥
-FrameStop f before after written_old written_new source_failed sink_failed Same Took BlobLimit = ⊥
+abbrev pub FrameStop : Framing → Input → Output → Type 0 → (ℕ → List ℕ → Answer → Type 0) → Stop → Type 0
+FrameStop f input output Same Took (Frame fault) =
+    (output.after ≡ output.before) × Same × ((got lent : List ℕ) × Consumes input.before input.after got
+    × (FaultStands fault (record { offset = f.offset; rest = got; lent = lent }) ⊎ (IsUnfinished fault (record { offset = f.offset; rest = got; lent = lent }) × IsAtEnd input.after)))
+FrameStop f input output Same Took ReadFailed =
+    (output.after ≡ output.before) × Same × (input.has_failed ≡ true) × ((got : List ℕ) × Consumes input.before input.after got × HasNoFrame f.offset got)
+FrameStop f input output Same Took (Store fault) =
+    (output.after ≡ output.before) × ((Same × (fault ≡ Memory) × ((got : List ℕ) × Consumes input.before input.after got))
+    ⊎ ((frame : List ℕ) × IsFrame frame × Consumes input.before input.after frame × Took f.offset frame (answers.Fault fault)))
+FrameStop f input output Same Took WriteFailed =
+    (output.has_failed ≡ true) × ((frame : List ℕ) × (answer : Answer) × IsFrame frame × Consumes input.before input.after frame × Took f.offset frame answer × ¬ (IsFault answer)
+    × AppendsFront output.before output.after (answer_line f.offset answer))
+FrameStop f input output Same Took NoHeaderFirst = ⊥
+FrameStop f input output Same Took BlobLimit = ⊥
 
 -- what the call for the next frame has done; it gives none where the input has ended
-abbrev pub FrameStep : Framing → Framing → Known → Known → Known → Known → Bool → Bool → Type 0 → (ℕ → List ℕ → Answer → Type 0) → Result (Option Delivered) Stop → Type 0
-FrameStep f g before after written_old written_new source_failed sink_failed Same Took (Ok (Some blob)) = FrameAnswered f g before after written_old written_new Took blob
-FrameStep f g before after written_old written_new source_failed sink_failed Same Took (Ok None) = Consumes before after [] × IsAtEnd after × (written_new ≡ written_old) × Same
-FrameStep f g before after written_old written_new source_failed sink_failed Same Took (Err stop) = FrameStop f before after written_old written_new source_failed sink_failed Same Took stop
+abbrev pub FrameStep : Framing → Framing → Input → Output → Type 0 → (ℕ → List ℕ → Answer → Type 0) → Result (Option Delivered) Stop → Type 0
+FrameStep f g input output Same Took (Ok (Some blob)) = FrameAnswered f g input output Took blob
+FrameStep f g input output Same Took (Ok None) = Consumes input.before input.after [] × IsAtEnd input.after × (output.after ≡ output.before) × Same
+FrameStep f g input output Same Took (Err stop) = FrameStop f input output Same Took stop

@@ -1,19 +1,16 @@
 -- What the import of a stream does: to its input, its output and the store.
-use Rattle.std.specs.Prelude.{◌≡◌, ◌≢◌, ◌⊎◌, ℕ, ◌+◌, ◌^◌, ◌==◌, ◌&&◌, if◌then◌else◌, ◌<◌, ◌≤◌, Bool, true, List, [], ◌∷◌, ◌++◌, length, Option, Some, None, Result, Ok, Err}
+use Rattle.std.specs.Prelude.{◌≡◌, ◌≢◌, ◌⊎◌, ℕ, ◌+◌, ◌^◌, ◌==◌, ◌&&◌, if◌then◌else◌, ◌<◌, ◌≤◌, Bool, true, List, [], ◌∷◌, ◌++◌, length, Result, Ok, Err}
 use Rattle.std.specs.Io.KnownBytes.{Appends, Consumes, IsAtEnd, prepend_known}
-use Rattle.pbf_frame.specs.declared.fault.FrameFault.{FrameFault}
-use Rattle.pbf_frame.specs.Framer.{Framing, FaultStands, IsUnfinished, TakesNothing, waiting}
+use Rattle.pbf_frame.specs.Framer.{Framing, FaultStands, IsUnfinished}
 use Rattle.osm_value.specs.Sink.{AppendsFront}
 use Rattle.osm_store.specs.Held.{HeldMap}
-use Rattle.osm_store.specs.declared.fault.StoreFault.{StoreFault}
 use Rattle.osm_store.specs.declared.fault.StoreFault.TheVariants.{Memory}
-use Rattle.osm_import.specs.Good.{IsFrame}
 use Rattle.osm_import.specs.Files.{AreFrames, joined, IsFile, IsHeldOfFile}
 use Rattle.osm_import.specs.Gaps.{Tiles}
 use Rattle.osm_import.specs.Deliveries.{DeliveryValue}
 use Rattle.osm_import.specs.Exports.{Known}
-use Rattle.osm_import.specs.Step.{Delivers, CrashLeaves, FaultHasCause, HasCause, IsOwn}
-use Rattle.osm_import.specs.Runs.{Runs, LeavesAfter, HaveCauses, AreOwn, IsFault, IsNone}
+use Rattle.osm_import.specs.Flows.{Input, Output}
+use Rattle.osm_import.specs.Runs.{IsFault, IsNone}
 use Rattle.osm_import.specs.Lines.{answer_line}
 use Rattle.osm_import.specs.StreamSteps.{HasNoFrame}
 use Rattle.osm_import.specs.declared.answer.Answer.{Answer}
@@ -78,32 +75,6 @@ summary_from s off (reply ∷ replies) = summary_from (counted s reply.1 (off + 
 abbrev pub ended_at : ℕ → Summary → Result Summary StreamFault
 ended_at from summary = if from == 0 && summary.next == 0 then Err (record { fault = NoHeaderFirst; at = 0 }) else Ok summary
 
--- ---- what deliveries do to a store
-
--- what one delivery has done
-pub record TakesOne {S : Type 0} (holds leaves : S → HeldMap → Type 0) (leaves_a_map is_honest is_open : S → Type 0) (failures : S → ℕ) (old new : S) (off : ℕ) (bytes : List ℕ) (answer : Answer) : Type 0 where
-  pub step : (held : HeldMap) → holds old held → is_honest new → Delivers (is_open new) (holds new) held off bytes answer
-  pub crash : (held : HeldMap) → holds old held → is_honest new → CrashLeaves (leaves new) held off bytes
-  pub whole : (held : HeldMap) → holds old held → is_honest new → leaves_a_map new
-  pub own : (held : HeldMap) → holds old held → is_honest new → IsOwn answer
-  pub cause : FaultHasCause (failures old) (failures new) answer
-  pub honest : is_honest new → is_honest old
-  pub open_if : is_open new → is_open old
-  pub counted : failures old ≤ failures new
-
--- What deliveries in turn have done, of which the last alone may be answered with a fault: each is a step, and a crash
--- leaves the map after the answered ones, or after a fault alone that map with the blob at fault.
-pub record Takes {S : Type 0} (holds leaves : S → HeldMap → Type 0) (leaves_a_map is_honest is_open : S → Type 0) (failures : S → ℕ) (old new : S) (deliveries : List DeliveryValue) (replies : List Answer) : Type 0 where
-  pub run : (held : HeldMap) → holds old held → is_honest new → is_open new → Runs (holds new) held deliveries replies
-  pub unbroken : (held : HeldMap) → holds old held → is_honest new → IsNone IsFault replies → Runs (holds new) held deliveries replies
-  pub crash : (held : HeldMap) → holds old held → is_honest new → LeavesAfter (leaves new) held deliveries replies
-  pub whole : (held : HeldMap) → holds old held → is_honest new → leaves_a_map new
-  pub own : (held : HeldMap) → holds old held → is_honest new → AreOwn replies
-  pub causes : HaveCauses (failures old) (failures new) replies
-  pub honest : is_honest new → is_honest old
-  pub open_if : is_open new → is_open old
-  pub counted : failures old ≤ failures new
-
 -- ---- what is read
 
 -- the framer's rest grew by the bytes that the input lost
@@ -119,36 +90,36 @@ ReadHasCause failed _ = ⊥
 -- ---- how the import of a stream ends
 
 -- All frames of the input were answered: nothing is left of it.
-pub record EndsWell (from limit : ℕ) (left_old left_new written_old written_new : Known) (Took : List DeliveryValue → List Answer → Type 0) (summary : Summary) : Type 0 where
+pub record EndsWell (from limit : ℕ) (input : Input) (output : Output) (Took : List DeliveryValue → List Answer → Type 0) (summary : Summary) : Type 0 where
   pub replies : List Reply
   pub frames : AreFrames (frames_of replies)
   pub took : Took (deliveries_at from replies) (answers_of replies)
   pub answered : IsNone IsFault (answers_of replies)
   pub few : length replies ≤ limit
-  pub read : Consumes left_old left_new (joined (frames_of replies))
-  pub ended : IsAtEnd left_new
-  pub lines : Appends written_old written_new (lines_at from replies)
+  pub read : Consumes input.before input.after (joined (frames_of replies))
+  pub ended : IsAtEnd input.after
+  pub lines : Appends output.before output.after (lines_at from replies)
   pub sums : summary ≡ summary_from (nothing_at from) from replies
   pub some : from ≡ 0 → replies ≢ []
 
 -- Why it stopped behind these answered frames, with this frame being delivered if there is one, and these bytes read behind it.
-abbrev pub IsStop : ℕ → ℕ → Known → Known → Known → Bool → Bool → List Reply → List Reply → List ℕ → Stop → Type 0
-IsStop from limit left_new written_old written_new source_failed sink_failed replies last rest (Frame fault) =
-    (last ≡ []) × Appends written_old written_new (lines_at from replies)
+abbrev pub IsStop : ℕ → ℕ → Input → Output → List Reply → List Reply → List ℕ → Stop → Type 0
+IsStop from limit input output replies last rest (Frame fault) =
+    (last ≡ []) × Appends output.before output.after (lines_at from replies)
     × ((got more lent : List ℕ) × (rest ≡ got ++ more) × (FaultStands fault (record { offset = end_at from replies; rest = got; lent = lent })
-    ⊎ (IsUnfinished fault (record { offset = end_at from replies; rest = got; lent = lent }) × IsAtEnd (prepend_known more left_new))))
-IsStop from limit left_new written_old written_new source_failed sink_failed replies last rest NoHeaderFirst =
-    (last ≡ []) × (from ≡ 0) × (replies ≡ []) × (rest ≡ []) × IsAtEnd left_new × Appends written_old written_new []
-IsStop from limit left_new written_old written_new source_failed sink_failed replies last rest WriteFailed =
-    (sink_failed ≡ true) × (length last ≡ 1) × IsNone IsFault (answers_of last) × AppendsFront written_old written_new (lines_at from (replies ++ last))
-IsStop from limit left_new written_old written_new source_failed sink_failed replies last rest (Store fault) =
-    Appends written_old written_new (lines_at from replies) × (((last ≡ []) × (fault ≡ Memory)) ⊎ (answers_of last ≡ answers.Fault fault ∷ []))
-IsStop from limit left_new written_old written_new source_failed sink_failed replies last rest ReadFailed =
-    (source_failed ≡ true) × (last ≡ []) × Appends written_old written_new (lines_at from replies) × HasNoFrame (end_at from replies) rest
-IsStop from limit left_new written_old written_new source_failed sink_failed replies last rest BlobLimit =
-    (last ≡ []) × (length replies ≡ limit) × (0 < length rest) × Appends written_old written_new (lines_at from replies)
+    ⊎ (IsUnfinished fault (record { offset = end_at from replies; rest = got; lent = lent }) × IsAtEnd (prepend_known more input.after))))
+IsStop from limit input output replies last rest NoHeaderFirst =
+    (last ≡ []) × (from ≡ 0) × (replies ≡ []) × (rest ≡ []) × IsAtEnd input.after × Appends output.before output.after []
+IsStop from limit input output replies last rest WriteFailed =
+    (output.has_failed ≡ true) × (length last ≡ 1) × IsNone IsFault (answers_of last) × AppendsFront output.before output.after (lines_at from (replies ++ last))
+IsStop from limit input output replies last rest (Store fault) =
+    Appends output.before output.after (lines_at from replies) × (((last ≡ []) × (fault ≡ Memory)) ⊎ (answers_of last ≡ answers.Fault fault ∷ []))
+IsStop from limit input output replies last rest ReadFailed =
+    (input.has_failed ≡ true) × (last ≡ []) × Appends output.before output.after (lines_at from replies) × HasNoFrame (end_at from replies) rest
+IsStop from limit input output replies last rest BlobLimit =
+    (last ≡ []) × (length replies ≡ limit) × (0 < length rest) × Appends output.before output.after (lines_at from replies)
 
-pub record Stops (from limit : ℕ) (left_old left_new written_old written_new : Known) (source_failed sink_failed : Bool) (Took : List DeliveryValue → List Answer → Type 0) (stop : StreamFault) : Type 0 where
+pub record Stops (from limit : ℕ) (input : Input) (output : Output) (Took : List DeliveryValue → List Answer → Type 0) (stop : StreamFault) : Type 0 where
   pub replies : List Reply
   pub last : List Reply
   pub rest : List ℕ
@@ -157,14 +128,17 @@ pub record Stops (from limit : ℕ) (left_old left_new written_old written_new :
   pub answered : IsNone IsFault (answers_of replies)
   pub few : length (replies ++ last) ≤ limit
   pub stands : stop.at ≡ end_at from replies
-  pub read : Consumes left_old left_new (joined (frames_of (replies ++ last)) ++ rest)
-  pub why : IsStop from limit left_new written_old written_new source_failed sink_failed replies last rest stop.fault
+  pub read : Consumes input.before input.after (joined (frames_of (replies ++ last)) ++ rest)
+  pub why : IsStop from limit input output replies last rest stop.fault
 
-abbrev pub Streams : ℕ → ℕ → Known → Known → Known → Known → Bool → Bool → (List DeliveryValue → List Answer → Type 0) → Result Summary StreamFault → Type 0
-Streams from limit left_old left_new written_old written_new source_failed sink_failed Took (Ok summary) = EndsWell from limit left_old left_new written_old written_new Took summary
-Streams from limit left_old left_new written_old written_new source_failed sink_failed Took (Err stop) = Stops from limit left_old left_new written_old written_new source_failed sink_failed Took stop
+abbrev pub Streams : ℕ → ℕ → Input → Output → (List DeliveryValue → List Answer → Type 0) → Result Summary StreamFault → Type 0
+Streams from limit input output Took (Ok summary) = EndsWell from limit input output Took summary
+Streams from limit input output Took (Err stop) = Stops from limit input output Took stop
+
+-- what is held is of the file alone, and tiles it
+abbrev pub TilesFile : (HeldMap → Type 0) → List ℕ → List (List ℕ) → Type 0
+TilesFile holds file frames = (held : HeldMap) × holds held × Tiles held (length file) × IsHeldOfFile frames held
 
 -- the bytes are a file; and where nothing but entries of it was held and no blob was bad, what is held now tiles it
 abbrev pub ImportsFile : (HeldMap → Type 0) → List ℕ → HeldMap → Summary → Type 0
-ImportsFile holds file start summary = (frames : List (List ℕ)) × IsFile file frames
-    × (IsHeldOfFile frames start → summary.bad ≡ 0 → (held : HeldMap) × holds held × Tiles held (length file) × IsHeldOfFile frames held)
+ImportsFile holds file start summary = (frames : List (List ℕ)) × IsFile file frames × (IsHeldOfFile frames start → summary.bad ≡ 0 → TilesFile holds file frames)

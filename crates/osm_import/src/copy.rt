@@ -3,11 +3,12 @@
 ghost use Rattle.std.specs.Prelude.{◌≡◌, ◌<◌, ◌≤◌, ◌^◌, ℕ, Some, All};
 ghost use Rattle.std.specs.FinMap.{get};
 ghost use Rattle.osm_store.specs.Held.{Blob, HeldMap};
-ghost use Rattle.osm_store.specs.Keeping.{Rereads, IsRange, extent_of, extents_of};
+ghost use Rattle.osm_store.specs.Keeping.{IsRange, extent_of, extents_of};
 ghost use Rattle.osm_import.specs.Copies.{CopiesBlob, Copies, CrashLeavesBlob, CrashLeavesSome, BlobHasCause, CopyHasCause, IsOwnBlob, IsOwnCopy};
 ghost use Rattle.osm_store.specs.declared.fault.StoreFault.TheVariants.{Memory};
 ghost use Rattle.osm_import.specs.declared.copy.CopyFault.TheVariants.{Store};
 ghost use Rattle.osm_import.specs.CopyFaults.{copy_number_of, copy_name_of};
+ghost use Rattle.osm_import.specs.Stores.{Rereads};
 
 use crate::answer::Conflict;
 use crate::delivery::extent_at;
@@ -105,7 +106,7 @@ fn copy_blob<F: Reader, T: Keeper>(
         → get source extent.now.off ≡ Some blob → extent.now ≡ extent_of (extent.now.off, blob) → T.leaves_a_map to.new }
     ensures own { (source held : HeldMap) (blob : Blob) → F.holds from.old source → F.is_honest from.new → T.holds to.old held → T.is_honest to.new
         → get source extent.now.off ≡ Some blob → extent.now ≡ extent_of (extent.now.off, blob) → IsOwnBlob result }
-    ensures source { Rereads F.holds F.leaves F.leaves_a_map F.is_honest F.is_open from.old result from.new }
+    ensures source { Rereads F.Reader from.old result from.new }
     ensures cause { BlobHasCause (F.failures from.old) (F.failures from.new) (T.failures to.old) (T.failures to.new) result }
     ensures honest { T.is_honest to.new → T.is_honest to.old }
     ensures open_if { T.is_open to.new → T.is_open to.old }
@@ -150,7 +151,7 @@ fn copy_blobs<F: Reader, T: Keeper>(
         → CrashLeavesSome (T.leaves to.new) source held result }
     ensures whole { (source held : HeldMap) → F.holds from.old source → F.is_honest from.new → T.holds to.old held → T.is_honest to.new → extents.now ≡ extents_of source → T.leaves_a_map to.new }
     ensures own { (source held : HeldMap) → F.holds from.old source → F.is_honest from.new → T.holds to.old held → T.is_honest to.new → extents.now ≡ extents_of source → IsOwnCopy result }
-    ensures source { Rereads F.holds F.leaves F.leaves_a_map F.is_honest F.is_open from.old result from.new }
+    ensures source { Rereads F.Reader from.old result from.new }
     ensures cause { CopyHasCause (F.failures from.old) (F.failures from.new) (T.failures to.old) (T.failures to.new) result }
     ensures honest { T.is_honest to.new → T.is_honest to.old }
     ensures open_if { T.is_open to.new → T.is_open to.old }
@@ -200,7 +201,7 @@ pub fn copy_held<F: Reader, T: Keeper>(
     ensures whole { (source held : HeldMap) → F.holds from.old source → F.is_honest from.new → T.holds to.old held → T.is_honest to.new → T.leaves_a_map to.new }
 
     // What the first store holds stays.
-    ensures source { Rereads F.holds F.leaves F.leaves_a_map F.is_honest F.is_open from.old result from.new }
+    ensures source { Rereads F.Reader from.old result from.new }
 
     // Why a fault is answered.
     ensures own { (source held : HeldMap) → F.holds from.old source → F.is_honest from.new → T.holds to.old held → T.is_honest to.new → IsOwnCopy result }

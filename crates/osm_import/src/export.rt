@@ -1,5 +1,6 @@
 //! Exports of what is held, as lines or as a PBF file.
 
+mod blobs;
 mod fault;
 mod lines;
 mod pbf;
@@ -8,4 +9,4 @@ mod refusal;
 pub use fault::ExportFault;
 pub use lines::export_lines;
 pub use pbf::export_pbf;
-pub(crate) use refusal::greatest;
+pub use refusal::greatest_end;

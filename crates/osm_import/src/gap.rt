@@ -2,9 +2,10 @@
 
 ghost use Rattle.std.specs.Prelude.{◌≡◌, IfOk, IfErr};
 ghost use Rattle.osm_store.specs.Held.{HeldMap};
-ghost use Rattle.osm_store.specs.Keeping.{Rereads, IsForeign};
+ghost use Rattle.osm_store.specs.Keeping.{IsForeign};
 ghost use Rattle.osm_import.specs.Gaps.{AreGaps, ranges_between};
 ghost use Rattle.osm_import.specs.Step.{HasCause};
+ghost use Rattle.osm_import.specs.Stores.{Rereads};
 
 use osm_store::{Extent, Reader, StoreFault};
 use std::alloc::{AllocError, Global};
@@ -37,7 +38,7 @@ pub fn gaps<K: Reader>(
     size: u64,
 ) -> Result<Vec<(u64, u64)>, StoreFault>
     ensures gaps { (held : HeldMap) → K.holds keeper.old held → K.is_honest keeper.new → IfOk result (λ gaps. AreGaps held size gaps.items) }
-    ensures rereads { Rereads K.holds K.leaves K.leaves_a_map K.is_honest K.is_open keeper.old result keeper.new }
+    ensures rereads { Rereads K.Reader keeper.old result keeper.new }
     ensures own { (held : HeldMap) → K.holds keeper.old held → K.is_honest keeper.new → IfErr result (λ fault. ¬ (IsForeign fault)) }
     ensures cause { IfErr result (HasCause (K.failures keeper.old) (K.failures keeper.new)) }
 {

@@ -19,10 +19,11 @@ pub use copy::{BlobCopy, CopyCounts, CopyFault, CopyStop, copy_held};
 pub use deliveries::{Delivery, deliver_all, deliver_until_fault};
 pub use delivery::deliver;
 pub use examination::{ExamineFault, Good, examine};
-pub use export::{ExportFault, export_lines, export_pbf};
+pub use export::{ExportFault, export_lines, export_pbf, greatest_end};
 pub use fault::Fault;
 pub use gap::gaps;
 pub use parts::{Openings, PartsFault, export_in_turn, extents_in_turn};
 pub use stream::{
     FrameReader, Inlet, Source, SourceFailed, Stop, StreamFault, Summary, import_stream,
+    put_fault_at,
 };

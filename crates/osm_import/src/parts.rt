@@ -5,7 +5,7 @@ ghost use Rattle.osm_store.specs.Held.{HeldMap};
 ghost use Rattle.osm_store.specs.declared.keeper.Extent.{Extent as ExtentValue};
 ghost use Rattle.osm_import.specs.Parts.{ExportsInTurn, Reaches, FollowFrom, AreApart, extents_in};
 
-use crate::export::{ExportFault, export_lines, greatest};
+use crate::export::{ExportFault, export_lines, greatest_end};
 use osm_store::{Extent, Reader, StoreFault};
 use osm_value::Sink;
 use std::alloc::{AllocError, Global};
@@ -65,7 +65,7 @@ fn reach(from: u64, extents: &[Extent]) -> Result<u64, PartsFault>
             return Err(PartsFault::Interleaved(first.off));
         }
     }
-    Ok(from.max(greatest(extents)))
+    Ok(from.max(greatest_end(extents)))
 }
 
 /// The extents of `count` stores, one store after the other. At `Ok` each store lies behind the ends of those before it,

@@ -7,7 +7,8 @@ use Rattle.std.specs.Io.KnownBytes.{Consumes, IsAtEnd}
 use Rattle.osm_store.specs.Held.{HeldMap}
 use Rattle.osm_import.specs.Deliveries.{DeliveryValue}
 use Rattle.osm_import.specs.Exports.{Known}
-use Rattle.osm_import.specs.Streams.{Reply, Stops, IsStop, ImportsFile}
+use Rattle.osm_import.specs.Flows.{Input, Output}
+use Rattle.osm_import.specs.Streams.{Reply, EndsWell, Stops, IsStop, ImportsFile}
 use Rattle.osm_import.specs.declared.answer.Answer.{Answer}
 use Rattle.osm_import.specs.declared.stream.summary.Summary.{Summary}
 use Rattle.osm_import.specs.declared.stream.fault.Stop.{Stop}
@@ -55,18 +56,18 @@ skips-nothing file old (Some ys) is h =
 
 -- ---- the output goes on after a stop, but for a failed write
 
-stop-on : (from limit : ℕ) (left written_old written_new : Known) (source_failed a b : Bool) (replies last : List Reply) (rest : List ℕ) (fault : Stop) → (fault ≡ WriteFailed → b ≡ a)
-    → IsStop from limit left written_old written_new source_failed a replies last rest fault → IsStop from limit left written_old written_new source_failed b replies last rest fault
-stop-on from limit left written_old written_new source_failed a b replies last rest (Frame fault) same why = why
-stop-on from limit left written_old written_new source_failed a b replies last rest NoHeaderFirst same why = why
-stop-on from limit left written_old written_new source_failed a b replies last rest WriteFailed same why = (same refl ∙ why.0, why.1, why.2, why.3)
-stop-on from limit left written_old written_new source_failed a b replies last rest (Store fault) same why = why
-stop-on from limit left written_old written_new source_failed a b replies last rest ReadFailed same why = why
-stop-on from limit left written_old written_new source_failed a b replies last rest BlobLimit same why = why
+stop-on : (from limit : ℕ) (input : Input) (output : Output) (failed : Bool) (replies last : List Reply) (rest : List ℕ) (fault : Stop) → (fault ≡ WriteFailed → failed ≡ output.has_failed)
+    → IsStop from limit input output replies last rest fault → IsStop from limit input (record output { has_failed = failed }) replies last rest fault
+stop-on from limit input output failed replies last rest (Frame fault) same why = why
+stop-on from limit input output failed replies last rest NoHeaderFirst same why = why
+stop-on from limit input output failed replies last rest WriteFailed same why = (same refl ∙ why.0, why.1, why.2, why.3)
+stop-on from limit input output failed replies last rest (Store fault) same why = why
+stop-on from limit input output failed replies last rest ReadFailed same why = why
+stop-on from limit input output failed replies last rest BlobLimit same why = why
 
-stops-on : (from limit : ℕ) (left_old left_new written_old written_new : Known) (source_failed a b : Bool) (Took : List DeliveryValue → List Answer → Type 0) (stop : StreamFault) → (stop.fault ≡ WriteFailed → b ≡ a)
-    → Stops from limit left_old left_new written_old written_new source_failed a Took stop → Stops from limit left_old left_new written_old written_new source_failed b Took stop
-stops-on from limit left_old left_new written_old written_new source_failed a b Took stop same h = record {
+stops-on : (from limit : ℕ) (input : Input) (output : Output) (failed : Bool) (Took : List DeliveryValue → List Answer → Type 0) (stop : StreamFault) → (stop.fault ≡ WriteFailed → failed ≡ output.has_failed)
+    → Stops from limit input output Took stop → Stops from limit input (record output { has_failed = failed }) Took stop
+stops-on from limit input output failed Took stop same h = record {
   replies = h.replies;
   last = h.last;
   rest = h.rest;
@@ -76,14 +77,33 @@ stops-on from limit left_old left_new written_old written_new source_failed a b 
   few = h.few;
   stands = h.stands;
   read = h.read;
-  why = stop-on from limit left_new written_old written_new source_failed a b h.replies h.last h.rest stop.fault same h.why;
+  why = stop-on from limit input output failed h.replies h.last h.rest stop.fault same h.why;
 }
 
-pub imports-stop : (from : ℕ) (left_old left_new written_old written_new : Known) (source_failed a b : Bool) (Same : Type 0) (Took : List DeliveryValue → List Answer → Type 0) (stop : StreamFault) → (stop.fault ≡ WriteFailed → b ≡ a)
-    → Imports from left_old left_new written_old written_new source_failed a Same Took (Err stop) → Imports from left_old left_new written_old written_new source_failed b Same Took (Err stop)
-imports-stop from left_old left_new written_old written_new source_failed a b Same Took stop same (inl h) =
-    inl (h.0, h.1, stops-on from 4294967295 h.0 left_new written_old written_new source_failed a b Took stop same h.2)
-imports-stop from left_old left_new written_old written_new source_failed a b Same Took stop same (inr h) = inr h
+ends-on : (from limit : ℕ) (input : Input) (output : Output) (failed : Bool) (Took : List DeliveryValue → List Answer → Type 0) (summary : Summary)
+    → EndsWell from limit input output Took summary → EndsWell from limit input (record output { has_failed = failed }) Took summary
+ends-on from limit input output failed Took summary h = record {
+  replies = h.replies;
+  frames = h.frames;
+  took = h.took;
+  answered = h.answered;
+  few = h.few;
+  read = h.read;
+  ended = h.ended;
+  lines = h.lines;
+  sums = h.sums;
+  some = h.some;
+}
+
+pub imports-stop : (from : ℕ) (input : Input) (output : Output) (failed : Bool) (Same : Type 0) (Took : List DeliveryValue → List Answer → Type 0) (stop : StreamFault) → (stop.fault ≡ WriteFailed → failed ≡ output.has_failed)
+    → Imports from input output Same Took (Err stop) → Imports from input (record output { has_failed = failed }) Same Took (Err stop)
+imports-stop from input output failed Same Took stop same (inl h) = inl (h.0, h.1, stops-on from 4294967295 (record input { before = h.0 }) output failed Took stop same h.2)
+imports-stop from input output failed Same Took stop same (inr h) = inr h
+
+pub imports-end : (from : ℕ) (input : Input) (output : Output) (failed : Bool) (Same : Type 0) (Took : List DeliveryValue → List Answer → Type 0) (summary : Summary)
+    → Imports from input output Same Took (Ok summary) → Imports from input (record output { has_failed = failed }) Same Took (Ok summary)
+imports-end from input output failed Same Took summary (inl h) = inl (h.0, h.1, ends-on from 4294967295 (record input { before = h.0 }) output failed Took summary h.2)
+imports-end from input output failed Same Took summary (inr h) = inr h
 
 zero-first : (b c d : Bool) (n : ℕ) → n ≡ cond ((b && c) && d) 0 1 → n ≡ 0 → b ≡ true
 zero-first true c d n is zero = refl

@@ -5,30 +5,12 @@ use Rattle.std.proofs.lemmas.List.{flat_map_more, take_all, take_more}
 use Rattle.osm_value.specs.Sink.{Wrote}
 use Rattle.osm_value.proofs.SinkLemmas.{Wrote-text, whole_text, front_text}
 use Rattle.osm_store.specs.Held.{HeldMap}
-use Rattle.osm_store.specs.Keeping.{Rereads}
 use Rattle.std.specs.FinMap.{entries}
 use Rattle.osm_store.specs.Keeping.{extents_of}
 use Rattle.osm_import.specs.Exports.{Known, greatest_end}
 use Rattle.pbfrow_commands.specs.CommandLines.{counts_line, gap_lines}
-use Rattle.pbfrow_commands.specs.Status.{IsSurvey, Stays, Tells, status_text}
+use Rattle.pbfrow_commands.specs.Status.{IsSurvey, Tells, status_text}
 use Rattle.pbfrow_commands.specs.declared.status.Holdings.{Holdings}
-
-pub stays-from : {S T E : Type 0} (holds leaves : S → HeldMap → Type 0) (leaves_a_map is_honest is_open : S → Type 0) (old : S) (result : Result T E) (new : S)
-    → Rereads holds leaves leaves_a_map is_honest is_open old result new → Stays holds leaves leaves_a_map is_honest is_open old new
-stays-from holds leaves leaves_a_map is_honest is_open old (Ok x) new h = record {
-  honest = h.honest;
-  open_if = h.open_if;
-  kept = λ honest open_now held holds_old. h.ok honest held holds_old;
-  crash = h.crash;
-  whole = h.whole;
-}
-stays-from holds leaves leaves_a_map is_honest is_open old (Err e) new h = record {
-  honest = h.honest;
-  open_if = h.open_if;
-  kept = λ honest open_now held holds_old. h.err honest open_now held holds_old;
-  crash = h.crash;
-  whole = h.whole;
-}
 
 -- ---- the text, and the status by the sink
 

@@ -6,9 +6,9 @@ use Rattle.osm_store.specs.Held.{HeldMap}
 use Rattle.osm_import.specs.Deliveries.{DeliveryValue}
 use Rattle.osm_import.specs.Exports.{Known}
 use Rattle.osm_import.specs.Files.{IsFile, IsHeldOfFile}
-use Rattle.osm_import.specs.Gaps.{Tiles}
+use Rattle.osm_import.specs.Flows.{Input, Output}
 use Rattle.osm_import.specs.StopFaults.{stop_number_of, stop_name_of}
-use Rattle.osm_import.specs.Streams.{Streams}
+use Rattle.osm_import.specs.Streams.{Streams, TilesFile}
 use Rattle.osm_import.specs.declared.answer.Answer.{Answer}
 use Rattle.osm_import.specs.declared.stream.summary.Summary.{Summary}
 use Rattle.osm_import.specs.declared.stream.fault.Stop.{Stop}
@@ -33,10 +33,10 @@ IsShort count old new source_failed = (source_failed ≡ true)
 
 -- Before the last line: the bytes before the offset were dropped and the stream from there on was imported; or they
 -- couldn't be read, which is told at the offset, and nothing else was done.
-abbrev pub Imports : ℕ → Known → Known → Known → Known → Bool → Bool → Type 0 → (List DeliveryValue → List Answer → Type 0) → Result Summary StreamFault → Type 0
-Imports from left_old left_new written_old written_new source_failed sink_failed Same Took outcome =
-    ((skipped : Known) × Skips from left_old skipped × Streams from 4294967295 skipped left_new written_old written_new source_failed sink_failed Took outcome)
-    ⊎ (IsShort from left_old left_new source_failed × (outcome ≡ Err (record { fault = ReadFailed; at = from })) × (written_new ≡ written_old) × Same)
+abbrev pub Imports : ℕ → Input → Output → Type 0 → (List DeliveryValue → List Answer → Type 0) → Result Summary StreamFault → Type 0
+Imports from input output Same Took outcome =
+    ((skipped : Known) × Skips from input.before skipped × Streams from 4294967295 (record input { before = skipped }) output Took outcome)
+    ⊎ (IsShort from input.before input.after input.has_failed × (outcome ≡ Err (record { fault = ReadFailed; at = from })) × (output.after ≡ output.before) × Same)
 
 -- the line of the fault at which an import stopped; none where the output has failed
 abbrev pub EndsStop : Known → Known → Bool → ℕ → Stop → Type 0
@@ -59,5 +59,4 @@ import_status (Err stop) sink_failed = 1
 
 -- the bytes are a file; and where nothing but entries of it was held, what is held now tiles it
 abbrev pub HoldsFile : (HeldMap → Type 0) → List ℕ → HeldMap → Type 0
-HoldsFile holds file start = (frames : List (List ℕ)) × IsFile file frames
-    × (IsHeldOfFile frames start → (held : HeldMap) × holds held × Tiles held (length file) × IsHeldOfFile frames held)
+HoldsFile holds file start = (frames : List (List ℕ)) × IsFile file frames × (IsHeldOfFile frames start → TilesFile holds file frames)

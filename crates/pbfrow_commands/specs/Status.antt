@@ -37,11 +37,3 @@ abbrev pub TellsStatus : HeldMap → Option ℕ → ℕ → ℕ → Known → Kn
 TellsStatus held size failures_old failures_new old new failed status =
     ((gaps : List (ℕ × ℕ)) × AreGaps held (size_of size (extents_of held)) gaps × Tells (status_text held gaps) old new failed status)
     ⊎ TellsFault failures_old failures_new old new failed status
-
--- Whatever a command answered, the store keeps what it holds, if it can go on, and what a crash may leave.
-pub record Stays {S : Type 0} (holds leaves : S → HeldMap → Type 0) (leaves_a_map is_honest is_open : S → Type 0) (old new : S) : Type 0 where
-  pub honest : is_honest new → is_honest old
-  pub open_if : is_open new → is_open old
-  pub kept : is_honest new → is_open new → (held : HeldMap) → holds old held → holds new held
-  pub crash : is_honest new → (held : HeldMap) → leaves new held → leaves old held
-  pub whole : is_honest new → leaves_a_map old → leaves_a_map new

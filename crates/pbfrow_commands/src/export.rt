@@ -7,8 +7,8 @@ ghost use Rattle.osm_import.specs.ExportCauses.{ExportHasCause, ExportIsOwn};
 ghost use Rattle.osm_import.specs.Exports.{IsExport, Known, size_of};
 ghost use Rattle.osm_import.specs.Pbf.{IsPbfExport};
 ghost use Rattle.osm_import.specs.declared.export.fault.ExportFault.{ExportFault as ExportFaultValue};
+ghost use Rattle.osm_import.specs.Stores.{Stays};
 ghost use Rattle.pbfrow_commands.specs.Exporting.{EndsExport};
-ghost use Rattle.pbfrow_commands.specs.Status.{Stays};
 
 use crate::report::put_plain_fault;
 use osm_import::{ExportFault, export_lines, export_pbf};
@@ -60,7 +60,7 @@ pub fn export<K: Reader, S: Sink>(
         → (answer : Result (Unit {0}) ExportFaultValue) × (text : Known) × IsPbfExport held (size_of size (extents_of held)) partial (S.written out.old) text answer
         × ExportHasCause (K.failures store.old) (K.failures store.new) (S.has_failed out.new) answer × ExportIsOwn answer
         × EndsExport text (S.written out.new) (S.has_failed out.new) result answer }
-    ensures stays { Stays K.holds K.leaves K.leaves_a_map K.is_honest K.is_open store.old store.new }
+    ensures stays { Stays K.Reader store.old store.new }
 {
     match form {
         Form::Lines => {

@@ -5,9 +5,9 @@ ghost use Rattle.osm_value.specs.Sink.{Writes};
 ghost use Rattle.osm_store.specs.Load.Finding.{AreMatches};
 ghost use Rattle.osm_store.specs.Held.{HeldMap};
 ghost use Rattle.osm_store.specs.Rows.{Placed, is_of, placed_in};
+ghost use Rattle.osm_import.specs.Stores.{Stays};
 ghost use Rattle.pbfrow_commands.specs.CommandLines.{match_line, match_lines};
 ghost use Rattle.pbfrow_commands.specs.Finding.{TellsMatches};
-ghost use Rattle.pbfrow_commands.specs.Status.{Stays};
 
 use crate::report::put_store_fault;
 use osm_store::{Found, Reader, StoreFault};
@@ -60,7 +60,7 @@ pub fn find<K: Reader, S: Sink>(
 ) -> u8
     ensures told { (held : HeldMap) → K.holds store.old held → K.is_honest store.new
         → TellsMatches (filter (is_of kind id) (placed_in held)) (K.failures store.old) (K.failures store.new) (S.written out.old) (S.written out.new) (S.has_failed out.new) result }
-    ensures stays { Stays K.holds K.leaves K.leaves_a_map K.is_honest K.is_open store.old store.new }
+    ensures stays { Stays K.Reader store.old store.new }
 {
     let found = match store.find(alloc, kind, id) {
         Ok(found) => found,

@@ -3,7 +3,9 @@
 ghost use Rattle.std.specs.Prelude.{◌≡◌, ◌≤◌, List, ℕ, Some, Ok, Result, OnOk, OnErr, IfOk};
 ghost use Rattle.osm_store.specs.Held.{HeldMap};
 ghost use Rattle.osm_import.specs.Exports.{Known};
-ghost use Rattle.osm_import.specs.Streams.{Takes, ImportsFile};
+ghost use Rattle.osm_import.specs.Flows.{input, output};
+ghost use Rattle.osm_import.specs.Stores.{Takes};
+ghost use Rattle.osm_import.specs.Streams.{ImportsFile};
 ghost use Rattle.osm_import.specs.declared.stream.summary.Summary.{Summary as SummaryValue};
 ghost use Rattle.osm_import.specs.declared.stream.fault.StreamFault.{StreamFault as StreamFaultValue};
 ghost use Rattle.pbfrow_commands.specs.Importing.{Skips, IsShort, Imports, EndsLine, EndsStop, import_status, HoldsFile};
@@ -54,8 +56,7 @@ fn import_from<R: Source, K: Keeper, S: Sink>(
     out: &mut S,
 ) -> Result<Summary, StreamFault>
     requires { from ≤ 4611686018427387904 }
-    ensures imports { Imports from (R.bytes_left reader.old) (R.bytes_left reader.new) (S.written out.old) (S.written out.new) (R.has_failed reader.new) (S.has_failed out.new) (store.new ≡ store.old)
-        (λ deliveries answers. Takes K.holds K.leaves K.leaves_a_map K.is_honest K.is_open K.failures store.old store.new deliveries answers) result }
+    ensures imports { Imports from (input R.Source reader.old reader.new) (output S.Sink out.old out.new) (store.new ≡ store.old) (Takes K.Reader store.old store.new) result }
     ensures one_file { (file : List ℕ) (held : HeldMap) → R.bytes_left reader.old ≡ Some file → from ≡ 0 → K.holds store.old held → K.is_honest store.new
         → IfOk result (λ summary. ImportsFile (K.holds store.new) file held summary) }
 {
@@ -107,8 +108,8 @@ pub fn import<R: Source, K: Keeper, S: Sink>(
     out: &mut S,
 ) -> u8
     requires { from ≤ 4611686018427387904 }
-    ensures imports { (outcome : Result SummaryValue StreamFaultValue) × (listed : Known) × Imports from (R.bytes_left reader.old) (R.bytes_left reader.new) (S.written out.old) listed (R.has_failed reader.new) (S.has_failed out.new) (store.new ≡ store.old)
-        (λ deliveries answers. Takes K.holds K.leaves K.leaves_a_map K.is_honest K.is_open K.failures store.old store.new deliveries answers) outcome
+    ensures imports { (outcome : Result SummaryValue StreamFaultValue) × (listed : Known) × Imports from (input R.Source reader.old reader.new) (record (output S.Sink out.old out.new) { after = listed })
+        (store.new ≡ store.old) (Takes K.Reader store.old store.new) outcome
         × EndsLine listed (S.written out.new) (S.has_failed out.new) outcome × (result ≡ import_status outcome (S.has_failed out.new)) }
     ensures one_file { (file : List ℕ) (held : HeldMap) → R.bytes_left reader.old ≡ Some file → from ≡ 0 → K.holds store.old held → K.is_honest store.new
         → result ≡ 0 → HoldsFile (K.holds store.new) file held }

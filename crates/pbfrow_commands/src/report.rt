@@ -3,24 +3,11 @@
 ghost use Rattle.std.specs.Prelude.{◌≡◌};
 ghost use Rattle.osm_value.specs.Sink.{Writes};
 ghost use Rattle.pbfrow_commands.specs.CommandLines.{kept_text, plain_fault_line, store_fault_line, summary_line};
-ghost use Rattle.pbfrow_commands.specs.FaultLine.{fault_line};
 
 use osm_import::Summary;
+pub use osm_import::put_fault_at;
 use osm_store::StoreFault;
 use osm_value::{Sink, put, put_digits};
-
-/// Writes `fault NUMBER NAME at OFFSET`: a fault at this offset of the file.
-pub fn put_fault_at<S: Sink>(out: &mut S, number: u8, name: &str, at: u64)
-    ensures { Writes (S.written out.old) (S.has_failed out.old) (S.written out.new) (S.has_failed out.new) (fault_line number name.now at) }
-{
-    put(out, b"fault ");
-    put_digits(out, u64::from(number));
-    put(out, b" ");
-    put(out, name.as_bytes());
-    put(out, b" at ");
-    put_digits(out, at);
-    put(out, b"\n");
-}
 
 /// Writes `fault NUMBER NAME`: a fault of the whole database.
 pub(crate) fn put_plain_fault<S: Sink>(out: &mut S, number: u8, name: &str)

@@ -3,15 +3,14 @@
 ghost use Rattle.std.specs.Prelude.{◌≡◌, IfOk, IfErr};
 ghost use Rattle.osm_value.specs.Sink.{Writes};
 ghost use Rattle.osm_store.specs.Held.{HeldMap};
-ghost use Rattle.osm_store.specs.Keeping.{Rereads};
-ghost use Rattle.osm_import.specs.Exports.{greatest_end};
 ghost use Rattle.osm_import.specs.Step.{HasCause};
+ghost use Rattle.osm_import.specs.Stores.{Rereads, Stays};
 ghost use Rattle.pbfrow_commands.specs.CommandLines.{counts_line, gap_line, gap_lines};
-ghost use Rattle.pbfrow_commands.specs.Status.{IsSurvey, TellsStatus, Stays};
+ghost use Rattle.pbfrow_commands.specs.Status.{IsSurvey, TellsStatus};
 
 use crate::report::put_store_fault;
-use osm_import::gaps;
-use osm_store::{Extent, Reader, StoreFault};
+use osm_import::{gaps, greatest_end};
+use osm_store::{Reader, StoreFault};
 use osm_value::{Sink, put, put_digits};
 use std::alloc::Global;
 
@@ -23,17 +22,6 @@ struct Holdings {
     gaps: Vec<(u64, u64)>,
 }
 
-/// The greatest end of extents, 0 where there is none.
-fn greatest_end(extents: &[Extent]) -> u64
-    ensures { result ≡ greatest_end extents.now }
-{
-    let mut end = 0;
-    for extent in extents {
-        end = end.max(extent.fin);
-    }
-    end
-}
-
 /// What a store holds, and the gaps up to the size, or up to the greatest end where no size is given.
 fn survey<K: Reader>(
     alloc: Global,
@@ -41,7 +29,7 @@ fn survey<K: Reader>(
     size: Option<u64>,
 ) -> Result<Holdings, StoreFault>
     ensures told { (held : HeldMap) → K.holds store.old held → K.is_honest store.new → IfOk result (IsSurvey held size) }
-    ensures rereads { Rereads K.holds K.leaves K.leaves_a_map K.is_honest K.is_open store.old result store.new }
+    ensures rereads { Rereads K.Reader store.old result store.new }
     ensures cause { IfErr result (HasCause (K.failures store.old) (K.failures store.new)) }
 {
     let extents = match store.extents(alloc) {
@@ -103,7 +91,7 @@ pub fn status<K: Reader, S: Sink>(
 ) -> u8
     ensures told { (held : HeldMap) → K.holds store.old held → K.is_honest store.new
         → TellsStatus held size (K.failures store.old) (K.failures store.new) (S.written out.old) (S.written out.new) (S.has_failed out.new) result }
-    ensures stays { Stays K.holds K.leaves K.leaves_a_map K.is_honest K.is_open store.old store.new }
+    ensures stays { Stays K.Reader store.old store.new }
 {
     let holdings = match survey(alloc, store, size) {
         Ok(holdings) => holdings,

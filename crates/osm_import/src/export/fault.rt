@@ -1,10 +1,12 @@
 //! Why an export ends early.
 
 ghost use Rattle.std.specs.Prelude.{◌≡◌};
+ghost use Rattle.osm_store.specs.declared.fault.StoreFault.TheVariants.{Memory};
 ghost use Rattle.osm_import.specs.declared.export.fault.ExportFault.TheVariants.{Store};
 ghost use Rattle.osm_import.specs.ExportFaults.{export_number_of, export_name_of};
 
 use osm_store::StoreFault;
+use std::alloc::AllocError;
 use thiserror::Error;
 
 /// Why an export ends early. The first two come before any byte.
@@ -58,5 +60,13 @@ impl From<StoreFault> for ExportFault {
 
     fn from(fault: StoreFault) -> ExportFault {
         ExportFault::Store(fault)
+    }
+}
+
+impl From<AllocError> for ExportFault {
+    ghost from_gives = { λ _ e. e ≡ Store Memory };
+
+    fn from(_: AllocError) -> ExportFault {
+        ExportFault::Store(StoreFault::Memory)
     }
 }

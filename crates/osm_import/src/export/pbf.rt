@@ -1,20 +1,20 @@
 //! The export as a PBF file.
 
-ghost use Rattle.std.specs.Prelude.{◌≡◌, ◌≢◌, ◌≤◌, ℕ, List, Some, length};
-ghost use Rattle.std.specs.FinMap.{get, entries};
+ghost use Rattle.std.specs.Prelude.{◌≢◌, ◌≤◌, ℕ, List, length};
 ghost use Rattle.pbf_frame.specs.declared.kind.Kind.TheVariants.{Other};
 ghost use Rattle.pbf_frame.specs.Write.{frame_bytes, type_name_of};
-ghost use Rattle.osm_store.specs.Held.{Blob, HeldMap};
-ghost use Rattle.osm_store.specs.Keeping.{Rereads, extents_of};
+ghost use Rattle.osm_store.specs.Held.{HeldMap};
+ghost use Rattle.osm_store.specs.Keeping.{extents_of};
 ghost use Rattle.osm_import.specs.Gaps.{Tiles};
 ghost use Rattle.osm_import.specs.Files.{IsFile, IsHeldOfFile};
 ghost use Rattle.osm_import.specs.Exports.{WritesBlob, IsAskedFor, size_of};
 ghost use Rattle.osm_import.specs.ExportCauses.{ExportHasCause, ExportIsOwn, WriteHasCause};
-ghost use Rattle.osm_import.specs.Pbf.{header_frame, WritesBlocks, WritesFrames, WritesPbfFile, IsPbfExport};
+ghost use Rattle.osm_import.specs.Pbf.{header_frame, WritesBlocks, WritesPbfFile, IsPbfExport};
+ghost use Rattle.osm_import.specs.Stores.{Rereads};
 
 use super::ExportFault;
-use super::refusal::refused;
-use osm_store::{Extent, Reader, StoreFault};
+use super::blobs::{BlobStep, extents_to_export, write_blobs};
+use osm_store::{Reader, StoreFault};
 use osm_value::{Element, Sink, put};
 use osm_write::{BlobCutter, WriteFault, encode_header};
 use pbf_frame::{Kind, write_frame};
@@ -72,58 +72,20 @@ fn write_blocks<S: Sink>(
             Err(WriteFault::BlockTooLarge) => return Err(ExportFault::BlockTooLarge),
             Err(WriteFault::Memory) => return Err(ExportFault::Store(StoreFault::Memory)),
         };
-        match write_payload(alloc, Kind::OsmData, &block, out) {
-            Ok(()) => {}
-            Err(fault) => return Err(fault),
-        }
+        write_payload(alloc, Kind::OsmData, &block, out)?;
     }
 }
 
-/// Writes the frames of the blob at an offset.
-fn write_blob<K: Reader, S: Sink>(
-    alloc: Global,
-    keeper: &mut K,
-    off: u64,
-    out: &mut S,
-) -> Result<(), ExportFault>
-    ensures wrote { (held : HeldMap) (blob : Blob) → K.holds keeper.old held → K.is_honest keeper.new → get held off ≡ Some blob
-        → WritesBlocks (S.written out.old) blob.elements (S.written out.new) result }
-    ensures rereads { Rereads K.holds K.leaves K.leaves_a_map K.is_honest K.is_open keeper.old result keeper.new }
-    ensures own { (held : HeldMap) → K.holds keeper.old held → K.is_honest keeper.new → ExportIsOwn result }
-    ensures cause { ExportHasCause (K.failures keeper.old) (K.failures keeper.new) (S.has_failed out.new) result }
-    ensures counted { K.failures keeper.old ≤ K.failures keeper.new }
-{
-    let loaded = match keeper.load(alloc, off) {
-        Ok(loaded) => loaded,
-        Err(fault) => return Err(ExportFault::Store(fault)),
-    };
-    match loaded.elements(alloc) {
-        Ok(elements) => write_blocks(alloc, &elements, out),
-        Err(_) => Err(ExportFault::Store(StoreFault::Memory)),
-    }
-}
+/// Writes each blob as the frames of its elements' blocks.
+#[derive(Clone, Copy)]
+struct Blocks;
 
-/// Writes the frames of the blobs at these extents.
-fn write_blobs<K: Reader, S: Sink>(
-    alloc: Global,
-    keeper: &mut K,
-    extents: &[Extent],
-    out: &mut S,
-) -> Result<(), ExportFault>
-    ensures wrote { (held : HeldMap) → K.holds keeper.old held → K.is_honest keeper.new → extents.now ≡ extents_of held
-        → WritesFrames (S.written out.old) (entries held) (S.written out.new) result }
-    ensures rereads { Rereads K.holds K.leaves K.leaves_a_map K.is_honest K.is_open keeper.old result keeper.new }
-    ensures own { (held : HeldMap) → K.holds keeper.old held → K.is_honest keeper.new → ExportIsOwn result }
-    ensures cause { ExportHasCause (K.failures keeper.old) (K.failures keeper.new) (S.has_failed out.new) result }
-    ensures counted { K.failures keeper.old ≤ K.failures keeper.new }
-{
-    for extent in extents {
-        match write_blob(alloc, keeper, extent.off, out) {
-            Ok(()) => {}
-            Err(fault) => return Err(fault),
-        }
+impl<S: Sink> BlobStep<S> for Blocks {
+    ghost writes = { WritesBlocks };
+
+    fn write(&self, alloc: Global, elements: &[Element], out: &mut S) -> Result<(), ExportFault> {
+        write_blocks(alloc, elements, out)
     }
-    Ok(())
 }
 
 /// Writes all held elements as a PBF file: a header frame, and then, for each held blob by offset, the frames of the
@@ -149,21 +111,11 @@ pub fn export_pbf<K: Reader, S: Sink>(
     ensures one_file { (held : HeldMap) (file : List ℕ) (frames : List (List ℕ)) → K.holds keeper.old held → K.is_honest keeper.new
         → IsFile file frames → IsHeldOfFile frames held → Tiles held (length file) → IsAskedFor size (length file) → WritesPbfFile frames (S.written out.old) (S.written out.new) result }
 
-    ensures rereads { Rereads K.holds K.leaves K.leaves_a_map K.is_honest K.is_open keeper.old result keeper.new }
+    ensures rereads { Rereads K.Reader keeper.old result keeper.new }
     ensures own { (held : HeldMap) → K.holds keeper.old held → K.is_honest keeper.new → ExportIsOwn result }
     ensures cause { ExportHasCause (K.failures keeper.old) (K.failures keeper.new) (S.has_failed out.new) result }
 {
-    let extents = match keeper.extents(alloc) {
-        Ok(extents) => extents,
-        Err(fault) => return Err(ExportFault::Store(fault)),
-    };
-    if !partial {
-        if let Some(fault) = refused(&extents, size) {
-            return Err(fault);
-        }
-    }
-    match write_header(alloc, out) {
-        Ok(()) => write_blobs(alloc, keeper, &extents, out),
-        Err(fault) => Err(fault),
-    }
+    let extents = extents_to_export(alloc, keeper, size, partial)?;
+    write_header(alloc, out)?;
+    write_blobs(alloc, keeper, &extents, &Blocks, out)
 }

@@ -20,7 +20,8 @@ fn first_gap(extents: &[Extent], size: u64) -> Option<(u64, u64)>
     if end < size { Some((end, size)) } else { None }
 }
 
-pub(crate) fn greatest(extents: &[Extent]) -> u64
+/// The greatest end of extents, 0 where there is none.
+pub fn greatest_end(extents: &[Extent]) -> u64
     ensures { result ≡ greatest_end extents.now }
 {
     let mut end = 0;
@@ -34,7 +35,7 @@ pub(crate) fn greatest(extents: &[Extent]) -> u64
 pub(super) fn refused(extents: &[Extent], size: Option<u64>) -> Option<ExportFault>
     ensures { MatchOption result (AreTiling extents.now (size_of size extents.now)) (IsRefusalOf extents.now (size_of size extents.now)) }
 {
-    let greatest = greatest(extents);
+    let greatest = greatest_end(extents);
     let size = size.unwrap_or(greatest);
     if let Some((from, to)) = first_gap(extents, size) {
         return Some(ExportFault::Incomplete(from, to));

@@ -8,8 +8,8 @@ ghost use Rattle.osm_import.specs.Lines.{answer_line, stored_line, held_line, fa
 use crate::answer::Answer;
 use osm_value::{Sink, put, put_digits};
 
-/// Writes `fault NUMBER NAME at OFFSET`.
-fn put_fault<S: Sink>(out: &mut S, number: u8, name: &str, off: u64)
+/// Writes `fault NUMBER NAME at OFFSET`: a fault at this offset of a file.
+pub fn put_fault_at<S: Sink>(out: &mut S, number: u8, name: &str, off: u64)
     ensures { Writes (S.written out.old) (S.has_failed out.old) (S.written out.new) (S.has_failed out.new) (fault_line number name.now off) }
 {
     put(out, b"fault ");
@@ -46,8 +46,8 @@ fn put_answer<S: Sink>(out: &mut S, off: u64, answer: &Answer)
     match answer {
         Answer::Stored(count) => put_stored(out, off, *count),
         Answer::AlreadyHeld => put_held(out, off),
-        Answer::Bad(fault) => put_fault(out, fault.number(), fault.name(), off),
-        Answer::Refused(conflict) => put_fault(out, conflict.number(), conflict.name(), off),
+        Answer::Bad(fault) => put_fault_at(out, fault.number(), fault.name(), off),
+        Answer::Refused(conflict) => put_fault_at(out, conflict.number(), conflict.name(), off),
         Answer::Fault(_) => {}
     }
 }

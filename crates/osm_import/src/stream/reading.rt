@@ -70,11 +70,7 @@ pub(super) fn absorb(framer: &mut Framer, piece: &mut Piece) -> Result<bool, All
 
 /// Feeds the framer until it takes no more, which is true, or the input ends, which is false. The reader is asked for
 /// bytes only where the framer takes more.
-pub(super) fn fill<R: Source>(
-    framer: &mut Framer,
-    piece: &mut Piece,
-    reader: &mut R,
-) -> Result<bool, Stop>
+fn fill<R: Source>(framer: &mut Framer, piece: &mut Piece, reader: &mut R) -> Result<bool, Stop>
     ensures moved { Moved framer.old framer.new (prepend_known piece.old (R.bytes_left reader.old)) (prepend_known piece.new (R.bytes_left reader.new)) }
     ensures full { IfOk result (λ is_full. is_full ≡ true → IsFull framer.new) }
     ensures ended { IfOk result (λ is_full. is_full ≡ false → (piece.new ≡ []) × IsAtEnd (R.bytes_left reader.new)) }

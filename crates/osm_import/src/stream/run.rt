@@ -1,17 +1,18 @@
 //! The run over a stream.
 
 ghost use Rattle.std.specs.Prelude.{◌≡◌, ◌≤◌, ◌<◌, ◌+◌, [], ℕ, List, Some, IfOk, IfErr};
-ghost use Rattle.std.specs.Io.KnownBytes.{prepend_known};
 ghost use Rattle.std.specs.FinMap.{empty};
 ghost use Rattle.osm_store.specs.Held.{HeldMap};
 ghost use Rattle.osm_import.specs.Merges.{ImportsPart};
-ghost use Rattle.osm_import.specs.Streams.{Streams, Takes, TakesOne, ended_at, ImportsFile};
+ghost use Rattle.osm_import.specs.Flows.{input, input_behind, output};
+ghost use Rattle.osm_import.specs.Stores.{Takes, TakesOne};
+ghost use Rattle.osm_import.specs.Streams.{Streams, ended_at, ImportsFile};
 ghost use Rattle.osm_import.specs.StreamSteps.{FrameStep, Gave};
 
 use super::fault::{Stop, StreamFault};
 use super::line::write_answer;
 use super::piece::Piece;
-use super::reading::{fill, has_more};
+use super::reading::{has_more, read_frame};
 use super::source::Source;
 use super::summary::Summary;
 use crate::answer::Answer;
@@ -35,8 +36,7 @@ fn deliver_waiting<K: Keeper>(
     keeper: &mut K,
     framer: &mut Framer,
 ) -> Result<Option<Delivered>, FrameFault>
-    ensures { Gave framer.old framer.new (keeper.new ≡ keeper.old)
-        (λ off bytes answer. TakesOne K.holds K.leaves K.leaves_a_map K.is_honest K.is_open K.failures keeper.old keeper.new off bytes answer) result }
+    ensures { Gave framer.old framer.new (keeper.new ≡ keeper.old) (TakesOne K.Reader keeper.old keeper.new) result }
 {
     let lent = match framer.next_frame() {
         Err(fault) => return Err(fault),
@@ -59,24 +59,15 @@ fn import_frame<K: Keeper, R: Source, S: Sink>(
     out: &mut S,
 ) -> Result<Option<Delivered>, Stop>
     requires { framer.old.rest ≡ [] }
-    ensures step { FrameStep framer.old framer.new (prepend_known piece.old (R.bytes_left reader.old)) (prepend_known piece.new (R.bytes_left reader.new))
-        (S.written out.old) (S.written out.new) (R.has_failed reader.new) (S.has_failed out.new) (keeper.new ≡ keeper.old)
-        (λ off bytes answer. TakesOne K.holds K.leaves K.leaves_a_map K.is_honest K.is_open K.failures keeper.old keeper.new off bytes answer) result }
+    ensures step { FrameStep framer.old framer.new (input_behind R.Source piece.old piece.new reader.old reader.new) (output S.Sink out.old out.new)
+        (keeper.new ≡ keeper.old) (TakesOne K.Reader keeper.old keeper.new) result }
     ensures spent { IfErr result (λ stop. stop ≡ Stop.ReadFailed → piece.new ≡ []) }
 {
-    match fill(framer, piece, reader) {
-        Ok(_) => {}
-        Err(stop) => return Err(stop),
-    }
+    read_frame(framer, piece, reader)?;
     let blob = match deliver_waiting(alloc, keeper, framer) {
-        Err(fault) => return Err(Stop::Frame(fault)),
         Ok(Some(blob)) => blob,
-        Ok(None) => {
-            return match framer.end() {
-                Ok(()) => Ok(None),
-                Err(fault) => Err(Stop::Frame(fault)),
-            };
-        }
+        Ok(None) => return Ok(None),
+        Err(fault) => return Err(Stop::Frame(fault)),
     };
     if let Answer::Fault(fault) = blob.answer {
         return Err(Stop::Store(fault));
@@ -100,8 +91,20 @@ fn ended(from: u64, summary: Summary) -> Result<Summary, StreamFault>
     Ok(summary)
 }
 
-/// The same as `import_stream`.
-fn import_all<K: Keeper, R: Source, S: Sink>(
+/// Imports the frames of a reader that stands at the offset `from`, each with one line: `OFFSET stored COUNT`,
+/// `OFFSET held`, or `fault NUMBER NAME at OFFSET` for a blob that is bad or refused, and goes on. At `Ok` nothing is
+/// left in the reader. It stops, with the offset of the frame that was being read or delivered:
+///
+/// - at a fault of a frame, and with `NoHeaderFirst` where the input is empty and `from` is 0;
+/// - with `Store` where a call of the store has failed or memory was refused, and with no line for that frame;
+/// - with `WriteFailed` where the output has failed, and with `ReadFailed` where the reader has;
+/// - with `BlobLimit` where `max_blobs` frames were delivered and a further byte came.
+///
+/// The blobs that were answered before a stop stay.
+///
+/// Over the bytes of a whole reader, from 0, `Ok` says that they are a file; and where the store held nothing but entries
+/// of that file and no blob was bad, what it holds now tiles the file.
+pub fn import_stream<K: Keeper, R: Source, S: Sink>(
     alloc: Global,
     keeper: &mut K,
     reader: &mut R,
@@ -110,8 +113,13 @@ fn import_all<K: Keeper, R: Source, S: Sink>(
     out: &mut S,
 ) -> Result<Summary, StreamFault>
     requires { from ≤ 4611686018427387904 }
-    ensures { Streams from max_blobs (R.bytes_left reader.old) (R.bytes_left reader.new) (S.written out.old) (S.written out.new) (R.has_failed reader.new) (S.has_failed out.new)
-        (λ deliveries answers. Takes K.holds K.leaves K.leaves_a_map K.is_honest K.is_open K.failures keeper.old keeper.new deliveries answers) result }
+    ensures streams { Streams from max_blobs (input R.Source reader.old reader.new) (output S.Sink out.old out.new) (Takes K.Reader keeper.old keeper.new) result }
+    ensures one_file { (file : List ℕ) (held : HeldMap) → R.bytes_left reader.old ≡ Some file → from ≡ 0 → K.holds keeper.old held → K.is_honest keeper.new
+        → IfOk result (λ summary. ImportsFile (K.holds keeper.new) file held summary) }
+
+    // Into a store that holds nothing, from any offset: the bytes are a row of frames, and what is held is a run of them.
+    ensures part { (piece : List ℕ) → R.bytes_left reader.old ≡ Some piece → K.holds keeper.old empty → K.is_honest keeper.new
+        → IfOk result (λ _. ImportsPart (K.holds keeper.new) from piece) }
 {
     let mut summary = Summary {
         stored: 0,
@@ -150,38 +158,4 @@ fn import_all<K: Keeper, R: Source, S: Sink>(
             at: summary.next,
         }),
     }
-}
-
-/// Imports the frames of a reader that stands at the offset `from`, each with one line: `OFFSET stored COUNT`,
-/// `OFFSET held`, or `fault NUMBER NAME at OFFSET` for a blob that is bad or refused, and goes on. At `Ok` nothing is
-/// left in the reader. It stops, with the offset of the frame that was being read or delivered:
-///
-/// - at a fault of a frame, and with `NoHeaderFirst` where the input is empty and `from` is 0;
-/// - with `Store` where a call of the store has failed or memory was refused, and with no line for that frame;
-/// - with `WriteFailed` where the output has failed, and with `ReadFailed` where the reader has;
-/// - with `BlobLimit` where `max_blobs` frames were delivered and a further byte came.
-///
-/// The blobs that were answered before a stop stay.
-///
-/// Over the bytes of a whole reader, from 0, `Ok` says that they are a file; and where the store held nothing but entries
-/// of that file and no blob was bad, what it holds now tiles the file.
-pub fn import_stream<K: Keeper, R: Source, S: Sink>(
-    alloc: Global,
-    keeper: &mut K,
-    reader: &mut R,
-    from: u64,
-    max_blobs: u32,
-    out: &mut S,
-) -> Result<Summary, StreamFault>
-    requires { from ≤ 4611686018427387904 }
-    ensures streams { Streams from max_blobs (R.bytes_left reader.old) (R.bytes_left reader.new) (S.written out.old) (S.written out.new) (R.has_failed reader.new) (S.has_failed out.new)
-        (λ deliveries answers. Takes K.holds K.leaves K.leaves_a_map K.is_honest K.is_open K.failures keeper.old keeper.new deliveries answers) result }
-    ensures one_file { (file : List ℕ) (held : HeldMap) → R.bytes_left reader.old ≡ Some file → from ≡ 0 → K.holds keeper.old held → K.is_honest keeper.new
-        → IfOk result (λ summary. ImportsFile (K.holds keeper.new) file held summary) }
-
-    // Into a store that holds nothing, from any offset: the bytes are a row of frames, and what is held is a run of them.
-    ensures part { (piece : List ℕ) → R.bytes_left reader.old ≡ Some piece → K.holds keeper.old empty → K.is_honest keeper.new
-        → IfOk result (λ _. ImportsPart (K.holds keeper.new) from piece) }
-{
-    import_all(alloc, keeper, reader, from, max_blobs, out)
 }

@@ -1,11 +1,10 @@
-use Rattle.std.proofs.Common.{◌≡◌, ◌≢◌, ◌==◌, ◌∙◌, ◌<◌, ℕ, List, length, Some, refl, sym, subst, ap, inl, inr, arith, rules}
+use Rattle.std.proofs.Common.{◌≡◌, ◌==◌, ◌∙◌, ◌<◌, ℕ, List, length, Some, refl, sym, subst, ap, inl, inr, rules}
 use Rattle.std.specs.Prelude.{find}
-use Rattle.std.specs.FinMap.{get, insert}
+use Rattle.std.specs.FinMap.{insert}
 use Rattle.std.proofs.lemmas.Slice.Eq.{bytes_eq-Decides}
 use Rattle.std.proofs.lemmas.Bool.Decides.{not_from_Decides}
 use Rattle.osm_value.specs.declared.element.Element.{Element}
-use Rattle.osm_store.specs.Held.{Blob, HeldMap, IsFree, HaveFewTexts}
-use Rattle.osm_store.specs.Keeping.{extent_of}
+use Rattle.osm_store.specs.Held.{Blob, IsFree, HaveFewTexts}
 use Rattle.osm_store.specs.declared.keeper.Extent.{Extent}
 use Rattle.osm_import.proofs.Delivering.{found-at, unheld-at, free-of}
 use Rattle.osm_import.proofs.CopyLemmas.{blob_put, met_of}

@@ -1,9 +1,8 @@
-use Rattle.std.proofs.Common.{◌≡◌, ◌≤◌, ◌<◌, ◌+◌, ◌∙◌, [], take, length, Ok, refl, sym, subst, ap, arith, rules}
+use Rattle.std.proofs.Common.{◌≡◌, ◌+◌, ◌∙◌, [], take, refl, sym, subst, ap, arith, rules}
 use Rattle.osm_store.specs.Held.{HeldMap}
-use Rattle.osm_store.specs.Keeping.{extents_of}
 use Rattle.osm_import.specs.Copies.{IsMerged}
 use Rattle.osm_import.proofs.CopyLemmas.{IsAt, at_blob, taken_more, taken_below, taken_all, counted_all, merged_none, merged_step, crash_below, stops_at, cause_wider, held_more, held_by, held_all, already}
-use Rattle.osm_import.proofs.ExportLemmas.{read-is}
+use Rattle.osm_import.proofs.WalkLemmas.{read-is}
 use Rattle.osm_import.proofs.copy.copy_blobs.Goals as goal
 use Rattle.osm_import.proofs.copy.copy_blobs.Goals.{in-Added, in-AlreadyHeld}
 
@@ -33,20 +32,20 @@ loop-extent-preserved g c =
     let made = c.in-Ok.ensures in
     record {
       counts = search rules;
-      from_honest = λ h. inv.from_honest (made.source.honest h);
-      from_open_if = λ h. inv.from_open_if (made.source.open_if h);
-      from_kept = λ h source holds. made.source.ok h source (inv.from_kept (made.source.honest h) source holds);
-      from_crash = λ h source left. inv.from_crash (made.source.honest h) source (made.source.crash h source left);
-      from_whole = λ h maps. made.source.whole h (inv.from_whole (made.source.honest h) maps);
+      from_honest = λ h. inv.from_honest (made.source.stays.honest h);
+      from_open_if = λ h. inv.from_open_if (made.source.stays.open_if h);
+      from_kept = λ h source holds. made.source.ok h source (inv.from_kept (made.source.stays.honest h) source holds);
+      from_crash = λ h source left. inv.from_crash (made.source.stays.honest h) source (made.source.stays.crash h source left);
+      from_whole = λ h maps. made.source.stays.whole h (inv.from_whole (made.source.stays.honest h) maps);
       from_counted = omega (arith, inv.from_counted, made.counted.0);
       honest = λ h. inv.honest (made.honest h);
       open_if = λ h. inv.open_if (made.open_if h);
       counted = omega (arith, inv.counted, made.counted.1);
       merged = λ source held from_holds from_honest holds honest are.
-          let before = inv.merged source held from_holds (made.source.honest from_honest) holds (made.honest honest) are in
+          let before = inv.merged source held from_holds (made.source.stays.honest from_honest) holds (made.honest honest) are in
           let is = read-is c.args.extents.now c.loop-extent.extent-index _ _ (omega arith) in
           let at = at_blob source c.args.extents.now c.loop-extent.extent-index _ are (omega arith) is in
-          let from_now = inv.from_kept (made.source.honest from_honest) source from_holds in
+          let from_now = inv.from_kept (made.source.stays.honest from_honest) source from_holds in
           let step = made.step source before.0 at.blob from_now from_honest before.2 honest at.found at.same in (
             step.0,
             taken_more c.args.extents.now c.loop-extent.extent-index _ source held step.0 (omega arith) is
@@ -63,10 +62,10 @@ pub returns-in-Err-clause-copies : goal.returns-in-Err-clause-copies
 returns-in-Err-clause-copies g c = λ source held from_holds from_honest holds honest are.
     let inv = c.loop-extent.invariant in
     let made = c.in-Err.ensures in
-    let before = inv.merged source held from_holds (made.source.honest from_honest) holds (made.honest honest) are in
+    let before = inv.merged source held from_holds (made.source.stays.honest from_honest) holds (made.honest honest) are in
     let is = read-is c.args.extents.now c.loop-extent.extent-index _ _ (omega arith) in
     let at = at_blob source c.args.extents.now c.loop-extent.extent-index _ are (omega arith) is in
-    let from_now = inv.from_kept (made.source.honest from_honest) source from_holds in
+    let from_now = inv.from_kept (made.source.stays.honest from_honest) source from_holds in
     stops_at (g.T.Reader.is_open c.copy_blob.new.to) (g.T.Reader.holds c.copy_blob.new.to) source held before.0 _ at.blob c.in-Err.fault
     (taken_below c.args.extents.now c.loop-extent.extent-index _ source held before.0 are (omega arith) is before.1) at.found
     (made.step source before.0 at.blob from_now from_honest before.2 honest at.found at.same)
@@ -75,10 +74,10 @@ pub returns-in-Err-clause-crash : goal.returns-in-Err-clause-crash
 returns-in-Err-clause-crash g c = λ source held from_holds from_honest holds honest are left leaves.
     let inv = c.loop-extent.invariant in
     let made = c.in-Err.ensures in
-    let before = inv.merged source held from_holds (made.source.honest from_honest) holds (made.honest honest) are in
+    let before = inv.merged source held from_holds (made.source.stays.honest from_honest) holds (made.honest honest) are in
     let is = read-is c.args.extents.now c.loop-extent.extent-index _ _ (omega arith) in
     let at = at_blob source c.args.extents.now c.loop-extent.extent-index _ are (omega arith) is in
-    let from_now = inv.from_kept (made.source.honest from_honest) source from_holds in
+    let from_now = inv.from_kept (made.source.stays.honest from_honest) source from_holds in
     crash_below source held before.0 left _ at.blob (taken_below c.args.extents.now c.loop-extent.extent-index _ source held before.0 are (omega arith) is before.1) (g.met.T.Reader.is_apart _ before.0 before.2)
     ((g.met.F.Reader.is_apart _ source from_now).filled _ at.blob at.found) at.found
     (made.crash source before.0 at.blob from_now from_honest before.2 honest at.found at.same left leaves)
@@ -87,20 +86,20 @@ pub returns-in-Err-clause-whole : goal.returns-in-Err-clause-whole
 returns-in-Err-clause-whole g c = λ source held from_holds from_honest holds honest are.
     let inv = c.loop-extent.invariant in
     let made = c.in-Err.ensures in
-    let before = inv.merged source held from_holds (made.source.honest from_honest) holds (made.honest honest) are in
+    let before = inv.merged source held from_holds (made.source.stays.honest from_honest) holds (made.honest honest) are in
     let is = read-is c.args.extents.now c.loop-extent.extent-index _ _ (omega arith) in
     let at = at_blob source c.args.extents.now c.loop-extent.extent-index _ are (omega arith) is in
-    let from_now = inv.from_kept (made.source.honest from_honest) source from_holds in
+    let from_now = inv.from_kept (made.source.stays.honest from_honest) source from_holds in
     made.whole source before.0 at.blob from_now from_honest before.2 honest at.found at.same
 
 pub returns-in-Err-clause-own : goal.returns-in-Err-clause-own
 returns-in-Err-clause-own g c = λ source held from_holds from_honest holds honest are.
     let inv = c.loop-extent.invariant in
     let made = c.in-Err.ensures in
-    let before = inv.merged source held from_holds (made.source.honest from_honest) holds (made.honest honest) are in
+    let before = inv.merged source held from_holds (made.source.stays.honest from_honest) holds (made.honest honest) are in
     let is = read-is c.args.extents.now c.loop-extent.extent-index _ _ (omega arith) in
     let at = at_blob source c.args.extents.now c.loop-extent.extent-index _ are (omega arith) is in
-    let from_now = inv.from_kept (made.source.honest from_honest) source from_holds in
+    let from_now = inv.from_kept (made.source.stays.honest from_honest) source from_holds in
     made.own source before.0 at.blob from_now from_honest before.2 honest at.found at.same
 
 pub returns-in-Err-clause-cause : goal.returns-in-Err-clause-cause

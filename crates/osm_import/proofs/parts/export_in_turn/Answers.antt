@@ -1,8 +1,6 @@
-use Rattle.std.proofs.Common.{◌≡◌, ◌<◌, ℕ, List, length, refl, sym, subst, ap, ◌∙◌, arith, take}
+use Rattle.std.proofs.Common.{◌<◌, List, length, refl, subst, arith}
 use Rattle.std.proofs.lemmas.List.{take_all}
 use Rattle.osm_store.specs.Held.{HeldMap}
-use Rattle.osm_store.specs.Keeping.{extents_of}
-use Rattle.osm_import.specs.Exports.{size_of}
 use Rattle.osm_import.specs.Parts.{ExportsInTurn}
 use Rattle.osm_import.proofs.InTurn.{part-at, turned}
 use Rattle.osm_import.proofs.parts.export_in_turn.Goals as goal

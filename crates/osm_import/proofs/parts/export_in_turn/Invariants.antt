@@ -1,4 +1,4 @@
-use Rattle.std.proofs.Common.{◌≡◌, ◌≤◌, ℕ, List, length, take}
+use Rattle.std.proofs.Common.{◌≡◌, List, length, take}
 use Rattle.osm_store.specs.Held.{HeldMap}
 use Rattle.osm_import.specs.Parts.{ExportsInTurn}
 use Rattle.osm_import.proofs.parts.export_in_turn.Given as goal

@@ -1,9 +1,8 @@
-use Rattle.std.proofs.Common.{◌≡◌, ◌<◌, ◌++◌, ℕ, List, length, refl, sym, subst, ap, ◌∙◌, arith, take}
+use Rattle.std.proofs.Common.{◌<◌, ◌++◌, List, length, refl, sym, subst, ap, ◌∙◌, arith, take}
 use Rattle.std.proofs.lemmas.List.{take_all}
 use Rattle.osm_store.specs.Held.{HeldMap}
-use Rattle.osm_store.specs.Keeping.{extents_of}
 use Rattle.osm_store.specs.declared.keeper.Extent.{Extent}
-use Rattle.osm_import.specs.Parts.{extents_in, AreApart, FollowFrom, FollowTo, Reaches}
+use Rattle.osm_import.specs.Parts.{extents_in, AreApart, FollowFrom, Reaches}
 use Rattle.osm_import.proofs.InTurn.{part-at, gathered, follows, apart-more, follow-from}
 use Rattle.osm_import.proofs.parts.extents_in_turn.Goals as goal
 

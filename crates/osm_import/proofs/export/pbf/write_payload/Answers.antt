@@ -1,4 +1,4 @@
-use Rattle.std.proofs.Common.{◌≡◌, ◌∙◌, List, ℕ, [], sym, subst}
+use Rattle.std.proofs.Common.{◌∙◌, List, ℕ, [], sym, subst}
 use Rattle.std.specs.Io.KnownBytes.{Appends}
 use Rattle.osm_value.specs.Sink.{AppendsFront}
 use Rattle.osm_value.proofs.SinkLemmas.{started, whole_text, front_text}

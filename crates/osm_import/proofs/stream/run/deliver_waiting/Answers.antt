@@ -1,7 +1,7 @@
-use Rattle.std.proofs.Common.{◌≡◌, ◌∙◌, ℕ, ◌+◌, List, Some, Ok, refl, sym, ap, subst, length, rules}
+use Rattle.std.proofs.Common.{◌≡◌, ◌∙◌, ℕ, ◌+◌, List, Some, Ok, sym, ap, subst, length, rules}
 use Rattle.pbf_frame.specs.Framer.{Framing, given, waiting}
 use Rattle.pbf_frame.proofs.WaitingLaws.{waiting_read}
-use Rattle.osm_import.specs.Streams.{TakesOne}
+use Rattle.osm_import.specs.Stores.{TakesOne}
 use Rattle.osm_import.proofs.stream.run.deliver_waiting.Goals as goal
 
 pub returns : goal.returns
@@ -21,7 +21,7 @@ returns g c =
       ap (λ (x : ℕ × List ℕ). x.0 + length x.1) read.0,
       ap (λ (h : Framing). h.offset) is,
       ap (λ (h : Framing). h.rest) is,
-      subst (λ (x : ℕ × List ℕ). TakesOne K.holds K.leaves K.leaves_a_map K.is_honest K.is_open K.failures c.args.keeper.now c.deliver-answer.new.keeper x.0 x.1 c.deliver-answer.result) read.0 (record {
+      subst (λ (x : ℕ × List ℕ). TakesOne K c.args.keeper.now c.deliver-answer.new.keeper x.0 x.1 c.deliver-answer.result) read.0 (record {
         step = made.step;
         crash = made.crash;
         whole = made.whole;

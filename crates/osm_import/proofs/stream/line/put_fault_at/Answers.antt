@@ -1,7 +1,7 @@
 use Rattle.std.proofs.Common.{rules, ◌≡◌}
 use Rattle.osm_value.proofs.SinkLemmas.{Wrote-text}
 use Rattle.osm_import.proofs.AnswerLines.{fault_parts}
-use Rattle.osm_import.proofs.stream.line.put_fault.Goals as goal
+use Rattle.osm_import.proofs.stream.line.put_fault_at.Goals as goal
 
 pub returns : goal.returns
 returns g c = λ start before h.

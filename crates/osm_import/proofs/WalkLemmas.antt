@@ -1,0 +1,130 @@
+-- From the extents of a map to a walk over its blobs.
+use Rattle.std.proofs.Common.{◌≡◌, ℕ, suc, zero, ◌+◌, ◌<◌, ◌≤◌, Bool, true, false, List, [], ◌∷◌, ◌++◌, map, length, take, get_or, Some, Result, Ok, Err, refl, sym, ◌∙◌, ap, subst, inl, inr, arith, add-one}
+use Rattle.std.specs.FinMap as finite
+use Rattle.std.specs.FinMap.{get, entries, get-entries, entries_sorted, is_sorted}
+use Rattle.std.specs.Ordering.{nat_cmp}
+use Rattle.std.proofs.lemmas.List.{take_all, length-map}
+use Rattle.osm_value.specs.declared.element.Element.{Element}
+use Rattle.osm_store.specs.Held.{Blob, HeldMap}
+use Rattle.osm_store.specs.Keeping.{extents_of, extent_of, IsForeign}
+use Rattle.osm_store.specs.declared.keeper.Extent.{Extent}
+use Rattle.osm_store.specs.declared.fault.StoreFault.{StoreFault}
+use Rattle.osm_import.specs.Exports.{Known}
+use Rattle.osm_import.specs.ExportCauses.{ExportHasCause, ExportIsOwn, WriteHasCause}
+use Rattle.osm_import.specs.Walks.{Writing, elements_at, WritesOne, WritesInTurn, StopsAt}
+use Rattle.osm_import.specs.declared.export.fault.ExportFault.{ExportFault}
+use Rattle.osm_import.specs.declared.export.fault.ExportFault.TheVariants.{Incomplete, PastEnd, WriteFailed, BlockTooLarge, Store}
+use Rattle.osm_import.proofs.Touching.{find-tail, find-head, sorted-tail}
+use Rattle.osm_import.proofs.Delivering.{true-of}
+
+-- ---- one blob
+
+pub one-of : (Writes : Writing) (before : Known) (es : List Element) (after : Known) (result : Result (Unit {0}) ExportFault) → Writes before es after result → WritesOne Writes before es after result
+one-of Writes before es after (Ok done) h = h
+one-of Writes before es after (Err (Store fault)) h = inr h
+one-of Writes before es after (Err WriteFailed) h = h
+one-of Writes before es after (Err BlockTooLarge) h = h
+one-of Writes before es after (Err (Incomplete from to)) h = h
+one-of Writes before es after (Err (PastEnd fin)) h = h
+
+-- ---- the entry behind an extent
+
+record AtEntry (es : List (ℕ × Blob)) (i : ℕ) (x : Extent) : Type 0 where
+  pub entry : ℕ × Blob
+  pub taken : take (suc i) es ≡ take i es ++ entry ∷ []
+  pub same : x ≡ extent_of entry
+  pub found : finite.find nat_cmp entry.0 es ≡ Some entry.1
+  pub here : elements_at es i ≡ entry.1.elements
+
+at-entry : (es : List (ℕ × Blob)) → is_sorted nat_cmp es ≡ true → (i : ℕ) (x : Extent) → i < length (map extent_of es) → x ≡ get_or (map extent_of es) i x → AtEntry es i x
+at-entry [] sorted i x within is = absurd (omega arith)
+at-entry (e ∷ es) sorted zero x within is = record { entry = e; taken = refl; same = is; found = find-head e es; here = refl }
+at-entry (e ∷ es) sorted (suc i) x within is =
+    let it = at-entry es (sorted-tail e es sorted) i x (omega arith) is in
+    record { entry = it.entry; taken = ap (λ l. e ∷ l) it.taken; same = it.same; found = (find-tail e es sorted it.entry.0 it.entry.1 it.found).1; here = it.here }
+
+-- the blob of the extent at i
+record AtBlob (held : HeldMap) (i : ℕ) (x : Extent) : Type 0 where
+  pub entry : ℕ × Blob
+  pub found : get held x.off ≡ Some entry.1
+  pub taken : take (i + 1) (entries held) ≡ take i (entries held) ++ entry ∷ []
+  pub here : entry.1.elements ≡ elements_at (entries held) i
+
+at-blob : (held : HeldMap) (extents : List Extent) (i : ℕ) (x : Extent) → extents ≡ extents_of held → i < length extents → x ≡ get_or extents i x → AtBlob held i x
+at-blob held extents i x are within is =
+    let it = at-entry (entries held) (true-of _ (entries_sorted held)) i x (subst (λ (xs : List Extent). i < length xs) are within) (is ∙ ap (λ (xs : List Extent). get_or xs i x) are) in
+    record {
+      entry = it.entry;
+      found = ap (λ (y : Extent). get held y.off) it.same ∙ get-entries held it.entry.0 ∙ it.found;
+      taken = ap (λ n. take n (entries held)) (add-one i) ∙ it.taken;
+      here = sym it.here;
+    }
+
+length-extents : (held : HeldMap) (extents : List Extent) → extents ≡ extents_of held → length extents ≡ length (entries held)
+length-extents held extents are = ap length are ∙ length-map (entries held) extent_of
+
+-- an element that is there doesn't depend on the default
+pub read-is : {A : Type 0} (xs : List A) (i : ℕ) (d e : A) → i < length xs → get_or xs i d ≡ get_or xs i e
+read-is [] i d e within = absurd (omega arith)
+read-is (x ∷ xs) zero d e within = refl
+read-is (x ∷ xs) (suc i) d e within = read-is xs i d e (omega arith)
+
+-- ---- blob after blob
+
+turn-push : (Writes : Writing) (es : List (ℕ × Blob)) (entry : ℕ × Blob) (before middle after : Known) → WritesInTurn Writes before es middle → Writes middle entry.1.elements after (Ok tt) → WritesInTurn Writes before (es ++ entry ∷ []) after
+turn-push Writes [] entry before middle after turns one = (after, subst (λ (o : Known). Writes o entry.1.elements after (Ok tt)) turns one, refl)
+turn-push Writes (e ∷ es) entry before middle after turns one = (turns.0, turns.1, turn-push Writes es entry turns.0 middle after turns.2 one)
+
+pub walk-more : (Writes : Writing) (held : HeldMap) (extents : List Extent) (i : ℕ) (x : Extent) (before middle after : Known) → extents ≡ extents_of held → i < length extents → x ≡ get_or extents i x
+    → WritesInTurn Writes before (take i (entries held)) middle → ((blob : Blob) → get held x.off ≡ Some blob → Writes middle blob.elements after (Ok tt))
+    → WritesInTurn Writes before (take (i + 1) (entries held)) after
+walk-more Writes held extents i x before middle after are within is so_far wrote =
+    let it = at-blob held extents i x are within is in
+    subst (λ (es : List (ℕ × Blob)). WritesInTurn Writes before es after) (sym it.taken)
+    (turn-push Writes (take i (entries held)) it.entry before middle after so_far (wrote it.entry.1 it.found))
+
+pub walk-stops : (Writes : Writing) (held : HeldMap) (extents : List Extent) (i : ℕ) (x : Extent) (before middle after : Known) (fault : ExportFault) → extents ≡ extents_of held → i < length extents → x ≡ get_or extents i x
+    → WritesInTurn Writes before (take i (entries held)) middle → ((blob : Blob) → get held x.off ≡ Some blob → WritesOne Writes middle blob.elements after (Err fault))
+    → StopsAt Writes before (entries held) after fault
+walk-stops Writes held extents i x before middle after fault are within is so_far wrote =
+    let it = at-blob held extents i x are within is in
+    let some = length-extents held extents are in
+    record {
+      count = i;
+      middle = middle;
+      here = omega arith;
+      turns = so_far;
+      stopped = subst (λ (es : List Element). WritesOne Writes middle es after (Err fault)) it.here (wrote it.entry.1 it.found);
+    }
+
+pub walk-all : (Writes : Writing) (held : HeldMap) (extents : List Extent) (i : ℕ) (before after : Known) → extents ≡ extents_of held → length extents ≤ i
+    → WritesInTurn Writes before (take i (entries held)) after → WritesInTurn Writes before (entries held) after
+walk-all Writes held extents i before after are all turns =
+    let some = length-extents held extents are in
+    subst (λ (es : List (ℕ × Blob)). WritesInTurn Writes before es after) (take_all i (entries held) (omega arith)) turns
+
+-- ---- why it fails
+
+pub write-cause : (before now : ℕ) (failed : Bool) (result : Result (Unit {0}) ExportFault) → WriteHasCause failed result → ExportHasCause before now failed result
+write-cause before now failed (Ok done) h = tt
+write-cause before now failed (Err WriteFailed) h = h
+write-cause before now failed (Err (Store fault)) h = inl h
+write-cause before now failed (Err BlockTooLarge) h = tt
+write-cause before now failed (Err (Incomplete from to)) h = tt
+write-cause before now failed (Err (PastEnd fin)) h = tt
+
+pub write-own : (failed : Bool) (result : Result (Unit {0}) ExportFault) → WriteHasCause failed result → ExportIsOwn result
+write-own failed (Ok done) h = tt
+write-own failed (Err WriteFailed) h = tt
+write-own failed (Err (Store fault)) h = λ foreign. subst (λ (f : StoreFault). IsForeign f) h foreign
+write-own failed (Err BlockTooLarge) h = tt
+write-own failed (Err (Incomplete from to)) h = tt
+write-own failed (Err (PastEnd fin)) h = tt
+
+-- nothing was written yet
+pub cause-unwritten : (before now : ℕ) (failed : Bool) (fault : ExportFault) → ExportHasCause before now false (Err fault) → ExportHasCause before now failed (Err fault)
+cause-unwritten before now failed WriteFailed h = absurd (let bad : false ≡ true = h in cc)
+cause-unwritten before now failed (Store fault) h = h
+cause-unwritten before now failed BlockTooLarge h = tt
+cause-unwritten before now failed (Incomplete from to) h = tt
+cause-unwritten before now failed (PastEnd fin) h = tt

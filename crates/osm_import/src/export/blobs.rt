@@ -1,0 +1,94 @@
+//! The walk over the held blobs, whatever an export writes of each.
+
+ghost use Rattle.std.specs.Prelude.{◌≡◌, ◌≤◌, false, Some, Err, IfOk, IfErr, OnOk};
+ghost use Rattle.std.specs.FinMap.{get, entries};
+ghost use Rattle.osm_store.specs.Held.{Blob, HeldMap};
+ghost use Rattle.osm_store.specs.Keeping.{extents_of};
+ghost use Rattle.osm_import.specs.Gaps.{Tiles};
+ghost use Rattle.osm_import.specs.Exports.{size_of, IsUnbegun};
+ghost use Rattle.osm_import.specs.ExportCauses.{ExportHasCause, ExportIsOwn, WriteHasCause};
+ghost use Rattle.osm_import.specs.Walks.{Writing, WritesOne, Walks};
+ghost use Rattle.osm_import.specs.Stores.{Rereads};
+
+use super::ExportFault;
+use super::refusal::refused;
+use osm_store::{Extent, Reader};
+use osm_value::{Element, Sink};
+use std::alloc::Global;
+
+/// What an export writes of a blob.
+pub(super) trait BlobStep<S: Sink> {
+    /// What the step does, at a blob with these elements, to what was written before.
+    ghost writes: { Writing };
+
+    /// Writes what stands for these elements.
+    fn write(&self, alloc: Global, elements: &[Element], out: &mut S) -> Result<(), ExportFault>
+        ensures wrote { writes (S.written out.old) elements.now (S.written out.new) result }
+        ensures cause { WriteHasCause (S.has_failed out.new) result };
+}
+
+/// All held extents, by offset, for an export that has written nothing yet. Unless `partial`, an error is also why they
+/// don't tile the size, which is the greatest held end where none is given.
+pub(super) fn extents_to_export<K: Reader>(
+    alloc: Global,
+    keeper: &mut K,
+    size: Option<u64>,
+    partial: bool,
+) -> Result<Vec<Extent>, ExportFault>
+    ensures all { (held : HeldMap) → K.holds keeper.old held → K.is_honest keeper.new → IfOk result (λ extents. extents.items ≡ extents_of held) }
+    ensures tiled { (held : HeldMap) → K.holds keeper.old held → K.is_honest keeper.new → partial ≡ false → OnOk result (Tiles held (size_of size (extents_of held))) }
+    ensures refused { (held : HeldMap) → K.holds keeper.old held → K.is_honest keeper.new → IfErr result (IsUnbegun held (size_of size (extents_of held)) partial) }
+    ensures rereads { Rereads K.Reader keeper.old result keeper.new }
+    ensures own { (held : HeldMap) → K.holds keeper.old held → K.is_honest keeper.new → IfErr result (λ fault. ExportIsOwn (Err fault)) }
+    ensures cause { IfErr result (λ fault. ExportHasCause (K.failures keeper.old) (K.failures keeper.new) false (Err fault)) }
+    ensures counted { K.failures keeper.old ≤ K.failures keeper.new }
+{
+    let extents = keeper.extents(alloc)?;
+    if !partial {
+        if let Some(fault) = refused(&extents, size) {
+            return Err(fault);
+        }
+    }
+    Ok(extents)
+}
+
+/// Takes the step at the blob at an offset.
+fn write_blob<K: Reader, S: Sink, W: BlobStep<S>>(
+    alloc: Global,
+    keeper: &mut K,
+    off: u64,
+    step: &W,
+    out: &mut S,
+) -> Result<(), ExportFault>
+    ensures wrote { (held : HeldMap) (blob : Blob) → K.holds keeper.old held → K.is_honest keeper.new → get held off ≡ Some blob
+        → WritesOne W.writes (S.written out.old) blob.elements (S.written out.new) result }
+    ensures rereads { Rereads K.Reader keeper.old result keeper.new }
+    ensures own { (held : HeldMap) → K.holds keeper.old held → K.is_honest keeper.new → ExportIsOwn result }
+    ensures cause { ExportHasCause (K.failures keeper.old) (K.failures keeper.new) (S.has_failed out.new) result }
+    ensures counted { K.failures keeper.old ≤ K.failures keeper.new }
+{
+    let loaded = keeper.load(alloc, off)?;
+    let elements = loaded.elements(alloc)?;
+    step.write(alloc, &elements, out)
+}
+
+/// Takes the step at each of the blobs at these extents, in their order, up to the first fault.
+pub(super) fn write_blobs<K: Reader, S: Sink, W: BlobStep<S>>(
+    alloc: Global,
+    keeper: &mut K,
+    extents: &[Extent],
+    step: &W,
+    out: &mut S,
+) -> Result<(), ExportFault>
+    ensures wrote { (held : HeldMap) → K.holds keeper.old held → K.is_honest keeper.new → extents.now ≡ extents_of held
+        → Walks W.writes (S.written out.old) (entries held) (S.written out.new) result }
+    ensures rereads { Rereads K.Reader keeper.old result keeper.new }
+    ensures own { (held : HeldMap) → K.holds keeper.old held → K.is_honest keeper.new → ExportIsOwn result }
+    ensures cause { ExportHasCause (K.failures keeper.old) (K.failures keeper.new) (S.has_failed out.new) result }
+    ensures counted { K.failures keeper.old ≤ K.failures keeper.new }
+{
+    for extent in extents {
+        write_blob(alloc, keeper, extent.off, step, out)?;
+    }
+    Ok(())
+}
