@@ -5,6 +5,7 @@ use Rattle.std.specs.List.{flat_map, AllByRecursion}
 use Rattle.std.proofs.lemmas.Bool.Decides.{nat_tests}
 use Rattle.pbf_wire.specs.declared.fault.WireFault.{WireFault}
 use Rattle.osm_value.specs.declared.element.Element.{Element}
+use Rattle.osm_block.specs.declared.fields.TheConstants.{BLOCK_PRIMITIVEGROUP, BLOCK_STRINGTABLE}
 use Rattle.osm_block.specs.declared.fault.BlockFault.TheVariants as faults
 use Rattle.pbf_wire.specs.Readings.{fields, wire}
 use Rattle.osm_block.specs.Message.{Context, Message, Plain, Dense, Way, Relation, wires, messages, node_message, way_message, relation_message, context}
@@ -12,11 +13,10 @@ use Rattle.pbf_wire.specs.Readings.{each}
 use Rattle.osm_block.specs.Block.{Block, Joins, GroupOf, kinds_in}
 use Rattle.osm_value.specs.Ranges.{IsText}
 use Rattle.osm_block.specs.Reads.{Says}
-use Rattle.osm_block.specs.Phases.{Phase, first, when, wire_phases, message_phases, group_phases, node_phases, way_phases, relation_phases, text_phases, fault}
+use Rattle.osm_block.specs.Phases.{Phase, first, when, wire_phases, message_phases, group_phases, node_phases, way_phases, relation_phases, text_phases, fault, head_phases}
 use Rattle.osm_block.proofs.ReadingLemmas.{first-append_none}
-use Rattle.osm_block.specs.Head.{head_phases}
 use Rattle.osm_block.proofs.HeadLemmas.{tables, texts, scales, past_table, past_texts, good_scales, text_of_utf8}
-use Rattle.osm_block.proofs.BlockLemmas.{split, groups_phases}
+use Rattle.osm_block.proofs.BlockLemmas.{groups_phases}
 use Rattle.osm_block.proofs.NodeComplete.{NodeOf-no_phase}
 use Rattle.osm_block.proofs.WayComplete.{WayOf-no_phase}
 use Rattle.osm_block.proofs.RelationComplete.{RelationOf-no_phase}
@@ -83,15 +83,15 @@ scales_hold w g d =
 
 pub head_none : (w : List ℕ) (es : List Element) → Block es w → first (head_phases w) ≡ None
 head_none w es h =
-    let no_tables : first (tables w) ≡ None = tables_none (each (fields w) 1) h.tables_are in
+    let no_tables : first (tables w) ≡ None = tables_none (each (fields w) BLOCK_STRINGTABLE) h.tables_are in
     let no_texts : first (texts w) ≡ None = texts_none (context (fields w)).table h.texts_are in
     good_scales w _ (scales w) (past_texts w _ (past_table w h.is_message h.has_table) no_tables no_texts) refl (scales_hold w h.granularity h.date_granularity)
 
 pub block_none : (w : List ℕ) (es : List Element) → ((xs : List Element) (m : Message) → Says (context (fields w)) xs m → first (message_phases (context (fields w)) m) ≡ None) → Block es w → fault w ≡ None
 unfolding fault
 block_none w es none h =
-    ap first (split w) ∙ first-append_none (head_phases w) (groups_phases w) (head_none w es h)
-    ∙ joins_none (GroupOf (context (fields w))) (group_phases (context (fields w))) (group_none (context (fields w)) none) es (each (fields w) 2) h.elements_are
+    first-append_none (head_phases w) (groups_phases w) (head_none w es h)
+    ∙ joins_none (GroupOf (context (fields w))) (group_phases (context (fields w))) (group_none (context (fields w)) none) es (each (fields w) BLOCK_PRIMITIVEGROUP) h.elements_are
 
 -- ---- every message, and so the block
 

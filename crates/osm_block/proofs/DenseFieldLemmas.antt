@@ -10,6 +10,7 @@ use Rattle.pbf_wire.specs.declared.field.Field.{Field}
 use Rattle.pbf_wire.specs.Field.{Content, Number, Fixed64, Bytes, Fixed32, Entry, content_of}
 use Rattle.pbf_wire.specs.FieldList.{view_item}
 use Rattle.pbf_wire.specs.Readings.{front, fields, wire, packed, fitting, numbers_of, bytes_of, each, nums, sub, is_there, sint64, sint32, int32}
+use Rattle.osm_block.specs.declared.fields.TheConstants.{DENSEINFO_CHANGESET, DENSEINFO_TIMESTAMP, DENSEINFO_UID, DENSEINFO_USER_SID, DENSEINFO_VERSION, DENSE_DENSEINFO, DENSE_ID, DENSE_KEYS_VALS, DENSE_LAT, DENSE_LON}
 use Rattle.osm_block.specs.declared.fault.BlockFault.TheVariants as faults
 use Rattle.osm_block.specs.declared.dense.fields.DenseFields.{DenseFields}
 use Rattle.osm_block.specs.Message.{Dense, wires, arrays, some_visible, dense_message}
@@ -17,6 +18,7 @@ use Rattle.osm_block.specs.Columns.{numbers_in, fault_in, first_there}
 use Rattle.osm_block.specs.Dense.{dense_message_of}
 use Rattle.osm_block.specs.DenseFieldsRead.{ColumnRead, DenseInfoRead}
 use Rattle.osm_block.specs.Phases.{first, wire_phases}
+use Rattle.osm_block.proofs.FieldLemmas.{option_or-assoc, option_or-none, first_there-append, first_of_wire}
 use Rattle.osm_block.proofs.ReadingLemmas.{each-append}
 
 -- ---- one field
@@ -46,14 +48,6 @@ faults_any (Fixed32 bs) rest = refl
 there_any : {A : Type 0} (o : Option A) (rest : List A) → is_there (cons_option o rest) ≡ (is_some o || is_there rest)
 there_any None rest = refl
 there_any (Some x) rest = refl
-
-option_or-assoc : {A : Type 0} (x y z : Option A) → option_or (option_or x y) z ≡ option_or x (option_or y z)
-option_or-assoc None y z = refl
-option_or-assoc (Some a) y z = refl
-
-option_or-none : {A : Type 0} (x : Option A) → option_or x None ≡ x
-option_or-none None = refl
-option_or-none (Some a) = refl
 
 -- what a field of the array adds
 pub numbers_taken : (old new total : List ℕ) (items rest : List (Result Entry WireFault)) (item : Result Field WireFault) (field : Field) (k : ℕ) → items ≡ view_item item ∷ rest → item ≡ Ok field → (field.number == k) ≡ true →
@@ -103,11 +97,6 @@ there-append : {A : Type 0} (xs ys : List A) → is_there (xs ++ ys) ≡ (is_the
 there-append [] ys = refl
 there-append (x ∷ xs) ys = refl
 
-pub first_there-append : {A : Type 0} (xs ys : List (Option A)) → first_there (xs ++ ys) ≡ option_or (first_there xs) (first_there ys)
-first_there-append [] ys = refl
-first_there-append (None ∷ xs) ys = first_there-append xs ys
-first_there-append (Some x ∷ xs) ys = refl
-
 pub faults_more : {B : Type 0} (now : B → List ℕ) (ps : List B) (i : ℕ) (d : B) (k : ℕ) (old new total : Option WireFault) → i < length ps →
     new ≡ option_or old (first_there (map packed (each (fields (now (get_or ps i d))) k))) →
     option_or old (first_there (map packed (each (flat_map fields (map now (drop i ps))) k))) ≡ total →
@@ -140,11 +129,11 @@ low_are (n ∷ ns) = ap (λ l. sint32 n ∷ l) (low_are ns)
 
 -- what was read of a message
 pub record DenseRead (d : DenseFields) (fs : List Entry) : Type 0 where
-  pub ids : ColumnRead d.ids 1 fs
-  pub lats : ColumnRead d.lats 8 fs
-  pub lons : ColumnRead d.lons 9 fs
-  pub keys_vals : ColumnRead d.keys_vals 10 fs
-  pub info : DenseInfoRead d.info (sub fs 5)
+  pub ids : ColumnRead d.ids DENSE_ID fs
+  pub lats : ColumnRead d.lats DENSE_LAT fs
+  pub lons : ColumnRead d.lons DENSE_LON fs
+  pub keys_vals : ColumnRead d.keys_vals DENSE_KEYS_VALS fs
+  pub info : DenseInfoRead d.info (sub fs DENSE_DENSEINFO)
 
 pub message_is : (d : DenseFields) (fs : List Entry) → DenseRead d fs → dense_message_of d ≡ dense_message fs
 message_is d fs r =
@@ -156,31 +145,26 @@ message_is d fs r =
     let v = ap (map int32) i.versions.numbers in
     let t = ap (map sint64) i.timestamps.numbers in
     let s = ap (map sint64) i.changesets.numbers in
-    let u = ap (map sint64) i.uids.numbers ∙ low_are (nums (sub fs 5) 4) in
-    let w = ap (map sint64) i.users.numbers ∙ low_are (nums (sub fs 5) 5) in
+    let u = ap (map sint64) i.uids.numbers ∙ low_are (nums (sub fs DENSE_DENSEINFO) DENSEINFO_UID) in
+    let w = ap (map sint64) i.users.numbers ∙ low_are (nums (sub fs DENSE_DENSEINFO) DENSEINFO_USER_SID) in
     cc (a, b, c, e, v, t, s, u, w, i.visible)
-
-first_wires : (fs : List (Option WireFault)) → first (wire_phases fs) ≡ option_map faults.BlockWire (first_there fs)
-first_wires [] = refl
-first_wires (None ∷ fs) = first_wires fs
-first_wires (Some f ∷ fs) = refl
 
 abbrev array_fault : ℕ → List Entry → Option WireFault
 array_fault k fs = first_there (map packed (each fs k))
 
-plain_arrays : (fs : List Entry) → first_there (arrays (1 ∷ 8 ∷ 9 ∷ 10 ∷ []) fs) ≡ option_or (array_fault 1 fs) (option_or (array_fault 8 fs) (option_or (array_fault 9 fs) (array_fault 10 fs)))
+plain_arrays : (fs : List Entry) → first_there (arrays (DENSE_ID ∷ DENSE_LAT ∷ DENSE_LON ∷ DENSE_KEYS_VALS ∷ []) fs) ≡ option_or (array_fault DENSE_ID fs) (option_or (array_fault DENSE_LAT fs) (option_or (array_fault DENSE_LON fs) (array_fault DENSE_KEYS_VALS fs)))
 plain_arrays fs =
-    first_there-append (map packed (each fs 1)) _ ∙ ap (option_or (array_fault 1 fs)) (first_there-append (map packed (each fs 8)) _ ∙ ap (option_or (array_fault 8 fs))
-    (first_there-append (map packed (each fs 9)) _ ∙ ap (option_or (array_fault 9 fs)) (first_there-append (map packed (each fs 10)) [] ∙ option_or-none (array_fault 10 fs))))
+    first_there-append (map packed (each fs DENSE_ID)) _ ∙ ap (option_or (array_fault DENSE_ID fs)) (first_there-append (map packed (each fs DENSE_LAT)) _ ∙ ap (option_or (array_fault DENSE_LAT fs))
+    (first_there-append (map packed (each fs DENSE_LON)) _ ∙ ap (option_or (array_fault DENSE_LON fs)) (first_there-append (map packed (each fs DENSE_KEYS_VALS)) [] ∙ option_or-none (array_fault DENSE_KEYS_VALS fs))))
 
-info_arrays : (fs : List Entry) → first_there (arrays (1 ∷ 2 ∷ 3 ∷ 4 ∷ 5 ∷ []) fs) ≡ option_or (array_fault 1 fs) (option_or (array_fault 2 fs) (option_or (array_fault 3 fs) (option_or (array_fault 4 fs) (array_fault 5 fs))))
+info_arrays : (fs : List Entry) → first_there (arrays (DENSEINFO_VERSION ∷ DENSEINFO_TIMESTAMP ∷ DENSEINFO_CHANGESET ∷ DENSEINFO_UID ∷ DENSEINFO_USER_SID ∷ []) fs) ≡ option_or (array_fault DENSEINFO_VERSION fs) (option_or (array_fault DENSEINFO_TIMESTAMP fs) (option_or (array_fault DENSEINFO_CHANGESET fs) (option_or (array_fault DENSEINFO_UID fs) (array_fault DENSEINFO_USER_SID fs))))
 info_arrays fs =
-    first_there-append (map packed (each fs 1)) _ ∙ ap (option_or (array_fault 1 fs)) (first_there-append (map packed (each fs 2)) _ ∙ ap (option_or (array_fault 2 fs))
-    (first_there-append (map packed (each fs 3)) _ ∙ ap (option_or (array_fault 3 fs)) (first_there-append (map packed (each fs 4)) _ ∙ ap (option_or (array_fault 4 fs))
-    (first_there-append (map packed (each fs 5)) [] ∙ option_or-none (array_fault 5 fs)))))
+    first_there-append (map packed (each fs DENSEINFO_VERSION)) _ ∙ ap (option_or (array_fault DENSEINFO_VERSION fs)) (first_there-append (map packed (each fs DENSEINFO_TIMESTAMP)) _ ∙ ap (option_or (array_fault DENSEINFO_TIMESTAMP fs))
+    (first_there-append (map packed (each fs DENSEINFO_CHANGESET)) _ ∙ ap (option_or (array_fault DENSEINFO_CHANGESET fs)) (first_there-append (map packed (each fs DENSEINFO_UID)) _ ∙ ap (option_or (array_fault DENSEINFO_UID fs))
+    (first_there-append (map packed (each fs DENSEINFO_USER_SID)) [] ∙ option_or-none (array_fault DENSEINFO_USER_SID fs)))))
 
 -- the faults, as they were read
-pub faults_are : (d : DenseFields) (ps infos : List (List ℕ)) (w i a n : Option WireFault) → DenseRead d (flat_map fields ps) → infos ≡ each (flat_map fields ps) 5 →
+pub faults_are : (d : DenseFields) (ps infos : List (List ℕ)) (w i a n : Option WireFault) → DenseRead d (flat_map fields ps) → infos ≡ each (flat_map fields ps) DENSE_DENSEINFO →
     w ≡ first_there (map wire ps) → i ≡ first_there (map wire infos) →
     a ≡ option_or d.ids.fault (option_or d.lats.fault (option_or d.lons.fault d.keys_vals.fault)) →
     n ≡ option_or d.info.versions.fault (option_or d.info.timestamps.fault (option_or d.info.changesets.fault (option_or d.info.uids.fault d.info.users.fault))) →
@@ -188,26 +172,26 @@ pub faults_are : (d : DenseFields) (ps infos : List (List ℕ)) (w i a n : Optio
 faults_are d ps infos w i a n r are ew ei ea en =
     let fs : List Entry = flat_map fields ps in
     let j = r.info in
-    let plain : a ≡ first_there (arrays (1 ∷ 8 ∷ 9 ∷ 10 ∷ []) fs) =
+    let plain : a ≡ first_there (arrays (DENSE_ID ∷ DENSE_LAT ∷ DENSE_LON ∷ DENSE_KEYS_VALS ∷ []) fs) =
     ea ∙ ap (λ x. option_or x (option_or d.lats.fault (option_or d.lons.fault d.keys_vals.fault))) r.ids.fault
-    ∙ ap (λ x. option_or (array_fault 1 fs) (option_or x (option_or d.lons.fault d.keys_vals.fault))) r.lats.fault
-    ∙ ap (λ x. option_or (array_fault 1 fs) (option_or (array_fault 8 fs) (option_or x d.keys_vals.fault))) r.lons.fault
-    ∙ ap (λ x. option_or (array_fault 1 fs) (option_or (array_fault 8 fs) (option_or (array_fault 9 fs) x))) r.keys_vals.fault ∙ sym (plain_arrays fs) in
-    let gs : List Entry = sub fs 5 in
-    let info : n ≡ first_there (arrays (1 ∷ 2 ∷ 3 ∷ 4 ∷ 5 ∷ []) gs) =
+    ∙ ap (λ x. option_or (array_fault DENSE_ID fs) (option_or x (option_or d.lons.fault d.keys_vals.fault))) r.lats.fault
+    ∙ ap (λ x. option_or (array_fault DENSE_ID fs) (option_or (array_fault DENSE_LAT fs) (option_or x d.keys_vals.fault))) r.lons.fault
+    ∙ ap (λ x. option_or (array_fault DENSE_ID fs) (option_or (array_fault DENSE_LAT fs) (option_or (array_fault DENSE_LON fs) x))) r.keys_vals.fault ∙ sym (plain_arrays fs) in
+    let gs : List Entry = sub fs DENSE_DENSEINFO in
+    let info : n ≡ first_there (arrays (DENSEINFO_VERSION ∷ DENSEINFO_TIMESTAMP ∷ DENSEINFO_CHANGESET ∷ DENSEINFO_UID ∷ DENSEINFO_USER_SID ∷ []) gs) =
     en ∙ ap (λ x. option_or x (option_or d.info.timestamps.fault (option_or d.info.changesets.fault (option_or d.info.uids.fault d.info.users.fault)))) j.versions.fault
-    ∙ ap (λ x. option_or (array_fault 1 gs) (option_or x (option_or d.info.changesets.fault (option_or d.info.uids.fault d.info.users.fault)))) j.timestamps.fault
-    ∙ ap (λ x. option_or (array_fault 1 gs) (option_or (array_fault 2 gs) (option_or x (option_or d.info.uids.fault d.info.users.fault)))) j.changesets.fault
-    ∙ ap (λ x. option_or (array_fault 1 gs) (option_or (array_fault 2 gs) (option_or (array_fault 3 gs) (option_or x d.info.users.fault)))) j.uids.fault
-    ∙ ap (λ x. option_or (array_fault 1 gs) (option_or (array_fault 2 gs) (option_or (array_fault 3 gs) (option_or (array_fault 4 gs) x)))) j.users.fault ∙ sym (info_arrays gs) in
-    let first_two : option_or w i ≡ first_there (map wire ps ++ map wire (each fs 5)) =
-    ap (λ x. option_or x i) ew ∙ ap (option_or (first_there (map wire ps))) (ei ∙ ap (λ l. first_there (map wire l)) are) ∙ sym (first_there-append (map wire ps) (map wire (each fs 5))) in
-    let three : option_or (option_or w i) a ≡ first_there (map wire ps ++ map wire (each fs 5) ++ arrays (1 ∷ 8 ∷ 9 ∷ 10 ∷ []) fs) =
-    ap (λ x. option_or x a) first_two ∙ ap (option_or (first_there (map wire ps ++ map wire (each fs 5)))) plain ∙ sym (first_there-append (map wire ps ++ map wire (each fs 5)) (arrays (1 ∷ 8 ∷ 9 ∷ 10 ∷ []) fs)) in
+    ∙ ap (λ x. option_or (array_fault DENSEINFO_VERSION gs) (option_or x (option_or d.info.changesets.fault (option_or d.info.uids.fault d.info.users.fault)))) j.timestamps.fault
+    ∙ ap (λ x. option_or (array_fault DENSEINFO_VERSION gs) (option_or (array_fault DENSEINFO_TIMESTAMP gs) (option_or x (option_or d.info.uids.fault d.info.users.fault)))) j.changesets.fault
+    ∙ ap (λ x. option_or (array_fault DENSEINFO_VERSION gs) (option_or (array_fault DENSEINFO_TIMESTAMP gs) (option_or (array_fault DENSEINFO_CHANGESET gs) (option_or x d.info.users.fault)))) j.uids.fault
+    ∙ ap (λ x. option_or (array_fault DENSEINFO_VERSION gs) (option_or (array_fault DENSEINFO_TIMESTAMP gs) (option_or (array_fault DENSEINFO_CHANGESET gs) (option_or (array_fault DENSEINFO_UID gs) x)))) j.users.fault ∙ sym (info_arrays gs) in
+    let first_two : option_or w i ≡ first_there (map wire ps ++ map wire (each fs DENSE_DENSEINFO)) =
+    ap (λ x. option_or x i) ew ∙ ap (option_or (first_there (map wire ps))) (ei ∙ ap (λ l. first_there (map wire l)) are) ∙ sym (first_there-append (map wire ps) (map wire (each fs DENSE_DENSEINFO))) in
+    let three : option_or (option_or w i) a ≡ first_there (map wire ps ++ map wire (each fs DENSE_DENSEINFO) ++ arrays (DENSE_ID ∷ DENSE_LAT ∷ DENSE_LON ∷ DENSE_KEYS_VALS ∷ []) fs) =
+    ap (λ x. option_or x a) first_two ∙ ap (option_or (first_there (map wire ps ++ map wire (each fs DENSE_DENSEINFO)))) plain ∙ sym (first_there-append (map wire ps ++ map wire (each fs DENSE_DENSEINFO)) (arrays (DENSE_ID ∷ DENSE_LAT ∷ DENSE_LON ∷ DENSE_KEYS_VALS ∷ []) fs)) in
     let all : option_or (option_or (option_or w i) a) n ≡ first_there (wires (Dense ps)) =
-    ap (λ x. option_or x n) three ∙ ap (option_or (first_there (map wire ps ++ map wire (each fs 5) ++ arrays (1 ∷ 8 ∷ 9 ∷ 10 ∷ []) fs))) info
-    ∙ sym (first_there-append (map wire ps ++ map wire (each fs 5) ++ arrays (1 ∷ 8 ∷ 9 ∷ 10 ∷ []) fs) (arrays (1 ∷ 2 ∷ 3 ∷ 4 ∷ 5 ∷ []) gs)) in
-    first_wires (wires (Dense ps)) ∙ sym (ap (option_map faults.BlockWire) all)
+    ap (λ x. option_or x n) three ∙ ap (option_or (first_there (map wire ps ++ map wire (each fs DENSE_DENSEINFO) ++ arrays (DENSE_ID ∷ DENSE_LAT ∷ DENSE_LON ∷ DENSE_KEYS_VALS ∷ []) fs))) info
+    ∙ sym (first_there-append (map wire ps ++ map wire (each fs DENSE_DENSEINFO) ++ arrays (DENSE_ID ∷ DENSE_LAT ∷ DENSE_LON ∷ DENSE_KEYS_VALS ∷ []) fs) (arrays (DENSEINFO_VERSION ∷ DENSEINFO_TIMESTAMP ∷ DENSEINFO_CHANGESET ∷ DENSEINFO_UID ∷ DENSEINFO_USER_SID ∷ []) gs)) in
+    first_of_wire (wires (Dense ps)) ∙ sym (ap (option_map faults.BlockWire) all)
 
 -- a payload that has a flag, and one that has none
 pub visible_here : {B : Type 0} (now : B → List ℕ) (ps : List B) (i : ℕ) (d : B) (k : ℕ) (here : Bool) → i < length ps → here ≡ is_there (fitting some_visible k (fields (now (get_or ps i d)))) → here ≡ true →

@@ -1,5 +1,5 @@
 -- A block for which no phase stands says some elements, since this holds of each of its messages.
-use Rattle.std.proofs.Common.{◌≡◌, ◌≤◌, ℕ, List, [], ◌∷◌, ◌++◌, map, refl, sym, ap, ◌∙◌, Option, Some, None, true, not, arith, pos}
+use Rattle.std.proofs.Common.{◌≡◌, ◌≤◌, ℕ, List, [], ◌∷◌, ◌++◌, map, refl, sym, ◌∙◌, Option, Some, None, true, not, arith, pos}
 use Rattle.std.specs.Prelude.{nat_le}
 use Rattle.std.specs.List.{flat_map, list_all, AllByRecursion}
 use Rattle.std.specs.Str.{is_utf8}
@@ -10,17 +10,17 @@ use Rattle.osm_value.specs.Ranges.{IsText, has_no_nul}
 use Rattle.osm_value.specs.Value.{Text}
 use Rattle.pbf_wire.specs.declared.fault.WireFault.{WireFault}
 use Rattle.pbf_wire.specs.Readings.{fields, wire, each, is_there}
+use Rattle.osm_block.specs.declared.fields.TheConstants.{BLOCK_PRIMITIVEGROUP, BLOCK_STRINGTABLE}
 use Rattle.osm_block.specs.declared.fault.BlockFault.TheVariants as faults
 use Rattle.osm_block.specs.Message.{Context, Message, Plain, Dense, Way, Relation, wires, messages, node_message, dense_message, way_message, relation_message, context}
 use Rattle.osm_block.specs.Block.{Block, Joins, GroupOf, kinds_in}
 use Rattle.osm_block.specs.Reads.{Says}
-use Rattle.osm_block.specs.Head.{head_phases}
 use Rattle.osm_block.specs.Texts.{is_text}
-use Rattle.osm_block.specs.Phases.{Phase, first, when, wire_phases, phases_after_wire, message_phases, group_phases, text_phases, fault}
+use Rattle.osm_block.specs.Phases.{Phase, first, when, wire_phases, phases_after_wire, message_phases, group_phases, text_phases, fault, head_phases}
 use Rattle.osm_block.proofs.ReadingLemmas.{first-append_none}
 use Rattle.osm_block.proofs.LoopLemmas.{first-front_none, message_wire}
 use Rattle.osm_block.proofs.HeadLemmas.{tables, texts as head_texts, scales, last_phase, all_none}
-use Rattle.osm_block.proofs.BlockLemmas.{split, groups_phases}
+use Rattle.osm_block.proofs.BlockLemmas.{groups_phases}
 use Rattle.osm_block.proofs.PlaceLemmas.{le_true}
 use Rattle.osm_block.proofs.IndexesLemmas.{and_left, and_right}
 use Rattle.osm_block.proofs.RangeLemmas.{both, text_from, table_passes}
@@ -97,14 +97,14 @@ all_texts (t ∷ ts) e =
 -- the parts of a head for which no phase stands
 record Head (w : List ℕ) : Type 0 where
   pub is_message : wire w ≡ None
-  pub has_table : is_there (each (fields w) 1) ≡ true
-  pub tables_are : AllByRecursion (λ p. wire p ≡ None) (each (fields w) 1)
+  pub has_table : is_there (each (fields w) BLOCK_STRINGTABLE) ≡ true
+  pub tables_are : AllByRecursion (λ p. wire p ≡ None) (each (fields w) BLOCK_STRINGTABLE)
   pub texts_are : AllByRecursion IsText (context (fields w)).table
   pub scales_are : scales w ≡ true
 
 head_of : (w : List ℕ) → first (head_phases w) ≡ None → Head w
 head_of w e =
-    let has : Phase = when (not (is_there (each (fields w) 1))) faults.NoStringTable in
+    let has : Phase = when (not (is_there (each (fields w) BLOCK_STRINGTABLE))) faults.NoStringTable in
     let front : List Phase = wire_phases (wire w ∷ []) ++ has ∷ [] in
     let split : first (front ++ ((tables w ++ head_texts w) ++ last_phase w)) ≡ None = e in
     let two = first-front_none front ((tables w ++ head_texts w) ++ last_phase w) split in
@@ -114,8 +114,8 @@ head_of w e =
     let scale = none_stands (last_phase w) (rest_none (tables w ++ head_texts w) (last_phase w) later) in
     record {
       is_message = is_message_by (wire w) (first-front_none (wire_phases (wire w ∷ [])) (has ∷ []) two);
-      has_table = is_true (is_there (each (fields w) 1)) faults.NoStringTable there.0;
-      tables_are = all_none (each (fields w) 1) (first-front_none (tables w) (head_texts w) inside);
+      has_table = is_true (is_there (each (fields w) BLOCK_STRINGTABLE)) faults.NoStringTable there.0;
+      tables_are = all_none (each (fields w) BLOCK_STRINGTABLE) (first-front_none (tables w) (head_texts w) inside);
       texts_are = all_texts (context (fields w)).table (rest_none (tables w) (head_texts w) inside);
       scales_are = is_true (scales w) faults.BadGranularity scale.0;
     }
@@ -126,9 +126,9 @@ pub block_of : (w : List ℕ) → fault w ≡ None → (es : List Element) × Bl
 unfolding fault
 block_of w e =
     let b : Context = context (fields w) in
-    let parts : first (head_phases w ++ groups_phases w) ≡ None = sym (ap first (split w)) ∙ e in
+    let parts : first (head_phases w ++ groups_phases w) ≡ None = e in
     let head = head_of w (first-front_none (head_phases w) (groups_phases w) parts) in
-    let es = joined (GroupOf b) (group_phases b) (group_of b (table_passes b.table head.texts_are)) (each (fields w) 2) (rest_none (head_phases w) (groups_phases w) parts) in (
+    let es = joined (GroupOf b) (group_phases b) (group_of b (table_passes b.table head.texts_are)) (each (fields w) BLOCK_PRIMITIVEGROUP) (rest_none (head_phases w) (groups_phases w) parts) in (
       es.0,
       record {
         is_message = head.is_message;

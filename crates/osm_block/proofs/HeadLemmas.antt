@@ -6,19 +6,16 @@ use Rattle.std.specs.Str.{is_utf8}
 use Rattle.std.proofs.lemmas.Str.{IsUtf8-from_is_utf8, is_utf8-from_IsUtf8}
 use Rattle.std.proofs.lemmas.List.{drop_more}
 use Rattle.pbf_wire.specs.declared.fault.WireFault.{WireFault}
+use Rattle.osm_block.specs.declared.fields.TheConstants.{BLOCK_STRINGTABLE}
 use Rattle.osm_block.specs.declared.fault.BlockFault.{BlockFault}
 use Rattle.osm_block.specs.declared.fault.BlockFault.TheVariants as faults
 use Rattle.pbf_wire.specs.Readings.{fields, wire}
 use Rattle.osm_block.specs.Message.{context}
 use Rattle.pbf_wire.specs.Readings.{each, is_there}
 use Rattle.osm_value.specs.Ranges.{has_no_nul}
-use Rattle.osm_block.specs.Head.{head_phases}
-use Rattle.osm_block.specs.Phases.{Phase, first, when, wire_phases, text_phases}
+use Rattle.osm_block.specs.Phases.{Phase, first, when, wire_phases, text_phases, head_phases}
+use Rattle.osm_block.proofs.HeaderLemmas.{bool_false}
 use Rattle.osm_block.proofs.ReadingLemmas.{first-append_none, first-append_some}
-
-bool_false : (b : Bool) → (b ≡ true → ⊥) → b ≡ false
-bool_false true h = absurd (h refl)
-bool_false false h = refl
 
 pub text_not_utf8 : (bs : List ℕ) → ¬ (IsUtf8 bs) → first (text_phases bs) ≡ Some faults.TextNotUtf8
 text_not_utf8 bs h =
@@ -37,7 +34,7 @@ texts_stop now ps i d whole f h so_far some =
 -- ---- the phases of a head, one part after the other
 
 abbrev pub tables : List ℕ → List Phase
-tables w = wire_phases (map wire (each (fields w) 1))
+tables w = wire_phases (map wire (each (fields w) BLOCK_STRINGTABLE))
 
 abbrev pub texts : List ℕ → List Phase
 texts w = flat_map text_phases (context (fields w)).table
@@ -48,14 +45,14 @@ scales w = int_le (pos 1) (context (fields w)).granularity && int_le (pos 1) (co
 abbrev pub last_phase : List ℕ → List Phase
 last_phase w = when (not (scales w)) faults.BadGranularity ∷ []
 
-pub no_table : (w : List ℕ) → wire w ≡ None → is_there (each (fields w) 1) ≡ false → first (head_phases w) ≡ Some faults.NoStringTable
+pub no_table : (w : List ℕ) → wire w ≡ None → is_there (each (fields w) BLOCK_STRINGTABLE) ≡ false → first (head_phases w) ≡ Some faults.NoStringTable
 no_table w none empty =
-    ap (λ o. first (option_map faults.BlockWire o ∷ when (not (is_there (each (fields w) 1))) faults.NoStringTable ∷ (tables w ++ texts w) ++ last_phase w)) none
+    ap (λ o. first (option_map faults.BlockWire o ∷ when (not (is_there (each (fields w) BLOCK_STRINGTABLE))) faults.NoStringTable ∷ (tables w ++ texts w) ++ last_phase w)) none
     ∙ ap (λ v. first (when (not v) faults.NoStringTable ∷ (tables w ++ texts w) ++ last_phase w)) empty
 
-pub past_table : (w : List ℕ) → wire w ≡ None → is_there (each (fields w) 1) ≡ true → first (head_phases w) ≡ first ((tables w ++ texts w) ++ last_phase w)
+pub past_table : (w : List ℕ) → wire w ≡ None → is_there (each (fields w) BLOCK_STRINGTABLE) ≡ true → first (head_phases w) ≡ first ((tables w ++ texts w) ++ last_phase w)
 past_table w none there =
-    ap (λ o. first (option_map faults.BlockWire o ∷ when (not (is_there (each (fields w) 1))) faults.NoStringTable ∷ (tables w ++ texts w) ++ last_phase w)) none
+    ap (λ o. first (option_map faults.BlockWire o ∷ when (not (is_there (each (fields w) BLOCK_STRINGTABLE))) faults.NoStringTable ∷ (tables w ++ texts w) ++ last_phase w)) none
     ∙ ap (λ v. first (when (not v) faults.NoStringTable ∷ (tables w ++ texts w) ++ last_phase w)) there
 
 pub stop_tables : (w : List ℕ) (whole : Phase) → whole ≡ first ((tables w ++ texts w) ++ last_phase w) → (f : BlockFault) → first (tables w) ≡ Some f → whole ≡ Some f

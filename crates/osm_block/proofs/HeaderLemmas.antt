@@ -13,9 +13,11 @@ use Rattle.pbf_wire.specs.FieldList.{item_and, items_from, items_within, view_it
 use Rattle.pbf_wire.specs.Readings.{front, fields, wire, each, sub, is_there, fitting, number_of, bytes_of}
 use Rattle.pbf_wire.specs.Walk.{items_left}
 use Rattle.pbf_wire.proofs.FieldListLaws.{items_step}
+use Rattle.osm_block.specs.declared.fields.TheConstants.{HEADER_BBOX, HEADER_OPTIONAL_FEATURES, HEADER_REPLICATION_BASE_URL, HEADER_REQUIRED_FEATURES, HEADER_SOURCE, HEADER_WRITINGPROGRAM}
 use Rattle.osm_block.specs.declared.header.fault.HeaderFault.TheVariants as faults
 use Rattle.osm_block.specs.declared.header.BBox.{BBox}
 use Rattle.osm_block.specs.HeaderBlock.{box_of, Phase, when, first, wire_phase, is_incomplete, are_texts, unknown_feature, header_fault}
+use Rattle.osm_block.proofs.FieldLemmas.{last_or-append}
 
 nothing_behind : (r : Result (Option (Entry × ℕ)) WireFault) (behind : ℕ → List (Result Entry WireFault)) (f : WireFault) (rest : List (Result Entry WireFault)) →
     item_and r behind ≡ Err f ∷ rest → rest ≡ []
@@ -42,7 +44,7 @@ both false b e = absurd cc
 pub first_is_text : (all : List (List ℕ)) (t : List ℕ) (rest : List (List ℕ)) → list_all is_utf8 all ≡ true → all ≡ t ∷ rest → ¬ (IsUtf8 t) → ⊥
 first_is_text all t rest e steps h = h (IsUtf8-from_is_utf8 t (both (is_utf8 t) (list_all is_utf8 rest) (sym (ap (list_all is_utf8) steps) ∙ e)).0)
 
-bool_false : (b : Bool) → (b ≡ true → ⊥) → b ≡ false
+pub bool_false : (b : Bool) → (b ≡ true → ⊥) → b ≡ false
 bool_false true h = absurd (h refl)
 bool_false false h = refl
 
@@ -82,10 +84,6 @@ few_payloads w k = omega (arith, fitting_few bytes_of k (fields w), front_few (i
 
 -- ---- one side of a box that several payloads make together
 
-last_or-append : (b : Option ℕ) (xs ys : List ℕ) → last_or b (xs ++ ys) ≡ last_or (last_or b xs) ys
-last_or-append b [] ys = refl
-last_or-append b (x ∷ xs) ys = last_or-append (Some x) xs ys
-
 pub next_side : (k : ℕ) (old new whole : Option ℕ) (all : List (List ℕ)) (p : List ℕ) (rest : List (List ℕ)) → all ≡ p ∷ rest → new ≡ last_or old (fitting number_of k (fields p)) →
     last_or old (fitting number_of k (flat_map fields all)) ≡ whole → last_or new (fitting number_of k (flat_map fields rest)) ≡ whole
 next_side k old new whole all p rest steps is so_far =
@@ -108,17 +106,17 @@ judged w boxes incomplete texts unknown =
 
 -- the fault by its parts, as they were read
 pub header_fault_is : (w : List ℕ) (v : Option WireFault) (boxes : Phase) (incomplete texts : Bool) (unknown : Option ℕ) →
-    v ≡ wire w → boxes ≡ first (map wire_phase (each (fields w) 1)) → incomplete ≡ is_incomplete (fields w) → texts ≡ are_texts (fields w) → unknown ≡ unknown_feature (each (fields w) 4) →
+    v ≡ wire w → boxes ≡ first (map wire_phase (each (fields w) HEADER_BBOX)) → incomplete ≡ is_incomplete (fields w) → texts ≡ are_texts (fields w) → unknown ≡ unknown_feature (each (fields w) HEADER_REQUIRED_FEATURES) →
     header_fault w ≡ judged v boxes incomplete texts unknown
 unfolding header_fault
 header_fault_is w v boxes incomplete texts unknown ev eb ei et eu =
-    let bs : List Phase = map wire_phase (each (fields w) 1) in
-    let rest : List Phase = when (is_incomplete (fields w)) faults.BBoxIncomplete ∷ when (not (are_texts (fields w))) faults.HeaderTextNotUtf8 ∷ option_map faults.UnknownFeature (unknown_feature (each (fields w) 4)) ∷ [] in
+    let bs : List Phase = map wire_phase (each (fields w) HEADER_BBOX) in
+    let rest : List Phase = when (is_incomplete (fields w)) faults.BBoxIncomplete ∷ when (not (are_texts (fields w))) faults.HeaderTextNotUtf8 ∷ option_map faults.UnknownFeature (unknown_feature (each (fields w) HEADER_REQUIRED_FEATURES)) ∷ [] in
     after (wire_phase w) bs rest
-    ∙ ap (λ x. judged x (first bs) (is_incomplete (fields w)) (are_texts (fields w)) (unknown_feature (each (fields w) 4))) (sym ev)
-    ∙ ap (λ x. judged v x (is_incomplete (fields w)) (are_texts (fields w)) (unknown_feature (each (fields w) 4))) (sym eb)
-    ∙ ap (λ x. judged v boxes x (are_texts (fields w)) (unknown_feature (each (fields w) 4))) (sym ei)
-    ∙ ap (λ x. judged v boxes incomplete x (unknown_feature (each (fields w) 4))) (sym et)
+    ∙ ap (λ x. judged x (first bs) (is_incomplete (fields w)) (are_texts (fields w)) (unknown_feature (each (fields w) HEADER_REQUIRED_FEATURES))) (sym ev)
+    ∙ ap (λ x. judged v x (is_incomplete (fields w)) (are_texts (fields w)) (unknown_feature (each (fields w) HEADER_REQUIRED_FEATURES))) (sym eb)
+    ∙ ap (λ x. judged v boxes x (are_texts (fields w)) (unknown_feature (each (fields w) HEADER_REQUIRED_FEATURES))) (sym ei)
+    ∙ ap (λ x. judged v boxes incomplete x (unknown_feature (each (fields w) HEADER_REQUIRED_FEATURES))) (sym et)
     ∙ ap (λ x. judged v boxes incomplete texts x) (sym eu)
   where
     after : (p : Phase) (ps qs : List Phase) → first ((p ∷ ps) ++ qs) ≡ first (p ∷ first ps ∷ qs)
@@ -126,7 +124,7 @@ header_fault_is w v boxes incomplete texts unknown ev eb ei et eu =
     after (Some f) ps qs = refl
 
 -- where all texts are UTF-8, those of one field are
-pub texts_of : (fs : List Entry) → are_texts fs ≡ true → (list_all is_utf8 (each fs 4) ≡ true) × (list_all is_utf8 (each fs 5) ≡ true) × (list_all is_utf8 (each fs 16) ≡ true) × (list_all is_utf8 (each fs 17) ≡ true) × (list_all is_utf8 (each fs 34) ≡ true)
+pub texts_of : (fs : List Entry) → are_texts fs ≡ true → (list_all is_utf8 (each fs HEADER_REQUIRED_FEATURES) ≡ true) × (list_all is_utf8 (each fs HEADER_OPTIONAL_FEATURES) ≡ true) × (list_all is_utf8 (each fs HEADER_WRITINGPROGRAM) ≡ true) × (list_all is_utf8 (each fs HEADER_SOURCE) ≡ true) × (list_all is_utf8 (each fs HEADER_REPLICATION_BASE_URL) ≡ true)
 texts_of fs e =
     let a = both _ _ e in
     let b = both _ _ a.1 in
@@ -142,6 +140,6 @@ none_is false None e = absurd cc
 none_is false (Some b) e = refl
 
 -- whether the box is incomplete, as it was tested
-pub incomplete_is : (fs : List Entry) (there none test : Bool) (b : Option BBox) → there ≡ is_there (each fs 1) → b ≡ box_of (sub fs 1) → is_some b ≡ not none → (there && none) ≡ test → test ≡ is_incomplete fs
+pub incomplete_is : (fs : List Entry) (there none test : Bool) (b : Option BBox) → there ≡ is_there (each fs HEADER_BBOX) → b ≡ box_of (sub fs HEADER_BBOX) → is_some b ≡ not none → (there && none) ≡ test → test ≡ is_incomplete fs
 incomplete_is fs there none test b et eb en e =
-    sym e ∙ ap (λ x. x && none) et ∙ ap (λ x. is_there (each fs 1) && x) (none_is none b en ∙ ap is_none eb)
+    sym e ∙ ap (λ x. x && none) et ∙ ap (λ x. is_there (each fs HEADER_BBOX) && x) (none_is none b en ∙ ap is_none eb)

@@ -3,6 +3,7 @@ use Rattle.std.proofs.Common.{◌≡◌, ℕ, ◌+◌, ◌<◌, List, [], ◌∷
 use Rattle.std.specs.Prelude.{option_map, IsNone, OnOk, Result, Ok, Err, Bool, true, false, not, nat_le, ◌≤◌}
 use Rattle.std.proofs.lemmas.Bool.Decides.{nat_tests}
 use Rattle.pbf_wire.specs.Field.{Entry}
+use Rattle.osm_block.specs.declared.fields.TheConstants.{GROUP_DENSE, GROUP_NODES, GROUP_RELATIONS, GROUP_WAYS}
 use Rattle.osm_block.specs.declared.fault.BlockFault.TheVariants as faults
 use Rattle.std.specs.List.{flat_map, AllByRecursion, count_by}
 use Rattle.std.proofs.lemmas.List.{map-append, drop_more, take_more}
@@ -113,22 +114,22 @@ pub Appended-along : (b : Context) (old new : List Element) (ms ns : List Messag
 Appended-along b old new ms ns e g = let P : List Message → Type 0 = λ l. Appended b old new l in subst P e g
 
 -- the kinds of a group are those of its parts
-pub kinds_are : (gs : List Entry) (p q r s : List (List ℕ)) → p ≡ each gs 1 → q ≡ each gs 2 → r ≡ each gs 3 → s ≡ each gs 4 →
+pub kinds_are : (gs : List Entry) (p q r s : List (List ℕ)) → p ≡ each gs GROUP_NODES → q ≡ each gs GROUP_DENSE → r ≡ each gs GROUP_WAYS → s ≡ each gs GROUP_RELATIONS →
     count_by (λ x. x) (is_there p ∷ is_there q ∷ is_there r ∷ is_there s ∷ []) ≡ kinds_in gs
 kinds_are gs p q r s ep eq er es =
     ap (λ x. count_by (λ x. x) (is_there x ∷ is_there q ∷ is_there r ∷ is_there s ∷ [])) ep
-    ∙ ap (λ x. count_by (λ x. x) (is_there (each gs 1) ∷ is_there x ∷ is_there r ∷ is_there s ∷ [])) eq
-    ∙ ap (λ x. count_by (λ x. x) (is_there (each gs 1) ∷ is_there (each gs 2) ∷ is_there x ∷ is_there s ∷ [])) er
-    ∙ ap (λ x. count_by (λ x. x) (is_there (each gs 1) ∷ is_there (each gs 2) ∷ is_there (each gs 3) ∷ is_there x ∷ [])) es
+    ∙ ap (λ x. count_by (λ x. x) (is_there (each gs GROUP_NODES) ∷ is_there x ∷ is_there r ∷ is_there s ∷ [])) eq
+    ∙ ap (λ x. count_by (λ x. x) (is_there (each gs GROUP_NODES) ∷ is_there (each gs GROUP_DENSE) ∷ is_there x ∷ is_there s ∷ [])) er
+    ∙ ap (λ x. count_by (λ x. x) (is_there (each gs GROUP_NODES) ∷ is_there (each gs GROUP_DENSE) ∷ is_there (each gs GROUP_WAYS) ∷ is_there x ∷ [])) es
 
 -- the messages of a group are those of its parts
-pub messages_are : (gs : List Entry) (p q r s : List (List ℕ)) → p ≡ each gs 1 → q ≡ each gs 2 → r ≡ each gs 3 → s ≡ each gs 4 →
+pub messages_are : (gs : List Entry) (p q r s : List (List ℕ)) → p ≡ each gs GROUP_NODES → q ≡ each gs GROUP_DENSE → r ≡ each gs GROUP_WAYS → s ≡ each gs GROUP_RELATIONS →
     map Plain p ++ (Dense q ∷ (map Way r ++ map Relation s)) ≡ messages gs
 messages_are gs p q r s ep eq er es =
     ap (λ x. map Plain x ++ (Dense q ∷ (map Way r ++ map Relation s))) ep
-    ∙ ap (λ x. map Plain (each gs 1) ++ (Dense x ∷ (map Way r ++ map Relation s))) eq
-    ∙ ap (λ x. map Plain (each gs 1) ++ (Dense (each gs 2) ∷ (map Way x ++ map Relation s))) er
-    ∙ ap (λ x. map Plain (each gs 1) ++ (Dense (each gs 2) ∷ (map Way (each gs 3) ++ map Relation x))) es
+    ∙ ap (λ x. map Plain (each gs GROUP_NODES) ++ (Dense x ∷ (map Way r ++ map Relation s))) eq
+    ∙ ap (λ x. map Plain (each gs GROUP_NODES) ++ (Dense (each gs GROUP_DENSE) ∷ (map Way x ++ map Relation s))) er
+    ∙ ap (λ x. map Plain (each gs GROUP_NODES) ++ (Dense (each gs GROUP_DENSE) ∷ (map Way (each gs GROUP_WAYS) ++ map Relation x))) es
 
 pub mixed : (b : Context) (g : List ℕ) (m : Bool) → wire g ≡ None → m ≡ not (nat_le (kinds_in (fields g)) 1) → m ≡ true → first (group_phases b g) ≡ Some faults.MixedGroup
 mixed b g m none is stands =

@@ -1,8 +1,9 @@
 -- A sum is in a range where one part is in the range moved by the other.
-use Rattle.std.proofs.Common.{◌≡◌, ap, ◌∙◌, sym, refl, arith, ◌&&◌, Bool, true, false, ℤ, pos, negsuc, ◌+ℤ◌, ◌-ℤ◌, ◌≤ℤ◌}
+use Rattle.std.proofs.Common.{◌≡◌, ap, ◌∙◌, sym, refl, arith, ◌&&◌, Bool, true, false, ℤ, ◌+ℤ◌, ◌-ℤ◌, ◌≤ℤ◌}
 use Rattle.std.specs.Prelude.{int_le, T}
 use Rattle.std.proofs.lemmas.Int.{ints}
 use Rattle.osm_value.specs.Ranges.{is_wide}
+use Rattle.osm_block.specs.declared.ranges.TheConstants.{LEAST, MOST}
 
 truth : (b : Bool) → T b → b ≡ true
 truth true t = refl
@@ -46,5 +47,5 @@ shift_high b o m = same_test (int_le m (b -ℤ o)) (int_le (o +ℤ m) b)
 shift_both : (a b o m : ℤ) → (int_le (a -ℤ o) m && int_le m (b -ℤ o)) ≡ (int_le a (o +ℤ m) && int_le (o +ℤ m) b)
 shift_both a b o m = ap (λ x. x && int_le m (b -ℤ o)) (shift_low a o m) ∙ ap (λ x. int_le a (o +ℤ m) && x) (shift_high b o m)
 
-pub range_shift : (o m : ℤ) → (int_le (negsuc 4611686018427387902 -ℤ o) m && int_le m (pos 4611686018427387903 -ℤ o)) ≡ is_wide (o +ℤ m)
-range_shift o m = shift_both (negsuc 4611686018427387902) (pos 4611686018427387903) o m
+pub range_shift : (o m : ℤ) → (int_le (LEAST -ℤ o) m && int_le m (MOST -ℤ o)) ≡ is_wide (o +ℤ m)
+range_shift o m = shift_both LEAST MOST o m

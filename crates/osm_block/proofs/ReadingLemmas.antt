@@ -1,17 +1,34 @@
 -- What is read from several payloads, one after the other.
-use Rattle.std.proofs.Common.{◌≡◌, ℕ, zero, suc, ◌+◌, ◌<◌, List, [], ◌∷◌, ◌++◌, map, length, drop, take, get_or, refl, sym, ap, ◌∙◌, Some, None, Result, Err, append_assoc, subst, set, arith}
+use Rattle.std.proofs.Common.{◌≡◌, ℕ, zero, suc, ◌+◌, ◌<◌, List, [], ◌∷◌, ◌++◌, map, length, drop, take, get_or, refl, sym, ap, ◌∙◌, Option, Some, None, Result, Ok, Err, append_assoc, subst, set, arith}
 use Rattle.std.specs.Prelude.{⊤}
 use Rattle.std.specs.List.{flat_map}
+use Rattle.std.specs.Result.{result_err}
 use Rattle.std.proofs.lemmas.List.{drop_more}
 use Rattle.std.proofs.lemmas.List.Elements.{filter_map-append}
 use Rattle.std.proofs.lemmas.Grind.{flat_map-append}
+use Rattle.pbf_wire.specs.declared.fault.WireFault.{WireFault}
+use Rattle.pbf_wire.specs.Fault as reading
 use Rattle.pbf_wire.specs.Field.{Entry}
+use Rattle.pbf_wire.specs.FieldList.{fields_of}
+use Rattle.pbf_wire.proofs.Choices.{err_is}
+use Rattle.pbf_wire.proofs.ReadingLaws.{fields_are, wire_is}
 use Rattle.osm_block.specs.declared.fault.BlockFault.{BlockFault}
 use Rattle.osm_block.specs.declared.fault.BlockError.{BlockError}
 use Rattle.osm_block.specs.declared.fault.BlockError.TheVariants as errors
-use Rattle.pbf_wire.specs.Readings.{fields}
-use Rattle.pbf_wire.specs.Readings.{fitting, numbers_of, each, nums}
+use Rattle.pbf_wire.specs.Readings.{fields, wire, fitting, numbers_of, each, nums}
 use Rattle.osm_block.specs.Phases.{Phase, Gives, first}
+
+-- ---- a payload that is a field list, or isn't
+
+-- what reads w as a message answers the fault of its wire
+pub err-of_gives : {M : Type 0} (view : M → List Entry) (r : Result M WireFault) (w : List ℕ) → reading.Gives view r (fields_of w) → result_err r ≡ wire w
+err-of_gives {M} view r w g = by r (wire w) refl g
+  where
+    by : (r : Result M WireFault) (o : Option WireFault) → wire w ≡ o → reading.Gives view r (fields_of w) → result_err r ≡ o
+    by (Ok m) None e g = refl
+    by (Ok m) (Some f) e g = let h : Err f ≡ Ok (view m) = sym (wire_is w f e) ∙ g in absurd cc
+    by (Err d) None e g = let h : Ok (fields w) ≡ Err d = sym (fields_are w e) ∙ g in absurd cc
+    by (Err d) (Some f) e g = ap Some (sym (err_is {A = List Entry} f d (sym (wire_is w f e) ∙ g)))
 
 -- ---- lists of phases
 

@@ -8,6 +8,7 @@ use Rattle.osm_value.specs.declared.element.Element.TheVariants as elements
 use Rattle.osm_value.specs.Value.{Text, InfoValue, NodeValue}
 use Rattle.osm_value.specs.Ranges.{IsInfo}
 use Rattle.pbf_wire.specs.Readings.{fields}
+use Rattle.osm_block.specs.declared.fields.TheConstants.{BLOCK_PRIMITIVEGROUP}
 use Rattle.osm_block.specs.Message.{Context, DenseInfoMessage, DenseMessage, Message, Plain, Dense, Way, Relation, node_message, dense_message, way_message, relation_message, context, messages}
 use Rattle.pbf_wire.specs.Readings.{each}
 use Rattle.osm_block.specs.DenseTags.{Pair, Tags, pairs_and_zero, KeysAreNotZero, pairs_of}
@@ -147,4 +148,4 @@ GroupOf-unique b xs ys w g h = Joins-unique (λ zs m. AllAreWire m × MessageOf 
 
 -- a block says one list of elements
 pub Block-unique : (es fs : List Element) (w : List ℕ) → Block es w → Block fs w → es ≡ fs
-Block-unique es fs w g h = Joins-unique (GroupOf (context (fields w))) (GroupOf-unique (context (fields w))) es fs (each (fields w) 2) g.elements_are h.elements_are
+Block-unique es fs w g h = Joins-unique (GroupOf (context (fields w))) (GroupOf-unique (context (fields w))) es fs (each (fields w) BLOCK_PRIMITIVEGROUP) g.elements_are h.elements_are

@@ -9,6 +9,7 @@ use Rattle.osm_value.specs.Ranges.{IsText, IsInfo, IsNode, IsWay, IsRelation}
 use Rattle.osm_value.specs.Value.{Text, InfoValue, NodeValue, WayValue, RelationValue}
 use Rattle.pbf_wire.specs.Field.{Entry}
 use Rattle.pbf_wire.specs.Readings.{fields, wire, each, is_there}
+use Rattle.osm_block.specs.declared.fields.TheConstants.{BLOCK_PRIMITIVEGROUP, BLOCK_STRINGTABLE, GROUP_DENSE, GROUP_NODES, GROUP_RELATIONS, GROUP_WAYS}
 use Rattle.osm_block.specs.Message.{InfoMessage, DenseInfoMessage, NodeMessage, DenseMessage, WayMessage, RelationMessage, Context, Message, Plain, Dense, Way, Relation, messages, wires, context, node_message, dense_message, way_message, relation_message}
 use Rattle.osm_block.specs.Differences.{Diff}
 use Rattle.osm_block.specs.DenseTags.{Pair, Tags}
@@ -136,7 +137,7 @@ Joins {A} R es (x ∷ xs) = (front rest : List A) × (es ≡ front ++ rest) × R
 
 -- how many kinds of elements a group has fields of
 abbrev pub kinds_in : List Entry → ℕ
-kinds_in gs = count_by (λ k. is_there (each gs k)) (1 ∷ 2 ∷ 3 ∷ 4 ∷ [])
+kinds_in gs = count_by (λ k. is_there (each gs k)) (GROUP_NODES ∷ GROUP_DENSE ∷ GROUP_WAYS ∷ GROUP_RELATIONS ∷ [])
 
 pub record GroupOf (b : Context) (es : List Element) (g : List ℕ) : Type 0 where
   pub is_message : wire g ≡ None
@@ -145,9 +146,9 @@ pub record GroupOf (b : Context) (es : List Element) (g : List ℕ) : Type 0 whe
 
 pub record Block (es : List Element) (w : List ℕ) : Type 0 where
   pub is_message : wire w ≡ None
-  pub has_table : is_there (each (fields w) 1) ≡ true
-  pub tables_are : AllByRecursion (λ p. wire p ≡ None) (each (fields w) 1)
+  pub has_table : is_there (each (fields w) BLOCK_STRINGTABLE) ≡ true
+  pub tables_are : AllByRecursion (λ p. wire p ≡ None) (each (fields w) BLOCK_STRINGTABLE)
   pub texts_are : AllByRecursion IsText (context (fields w)).table
   pub granularity : pos 1 ≤ℤ (context (fields w)).granularity
   pub date_granularity : pos 1 ≤ℤ (context (fields w)).date_granularity
-  pub elements_are : Joins (GroupOf (context (fields w))) es (each (fields w) 2)
+  pub elements_are : Joins (GroupOf (context (fields w))) es (each (fields w) BLOCK_PRIMITIVEGROUP)

@@ -7,6 +7,7 @@ use Rattle.pbf_wire.specs.Field.{Content, Number, Bytes, Entry}
 use Rattle.pbf_wire.specs.FieldList.{last_or}
 use Rattle.pbf_wire.specs.Readings.{fields, wire, numbers, packed, fitting, number_of, last, each, nums}
 use Rattle.osm_value.specs.Ranges.{passes}
+use Rattle.osm_block.specs.declared.fields.TheConstants.{ELEMENT_ID, ELEMENT_INFO, ELEMENT_KEYS, ELEMENT_VALS, INFO_CHANGESET, INFO_TIMESTAMP, INFO_UID, INFO_USER_SID, INFO_VERSION, INFO_VISIBLE, NODE_LAT, NODE_LON, RELATION_MEMIDS, RELATION_ROLES_SID, RELATION_TYPES, WAY_REFS}
 use Rattle.osm_block.specs.declared.column.Column.{Column}
 use Rattle.osm_block.specs.declared.info.InfoNumbers.{InfoNumbers}
 use Rattle.osm_block.specs.declared.info.InfoFields.{InfoFields}
@@ -32,12 +33,12 @@ first_there (x ∷ xs) = option_or x (first_there xs)
 -- the numbers of an Info after further fields
 abbrev pub info_after : InfoNumbers → List Entry → InfoNumbers
 info_after i fs = record {
-  version = last_or i.version (fitting number_of 1 fs);
-  timestamp = last_or i.timestamp (fitting number_of 2 fs);
-  changeset = last_or i.changeset (fitting number_of 3 fs);
-  uid = last_or i.uid (fitting number_of 4 fs);
-  user_sid = last_or i.user_sid (fitting number_of 5 fs);
-  visible = last_or i.visible (fitting number_of 6 fs);
+  version = last_or i.version (fitting number_of INFO_VERSION fs);
+  timestamp = last_or i.timestamp (fitting number_of INFO_TIMESTAMP fs);
+  changeset = last_or i.changeset (fitting number_of INFO_CHANGESET fs);
+  uid = last_or i.uid (fitting number_of INFO_UID fs);
+  user_sid = last_or i.user_sid (fitting number_of INFO_USER_SID fs);
+  visible = last_or i.visible (fitting number_of INFO_VISIBLE fs);
 }
 
 abbrev pub no_info : InfoNumbers
@@ -57,28 +58,28 @@ pub record InfoLeft (info : InfoFields) (k : ℕ) (rest whole : List Entry) : Ty
   pub fault : option_or info.fault (first_there (map wire (each rest k))) ≡ first_there (map wire (each whole k))
 
 pub record NodeLeft (node : NodeFields) (rest whole : List Entry) : Type 0 where
-  pub id : NumberLeft node.id 1 rest whole
-  pub keys : ColumnLeft node.keys 2 rest whole
-  pub vals : ColumnLeft node.vals 3 rest whole
-  pub info : InfoLeft node.info 4 rest whole
-  pub lat : NumberLeft node.lat 8 rest whole
-  pub lon : NumberLeft node.lon 9 rest whole
+  pub id : NumberLeft node.id ELEMENT_ID rest whole
+  pub keys : ColumnLeft node.keys ELEMENT_KEYS rest whole
+  pub vals : ColumnLeft node.vals ELEMENT_VALS rest whole
+  pub info : InfoLeft node.info ELEMENT_INFO rest whole
+  pub lat : NumberLeft node.lat NODE_LAT rest whole
+  pub lon : NumberLeft node.lon NODE_LON rest whole
 
 pub record WayLeft (way : WayFields) (rest whole : List Entry) : Type 0 where
-  pub id : NumberLeft way.id 1 rest whole
-  pub keys : ColumnLeft way.keys 2 rest whole
-  pub vals : ColumnLeft way.vals 3 rest whole
-  pub info : InfoLeft way.info 4 rest whole
-  pub refs : ColumnLeft way.refs 8 rest whole
+  pub id : NumberLeft way.id ELEMENT_ID rest whole
+  pub keys : ColumnLeft way.keys ELEMENT_KEYS rest whole
+  pub vals : ColumnLeft way.vals ELEMENT_VALS rest whole
+  pub info : InfoLeft way.info ELEMENT_INFO rest whole
+  pub refs : ColumnLeft way.refs WAY_REFS rest whole
 
 pub record RelationLeft (relation : RelationFields) (rest whole : List Entry) : Type 0 where
-  pub id : NumberLeft relation.id 1 rest whole
-  pub keys : ColumnLeft relation.keys 2 rest whole
-  pub vals : ColumnLeft relation.vals 3 rest whole
-  pub info : InfoLeft relation.info 4 rest whole
-  pub roles : ColumnLeft relation.roles 8 rest whole
-  pub memids : ColumnLeft relation.memids 9 rest whole
-  pub types : ColumnLeft relation.types 10 rest whole
+  pub id : NumberLeft relation.id ELEMENT_ID rest whole
+  pub keys : ColumnLeft relation.keys ELEMENT_KEYS rest whole
+  pub vals : ColumnLeft relation.vals ELEMENT_VALS rest whole
+  pub info : InfoLeft relation.info ELEMENT_INFO rest whole
+  pub roles : ColumnLeft relation.roles RELATION_ROLES_SID rest whole
+  pub memids : ColumnLeft relation.memids RELATION_MEMIDS rest whole
+  pub types : ColumnLeft relation.types RELATION_TYPES rest whole
 
 -- ---- indexes of 32 bits in a table of that many texts
 

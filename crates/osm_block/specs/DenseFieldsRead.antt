@@ -2,6 +2,7 @@
 use Rattle.std.specs.Prelude.{◌≡◌, ℕ, ◌%◌, ◌^◌, List, map}
 use Rattle.pbf_wire.specs.Field.{Entry}
 use Rattle.pbf_wire.specs.Readings.{packed, each, nums, fitting, is_there}
+use Rattle.osm_block.specs.declared.fields.TheConstants.{DENSEINFO_CHANGESET, DENSEINFO_TIMESTAMP, DENSEINFO_UID, DENSEINFO_USER_SID, DENSEINFO_VERSION, DENSEINFO_VISIBLE}
 use Rattle.osm_block.specs.declared.column.Column.{Column}
 use Rattle.osm_block.specs.declared.dense.fields.DenseInfoFields.{DenseInfoFields}
 use Rattle.osm_block.specs.Message.{some_visible}
@@ -18,9 +19,9 @@ pub record ColumnRead32 (column : Column) (k : ℕ) (fs : List Entry) : Type 0 w
   pub fault : column.fault ≡ first_there (map packed (each fs k))
 
 pub record DenseInfoRead (info : DenseInfoFields) (fs : List Entry) : Type 0 where
-  pub versions : ColumnRead info.versions 1 fs
-  pub timestamps : ColumnRead info.timestamps 2 fs
-  pub changesets : ColumnRead info.changesets 3 fs
-  pub uids : ColumnRead32 info.uids 4 fs
-  pub users : ColumnRead32 info.users 5 fs
-  pub visible : info.has_visible ≡ is_there (fitting some_visible 6 fs)
+  pub versions : ColumnRead info.versions DENSEINFO_VERSION fs
+  pub timestamps : ColumnRead info.timestamps DENSEINFO_TIMESTAMP fs
+  pub changesets : ColumnRead info.changesets DENSEINFO_CHANGESET fs
+  pub uids : ColumnRead32 info.uids DENSEINFO_UID fs
+  pub users : ColumnRead32 info.users DENSEINFO_USER_SID fs
+  pub visible : info.has_visible ≡ is_there (fitting some_visible DENSEINFO_VISIBLE fs)

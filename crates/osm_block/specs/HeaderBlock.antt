@@ -6,6 +6,7 @@ use Rattle.osm_value.specs.Value.{Text}
 use Rattle.pbf_wire.specs.Field.{Entry}
 use Rattle.pbf_wire.specs.FieldList.{last_or}
 use Rattle.pbf_wire.specs.Readings.{fields, wire, int64, sint64, last, each, sub, is_there}
+use Rattle.osm_block.specs.declared.fields.TheConstants.{BBOX_BOTTOM, BBOX_LEFT, BBOX_RIGHT, BBOX_TOP, HEADER_BBOX, HEADER_OPTIONAL_FEATURES, HEADER_REPLICATION_BASE_URL, HEADER_REPLICATION_SEQUENCE_NUMBER, HEADER_REPLICATION_TIMESTAMP, HEADER_REQUIRED_FEATURES, HEADER_SOURCE, HEADER_WRITINGPROGRAM}
 use Rattle.osm_block.specs.declared.header.BBox.{BBox}
 use Rattle.osm_block.specs.declared.header.fault.HeaderFault.{HeaderFault}
 use Rattle.osm_block.specs.declared.header.fault.HeaderFault.TheVariants as faults
@@ -33,7 +34,7 @@ abbrev pub side : List Entry → ℕ → Option ℤ
 side fs k = option_map sint64 (last fs k)
 
 abbrev pub box_of : List Entry → Option BBox
-box_of fs = box_of_sides (side fs 1) (side fs 2) (side fs 3) (side fs 4)
+box_of fs = box_of_sides (side fs BBOX_LEFT) (side fs BBOX_RIGHT) (side fs BBOX_TOP) (side fs BBOX_BOTTOM)
 
 -- the last payload counts
 abbrev pub last_text : List Entry → ℕ → Option Text
@@ -52,14 +53,14 @@ pub record HeaderValue : Type 0 where
 -- The parts of a header block. A box that occurs several times is one.
 abbrev pub header_value : List Entry → HeaderValue
 header_value fs = record {
-  bbox = box_of (sub fs 1);
-  required = each fs 4;
-  optional = each fs 5;
-  program = last_text fs 16;
-  source = last_text fs 17;
-  timestamp = option_map int64 (last fs 32);
-  sequence = option_map int64 (last fs 33);
-  url = last_text fs 34;
+  bbox = box_of (sub fs HEADER_BBOX);
+  required = each fs HEADER_REQUIRED_FEATURES;
+  optional = each fs HEADER_OPTIONAL_FEATURES;
+  program = last_text fs HEADER_WRITINGPROGRAM;
+  source = last_text fs HEADER_SOURCE;
+  timestamp = option_map int64 (last fs HEADER_REPLICATION_TIMESTAMP);
+  sequence = option_map int64 (last fs HEADER_REPLICATION_SEQUENCE_NUMBER);
+  url = last_text fs HEADER_REPLICATION_BASE_URL;
 }
 
 -- ---- which fault it is refused with: the first phase that stands, in this order
@@ -82,11 +83,11 @@ wire_phase w = option_map faults.HeaderBlockWire (wire w)
 
 -- a box is there, and one of its sides isn't
 abbrev pub is_incomplete : List Entry → Bool
-is_incomplete fs = is_there (each fs 1) && is_none (box_of (sub fs 1))
+is_incomplete fs = is_there (each fs HEADER_BBOX) && is_none (box_of (sub fs HEADER_BBOX))
 
 -- all texts of these fields are UTF-8
 abbrev pub are_texts : List Entry → Bool
-are_texts fs = list_all (λ k. list_all is_utf8 (each fs k)) (4 ∷ 5 ∷ 16 ∷ 17 ∷ 34 ∷ [])
+are_texts fs = list_all (λ k. list_all is_utf8 (each fs k)) (HEADER_REQUIRED_FEATURES ∷ HEADER_OPTIONAL_FEATURES ∷ HEADER_WRITINGPROGRAM ∷ HEADER_SOURCE ∷ HEADER_REPLICATION_BASE_URL ∷ [])
 
 -- the features that a reader of this form has
 abbrev pub is_known : Text → Bool
@@ -99,10 +100,10 @@ unknown_feature features = position (λ f. not (is_known f)) features
 abbrev pub header_phases : List ℕ → List Phase
 header_phases w = let fs = fields w in
     wire_phase w
-    ∷ map wire_phase (each fs 1)
+    ∷ map wire_phase (each fs HEADER_BBOX)
     ++ when (is_incomplete fs) faults.BBoxIncomplete
     ∷ when (not (are_texts fs)) faults.HeaderTextNotUtf8
-    ∷ option_map faults.UnknownFeature (unknown_feature (each fs 4))
+    ∷ option_map faults.UnknownFeature (unknown_feature (each fs HEADER_REQUIRED_FEATURES))
     ∷ []
 
 unfoldable pub header_fault : List ℕ → Option HeaderFault

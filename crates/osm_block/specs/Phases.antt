@@ -7,6 +7,7 @@ use Rattle.osm_block.specs.declared.fault.BlockFault.{BlockFault}
 use Rattle.osm_block.specs.declared.fault.BlockFault.TheVariants as faults
 use Rattle.osm_block.specs.declared.fault.BlockError.{BlockError}
 use Rattle.osm_block.specs.declared.fault.BlockError.TheVariants as errors
+use Rattle.osm_block.specs.declared.fields.TheConstants.{BLOCK_PRIMITIVEGROUP, BLOCK_STRINGTABLE}
 use Rattle.osm_value.specs.Value.{Text}
 use Rattle.pbf_wire.specs.Readings.{fields, wire, each, is_there}
 use Rattle.osm_block.specs.Message.{InfoMessage, DenseInfoMessage, NodeMessage, DenseMessage, WayMessage, RelationMessage, Context, Message, Plain, Dense, Way, Relation, messages, wires, context, node_message, dense_message, way_message, relation_message}
@@ -151,14 +152,18 @@ group_phases b g =
 abbrev pub text_phases : Text → List Phase
 text_phases t = when (not (is_utf8 t)) faults.TextNotUtf8 ∷ when (not (has_no_nul t)) faults.TextHasNul ∷ []
 
-abbrev pub phases : List ℕ → List Phase
-phases w = let fs = fields w in let b = context fs in
+-- what tests a block before its groups
+abbrev pub head_phases : List ℕ → List Phase
+head_phases w = let fs = fields w in let b = context fs in
     wire_phases (wire w ∷ [])
-    ++ when (not (is_there (each fs 1))) faults.NoStringTable
-    ∷ wire_phases (map wire (each fs 1))
+    ++ when (not (is_there (each fs BLOCK_STRINGTABLE))) faults.NoStringTable
+    ∷ wire_phases (map wire (each fs BLOCK_STRINGTABLE))
     ++ flat_map text_phases b.table
     ++ when (not (int_le (pos 1) b.granularity && int_le (pos 1) b.date_granularity)) faults.BadGranularity
-    ∷ flat_map (group_phases b) (each fs 2)
+    ∷ []
+
+abbrev pub phases : List ℕ → List Phase
+phases w = head_phases w ++ flat_map (group_phases (context (fields w))) (each (fields w) BLOCK_PRIMITIVEGROUP)
 
 unfoldable pub fault : List ℕ → Option BlockFault
 fault w = first (phases w)

@@ -7,11 +7,15 @@ ghost use Rattle.pbf_wire.specs.Readings.{each, last, int64};
 ghost use Rattle.osm_block.specs.Message.{context};
 ghost use Rattle.osm_block.specs.Block.{Block};
 ghost use Rattle.osm_value.specs.Ranges.{IsText};
-ghost use Rattle.osm_block.specs.Head.{HeadRead, head_phases};
+ghost use Rattle.osm_block.specs.Head.{HeadRead};
 ghost use Rattle.osm_block.specs.Fields.{context_of};
-ghost use Rattle.osm_block.specs.Phases.{Gives, first, fault, text_phases};
+ghost use Rattle.osm_block.specs.Phases.{Gives, first, fault, text_phases, head_phases};
 
 use crate::fault::{BlockError, BlockFault};
+use crate::fields::{
+    BLOCK_DATE_GRANULARITY, BLOCK_GRANULARITY, BLOCK_LAT_OFFSET, BLOCK_LON_OFFSET,
+    BLOCK_PRIMITIVEGROUP, BLOCK_STRINGTABLE, STRINGTABLE_S,
+};
 use crate::group::{Parts, Scratch, read_groups, some_there};
 use crate::info::{optional_i32, optional_i64};
 use crate::readings::{check_all, each, each_of_all, last_number, read_payloads, wire_of};
@@ -29,13 +33,13 @@ fn read_scale<'a>(alloc: Global, bytes: &'a [u8]) -> Result<Scale<'a>, BlockErro
         return Err(BlockError::Fault(BlockFault::BlockWire(fault)));
     }
     let mut tables = Vec::new(alloc);
-    read_payloads(bytes, 1, &mut tables)?;
+    read_payloads(bytes, BLOCK_STRINGTABLE, &mut tables)?;
     if !some_there(&tables) {
         return Err(BlockError::Fault(BlockFault::NoStringTable));
     }
     check_all(&tables)?;
     let mut raw = Vec::new(alloc);
-    read_payloads_of_all(&tables, 1, &mut raw)?;
+    read_payloads_of_all(&tables, STRINGTABLE_S, &mut raw)?;
     let table = read_texts(alloc, &raw)?;
     let granularity = granularity_of(bytes);
     let date_granularity = date_granularity_of(bytes);
@@ -46,15 +50,15 @@ fn read_scale<'a>(alloc: Global, bytes: &'a [u8]) -> Result<Scale<'a>, BlockErro
         table,
         granularity,
         date_granularity,
-        lat_offset: offset_of(bytes, 19),
-        lon_offset: offset_of(bytes, 20),
+        lat_offset: offset_of(bytes, BLOCK_LAT_OFFSET),
+        lon_offset: offset_of(bytes, BLOCK_LON_OFFSET),
     })
 }
 
 fn granularity_of(bytes: &[u8]) -> i32
     ensures { result ≡ (context (fields bytes.now)).granularity }
 {
-    match optional_i32(last_number(bytes, 17, None)) {
+    match optional_i32(last_number(bytes, BLOCK_GRANULARITY, None)) {
         Some(granularity) => granularity,
         None => 100,
     }
@@ -63,7 +67,7 @@ fn granularity_of(bytes: &[u8]) -> i32
 fn date_granularity_of(bytes: &[u8]) -> i32
     ensures { result ≡ (context (fields bytes.now)).date_granularity }
 {
-    match optional_i32(last_number(bytes, 18, None)) {
+    match optional_i32(last_number(bytes, BLOCK_DATE_GRANULARITY, None)) {
         Some(granularity) => granularity,
         None => 1000,
     }
@@ -112,7 +116,7 @@ pub fn read_block<'a>(alloc: Global, bytes: &'a [u8]) -> Result<Vec<Element<'a>>
 {
     let scale = read_scale(alloc, bytes)?;
     let mut groups = Vec::new(alloc);
-    each(bytes, 2, &mut groups)?;
+    each(bytes, BLOCK_PRIMITIVEGROUP, &mut groups)?;
     let mut parts = Parts::new(alloc);
     let mut scratch = Scratch::new(alloc);
     let mut out = Vec::new(alloc);

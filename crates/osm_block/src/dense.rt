@@ -45,9 +45,7 @@ fn dense_of<'a>(
         return Err(BlockError::Fault(BlockFault::OutOfRange));
     }
     let texts = scale.table.len();
-    if let Err(fault) = check_tags(&columns.keys_vals, columns.ids.len(), texts) {
-        return Err(BlockError::Fault(fault));
-    }
+    check_tags(&columns.keys_vals, columns.ids.len(), texts)?;
     if !all_users(&columns.users, texts) {
         return Err(BlockError::Fault(BlockFault::BadIndex));
     }

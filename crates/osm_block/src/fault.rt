@@ -128,6 +128,14 @@ impl From<WireFault> for BlockError {
     }
 }
 
+impl From<BlockFault> for BlockError {
+    ghost from_gives = { λ f e. e ≡ Fault f };
+
+    fn from(fault: BlockFault) -> BlockError {
+        BlockError::Fault(fault)
+    }
+}
+
 impl From<AllocError> for BlockError {
     ghost from_gives = { λ _ e. e ≡ Memory };
 

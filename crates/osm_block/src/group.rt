@@ -14,6 +14,7 @@ ghost use Rattle.osm_block.specs.Reads.{Appended, AppendedOne, AppendedGroups};
 
 use crate::dense::read_dense;
 use crate::fault::{BlockError, BlockFault};
+use crate::fields::{GROUP_DENSE, GROUP_NODES, GROUP_RELATIONS, GROUP_WAYS};
 use crate::node::{NodeFields, read_node};
 use crate::relation::{RelationFields, read_relation};
 use crate::scale::Scale;
@@ -139,10 +140,10 @@ fn is_mixed(parts: &Parts) -> bool
 /// Reads the payloads of a group.
 fn read_parts<'a>(group: &'a [u8], parts: &mut Parts<'a>) -> Result<(), BlockError>
     ensures phase { Gives (λ _. ⊤) (option_map faults.BlockWire (wire group.now)) result }
-    ensures nodes { OnOk result (map (λ p. p.now) parts.new.nodes.items ≡ each (fields group.now) 1) }
-    ensures dense { OnOk result (map (λ p. p.now) parts.new.dense.items ≡ each (fields group.now) 2) }
-    ensures ways { OnOk result (map (λ p. p.now) parts.new.ways.items ≡ each (fields group.now) 3) }
-    ensures relations { OnOk result (map (λ p. p.now) parts.new.relations.items ≡ each (fields group.now) 4) }
+    ensures nodes { OnOk result (map (λ p. p.now) parts.new.nodes.items ≡ each (fields group.now) GROUP_NODES) }
+    ensures dense { OnOk result (map (λ p. p.now) parts.new.dense.items ≡ each (fields group.now) GROUP_DENSE) }
+    ensures ways { OnOk result (map (λ p. p.now) parts.new.ways.items ≡ each (fields group.now) GROUP_WAYS) }
+    ensures relations { OnOk result (map (λ p. p.now) parts.new.relations.items ≡ each (fields group.now) GROUP_RELATIONS) }
 {
     parts.nodes.clear();
     parts.dense.clear();
@@ -151,10 +152,10 @@ fn read_parts<'a>(group: &'a [u8], parts: &mut Parts<'a>) -> Result<(), BlockErr
     for field in Fields::new(group) {
         let field = field?;
         match (field.number, field.value) {
-            (1, Value::Bytes(node)) => parts.nodes.push(node)?,
-            (2, Value::Bytes(dense)) => parts.dense.push(dense)?,
-            (3, Value::Bytes(way)) => parts.ways.push(way)?,
-            (4, Value::Bytes(relation)) => parts.relations.push(relation)?,
+            (GROUP_NODES, Value::Bytes(node)) => parts.nodes.push(node)?,
+            (GROUP_DENSE, Value::Bytes(dense)) => parts.dense.push(dense)?,
+            (GROUP_WAYS, Value::Bytes(way)) => parts.ways.push(way)?,
+            (GROUP_RELATIONS, Value::Bytes(relation)) => parts.relations.push(relation)?,
             _ => {}
         }
     }

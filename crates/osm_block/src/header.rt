@@ -5,9 +5,15 @@ ghost use Rattle.std.specs.List.{list_all};
 ghost use Rattle.std.specs.Option.{option_copied};
 ghost use Rattle.std.specs.Str.{is_utf8};
 ghost use Rattle.pbf_wire.specs.Readings.{fields, wire, each, sub, int64, last, is_there};
+ghost use Rattle.osm_block.specs.declared.fields.TheConstants.{HEADER_REQUIRED_FEATURES, HEADER_OPTIONAL_FEATURES};
 ghost use Rattle.osm_block.specs.declared.header.fault.HeaderFault.TheVariants as faults;
 ghost use Rattle.osm_block.specs.HeaderBlock.{HeaderValue, Answers, header_value, header_fault, first, wire_phase, box_of, side, last_text, are_texts, is_known, unknown_feature};
 
+use crate::fields::{
+    BBOX_BOTTOM, BBOX_LEFT, BBOX_RIGHT, BBOX_TOP, HEADER_BBOX, HEADER_OPTIONAL_FEATURES,
+    HEADER_REPLICATION_BASE_URL, HEADER_REPLICATION_SEQUENCE_NUMBER, HEADER_REPLICATION_TIMESTAMP,
+    HEADER_REQUIRED_FEATURES, HEADER_SOURCE, HEADER_WRITINGPROGRAM,
+};
 use crate::readings::{last_number, wire_of};
 use payloads::Payloads;
 use pbf_wire::{WireFault, unzigzag};
@@ -46,8 +52,8 @@ impl<'a> Model for HeaderBlock<'a> {
 
     ghost view = { λ h. record {
       bbox = h.bbox;
-      required = each (fields h.bytes.now) 4;
-      optional = each (fields h.bytes.now) 5;
+      required = each (fields h.bytes.now) HEADER_REQUIRED_FEATURES;
+      optional = each (fields h.bytes.now) HEADER_OPTIONAL_FEATURES;
       program = option_copied h.program;
       source = option_copied h.source;
       timestamp = h.timestamp;
@@ -55,7 +61,7 @@ impl<'a> Model for HeaderBlock<'a> {
       url = option_copied h.url;
     } };
 
-    ghost invariant = { λ h. (list_all is_utf8 (each (fields h.bytes.now) 4) ≡ true) × (list_all is_utf8 (each (fields h.bytes.now) 5) ≡ true) };
+    ghost invariant = { λ h. (list_all is_utf8 (each (fields h.bytes.now) HEADER_REQUIRED_FEATURES) ≡ true) × (list_all is_utf8 (each (fields h.bytes.now) HEADER_OPTIONAL_FEATURES) ≡ true) };
 }
 
 impl<'a> HeaderBlock<'a> {
@@ -72,14 +78,14 @@ impl<'a> HeaderBlock<'a> {
     pub fn required(&self) -> Texts<'a>
         ensures { texts_left result ≡ self.now.required }
     {
-        Texts::new(self.bytes, 4)
+        Texts::new(self.bytes, HEADER_REQUIRED_FEATURES)
     }
 
     /// The features that a reader may use.
     pub fn optional(&self) -> Texts<'a>
         ensures { texts_left result ≡ self.now.optional }
     {
-        Texts::new(self.bytes, 5)
+        Texts::new(self.bytes, HEADER_OPTIONAL_FEATURES)
     }
 
     /// The program that wrote the file.
@@ -122,9 +128,9 @@ impl<'a> HeaderBlock<'a> {
 
 /// The first wire fault of the boxes.
 fn wire_of_boxes(bytes: &[u8]) -> Option<WireFault>
-    ensures { option_map faults.HeaderBlockWire result ≡ first (map wire_phase (each (fields bytes.now) 1)) }
+    ensures { option_map faults.HeaderBlockWire result ≡ first (map wire_phase (each (fields bytes.now) HEADER_BBOX)) }
 {
-    for payload in Payloads::new(bytes, 1) {
+    for payload in Payloads::new(bytes, HEADER_BBOX) {
         if let Some(fault) = wire_of(payload) {
             return Some(fault);
         }
@@ -133,17 +139,17 @@ fn wire_of_boxes(bytes: &[u8]) -> Option<WireFault>
 }
 
 fn has_box(bytes: &[u8]) -> bool
-    ensures { result ≡ is_there (each (fields bytes.now) 1) }
+    ensures { result ≡ is_there (each (fields bytes.now) HEADER_BBOX) }
 {
-    Payloads::new(bytes, 1).next().is_some()
+    Payloads::new(bytes, HEADER_BBOX).next().is_some()
 }
 
 /// One side of the box that all payloads make together.
 fn side(bytes: &[u8], number: u32) -> Option<i64>
-    ensures { result ≡ side (sub (fields bytes.now) 1) number }
+    ensures { result ≡ side (sub (fields bytes.now) HEADER_BBOX) number }
 {
     let mut last = None;
-    for payload in Payloads::new(bytes, 1) {
+    for payload in Payloads::new(bytes, HEADER_BBOX) {
         last = last_number(payload, number, last);
     }
     match last {
@@ -154,13 +160,13 @@ fn side(bytes: &[u8], number: u32) -> Option<i64>
 
 /// The box, where all its sides are there.
 fn bbox_of(bytes: &[u8]) -> Option<BBox>
-    ensures { result ≡ box_of (sub (fields bytes.now) 1) }
+    ensures { result ≡ box_of (sub (fields bytes.now) HEADER_BBOX) }
 {
     Some(BBox {
-        left: side(bytes, 1)?,
-        right: side(bytes, 2)?,
-        top: side(bytes, 3)?,
-        bottom: side(bytes, 4)?,
+        left: side(bytes, BBOX_LEFT)?,
+        right: side(bytes, BBOX_RIGHT)?,
+        top: side(bytes, BBOX_TOP)?,
+        bottom: side(bytes, BBOX_BOTTOM)?,
     })
 }
 
@@ -185,8 +191,11 @@ fn are_utf8(bytes: &[u8], number: u32) -> bool
 fn are_texts(bytes: &[u8]) -> bool
     ensures { result ≡ are_texts (fields bytes.now) }
 {
-    let features = are_utf8(bytes, 4) & are_utf8(bytes, 5);
-    let origins = are_utf8(bytes, 16) & are_utf8(bytes, 17) & are_utf8(bytes, 34);
+    let features = are_utf8(bytes, HEADER_REQUIRED_FEATURES)
+        & are_utf8(bytes, HEADER_OPTIONAL_FEATURES);
+    let origins = are_utf8(bytes, HEADER_WRITINGPROGRAM)
+        & are_utf8(bytes, HEADER_SOURCE)
+        & are_utf8(bytes, HEADER_REPLICATION_BASE_URL);
     features & origins
 }
 
@@ -198,10 +207,10 @@ fn is_known(feature: &str) -> bool
 
 /// The place of the first required feature that isn't known.
 fn unknown_feature(bytes: &[u8]) -> Option<usize>
-    requires { list_all is_utf8 (each (fields bytes.now) 4) ≡ true }
-    ensures { result ≡ unknown_feature (each (fields bytes.now) 4) }
+    requires { list_all is_utf8 (each (fields bytes.now) HEADER_REQUIRED_FEATURES) ≡ true }
+    ensures { result ≡ unknown_feature (each (fields bytes.now) HEADER_REQUIRED_FEATURES) }
 {
-    Texts::new(bytes, 4).position(|feature| !is_known(feature))
+    Texts::new(bytes, HEADER_REQUIRED_FEATURES).position(|feature| !is_known(feature))
 }
 
 /// The last text of the fields `number`.
@@ -256,10 +265,10 @@ pub fn read_header_block(bytes: &[u8]) -> Result<HeaderBlock<'_>, HeaderFault>
     Ok(HeaderBlock {
         bytes,
         bbox,
-        program: last_text(bytes, 16),
-        source: last_text(bytes, 17),
-        timestamp: last_int(bytes, 32),
-        sequence: last_int(bytes, 33),
-        url: last_text(bytes, 34),
+        program: last_text(bytes, HEADER_WRITINGPROGRAM),
+        source: last_text(bytes, HEADER_SOURCE),
+        timestamp: last_int(bytes, HEADER_REPLICATION_TIMESTAMP),
+        sequence: last_int(bytes, HEADER_REPLICATION_SEQUENCE_NUMBER),
+        url: last_text(bytes, HEADER_REPLICATION_BASE_URL),
     })
 }

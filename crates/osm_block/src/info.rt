@@ -9,6 +9,9 @@ ghost use Rattle.osm_block.specs.Block.{text_at, time, version as version_of, In
 ghost use Rattle.osm_block.specs.Fields.{context_of, info_message_of};
 ghost use Rattle.osm_block.specs.Phases.{info_in_range, all_in, user_indexes};
 
+use crate::fields::{
+    INFO_CHANGESET, INFO_TIMESTAMP, INFO_UID, INFO_USER_SID, INFO_VERSION, INFO_VISIBLE,
+};
 use crate::ranges::{optional_time, optional_uid, optional_version, optional_wide};
 use crate::scale::Scale;
 use osm_value::Info;
@@ -73,12 +76,12 @@ fn read_info_numbers(payload: &[u8], info: &mut InfoNumbers) -> Option<WireFault
             Err(fault) => return Some(fault),
         };
         match (field.number, field.value) {
-            (1, Value::Number(number)) => info.version = Some(number),
-            (2, Value::Number(number)) => info.timestamp = Some(number),
-            (3, Value::Number(number)) => info.changeset = Some(number),
-            (4, Value::Number(number)) => info.uid = Some(number),
-            (5, Value::Number(number)) => info.user_sid = Some(number),
-            (6, Value::Number(number)) => info.visible = Some(number),
+            (INFO_VERSION, Value::Number(number)) => info.version = Some(number),
+            (INFO_TIMESTAMP, Value::Number(number)) => info.timestamp = Some(number),
+            (INFO_CHANGESET, Value::Number(number)) => info.changeset = Some(number),
+            (INFO_UID, Value::Number(number)) => info.uid = Some(number),
+            (INFO_USER_SID, Value::Number(number)) => info.user_sid = Some(number),
+            (INFO_VISIBLE, Value::Number(number)) => info.visible = Some(number),
             _ => {}
         }
     }

@@ -6,6 +6,7 @@ mod column;
 mod deltas;
 mod dense;
 mod fault;
+pub mod fields;
 mod group;
 mod header;
 mod info;

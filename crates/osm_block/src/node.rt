@@ -16,6 +16,7 @@ ghost use Rattle.osm_block.specs.Phases.{Gives, first, node_phases, message_phas
 use crate::column::Column;
 use crate::deltas::optional_unzigzag;
 use crate::fault::{BlockError, BlockFault};
+use crate::fields::{ELEMENT_ID, ELEMENT_INFO, ELEMENT_KEYS, ELEMENT_VALS, NODE_LAT, NODE_LON};
 use crate::info::{InfoFields, InfoNumbers, info_in_range, info_of, user_fits};
 use crate::ranges::{all_indexes, place_in_range, place_of};
 use crate::scale::Scale;
@@ -76,12 +77,12 @@ fn read_fields(payload: &[u8], node: &mut NodeFields) -> Result<(), BlockError>
     for field in Fields::new(payload) {
         let field = field?;
         match (field.number, field.value) {
-            (1, Value::Number(number)) => node.id = Some(number),
-            (2, value) => node.keys.take(value)?,
-            (3, value) => node.vals.take(value)?,
-            (4, Value::Bytes(info)) => node.info.take(info),
-            (8, Value::Number(number)) => node.lat = Some(number),
-            (9, Value::Number(number)) => node.lon = Some(number),
+            (ELEMENT_ID, Value::Number(number)) => node.id = Some(number),
+            (ELEMENT_KEYS, value) => node.keys.take(value)?,
+            (ELEMENT_VALS, value) => node.vals.take(value)?,
+            (ELEMENT_INFO, Value::Bytes(info)) => node.info.take(info),
+            (NODE_LAT, Value::Number(number)) => node.lat = Some(number),
+            (NODE_LON, Value::Number(number)) => node.lon = Some(number),
             _ => {}
         }
     }

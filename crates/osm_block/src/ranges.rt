@@ -8,6 +8,12 @@ ghost use Rattle.osm_block.specs.Phases.{place_in_range};
 
 use osm_value::{uid_in_range, version_in_range, wide_in_range};
 
+/// The least id, reference, nanodegree or millisecond, as wide as their sums.
+const LEAST: i128 = -4_611_686_018_427_387_903;
+
+/// The greatest of them.
+const MOST: i128 = 4_611_686_018_427_387_903;
+
 /// Whether all of the numbers are ids, references or places.
 pub(crate) fn all_wide(numbers: &[i64]) -> bool
     ensures { result ≡ list_all is_wide numbers.now }
@@ -29,7 +35,7 @@ pub(crate) fn time_in_range(date_granularity: i32, units: i64) -> bool
     ensures { result ≡ is_wide (time date_granularity units) }
 {
     let time = i128::from(units) * i128::from(date_granularity);
-    -4611686018427387903 <= time && time <= 4611686018427387903
+    LEAST <= time && time <= MOST
 }
 
 pub(crate) fn optional_wide(number: Option<i64>) -> bool
@@ -78,16 +84,16 @@ fn scaled(granularity: i32, units: i64) -> i128
 
 /// How far a place may lie below the offset.
 fn least_from(offset: i64) -> i128
-    ensures { result ≡ negsuc 4611686018427387902 -ℤ offset }
+    ensures { result ≡ LEAST -ℤ offset }
 {
-    -4611686018427387903 - i128::from(offset)
+    LEAST - i128::from(offset)
 }
 
 /// How far a place may lie above the offset.
 fn most_from(offset: i64) -> i128
-    ensures { result ≡ pos 4611686018427387903 -ℤ offset }
+    ensures { result ≡ MOST -ℤ offset }
 {
-    4611686018427387903 - i128::from(offset)
+    MOST - i128::from(offset)
 }
 
 fn sum_in_range(offset: i64, moved: i128) -> bool
@@ -104,8 +110,8 @@ pub(crate) fn place_in_range(offset: i64, granularity: i32, units: i64) -> bool
 }
 
 fn narrow_sum(offset: i64, moved: i128) -> i64
-    requires low { negsuc 4611686018427387902 ≤ℤ (offset +ℤ moved) }
-    requires high { (offset +ℤ moved) ≤ℤ pos 4611686018427387903 }
+    requires low { LEAST ≤ℤ (offset +ℤ moved) }
+    requires high { (offset +ℤ moved) ≤ℤ MOST }
     ensures { result ≡ offset +ℤ moved }
 {
     (i128::from(offset) + moved) as i64

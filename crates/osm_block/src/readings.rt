@@ -4,22 +4,18 @@ ghost use Rattle.std.specs.Prelude.{◌≡◌, map, ◌++◌, OnOk, ⊤, ◌%◌
 ghost use Rattle.std.specs.List.{flat_map};
 ghost use Rattle.pbf_wire.specs.FieldList.{last_or};
 ghost use Rattle.pbf_wire.specs.Readings.{fields, wire, fitting, number_of, each};
+ghost use Rattle.osm_block.specs.Columns.{first_there};
 ghost use Rattle.osm_block.specs.Phases.{Gives, first, wire_phases};
 
-use crate::fault::{BlockError, BlockFault};
-use pbf_wire::{Fields, Value, WireFault};
+use crate::fault::BlockError;
+use pbf_wire::{Fields, Message, Value, WireFault};
 use std::alloc::AllocError;
 
 /// Why a payload is no field list.
 pub(crate) fn wire_of(payload: &[u8]) -> Option<WireFault>
     ensures { result ≡ wire payload.now }
 {
-    for field in Fields::new(payload) {
-        if let Err(fault) = field {
-            return Some(fault);
-        }
-    }
-    None
+    Message::new(payload).err()
 }
 
 /// The last number of the field `number`, or the one before.
@@ -60,15 +56,25 @@ pub(crate) fn each<'a>(
 }
 
 /// The first wire fault of the payloads.
-pub(crate) fn check_all(payloads: &[&[u8]]) -> Result<(), BlockError>
-    ensures { Gives (λ _. ⊤) (first (wire_phases (map wire (map (λ p. p.now) payloads.now)))) result }
+pub(crate) fn first_wire(payloads: &[&[u8]]) -> Option<WireFault>
+    ensures { result ≡ first_there (map wire (map (λ p. p.now) payloads.now)) }
 {
     for payload in payloads {
         if let Some(fault) = wire_of(payload) {
-            return Err(BlockError::Fault(BlockFault::BlockWire(fault)));
+            return Some(fault);
         }
     }
-    Ok(())
+    None
+}
+
+/// Refuses payloads that aren't all field lists.
+pub(crate) fn check_all(payloads: &[&[u8]]) -> Result<(), BlockError>
+    ensures { Gives (λ _. ⊤) (first (wire_phases (map wire (map (λ p. p.now) payloads.now)))) result }
+{
+    match first_wire(payloads) {
+        None => Ok(()),
+        Some(fault) => Err(BlockError::from(fault)),
+    }
 }
 
 /// Appends the payloads of the fields `number` in all payloads.

@@ -18,6 +18,10 @@ ghost use Rattle.osm_block.specs.Phases.{Gives, first, when, relation_phases, me
 use crate::column::Column;
 use crate::deltas::absolute;
 use crate::fault::{BlockError, BlockFault};
+use crate::fields::{
+    ELEMENT_ID, ELEMENT_INFO, ELEMENT_KEYS, ELEMENT_VALS, RELATION_MEMIDS, RELATION_ROLES_SID,
+    RELATION_TYPES,
+};
 use crate::info::{InfoFields, InfoNumbers, info_in_range, info_of, optional_i64, user_fits};
 use crate::ranges::{all_indexes, all_wide};
 use crate::scale::Scale;
@@ -83,13 +87,13 @@ fn read_fields(payload: &[u8], relation: &mut RelationFields) -> Result<(), Bloc
     for field in Fields::new(payload) {
         let field = field?;
         match (field.number, field.value) {
-            (1, Value::Number(number)) => relation.id = Some(number),
-            (2, value) => relation.keys.take(value)?,
-            (3, value) => relation.vals.take(value)?,
-            (4, Value::Bytes(info)) => relation.info.take(info),
-            (8, value) => relation.roles.take(value)?,
-            (9, value) => relation.memids.take(value)?,
-            (10, value) => relation.types.take(value)?,
+            (ELEMENT_ID, Value::Number(number)) => relation.id = Some(number),
+            (ELEMENT_KEYS, value) => relation.keys.take(value)?,
+            (ELEMENT_VALS, value) => relation.vals.take(value)?,
+            (ELEMENT_INFO, Value::Bytes(info)) => relation.info.take(info),
+            (RELATION_ROLES_SID, value) => relation.roles.take(value)?,
+            (RELATION_MEMIDS, value) => relation.memids.take(value)?,
+            (RELATION_TYPES, value) => relation.types.take(value)?,
             _ => {}
         }
     }

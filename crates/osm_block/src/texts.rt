@@ -37,10 +37,7 @@ pub(crate) fn read_texts<'a>(
 {
     let mut texts = Vec::with_capacity(alloc, payloads.len())?;
     for payload in payloads {
-        match read_text(payload) {
-            Ok(text) => texts.push(text)?,
-            Err(fault) => return Err(BlockError::Fault(fault)),
-        }
+        texts.push(read_text(payload)?)?;
     }
     Ok(texts)
 }

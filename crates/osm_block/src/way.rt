@@ -16,6 +16,7 @@ ghost use Rattle.osm_block.specs.Phases.{Gives, first, way_phases, message_phase
 use crate::column::Column;
 use crate::deltas::absolute;
 use crate::fault::{BlockError, BlockFault};
+use crate::fields::{ELEMENT_ID, ELEMENT_INFO, ELEMENT_KEYS, ELEMENT_VALS, WAY_REFS};
 use crate::info::{InfoFields, InfoNumbers, info_in_range, info_of, optional_i64, user_fits};
 use crate::ranges::{all_indexes, all_wide};
 use crate::scale::Scale;
@@ -74,11 +75,11 @@ fn read_fields(payload: &[u8], way: &mut WayFields) -> Result<(), BlockError>
     for field in Fields::new(payload) {
         let field = field?;
         match (field.number, field.value) {
-            (1, Value::Number(number)) => way.id = Some(number),
-            (2, value) => way.keys.take(value)?,
-            (3, value) => way.vals.take(value)?,
-            (4, Value::Bytes(info)) => way.info.take(info),
-            (8, value) => way.refs.take(value)?,
+            (ELEMENT_ID, Value::Number(number)) => way.id = Some(number),
+            (ELEMENT_KEYS, value) => way.keys.take(value)?,
+            (ELEMENT_VALS, value) => way.vals.take(value)?,
+            (ELEMENT_INFO, Value::Bytes(info)) => way.info.take(info),
+            (WAY_REFS, value) => way.refs.take(value)?,
             _ => {}
         }
     }

@@ -15,6 +15,7 @@ use Rattle.osm_value.specs.Elements.{IsElement}
 use Rattle.osm_value.specs.Value.{Text, InfoValue, MemberValue}
 use Rattle.osm_value.specs.Ranges.{IsText, IsTextOrNone, IsInfo, AreTags, IsMember}
 use Rattle.osm_value.proofs.Ranges.{all_append, all_front, all_back, all_mapped, all_weaker}
+use Rattle.osm_block.specs.declared.fields.TheConstants.{BLOCK_DATE_GRANULARITY, BLOCK_GRANULARITY, BLOCK_LAT_OFFSET, BLOCK_LON_OFFSET, BLOCK_PRIMITIVEGROUP, BLOCK_STRINGTABLE, STRINGTABLE_S}
 use Rattle.osm_block.specs.Message.{Context, context}
 use Rattle.osm_block.specs.Block.{Block, GroupOf, Joins}
 use Rattle.osm_write.specs.Canon.{Scale, number_field, bytes_field, optional, tag_texts, texts_of, first_uses, place_of, places_of, info_of, divisor, scale_of, groups_of, group_bytes, granularity_field, block_bytes, canon}
@@ -195,14 +196,14 @@ uses_texts (u ∷ us) all = (all.0, all_filter IsText (λ v. not (bytes_eq v u))
 -- ---- the block
 
 abbrev table_bytes : Scale → List ℕ
-table_bytes s = flat_map (bytes_field 1) ([] ∷ s.texts)
+table_bytes s = flat_map (bytes_field STRINGTABLE_S) ([] ∷ s.texts)
 
 abbrev unless : ℕ → ℕ → Option ℕ
 unless default n = if n == default then None else Some n
 
 abbrev block_segments : Scale → List Element → List Segment
-block_segments s es = repeated_segment 1 (table_bytes s ∷ []) ∷ repeated_segment 2 (map (group_bytes s) (groups_of es)) ∷ optional_segment 17 (unless 100 s.granularity)
-    ∷ optional_segment 18 (unless 1000 s.date_granularity) ∷ []
+block_segments s es = repeated_segment BLOCK_STRINGTABLE (table_bytes s ∷ []) ∷ repeated_segment BLOCK_PRIMITIVEGROUP (map (group_bytes s) (groups_of es)) ∷ optional_segment BLOCK_GRANULARITY (unless 100 s.granularity)
+    ∷ optional_segment BLOCK_DATE_GRANULARITY (unless 1000 s.date_granularity) ∷ []
 
 granularity_is : (k default n : ℕ) → granularity_field k default n ≡ optional (number_field k) (unless default n)
 granularity_is k default n = by (n == default)
@@ -211,17 +212,17 @@ granularity_is k default n = by (n == default)
     by true = refl
     by false = refl
 
-mapped_groups : (s : Scale) (gs : List (List Element)) → flat_map (λ g. bytes_field 2 (group_bytes s g)) gs ≡ flat_map (bytes_field 2) (map (group_bytes s) gs)
+mapped_groups : (s : Scale) (gs : List (List Element)) → flat_map (λ g. bytes_field BLOCK_PRIMITIVEGROUP (group_bytes s g)) gs ≡ flat_map (bytes_field BLOCK_PRIMITIVEGROUP) (map (group_bytes s) gs)
 mapped_groups s [] = refl
-mapped_groups s (g ∷ gs) = ap (λ xs. bytes_field 2 (group_bytes s g) ++ xs) (mapped_groups s gs)
+mapped_groups s (g ∷ gs) = ap (λ xs. bytes_field BLOCK_PRIMITIVEGROUP (group_bytes s g) ++ xs) (mapped_groups s gs)
 
 four_parts : (a b c d : List ℕ) → a ++ b ++ c ++ d ≡ (a ++ []) ++ (b ++ (c ++ (d ++ [])))
 four_parts a b c d = simp (append_assoc, append-nil)
 
 bytes_are : (s : Scale) (es : List Element) → block_bytes s es ≡ bytes_in (block_segments s es)
 bytes_are s es =
-    rw (mapped_groups s (groups_of es), granularity_is 17 100 s.granularity, granularity_is 18 1000 s.date_granularity)
-    (four_parts (bytes_field 1 (table_bytes s)) (flat_map (bytes_field 2) (map (group_bytes s) (groups_of es))) (optional (number_field 17) (unless 100 s.granularity)) (optional (number_field 18) (unless 1000 s.date_granularity)))
+    rw (mapped_groups s (groups_of es), granularity_is BLOCK_GRANULARITY 100 s.granularity, granularity_is BLOCK_DATE_GRANULARITY 1000 s.date_granularity)
+    (four_parts (bytes_field BLOCK_STRINGTABLE (table_bytes s)) (flat_map (bytes_field BLOCK_PRIMITIVEGROUP) (map (group_bytes s) (groups_of es))) (optional (number_field BLOCK_GRANULARITY) (unless 100 s.granularity)) (optional (number_field BLOCK_DATE_GRANULARITY) (unless 1000 s.date_granularity)))
 
 unless_fits : (default n : ℕ) → n < 2 ^ 31 → AllByRecursion (λ m. m < 2 ^ 64) (option_to_list (unless default n))
 unless_fits default n small = by (n == default)
@@ -246,89 +247,89 @@ record BlockIsWritten (s : Scale) (es : List Element) : Type 0 where
 
 block_all : (s : Scale) (es : List Element) → BlockIsWritten s es → AllByRecursion IsSegment (block_segments s es)
 block_all s es h =
-    let T : List ℕ = bytes_field 1 (table_bytes s) in
-    let G : List ℕ = flat_map (bytes_field 2) (map (group_bytes s) (groups_of es)) in
+    let T : List ℕ = bytes_field BLOCK_STRINGTABLE (table_bytes s) in
+    let G : List ℕ = flat_map (bytes_field BLOCK_PRIMITIVEGROUP) (map (group_bytes s) (groups_of es)) in
     let short : length (block_bytes s es) < 2 ^ 64 = h.short in
     let l = ap length (bytes_are s es) in
-    let p = length-append (T ++ []) (G ++ (optional (number_field 17) (unless 100 s.granularity) ++ (optional (number_field 18) (unless 1000 s.date_granularity) ++ []))) in
-    let q = length-append G (optional (number_field 17) (unless 100 s.granularity) ++ (optional (number_field 18) (unless 1000 s.date_granularity) ++ [])) in
+    let p = length-append (T ++ []) (G ++ (optional (number_field BLOCK_GRANULARITY) (unless 100 s.granularity) ++ (optional (number_field BLOCK_DATE_GRANULARITY) (unless 1000 s.date_granularity) ++ []))) in
+    let q = length-append G (optional (number_field BLOCK_GRANULARITY) (unless 100 s.granularity) ++ (optional (number_field BLOCK_DATE_GRANULARITY) (unless 1000 s.date_granularity) ++ [])) in
     let table : length (T ++ []) < 2 ^ 64 = omega arith in
     let groups : length G < 2 ^ 64 = omega arith in (
-      is_repeated_segment 1 refl (omega arith) (table_bytes s ∷ []) (each_short 1 (table_bytes s ∷ []) table),
+      is_repeated_segment BLOCK_STRINGTABLE refl (omega arith) (table_bytes s ∷ []) (each_short BLOCK_STRINGTABLE (table_bytes s ∷ []) table),
       (
-        is_repeated_segment 2 refl (omega arith) (map (group_bytes s) (groups_of es)) (each_short 2 (map (group_bytes s) (groups_of es)) groups),
+        is_repeated_segment BLOCK_PRIMITIVEGROUP refl (omega arith) (map (group_bytes s) (groups_of es)) (each_short BLOCK_PRIMITIVEGROUP (map (group_bytes s) (groups_of es)) groups),
         (
-          is_optional_segment 17 refl (omega arith) (unless 100 s.granularity) (unless_fits 100 s.granularity h.scale.small),
-          (is_optional_segment 18 refl (omega arith) (unless 1000 s.date_granularity) (unless_fits 1000 s.date_granularity h.scale.date_small), tt),
+          is_optional_segment BLOCK_GRANULARITY refl (omega arith) (unless 100 s.granularity) (unless_fits 100 s.granularity h.scale.small),
+          (is_optional_segment BLOCK_DATE_GRANULARITY refl (omega arith) (unless 1000 s.date_granularity) (unless_fits 1000 s.date_granularity h.scale.date_small), tt),
         ),
       ),
     )
 
 groups_short : (s : Scale) (es : List Element) → BlockIsWritten s es → AllByRecursion (λ (bs : List ℕ). length bs < 2 ^ 64) (map (group_bytes s) (groups_of es))
 groups_short s es h =
-    let T : List ℕ = bytes_field 1 (table_bytes s) in
-    let G : List ℕ = flat_map (bytes_field 2) (map (group_bytes s) (groups_of es)) in
+    let T : List ℕ = bytes_field BLOCK_STRINGTABLE (table_bytes s) in
+    let G : List ℕ = flat_map (bytes_field BLOCK_PRIMITIVEGROUP) (map (group_bytes s) (groups_of es)) in
     let short : length (block_bytes s es) < 2 ^ 64 = h.short in
     let l = ap length (bytes_are s es) in
-    let p = length-append (T ++ []) (G ++ (optional (number_field 17) (unless 100 s.granularity) ++ (optional (number_field 18) (unless 1000 s.date_granularity) ++ []))) in
-    let q = length-append G (optional (number_field 17) (unless 100 s.granularity) ++ (optional (number_field 18) (unless 1000 s.date_granularity) ++ [])) in
-    each_short 2 (map (group_bytes s) (groups_of es)) (omega arith)
+    let p = length-append (T ++ []) (G ++ (optional (number_field BLOCK_GRANULARITY) (unless 100 s.granularity) ++ (optional (number_field BLOCK_DATE_GRANULARITY) (unless 1000 s.date_granularity) ++ []))) in
+    let q = length-append G (optional (number_field BLOCK_GRANULARITY) (unless 100 s.granularity) ++ (optional (number_field BLOCK_DATE_GRANULARITY) (unless 1000 s.date_granularity) ++ [])) in
+    each_short BLOCK_PRIMITIVEGROUP (map (group_bytes s) (groups_of es)) (omega arith)
 
 -- the string table as a message
 table_short : (s : Scale) (es : List Element) → BlockIsWritten s es → length (table_bytes s) < 2 ^ 64
 table_short s es h =
-    let T : List ℕ = bytes_field 1 (table_bytes s) in
-    let rest : List ℕ = flat_map (bytes_field 2) (map (group_bytes s) (groups_of es)) ++ (optional (number_field 17) (unless 100 s.granularity) ++ (optional (number_field 18) (unless 1000 s.date_granularity) ++ [])) in
+    let T : List ℕ = bytes_field BLOCK_STRINGTABLE (table_bytes s) in
+    let rest : List ℕ = flat_map (bytes_field BLOCK_PRIMITIVEGROUP) (map (group_bytes s) (groups_of es)) ++ (optional (number_field BLOCK_GRANULARITY) (unless 100 s.granularity) ++ (optional (number_field BLOCK_DATE_GRANULARITY) (unless 1000 s.date_granularity) ++ [])) in
     let short : length (block_bytes s es) < 2 ^ 64 = h.short in
     let l = ap length (bytes_are s es) in
     let p = length-append (T ++ []) rest in
     let table : length (T ++ []) < 2 ^ 64 = omega arith in
-    (each_short 1 (table_bytes s ∷ []) table).0
+    (each_short BLOCK_STRINGTABLE (table_bytes s ∷ []) table).0
 
 abbrev made_context : List Text → ℤ → ℤ → ℤ → ℤ → Context
 made_context t g d la lo = record { table = t; granularity = g; date_granularity = d; lat_offset = la; lon_offset = lo }
 
 record IsTable (s : Scale) (w : List ℕ) : Type 0 where
   pub sound : wire w ≡ None
-  pub texts_are : each (fields w) 1 ≡ [] ∷ s.texts
+  pub texts_are : each (fields w) STRINGTABLE_S ≡ [] ∷ s.texts
 
 table_read : (s : Scale) → length (table_bytes s) < 2 ^ 64 → IsTable s (table_bytes s)
 table_read s short =
-    let ss : List Segment = repeated_segment 1 ([] ∷ s.texts) ∷ [] in
-    let whole : AllByRecursion IsSegment ss = (is_repeated_segment 1 refl (omega arith) ([] ∷ s.texts) (each_short 1 ([] ∷ s.texts) short), tt) in
+    let ss : List Segment = repeated_segment STRINGTABLE_S ([] ∷ s.texts) ∷ [] in
+    let whole : AllByRecursion IsSegment ss = (is_repeated_segment STRINGTABLE_S refl (omega arith) ([] ∷ s.texts) (each_short STRINGTABLE_S ([] ∷ s.texts) short), tt) in
     let m = message_read ss (table_bytes s) (sym (append-nil _)) whole in
-    let e = each_at ss whole 1 (map (bytes_entry 1) ([] ∷ s.texts)) (append-nil _) ∙ repeated_each 1 ([] ∷ s.texts) in
-    record { sound = m.sound; texts_are = ap (λ (fs : List Entry). each fs 1) m.fields_are ∙ e }
+    let e = each_at ss whole STRINGTABLE_S (map (bytes_entry STRINGTABLE_S) ([] ∷ s.texts)) (append-nil _) ∙ repeated_each STRINGTABLE_S ([] ∷ s.texts) in
+    record { sound = m.sound; texts_are = ap (λ (fs : List Entry). each fs STRINGTABLE_S) m.fields_are ∙ e }
 
 -- what is read of the block's own fields
 record IsBlock (s : Scale) (es : List Element) (fs : List Entry) : Type 0 where
-  pub table_is : each fs 1 ≡ table_bytes s ∷ []
-  pub groups_are : each fs 2 ≡ map (group_bytes s) (groups_of es)
-  pub granularity_is : last fs 17 ≡ unless 100 s.granularity
-  pub date_granularity_is : last fs 18 ≡ unless 1000 s.date_granularity
-  pub lat_offset_is : last fs 19 ≡ None
-  pub lon_offset_is : last fs 20 ≡ None
+  pub table_is : each fs BLOCK_STRINGTABLE ≡ table_bytes s ∷ []
+  pub groups_are : each fs BLOCK_PRIMITIVEGROUP ≡ map (group_bytes s) (groups_of es)
+  pub granularity_is : last fs BLOCK_GRANULARITY ≡ unless 100 s.granularity
+  pub date_granularity_is : last fs BLOCK_DATE_GRANULARITY ≡ unless 1000 s.date_granularity
+  pub lat_offset_is : last fs BLOCK_LAT_OFFSET ≡ None
+  pub lon_offset_is : last fs BLOCK_LON_OFFSET ≡ None
 
 block_fields : (s : Scale) (es : List Element) → BlockIsWritten s es → IsBlock s es (entries_of (block_segments s es))
 block_fields s es h =
     let ss : List Segment = block_segments s es in
     let whole = block_all s es h in
     record {
-      table_is = each_at ss whole 1 (bytes_entry 1 (table_bytes s) ∷ []) refl ∙ repeated_each 1 (table_bytes s ∷ []);
-      groups_are = each_at ss whole 2 (map (bytes_entry 2) (map (group_bytes s) (groups_of es))) (append-nil _) ∙ repeated_each 2 (map (group_bytes s) (groups_of es));
-      granularity_is = last_at ss whole 17 (optional_entries 17 (unless 100 s.granularity)) (append-nil _) ∙ optional_last 17 (unless 100 s.granularity);
-      date_granularity_is = last_at ss whole 18 (optional_entries 18 (unless 1000 s.date_granularity)) (append-nil _) ∙ optional_last 18 (unless 1000 s.date_granularity);
-      lat_offset_is = last_at ss whole 19 [] refl;
-      lon_offset_is = last_at ss whole 20 [] refl;
+      table_is = each_at ss whole BLOCK_STRINGTABLE (bytes_entry BLOCK_STRINGTABLE (table_bytes s) ∷ []) refl ∙ repeated_each BLOCK_STRINGTABLE (table_bytes s ∷ []);
+      groups_are = each_at ss whole BLOCK_PRIMITIVEGROUP (map (bytes_entry BLOCK_PRIMITIVEGROUP) (map (group_bytes s) (groups_of es))) (append-nil _) ∙ repeated_each BLOCK_PRIMITIVEGROUP (map (group_bytes s) (groups_of es));
+      granularity_is = last_at ss whole BLOCK_GRANULARITY (optional_entries BLOCK_GRANULARITY (unless 100 s.granularity)) (append-nil _) ∙ optional_last BLOCK_GRANULARITY (unless 100 s.granularity);
+      date_granularity_is = last_at ss whole BLOCK_DATE_GRANULARITY (optional_entries BLOCK_DATE_GRANULARITY (unless 1000 s.date_granularity)) (append-nil _) ∙ optional_last BLOCK_DATE_GRANULARITY (unless 1000 s.date_granularity);
+      lat_offset_is = last_at ss whole BLOCK_LAT_OFFSET [] refl;
+      lon_offset_is = last_at ss whole BLOCK_LON_OFFSET [] refl;
     }
 
 context_read : (s : Scale) (es : List Element) (fs : List Entry) → IsScale s → IsBlock s es fs → IsTable s (table_bytes s) → context fs ≡ context_of s
 context_read s es fs sc h t =
-    let a : each (sub fs 1) 1 ≡ [] ∷ s.texts = rw h.table_is (rw (append-nil (fields (table_bytes s))) t.texts_are) in
-    let b : unwrap_or (option_map int32 (last fs 17)) (pos 100) ≡ pos s.granularity = rw h.granularity_is (unless_read 100 s.granularity sc.small) in
-    let c : unwrap_or (option_map int32 (last fs 18)) (pos 1000) ≡ pos s.date_granularity = rw h.date_granularity_is (unless_read 1000 s.date_granularity sc.date_small) in
-    let d : unwrap_or (option_map int64 (last fs 19)) (pos 0) ≡ pos 0 = rw h.lat_offset_is refl in
-    let e : unwrap_or (option_map int64 (last fs 20)) (pos 0) ≡ pos 0 = rw h.lon_offset_is refl in
+    let a : each (sub fs BLOCK_STRINGTABLE) STRINGTABLE_S ≡ [] ∷ s.texts = rw h.table_is (rw (append-nil (fields (table_bytes s))) t.texts_are) in
+    let b : unwrap_or (option_map int32 (last fs BLOCK_GRANULARITY)) (pos 100) ≡ pos s.granularity = rw h.granularity_is (unless_read 100 s.granularity sc.small) in
+    let c : unwrap_or (option_map int32 (last fs BLOCK_DATE_GRANULARITY)) (pos 1000) ≡ pos s.date_granularity = rw h.date_granularity_is (unless_read 1000 s.date_granularity sc.date_small) in
+    let d : unwrap_or (option_map int64 (last fs BLOCK_LAT_OFFSET)) (pos 0) ≡ pos 0 = rw h.lat_offset_is refl in
+    let e : unwrap_or (option_map int64 (last fs BLOCK_LON_OFFSET)) (pos 0) ≡ pos 0 = rw h.lon_offset_is refl in
     same_context _ _ _ _ _ _ _ _ _ _ a b c d e
   where
     same_context : (ta tb : List Text) (ga gb da db la lb oa ob : ℤ) → ta ≡ tb → ga ≡ gb → da ≡ db → la ≡ lb → oa ≡ ob
@@ -347,7 +348,7 @@ block_written s es h =
     let J : List Element → Type 0 = λ xs. Joins (GroupOf (context_of s)) xs (map (group_bytes s) (groups_of es)) in
     let whole : J es = subst J (groups_join es) joins in
     let K : List (List ℕ) → Type 0 = λ gs. Joins (GroupOf (context_of s)) es gs in
-    let L : Context → Type 0 = λ b. Joins (GroupOf b) es (each (fields (block_bytes s es)) 2) in
+    let L : Context → Type 0 = λ b. Joins (GroupOf b) es (each (fields (block_bytes s es)) BLOCK_PRIMITIVEGROUP) in
     let some = h.scale.some in
     let date_some = h.scale.date_some in
     record {

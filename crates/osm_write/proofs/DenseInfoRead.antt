@@ -11,6 +11,7 @@ use Rattle.pbf_wire.specs.Readings.{fields, wire, packed, int32, sint64, sint32,
 use Rattle.osm_value.specs.Value.{Text, InfoValue}
 use Rattle.osm_value.specs.Ranges.{IsInfo, IsWide, passes, is_wide, is_version, is_uid}
 use Rattle.osm_value.proofs.Ranges.{uid_within, all_append, passes_some}
+use Rattle.osm_block.specs.declared.fields.TheConstants.{DENSEINFO_CHANGESET, DENSEINFO_TIMESTAMP, DENSEINFO_UID, DENSEINFO_USER_SID, DENSEINFO_VERSION, DENSEINFO_VISIBLE}
 use Rattle.osm_block.specs.Message.{dense_info_message, some_visible}
 use Rattle.osm_block.specs.Block.{DenseInfoOf, version, time, text_at}
 use Rattle.osm_write.specs.Canon.{Scale, index_of, number, packed_field, delta_field, times_of, dense_info_bytes}
@@ -96,34 +97,34 @@ module _ (s : Scale) (is : List InfoValue) (all : AllByRecursion (IsWritten s) i
 -- ---- the message
 
 abbrev dense_info_segments : Scale → List InfoValue → List Segment
-dense_info_segments s is = message_segment 1 (flat_map number (versions_of is)) ∷ message_segment 2 (flat_map number (deltas_of (all_times s is)))
-    ∷ message_segment 3 (flat_map number (deltas_of (changesets_of is))) ∷ message_segment 4 (flat_map number (deltas_of (uids_of is)))
-    ∷ message_segment 5 (flat_map number (deltas_of (users_of s is))) ∷ []
+dense_info_segments s is = message_segment DENSEINFO_VERSION (flat_map number (versions_of is)) ∷ message_segment DENSEINFO_TIMESTAMP (flat_map number (deltas_of (all_times s is)))
+    ∷ message_segment DENSEINFO_CHANGESET (flat_map number (deltas_of (changesets_of is))) ∷ message_segment DENSEINFO_UID (flat_map number (deltas_of (uids_of is)))
+    ∷ message_segment DENSEINFO_USER_SID (flat_map number (deltas_of (users_of s is))) ∷ []
 
 segments_are : (s : Scale) (is : List InfoValue) → length (dense_info_bytes s is) < 2 ^ 64 → AllByRecursion IsSegment (dense_info_segments s is)
 segments_are s is short =
-    let A : List ℕ = packed_field 1 (versions_of is) in
-    let B : List ℕ = delta_field 2 (all_times s is) in
-    let C : List ℕ = delta_field 3 (changesets_of is) in
-    let D : List ℕ = delta_field 4 (uids_of is) in
-    let E : List ℕ = delta_field 5 (users_of s is) in
-    let a = message_long 1 (flat_map number (versions_of is)) in
-    let b = message_long 2 (flat_map number (deltas_of (all_times s is))) in
-    let c = message_long 3 (flat_map number (deltas_of (changesets_of is))) in
-    let d = message_long 4 (flat_map number (deltas_of (uids_of is))) in
-    let e = message_long 5 (flat_map number (deltas_of (users_of s is))) in
+    let A : List ℕ = packed_field DENSEINFO_VERSION (versions_of is) in
+    let B : List ℕ = delta_field DENSEINFO_TIMESTAMP (all_times s is) in
+    let C : List ℕ = delta_field DENSEINFO_CHANGESET (changesets_of is) in
+    let D : List ℕ = delta_field DENSEINFO_UID (uids_of is) in
+    let E : List ℕ = delta_field DENSEINFO_USER_SID (users_of s is) in
+    let a = message_long DENSEINFO_VERSION (flat_map number (versions_of is)) in
+    let b = message_long DENSEINFO_TIMESTAMP (flat_map number (deltas_of (all_times s is))) in
+    let c = message_long DENSEINFO_CHANGESET (flat_map number (deltas_of (changesets_of is))) in
+    let d = message_long DENSEINFO_UID (flat_map number (deltas_of (uids_of is))) in
+    let e = message_long DENSEINFO_USER_SID (flat_map number (deltas_of (users_of s is))) in
     let p = length-append (A ++ B ++ C ++ D) E in
     let q = length-append (A ++ B ++ C) D in
     let r = length-append (A ++ B) C in
     let t = length-append A B in (
-      is_message_segment 1 refl (omega arith) (flat_map number (versions_of is)) (omega arith),
+      is_message_segment DENSEINFO_VERSION refl (omega arith) (flat_map number (versions_of is)) (omega arith),
       (
-        is_message_segment 2 refl (omega arith) (flat_map number (deltas_of (all_times s is))) (omega arith),
+        is_message_segment DENSEINFO_TIMESTAMP refl (omega arith) (flat_map number (deltas_of (all_times s is))) (omega arith),
         (
-          is_message_segment 3 refl (omega arith) (flat_map number (deltas_of (changesets_of is))) (omega arith),
+          is_message_segment DENSEINFO_CHANGESET refl (omega arith) (flat_map number (deltas_of (changesets_of is))) (omega arith),
           (
-            is_message_segment 4 refl (omega arith) (flat_map number (deltas_of (uids_of is))) (omega arith),
-            (is_message_segment 5 refl (omega arith) (flat_map number (deltas_of (users_of s is))) (omega arith), tt),
+            is_message_segment DENSEINFO_UID refl (omega arith) (flat_map number (deltas_of (uids_of is))) (omega arith),
+            (is_message_segment DENSEINFO_USER_SID refl (omega arith) (flat_map number (deltas_of (users_of s is))) (omega arith), tt),
           ),
         ),
       ),
@@ -132,7 +133,7 @@ segments_are s is short =
 pub dense_info_is_message : (s : Scale) (is : List InfoValue) → length (dense_info_bytes s is) < 2 ^ 64 → IsMessage (entries_of (dense_info_segments s is)) (dense_info_bytes s is)
 dense_info_is_message s is short =
     message_read (dense_info_segments s is) (dense_info_bytes s is)
-    (five_parts (packed_field 1 (versions_of is)) (delta_field 2 (all_times s is)) (delta_field 3 (changesets_of is)) (delta_field 4 (uids_of is)) (delta_field 5 (users_of s is)))
+    (five_parts (packed_field DENSEINFO_VERSION (versions_of is)) (delta_field DENSEINFO_TIMESTAMP (all_times s is)) (delta_field DENSEINFO_CHANGESET (changesets_of is)) (delta_field DENSEINFO_UID (uids_of is)) (delta_field DENSEINFO_USER_SID (users_of s is)))
     (segments_are s is short)
 
 -- ---- what is read
@@ -161,7 +162,7 @@ user_part s (Some t) h = ap Some (sym h.0.text_is)
 -- the arrays, and that they are rows of numbers
 pub record IsDenseInfo (s : Scale) (is : List InfoValue) (w : List ℕ) : Type 0 where
   pub sound : wire w ≡ None
-  pub arrays : AllByRecursion IsNone (map packed (each (fields w) 1) ++ (map packed (each (fields w) 2) ++ (map packed (each (fields w) 3) ++ (map packed (each (fields w) 4) ++ (map packed (each (fields w) 5) ++ [])))))
+  pub arrays : AllByRecursion IsNone (map packed (each (fields w) DENSEINFO_VERSION) ++ (map packed (each (fields w) DENSEINFO_TIMESTAMP) ++ (map packed (each (fields w) DENSEINFO_CHANGESET) ++ (map packed (each (fields w) DENSEINFO_UID) ++ (map packed (each (fields w) DENSEINFO_USER_SID) ++ [])))))
   pub holds : DenseInfoOf (context_of s) is (dense_info_message (fields w))
 
 pub dense_info_read : (s : Scale) (is : List InfoValue) → IsScale s → AllByRecursion (IsWritten s) is → IsSame is → length (dense_info_bytes s is) < 2 ^ 64
@@ -170,14 +171,14 @@ dense_info_read s is sc all same short =
     let m = dense_info_is_message s is short in
     let ss : List Segment = dense_info_segments s is in
     let whole = segments_are s is short in
-    let a = packed_at ss whole 1 (versions_of is) (append-nil _) (versions_small s is all) in
-    let b = packed_at ss whole 2 (deltas_of (all_times s is)) (append-nil _) (deltas_fit (all_times s is) (times_wide s is all)) in
-    let c = packed_at ss whole 3 (deltas_of (changesets_of is)) (append-nil _) (deltas_fit (changesets_of is) (changesets_wide s is all)) in
-    let d = packed_at ss whole 4 (deltas_of (uids_of is)) (append-nil _) (deltas_fit (uids_of is) (all_of _ IsWide (uids_of is) small_is_wide (uids_small s is all))) in
-    let e = packed_at ss whole 5 (deltas_of (users_of s is)) (append-nil _) (deltas_fit (users_of s is) (all_of _ IsWide (users_of s is) small_is_wide (users_small s is all))) in
-    let x : fitting some_visible 6 (entries_of ss) ≡ [] = fitting_at ss whole 6 [] refl some_visible in
+    let a = packed_at ss whole DENSEINFO_VERSION (versions_of is) (append-nil _) (versions_small s is all) in
+    let b = packed_at ss whole DENSEINFO_TIMESTAMP (deltas_of (all_times s is)) (append-nil _) (deltas_fit (all_times s is) (times_wide s is all)) in
+    let c = packed_at ss whole DENSEINFO_CHANGESET (deltas_of (changesets_of is)) (append-nil _) (deltas_fit (changesets_of is) (changesets_wide s is all)) in
+    let d = packed_at ss whole DENSEINFO_UID (deltas_of (uids_of is)) (append-nil _) (deltas_fit (uids_of is) (all_of _ IsWide (uids_of is) small_is_wide (uids_small s is all))) in
+    let e = packed_at ss whole DENSEINFO_USER_SID (deltas_of (users_of s is)) (append-nil _) (deltas_fit (users_of s is) (all_of _ IsWide (users_of s is) small_is_wide (users_small s is all))) in
+    let x : fitting some_visible DENSEINFO_VISIBLE (entries_of ss) ≡ [] = fitting_at ss whole DENSEINFO_VISIBLE [] refl some_visible in
     let P : List Entry → Type 0 = λ fs. DenseInfoOf (context_of s) is (dense_info_message fs) in
-    let Q : List Entry → Type 0 = λ fs. AllByRecursion (IsNone {T = WireFault}) (map packed (each fs 1) ++ (map packed (each fs 2) ++ (map packed (each fs 3) ++ (map packed (each fs 4) ++ (map packed (each fs 5) ++ []))))) in
+    let Q : List Entry → Type 0 = λ fs. AllByRecursion (IsNone {T = WireFault}) (map packed (each fs DENSEINFO_VERSION) ++ (map packed (each fs DENSEINFO_TIMESTAMP) ++ (map packed (each fs DENSEINFO_CHANGESET) ++ (map packed (each fs DENSEINFO_UID) ++ (map packed (each fs DENSEINFO_USER_SID) ++ []))))) in
     record {
       sound = m.sound;
       arrays = subst Q (sym m.fields_are) (all_append IsNone _ _ a.sound (all_append IsNone _ _ b.sound (all_append IsNone _ _ c.sound (all_append IsNone _ _ d.sound (all_append IsNone _ _ e.sound tt)))));

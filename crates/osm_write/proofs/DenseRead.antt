@@ -10,6 +10,7 @@ use Rattle.pbf_wire.specs.Readings.{fields, wire, packed, int32, each, sub}
 use Rattle.osm_value.specs.Value.{Text, InfoValue, NodeValue}
 use Rattle.osm_value.specs.Ranges.{IsWide, IsNode}
 use Rattle.osm_value.proofs.Ranges.{all_append}
+use Rattle.osm_block.specs.declared.fields.TheConstants.{DENSEINFO_CHANGESET, DENSEINFO_TIMESTAMP, DENSEINFO_UID, DENSEINFO_USER_SID, DENSEINFO_VERSION, DENSE_DENSEINFO, DENSE_ID, DENSE_KEYS_VALS, DENSE_LAT, DENSE_LON}
 use Rattle.osm_block.specs.DenseTags.{Pair, Tags, pairs_and_zero, KeysAreNotZero}
 use Rattle.osm_block.specs.Message.{dense_message}
 use Rattle.osm_block.specs.Block.{DenseOf, place, texts_at, all_there}
@@ -150,19 +151,19 @@ abbrev lons_of : Scale → List NodeValue → List ℤ
 lons_of s ns = raws s (λ (n : NodeValue). n.lon) ns
 
 abbrev dense_segments : Scale → List NodeValue → List Segment
-dense_segments s ns = message_segment 1 (flat_map number (deltas_of (ids_of ns))) ∷ message_segment 5 (dense_info_bytes s (infos_of ns))
-    ∷ message_segment 8 (flat_map number (deltas_of (lats_of s ns))) ∷ message_segment 9 (flat_map number (deltas_of (lons_of s ns)))
-    ∷ message_segment 10 (flat_map number (keys_vals_of s ns)) ∷ []
+dense_segments s ns = message_segment DENSE_ID (flat_map number (deltas_of (ids_of ns))) ∷ message_segment DENSE_DENSEINFO (dense_info_bytes s (infos_of ns))
+    ∷ message_segment DENSE_LAT (flat_map number (deltas_of (lats_of s ns))) ∷ message_segment DENSE_LON (flat_map number (deltas_of (lons_of s ns)))
+    ∷ message_segment DENSE_KEYS_VALS (flat_map number (keys_vals_of s ns)) ∷ []
 
 -- the lengths of its parts
 info_short : (s : Scale) (ns : List NodeValue) → length (dense_bytes s ns) < 2 ^ 64 → length (dense_info_bytes s (infos_of ns)) < 2 ^ 64
 info_short s ns short =
-    let A : List ℕ = delta_field 1 (ids_of ns) in
-    let B : List ℕ = message_field 5 (dense_info_bytes s (infos_of ns)) in
-    let C : List ℕ = delta_field 8 (lats_of s ns) in
-    let D : List ℕ = delta_field 9 (lons_of s ns) in
-    let E : List ℕ = packed_field 10 (keys_vals_of s ns) in
-    let b = message_long 5 (dense_info_bytes s (infos_of ns)) in
+    let A : List ℕ = delta_field DENSE_ID (ids_of ns) in
+    let B : List ℕ = message_field DENSE_DENSEINFO (dense_info_bytes s (infos_of ns)) in
+    let C : List ℕ = delta_field DENSE_LAT (lats_of s ns) in
+    let D : List ℕ = delta_field DENSE_LON (lons_of s ns) in
+    let E : List ℕ = packed_field DENSE_KEYS_VALS (keys_vals_of s ns) in
+    let b = message_long DENSE_DENSEINFO (dense_info_bytes s (infos_of ns)) in
     let p = length-append (A ++ B ++ C ++ D) E in
     let q = length-append (A ++ B ++ C) D in
     let r = length-append (A ++ B) C in
@@ -171,28 +172,28 @@ info_short s ns short =
 
 segments_are : (s : Scale) (ns : List NodeValue) → length (dense_bytes s ns) < 2 ^ 64 → AllByRecursion IsSegment (dense_segments s ns)
 segments_are s ns short =
-    let A : List ℕ = delta_field 1 (ids_of ns) in
-    let B : List ℕ = message_field 5 (dense_info_bytes s (infos_of ns)) in
-    let C : List ℕ = delta_field 8 (lats_of s ns) in
-    let D : List ℕ = delta_field 9 (lons_of s ns) in
-    let E : List ℕ = packed_field 10 (keys_vals_of s ns) in
-    let a = message_long 1 (flat_map number (deltas_of (ids_of ns))) in
+    let A : List ℕ = delta_field DENSE_ID (ids_of ns) in
+    let B : List ℕ = message_field DENSE_DENSEINFO (dense_info_bytes s (infos_of ns)) in
+    let C : List ℕ = delta_field DENSE_LAT (lats_of s ns) in
+    let D : List ℕ = delta_field DENSE_LON (lons_of s ns) in
+    let E : List ℕ = packed_field DENSE_KEYS_VALS (keys_vals_of s ns) in
+    let a = message_long DENSE_ID (flat_map number (deltas_of (ids_of ns))) in
     let b = info_short s ns short in
-    let c = message_long 8 (flat_map number (deltas_of (lats_of s ns))) in
-    let d = message_long 9 (flat_map number (deltas_of (lons_of s ns))) in
-    let e = message_long 10 (flat_map number (keys_vals_of s ns)) in
+    let c = message_long DENSE_LAT (flat_map number (deltas_of (lats_of s ns))) in
+    let d = message_long DENSE_LON (flat_map number (deltas_of (lons_of s ns))) in
+    let e = message_long DENSE_KEYS_VALS (flat_map number (keys_vals_of s ns)) in
     let p = length-append (A ++ B ++ C ++ D) E in
     let q = length-append (A ++ B ++ C) D in
     let r = length-append (A ++ B) C in
     let t = length-append A B in (
-      is_message_segment 1 refl (omega arith) (flat_map number (deltas_of (ids_of ns))) (omega arith),
+      is_message_segment DENSE_ID refl (omega arith) (flat_map number (deltas_of (ids_of ns))) (omega arith),
       (
-        is_message_segment 5 refl (omega arith) (dense_info_bytes s (infos_of ns)) b,
+        is_message_segment DENSE_DENSEINFO refl (omega arith) (dense_info_bytes s (infos_of ns)) b,
         (
-          is_message_segment 8 refl (omega arith) (flat_map number (deltas_of (lats_of s ns))) (omega arith),
+          is_message_segment DENSE_LAT refl (omega arith) (flat_map number (deltas_of (lats_of s ns))) (omega arith),
           (
-            is_message_segment 9 refl (omega arith) (flat_map number (deltas_of (lons_of s ns))) (omega arith),
-            (is_message_segment 10 refl (omega arith) (flat_map number (keys_vals_of s ns)) (omega arith), tt),
+            is_message_segment DENSE_LON refl (omega arith) (flat_map number (deltas_of (lons_of s ns))) (omega arith),
+            (is_message_segment DENSE_KEYS_VALS refl (omega arith) (flat_map number (keys_vals_of s ns)) (omega arith), tt),
           ),
         ),
       ),
@@ -201,10 +202,10 @@ segments_are s ns short =
 -- what is read of the nodes, and that the payloads are as they should be
 pub record IsDense (s : Scale) (ns : List NodeValue) (w : List ℕ) : Type 0 where
   pub sound : wire w ≡ None
-  pub info_sound : AllByRecursion IsNone (map wire (each (fields w) 5))
-  pub arrays : AllByRecursion IsNone (map packed (each (fields w) 1) ++ (map packed (each (fields w) 8) ++ (map packed (each (fields w) 9) ++ (map packed (each (fields w) 10) ++ []))))
-  pub info_arrays : AllByRecursion IsNone (map packed (each (sub (fields w) 5) 1) ++ (map packed (each (sub (fields w) 5) 2) ++ (map packed (each (sub (fields w) 5) 3)
-      ++ (map packed (each (sub (fields w) 5) 4) ++ (map packed (each (sub (fields w) 5) 5) ++ [])))))
+  pub info_sound : AllByRecursion IsNone (map wire (each (fields w) DENSE_DENSEINFO))
+  pub arrays : AllByRecursion IsNone (map packed (each (fields w) DENSE_ID) ++ (map packed (each (fields w) DENSE_LAT) ++ (map packed (each (fields w) DENSE_LON) ++ (map packed (each (fields w) DENSE_KEYS_VALS) ++ []))))
+  pub info_arrays : AllByRecursion IsNone (map packed (each (sub (fields w) DENSE_DENSEINFO) DENSEINFO_VERSION) ++ (map packed (each (sub (fields w) DENSE_DENSEINFO) DENSEINFO_TIMESTAMP) ++ (map packed (each (sub (fields w) DENSE_DENSEINFO) DENSEINFO_CHANGESET)
+      ++ (map packed (each (sub (fields w) DENSE_DENSEINFO) DENSEINFO_UID) ++ (map packed (each (sub (fields w) DENSE_DENSEINFO) DENSEINFO_USER_SID) ++ [])))))
   pub holds : DenseOf (context_of s) ns (dense_message (fields w))
 
 pub dense_read : (s : Scale) (ns : List NodeValue) → IsScale s → AllByRecursion (NodeIsWritten s) ns → IsSame (infos_of ns) → length (dense_bytes s ns) < 2 ^ 64 → IsDense s ns (dense_bytes s ns)
@@ -212,23 +213,23 @@ dense_read s ns sc all same short =
     let ss : List Segment = dense_segments s ns in
     let whole = segments_are s ns short in
     let m = message_read ss (dense_bytes s ns)
-    (five_parts (delta_field 1 (ids_of ns)) (message_field 5 (dense_info_bytes s (infos_of ns))) (delta_field 8 (lats_of s ns)) (delta_field 9 (lons_of s ns)) (packed_field 10 (keys_vals_of s ns))) whole in
+    (five_parts (delta_field DENSE_ID (ids_of ns)) (message_field DENSE_DENSEINFO (dense_info_bytes s (infos_of ns))) (delta_field DENSE_LAT (lats_of s ns)) (delta_field DENSE_LON (lons_of s ns)) (packed_field DENSE_KEYS_VALS (keys_vals_of s ns))) whole in
     let ids_wide : AllByRecursion IsWide (ids_of ns) = all_mapped_by (NodeIsWritten s) IsWide (λ (n : NodeValue). n.id) ns (λ n w. w.in_range.id) all in
     let lats_wide : AllByRecursion IsWide (lats_of s ns) = all_mapped_by (NodeIsWritten s) IsWide (λ (n : NodeValue). raw_place s n.lat) ns (λ n w. quotient_is_wide s.granularity n.lat w.in_range.lat) all in
     let lons_wide : AllByRecursion IsWide (lons_of s ns) = all_mapped_by (NodeIsWritten s) IsWide (λ (n : NodeValue). raw_place s n.lon) ns (λ n w. quotient_is_wide s.granularity n.lon w.in_range.lon) all in
     let i = dense_info_read s (infos_of ns) sc (all_mapped_by (NodeIsWritten s) (IsWritten s) (λ (n : NodeValue). n.info) ns (λ n w. w.info) all) same (info_short s ns short) in
-    let a = packed_at ss whole 1 (deltas_of (ids_of ns)) (append-nil _) (deltas_fit (ids_of ns) ids_wide) in
-    let c = packed_at ss whole 8 (deltas_of (lats_of s ns)) (append-nil _) (deltas_fit (lats_of s ns) lats_wide) in
-    let d = packed_at ss whole 9 (deltas_of (lons_of s ns)) (append-nil _) (deltas_fit (lons_of s ns) lons_wide) in
-    let e = packed_at ss whole 10 (keys_vals_of s ns) (append-nil _) (keys_vals_fit s ns all) in
-    let info : each (entries_of ss) 5 ≡ payloads_of (dense_info_bytes s (infos_of ns)) =
-    each_at ss whole 5 (message_entries 5 (dense_info_bytes s (infos_of ns))) (append-nil _) ∙ message_each 5 (dense_info_bytes s (infos_of ns)) in
-    let subs : sub (entries_of ss) 5 ≡ fields (dense_info_bytes s (infos_of ns)) = rw info (message_sub (dense_info_bytes s (infos_of ns))) in
+    let a = packed_at ss whole DENSE_ID (deltas_of (ids_of ns)) (append-nil _) (deltas_fit (ids_of ns) ids_wide) in
+    let c = packed_at ss whole DENSE_LAT (deltas_of (lats_of s ns)) (append-nil _) (deltas_fit (lats_of s ns) lats_wide) in
+    let d = packed_at ss whole DENSE_LON (deltas_of (lons_of s ns)) (append-nil _) (deltas_fit (lons_of s ns) lons_wide) in
+    let e = packed_at ss whole DENSE_KEYS_VALS (keys_vals_of s ns) (append-nil _) (keys_vals_fit s ns all) in
+    let info : each (entries_of ss) DENSE_DENSEINFO ≡ payloads_of (dense_info_bytes s (infos_of ns)) =
+    each_at ss whole DENSE_DENSEINFO (message_entries DENSE_DENSEINFO (dense_info_bytes s (infos_of ns))) (append-nil _) ∙ message_each DENSE_DENSEINFO (dense_info_bytes s (infos_of ns)) in
+    let subs : sub (entries_of ss) DENSE_DENSEINFO ≡ fields (dense_info_bytes s (infos_of ns)) = rw info (message_sub (dense_info_bytes s (infos_of ns))) in
     let P : List Entry → Type 0 = λ fs. DenseOf (context_of s) ns (dense_message fs) in
-    let Q : List Entry → Type 0 = λ fs. AllByRecursion (IsNone {T = WireFault}) (map packed (each fs 1) ++ (map packed (each fs 8) ++ (map packed (each fs 9) ++ (map packed (each fs 10) ++ [])))) in
-    let R : List Entry → Type 0 = λ fs. AllByRecursion (IsNone {T = WireFault}) (map wire (each fs 5)) in
-    let S : List Entry → Type 0 = λ gs. AllByRecursion (IsNone {T = WireFault}) (map packed (each gs 1) ++ (map packed (each gs 2) ++ (map packed (each gs 3) ++ (map packed (each gs 4) ++ (map packed (each gs 5) ++ []))))) in
-    let T : List Entry → Type 0 = λ fs. S (sub fs 5) in
+    let Q : List Entry → Type 0 = λ fs. AllByRecursion (IsNone {T = WireFault}) (map packed (each fs DENSE_ID) ++ (map packed (each fs DENSE_LAT) ++ (map packed (each fs DENSE_LON) ++ (map packed (each fs DENSE_KEYS_VALS) ++ [])))) in
+    let R : List Entry → Type 0 = λ fs. AllByRecursion (IsNone {T = WireFault}) (map wire (each fs DENSE_DENSEINFO)) in
+    let S : List Entry → Type 0 = λ gs. AllByRecursion (IsNone {T = WireFault}) (map packed (each gs DENSEINFO_VERSION) ++ (map packed (each gs DENSEINFO_TIMESTAMP) ++ (map packed (each gs DENSEINFO_CHANGESET) ++ (map packed (each gs DENSEINFO_UID) ++ (map packed (each gs DENSEINFO_USER_SID) ++ []))))) in
+    let T : List Entry → Type 0 = λ fs. S (sub fs DENSE_DENSEINFO) in
     record {
       sound = m.sound;
       info_sound = subst R (sym m.fields_are) (rw info (payloads_sound (dense_info_bytes s (infos_of ns)) i.sound));

@@ -1,5 +1,5 @@
 -- A group of one element is no longer than a group that begins with it, in a block whose granularities are the same or finer.
-use Rattle.std.proofs.Common.{◌≡◌, ℕ, ◌≤◌, List, [], ◌∷◌, ◌++◌, length, map, refl, ap, Bool, true, false, ◌||◌, if◌then◌else◌, ℤ, pos, Option, Some, None, IsTrue, option_map, option_to_list, le_refl, w64}
+use Rattle.std.proofs.Common.{◌≡◌, ℕ, ◌≤◌, ◌*◌, List, [], ◌∷◌, ◌++◌, length, map, refl, ap, Bool, true, false, ◌||◌, if◌then◌else◌, ℤ, pos, Option, Some, None, IsTrue, option_map, option_to_list, le_refl, w64}
 use Rattle.std.specs.List.{AllByRecursion, flat_map, filter_map, list_any}
 use Rattle.std.specs.Int.{cast_unsigned}
 use Rattle.pbf_wire.specs.Write.{zigzag}
@@ -9,6 +9,7 @@ use Rattle.osm_value.specs.Value.{Text, InfoValue, MemberValue, NodeValue, WayVa
 use Rattle.osm_value.specs.Elements.{IsElement}
 use Rattle.osm_value.specs.Ranges.{is_wide, passes, IsInfo}
 use Rattle.osm_value.proofs.Ranges.{all_front, all_back}
+use Rattle.osm_block.specs.declared.fields.TheConstants.{DENSEINFO_CHANGESET, DENSEINFO_TIMESTAMP, DENSEINFO_UID, DENSEINFO_USER_SID, DENSEINFO_VERSION, DENSE_DENSEINFO, DENSE_ID, DENSE_KEYS_VALS, DENSE_LAT, DENSE_LON, ELEMENT_ID, ELEMENT_INFO, ELEMENT_KEYS, ELEMENT_VALS, GROUP_DENSE, GROUP_RELATIONS, GROUP_WAYS, INFO_CHANGESET, INFO_TIMESTAMP, INFO_UID, INFO_USER_SID, INFO_VERSION, RELATION_MEMIDS, RELATION_ROLES_SID, RELATION_TYPES, WAY_REFS}
 use Rattle.osm_write.specs.Canon.{Scale, index_of, tag_texts, number, number_field, message_field, packed_field, int_field, delta_field, optional, times_of, info_bytes, head_bytes, way_bytes, number_of_kind, relation_bytes, dense_info_bytes, tag_indexes, has_tags, keys_vals_of, raw_place, dense_bytes, node_of, way_or_relation, group_bytes}
 use Rattle.osm_write.proofs.Coarser.{Coarser}
 use Rattle.osm_write.proofs.NumberLengths.{NoLonger, itself, nothing, joined, Finer, zigzag_finer, number_finer, bytes_field_no_longer, message_field_no_longer, packed_front, delta_first, Below, below_itself, packed_column, delta_column}
@@ -47,32 +48,32 @@ same_packed k xs ys e = rw e (itself (packed_field k ys))
 -- ---- ways and relations
 
 time_no_longer : (one all : Scale) (o : Option ℤ) → Finer 1000 one.date_granularity all.date_granularity → IsTrue (passes is_wide o)
-    → NoLonger (optional (int_field 2) (times_of one o)) (optional (int_field 2) (times_of all o))
+    → NoLonger (optional (int_field INFO_TIMESTAMP) (times_of one o)) (optional (int_field INFO_TIMESTAMP) (times_of all o))
 time_no_longer one all None finer wide = nothing []
-time_no_longer one all (Some z) finer wide = joined (itself (number 16)) (number_finer 1000 one.date_granularity all.date_granularity z wide finer)
+time_no_longer one all (Some z) finer wide = joined (itself (number (8 * INFO_TIMESTAMP))) (number_finer 1000 one.date_granularity all.date_granularity z wide finer)
 
 user_no_longer : (one all : Scale) (o : Option Text) → AllByRecursion (SameIndex one all) (option_to_list o)
-    → NoLonger (optional (λ t. number_field 5 (index_of one t)) o) (optional (λ t. number_field 5 (index_of all t)) o)
+    → NoLonger (optional (λ t. number_field INFO_USER_SID (index_of one t)) o) (optional (λ t. number_field INFO_USER_SID (index_of all t)) o)
 user_no_longer one all None same = nothing []
-user_no_longer one all (Some t) same = let e = same.0 in rw e (itself (number_field 5 (index_of all t)))
+user_no_longer one all (Some t) same = let e = same.0 in rw e (itself (number_field INFO_USER_SID (index_of all t)))
 
 info_no_longer : (one all : Scale) (i : InfoValue) → Finer 1000 one.date_granularity all.date_granularity → IsInfo i → SameUser one all i
     → NoLonger (info_bytes one i) (info_bytes all i)
 info_no_longer one all i finer ranges same =
-    joined (joined (joined (joined (itself (optional (int_field 1) i.version)) (time_no_longer one all i.time finer ranges.time)) (itself (optional (int_field 3) i.changeset)))
-    (itself (optional (int_field 4) i.uid))) (user_no_longer one all i.user same)
+    joined (joined (joined (joined (itself (optional (int_field INFO_VERSION) i.version)) (time_no_longer one all i.time finer ranges.time)) (itself (optional (int_field INFO_CHANGESET) i.changeset)))
+    (itself (optional (int_field INFO_UID) i.uid))) (user_no_longer one all i.user same)
 
 head_no_longer : (one all : Scale) (id : ℤ) (tags : List (Text × Text)) (i : InfoValue) → Finer 1000 one.date_granularity all.date_granularity → IsInfo i
     → SameTags one all tags → SameUser one all i → NoLonger (head_bytes one id tags i) (head_bytes all id tags i)
 head_no_longer one all id tags i finer ranges same user =
-    joined (joined (joined (itself (int_field 1 id)) (same_packed 2 _ _ (same_keys one all tags same))) (same_packed 3 _ _ (same_values one all tags same)))
-    (message_field_no_longer 4 (info_bytes one i) (info_bytes all i) (info_no_longer one all i finer ranges user))
+    joined (joined (joined (itself (int_field ELEMENT_ID id)) (same_packed ELEMENT_KEYS _ _ (same_keys one all tags same))) (same_packed ELEMENT_VALS _ _ (same_values one all tags same)))
+    (message_field_no_longer ELEMENT_INFO (info_bytes one i) (info_bytes all i) (info_no_longer one all i finer ranges user))
 
 way_no_longer : (w : WayValue) (one all : Scale) → IsElement (Way w) → Coarser (Way w) one all → NoLonger (way_bytes one w) (way_bytes all w)
 way_no_longer w one all ranges c =
     let tags = all_front (SameIndex one all) (tag_texts w.tags) (option_to_list w.info.user) c.same_index in
     let user = all_back (SameIndex one all) (tag_texts w.tags) (option_to_list w.info.user) c.same_index in
-    joined (head_no_longer one all w.id w.tags w.info c.times ranges.info tags user) (itself (delta_field 8 w.refs))
+    joined (head_no_longer one all w.id w.tags w.info c.times ranges.info tags user) (itself (delta_field WAY_REFS w.refs))
 
 relation_no_longer : (r : RelationValue) (one all : Scale) → IsElement (Relation r) → Coarser (Relation r) one all → NoLonger (relation_bytes one r) (relation_bytes all r)
 relation_no_longer r one all ranges c =
@@ -82,8 +83,8 @@ relation_no_longer r one all ranges c =
     let tags = all_front (SameIndex one all) (tag_texts r.tags) (option_to_list r.info.user) front in
     let user = all_back (SameIndex one all) (tag_texts r.tags) (option_to_list r.info.user) front in
     joined (head_no_longer one all r.id r.tags r.info c.times ranges.info tags user)
-    (joined (joined (same_packed 8 _ _ (same_roles one all r.members named)) (itself (delta_field 9 (map (λ (m : MemberValue). m.id) r.members))))
-    (itself (packed_field 10 (map (λ (m : MemberValue). number_of_kind m.kind) r.members))))
+    (joined (joined (same_packed RELATION_ROLES_SID _ _ (same_roles one all r.members named)) (itself (delta_field RELATION_MEMIDS (map (λ (m : MemberValue). m.id) r.members))))
+    (itself (packed_field RELATION_TYPES (map (λ (m : MemberValue). number_of_kind m.kind) r.members))))
 
 -- ---- nodes
 
@@ -102,34 +103,34 @@ dense_info_no_longer one all i is finer same =
     let version : InfoValue → Option ℕ = λ j. option_map (cast_unsigned w64) j.version in
     let changeset : InfoValue → Option ℤ = λ j. j.changeset in
     let uid : InfoValue → Option ℤ = λ j. j.uid in
-    let a = packed_column 1 version version i is (below_itself (λ n. n) (version i)) in
-    let b = delta_column 2 (λ j. times_of one j.time) (λ j. times_of all j.time) i is (below_times one all i.time finer) in
-    let c = delta_column 3 changeset changeset i is (below_itself zigzag i.changeset) in
-    let d = delta_column 4 uid uid i is (below_itself zigzag i.uid) in
-    let e = delta_column 5 (λ j. option_map (λ t. pos (index_of one t)) j.user) (λ j. option_map (λ t. pos (index_of all t)) j.user) i is (below_users one all i.user same) in
+    let a = packed_column DENSEINFO_VERSION version version i is (below_itself (λ n. n) (version i)) in
+    let b = delta_column DENSEINFO_TIMESTAMP (λ j. times_of one j.time) (λ j. times_of all j.time) i is (below_times one all i.time finer) in
+    let c = delta_column DENSEINFO_CHANGESET changeset changeset i is (below_itself zigzag i.changeset) in
+    let d = delta_column DENSEINFO_UID uid uid i is (below_itself zigzag i.uid) in
+    let e = delta_column DENSEINFO_USER_SID (λ j. option_map (λ t. pos (index_of one t)) j.user) (λ j. option_map (λ t. pos (index_of all t)) j.user) i is (below_users one all i.user same) in
     joined (joined (joined (joined a b) c) d) e
 
 keys_vals_no_longer : (one all : Scale) (n : NodeValue) (ns : List NodeValue) → SameTags one all n.tags
-    → NoLonger (packed_field 10 (keys_vals_of one (n ∷ []))) (packed_field 10 (keys_vals_of all (n ∷ ns)))
+    → NoLonger (packed_field DENSE_KEYS_VALS (keys_vals_of one (n ∷ []))) (packed_field DENSE_KEYS_VALS (keys_vals_of all (n ∷ ns)))
 keys_vals_no_longer one all n ns same = by (has_tags n)
   where
     rest : List ℕ
     rest = flat_map (λ (m : NodeValue). tag_indexes all m.tags ++ 0 ∷ []) ns
 
-    by : (b : Bool) → NoLonger (packed_field 10 (if b || false then (tag_indexes one n.tags ++ 0 ∷ []) ++ [] else []))
-        (packed_field 10 (if b || list_any has_tags ns then (tag_indexes all n.tags ++ 0 ∷ []) ++ rest else []))
-    by true = packed_front 10 (tag_indexes one n.tags ++ 0 ∷ []) (tag_indexes all n.tags ++ 0 ∷ []) rest (ap (λ (xs : List ℕ). xs ++ 0 ∷ []) (same_indexes one all n.tags same))
-    by false = nothing (packed_field 10 (if list_any has_tags ns then (tag_indexes all n.tags ++ 0 ∷ []) ++ rest else []))
+    by : (b : Bool) → NoLonger (packed_field DENSE_KEYS_VALS (if b || false then (tag_indexes one n.tags ++ 0 ∷ []) ++ [] else []))
+        (packed_field DENSE_KEYS_VALS (if b || list_any has_tags ns then (tag_indexes all n.tags ++ 0 ∷ []) ++ rest else []))
+    by true = packed_front DENSE_KEYS_VALS (tag_indexes one n.tags ++ 0 ∷ []) (tag_indexes all n.tags ++ 0 ∷ []) rest (ap (λ (xs : List ℕ). xs ++ 0 ∷ []) (same_indexes one all n.tags same))
+    by false = nothing (packed_field DENSE_KEYS_VALS (if list_any has_tags ns then (tag_indexes all n.tags ++ 0 ∷ []) ++ rest else []))
 
 dense_no_longer : (n : NodeValue) (ns : List NodeValue) (one all : Scale) → Coarser (Node n) one all → NoLonger (dense_bytes one (n ∷ [])) (dense_bytes all (n ∷ ns))
 dense_no_longer n ns one all c =
     let tags = all_front (SameIndex one all) (tag_texts n.tags) (option_to_list n.info.user) c.same_index in
     let user = all_back (SameIndex one all) (tag_texts n.tags) (option_to_list n.info.user) c.same_index in
     let infos : List InfoValue = map (λ (m : NodeValue). m.info) ns in
-    let ids = delta_first 1 n.id n.id (map (λ (m : NodeValue). m.id) ns) (le_refl (zigzag n.id)) in
-    let info = message_field_no_longer 5 (dense_info_bytes one (n.info ∷ [])) (dense_info_bytes all (n.info ∷ infos)) (dense_info_no_longer one all n.info infos c.times user) in
-    let lats = delta_first 8 (raw_place one n.lat) (raw_place all n.lat) (map (λ (m : NodeValue). raw_place all m.lat) ns) (zigzag_finer 100 one.granularity all.granularity n.lat c.places) in
-    let lons = delta_first 9 (raw_place one n.lon) (raw_place all n.lon) (map (λ (m : NodeValue). raw_place all m.lon) ns) (zigzag_finer 100 one.granularity all.granularity n.lon c.places) in
+    let ids = delta_first DENSE_ID n.id n.id (map (λ (m : NodeValue). m.id) ns) (le_refl (zigzag n.id)) in
+    let info = message_field_no_longer DENSE_DENSEINFO (dense_info_bytes one (n.info ∷ [])) (dense_info_bytes all (n.info ∷ infos)) (dense_info_no_longer one all n.info infos c.times user) in
+    let lats = delta_first DENSE_LAT (raw_place one n.lat) (raw_place all n.lat) (map (λ (m : NodeValue). raw_place all m.lat) ns) (zigzag_finer 100 one.granularity all.granularity n.lat c.places) in
+    let lons = delta_first DENSE_LON (raw_place one n.lon) (raw_place all n.lon) (map (λ (m : NodeValue). raw_place all m.lon) ns) (zigzag_finer 100 one.granularity all.granularity n.lon c.places) in
     joined (joined (joined (joined ids info) lats) lons) (keys_vals_no_longer one all n ns tags)
 
 -- ---- the group
@@ -137,13 +138,13 @@ dense_no_longer n ns one all c =
 no_longer : (e : Element) (g : List Element) (one all : Scale) → IsElement e → Coarser e one all → NoLonger (group_bytes one (e ∷ [])) (group_bytes all (e ∷ g))
 no_longer (Node n) g one all ranges c =
     let ns : List NodeValue = filter_map node_of g in
-    joined (message_field_no_longer 2 (dense_bytes one (n ∷ [])) (dense_bytes all (n ∷ ns)) (dense_no_longer n ns one all c)) (nothing (flat_map (way_or_relation all) g))
+    joined (message_field_no_longer GROUP_DENSE (dense_bytes one (n ∷ [])) (dense_bytes all (n ∷ ns)) (dense_no_longer n ns one all c)) (nothing (flat_map (way_or_relation all) g))
 no_longer (Way w) g one all ranges c =
-    joined (nothing (message_field 2 (dense_bytes all (filter_map node_of g))))
-    (joined (bytes_field_no_longer 3 (way_bytes one w) (way_bytes all w) (way_no_longer w one all ranges c)) (nothing (flat_map (way_or_relation all) g)))
+    joined (nothing (message_field GROUP_DENSE (dense_bytes all (filter_map node_of g))))
+    (joined (bytes_field_no_longer GROUP_WAYS (way_bytes one w) (way_bytes all w) (way_no_longer w one all ranges c)) (nothing (flat_map (way_or_relation all) g)))
 no_longer (Relation r) g one all ranges c =
-    joined (nothing (message_field 2 (dense_bytes all (filter_map node_of g))))
-    (joined (bytes_field_no_longer 4 (relation_bytes one r) (relation_bytes all r) (relation_no_longer r one all ranges c)) (nothing (flat_map (way_or_relation all) g)))
+    joined (nothing (message_field GROUP_DENSE (dense_bytes all (filter_map node_of g))))
+    (joined (bytes_field_no_longer GROUP_RELATIONS (relation_bytes one r) (relation_bytes all r) (relation_no_longer r one all ranges c)) (nothing (flat_map (way_or_relation all) g)))
 
 pub group_no_longer : (e : Element) (g : List Element) (one all : Scale) → IsElement e → Coarser e one all → length (group_bytes one (e ∷ [])) ≤ length (group_bytes all (e ∷ g))
 group_no_longer e g one all ranges c = (no_longer e g one all ranges c).le

@@ -11,6 +11,7 @@ use Rattle.osm_value.specs.declared.element.Element.TheVariants as elements
 use Rattle.osm_value.specs.Value.{Text, NodeValue, MemberValue, WayValue, RelationValue}
 use Rattle.osm_value.specs.Ranges.{IsWay, IsRelation}
 use Rattle.osm_value.proofs.Ranges.{all_append}
+use Rattle.osm_block.specs.declared.fields.TheConstants.{DENSEINFO_CHANGESET, DENSEINFO_TIMESTAMP, DENSEINFO_UID, DENSEINFO_USER_SID, DENSEINFO_VERSION, DENSE_DENSEINFO, DENSE_ID, DENSE_KEYS_VALS, DENSE_LAT, DENSE_LON, GROUP_DENSE, GROUP_NODES, GROUP_RELATIONS, GROUP_WAYS, WAY_REFS}
 use Rattle.osm_block.specs.Message.{Context, Message, Dense, Way, Relation, messages, dense_message}
 use Rattle.osm_block.specs.Block.{AllAreWire, MessageOf, Joins, GroupOf, kinds_in, DenseOf}
 use Rattle.osm_write.specs.Canon.{Scale, number, bytes_field, message_field, head_bytes, way_bytes, relation_bytes, members_bytes, delta_field, dense_bytes, node_of, way_or_relation, group_bytes}
@@ -59,7 +60,7 @@ each_short k (bs ∷ bss) short =
 
 way_written : (s : Scale) (w : WayValue) → IsScale s → WayIsKnown s w → length (way_bytes s w) < 2 ^ 64 → WayIsWritten s w
 way_written s w sc h short =
-    let a = length-append (head_bytes s w.id w.tags w.info) (delta_field 8 w.refs) in
+    let a = length-append (head_bytes s w.id w.tags w.info) (delta_field WAY_REFS w.refs) in
     record {
       head = record { scale = sc; wide = h.in_range.id; keys = h.head.keys; values = h.head.values; info = h.info; short = omega arith };
       in_range = h.in_range;
@@ -109,10 +110,10 @@ no_dense b = (
 -- ---- a group of nodes
 
 record IsOnly (gs : List Entry) (dense ways relations : List (List ℕ)) : Type 0 where
-  pub plain_are : each gs 1 ≡ []
-  pub dense_are : each gs 2 ≡ dense
-  pub ways_are : each gs 3 ≡ ways
-  pub relations_are : each gs 4 ≡ relations
+  pub plain_are : each gs GROUP_NODES ≡ []
+  pub dense_are : each gs GROUP_DENSE ≡ dense
+  pub ways_are : each gs GROUP_WAYS ≡ ways
+  pub relations_are : each gs GROUP_RELATIONS ≡ relations
 
 messages_are : (gs : List Entry) (dense ways relations : List (List ℕ)) → IsOnly gs dense ways relations → messages gs ≡ Dense dense ∷ (map Way ways ++ map Relation relations)
 messages_are gs dense ways relations h = rw (h.plain_are, h.dense_are, h.ways_are, h.relations_are) refl
@@ -146,23 +147,23 @@ dense_says : (s : Scale) (ns : List NodeValue) (w : List ℕ) → IsDense s ns w
 dense_says s ns w h =
     let same : flat_map fields (payloads_of w) ≡ fields w = message_sub w in
     let Q : List Entry → Type 0 = λ fs. AllByRecursion (IsNone {T = WireFault})
-    (map wire (payloads_of w) ++ map wire (each fs 5) ++ (map packed (each fs 1) ++ (map packed (each fs 8) ++ (map packed (each fs 9) ++ (map packed (each fs 10) ++ []))))
-    ++ (map packed (each (sub fs 5) 1) ++ (map packed (each (sub fs 5) 2) ++ (map packed (each (sub fs 5) 3) ++ (map packed (each (sub fs 5) 4) ++ (map packed (each (sub fs 5) 5) ++ [])))))) in
+    (map wire (payloads_of w) ++ map wire (each fs DENSE_DENSEINFO) ++ (map packed (each fs DENSE_ID) ++ (map packed (each fs DENSE_LAT) ++ (map packed (each fs DENSE_LON) ++ (map packed (each fs DENSE_KEYS_VALS) ++ []))))
+    ++ (map packed (each (sub fs DENSE_DENSEINFO) DENSEINFO_VERSION) ++ (map packed (each (sub fs DENSE_DENSEINFO) DENSEINFO_TIMESTAMP) ++ (map packed (each (sub fs DENSE_DENSEINFO) DENSEINFO_CHANGESET) ++ (map packed (each (sub fs DENSE_DENSEINFO) DENSEINFO_UID) ++ (map packed (each (sub fs DENSE_DENSEINFO) DENSEINFO_USER_SID) ++ [])))))) in
     let P : List Entry → Type 0 = λ fs. DenseOf (context_of s) ns (dense_message fs) in (
       subst Q (sym same) (all_append IsNone _ _ (all_append IsNone _ _ (all_append IsNone _ _ (payloads_sound w h.sound) h.info_sound) h.arrays) h.info_arrays),
       (ns, refl, subst P (sym same) h.holds),
     )
 
-nodes_group : (s : Scale) (ns : List NodeValue) (g : List ℕ) → g ≡ message_field 2 (dense_bytes s ns) ++ [] → IsDense s ns (dense_bytes s ns) → length (dense_bytes s ns) < 2 ^ 64 → GroupOf (context_of s) (map elements.Node ns) g
+nodes_group : (s : Scale) (ns : List NodeValue) (g : List ℕ) → g ≡ message_field GROUP_DENSE (dense_bytes s ns) ++ [] → IsDense s ns (dense_bytes s ns) → length (dense_bytes s ns) < 2 ^ 64 → GroupOf (context_of s) (map elements.Node ns) g
 nodes_group s ns g is d within =
-    let ss : List Segment = message_segment 2 (dense_bytes s ns) ∷ [] in
-    let whole : AllByRecursion IsSegment ss = (is_message_segment 2 refl (omega arith) (dense_bytes s ns) within, tt) in
+    let ss : List Segment = message_segment GROUP_DENSE (dense_bytes s ns) ∷ [] in
+    let whole : AllByRecursion IsSegment ss = (is_message_segment GROUP_DENSE refl (omega arith) (dense_bytes s ns) within, tt) in
     let m = message_read ss g is whole in
     let only : IsOnly (entries_of ss) (payloads_of (dense_bytes s ns)) [] [] = record {
-      plain_are = each_at ss whole 1 [] refl;
-      dense_are = each_at ss whole 2 (message_entries 2 (dense_bytes s ns)) (append-nil _) ∙ message_each 2 (dense_bytes s ns);
-      ways_are = each_at ss whole 3 [] refl;
-      relations_are = each_at ss whole 4 [] refl;
+      plain_are = each_at ss whole GROUP_NODES [] refl;
+      dense_are = each_at ss whole GROUP_DENSE (message_entries GROUP_DENSE (dense_bytes s ns)) (append-nil _) ∙ message_each GROUP_DENSE (dense_bytes s ns);
+      ways_are = each_at ss whole GROUP_WAYS [] refl;
+      relations_are = each_at ss whole GROUP_RELATIONS [] refl;
     } in
     let J : List Message → Type 0 = λ ms. Joins (Says (context_of s)) (map elements.Node ns) ms in
     let joins : J (Dense (payloads_of (dense_bytes s ns)) ∷ []) = (map elements.Node ns, [], sym (append-nil _), dense_says s ns (dense_bytes s ns) d, refl) in
@@ -184,13 +185,13 @@ no_node_of_relations : (rs : List RelationValue) → filter_map node_of (map ele
 no_node_of_relations [] = refl
 no_node_of_relations (r ∷ rs) = no_node_of_relations rs
 
-only_ways : (s : Scale) (ws : List WayValue) → flat_map (way_or_relation s) (map elements.Way ws) ≡ flat_map (bytes_field 3) (map (way_bytes s) ws)
+only_ways : (s : Scale) (ws : List WayValue) → flat_map (way_or_relation s) (map elements.Way ws) ≡ flat_map (bytes_field GROUP_WAYS) (map (way_bytes s) ws)
 only_ways s [] = refl
-only_ways s (w ∷ ws) = ap (λ xs. bytes_field 3 (way_bytes s w) ++ xs) (only_ways s ws)
+only_ways s (w ∷ ws) = ap (λ xs. bytes_field GROUP_WAYS (way_bytes s w) ++ xs) (only_ways s ws)
 
-only_relations : (s : Scale) (rs : List RelationValue) → flat_map (way_or_relation s) (map elements.Relation rs) ≡ flat_map (bytes_field 4) (map (relation_bytes s) rs)
+only_relations : (s : Scale) (rs : List RelationValue) → flat_map (way_or_relation s) (map elements.Relation rs) ≡ flat_map (bytes_field GROUP_RELATIONS) (map (relation_bytes s) rs)
 only_relations s [] = refl
-only_relations s (r ∷ rs) = ap (λ xs. bytes_field 4 (relation_bytes s r) ++ xs) (only_relations s rs)
+only_relations s (r ∷ rs) = ap (λ xs. bytes_field GROUP_RELATIONS (relation_bytes s r) ++ xs) (only_relations s rs)
 
 ways_join : (s : Scale) (ws : List WayValue) → IsScale s → AllByRecursion (ElementIsKnown s) (map elements.Way ws) → AllByRecursion (λ (bs : List ℕ). length bs < 2 ^ 64) (map (way_bytes s) ws)
     → Joins (Says (context_of s)) (map elements.Way ws) (map Way (map (way_bytes s) ws) ++ [])
@@ -207,18 +208,18 @@ relations_join s (r ∷ rs) sc all short =
     (elements.Relation r ∷ [], map elements.Relation rs, refl, (q.sound, (r, refl, q.holds)), relations_join s rs sc all.1 short.1)
 
 ways_group : (s : Scale) (ws : List WayValue) (g : List ℕ) → IsScale s → AllByRecursion (ElementIsKnown s) (map elements.Way ws) → length g < 2 ^ 64
-    → g ≡ flat_map (bytes_field 3) (map (way_bytes s) ws) → GroupOf (context_of s) (map elements.Way ws) g
+    → g ≡ flat_map (bytes_field GROUP_WAYS) (map (way_bytes s) ws) → GroupOf (context_of s) (map elements.Way ws) g
 ways_group s ws g sc all short is =
     let bss : List (List ℕ) = map (way_bytes s) ws in
-    let ss : List Segment = repeated_segment 3 bss ∷ [] in
-    let each_is : AllByRecursion (λ (bs : List ℕ). length bs < 2 ^ 64) bss = each_short 3 bss (let e = ap length is in omega arith) in
-    let whole : AllByRecursion IsSegment ss = (is_repeated_segment 3 refl (omega arith) bss each_is, tt) in
+    let ss : List Segment = repeated_segment GROUP_WAYS bss ∷ [] in
+    let each_is : AllByRecursion (λ (bs : List ℕ). length bs < 2 ^ 64) bss = each_short GROUP_WAYS bss (let e = ap length is in omega arith) in
+    let whole : AllByRecursion IsSegment ss = (is_repeated_segment GROUP_WAYS refl (omega arith) bss each_is, tt) in
     let m = message_read ss g (is ∙ sym (append-nil _)) whole in
     let only : IsOnly (entries_of ss) [] bss [] = record {
-      plain_are = each_at ss whole 1 [] refl;
-      dense_are = each_at ss whole 2 [] refl;
-      ways_are = each_at ss whole 3 (map (bytes_entry 3) bss) (append-nil _) ∙ repeated_each 3 bss;
-      relations_are = each_at ss whole 4 [] refl;
+      plain_are = each_at ss whole GROUP_NODES [] refl;
+      dense_are = each_at ss whole GROUP_DENSE [] refl;
+      ways_are = each_at ss whole GROUP_WAYS (map (bytes_entry GROUP_WAYS) bss) (append-nil _) ∙ repeated_each GROUP_WAYS bss;
+      relations_are = each_at ss whole GROUP_RELATIONS [] refl;
     } in
     let J : List Message → Type 0 = λ ms. Joins (Says (context_of s)) (map elements.Way ws) ms in
     let joins : J (Dense [] ∷ (map Way bss ++ [])) = ([], map elements.Way ws, refl, no_dense (context_of s), ways_join s ws sc all each_is) in
@@ -231,18 +232,18 @@ ways_group s ws g sc all short is =
     }
 
 relations_group : (s : Scale) (rs : List RelationValue) (g : List ℕ) → IsScale s → AllByRecursion (ElementIsKnown s) (map elements.Relation rs) → length g < 2 ^ 64
-    → g ≡ flat_map (bytes_field 4) (map (relation_bytes s) rs) → GroupOf (context_of s) (map elements.Relation rs) g
+    → g ≡ flat_map (bytes_field GROUP_RELATIONS) (map (relation_bytes s) rs) → GroupOf (context_of s) (map elements.Relation rs) g
 relations_group s rs g sc all short is =
     let bss : List (List ℕ) = map (relation_bytes s) rs in
-    let ss : List Segment = repeated_segment 4 bss ∷ [] in
-    let each_is : AllByRecursion (λ (bs : List ℕ). length bs < 2 ^ 64) bss = each_short 4 bss (let e = ap length is in omega arith) in
-    let whole : AllByRecursion IsSegment ss = (is_repeated_segment 4 refl (omega arith) bss each_is, tt) in
+    let ss : List Segment = repeated_segment GROUP_RELATIONS bss ∷ [] in
+    let each_is : AllByRecursion (λ (bs : List ℕ). length bs < 2 ^ 64) bss = each_short GROUP_RELATIONS bss (let e = ap length is in omega arith) in
+    let whole : AllByRecursion IsSegment ss = (is_repeated_segment GROUP_RELATIONS refl (omega arith) bss each_is, tt) in
     let m = message_read ss g (is ∙ sym (append-nil _)) whole in
     let only : IsOnly (entries_of ss) [] [] bss = record {
-      plain_are = each_at ss whole 1 [] refl;
-      dense_are = each_at ss whole 2 [] refl;
-      ways_are = each_at ss whole 3 [] refl;
-      relations_are = each_at ss whole 4 (map (bytes_entry 4) bss) (append-nil _) ∙ repeated_each 4 bss;
+      plain_are = each_at ss whole GROUP_NODES [] refl;
+      dense_are = each_at ss whole GROUP_DENSE [] refl;
+      ways_are = each_at ss whole GROUP_WAYS [] refl;
+      relations_are = each_at ss whole GROUP_RELATIONS (map (bytes_entry GROUP_RELATIONS) bss) (append-nil _) ∙ repeated_each GROUP_RELATIONS bss;
     } in
     let J : List Message → Type 0 = λ ms. Joins (Says (context_of s)) (map elements.Relation rs) ms in
     let joins : J (Dense [] ∷ map Relation bss) = ([], map elements.Relation rs, refl, no_dense (context_of s), relations_join s rs sc all each_is) in
@@ -261,10 +262,10 @@ IsReadGroup s es = AllByRecursion (ElementIsKnown s) es → length (group_bytes 
 
 nodes_read : (s : Scale) (ns : List NodeValue) → IsScale s → IsSame (map (λ (n : NodeValue). n.info) ns) → IsReadGroup s (map elements.Node ns)
 nodes_read s ns sc same all short =
-    let is : group_bytes s (map elements.Node ns) ≡ message_field 2 (dense_bytes s ns) ++ [] = rw (only_nodes s ns, nothing_else s ns) refl in
+    let is : group_bytes s (map elements.Node ns) ≡ message_field GROUP_DENSE (dense_bytes s ns) ++ [] = rw (only_nodes s ns, nothing_else s ns) refl in
     let l = ap length is in
-    let a = length-append (message_field 2 (dense_bytes s ns)) [] in
-    let b = message_long 2 (dense_bytes s ns) in
+    let a = length-append (message_field GROUP_DENSE (dense_bytes s ns)) [] in
+    let b = message_long GROUP_DENSE (dense_bytes s ns) in
     let within : length (dense_bytes s ns) < 2 ^ 64 = omega arith in
     let known = nodes_known s ns all in
     nodes_group s ns (group_bytes s (map elements.Node ns)) is (dense_read s ns sc known same within) within

@@ -1,12 +1,13 @@
 -- The parts of the header block, one after the other.
 use Rattle.std.proofs.Common.{◌≡◌, ℕ, List, [], ◌++◌, codes, Bool, false, None, append_assoc, append-nil}
 use Rattle.pbf_wire.specs.Readings.{fields}
+use Rattle.osm_block.specs.declared.fields.TheConstants.{HEADER_REQUIRED_FEATURES, HEADER_WRITINGPROGRAM}
 use Rattle.osm_block.specs.HeaderBlock.{header_fault, header_value}
 use Rattle.osm_write.specs.Canon.{bytes_field}
 use Rattle.osm_write.specs.Header.{header_block, written_value, plain_header_is, plain_header_fault, plain_header_value}
 
-pub header_joined : (history : Bool) (o0 o1 o2 o3 : List ℕ) → history ≡ false → o0 ≡ [] → o1 ≡ o0 ++ bytes_field 4 (codes "OsmSchema-V0.6") → o2 ≡ o1 ++ bytes_field 4 (codes "DenseNodes")
-    → o3 ≡ o2 ++ bytes_field 16 (codes "pbfrow") → o3 ≡ header_block history
+pub header_joined : (history : Bool) (o0 o1 o2 o3 : List ℕ) → history ≡ false → o0 ≡ [] → o1 ≡ o0 ++ bytes_field HEADER_REQUIRED_FEATURES (codes "OsmSchema-V0.6") → o2 ≡ o1 ++ bytes_field HEADER_REQUIRED_FEATURES (codes "DenseNodes")
+    → o3 ≡ o2 ++ bytes_field HEADER_WRITINGPROGRAM (codes "pbfrow") → o3 ≡ header_block history
 unfolding header_block
 header_joined history o0 o1 o2 o3 plain e0 e1 e2 e3 = rw (plain, e3, e2, e1, e0) (simp (append_assoc, append-nil))
 

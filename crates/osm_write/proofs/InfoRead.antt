@@ -9,6 +9,7 @@ use Rattle.pbf_wire.specs.Readings.{fields, wire, int32, int64, uint32, last, fi
 use Rattle.osm_value.specs.Value.{Text, InfoValue}
 use Rattle.osm_value.specs.Ranges.{IsInfo, passes, is_wide, is_version, is_uid}
 use Rattle.osm_value.proofs.Ranges.{wide_fits}
+use Rattle.osm_block.specs.declared.fields.TheConstants.{INFO_CHANGESET, INFO_TIMESTAMP, INFO_UID, INFO_USER_SID, INFO_VERSION, INFO_VISIBLE}
 use Rattle.osm_block.specs.Message.{info_message}
 use Rattle.osm_block.specs.Block.{InfoOf, version, time, text_at}
 use Rattle.osm_write.specs.Canon.{Scale, index_of, number_field, optional, times_of, info_bytes}
@@ -22,8 +23,8 @@ abbrev bits_of : Option ℤ → Option ℕ
 bits_of o = option_map (cast_unsigned w64) o
 
 abbrev info_segments : Scale → InfoValue → List Segment
-info_segments s i = optional_segment 1 (bits_of i.version) ∷ optional_segment 2 (bits_of (times_of s i.time)) ∷ optional_segment 3 (bits_of i.changeset)
-    ∷ optional_segment 4 (bits_of i.uid) ∷ optional_segment 5 (option_map (index_of s) i.user) ∷ []
+info_segments s i = optional_segment INFO_VERSION (bits_of i.version) ∷ optional_segment INFO_TIMESTAMP (bits_of (times_of s i.time)) ∷ optional_segment INFO_CHANGESET (bits_of i.changeset)
+    ∷ optional_segment INFO_UID (bits_of i.uid) ∷ optional_segment INFO_USER_SID (option_map (index_of s) i.user) ∷ []
 
 -- what an info that is written is
 pub record IsWritten (s : Scale) (i : InfoValue) : Type 0 where
@@ -56,14 +57,14 @@ users_fit s (Some t) h = (let lt = h.0.small in omega arith, tt)
 
 all_segments : (s : Scale) (i : InfoValue) → IsScale s → IsWritten s i → AllByRecursion IsSegment (info_segments s i)
 all_segments s i sc w = (
-  is_optional_segment 1 refl (omega arith) (bits_of i.version) (versions_fit i.version w.in_range.version),
+  is_optional_segment INFO_VERSION refl (omega arith) (bits_of i.version) (versions_fit i.version w.in_range.version),
   (
-    is_optional_segment 2 refl (omega arith) (bits_of (times_of s i.time)) (times_fit s sc i.time w.in_range.time),
+    is_optional_segment INFO_TIMESTAMP refl (omega arith) (bits_of (times_of s i.time)) (times_fit s sc i.time w.in_range.time),
     (
-      is_optional_segment 3 refl (omega arith) (bits_of i.changeset) (wides_fit i.changeset w.in_range.changeset),
+      is_optional_segment INFO_CHANGESET refl (omega arith) (bits_of i.changeset) (wides_fit i.changeset w.in_range.changeset),
       (
-        is_optional_segment 4 refl (omega arith) (bits_of i.uid) (uids_fit i.uid w.in_range.uid),
-        (is_optional_segment 5 refl (omega arith) (option_map (index_of s) i.user) (users_fit s i.user w.user), tt),
+        is_optional_segment INFO_UID refl (omega arith) (bits_of i.uid) (uids_fit i.uid w.in_range.uid),
+        (is_optional_segment INFO_USER_SID refl (omega arith) (option_map (index_of s) i.user) (users_fit s i.user w.user), tt),
       ),
     ),
   ),
@@ -75,13 +76,13 @@ optional_mapped f g (Some x) = refl
 
 bytes_are : (s : Scale) (i : InfoValue) → info_bytes s i ≡ bytes_in (info_segments s i)
 bytes_are s i =
-    let a = optional_mapped (number_field 1) (cast_unsigned w64) i.version in
-    let b = optional_mapped (number_field 2) (cast_unsigned w64) (times_of s i.time) in
-    let c = optional_mapped (number_field 3) (cast_unsigned w64) i.changeset in
-    let d = optional_mapped (number_field 4) (cast_unsigned w64) i.uid in
-    let e = optional_mapped (number_field 5) (index_of s) i.user in
-    rw (a, b, c, d, e) (five_parts (optional (number_field 1) (bits_of i.version)) (optional (number_field 2) (bits_of (times_of s i.time))) (optional (number_field 3) (bits_of i.changeset))
-    (optional (number_field 4) (bits_of i.uid)) (optional (number_field 5) (option_map (index_of s) i.user)))
+    let a = optional_mapped (number_field INFO_VERSION) (cast_unsigned w64) i.version in
+    let b = optional_mapped (number_field INFO_TIMESTAMP) (cast_unsigned w64) (times_of s i.time) in
+    let c = optional_mapped (number_field INFO_CHANGESET) (cast_unsigned w64) i.changeset in
+    let d = optional_mapped (number_field INFO_UID) (cast_unsigned w64) i.uid in
+    let e = optional_mapped (number_field INFO_USER_SID) (index_of s) i.user in
+    rw (a, b, c, d, e) (five_parts (optional (number_field INFO_VERSION) (bits_of i.version)) (optional (number_field INFO_TIMESTAMP) (bits_of (times_of s i.time))) (optional (number_field INFO_CHANGESET) (bits_of i.changeset))
+    (optional (number_field INFO_UID) (bits_of i.uid)) (optional (number_field INFO_USER_SID) (option_map (index_of s) i.user)))
 
 pub info_is_message : (s : Scale) (i : InfoValue) → IsScale s → IsWritten s i → IsMessage (entries_of (info_segments s i)) (info_bytes s i)
 info_is_message s i sc w = message_read (info_segments s i) (info_bytes s i) (bytes_are s i) (all_segments s i sc w)
@@ -118,12 +119,12 @@ info_read s i sc w =
     let all = all_segments s i sc w in
     let m = info_is_message s i sc w in
     let P : List Entry → Type 0 = λ fs. InfoOf (context_of s) i (info_message fs) in
-    let v : last (entries_of ss) 1 ≡ bits_of i.version = last_at ss all 1 (optional_entries 1 (bits_of i.version)) (append-nil _) ∙ optional_last 1 (bits_of i.version) in
-    let t : last (entries_of ss) 2 ≡ bits_of (times_of s i.time) = last_at ss all 2 (optional_entries 2 (bits_of (times_of s i.time))) (append-nil _) ∙ optional_last 2 (bits_of (times_of s i.time)) in
-    let c : last (entries_of ss) 3 ≡ bits_of i.changeset = last_at ss all 3 (optional_entries 3 (bits_of i.changeset)) (append-nil _) ∙ optional_last 3 (bits_of i.changeset) in
-    let u : last (entries_of ss) 4 ≡ bits_of i.uid = last_at ss all 4 (optional_entries 4 (bits_of i.uid)) (append-nil _) ∙ optional_last 4 (bits_of i.uid) in
-    let n : last (entries_of ss) 5 ≡ option_map (index_of s) i.user = last_at ss all 5 (optional_entries 5 (option_map (index_of s) i.user)) (append-nil _) ∙ optional_last 5 (option_map (index_of s) i.user) in
-    let x : fitting number_of 6 (entries_of ss) ≡ [] = fitting_at ss all 6 [] refl number_of in
+    let v : last (entries_of ss) INFO_VERSION ≡ bits_of i.version = last_at ss all INFO_VERSION (optional_entries INFO_VERSION (bits_of i.version)) (append-nil _) ∙ optional_last INFO_VERSION (bits_of i.version) in
+    let t : last (entries_of ss) INFO_TIMESTAMP ≡ bits_of (times_of s i.time) = last_at ss all INFO_TIMESTAMP (optional_entries INFO_TIMESTAMP (bits_of (times_of s i.time))) (append-nil _) ∙ optional_last INFO_TIMESTAMP (bits_of (times_of s i.time)) in
+    let c : last (entries_of ss) INFO_CHANGESET ≡ bits_of i.changeset = last_at ss all INFO_CHANGESET (optional_entries INFO_CHANGESET (bits_of i.changeset)) (append-nil _) ∙ optional_last INFO_CHANGESET (bits_of i.changeset) in
+    let u : last (entries_of ss) INFO_UID ≡ bits_of i.uid = last_at ss all INFO_UID (optional_entries INFO_UID (bits_of i.uid)) (append-nil _) ∙ optional_last INFO_UID (bits_of i.uid) in
+    let n : last (entries_of ss) INFO_USER_SID ≡ option_map (index_of s) i.user = last_at ss all INFO_USER_SID (optional_entries INFO_USER_SID (option_map (index_of s) i.user)) (append-nil _) ∙ optional_last INFO_USER_SID (option_map (index_of s) i.user) in
+    let x : fitting number_of INFO_VISIBLE (entries_of ss) ≡ [] = fitting_at ss all INFO_VISIBLE [] refl number_of in
     subst P (sym m.fields_are) (record {
       version_is = rw v (versions_read i.version w.in_range.version);
       time_is = rw t (times_read s sc i.time w.in_range.time w.time);

@@ -14,9 +14,11 @@ use Rattle.osm_value.specs.declared.element.Element.{Element}
 use Rattle.osm_value.specs.declared.element.Element.TheVariants as elements
 use Rattle.osm_value.specs.Value.{Text, InfoValue, NodeValue, MemberValue}
 use Rattle.osm_value.proofs.Ranges.{all_append, all_map}
+use Rattle.osm_block.specs.declared.fields.TheConstants.{BLOCK_PRIMITIVEGROUP, BLOCK_STRINGTABLE, STRINGTABLE_S}
 use Rattle.osm_block.specs.DenseTags.{Pair}
 use Rattle.osm_block.specs.Message.{Context, context, Message, Plain, Dense, Way, Relation, messages}
 use Rattle.osm_block.specs.Block.{Block, GroupOf, Joins, AllAreWire, MessageOf, TagsAt, text_at, texts_at, all_there, column}
+use Rattle.osm_write.specs.declared.block.TheConstants.{MAX_BLOCK_LEN}
 use Rattle.osm_write.specs.Canon.{first_uses, tag_texts, texts_of}
 use Rattle.osm_write.specs.Texts.{has}
 use Rattle.osm_write.specs.Laws.{FewTexts}
@@ -170,21 +172,21 @@ heavy_count : (ps : List (List ℕ)) → 2 * length ps ≤ heavy ps
 heavy_count [] = omega arith
 heavy_count (p ∷ ps) = let a = heavy_count ps in omega arith
 
-table_short : (ps : List (List ℕ)) → AllByRecursion (λ p. wire p ≡ None) ps → 2 * length (each (flat_map fields ps) 1) ≤ heavy ps
+table_short : (ps : List (List ℕ)) → AllByRecursion (λ p. wire p ≡ None) ps → 2 * length (each (flat_map fields ps) STRINGTABLE_S) ≤ heavy ps
 table_short [] all = omega arith
 table_short (p ∷ ps) all =
-    let e : each (fields p ++ flat_map fields ps) 1 ≡ each (fields p) 1 ++ each (flat_map fields ps) 1 = filter_map-append _ (fields p) (flat_map fields ps) in
+    let e : each (fields p ++ flat_map fields ps) STRINGTABLE_S ≡ each (fields p) STRINGTABLE_S ++ each (flat_map fields ps) STRINGTABLE_S = filter_map-append _ (fields p) (flat_map fields ps) in
     let l = ap length e in
-    let a = length-append (each (fields p) 1) (each (flat_map fields ps) 1) in
-    let b = heavy_count (each (fields p) 1) in
-    let c = each_heavy (fields p) p 1 (read_list p all.0) in
+    let a = length-append (each (fields p) STRINGTABLE_S) (each (flat_map fields ps) STRINGTABLE_S) in
+    let b = heavy_count (each (fields p) STRINGTABLE_S) in
+    let c = each_heavy (fields p) p STRINGTABLE_S (read_list p all.0) in
     let d = table_short ps all.1 in
     omega arith
 
 block_table : (es : List Element) (w : List ℕ) → Block es w → 2 * length (context (fields w)).table ≤ length w
 block_table es w h =
-    let a = table_short (each (fields w) 1) h.tables_are in
-    let b = each_heavy (fields w) w 1 (read_list w h.is_message) in
+    let a = table_short (each (fields w) BLOCK_STRINGTABLE) h.tables_are in
+    let b = each_heavy (fields w) w BLOCK_STRINGTABLE (read_list w h.is_message) in
     omega arith
 
 -- ---- each text that is read stands in the table
@@ -325,11 +327,11 @@ block_there es w h =
     let b : Context = context (fields w) in
     let P : Element → Type 0 = TextsThere b.table in
     all_flat (There b.table) texts_of es
-    (joins_all P (GroupOf b) (λ xs g k. joins_all P (λ ys m. AllAreWire m × MessageOf b ys m) (message_there b) xs (messages (fields g)) k.elements_are) es (each (fields w) 2) h.elements_are)
+    (joins_all P (GroupOf b) (λ xs g k. joins_all P (λ ys m. AllAreWire m × MessageOf b ys m) (message_there b) xs (messages (fields g)) k.elements_are) es (each (fields w) BLOCK_PRIMITIVEGROUP) h.elements_are)
 
 -- ---- the bound
 
-pub few_texts_read : (es : List Element) (w : List ℕ) → Block es w → length w ≤ 33554431 → FewTexts es
+pub few_texts_read : (es : List Element) (w : List ℕ) → Block es w → length w ≤ MAX_BLOCK_LEN → FewTexts es
 few_texts_read es w h short =
     let table : List Text = (context (fields w)).table in
     let us : List Text = flat_map texts_of es in

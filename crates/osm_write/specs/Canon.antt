@@ -8,6 +8,7 @@ use Rattle.osm_value.specs.declared.element.MemberKind.TheVariants as kinds
 use Rattle.osm_value.specs.declared.element.Element.{Element}
 use Rattle.osm_value.specs.declared.element.Element.TheVariants.{Node, Way, Relation}
 use Rattle.osm_value.specs.Value.{Text, InfoValue, MemberValue, NodeValue, WayValue, RelationValue}
+use Rattle.osm_block.specs.declared.fields.TheConstants.{BLOCK_DATE_GRANULARITY, BLOCK_GRANULARITY, BLOCK_PRIMITIVEGROUP, BLOCK_STRINGTABLE, DENSEINFO_CHANGESET, DENSEINFO_TIMESTAMP, DENSEINFO_UID, DENSEINFO_USER_SID, DENSEINFO_VERSION, DENSE_DENSEINFO, DENSE_ID, DENSE_KEYS_VALS, DENSE_LAT, DENSE_LON, ELEMENT_ID, ELEMENT_INFO, ELEMENT_KEYS, ELEMENT_VALS, GROUP_DENSE, GROUP_RELATIONS, GROUP_WAYS, INFO_CHANGESET, INFO_TIMESTAMP, INFO_UID, INFO_USER_SID, INFO_VERSION, RELATION_MEMIDS, RELATION_ROLES_SID, RELATION_TYPES, STRINGTABLE_S, WAY_REFS}
 use Rattle.osm_block.specs.Differences.{differences}
 use Rattle.pbf_wire.specs.Write.{shortest, zigzag}
 
@@ -101,15 +102,15 @@ abbrev pub times_of : Scale → Option ℤ → Option ℤ
 times_of s t = option_map (λ z. int_div z (pos s.date_granularity)) t
 
 abbrev pub info_bytes : Scale → InfoValue → List ℕ
-info_bytes s i = optional (int_field 1) i.version ++ optional (int_field 2) (times_of s i.time) ++ optional (int_field 3) i.changeset
-    ++ optional (int_field 4) i.uid ++ optional (λ t. number_field 5 (index_of s t)) i.user
+info_bytes s i = optional (int_field INFO_VERSION) i.version ++ optional (int_field INFO_TIMESTAMP) (times_of s i.time) ++ optional (int_field INFO_CHANGESET) i.changeset
+    ++ optional (int_field INFO_UID) i.uid ++ optional (λ t. number_field INFO_USER_SID (index_of s t)) i.user
 
 abbrev pub head_bytes : Scale → ℤ → List (Text × Text) → InfoValue → List ℕ
-head_bytes s id tags i = int_field 1 id ++ packed_field 2 (map (λ t. index_of s t.0) tags) ++ packed_field 3 (map (λ t. index_of s t.1) tags)
-    ++ message_field 4 (info_bytes s i)
+head_bytes s id tags i = int_field ELEMENT_ID id ++ packed_field ELEMENT_KEYS (map (λ t. index_of s t.0) tags) ++ packed_field ELEMENT_VALS (map (λ t. index_of s t.1) tags)
+    ++ message_field ELEMENT_INFO (info_bytes s i)
 
 abbrev pub way_bytes : Scale → WayValue → List ℕ
-way_bytes s w = head_bytes s w.id w.tags w.info ++ delta_field 8 w.refs
+way_bytes s w = head_bytes s w.id w.tags w.info ++ delta_field WAY_REFS w.refs
 
 abbrev pub number_of_kind : MemberKind → ℕ
 number_of_kind kinds.Node = 0
@@ -117,7 +118,8 @@ number_of_kind kinds.Way = 1
 number_of_kind kinds.Relation = 2
 
 abbrev pub members_bytes : Scale → List MemberValue → List ℕ
-members_bytes s ms = packed_field 8 (map (λ m. index_of s m.role) ms) ++ delta_field 9 (map (λ m. m.id) ms) ++ packed_field 10 (map (λ m. number_of_kind m.kind) ms)
+members_bytes s ms = packed_field RELATION_ROLES_SID (map (λ m. index_of s m.role) ms) ++ delta_field RELATION_MEMIDS (map (λ m. m.id) ms)
+    ++ packed_field RELATION_TYPES (map (λ m. number_of_kind m.kind) ms)
 
 abbrev pub relation_bytes : Scale → RelationValue → List ℕ
 relation_bytes s r = head_bytes s r.id r.tags r.info ++ members_bytes s r.members
@@ -125,11 +127,11 @@ relation_bytes s r = head_bytes s r.id r.tags r.info ++ members_bytes s r.member
 -- ---- nodes as one message
 
 abbrev pub dense_info_bytes : Scale → List InfoValue → List ℕ
-dense_info_bytes s infos = packed_field 1 (filter_map (λ i. option_map (cast_unsigned w64) i.version) infos)
-    ++ delta_field 2 (filter_map (λ i. times_of s i.time) infos)
-    ++ delta_field 3 (filter_map (λ i. i.changeset) infos)
-    ++ delta_field 4 (filter_map (λ i. i.uid) infos)
-    ++ delta_field 5 (filter_map (λ i. option_map (λ t. pos (index_of s t)) i.user) infos)
+dense_info_bytes s infos = packed_field DENSEINFO_VERSION (filter_map (λ i. option_map (cast_unsigned w64) i.version) infos)
+    ++ delta_field DENSEINFO_TIMESTAMP (filter_map (λ i. times_of s i.time) infos)
+    ++ delta_field DENSEINFO_CHANGESET (filter_map (λ i. i.changeset) infos)
+    ++ delta_field DENSEINFO_UID (filter_map (λ i. i.uid) infos)
+    ++ delta_field DENSEINFO_USER_SID (filter_map (λ i. option_map (λ t. pos (index_of s t)) i.user) infos)
 
 abbrev pub tag_indexes : Scale → List (Text × Text) → List ℕ
 tag_indexes s tags = flat_map (λ t. index_of s t.0 ∷ index_of s t.1 ∷ []) tags
@@ -145,9 +147,9 @@ abbrev pub raw_place : Scale → ℤ → ℤ
 raw_place s z = int_div z (pos s.granularity)
 
 abbrev pub dense_bytes : Scale → List NodeValue → List ℕ
-dense_bytes s ns = delta_field 1 (map (λ n. n.id) ns) ++ message_field 5 (dense_info_bytes s (map (λ n. n.info) ns))
-    ++ delta_field 8 (map (λ n. raw_place s n.lat) ns) ++ delta_field 9 (map (λ n. raw_place s n.lon) ns)
-    ++ packed_field 10 (keys_vals_of s ns)
+dense_bytes s ns = delta_field DENSE_ID (map (λ n. n.id) ns) ++ message_field DENSE_DENSEINFO (dense_info_bytes s (map (λ n. n.info) ns))
+    ++ delta_field DENSE_LAT (map (λ n. raw_place s n.lat) ns) ++ delta_field DENSE_LON (map (λ n. raw_place s n.lon) ns)
+    ++ packed_field DENSE_KEYS_VALS (keys_vals_of s ns)
 
 -- ---- groups
 
@@ -182,20 +184,20 @@ node_of _ = None
 
 abbrev pub way_or_relation : Scale → Element → List ℕ
 way_or_relation s (Node n) = []
-way_or_relation s (Way w) = bytes_field 3 (way_bytes s w)
-way_or_relation s (Relation r) = bytes_field 4 (relation_bytes s r)
+way_or_relation s (Way w) = bytes_field GROUP_WAYS (way_bytes s w)
+way_or_relation s (Relation r) = bytes_field GROUP_RELATIONS (relation_bytes s r)
 
 abbrev pub group_bytes : Scale → List Element → List ℕ
-group_bytes s es = message_field 2 (dense_bytes s (filter_map node_of es)) ++ flat_map (way_or_relation s) es
+group_bytes s es = message_field GROUP_DENSE (dense_bytes s (filter_map node_of es)) ++ flat_map (way_or_relation s) es
 
 -- left out where it is the default
 abbrev pub granularity_field : ℕ → ℕ → ℕ → List ℕ
 granularity_field k default n = if n == default then [] else number_field k n
 
 abbrev pub block_bytes : Scale → List Element → List ℕ
-block_bytes s es = bytes_field 1 (flat_map (bytes_field 1) ([] ∷ s.texts))
-    ++ flat_map (λ g. bytes_field 2 (group_bytes s g)) (groups_of es)
-    ++ granularity_field 17 100 s.granularity ++ granularity_field 18 1000 s.date_granularity
+block_bytes s es = bytes_field BLOCK_STRINGTABLE (flat_map (bytes_field STRINGTABLE_S) ([] ∷ s.texts))
+    ++ flat_map (λ g. bytes_field BLOCK_PRIMITIVEGROUP (group_bytes s g)) (groups_of es)
+    ++ granularity_field BLOCK_GRANULARITY 100 s.granularity ++ granularity_field BLOCK_DATE_GRANULARITY 1000 s.date_granularity
 
 unfoldable pub canon : List Element → List ℕ
 canon es = block_bytes (scale_of es) es

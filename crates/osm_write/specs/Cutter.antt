@@ -1,17 +1,18 @@
 -- How a list of elements is cut into blocks: the next 8,000 elements, or all that are left, and half as many while their block is too large.
 use Rattle.std.specs.Prelude.{◌≡◌, ℕ, ◌/◌, ◌<◌, ◌≤◌, List, [], length, take, drop, min, Option, Some, None}
 use Rattle.osm_value.specs.declared.element.Element.{Element}
+use Rattle.osm_write.specs.declared.block.TheConstants.{MAX_BLOCK_LEN}
 use Rattle.osm_write.specs.declared.fault.WriteFault.{WriteFault}
 use Rattle.osm_write.specs.declared.fault.WriteFault.TheVariants.{BlockTooLarge, Memory}
 use Rattle.std.specs.Prelude.{Vec}
 use Rattle.osm_write.specs.Canon.{canon}
 
 abbrev pub is_too_large : List Element → ℕ → Type 0
-is_too_large es count = 33554431 < length (canon (take count es))
+is_too_large es count = MAX_BLOCK_LEN < length (canon (take count es))
 
 -- the block of the first element alone isn't too large
 abbrev pub FirstFits : List Element → Type 0
-FirstFits es = length (canon (take 1 es)) ≤ 33554431
+FirstFits es = length (canon (take 1 es)) ≤ MAX_BLOCK_LEN
 
 -- `count` came from `from` by halving, and the block of each number before it is too large
 pub data Halved (es : List Element) : ℕ → ℕ → Type 0 where
@@ -27,7 +28,7 @@ pub record StepOk (es : List Element) (block : List ℕ) (count : ℕ) : Type 0 
   pub within : count ≤ length es
   pub halved : Halved es (first_count es) count
   pub block_is : block ≡ canon (take count es)
-  pub fits : length block ≤ 33554431
+  pub fits : length block ≤ MAX_BLOCK_LEN
 
 -- halving came to the first element alone, and its block is too large, too
 abbrev pub ComesToOne : List Element → Type 0

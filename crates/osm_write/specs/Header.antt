@@ -9,6 +9,7 @@ use Rattle.pbf_wire.specs.Field.{value_at, field_at, next_at}
 use Rattle.pbf_wire.specs.FieldList.{items_within, items_from}
 use Rattle.pbf_wire.specs.Readings.{fields}
 use Rattle.pbf_wire.specs.Write.{shortest_within, shortest}
+use Rattle.osm_block.specs.declared.fields.TheConstants.{HEADER_REQUIRED_FEATURES, HEADER_WRITINGPROGRAM}
 use Rattle.osm_block.specs.HeaderBlock.{HeaderValue, header_value, header_fault}
 use Rattle.osm_write.specs.Canon.{bytes_field}
 
@@ -21,7 +22,7 @@ program = codes "pbfrow"
 
 -- the required features, and then the writing program
 unfoldable pub header_block : Bool → List ℕ
-header_block history = flat_map (bytes_field 4) (features history) ++ bytes_field 16 program
+header_block history = flat_map (bytes_field HEADER_REQUIRED_FEATURES) (features history) ++ bytes_field HEADER_WRITINGPROGRAM program
 
 -- what a header block says that has features and a program alone
 abbrev pub written_value : Bool → HeaderValue

@@ -17,28 +17,32 @@ use crate::group::append_group;
 use crate::groups::run_len;
 use crate::message::Scratch;
 use crate::scale::Scale;
+use osm_block::fields::{
+    BLOCK_DATE_GRANULARITY, BLOCK_GRANULARITY, BLOCK_PRIMITIVEGROUP, BLOCK_STRINGTABLE,
+    STRINGTABLE_S,
+};
 use osm_value::Element;
 use std::alloc::{AllocError, Global};
 
-/// What a raw payload may hold.
-const MAX_BLOCK_LEN: usize = 33_554_431;
+/// The longest block: the longest raw payload of a blob.
+pub const MAX_BLOCK_LEN: usize = 33_554_431;
 
 fn append_texts(texts: &[&str], out: &mut Vec<u8>) -> Result<(), AllocError>
-    ensures { OnOk result (out.new.items ≡ out.old.items ++ flat_map (bytes_field 1) ([] ∷ map (λ s. s.now) texts.now)) }
+    ensures { OnOk result (out.new.items ≡ out.old.items ++ flat_map (bytes_field STRINGTABLE_S) ([] ∷ map (λ s. s.now) texts.now)) }
 {
-    append_bytes(1, &[], out)?;
+    append_bytes(STRINGTABLE_S, &[], out)?;
     for text in texts {
-        append_bytes(1, text.as_bytes(), out)?;
+        append_bytes(STRINGTABLE_S, text.as_bytes(), out)?;
     }
     Ok(())
 }
 
 fn append_table(alloc: Global, scale: &Scale, out: &mut Vec<u8>) -> Result<(), AllocError>
-    ensures { OnOk result (out.new.items ≡ out.old.items ++ bytes_field 1 (flat_map (bytes_field 1) ([] ∷ (view scale.now).texts))) }
+    ensures { OnOk result (out.new.items ≡ out.old.items ++ bytes_field BLOCK_STRINGTABLE (flat_map (bytes_field STRINGTABLE_S) ([] ∷ (view scale.now).texts))) }
 {
     let mut table = Vec::new(alloc);
     append_texts(scale.texts.texts(), &mut table)?;
-    append_bytes(1, &table, out)
+    append_bytes(BLOCK_STRINGTABLE, &table, out)
 }
 
 fn append_groups(
@@ -48,7 +52,7 @@ fn append_groups(
     scratch: &mut Scratch,
     out: &mut Vec<u8>,
 ) -> Result<(), AllocError>
-    ensures { OnOk result (out.new.items ≡ out.old.items ++ flat_map (λ g. bytes_field 2 (group_bytes (view scale.now) g)) (groups_of elements.now)) }
+    ensures { OnOk result (out.new.items ≡ out.old.items ++ flat_map (λ g. bytes_field BLOCK_PRIMITIVEGROUP (group_bytes (view scale.now) g)) (groups_of elements.now)) }
 {
     let mut group = Vec::new(alloc);
     let mut at = 0;
@@ -57,19 +61,18 @@ fn append_groups(
         let len = run_len(rest);
         group.clear();
         append_group(alloc, scale, &rest[..len], scratch, &mut group)?;
-        append_bytes(2, &group, out)?;
+        append_bytes(BLOCK_PRIMITIVEGROUP, &group, out)?;
         at += len;
     }
     Ok(())
 }
 
 fn append_granularity(
-    field: u64,
+    field: u32,
     default: u64,
     granularity: u64,
     out: &mut Vec<u8>,
 ) -> Result<(), AllocError>
-    requires { field < 4294967296 }
     ensures { OnOk result (out.new.items ≡ out.old.items ++ granularity_field field default granularity) }
 {
     if granularity == default {
@@ -80,10 +83,20 @@ fn append_granularity(
 }
 
 fn append_granularities(scale: &Scale, out: &mut Vec<u8>) -> Result<(), AllocError>
-    ensures { OnOk result (out.new.items ≡ out.old.items ++ granularity_field 17 100 (view scale.now).granularity ++ granularity_field 18 1000 (view scale.now).date_granularity) }
+    ensures { OnOk result (out.new.items ≡ out.old.items ++ granularity_field BLOCK_GRANULARITY 100 (view scale.now).granularity ++ granularity_field BLOCK_DATE_GRANULARITY 1000 (view scale.now).date_granularity) }
 {
-    append_granularity(17, 100, if scale.hundreds { 100 } else { 1 }, out)?;
-    append_granularity(18, 1000, if scale.thousands { 1000 } else { 1 }, out)
+    append_granularity(
+        BLOCK_GRANULARITY,
+        100,
+        if scale.hundreds { 100 } else { 1 },
+        out,
+    )?;
+    append_granularity(
+        BLOCK_DATE_GRANULARITY,
+        1000,
+        if scale.thousands { 1000 } else { 1 },
+        out,
+    )
 }
 
 #[tactic(auto, unfolding(crate::specs::Canon::canon))]
@@ -112,7 +125,7 @@ pub fn encode_one(alloc: Global, element: &Element) -> Result<Vec<u8>, AllocErro
 /// than 33,554,431 bytes, the most that a raw payload may have. What is given says these elements
 /// to every reader.
 pub fn encode_block(alloc: Global, elements: &[Element]) -> Result<Vec<u8>, WriteFault>
-    ensures exact { MatchResult result (λ v. (v.items ≡ canon elements.now) × (length v.items ≤ 33554431)) (λ e. IsFault (canon elements.now) e) }
+    ensures exact { MatchResult result (λ v. (v.items ≡ canon elements.now) × (length v.items ≤ MAX_BLOCK_LEN)) (λ e. IsFault (canon elements.now) e) }
     ensures read_back { IfOk result (λ v. Block elements.now v.items) }
     ensures in_range { OnOk result (AllByRecursion IsElement elements.now) }
 {

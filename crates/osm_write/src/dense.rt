@@ -12,6 +12,10 @@ use crate::append::{append_deltas, append_message, append_packed};
 use crate::message::Scratch;
 use crate::parts::{uid_of, version_number};
 use crate::scale::Scale;
+use osm_block::fields::{
+    DENSE_DENSEINFO, DENSE_ID, DENSE_KEYS_VALS, DENSE_LAT, DENSE_LON, DENSEINFO_CHANGESET,
+    DENSEINFO_TIMESTAMP, DENSEINFO_UID, DENSEINFO_USER_SID, DENSEINFO_VERSION,
+};
 use osm_value::Node;
 use std::alloc::{AllocError, Global};
 
@@ -168,10 +172,10 @@ fn append_versions(
     scratch: &mut Scratch,
     out: &mut Vec<u8>,
 ) -> Result<(), AllocError>
-    ensures { OnOk result (out.new.items ≡ out.old.items ++ packed_field 1 (filter_map (λ (i : InfoValue). option_map (cast_unsigned w64) i.version) (map (λ n. n.now.info) nodes.now))) }
+    ensures { OnOk result (out.new.items ≡ out.old.items ++ packed_field DENSEINFO_VERSION (filter_map (λ (i : InfoValue). option_map (cast_unsigned w64) i.version) (map (λ n. n.now.info) nodes.now))) }
 {
     version_column(nodes, &mut scratch.numbers)?;
-    append_packed(1, &scratch.numbers, &mut scratch.array, out)
+    append_packed(DENSEINFO_VERSION, &scratch.numbers, &mut scratch.array, out)
 }
 
 fn append_times(
@@ -180,10 +184,15 @@ fn append_times(
     scratch: &mut Scratch,
     out: &mut Vec<u8>,
 ) -> Result<(), AllocError>
-    ensures { OnOk result (out.new.items ≡ out.old.items ++ delta_field 2 (filter_map (λ (i : InfoValue). times_of (view scale.now) i.time) (map (λ n. n.now.info) nodes.now))) }
+    ensures { OnOk result (out.new.items ≡ out.old.items ++ delta_field DENSEINFO_TIMESTAMP (filter_map (λ (i : InfoValue). times_of (view scale.now) i.time) (map (λ n. n.now.info) nodes.now))) }
 {
     time_column(scale, nodes, &mut scratch.column)?;
-    append_deltas(2, &scratch.column, &mut scratch.array, out)
+    append_deltas(
+        DENSEINFO_TIMESTAMP,
+        &scratch.column,
+        &mut scratch.array,
+        out,
+    )
 }
 
 fn append_changesets(
@@ -191,17 +200,22 @@ fn append_changesets(
     scratch: &mut Scratch,
     out: &mut Vec<u8>,
 ) -> Result<(), AllocError>
-    ensures { OnOk result (out.new.items ≡ out.old.items ++ delta_field 3 (filter_map (λ (i : InfoValue). i.changeset) (map (λ n. n.now.info) nodes.now))) }
+    ensures { OnOk result (out.new.items ≡ out.old.items ++ delta_field DENSEINFO_CHANGESET (filter_map (λ (i : InfoValue). i.changeset) (map (λ n. n.now.info) nodes.now))) }
 {
     changeset_column(nodes, &mut scratch.column)?;
-    append_deltas(3, &scratch.column, &mut scratch.array, out)
+    append_deltas(
+        DENSEINFO_CHANGESET,
+        &scratch.column,
+        &mut scratch.array,
+        out,
+    )
 }
 
 fn append_uids(nodes: &[&Node], scratch: &mut Scratch, out: &mut Vec<u8>) -> Result<(), AllocError>
-    ensures { OnOk result (out.new.items ≡ out.old.items ++ delta_field 4 (filter_map (λ (i : InfoValue). i.uid) (map (λ n. n.now.info) nodes.now))) }
+    ensures { OnOk result (out.new.items ≡ out.old.items ++ delta_field DENSEINFO_UID (filter_map (λ (i : InfoValue). i.uid) (map (λ n. n.now.info) nodes.now))) }
 {
     uid_column(nodes, &mut scratch.column)?;
-    append_deltas(4, &scratch.column, &mut scratch.array, out)
+    append_deltas(DENSEINFO_UID, &scratch.column, &mut scratch.array, out)
 }
 
 fn append_users(
@@ -210,17 +224,17 @@ fn append_users(
     scratch: &mut Scratch,
     out: &mut Vec<u8>,
 ) -> Result<(), AllocError>
-    ensures { OnOk result (out.new.items ≡ out.old.items ++ delta_field 5 (filter_map (λ (i : InfoValue). option_map (λ t. pos (index_of (view scale.now) t)) i.user) (map (λ n. n.now.info) nodes.now))) }
+    ensures { OnOk result (out.new.items ≡ out.old.items ++ delta_field DENSEINFO_USER_SID (filter_map (λ (i : InfoValue). option_map (λ t. pos (index_of (view scale.now) t)) i.user) (map (λ n. n.now.info) nodes.now))) }
 {
     user_column(scale, nodes, &mut scratch.column)?;
-    append_deltas(5, &scratch.column, &mut scratch.array, out)
+    append_deltas(DENSEINFO_USER_SID, &scratch.column, &mut scratch.array, out)
 }
 
 fn append_ids(nodes: &[&Node], scratch: &mut Scratch, out: &mut Vec<u8>) -> Result<(), AllocError>
-    ensures { OnOk result (out.new.items ≡ out.old.items ++ delta_field 1 (map (λ (n : NodeValue). n.id) (map (λ n. n.now) nodes.now))) }
+    ensures { OnOk result (out.new.items ≡ out.old.items ++ delta_field DENSE_ID (map (λ (n : NodeValue). n.id) (map (λ n. n.now) nodes.now))) }
 {
     id_column(nodes, &mut scratch.column)?;
-    append_deltas(1, &scratch.column, &mut scratch.array, out)
+    append_deltas(DENSE_ID, &scratch.column, &mut scratch.array, out)
 }
 
 fn append_lats(
@@ -229,10 +243,10 @@ fn append_lats(
     scratch: &mut Scratch,
     out: &mut Vec<u8>,
 ) -> Result<(), AllocError>
-    ensures { OnOk result (out.new.items ≡ out.old.items ++ delta_field 8 (map (λ (n : NodeValue). raw_place (view scale.now) n.lat) (map (λ n. n.now) nodes.now))) }
+    ensures { OnOk result (out.new.items ≡ out.old.items ++ delta_field DENSE_LAT (map (λ (n : NodeValue). raw_place (view scale.now) n.lat) (map (λ n. n.now) nodes.now))) }
 {
     lat_column(scale, nodes, &mut scratch.column)?;
-    append_deltas(8, &scratch.column, &mut scratch.array, out)
+    append_deltas(DENSE_LAT, &scratch.column, &mut scratch.array, out)
 }
 
 fn append_lons(
@@ -241,10 +255,10 @@ fn append_lons(
     scratch: &mut Scratch,
     out: &mut Vec<u8>,
 ) -> Result<(), AllocError>
-    ensures { OnOk result (out.new.items ≡ out.old.items ++ delta_field 9 (map (λ (n : NodeValue). raw_place (view scale.now) n.lon) (map (λ n. n.now) nodes.now))) }
+    ensures { OnOk result (out.new.items ≡ out.old.items ++ delta_field DENSE_LON (map (λ (n : NodeValue). raw_place (view scale.now) n.lon) (map (λ n. n.now) nodes.now))) }
 {
     lon_column(scale, nodes, &mut scratch.column)?;
-    append_deltas(9, &scratch.column, &mut scratch.array, out)
+    append_deltas(DENSE_LON, &scratch.column, &mut scratch.array, out)
 }
 
 fn append_dense_info(
@@ -270,11 +284,11 @@ fn append_dense_info_message(
     scratch: &mut Scratch,
     out: &mut Vec<u8>,
 ) -> Result<(), AllocError>
-    ensures { OnOk result (out.new.items ≡ out.old.items ++ message_field 5 (dense_info_bytes (view scale.now) (map (λ (n : NodeValue). n.info) (map (λ n. n.now) nodes.now)))) }
+    ensures { OnOk result (out.new.items ≡ out.old.items ++ message_field DENSE_DENSEINFO (dense_info_bytes (view scale.now) (map (λ (n : NodeValue). n.info) (map (λ n. n.now) nodes.now)))) }
 {
     let mut message = Vec::new(alloc);
     append_dense_info(scale, nodes, scratch, &mut message)?;
-    append_message(5, &message, out)
+    append_message(DENSE_DENSEINFO, &message, out)
 }
 
 fn append_keys_vals(
@@ -283,10 +297,10 @@ fn append_keys_vals(
     scratch: &mut Scratch,
     out: &mut Vec<u8>,
 ) -> Result<(), AllocError>
-    ensures { OnOk result (out.new.items ≡ out.old.items ++ packed_field 10 (keys_vals_of (view scale.now) (map (λ n. n.now) nodes.now))) }
+    ensures { OnOk result (out.new.items ≡ out.old.items ++ packed_field DENSE_KEYS_VALS (keys_vals_of (view scale.now) (map (λ n. n.now) nodes.now))) }
 {
     keys_vals(scale, nodes, &mut scratch.numbers)?;
-    append_packed(10, &scratch.numbers, &mut scratch.array, out)
+    append_packed(DENSE_KEYS_VALS, &scratch.numbers, &mut scratch.array, out)
 }
 
 pub(crate) fn append_dense(

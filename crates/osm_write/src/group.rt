@@ -9,6 +9,7 @@ use crate::append::{append_bytes, append_message};
 use crate::dense::append_dense;
 use crate::message::{Scratch, append_relation, append_way};
 use crate::scale::Scale;
+use osm_block::fields::{GROUP_DENSE, GROUP_RELATIONS, GROUP_WAYS};
 use osm_value::{Element, Node};
 use std::alloc::{AllocError, Global};
 
@@ -34,12 +35,12 @@ fn append_nodes(
     scratch: &mut Scratch,
     out: &mut Vec<u8>,
 ) -> Result<(), AllocError>
-    ensures { OnOk result (out.new.items ≡ out.old.items ++ message_field 2 (dense_bytes (view scale.now) (filter_map node_of elements.now))) }
+    ensures { OnOk result (out.new.items ≡ out.old.items ++ message_field GROUP_DENSE (dense_bytes (view scale.now) (filter_map node_of elements.now))) }
 {
     let nodes = nodes_of(alloc, elements)?;
     let mut message = Vec::new(alloc);
     append_dense(alloc, scale, &nodes, scratch, &mut message)?;
-    append_message(2, &message, out)
+    append_message(GROUP_DENSE, &message, out)
 }
 
 /// A way or a relation with its number and length; nothing for a node.
@@ -57,11 +58,11 @@ fn append_element(
         Element::Node(_) => Ok(()),
         Element::Way(way) => {
             append_way(scale, way, scratch, message)?;
-            append_bytes(3, message, out)
+            append_bytes(GROUP_WAYS, message, out)
         }
         Element::Relation(relation) => {
             append_relation(scale, relation, scratch, message)?;
-            append_bytes(4, message, out)
+            append_bytes(GROUP_RELATIONS, message, out)
         }
     }
 }

@@ -6,6 +6,7 @@ ghost use Rattle.pbf_wire.specs.Readings.{fields};
 ghost use Rattle.osm_write.specs.Header.{header_block, written_value};
 
 use crate::append::append_bytes;
+use osm_block::fields::{HEADER_REQUIRED_FEATURES, HEADER_WRITINGPROGRAM};
 use std::alloc::{AllocError, Global};
 
 /// The header block of a file: the required features `OsmSchema-V0.6` and `DenseNodes` and the
@@ -19,8 +20,8 @@ pub fn encode_header(alloc: Global, history: bool) -> Result<Vec<u8>, AllocError
 {
     prove!(!history);
     let mut out = Vec::new(alloc);
-    append_bytes(4, b"OsmSchema-V0.6", &mut out)?;
-    append_bytes(4, b"DenseNodes", &mut out)?;
-    append_bytes(16, b"pbfrow", &mut out)?;
+    append_bytes(HEADER_REQUIRED_FEATURES, b"OsmSchema-V0.6", &mut out)?;
+    append_bytes(HEADER_REQUIRED_FEATURES, b"DenseNodes", &mut out)?;
+    append_bytes(HEADER_WRITINGPROGRAM, b"pbfrow", &mut out)?;
     Ok(out)
 }

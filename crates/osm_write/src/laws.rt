@@ -3,6 +3,7 @@
 ghost use Rattle.std.specs.Prelude.{ℕ, ◌≤◌, List, length};
 ghost use Rattle.osm_value.specs.declared.element.Element.{Element};
 ghost use Rattle.osm_block.specs.Block.{Block};
+ghost use Rattle.osm_write.specs.declared.block.TheConstants.{MAX_BLOCK_LEN};
 ghost use Rattle.osm_write.specs.Canon.{canon};
 ghost use Rattle.osm_write.specs.Laws.{ReadsBack, IsReadOnly, FewTexts, FirstIsNoLonger};
 
@@ -20,12 +21,12 @@ pub fn canonical_block_says_one_list()
 /// A list whose canonical block fits a raw payload uses few texts: each stands in the table with
 /// two bytes or more.
 pub fn block_that_fits_has_few_texts()
-    ensures { (es : List Element) → length (canon es) ≤ 33554431 → FewTexts es }
+    ensures { (es : List Element) → length (canon es) ≤ MAX_BLOCK_LEN → FewTexts es }
 {}
 
 /// So does each list that is read from a raw payload.
 pub fn list_that_is_read_has_few_texts()
-    ensures { (es : List Element) (w : List ℕ) → Block es w → length w ≤ 33554431 → FewTexts es }
+    ensures { (es : List Element) (w : List ℕ) → Block es w → length w ≤ MAX_BLOCK_LEN → FewTexts es }
 {}
 
 /// The canonical block of a list is at least as long as that of its first element alone, for an

@@ -16,7 +16,7 @@ mod parts;
 mod scale;
 mod texts;
 
-pub use block::{encode_block, encode_one};
+pub use block::{MAX_BLOCK_LEN, encode_block, encode_one};
 pub use cutter::BlobCutter;
 pub use fault::WriteFault;
 pub use header::encode_header;

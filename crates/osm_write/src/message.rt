@@ -11,6 +11,10 @@ use crate::append::{
 };
 use crate::parts::{uid_of, version_of};
 use crate::scale::Scale;
+use osm_block::fields::{
+    ELEMENT_ID, ELEMENT_INFO, ELEMENT_KEYS, ELEMENT_VALS, INFO_CHANGESET, INFO_TIMESTAMP, INFO_UID,
+    INFO_USER_SID, INFO_VERSION, RELATION_MEMIDS, RELATION_ROLES_SID, RELATION_TYPES, WAY_REFS,
+};
 use osm_value::{Info, Member, MemberKind, Relation, Way};
 use std::alloc::{AllocError, Global};
 
@@ -37,12 +41,12 @@ impl Scratch {
 fn append_info(scale: &Scale, info: &Info, out: &mut Vec<u8>) -> Result<(), AllocError>
     ensures { OnOk result (out.new.items ≡ out.old.items ++ info_bytes (view scale.now) info.now) }
 {
-    append_optional(1, version_of(info), out)?;
-    append_optional(2, scale.raw_time(info.time()), out)?;
-    append_optional(3, info.changeset(), out)?;
-    append_optional(4, uid_of(info), out)?;
+    append_optional(INFO_VERSION, version_of(info), out)?;
+    append_optional(INFO_TIMESTAMP, scale.raw_time(info.time()), out)?;
+    append_optional(INFO_CHANGESET, info.changeset(), out)?;
+    append_optional(INFO_UID, uid_of(info), out)?;
     match info.user() {
-        Some(user) => append_number(5, scale.index_of(user), out),
+        Some(user) => append_number(INFO_USER_SID, scale.index_of(user), out),
         None => Ok(()),
     }
 }
@@ -81,10 +85,10 @@ fn append_keys(
     scratch: &mut Scratch,
     out: &mut Vec<u8>,
 ) -> Result<(), AllocError>
-    ensures { OnOk result (out.new.items ≡ out.old.items ++ packed_field 2 (map (λ (t : Text × Text). index_of (view scale.now) t.0) (map (λ t. (t.0.now, t.1.now)) tags.now))) }
+    ensures { OnOk result (out.new.items ≡ out.old.items ++ packed_field ELEMENT_KEYS (map (λ (t : Text × Text). index_of (view scale.now) t.0) (map (λ t. (t.0.now, t.1.now)) tags.now))) }
 {
     index_keys(scale, tags, &mut scratch.numbers)?;
-    append_packed(2, &scratch.numbers, &mut scratch.array, out)
+    append_packed(ELEMENT_KEYS, &scratch.numbers, &mut scratch.array, out)
 }
 
 fn append_values(
@@ -93,10 +97,10 @@ fn append_values(
     scratch: &mut Scratch,
     out: &mut Vec<u8>,
 ) -> Result<(), AllocError>
-    ensures { OnOk result (out.new.items ≡ out.old.items ++ packed_field 3 (map (λ (t : Text × Text). index_of (view scale.now) t.1) (map (λ t. (t.0.now, t.1.now)) tags.now))) }
+    ensures { OnOk result (out.new.items ≡ out.old.items ++ packed_field ELEMENT_VALS (map (λ (t : Text × Text). index_of (view scale.now) t.1) (map (λ t. (t.0.now, t.1.now)) tags.now))) }
 {
     index_values(scale, tags, &mut scratch.numbers)?;
-    append_packed(3, &scratch.numbers, &mut scratch.array, out)
+    append_packed(ELEMENT_VALS, &scratch.numbers, &mut scratch.array, out)
 }
 
 fn append_info_message(
@@ -105,11 +109,11 @@ fn append_info_message(
     bytes: &mut Vec<u8>,
     out: &mut Vec<u8>,
 ) -> Result<(), AllocError>
-    ensures { OnOk result (out.new.items ≡ out.old.items ++ message_field 4 (info_bytes (view scale.now) info.now)) }
+    ensures { OnOk result (out.new.items ≡ out.old.items ++ message_field ELEMENT_INFO (info_bytes (view scale.now) info.now)) }
 {
     bytes.clear();
     append_info(scale, info, bytes)?;
-    append_message(4, bytes, out)
+    append_message(ELEMENT_INFO, bytes, out)
 }
 
 fn append_head(
@@ -122,7 +126,7 @@ fn append_head(
 ) -> Result<(), AllocError>
     ensures { OnOk result (out.new.items ≡ out.old.items ++ head_bytes (view scale.now) id (map (λ t. (t.0.now, t.1.now)) tags.now) info.now) }
 {
-    append_int(1, id, out)?;
+    append_int(ELEMENT_ID, id, out)?;
     append_keys(scale, tags, scratch, out)?;
     append_values(scale, tags, scratch, out)?;
     append_info_message(scale, info, &mut scratch.info, out)
@@ -137,7 +141,7 @@ pub(crate) fn append_way(
     ensures { OnOk result (out.new.items ≡ out.old.items ++ way_bytes (view scale.now) way.now) }
 {
     append_head(scale, way.id(), way.tags(), way.info(), scratch, out)?;
-    append_deltas(8, way.refs(), &mut scratch.array, out)
+    append_deltas(WAY_REFS, way.refs(), &mut scratch.array, out)
 }
 
 fn index_roles(scale: &Scale, members: &[Member], numbers: &mut Vec<u64>) -> Result<(), AllocError>
@@ -185,11 +189,16 @@ fn append_members(
     ensures { OnOk result (out.new.items ≡ out.old.items ++ members_bytes (view scale.now) members.now) }
 {
     index_roles(scale, members, &mut scratch.numbers)?;
-    append_packed(8, &scratch.numbers, &mut scratch.array, out)?;
+    append_packed(
+        RELATION_ROLES_SID,
+        &scratch.numbers,
+        &mut scratch.array,
+        out,
+    )?;
     member_ids(members, &mut scratch.column)?;
-    append_deltas(9, &scratch.column, &mut scratch.array, out)?;
+    append_deltas(RELATION_MEMIDS, &scratch.column, &mut scratch.array, out)?;
     number_kinds(members, &mut scratch.numbers)?;
-    append_packed(10, &scratch.numbers, &mut scratch.array, out)
+    append_packed(RELATION_TYPES, &scratch.numbers, &mut scratch.array, out)
 }
 
 pub(crate) fn append_relation(

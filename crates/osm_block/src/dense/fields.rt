@@ -13,7 +13,11 @@ ghost use Rattle.osm_block.specs.Phases.{Gives, first, wire_phases};
 
 use crate::column::Column;
 use crate::fault::{BlockError, BlockFault};
-use crate::readings::{each_of_all, low_32, wire_of};
+use crate::fields::{
+    DENSE_DENSEINFO, DENSE_ID, DENSE_KEYS_VALS, DENSE_LAT, DENSE_LON, DENSEINFO_CHANGESET,
+    DENSEINFO_TIMESTAMP, DENSEINFO_UID, DENSEINFO_USER_SID, DENSEINFO_VERSION, DENSEINFO_VISIBLE,
+};
+use crate::readings::{each_of_all, first_wire, low_32};
 use pbf_wire::{Fields, Value, WireFault};
 use std::alloc::{AllocError, Global};
 
@@ -128,13 +132,13 @@ fn is_flag(value: Value) -> bool
 }
 
 fn payload_has_visible(payload: &[u8]) -> bool
-    ensures { result ≡ is_there (fitting some_visible 6 (fields payload.now)) }
+    ensures { result ≡ is_there (fitting some_visible DENSEINFO_VISIBLE (fields payload.now)) }
 {
     for field in Fields::new(payload) {
         let Ok(field) = field else {
             return false;
         };
-        if field.number == 6 {
+        if field.number == DENSEINFO_VISIBLE {
             if is_flag(field.value) {
                 return true;
             }
@@ -144,7 +148,7 @@ fn payload_has_visible(payload: &[u8]) -> bool
 }
 
 fn has_visible(payloads: &[&[u8]]) -> bool
-    ensures { result ≡ is_there (fitting some_visible 6 (flat_map fields (map (λ p. p.now) payloads.now))) }
+    ensures { result ≡ is_there (fitting some_visible DENSEINFO_VISIBLE (flat_map fields (map (λ p. p.now) payloads.now))) }
 {
     for payload in payloads {
         if payload_has_visible(payload) {
@@ -154,27 +158,15 @@ fn has_visible(payloads: &[&[u8]]) -> bool
     false
 }
 
-/// The first wire fault of the payloads.
-fn first_wire(payloads: &[&[u8]]) -> Option<WireFault>
-    ensures { result ≡ first_there (map wire (map (λ p. p.now) payloads.now)) }
-{
-    for payload in payloads {
-        if let Some(fault) = wire_of(payload) {
-            return Some(fault);
-        }
-    }
-    None
-}
-
 /// Reads the arrays of the DenseInfo that the payloads are.
 fn read_infos(payloads: &[&[u8]], info: &mut DenseInfoFields) -> Result<(), AllocError>
     ensures { OnOk result (DenseInfoRead info.new (flat_map fields (map (λ p. p.now) payloads.now))) }
 {
-    read_column(payloads, 1, &mut info.versions)?;
-    read_column(payloads, 2, &mut info.timestamps)?;
-    read_column(payloads, 3, &mut info.changesets)?;
-    read_column_32(payloads, 4, &mut info.uids)?;
-    read_column_32(payloads, 5, &mut info.users)?;
+    read_column(payloads, DENSEINFO_VERSION, &mut info.versions)?;
+    read_column(payloads, DENSEINFO_TIMESTAMP, &mut info.timestamps)?;
+    read_column(payloads, DENSEINFO_CHANGESET, &mut info.changesets)?;
+    read_column_32(payloads, DENSEINFO_UID, &mut info.uids)?;
+    read_column_32(payloads, DENSEINFO_USER_SID, &mut info.users)?;
     info.has_visible = has_visible(payloads);
     Ok(())
 }
@@ -189,11 +181,11 @@ pub(crate) fn read_fields<'a>(
     ensures read { OnOk result (dense_message_of dense.new ≡ dense_message (flat_map fields (map (λ p. p.now) payloads.now))) }
 {
     let mut infos = Vec::new(alloc);
-    each_of_all(payloads, 5, &mut infos)?;
-    read_column(payloads, 1, &mut dense.ids)?;
-    read_column(payloads, 8, &mut dense.lats)?;
-    read_column(payloads, 9, &mut dense.lons)?;
-    read_column(payloads, 10, &mut dense.keys_vals)?;
+    each_of_all(payloads, DENSE_DENSEINFO, &mut infos)?;
+    read_column(payloads, DENSE_ID, &mut dense.ids)?;
+    read_column(payloads, DENSE_LAT, &mut dense.lats)?;
+    read_column(payloads, DENSE_LON, &mut dense.lons)?;
+    read_column(payloads, DENSE_KEYS_VALS, &mut dense.keys_vals)?;
     read_infos(&infos, &mut dense.info)?;
     let wires = first_wire(payloads).or(first_wire(&infos));
     match wires.or(dense.fault()).or(dense.info.fault()) {

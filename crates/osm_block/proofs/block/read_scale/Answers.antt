@@ -2,12 +2,12 @@ use Rattle.std.proofs.Common.{rules, ◌≡◌, ◌∙◌, ap, sym, subst, map, 
 use Rattle.std.proofs.lemmas.Int.{to_z-of_z}
 use Rattle.std.specs.Prelude.{⊤, ◌≤ℤ◌}
 use Rattle.std.specs.List.{flat_map, AllByRecursion}
+use Rattle.osm_block.specs.declared.fields.TheConstants.{BLOCK_STRINGTABLE, STRINGTABLE_S}
 use Rattle.osm_block.specs.declared.scale.Scale.{Scale}
 use Rattle.pbf_wire.specs.Readings.{fields, wire}
 use Rattle.pbf_wire.specs.Readings.{each, is_there}
 use Rattle.osm_value.specs.Ranges.{IsText}
-use Rattle.osm_block.specs.Head.{head_phases}
-use Rattle.osm_block.specs.Phases.{Gives, first, wire_phases, text_phases}
+use Rattle.osm_block.specs.Phases.{Gives, first, wire_phases, text_phases, head_phases}
 use Rattle.osm_block.proofs.ReadingLemmas.{Gives-err}
 use Rattle.osm_block.proofs.HeadLemmas.{past_table, stop_tables, stop_texts, past_texts, all_none, bad_scales, good_scales, scales_are, context_parts}
 use Rattle.std.specs.List.{list_all}
@@ -20,7 +20,7 @@ returns-in_err-check_all-clause-phase c =
     let w = c.args.bytes.now in
     let none : wire w ≡ None = search rules in
     let found = ap (map (λ x. x.now)) c.deref.ensures.value ∙ c.in_ok-read_payloads.ensures in
-    let there : is_there (each (fields w) 1) ≡ true = sym (ap is_there found) ∙ sym c.some_there.ensures ∙ c.if-not-some_there.false in
+    let there : is_there (each (fields w) BLOCK_STRINGTABLE) ≡ true = sym (ap is_there found) ∙ sym c.some_there.ensures ∙ c.if-not-some_there.false in
     let past = past_table w none there in
     let tables = ap (λ l. first (wire_phases (map wire l))) (ap (map (λ x. x.now)) c.deref-2.ensures.value ∙ c.in_ok-read_payloads.ensures) in
     let refused : Gives {A = Scale} (λ _. ⊤) (first (head_phases w)) (Err c.in_err-check_all.field-0.0) =
@@ -32,10 +32,10 @@ returns-in_err-table-clause-phase c =
     let w = c.args.bytes.now in
     let none : wire w ≡ None = search rules in
     let found = ap (map (λ x. x.now)) c.deref.ensures.value ∙ c.in_ok-read_payloads.ensures in
-    let there : is_there (each (fields w) 1) ≡ true = sym (ap is_there found) ∙ sym c.some_there.ensures ∙ c.if-not-some_there.false in
+    let there : is_there (each (fields w) BLOCK_STRINGTABLE) ≡ true = sym (ap is_there found) ∙ sym c.some_there.ensures ∙ c.if-not-some_there.false in
     let past = past_table w none there in
     let tables = ap (λ l. first (wire_phases (map wire l))) (ap (map (λ x. x.now)) c.deref-2.ensures.value ∙ c.in_ok-read_payloads.ensures) in
-    let raw = ap (map (λ x. x.now)) c.deref-4.ensures.value ∙ c.in_ok-read_payloads_of_all.ensures ∙ ap (λ l. each (flat_map fields l) 1) (ap (map (λ x. x.now)) c.deref-3.ensures.value ∙ c.in_ok-read_payloads.ensures) in
+    let raw = ap (map (λ x. x.now)) c.deref-4.ensures.value ∙ c.in_ok-read_payloads_of_all.ensures ∙ ap (λ l. each (flat_map fields l) STRINGTABLE_S) (ap (map (λ x. x.now)) c.deref-3.ensures.value ∙ c.in_ok-read_payloads.ensures) in
     let texts = ap (λ l. first (flat_map text_phases l)) raw in
     let no_tables = sym tables ∙ c.in_ok-check_all.ensures.0 in
     let refused : Gives {A = Scale} (λ _. ⊤) (first (head_phases w)) (Err c.in_err-table.field-0.0) =
@@ -47,10 +47,10 @@ returns-then-not-are_scales-clause-phase c =
     let w = c.args.bytes.now in
     let none : wire w ≡ None = search rules in
     let found = ap (map (λ x. x.now)) c.deref.ensures.value ∙ c.in_ok-read_payloads.ensures in
-    let there : is_there (each (fields w) 1) ≡ true = sym (ap is_there found) ∙ sym c.some_there.ensures ∙ c.if-not-some_there.false in
+    let there : is_there (each (fields w) BLOCK_STRINGTABLE) ≡ true = sym (ap is_there found) ∙ sym c.some_there.ensures ∙ c.if-not-some_there.false in
     let past = past_table w none there in
     let tables = ap (λ l. first (wire_phases (map wire l))) (ap (map (λ x. x.now)) c.deref-2.ensures.value ∙ c.in_ok-read_payloads.ensures) in
-    let raw = ap (map (λ x. x.now)) c.deref-4.ensures.value ∙ c.in_ok-read_payloads_of_all.ensures ∙ ap (λ l. each (flat_map fields l) 1) (ap (map (λ x. x.now)) c.deref-3.ensures.value ∙ c.in_ok-read_payloads.ensures) in
+    let raw = ap (map (λ x. x.now)) c.deref-4.ensures.value ∙ c.in_ok-read_payloads_of_all.ensures ∙ ap (λ l. each (flat_map fields l) STRINGTABLE_S) (ap (map (λ x. x.now)) c.deref-3.ensures.value ∙ c.in_ok-read_payloads.ensures) in
     let texts = ap (λ l. first (flat_map text_phases l)) raw in
     let no_tables = sym tables ∙ c.in_ok-check_all.ensures.0 in
     let rest = past_texts w _ past no_tables (sym texts ∙ c.in_ok-table.ensures.phase.0) in
@@ -66,10 +66,10 @@ returns-clause-phase c =
     let w = c.args.bytes.now in
     let none : wire w ≡ None = search rules in
     let found = ap (map (λ x. x.now)) c.deref.ensures.value ∙ c.in_ok-read_payloads.ensures in
-    let there : is_there (each (fields w) 1) ≡ true = sym (ap is_there found) ∙ sym c.some_there.ensures ∙ c.if-not-some_there.false in
+    let there : is_there (each (fields w) BLOCK_STRINGTABLE) ≡ true = sym (ap is_there found) ∙ sym c.some_there.ensures ∙ c.if-not-some_there.false in
     let past = past_table w none there in
     let tables = ap (λ l. first (wire_phases (map wire l))) (ap (map (λ x. x.now)) c.deref-2.ensures.value ∙ c.in_ok-read_payloads.ensures) in
-    let raw = ap (map (λ x. x.now)) c.deref-4.ensures.value ∙ c.in_ok-read_payloads_of_all.ensures ∙ ap (λ l. each (flat_map fields l) 1) (ap (map (λ x. x.now)) c.deref-3.ensures.value ∙ c.in_ok-read_payloads.ensures) in
+    let raw = ap (map (λ x. x.now)) c.deref-4.ensures.value ∙ c.in_ok-read_payloads_of_all.ensures ∙ ap (λ l. each (flat_map fields l) STRINGTABLE_S) (ap (map (λ x. x.now)) c.deref-3.ensures.value ∙ c.in_ok-read_payloads.ensures) in
     let texts = ap (λ l. first (flat_map text_phases l)) raw in
     let no_tables = sym tables ∙ c.in_ok-check_all.ensures.0 in
     let rest = past_texts w _ past no_tables (sym texts ∙ c.in_ok-table.ensures.phase.0) in
@@ -85,10 +85,10 @@ returns-clause-read c =
     let w = c.args.bytes.now in
     let none : wire w ≡ None = search rules in
     let found = ap (map (λ x. x.now)) c.deref.ensures.value ∙ c.in_ok-read_payloads.ensures in
-    let there : is_there (each (fields w) 1) ≡ true = sym (ap is_there found) ∙ sym c.some_there.ensures ∙ c.if-not-some_there.false in
+    let there : is_there (each (fields w) BLOCK_STRINGTABLE) ≡ true = sym (ap is_there found) ∙ sym c.some_there.ensures ∙ c.if-not-some_there.false in
     let past = past_table w none there in
     let tables = ap (λ l. first (wire_phases (map wire l))) (ap (map (λ x. x.now)) c.deref-2.ensures.value ∙ c.in_ok-read_payloads.ensures) in
-    let raw = ap (map (λ x. x.now)) c.deref-4.ensures.value ∙ c.in_ok-read_payloads_of_all.ensures ∙ ap (λ l. each (flat_map fields l) 1) (ap (map (λ x. x.now)) c.deref-3.ensures.value ∙ c.in_ok-read_payloads.ensures) in
+    let raw = ap (map (λ x. x.now)) c.deref-4.ensures.value ∙ c.in_ok-read_payloads_of_all.ensures ∙ ap (λ l. each (flat_map fields l) STRINGTABLE_S) (ap (map (λ x. x.now)) c.deref-3.ensures.value ∙ c.in_ok-read_payloads.ensures) in
     let texts = ap (λ l. first (flat_map text_phases l)) raw in
     let no_tables = sym tables ∙ c.in_ok-check_all.ensures.0 in
     let fg : FitsSigned w32 c.granularity_of-granularity.result = search rules in
@@ -102,7 +102,7 @@ returns-clause-read c =
       context_is = context_parts w _ _ _ _ _ (c.in_ok-table.ensures.same ∙ raw) granularity date_granularity (to_z-of_z w64 _ fa ∙ c.offset_of.ensures) (to_z-of_z w64 _ fo ∙ c.offset_of-2.ensures);
       is_message = none;
       has_table = there;
-      tables_are = all_none (each (fields w) 1) no_tables;
+      tables_are = all_none (each (fields w) BLOCK_STRINGTABLE) no_tables;
       texts_are = subst (λ l. AllByRecursion IsText l) raw c.in_ok-table.ensures.text;
       granularity = subst low granularity (c.are_scales.ensures.granularity c.if-not-are_scales.false);
       date_granularity = subst low date_granularity (c.are_scales.ensures.date_granularity c.if-not-are_scales.false);

@@ -1,6 +1,7 @@
 use Rattle.std.proofs.Common.{◌≡◌, ◌++◌, map}
 use Rattle.pbf_wire.specs.Walk.{items_left}
 use Rattle.pbf_wire.specs.Readings.{front, first_fault, fields, wire, each}
+use Rattle.osm_block.specs.declared.fields.TheConstants.{GROUP_DENSE, GROUP_NODES, GROUP_RELATIONS, GROUP_WAYS}
 use Rattle.osm_block.proofs.group.read_parts.Given as goal
 
 abbrev pub invariant-loop-field : goal.invariant-loop-field
@@ -8,8 +9,8 @@ invariant-loop-field l = record {
   can : (goal.iterator-loop-field).can_next l.field-iterator;
   ends : (goal.iterator-loop-field).is_finite l.field-iterator;
   fault : first_fault (items_left l.field-iterator) ≡ wire l.group;
-  nodes : map (λ p. p.now) l.parts.nodes.items ++ each (front (items_left l.field-iterator)) 1 ≡ each (fields l.group) 1;
-  dense : map (λ p. p.now) l.parts.dense.items ++ each (front (items_left l.field-iterator)) 2 ≡ each (fields l.group) 2;
-  ways : map (λ p. p.now) l.parts.ways.items ++ each (front (items_left l.field-iterator)) 3 ≡ each (fields l.group) 3;
-  relations : map (λ p. p.now) l.parts.relations.items ++ each (front (items_left l.field-iterator)) 4 ≡ each (fields l.group) 4;
+  nodes : map (λ p. p.now) l.parts.nodes.items ++ each (front (items_left l.field-iterator)) GROUP_NODES ≡ each (fields l.group) GROUP_NODES;
+  dense : map (λ p. p.now) l.parts.dense.items ++ each (front (items_left l.field-iterator)) GROUP_DENSE ≡ each (fields l.group) GROUP_DENSE;
+  ways : map (λ p. p.now) l.parts.ways.items ++ each (front (items_left l.field-iterator)) GROUP_WAYS ≡ each (fields l.group) GROUP_WAYS;
+  relations : map (λ p. p.now) l.parts.relations.items ++ each (front (items_left l.field-iterator)) GROUP_RELATIONS ≡ each (fields l.group) GROUP_RELATIONS;
 }

@@ -1,13 +1,14 @@
 use Rattle.std.proofs.Common.{rules, arith, tests, inl, not, length, ap}
 use Rattle.std.proofs.lemmas.Iterator.Consumers.{YieldsList-from_first}
 use Rattle.std.proofs.lemmas.Iterator.Search.{position_from_yields_List}
+use Rattle.osm_block.specs.declared.fields.TheConstants.{HEADER_REQUIRED_FEATURES}
 use Rattle.osm_block.specs.HeaderBlock.{is_known}
 use Rattle.osm_block.specs.HeaderTexts.{texts_left}
 use Rattle.osm_block.proofs.HeaderLemmas.{few_payloads}
 use Rattle.osm_block.proofs.header.unknown_feature.Goals as goal
 
 pub position-requires-clause-fits : goal.position-requires-clause-fits
-position-requires-clause-fits c = inl (omega (arith, few_payloads c.args.bytes.now 4, ap length c.new.ensures))
+position-requires-clause-fits c = inl (omega (arith, few_payloads c.args.bytes.now HEADER_REQUIRED_FEATURES, ap length c.new.ensures))
 
 pub returns : goal.returns
 returns c =

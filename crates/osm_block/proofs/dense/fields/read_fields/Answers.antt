@@ -2,6 +2,7 @@ use Rattle.std.proofs.Common.{◌≡◌, ◌++◌, ◌∙◌, sym, ap, subst, ma
 use Rattle.std.specs.List.{flat_map}
 use Rattle.std.specs.Option.{option_map, option_or}
 use Rattle.pbf_wire.specs.Readings.{fields, each}
+use Rattle.osm_block.specs.declared.fields.TheConstants.{DENSE_DENSEINFO}
 use Rattle.osm_block.specs.declared.fault.BlockFault.TheVariants as faults
 use Rattle.osm_block.specs.declared.dense.fields.DenseFields.{DenseFields}
 use Rattle.osm_block.specs.DenseFieldsRead.{DenseInfoRead}
@@ -13,8 +14,8 @@ returns-in-Some-clause-phase c =
     let ps : List (List ℕ) = map (λ p. p.now) c.args.payloads.now in
     let fs = flat_map fields ps in
     let d : DenseFields = record { ids = c.read_column.new.column; lats = c.read_column-2.new.column; lons = c.read_column-3.new.column; keys_vals = c.read_column-4.new.column; info = c.read_infos.new.info } in
-    let infos : map (λ p. p.now) c.each_of_all.new.out.items ≡ each fs 5 = c.in_ok-each_of_all.ensures ∙ ap (λ l. map (λ p. p.now) l ++ each fs 5) c.new-infos.ensures.items in
-    let lent : map (λ p. p.now) c.deref.result.now ≡ each fs 5 = ap (map (λ p. p.now)) c.deref.ensures.value ∙ infos in
+    let infos : map (λ p. p.now) c.each_of_all.new.out.items ≡ each fs DENSE_DENSEINFO = c.in_ok-each_of_all.ensures ∙ ap (λ l. map (λ p. p.now) l ++ each fs DENSE_DENSEINFO) c.new-infos.ensures.items in
+    let lent : map (λ p. p.now) c.deref.result.now ≡ each fs DENSE_DENSEINFO = ap (map (λ p. p.now)) c.deref.ensures.value ∙ infos in
     let P : List (List ℕ) → Type 0 = λ l. DenseInfoRead c.read_infos.new.info (flat_map fields l) in
     let r : DenseRead d fs = record {
       ids = c.in_ok-read_column.ensures;
@@ -33,8 +34,8 @@ returns-clause-phase c =
     let ps : List (List ℕ) = map (λ p. p.now) c.args.payloads.now in
     let fs = flat_map fields ps in
     let d : DenseFields = record { ids = c.read_column.new.column; lats = c.read_column-2.new.column; lons = c.read_column-3.new.column; keys_vals = c.read_column-4.new.column; info = c.read_infos.new.info } in
-    let infos : map (λ p. p.now) c.each_of_all.new.out.items ≡ each fs 5 = c.in_ok-each_of_all.ensures ∙ ap (λ l. map (λ p. p.now) l ++ each fs 5) c.new-infos.ensures.items in
-    let lent : map (λ p. p.now) c.deref.result.now ≡ each fs 5 = ap (map (λ p. p.now)) c.deref.ensures.value ∙ infos in
+    let infos : map (λ p. p.now) c.each_of_all.new.out.items ≡ each fs DENSE_DENSEINFO = c.in_ok-each_of_all.ensures ∙ ap (λ l. map (λ p. p.now) l ++ each fs DENSE_DENSEINFO) c.new-infos.ensures.items in
+    let lent : map (λ p. p.now) c.deref.result.now ≡ each fs DENSE_DENSEINFO = ap (map (λ p. p.now)) c.deref.ensures.value ∙ infos in
     let P : List (List ℕ) → Type 0 = λ l. DenseInfoRead c.read_infos.new.info (flat_map fields l) in
     let r : DenseRead d fs = record {
       ids = c.in_ok-read_column.ensures;
@@ -53,8 +54,8 @@ returns-clause-read c =
     let ps : List (List ℕ) = map (λ p. p.now) c.args.payloads.now in
     let fs = flat_map fields ps in
     let d : DenseFields = record { ids = c.read_column.new.column; lats = c.read_column-2.new.column; lons = c.read_column-3.new.column; keys_vals = c.read_column-4.new.column; info = c.read_infos.new.info } in
-    let infos : map (λ p. p.now) c.each_of_all.new.out.items ≡ each fs 5 = c.in_ok-each_of_all.ensures ∙ ap (λ l. map (λ p. p.now) l ++ each fs 5) c.new-infos.ensures.items in
-    let lent : map (λ p. p.now) c.deref.result.now ≡ each fs 5 = ap (map (λ p. p.now)) c.deref.ensures.value ∙ infos in
+    let infos : map (λ p. p.now) c.each_of_all.new.out.items ≡ each fs DENSE_DENSEINFO = c.in_ok-each_of_all.ensures ∙ ap (λ l. map (λ p. p.now) l ++ each fs DENSE_DENSEINFO) c.new-infos.ensures.items in
+    let lent : map (λ p. p.now) c.deref.result.now ≡ each fs DENSE_DENSEINFO = ap (map (λ p. p.now)) c.deref.ensures.value ∙ infos in
     let P : List (List ℕ) → Type 0 = λ l. DenseInfoRead c.read_infos.new.info (flat_map fields l) in
     let r : DenseRead d fs = record {
       ids = c.in_ok-read_column.ensures;
