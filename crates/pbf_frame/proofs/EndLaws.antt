@@ -3,14 +3,15 @@ use Rattle.std.proofs.Common.{◌≡◌, ◌⊎◌, ℕ, ◌-◌, ◌<◌, ◌�
 use Rattle.std.specs.Prelude.{IfOk, IfErr, ◌↔◌}
 use Rattle.std.proofs.lemmas.Bool.{cases_lt, eqb-true, eqb-false, eq-eqb}
 use Rattle.std.proofs.lemmas.List.{length-take, nil_from_length}
-use Rattle.pbf_wire.specs.Fault.{outcome}
+use Rattle.pbf_wire.specs.Fault.{◌>>=◌, outcome}
 use Rattle.pbf_wire.proofs.Choices.{chosen, err_is, not_both, neither_both, then_ok, then_err}
 use Rattle.pbf_frame.specs.declared.fault.FrameFault.{FrameFault}
 use Rattle.pbf_frame.specs.declared.fault.FrameFault.TheVariants.{LengthCut, HeaderTooLong, HeaderCut, HeaderWire, NoType, NoSize, SizeOutOfRange, BlobCut, Trailing, OffsetTooLarge}
 use Rattle.pbf_frame.specs.Frame.{FirstFault, Found, found_at, frame_at}
 use Rattle.pbf_frame.specs.Framer.{Framing, FaultStands, FrameWaits, IsKept, IsUnfinished, MayEnd, TakesNothing, ended, fed, lacking, let_go, rest_in, taken, waiting}
-use Rattle.pbf_frame.specs.Parts.{is_cut, is_early, part_end}
-use Rattle.pbf_frame.proofs.FrontLaws.{same_end}
+use Rattle.pbf_frame.specs.declared.part.Part.{Part}
+use Rattle.pbf_frame.specs.Parts.{end_after, end_of, is_cut, is_early, part_at, part_end}
+use Rattle.pbf_frame.proofs.FrontLaws.{end_in, ends_by_part, same_end}
 use Rattle.pbf_frame.proofs.FrameLaws.{frame_faults, frame_again, frame_len}
 use Rattle.pbf_frame.proofs.PartLaws.{ends, empty_part}
 use Rattle.pbf_frame.proofs.WaitingLaws.{early_fault, fault_read, fault_again, waits_read, waits_again, waiting_again, waiting_faulted, waiting_faults, waiting_read}
@@ -151,11 +152,22 @@ stays f fault piece e =
 abbrev pub Held : Framing → Type 0
 Held f = IfOk (part_end f.offset f.rest) (λ end. length f.rest ≤ end)
 
-pub held : (offset : ℕ) (bytes : List ℕ) (is_lent : Bool) (part : Result ℕ FrameFault) (f : Framing) → IsKept offset bytes is_lent part → offset ≡ f.offset → rest_in is_lent bytes ≡ f.rest → Held f
+within_ends : (part : Result Part FrameFault) (len : ℕ) → IfOk part (λ p. len ≤ end_of p) → IfOk (part >>= λ p. Ok (end_of p)) (λ end. len ≤ end)
+within_ends (Ok p) len within = within
+within_ends (Err fault) len within = tt
+
+pub held : (offset : ℕ) (bytes : List ℕ) (is_lent : Bool) (part : Result Part FrameFault) (f : Framing) → IsKept offset bytes is_lent part → offset ≡ f.offset → rest_in is_lent bytes ≡ f.rest → Held f
 held offset bytes is_lent part f k o r =
-    let is : part ≡ part_end f.offset f.rest = k.parted ∙ ap (λ (n : ℕ). part_end n (rest_in is_lent bytes)) o ∙ ap (part_end f.offset) r in
-    let within : IfOk part (λ end. length f.rest ≤ end) = subst (λ (v : List ℕ). IfOk part (λ end. length v ≤ end)) r k.within in
-    subst (λ (p : Result ℕ FrameFault). IfOk p (λ end. length f.rest ≤ end)) is within
+    let is : part_end f.offset f.rest ≡ (part >>= λ p. Ok (end_of p)) = sym (ap (λ (n : ℕ). part_end n (rest_in is_lent bytes)) o ∙ ap (part_end f.offset) r) ∙ k.ending in
+    let within = within_ends part (length (rest_in is_lent bytes)) k.within in
+    let at_rest : IfOk (part >>= λ p. Ok (end_of p)) (λ end. length f.rest ≤ end) = subst (λ (v : List ℕ). IfOk (part >>= λ p. Ok (end_of p)) (λ end. length v ≤ end)) r within in
+    subst (λ (p : Result ℕ FrameFault). IfOk p (λ end. length f.rest ≤ end)) (sym is) at_rest
+
+-- what a framer answers at the end, by the part that it keeps
+pub ended_by : (offset : ℕ) (bytes : List ℕ) (is_lent : Bool) (part : Result Part FrameFault) (f : Framing) → IsKept offset bytes is_lent part → offset ≡ f.offset → rest_in is_lent bytes ≡ f.rest → ended f ≡ end_in (length f.rest) part
+ended_by offset bytes is_lent part f k o r =
+    let is : part ≡ part_at f.offset f.rest = k.parted ∙ ap (λ (n : ℕ). part_at n (rest_in is_lent bytes)) o ∙ ap (part_at f.offset) r in
+    ends_by_part f.offset f.rest ∙ ap (end_in (length f.rest)) (sym is)
 
 pub none_iff : (n : ℕ) (f : Framing) (piece : List ℕ) → n ≡ length (taken f piece) → Held f → (n ≡ 0) ↔ TakesNothing f piece
 none_iff n f piece e within =
@@ -177,3 +189,24 @@ end_stands r f e fault h = e ∙ end_faulted f fault h
 pub end_fault : (r : Result (Unit {0}) FrameFault) (f : Framing) → r ≡ ended f → IfErr r (λ fault. FaultStands fault f ⊎ IsUnfinished fault f)
 end_fault (Ok x) f e = tt
 end_fault (Err d) f e = end_faults f d (sym e)
+
+-- a part answers for a framer that holds some bytes
+pub end_at_part : (part : Result Part FrameFault) (p : Part) (rest : List ℕ) (len : ℕ) → part ≡ Ok p → len ≡ length rest → false ≡ eqb len 0 → end_after len p ≡ end_in (length rest) part
+end_at_part part p rest len is same some =
+    ap (λ (b : Bool). cond b fine_end (end_after len p)) some
+    ∙ ap (λ (n : ℕ). cond (eqb n 0) fine_end (end_after n p)) same
+    ∙ sym (ap (end_in (length rest)) is)
+
+-- all that is promised of an answer at the end
+pub record Ends (f : Framing) (r : Result (Unit {0}) FrameFault) : Type 0 where
+  pub fine : (r ≡ Ok tt) ↔ MayEnd f
+  pub fault : IfErr r (λ fault. FaultStands fault f ⊎ IsUnfinished fault f)
+  pub stands : (fault : FrameFault) → FaultStands fault f → r ≡ Err fault
+  pub exact : r ≡ ended f
+
+pub ends_as : (offset : ℕ) (bytes : List ℕ) (is_lent : Bool) (part : Result Part FrameFault) (f : Framing) (r : Result (Unit {0}) FrameFault) → IsKept offset bytes is_lent part
+    → offset ≡ f.offset → rest_in is_lent bytes ≡ f.rest → r ≡ end_in (length f.rest) part → Ends f r
+ends_as offset bytes is_lent part f r k o same e =
+    let is : r ≡ ended f = e ∙ sym (ended_by offset bytes is_lent part f k o same) in
+    let within = held offset bytes is_lent part f k o same in
+    record { fine = end_is r f is within; fault = end_fault r f is; stands = end_stands r f is; exact = is }

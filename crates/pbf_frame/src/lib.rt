@@ -9,11 +9,13 @@ mod front;
 mod header;
 mod kind;
 pub mod laws;
+mod part;
 mod write;
 
-pub use blob::{BlobFault, Compression, raw};
+pub use blob::{BlobFault, Compression, MAX_RAW, raw};
 pub use fault::FrameFault;
 pub use frame::{Frame, read_frame, whole_frame};
 pub use framer::Framer;
 pub use kind::Kind;
+pub use part::MAX_OFFSET;
 pub use write::write_frame;

@@ -9,7 +9,8 @@ use Rattle.std.proofs.lemmas.Str.Parse.{digit_from_value}
 use Rattle.std.proofs.lemmas.Str.{digit_value_digit}
 use Rattle.osm_value.specs.declared.element.MemberKind.{MemberKind}
 use Rattle.osm_value.specs.declared.element.MemberKind.TheVariants.{Node, Way, Relation}
-use Rattle.pbfrow_words.specs.Element.{letter_of, Names, kind_at, is_digit, magnitude_from, magnitude_at, id_at, element_at}
+use Rattle.osm_value.specs.Line.{letter_of}
+use Rattle.pbfrow_words.specs.Element.{Names, kind_at, is_digit, magnitude_from, magnitude_at, id_at, element_at}
 
 chosen : {A : Type 0} (b : Bool) (x y z : A) → cond b x y ≡ z → ((b ≡ true) × (x ≡ z)) ⊎ ((b ≡ false) × (y ≡ z))
 chosen true x y z e = inl (refl, e)

@@ -1,14 +1,9 @@
 -- The texts that name an element: its letter, then `-` or nothing, then decimal digits.
 use Rattle.std.specs.Prelude.{◌≡◌, ℕ, ℤ, ◌+◌, ◌-◌, ◌*◌, ◌≤◌, ◌==◌, ◌⊎◌, List, [], ◌∷◌, Option, Some, None, Bool, ◌&&◌, if◌then◌else◌, nat_le, pos, neg_ℤ, option_map, option_and_then, length}
 use Rattle.std.specs.Str.Parse.{IsNumeral, digits_value}
+use Rattle.osm_value.specs.Line.{letter_of}
 use Rattle.osm_value.specs.declared.element.MemberKind.{MemberKind}
 use Rattle.osm_value.specs.declared.element.MemberKind.TheVariants.{Node, Way, Relation}
-
--- n, w or r
-abbrev pub letter_of : MemberKind → ℕ
-letter_of Node = 110
-letter_of Way = 119
-letter_of Relation = 114
 
 -- The text is the kind's letter, then `-` or nothing, then one or more decimal digits, which write an id from -(2^62 - 1) to 2^62 - 1.
 pub record Names (kind : MemberKind) (id : ℤ) (text : List ℕ) : Type 0 where

@@ -7,34 +7,32 @@ ghost use Rattle.pbfrow_words.specs.Definition as definitions;
 
 use clap::builder::ValueParser;
 use clap::{Arg, ArgAction, Command};
+use pbf_frame::MAX_OFFSET;
 use std::alloc::{AllocError, Global};
 
-/// The greatest offset and the greatest size: 2^62.
-pub(crate) const MAX_OFFSET: u64 = 4_611_686_018_427_387_904;
-
 const PROGRAM_HELP: &str =
-    "Exit status: 0 where all went well, 1 where a fault was printed or the output couldn't be written, 2 where the words can't be read.\nA fault is a line 'fault NUMBER NAME at OFFSET' on standard output. Blobs have to be stored raw: osmium cat FILE -f pbf,pbf_compression=none -o RAW\n\nExamples:\n  pbfrow check berlin.osm.pbf\n  pbfrow import berlin.osm.pbf berlin.db\n  pbfrow export berlin.db";
+    "Exit status: 0 on success, 1 if a fault was printed or the output couldn't be written, 2 for invalid arguments.\nA fault is a line 'fault NUMBER NAME at OFFSET' on standard output. Blobs must be stored raw: osmium cat FILE -f pbf,pbf_compression=none -o RAW\n\nExamples:\n  pbfrow check berlin.osm.pbf\n  pbfrow import berlin.osm.pbf berlin.db\n  pbfrow export berlin.db";
 
 const LIST_HELP: &str =
-    "Prints a line 'OFFSET TYPE DATASIZE' for each frame, and a fault's line where the frames end otherwise than with the file.\nExit status: 0 where all of the file is frames, else 1.\n\nExamples:\n  pbfrow list berlin.osm.pbf\n  pbfrow list < berlin.osm.pbf";
+    "Prints a line 'OFFSET TYPE DATASIZE' for each frame, and a fault if the file can't be read as frames to its end.\nExit status: 0 if the whole file consists of frames, else 1.\n\nExamples:\n  pbfrow list berlin.osm.pbf\n  pbfrow list < berlin.osm.pbf";
 
 const CHECK_HELP: &str =
-    "Prints a fault's line for each bad blob, and last 'blobs B nodes N ways W relations R faults F'.\nExit status: 0 where there is no fault, else 1.\n\nExample:\n  pbfrow check berlin.osm.pbf";
+    "Prints the fault of each bad blob, one per line, and finally 'blobs B nodes N ways W relations R faults F'.\nExit status: 0 if there is no fault, else 1.\n\nExample:\n  pbfrow check berlin.osm.pbf";
 
 const SHOW_HELP: &str =
-    "Prints a line 'blob OFFSET TYPE LENGTH' for each blob, and behind it the lines of its header, of its elements or of its fault.\nExit status: 0 where there is no fault, else 1.\n\nExample:\n  pbfrow show berlin.osm.pbf | grep highway=";
+    "Prints a line 'blob OFFSET TYPE LENGTH' for each blob, followed by the lines of its header, its elements or its fault.\nExit status: 0 if there is no fault, else 1.\n\nExample:\n  pbfrow show berlin.osm.pbf | grep highway=";
 
 const IMPORT_HELP: &str =
-    "Prints 'OFFSET stored N', 'OFFSET held' or a fault's line for each blob, and last 'blobs stored S held H bad B refused R'. A run that was broken off is completed by running it again.\nExit status: 0 where all blobs are held, else 1.\n\nExamples:\n  pbfrow import berlin.osm.pbf berlin.db\n  pbfrow import berlin.osm.pbf berlin.db --from 1048576";
+    "Prints 'OFFSET stored N', 'OFFSET held' or a fault for each blob, and finally 'blobs stored S held H bad B refused R'. To complete an interrupted import, run it again.\nExit status: 0 if all blobs are held, else 1.\n\nExamples:\n  pbfrow import berlin.osm.pbf berlin.db\n  pbfrow import berlin.osm.pbf berlin.db --from 1048576";
 
 const STATUS_HELP: &str =
-    "Prints 'gap FROM TO' for each range that no blob covers, and last 'blobs B end N gaps G'.\nExit status: 0 where the database was read, else 1.\n\nExample:\n  pbfrow status berlin.db --size 73400320";
+    "Prints 'gap FROM TO' for each missing byte range, and finally 'blobs B end N gaps G'.\nExit status: 0 if the database could be read, else 1.\n\nExample:\n  pbfrow status berlin.db --size 73400320";
 
 const EXPORT_HELP: &str =
-    "Writes the elements of all blobs to standard output, in the order of the file; by default only where no blob is missing.\nExit status: 0 where all was written, else 1.\n\nExamples:\n  pbfrow export berlin.db --size 73400320\n  pbfrow export berlin.db --form pbf > berlin.osm.pbf";
+    "Writes the elements of all blobs to standard output, in file order. If blobs are missing, nothing is written without --partial.\nExit status: 0 if everything was written, else 1.\n\nExamples:\n  pbfrow export berlin.db --size 73400320\n  pbfrow export berlin.db --form pbf > berlin.osm.pbf";
 
 const FIND_HELP: &str =
-    "Prints 'OFFSET POSITION LINE' for each time the element is held.\nExit status: 0 where the database was read, also where nothing was found, else 1.\n\nExamples:\n  pbfrow find berlin.db n240090160\n  pbfrow find berlin.db w-2";
+    "Prints 'OFFSET POSITION LINE' for each occurrence of the element.\nExit status: 0 if the database could be read, even if nothing was found, else 1.\n\nExamples:\n  pbfrow find berlin.db n240090160\n  pbfrow find berlin.db w-2";
 
 fn optional_argument<'a>(alloc: Global, id: &'a str, help: &'a str) -> Arg<'a>
     ensures rule { rule_of result ≡ definitions.optional_argument id.entry.now }
@@ -69,7 +67,7 @@ fn form_option<'a>(alloc: Global) -> Arg<'a>
         .long("form")
         .value_name("FORM")
         .default_value("lines")
-        .help("In which form: lines, or a PBF file by pbf")
+        .help("Output format: lines or pbf")
 }
 
 fn partial_flag<'a>(alloc: Global) -> Arg<'a>
@@ -79,24 +77,24 @@ fn partial_flag<'a>(alloc: Global) -> Arg<'a>
     Arg::new(alloc, "partial")
         .long("partial")
         .action(ArgAction::SetTrue)
-        .help("Write what is held, though blobs are missing")
+        .help("Export what is held even if blobs are missing")
 }
 
 fn database<'a>(alloc: Global) -> Arg<'a>
     ensures rule { rule_of result ≡ definitions.required_argument (codes "DB") }
     ensures local { result.global ≡ false }
 {
-    required_argument(alloc, "DB", "The database file")
+    required_argument(alloc, "DB", "Database file")
 }
 
 fn size_option<'a>(alloc: Global) -> Arg<'a>
     ensures rule { rule_of result ≡ definitions.offset_option (codes "size") }
     ensures local { result.global ≡ false }
 {
-    offset_option(alloc, "size", "How many bytes the whole PBF file has")
+    offset_option(alloc, "size", "Size of the whole PBF file in bytes")
 }
 
-/// The command with one more argument, which none of its subcommands has.
+/// Adds an argument that isn't passed on to the subcommands.
 fn with_argument<'a>(command: Command<'a>, argument: Arg<'a>) -> Result<Command<'a>, AllocError>
     requires own { (fields_of command).has_globals ≡ false }
     requires local { argument.global ≡ false }
@@ -106,7 +104,7 @@ fn with_argument<'a>(command: Command<'a>, argument: Arg<'a>) -> Result<Command<
     command.arg(argument)
 }
 
-/// The command with one more subcommand.
+/// Adds a subcommand.
 fn with_command<'a>(command: Command<'a>, other: Command<'a>) -> Result<Command<'a>, AllocError>
     requires own { (fields_of command).has_globals ≡ false }
     requires local { (fields_of other).has_globals ≡ false }
@@ -125,11 +123,7 @@ fn reading_command<'a>(
     ensures shape { IfOk result (λ c. app_of c ≡ definitions.reading_command name.entry.now) }
     ensures local { IfOk result (λ c. (fields_of c).has_globals ≡ false) }
 {
-    let file = optional_argument(
-        alloc,
-        "FILE",
-        "The PBF file; without it standard input is read",
-    );
+    let file = optional_argument(alloc, "FILE", "PBF file (default: standard input)");
     let command = Command::new(alloc, name).about(about).after_help(examples);
     with_argument(command, file)
 }
@@ -138,11 +132,11 @@ fn import_command<'a>(alloc: Global) -> Result<Command<'a>, AllocError>
     ensures shape { IfOk result (λ c. app_of c ≡ definitions.import_command) }
     ensures local { IfOk result (λ c. (fields_of c).has_globals ≡ false) }
 {
-    let from = offset_option(alloc, "from", "At which offset of FILE to begin");
+    let from = offset_option(alloc, "from", "Start offset in FILE, in bytes");
     let command = Command::new(alloc, "import")
         .about("Import the blobs of a PBF file into a database")
         .after_help(IMPORT_HELP);
-    let file = required_argument(alloc, "FILE", "The PBF file");
+    let file = required_argument(alloc, "FILE", "PBF file");
     let command = with_argument(command, file)?;
     let command = with_argument(command, database(alloc))?;
     with_argument(command, from)
@@ -153,7 +147,7 @@ fn status_command<'a>(alloc: Global) -> Result<Command<'a>, AllocError>
     ensures local { IfOk result (λ c. (fields_of c).has_globals ≡ false) }
 {
     let command = Command::new(alloc, "status")
-        .about("List what a database lacks of its file")
+        .about("List the byte ranges missing from a database")
         .after_help(STATUS_HELP);
     let command = with_argument(command, database(alloc))?;
     with_argument(command, size_option(alloc))
@@ -173,7 +167,7 @@ fn export_command<'a>(alloc: Global) -> Result<Command<'a>, AllocError>
     ensures local { IfOk result (λ c. (fields_of c).has_globals ≡ false) }
 {
     let command = Command::new(alloc, "export")
-        .about("Write the elements of a database")
+        .about("Write the elements held in a database")
         .after_help(EXPORT_HELP);
     let command = with_argument(command, database(alloc))?;
     let command = with_argument(command, size_option(alloc))?;
@@ -188,7 +182,11 @@ fn find_command<'a>(alloc: Global) -> Result<Command<'a>, AllocError>
         .about("Find an element in a database")
         .after_help(FIND_HELP);
     let command = with_argument(command, database(alloc))?;
-    let element = required_argument(alloc, "ELEMENT", "n, w or r and an id, as w-2");
+    let element = required_argument(
+        alloc,
+        "ELEMENT",
+        "Element: n, w or r followed by an id, such as w-2",
+    );
     with_argument(command, element)
 }
 
@@ -199,7 +197,7 @@ fn with_reading_commands<'a>(alloc: Global, command: Command<'a>) -> Result<Comm
 {
     let list = reading_command(alloc, "list", "List the frames of a PBF file", LIST_HELP)?;
     let check = reading_command(alloc, "check", "Check the blobs of a PBF file", CHECK_HELP)?;
-    let show = reading_command(alloc, "show", "Print what a PBF file holds", SHOW_HELP)?;
+    let show = reading_command(alloc, "show", "Print the contents of a PBF file", SHOW_HELP)?;
     let command = with_command(command, list)?;
     let command = with_command(command, check)?;
     with_command(command, show)

@@ -51,8 +51,8 @@ fn element_at(text: &[u8]) -> Option<(MemberKind, i64)>
     }
 }
 
-/// The element that a text names: n, w or r, then `-` or nothing, then one or more digits, the id being from
-/// -(2^62 - 1) to 2^62 - 1; none where the text names no element.
+/// The element that a text names: n, w or r, then optionally `-`, then one or more digits. The id is from -(2^62 - 1) to
+/// 2^62 - 1. None if the text doesn't name an element.
 pub fn read_element(text: &str) -> Option<(MemberKind, i64)>
     ensures named { IfSome result (λ e. Names e.0 e.1 text.now) }
     ensures exact { result ≡ element_at text.now }

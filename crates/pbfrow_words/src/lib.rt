@@ -1,5 +1,5 @@
-//! The words that pbfrow is started with: its commands and their arguments as `clap` has them, and the command that a
-//! list of words names. It opens no file and runs no command.
+//! The command line of pbfrow: its commands and their arguments as `clap` defines them, and the command that a list of
+//! words names. It opens no file and runs no command.
 #![tactic(auto)]
 
 mod definition;

@@ -1,22 +1,24 @@
-//! The command that the words name, with its arguments.
+//! The command that the arguments of the program name, with its own arguments.
 
 ghost use Rattle.std.specs.Prelude.{◌≡◌, ◌≤◌, IfOk, IfSome, IsSomeAnd, map, codes};
 ghost use Rattle.clap.specs.Words.{found_of, rows_of, first_of, one_of, subcommand_of, subcommand_rows_of};
 ghost use Rattle.pbfrow_words.specs.Definition.{program};
 ghost use Rattle.pbfrow_words.specs.Words.{BeginsWithin, IsFlag, IsForm, IsNumber, Says, text_of};
 
-use crate::definition::{MAX_OFFSET, program};
+use crate::definition::program;
 use crate::element::read_element;
 use clap::error::ErrorKind;
 use clap::{ArgMatches, Error};
 use osm_value::{Form, MemberKind};
+use pbf_frame::MAX_OFFSET;
 use std::alloc::Global;
 
-/// What is said of words that clap lets through and that have another ELEMENT or FORM.
-const UNREADABLE: &str = "ELEMENT is n, w or r and an id, as w-2, and FORM is lines or pbf";
+/// The message for an invalid ELEMENT or FORM, which clap takes for plain text.
+const UNREADABLE: &str =
+    "ELEMENT must be n, w or r followed by an id, such as w-2, and FORM must be lines or pbf";
 
-/// A command with its arguments. A `file` and a `database` are paths, and where a `file` may lack, standard input is
-/// meant. A `size` is how many bytes the whole PBF file has, at most 2^62.
+/// A command with its arguments. A `file` and a `database` are paths. A command that may be given no `file` then reads
+/// standard input. A `size` is the size of the whole PBF file in bytes, at most 2^62.
 #[derive(Clone, Copy, Debug, PartialEq, Eq)]
 pub enum Words<'a> {
     List {
@@ -31,7 +33,7 @@ pub enum Words<'a> {
     Import {
         file: &'a str,
         database: &'a str,
-        /// The offset of `file` at which to begin, at most 2^62.
+        /// The start offset in `file`, at most 2^62.
         from: Option<u64>,
     },
     Status {
@@ -41,7 +43,7 @@ pub enum Words<'a> {
     Export {
         database: &'a str,
         size: Option<u64>,
-        /// Whether what is held is written though blobs are missing.
+        /// Whether what is held is written even if blobs are missing.
         partial: bool,
         form: Form,
     },
@@ -53,7 +55,7 @@ pub enum Words<'a> {
     },
 }
 
-/// The number of an option, where it is one of at most 2^62 or isn't there.
+/// The number given by an option, `Some(None)` if the option isn't given, and none if the number is above 2^62.
 fn number_of(matches: &ArgMatches, id: &str) -> Option<Option<u64>>
     ensures { IfSome result (λ n. IsNumber n (one_of id.now (rows_of (found_of matches.now)))) }
 {
@@ -160,9 +162,9 @@ fn entered_words<'a>(matches: &ArgMatches<'a>) -> Option<Words<'a>>
     words_of(name, inner)
 }
 
-/// The command that the words name, with its arguments. The first word is the program's name, and isn't looked at. An
-/// error is what `clap` makes of the others: the help or the version that they ask for, why they can't be read, or that
-/// memory was refused.
+/// The command that the words name, with its arguments. The first word is the program's name and is ignored. An error
+/// is what `clap` makes of the others: the help or the version that they ask for, why they are invalid, or that memory
+/// was refused.
 pub fn read_words<'a>(alloc: Global, words: &'a [&'a str]) -> Result<Words<'a>, Error>
     ensures named { IfOk result (λ w. IsSomeAnd (subcommand_of program (map (λ s. s.now) words.entry.now)) (λ p. Says w p.0 p.1)) }
     ensures within { IfOk result BeginsWithin }

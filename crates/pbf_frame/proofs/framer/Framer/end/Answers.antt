@@ -1,48 +1,24 @@
-use Rattle.std.proofs.Common.{◌≡◌, ap, rules, Ok}
-use Rattle.pbf_frame.specs.Framer.{Framing, ended}
-use Rattle.pbf_frame.proofs.EndLaws.{Held, held, end_is, end_stands, end_fault, fine_end}
+use Rattle.std.proofs.Common.{◌≡◌, ◌∙◌, eqb, false, Bool, ap, rules, sym, length, ℕ}
+use Rattle.pbf_frame.specs.Framer.{Framing, rest_in}
+use Rattle.pbf_frame.proofs.FrontLaws.{end_in}
+use Rattle.pbf_frame.proofs.EndLaws.{Ends, ends_as, end_at_part}
 use Rattle.pbf_frame.proofs.framer.Framer.end.Goals as goal
 
-pub returns-in_err-self-clause-fine : goal.returns-in_err-self-clause-fine
-returns-in_err-self-clause-fine c =
+pub returns-in_err-part : goal.returns-in_err-part
+returns-in_err-part c =
     let f = c.self.inside in
     let now = c.args.self.now in
-    let e : c.from_residual.result ≡ ended now = search rules in
-    let within : Held now = held f.offset f.bytes.items f.is_lent f.part now c.self.invariant (ap (λ (v : Framing). v.offset) c.self.view_is) (ap (λ (v : Framing). v.rest) c.self.view_is) in
-    end_is c.from_residual.result now e within
+    let e : c.from_residual.result ≡ end_in (length now.rest) f.part = search rules in
+    let ends : Ends now c.from_residual.result = ends_as f.offset f.bytes.items f.is_lent f.part now c.from_residual.result c.self.invariant (ap (λ (v : Framing). v.offset) c.self.view_is) (ap (λ (v : Framing). v.rest) c.self.view_is) e in
+    record { fine = ends.fine; fault = ends.fault; stands = ends.stands; exact = ends.exact }
 
-pub returns-in_err-self-clause-fault : goal.returns-in_err-self-clause-fault
-returns-in_err-self-clause-fault c =
-    let e : c.from_residual.result ≡ ended c.args.self.now = search rules in
-    end_fault c.from_residual.result c.args.self.now e
-
-pub returns-in_err-self-clause-stands : goal.returns-in_err-self-clause-stands
-returns-in_err-self-clause-stands c =
-    let e : c.from_residual.result ≡ ended c.args.self.now = search rules in
-    end_stands c.from_residual.result c.args.self.now e
-
-pub returns-in_err-read_frame-clause-fine : goal.returns-in_err-read_frame-clause-fine
-returns-in_err-read_frame-clause-fine c =
+pub returns : goal.returns
+returns c =
     let f = c.self.inside in
     let now = c.args.self.now in
-    let e : c.from_residual-in_err-read_frame.result ≡ ended now = search rules in
-    let within : Held now = held f.offset f.bytes.items f.is_lent f.part now c.self.invariant (ap (λ (v : Framing). v.offset) c.self.view_is) (ap (λ (v : Framing). v.rest) c.self.view_is) in
-    end_is c.from_residual-in_err-read_frame.result now e within
-
-pub returns-in_err-read_frame-clause-stands : goal.returns-in_err-read_frame-clause-stands
-returns-in_err-read_frame-clause-stands c =
-    let e : c.from_residual-in_err-read_frame.result ≡ ended c.args.self.now = search rules in
-    end_stands c.from_residual-in_err-read_frame.result c.args.self.now e
-
-pub returns-clause-fine : goal.returns-clause-fine
-returns-clause-fine c =
-    let f = c.self.inside in
-    let now = c.args.self.now in
-    let e : fine_end ≡ ended now = search rules in
-    let within : Held now = held f.offset f.bytes.items f.is_lent f.part now c.self.invariant (ap (λ (v : Framing). v.offset) c.self.view_is) (ap (λ (v : Framing). v.rest) c.self.view_is) in
-    end_is (Ok tt) now e within
-
-pub returns-clause-stands : goal.returns-clause-stands
-returns-clause-stands c =
-    let e : fine_end ≡ ended c.args.self.now = search rules in
-    end_stands (Ok tt) c.args.self.now e
+    let bytes_are = sym (ap (λ (b : Bool). rest_in b f.bytes.items) c.if-self.false) ∙ ap (λ (v : Framing). v.rest) c.self.view_is in
+    let len : c.len.result ≡ length f.bytes.items = search rules in
+    let some : false ≡ eqb c.len.result 0 = sym c.if-is_empty.false ∙ c.is_empty.ensures ∙ ap (λ (n : ℕ). eqb n 0) (sym c.len.ensures) in
+    let e : c.end_after.result ≡ end_in (length now.rest) f.part = c.end_after.ensures ∙ end_at_part f.part c.in_ok-part.part now.rest c.len.result c.in_ok-part.was (len ∙ ap length bytes_are) some in
+    let ends : Ends now c.end_after.result = ends_as f.offset f.bytes.items f.is_lent f.part now c.end_after.result c.self.invariant (ap (λ (v : Framing). v.offset) c.self.view_is) (ap (λ (v : Framing). v.rest) c.self.view_is) e in
+    record { fine = ends.fine; fault = ends.fault; stands = ends.stands; exact = ends.exact }
