@@ -1,9 +1,11 @@
 # make: proves and builds the program. make test: all that CI runs. make quick: what one runs while working.
 # make gate-time: what the last run of the gate here took, by crate, and what passes the budget. make edits: tries each edit
-# by itself. make bench: measures the program. make install: the program and its manual page under PREFIX.
+# by itself. make bench: measures the program, and draws
+# the tables as bars (out/bars-*.svg). make install: the program and its manual page under PREFIX.
 .PHONY: all test gate gate-time quick e2e edits bench install clean
 
 PREFIX ?= /usr/local
+SHELL := bash
 
 all:
 	./pbfrow --build-only
@@ -26,12 +28,15 @@ edits:
 	edits/run
 
 bench: all
-	bench/run
+	mkdir -p out
+	set -o pipefail; bench/run | tee out/bench.md
+	bench/bars.py out/bench.md out
 
 install: all
 	install -d "$(DESTDIR)$(PREFIX)/bin" "$(DESTDIR)$(PREFIX)/share/man/man1"
 	install -m 755 crates/pbfrow/out/pbfrow "$(DESTDIR)$(PREFIX)/bin/pbfrow"
-	install -m 644 docs/pbfrow.1 "$(DESTDIR)$(PREFIX)/share/man/man1/pbfrow.1"
+	docs/manual > crates/pbfrow/out/pbfrow.1
+	install -m 644 crates/pbfrow/out/pbfrow.1 "$(DESTDIR)$(PREFIX)/share/man/man1/pbfrow.1"
 
 clean:
 	rm -rf out crates/*/out

@@ -7,6 +7,9 @@ if has make install; then
     env -i PATH=/nowhere "$PWD/image/usr/bin/pbfrow" list "$top/data/two-nodes.osm.pbf" > listed.txt 2>&1
     printf '%s\n' "0 OSMHeader 30" "47 OSMData 22" > want.txt
     same "the installed program runs by itself" listed.txt want.txt
+    grep '^Usage: ' image/usr/share/man/man1/pbfrow.1 | cut -d ' ' -f 3 > described.txt
+    printf '%s\n' list check show import status export find > want.txt
+    same "the manual page describes each command" described.txt want.txt
   else
     fail "make install"
     head -n 10 made.txt | sed 's/^/    /'

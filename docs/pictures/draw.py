@@ -2,9 +2,11 @@
 """Draws the pictures of the documents: data.svg, the way of the data, and crates.svg, the crates in layers.
 
 Run it after a change of crates.txt, and commit what it writes: docs/pictures/draw.py
-The crates and what each stands on are read from crates.txt. An edge that follows from others is left out.
+The crates and what each stands on are read from crates.txt, and laid out by `dot` (Debian's package graphviz).
 """
 
+import shlex
+import subprocess
 from html import escape
 from pathlib import Path
 
@@ -184,147 +186,46 @@ def read_crates():
     return below, {name: [word for word in words if not any(word.startswith(other + "_") for other in words)] for name, words in kit.items()}
 
 
-def reached(below, name):
-    """All that a crate stands on, at any depth."""
-    return {deeper for word in below[name] for deeper in {word} | reached(below, word)}
+BOX, TALL, MARGIN, TOP = 196, 50, 20, 76
+INCH = 72  # what a length is in that dot takes and gives in inches
 
 
-def reduced(below):
-    """The same crates without the edges that follow from others."""
-    return {name: [word for word in words if not any(word in reached(below, other) for other in words)] for name, words in below.items()}
-
-
-def levels(below):
-    """How high each crate stands: above all that it builds on, and right below what uses it if it builds on anything."""
-    height = {}
-    for name in below:  # crates.txt names a crate after all that it builds on
-        height[name] = 1 + max((height[word] for word in below[name]), default=-1)
-    for name in reversed(list(below)):
-        above = [height[other] for other, words in below.items() if name in words]
-        if above and below[name]:
-            height[name] = min(above) - 1
-    return height
-
-
-def laid_out(edges, height):
-    """The rows of crates from the lowest up, and what each item is tied to. An edge has a point in each row that it passes."""
-    rows = [[name for name in height if height[name] == level] for level in range(max(height.values()) + 1)]
-    ties = {name: [] for name in height}
-    for upper, words in edges.items():
-        for lower in words:
-            points = [(upper, lower, level) for level in range(height[lower] + 1, height[upper])]
-            for point in points:
-                rows[point[2]].append(point)
-                ties[point] = []
-            chain = [lower, *points, upper]
-            for one, other in zip(chain, chain[1:]):
-                ties[one].append(other)
-                ties[other].append(one)
-    return rows, ties
-
-
-def by_neighbours(row, beside, ties):
-    """A row in the order of the means of what its items are tied to in the row beside it."""
-    where = {item: (number + 0.5) / len(beside) for number, item in enumerate(beside)}
-
-    def mean(item):
-        near = [where[tie] for tie in ties[item] if tie in where]
-        return sum(near) / len(near) if near else 0.5
-
-    return sorted(row, key=mean)
-
-
-def untangled(rows, ties):
-    """The same rows, in the order with the fewest crossings that sweeps up and down come by."""
-    best = rows
-    for turn in range(40):
-        rows = list(rows)
-        for level in range(1, len(rows)) if turn % 2 == 0 else range(len(rows) - 2, -1, -1):
-            rows[level] = by_neighbours(rows[level], rows[level - 1 if turn % 2 == 0 else level + 1], ties)
-        best = min(best, rows, key=lambda each: count_crossings(each, ties)) if turn else rows
-    return best
-
-
-def count_crossings(rows, ties):
-    total = 0
-    for lower, upper in zip(rows, rows[1:]):
-        pairs = [(lower.index(one), upper.index(other)) for one in lower for other in ties[one] if other in upper]
-        total += sum((a - c) * (b - d) < 0 for number, (a, b) in enumerate(pairs) for c, d in pairs[number + 1 :])
-    return total
-
-
-def settled(row, wanted, room):
-    """Where the items of a row stand: in their order, each with its room, as near to what is wanted as that allows."""
-    offsets, at = {}, 0
-    for number, item in enumerate(row):
-        at += (room[row[number - 1]] + room[item]) / 2 if number else 0
-        offsets[item] = at
-    groups = []  # items that would meet stand side by side, about their mean
-    for item in row:
-        items, mean = [item], wanted[item] - offsets[item]
-        while groups and groups[-1][1] > mean:
-            left, low = groups.pop()
-            mean = (len(left) * low + len(items) * mean) / (len(left) + len(items))
-            items = left + items
-        groups.append((items, mean))
-    return {item: mean + offsets[item] for items, mean in groups for item in items}
-
-
-def drawn_to(item, tied, x):
-    """The mean of what an item is tied to, in which a long edge counts most, where it passes from row to row."""
-    pull = {tie: 1 if isinstance(item, str) or isinstance(tie, str) else 12 for tie in tied}
-    return sum(x[tie] * pull[tie] for tie in tied) / sum(pull.values()) if tied else x[item]
-
-
-def places(rows, ties, room):
-    """The middle of each item from the left, long edges as straight as may be."""
-    x = {item: at for row in rows for item, at in settled(row, dict.fromkeys(row, 0), room).items()}
-    for turn in range(400):
-        for row in rows if turn % 2 else reversed(rows):
-            x.update(settled(row, {item: drawn_to(item, ties[item], x) for item in row}, room))
-    first = min(x[item] - room[item] / 2 for item in x)
-    return {item: at - first for item, at in x.items()}
+def laid_out(below):
+    """Where `dot` puts the crates and the arrows between them, those left out that follow from others."""
+    named = [f'"{name}" [shape=box, fixedsize=true, width={BOX / INCH}, height={TALL / INCH}]' for name in below]
+    edges = [f'"{name}" -> "{word}"' for name, words in below.items() for word in words]
+    graph = "digraph { ranksep=0.6; nodesep=0.35; edge [arrowhead=none]; " + "; ".join(named + edges) + " }"
+    reduced = subprocess.run(["tred"], input=graph, capture_output=True, text=True, check=True).stdout
+    plain = subprocess.run(["dot", "-Tplain"], input=reduced, capture_output=True, text=True, check=True).stdout
+    return [shlex.split(line) for line in plain.splitlines()]
 
 
 def draw_crates():
     below, kit = read_crates()
-    edges = reduced(below)
-    height = levels(edges)
-    rows, ties = laid_out(edges, height)
-    rows = untangled(rows, ties)
-    box, tall, between, margin, top = 196, 50, 44, 20, 76
-    room = {item: box + 24 if isinstance(item, str) else 36 for row in rows for item in row}
-    x = places(rows, ties, room)
-    width = round(max(x[item] + room[item] / 2 for item in x) + 2 * margin)
+    said = laid_out(below)
+    width, height = (float(word) * INCH for word in said[0][2:4])
+
+    def point(x, y):
+        return f"{float(x) * INCH + MARGIN:.0f} {TOP + height - float(y) * INCH:.0f}"
+
+    edges = [line for line in said if line[0] == "edge"]
     picture = Picture(
-        width, top + len(rows) * (tall + between) - between + margin, "The crates in layers",
-        "; ".join(f"{name} depends on {', '.join(words) or 'none of the others'}" for name, words in edges.items()),
+        round(width + 2 * MARGIN), round(TOP + height + MARGIN), "The crates in layers",
+        "; ".join(f"{upper} depends on {lower}" for _, upper, lower, *_ in edges),
     )
-    picture.text("dim", margin, 32, "Arrows lead to the crates that a crate builds on; what follows from other arrows is left out.", 13)
-    picture.text("dim", margin, 52, "Dashed boxes hold only tests. + names a library of the kit.", 13)
-    place = {item: (x[item] + margin, top + (len(rows) - 1 - level) * (tall + between)) for level, row in enumerate(rows) for item in row}
-    for upper, words in edges.items():
-        for lower in words:
-            passed = [(upper, lower, level) for level in range(height[upper] - 1, height[lower], -1)]
-            picture.arrow("edge", curve([place[item] for item in [upper, *passed, lower]], tall, between))
-    for name in below:
-        x, y = place[name]
+    picture.text("dim", MARGIN, 32, "Arrows lead to the crates that a crate builds on; what follows from other arrows is left out.", 13)
+    picture.text("dim", MARGIN, 52, "Dashed boxes hold only tests. + names a library of the kit.", 13)
+    for _, _, _, count, *points in edges:
+        ends = [point(*points[number : number + 2]) for number in range(0, 2 * int(count), 2)]
+        picture.arrow("edge", f"M{ends[0]} C{' '.join(ends[1:])}")
+    for _, name, *at in (line for line in said if line[0] == "node"):
+        x, y = map(int, point(*at[:2]).split())
         is_test = name.endswith("_vectors")
-        picture.box("test" if is_test else "card", round(x - box / 2), y, box, tall)
+        picture.box("test" if is_test else "card", x - BOX // 2, y - TALL // 2, BOX, TALL)
         beside = "" if is_test else " ".join(f"+ {word}" for word in kit[name])
-        picture.text("title", round(x), y + 21, name, 13, "middle", mono=True, bold=True, beside=beside)
-        picture.text("dim", round(x), y + 39, SAYS.get(name, ""), 12, "middle")
+        picture.text("title", x, y - 4, name, 13, "middle", mono=True, bold=True, beside=beside)
+        picture.text("dim", x, y + 14, SAYS.get(name, ""), 12, "middle")
     picture.save(HERE / "crates.svg")
-
-
-def curve(points, tall, between):
-    """From the foot of the first box to the head of the last one, straight down past the rows between."""
-    path = f"M{points[0][0]:.0f} {points[0][1] + tall}"
-    for (x, y), (to_x, to_y) in zip(points, points[1:]):
-        middle = y + tall + between / 2
-        path += f" C{x:.0f} {middle:.0f} {to_x:.0f} {middle:.0f} {to_x:.0f} {to_y}"
-        path += f" V{to_y + tall}" if (to_x, to_y) != points[-1] else ""
-    return path
 
 
 if __name__ == "__main__":

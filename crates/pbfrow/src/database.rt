@@ -8,34 +8,18 @@ use crate::meter::Meter;
 use crate::metered::{BlobLines, MeteredOutput, MeteredReader, MeteredStore};
 use osm_import::{Inlet, Stop};
 use osm_store::{Keeper, Reader, StoreFault, TableStore};
-use osm_value::{Form, MemberKind, Outlet};
+use osm_value::Outlet;
 use pbfrow_commands::export::export;
 use pbfrow_commands::find::find;
 use pbfrow_commands::import::import;
 use pbfrow_commands::report::{put_fault_at, put_store_fault};
 use pbfrow_commands::status::status;
+use pbfrow_words::Question;
 use sqlite::{Alter, Connection, Error, ErrorCode};
 use std::alloc::Global;
 use std::fs::File;
 use std::io;
 use std::io::{BufWriter, ErrorKind, LineWriter, Read, Write};
-
-/// What is asked of a database.
-#[derive(Clone, Copy, Debug, PartialEq, Eq)]
-pub(crate) enum Question {
-    Status {
-        size: Option<u64>,
-    },
-    Export {
-        size: Option<u64>,
-        partial: bool,
-        form: Form,
-    },
-    Find {
-        kind: MemberKind,
-        id: i64,
-    },
-}
 
 /// Why a database isn't opened: memory was refused, or any other cause.
 fn unopened(error: Error) -> StoreFault {

@@ -10,14 +10,14 @@ mod meter;
 mod metered;
 
 use clap::Error;
-use database::{Question, ask, fill};
+use database::{ask, fill};
 use meter::Meter;
 use metered::{MeteredOutput, MeteredReader};
 use pbfrow_commands::check::check;
 use pbfrow_commands::input::refuse_input;
 use pbfrow_commands::list::list;
 use pbfrow_commands::show::show;
-use pbfrow_words::{Words, read_words};
+use pbfrow_words::{Reading, Words, read_words};
 use std::alloc::Global;
 use std::fs::File;
 use std::io::{BufWriter, ErrorKind, Read, Write};
@@ -83,39 +83,14 @@ fn run(rt: HostRuntime, words: Words) -> io::Result<u8>
     requires { BeginsWithin words }
 {
     match words {
-        Words::List { file } => run_on_file(rt, Reading::List, file),
-        Words::Check { file } => run_on_file(rt, Reading::Check, file),
-        Words::Show { file } => run_on_file(rt, Reading::Show, file),
+        Words::Read { reading, file } => run_on_file(rt, reading, file),
         Words::Import {
             file,
             database,
             from,
         } => fill(&rt, file, database, from.unwrap_or(0)),
-        Words::Status { database, size } => ask(&rt, database, Question::Status { size }),
-        Words::Export {
-            database,
-            size,
-            partial,
-            form,
-        } => ask(
-            &rt,
-            database,
-            Question::Export {
-                size,
-                partial,
-                form,
-            },
-        ),
-        Words::Find { database, kind, id } => ask(&rt, database, Question::Find { kind, id }),
+        Words::Ask { database, question } => ask(&rt, database, question),
     }
-}
-
-/// The commands that read a PBF file and nothing else.
-#[derive(Clone, Copy, Debug, PartialEq, Eq)]
-enum Reading {
-    List,
-    Check,
-    Show,
 }
 
 /// Runs a command on the file, or where there is none on standard input.

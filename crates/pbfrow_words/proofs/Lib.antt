@@ -1,3 +1,3 @@
-pub mod DefinitionLemmas
+pub mod ArgumentLemmas
 pub mod ElementLaws
 pub mod WordsLemmas

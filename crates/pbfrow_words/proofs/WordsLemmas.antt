@@ -2,7 +2,8 @@
 use Rattle.std.proofs.Common.{◌≤◌, ℕ, List, Option, Some, None}
 use Rattle.std.specs.Prelude.{IfSome, IsSomeAnd}
 use Rattle.clap.specs.Words.{Row, Text}
-use Rattle.pbfrow_words.specs.Words.{BeginsWithin, IsNumber, Says}
+use Rattle.pbfrow_words.specs.Arguments.{IsNumber}
+use Rattle.pbfrow_words.specs.Words.{BeginsWithin, Says}
 use Rattle.pbfrow_words.specs.declared.words.Words.{Words}
 use Rattle.pbfrow_words.specs.declared.words.Words.TheVariants as command
 
@@ -12,12 +13,8 @@ number_within (Some n) given is = is.2.2
 
 begins_within : (w : Words) (name : Text) (rows : List Row) → Says w name rows → BeginsWithin w
 begins_within (command.Import file database from) name rows said = number_within from _ said.3
-begins_within (command.List file) name rows said = tt
-begins_within (command.Check file) name rows said = tt
-begins_within (command.Show file) name rows said = tt
-begins_within (command.Status database size) name rows said = tt
-begins_within (command.Export database size partial how) name rows said = tt
-begins_within (command.Find database kind id) name rows said = tt
+begins_within (command.Read reading file) name rows said = tt
+begins_within (command.Ask database question) name rows said = tt
 
 pub said_begins_within : (w : Words) (o : Option (Text × List Row)) → IsSomeAnd o (λ p. Says w p.0 p.1) → BeginsWithin w
 said_begins_within w (Some p) said = begins_within w p.0 p.1 said

@@ -2,10 +2,15 @@
 //! words names. It opens no file and runs no command.
 #![tactic(auto)]
 
-mod definition;
+mod arguments;
+mod asking;
 mod element;
+mod filling;
 pub mod laws;
+mod reading;
 mod words;
 
+pub use asking::Question;
 pub use element::read_element;
+pub use reading::Reading;
 pub use words::{Words, read_words};

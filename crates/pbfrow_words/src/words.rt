@@ -1,33 +1,28 @@
 //! The command that the arguments of the program name, with its own arguments.
 
-ghost use Rattle.std.specs.Prelude.{◌≡◌, ◌≤◌, IfOk, IfSome, IsSomeAnd, map, codes};
-ghost use Rattle.clap.specs.Words.{found_of, rows_of, first_of, one_of, subcommand_of, subcommand_rows_of};
-ghost use Rattle.pbfrow_words.specs.Definition.{program};
-ghost use Rattle.pbfrow_words.specs.Words.{BeginsWithin, IsFlag, IsForm, IsNumber, Says, text_of};
+ghost use Rattle.std.specs.Prelude.{◌≡◌, false, IfOk, IfSome, IsSomeAnd, map, codes};
+ghost use Rattle.clap.specs.Words.{app_of, found_of, rows_of, subcommand_of, subcommand_rows_of};
+ghost use Rattle.clap.specs.declared.builder.command.Command.TheViews.{out-Command as fields_of};
+ghost use Rattle.pbfrow_words.specs.Words.{BeginsWithin, Says, program};
 
-use crate::definition::program;
-use crate::element::read_element;
+use crate::arguments::{number_of, text_of};
+use crate::asking::{Question, question_of, with_asking_commands};
+use crate::filling::with_filling_commands;
+use crate::reading::{Reading, reading_of, with_reading_commands};
 use clap::error::ErrorKind;
-use clap::{ArgMatches, Error};
-use osm_value::{Form, MemberKind};
-use pbf_frame::MAX_OFFSET;
-use std::alloc::Global;
+use clap::{ArgMatches, Command, Error};
+use std::alloc::{AllocError, Global};
 
 /// The message for an invalid ELEMENT or FORM, which clap takes for plain text.
 const UNREADABLE: &str =
     "ELEMENT must be n, w or r followed by an id, such as w-2, and FORM must be lines or pbf";
 
-/// A command with its arguments. A `file` and a `database` are paths. A command that may be given no `file` then reads
-/// standard input. A `size` is the size of the whole PBF file in bytes, at most 2^62.
+/// A command with its arguments. A `file` and a `database` are paths.
 #[derive(Clone, Copy, Debug, PartialEq, Eq)]
 pub enum Words<'a> {
-    List {
-        file: Option<&'a str>,
-    },
-    Check {
-        file: Option<&'a str>,
-    },
-    Show {
+    Read {
+        reading: Reading,
+        /// Without one, standard input is read.
         file: Option<&'a str>,
     },
     Import {
@@ -36,59 +31,40 @@ pub enum Words<'a> {
         /// The start offset in `file`, at most 2^62.
         from: Option<u64>,
     },
-    Status {
+    Ask {
         database: &'a str,
-        size: Option<u64>,
-    },
-    Export {
-        database: &'a str,
-        size: Option<u64>,
-        /// Whether what is held is written even if blobs are missing.
-        partial: bool,
-        form: Form,
-    },
-    /// The element of this kind and id, as `read_element` reads it.
-    Find {
-        database: &'a str,
-        kind: MemberKind,
-        id: i64,
+        question: Question,
     },
 }
 
-/// The number given by an option, `Some(None)` if the option isn't given, and none if the number is above 2^62.
-fn number_of(matches: &ArgMatches, id: &str) -> Option<Option<u64>>
-    ensures { IfSome result (λ n. IsNumber n (one_of id.now (rows_of (found_of matches.now)))) }
-{
-    match matches.try_get_one::<u64>(id) {
-        Ok(None) => Some(None),
-        Ok(Some(number)) if number <= MAX_OFFSET => Some(Some(number)),
-        _ => None,
-    }
-}
+const PROGRAM_HELP: &str =
+    "A fault is a line 'fault NUMBER NAME at OFFSET' on standard output, OFFSET being
+that of the frame.
 
-fn text_of<'a>(matches: &ArgMatches<'a>, id: &str) -> Option<&'a str>
-    ensures { text_of result ≡ first_of id.now (rows_of (found_of matches.now)) }
-{
-    matches.get_str(id)
-}
+Blobs have to be stored raw; osmium rewrites an extract:
+  osmium cat FILE -f pbf,pbf_compression=none -o RAW
 
-fn flag_of(matches: &ArgMatches, id: &str) -> bool
-    ensures { IsFlag result (one_of id.now (rows_of (found_of matches.now))) }
-{
-    matches.get_flag(id)
-}
+Exit status: 0 if all went well, 1 if a fault was printed or the output couldn't
+be written, 2 for invalid arguments.
 
-fn form_of(matches: &ArgMatches, id: &str) -> Option<Form>
-    ensures { IfSome result (λ form. IsForm form (first_of id.now (rows_of (found_of matches.now)))) }
+Examples:
+  pbfrow check berlin.osm.pbf
+  pbfrow import berlin.osm.pbf berlin.db
+  pbfrow export berlin.db";
+
+/// The program with its commands.
+fn program<'a>(alloc: Global) -> Result<Command<'a>, AllocError>
+    ensures shape { IfOk result (λ c. app_of c ≡ program) }
+    ensures local { IfOk result (λ c. (fields_of c).has_globals ≡ false) }
 {
-    let form = text_of(matches, id)?;
-    if form == "lines" {
-        Some(Form::Lines)
-    } else if form == "pbf" {
-        Some(Form::Pbf)
-    } else {
-        None
-    }
+    let program = Command::new(alloc, "pbfrow")
+        .version("0.1.0")
+        .about("Read, check and import OpenStreetMap PBF files with raw blobs")
+        .after_help(PROGRAM_HELP)
+        .subcommand_required(true);
+    let program = with_reading_commands(alloc, program)?;
+    let program = with_filling_commands(alloc, program)?;
+    with_asking_commands(alloc, program)
 }
 
 fn import_of<'a>(matches: &ArgMatches<'a>) -> Option<Words<'a>>
@@ -101,56 +77,22 @@ fn import_of<'a>(matches: &ArgMatches<'a>) -> Option<Words<'a>>
     })
 }
 
-fn status_of<'a>(matches: &ArgMatches<'a>) -> Option<Words<'a>>
-    ensures { IfSome result (λ w. Says w (codes "status") (rows_of (found_of matches.now))) }
-{
-    Some(Words::Status {
-        database: text_of(matches, "DB")?,
-        size: number_of(matches, "size")?,
-    })
-}
-
-fn export_of<'a>(matches: &ArgMatches<'a>) -> Option<Words<'a>>
-    ensures { IfSome result (λ w. Says w (codes "export") (rows_of (found_of matches.now))) }
-{
-    Some(Words::Export {
-        database: text_of(matches, "DB")?,
-        size: number_of(matches, "size")?,
-        partial: flag_of(matches, "partial"),
-        form: form_of(matches, "form")?,
-    })
-}
-
-fn find_of<'a>(matches: &ArgMatches<'a>) -> Option<Words<'a>>
-    ensures { IfSome result (λ w. Says w (codes "find") (rows_of (found_of matches.now))) }
-{
-    let (kind, id) = read_element(text_of(matches, "ELEMENT")?)?;
-    Some(Words::Find {
-        database: text_of(matches, "DB")?,
-        kind,
-        id,
-    })
-}
-
 /// The command of this name with its arguments.
 fn words_of<'a>(name: &str, matches: &ArgMatches<'a>) -> Option<Words<'a>>
     ensures { IfSome result (λ w. Says w name.now (rows_of (found_of matches.now))) }
 {
-    match name {
-        "list" => Some(Words::List {
+    if name == "import" {
+        return import_of(matches);
+    }
+    match reading_of(name) {
+        Some(reading) => Some(Words::Read {
+            reading,
             file: text_of(matches, "FILE"),
         }),
-        "check" => Some(Words::Check {
-            file: text_of(matches, "FILE"),
+        None => Some(Words::Ask {
+            question: question_of(name, matches)?,
+            database: text_of(matches, "DB")?,
         }),
-        "show" => Some(Words::Show {
-            file: text_of(matches, "FILE"),
-        }),
-        "import" => import_of(matches),
-        "status" => status_of(matches),
-        "export" => export_of(matches),
-        "find" => find_of(matches),
-        _ => None,
     }
 }
 

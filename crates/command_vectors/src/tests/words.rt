@@ -1,7 +1,7 @@
 //! Tests of the words that name a command.
 
 use osm_value::{Form, MemberKind};
-use pbfrow_words::{Words, read_element, read_words};
+use pbfrow_words::{Question, Reading, Words, read_element, read_words};
 use std::test::*;
 
 static IMPORT: [&str; 6] = ["pbfrow", "import", "F", "D", "--from", "47"];
@@ -49,13 +49,19 @@ fn words_of_reading_commands(rt: HostRuntime) {
     assert!(rt;
         matches!(
             read_words(rt.alloc(), LIST.as_slice()),
-            Ok(Words::List { file: None })
+            Ok(Words::Read {
+                reading: Reading::List,
+                file: None
+            })
         )
     );
     assert!(rt;
         matches!(
             read_words(rt.alloc(), CHECK.as_slice()),
-            Ok(Words::Check { file: Some("F") })
+            Ok(Words::Read {
+                reading: Reading::Check,
+                file: Some("F")
+            })
         )
     );
     assert!(rt; read_words(rt.alloc(), SHOW_TWO.as_slice()).is_err());
@@ -83,31 +89,35 @@ fn words_of_database_commands(rt: HostRuntime) {
     assert!(rt;
         matches!(
             read_words(rt.alloc(), STATUS.as_slice()),
-            Ok(Words::Status {
+            Ok(Words::Ask {
                 database: "D",
-                size: Some(85)
+                question: Question::Status { size: Some(85) }
             })
         )
     );
     assert!(rt;
         matches!(
             read_words(rt.alloc(), EXPORT.as_slice()),
-            Ok(Words::Export {
+            Ok(Words::Ask {
                 database: "D",
-                size: None,
-                partial: false,
-                form: Form::Lines
+                question: Question::Export {
+                    size: None,
+                    partial: false,
+                    form: Form::Lines
+                }
             })
         )
     );
     assert!(rt;
         matches!(
             read_words(rt.alloc(), EXPORT_PBF.as_slice()),
-            Ok(Words::Export {
+            Ok(Words::Ask {
                 database: "D",
-                size: None,
-                partial: true,
-                form: Form::Pbf
+                question: Question::Export {
+                    size: None,
+                    partial: true,
+                    form: Form::Pbf
+                }
             })
         )
     );
@@ -119,10 +129,12 @@ fn words_of_find(rt: HostRuntime) {
     assert!(rt;
         matches!(
             read_words(rt.alloc(), FIND.as_slice()),
-            Ok(Words::Find {
+            Ok(Words::Ask {
                 database: "D",
-                kind: MemberKind::Node,
-                id: 2
+                question: Question::Find {
+                    kind: MemberKind::Node,
+                    id: 2
+                }
             })
         )
     );

@@ -1,8 +1,7 @@
 use Rattle.std.proofs.Common.{◌≡◌, ◌∙◌, true, ap, refl, subst, map, List}
 use Rattle.std.specs.Prelude.{Option, IsSomeAnd}
 use Rattle.clap.specs.Words.{Row, Text, app_of, is_simple, subcommand_of}
-use Rattle.pbfrow_words.specs.Definition.{program}
-use Rattle.pbfrow_words.specs.Words.{Says}
+use Rattle.pbfrow_words.specs.Words.{Says, program}
 use Rattle.pbfrow_words.proofs.WordsLemmas.{said_begins_within}
 use Rattle.pbfrow_words.proofs.words.read_words.Goals as goal
 

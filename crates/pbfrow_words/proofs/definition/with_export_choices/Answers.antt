@@ -1,8 +1,0 @@
-use Rattle.std.proofs.Common.{◌∙◌, refl}
-use Rattle.pbfrow_words.proofs.DefinitionLemmas.{made, ruled}
-use Rattle.pbfrow_words.proofs.definition.with_export_choices.Goals as goal
-
-pub returns-clause-shape : goal.returns-clause-shape
-returns-clause-shape c =
-    made _ c.with_argument-2.ensures.shape
-    (ruled (c.in_ok-command.ensures.shape ∙ ruled refl c.partial_flag.ensures.rule) c.form_option.ensures.rule)

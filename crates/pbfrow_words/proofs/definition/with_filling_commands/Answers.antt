@@ -1,9 +1,0 @@
-use Rattle.std.proofs.Common.{◌∙◌, refl}
-use Rattle.clap.specs.Words.{app_of}
-use Rattle.pbfrow_words.proofs.DefinitionLemmas.{gained, made}
-use Rattle.pbfrow_words.proofs.definition.with_filling_commands.Goals as goal
-
-pub returns-clause-shape : goal.returns-clause-shape
-returns-clause-shape c =
-    made _ c.with_command-2.ensures.shape
-    (gained (c.in_ok-command.ensures.shape ∙ gained {x = app_of c.args.command} refl c.in_ok-import.ensures.shape) c.in_ok-status.ensures.shape)

@@ -1,0 +1,11 @@
+-- The command that fills a database, as clap's model of a command has it.
+use Rattle.std.specs.Prelude.{codes}
+use Rattle.clap.specs.Words.{App, new_app, with_rule, with_subcommand}
+use Rattle.pbfrow_words.specs.Arguments.{offset_option, required_argument}
+
+abbrev pub import_command : App
+import_command = with_rule (with_rule (with_rule (new_app (codes "import"))
+    (required_argument (codes "FILE"))) (required_argument (codes "DB"))) (offset_option (codes "from"))
+
+abbrev pub with_filling_commands : App → App
+with_filling_commands program = with_subcommand program import_command.top

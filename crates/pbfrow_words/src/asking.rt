@@ -1,0 +1,214 @@
+//! The commands that ask a database: `status`, `export`, `find`.
+
+ghost use Rattle.std.specs.Prelude.{◌≡◌, false, IfOk, IfSome, codes};
+ghost use Rattle.clap.specs.Words.{app_of, first_of, found_of, rows_of, rule_of};
+ghost use Rattle.clap.specs.declared.builder.command.Command.TheViews.{out-Command as fields_of};
+ghost use Rattle.pbfrow_words.specs.Arguments.{offset_option};
+ghost use Rattle.pbfrow_words.specs.Asking as definitions;
+ghost use Rattle.pbfrow_words.specs.Asking.{Asks, IsForm};
+
+use crate::arguments::{
+    database, flag_of, new_command, number_of, offset_option, required_argument, text_of,
+    with_argument, with_command,
+};
+use crate::element::read_element;
+use clap::{Arg, ArgAction, ArgMatches, Command};
+use osm_value::{Form, MemberKind};
+use std::alloc::{AllocError, Global};
+
+/// What is asked of a database. A `size` is that of the whole PBF file in bytes, at most 2^62.
+#[derive(Clone, Copy, Debug, PartialEq, Eq)]
+pub enum Question {
+    Status {
+        size: Option<u64>,
+    },
+    Export {
+        size: Option<u64>,
+        /// Whether what is held is written even if blobs are missing.
+        partial: bool,
+        form: Form,
+    },
+    /// The element of this kind and id, as `read_element` reads it.
+    Find {
+        kind: MemberKind,
+        id: i64,
+    },
+}
+
+const STATUS_HELP: &str =
+    "Prints 'gap FROM TO' for each byte range of the file that no held blob covers,
+up to --size or, without it, up to the greatest end of a held blob; and last
+'blobs B end N gaps G'.
+
+Exit status: 0 if the database was read, else 1.
+
+Example:
+  pbfrow status berlin.db --size 73400320";
+
+const EXPORT_HELP: &str =
+    "Writes the elements of all held blobs to standard output, in the order of the
+file. Nothing is written if a blob is missing (fault 67) or ends past --size
+(fault 70); without --size the greatest end of a held blob counts, so blobs that
+are missing at the end of the file aren't noticed.
+
+Exit status: 0 if all was written, else 1.
+
+Examples:
+  pbfrow export berlin.db --size 73400320
+  pbfrow export berlin.db --form pbf > berlin.osm.pbf";
+
+const FIND_HELP: &str =
+    "Prints 'OFFSET POSITION LINE' for each time that the element is held: the offset
+of its blob, its position in the blob from 0, and its line.
+
+Exit status: 0 if the database was read, also if nothing was found, else 1.
+
+Examples:
+  pbfrow find berlin.db n240090160
+  pbfrow find berlin.db w-2";
+
+fn form_option<'a>(alloc: Global) -> Arg<'a>
+    ensures rule { rule_of result ≡ definitions.form_option }
+    ensures local { result.global ≡ false }
+{
+    Arg::new(alloc, "form")
+        .long("form")
+        .value_name("FORM")
+        .default_value("lines")
+        .help("Output format: lines or pbf")
+}
+
+fn partial_flag<'a>(alloc: Global) -> Arg<'a>
+    ensures rule { rule_of result ≡ definitions.partial_flag }
+    ensures local { result.global ≡ false }
+{
+    Arg::new(alloc, "partial")
+        .long("partial")
+        .action(ArgAction::SetTrue)
+        .help("Export what is held even if blobs are missing")
+}
+
+fn size_option<'a>(alloc: Global) -> Arg<'a>
+    ensures rule { rule_of result ≡ offset_option (codes "size") }
+    ensures local { result.global ≡ false }
+{
+    offset_option(alloc, "size", "Size of the whole PBF file in bytes")
+}
+
+fn status_command<'a>(alloc: Global) -> Result<Command<'a>, AllocError>
+    ensures shape { IfOk result (λ c. app_of c ≡ definitions.status_command) }
+    ensures local { IfOk result (λ c. (fields_of c).has_globals ≡ false) }
+{
+    let command = new_command(
+        alloc,
+        "status",
+        "List the byte ranges missing from a database",
+        STATUS_HELP,
+    );
+    let command = with_argument(command, database(alloc))?;
+    with_argument(command, size_option(alloc))
+}
+
+fn with_export_choices<'a>(alloc: Global, command: Command<'a>) -> Result<Command<'a>, AllocError>
+    requires { (fields_of command).has_globals ≡ false }
+    ensures shape { IfOk result (λ c. app_of c ≡ definitions.with_export_choices (app_of command.entry)) }
+    ensures local { IfOk result (λ c. (fields_of c).has_globals ≡ false) }
+{
+    let command = with_argument(command, partial_flag(alloc))?;
+    with_argument(command, form_option(alloc))
+}
+
+fn export_command<'a>(alloc: Global) -> Result<Command<'a>, AllocError>
+    ensures shape { IfOk result (λ c. app_of c ≡ definitions.export_command) }
+    ensures local { IfOk result (λ c. (fields_of c).has_globals ≡ false) }
+{
+    let command = new_command(
+        alloc,
+        "export",
+        "Write the elements held in a database",
+        EXPORT_HELP,
+    );
+    let command = with_argument(command, database(alloc))?;
+    let command = with_argument(command, size_option(alloc))?;
+    with_export_choices(alloc, command)
+}
+
+fn find_command<'a>(alloc: Global) -> Result<Command<'a>, AllocError>
+    ensures shape { IfOk result (λ c. app_of c ≡ definitions.find_command) }
+    ensures local { IfOk result (λ c. (fields_of c).has_globals ≡ false) }
+{
+    let command = new_command(alloc, "find", "Find an element in a database", FIND_HELP);
+    let command = with_argument(command, database(alloc))?;
+    let element = required_argument(
+        alloc,
+        "ELEMENT",
+        "Element: n, w or r followed by an id, such as w-2",
+    );
+    with_argument(command, element)
+}
+
+pub(crate) fn with_asking_commands<'a>(
+    alloc: Global,
+    command: Command<'a>,
+) -> Result<Command<'a>, AllocError>
+    requires { (fields_of command).has_globals ≡ false }
+    ensures shape { IfOk result (λ c. app_of c ≡ definitions.with_asking_commands (app_of command.entry)) }
+    ensures local { IfOk result (λ c. (fields_of c).has_globals ≡ false) }
+{
+    let status = status_command(alloc)?;
+    let export = export_command(alloc)?;
+    let find = find_command(alloc)?;
+    let command = with_command(command, status)?;
+    let command = with_command(command, export)?;
+    with_command(command, find)
+}
+
+fn form_of(matches: &ArgMatches, id: &str) -> Option<Form>
+    ensures { IfSome result (λ form. IsForm form (first_of id.now (rows_of (found_of matches.now)))) }
+{
+    let form = text_of(matches, id)?;
+    if form == "lines" {
+        Some(Form::Lines)
+    } else if form == "pbf" {
+        Some(Form::Pbf)
+    } else {
+        None
+    }
+}
+
+fn status_of(matches: &ArgMatches) -> Option<Question>
+    ensures { IfSome result (λ q. Asks q (codes "status") (rows_of (found_of matches.now))) }
+{
+    Some(Question::Status {
+        size: number_of(matches, "size")?,
+    })
+}
+
+fn export_of(matches: &ArgMatches) -> Option<Question>
+    ensures { IfSome result (λ q. Asks q (codes "export") (rows_of (found_of matches.now))) }
+{
+    Some(Question::Export {
+        size: number_of(matches, "size")?,
+        partial: flag_of(matches, "partial"),
+        form: form_of(matches, "form")?,
+    })
+}
+
+fn find_of(matches: &ArgMatches) -> Option<Question>
+    ensures { IfSome result (λ q. Asks q (codes "find") (rows_of (found_of matches.now))) }
+{
+    let (kind, id) = read_element(text_of(matches, "ELEMENT")?)?;
+    Some(Question::Find { kind, id })
+}
+
+/// The question that the command of this name asks.
+pub(crate) fn question_of(name: &str, matches: &ArgMatches) -> Option<Question>
+    ensures { IfSome result (λ q. Asks q name.now (rows_of (found_of matches.now))) }
+{
+    match name {
+        "status" => status_of(matches),
+        "export" => export_of(matches),
+        "find" => find_of(matches),
+        _ => None,
+    }
+}

@@ -1,0 +1,58 @@
+//! The command that fills a database: `import`.
+
+ghost use Rattle.std.specs.Prelude.{◌≡◌, false, IfOk};
+ghost use Rattle.clap.specs.Words.{app_of};
+ghost use Rattle.clap.specs.declared.builder.command.Command.TheViews.{out-Command as fields_of};
+ghost use Rattle.pbfrow_words.specs.Filling as definitions;
+
+use crate::arguments::{
+    database, new_command, offset_option, required_argument, with_argument, with_command,
+};
+use clap::Command;
+use std::alloc::{AllocError, Global};
+
+const IMPORT_HELP: &str =
+    "The database is made if it is missing or empty. Prints 'OFFSET stored COUNT' for
+each blob, 'OFFSET held' if it is held already, or the line of its fault; after
+a bad or refused blob it goes on with the next. Last, once the input has come to
+its end, it prints 'blobs stored S held H bad B refused R'.
+
+A blob is stored whole or not at all, even if the run is killed or the machine
+stops: run the same import again to complete it. Blobs may come in any order,
+over any number of runs. With --from the first N bytes of FILE are read and
+dropped, and a blob has to begin there.
+
+Exit status: 0 if all blobs are held, else 1.
+
+Examples:
+  pbfrow import berlin.osm.pbf berlin.db
+  pbfrow import berlin.osm.pbf berlin.db --from 1048576";
+
+fn import_command<'a>(alloc: Global) -> Result<Command<'a>, AllocError>
+    ensures shape { IfOk result (λ c. app_of c ≡ definitions.import_command) }
+    ensures local { IfOk result (λ c. (fields_of c).has_globals ≡ false) }
+{
+    let from = offset_option(alloc, "from", "Start offset in FILE, in bytes");
+    let command = new_command(
+        alloc,
+        "import",
+        "Import the blobs of a PBF file into a database",
+        IMPORT_HELP,
+    );
+    let file = required_argument(alloc, "FILE", "PBF file");
+    let command = with_argument(command, file)?;
+    let command = with_argument(command, database(alloc))?;
+    with_argument(command, from)
+}
+
+pub(crate) fn with_filling_commands<'a>(
+    alloc: Global,
+    command: Command<'a>,
+) -> Result<Command<'a>, AllocError>
+    requires { (fields_of command).has_globals ≡ false }
+    ensures shape { IfOk result (λ c. app_of c ≡ definitions.with_filling_commands (app_of command.entry)) }
+    ensures local { IfOk result (λ c. (fields_of c).has_globals ≡ false) }
+{
+    let import = import_command(alloc)?;
+    with_command(command, import)
+}
