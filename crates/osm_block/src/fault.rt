@@ -9,7 +9,7 @@ use pbf_wire::WireFault;
 use std::alloc::{AllocError, AllocFailed};
 use thiserror::Error;
 
-/// Why a primitive block can't be read: the first that stands, of the block, then of its groups and
+/// Why a primitive block can't be read: the first that applies, of the block, then of its groups and
 /// of their messages in order.
 #[derive(Clone, Copy, Debug, PartialEq, Eq, Error)]
 pub enum BlockFault {
@@ -89,7 +89,7 @@ impl BlockFault {
     }
 }
 
-/// A fault of the block, or want of memory.
+/// A fault of the block, or that memory was refused.
 #[derive(Clone, Copy, Debug, PartialEq, Eq, Error)]
 pub enum BlockError {
     #[error("out of memory")]

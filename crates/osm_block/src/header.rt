@@ -242,7 +242,7 @@ fn last_int(bytes: &[u8], number: u32) -> Option<i64>
 /// `UnknownFeature` with the feature's index among the required ones.
 #[tactic(auto, unfolding(crate::specs::HeaderBlock::header_fault))]
 pub fn read_header_block(bytes: &[u8]) -> Result<HeaderBlock<'_>, HeaderFault>
-    // It is refused exactly where a fault stands, with the first.
+    // It is refused exactly where a fault applies, with the first.
     ensures fault { Answers (header_fault bytes.now) result }
     ensures parts { IfOk result (λ h. h ≡ header_value (fields bytes.now)) }
 {

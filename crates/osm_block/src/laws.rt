@@ -17,12 +17,12 @@ pub fn one_list_of_numbers()
     ensures { (us vs ds : List ℤ) → Diff us ds → Diff vs ds → us ≡ vs }
 {}
 
-/// A block that says some elements has no fault.
+/// A block that decodes to some elements has no fault.
 pub fn elements_or_a_fault()
     ensures { (es : List Element) (w : List ℕ) → Block es w → fault w ≡ None }
 {}
 
-/// A block that has no fault says some elements.
+/// A block that has no fault decodes to some elements.
 pub fn faultless_blocks_say()
     ensures { FaultlessBlocksSay }
 {}

@@ -20,7 +20,7 @@ abbrev pub ExportIsOwn : Result (Unit {0}) ExportFault → Type 0
 ExportIsOwn (Err (Store fault)) = ¬ (IsForeign fault)
 ExportIsOwn _ = Unit {0}
 
--- what only writes fails at a write where the sink has failed, and of the store's faults tells want of memory alone
+-- what only writes fails at a write where the sink has failed, and of the store's faults tells refused memory alone
 abbrev pub WriteHasCause : Bool → Result (Unit {0}) ExportFault → Type 0
 WriteHasCause failed (Err WriteFailed) = IsTrue failed
 WriteHasCause failed (Err (Store fault)) = fault ≡ store.Memory

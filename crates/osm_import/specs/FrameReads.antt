@@ -17,7 +17,7 @@ use Rattle.osm_import.specs.declared.stream.fault.StreamFault.{StreamFault}
 abbrev pub HasFrame : Framing → Known → Type 0
 HasFrame f left = FrameWaits f ⊎ ((f.rest ≡ []) × IsAtEnd left)
 
--- Why no frame waits: a fault stands, or the input ended inside a frame; a read failed, with no frame and no fault in what
+-- Why no frame waits: a fault applies, or the input ended inside a frame; a read failed, with no frame and no fault in what
 -- was read; or memory was refused.
 abbrev pub LacksFrame : Framing → Known → Bool → Stop → Type 0
 LacksFrame f left failed (Frame fault) = FaultStands fault f ⊎ (IsUnfinished fault f × IsAtEnd left)
@@ -44,7 +44,7 @@ IsParted r = r.left ≡ prepend_known r.read r.behind
 abbrev pub framing_of : ℕ → List ℕ → Framing
 framing_of offset bytes = record { offset = offset; rest = bytes; lent = [] }
 
--- A whole frame was read, or a fault stands in what was read.
+-- A whole frame was read, or a fault applies to what was read.
 abbrev pub IsReady : Reading → Type 0
 IsReady r = (front more : List ℕ) × (r.read ≡ front ++ more) × IsFull (framing_of r.offset front)
 

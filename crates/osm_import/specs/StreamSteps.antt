@@ -15,7 +15,7 @@ use Rattle.osm_import.specs.declared.stream.run.Delivered.{Delivered}
 use Rattle.osm_import.specs.declared.stream.fault.Stop.{Stop}
 use Rattle.osm_import.specs.declared.stream.fault.Stop.TheVariants.{Frame, NoHeaderFirst, WriteFailed, Store, ReadFailed, BlobLimit}
 
--- the framer takes no more: a frame waits or a fault stands
+-- the framer takes no more: a frame waits or a fault applies
 abbrev pub IsFull : Framing → Type 0
 IsFull f = FrameWaits f ⊎ ((fault : FrameFault) × FaultStands fault f)
 
@@ -23,7 +23,7 @@ IsFull f = FrameWaits f ⊎ ((fault : FrameFault) × FaultStands fault f)
 abbrev pub HasNoFrame : ℕ → List ℕ → Type 0
 HasNoFrame offset bytes = (front more : List ℕ) → bytes ≡ front ++ more → IsFull (record { offset = offset; rest = front; lent = [] }) → ⊥
 
--- No frame ends, and no fault stands, before the end of what the framer holds.
+-- No frame ends, and no fault applies, before the end of what the framer holds.
 abbrev pub IsBegun : Framing → Type 0
 IsBegun f = (front more : List ℕ) → f.rest ≡ front ++ more → 0 < length more → IsFull (record { offset = f.offset; rest = front; lent = [] }) → ⊥
 

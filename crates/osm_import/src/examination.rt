@@ -16,7 +16,7 @@ use thiserror::Error;
 /// The greatest offset at which a frame ends: 2^62.
 pub(crate) const MAX_OFFSET: u64 = 4_611_686_018_427_387_904;
 
-/// Why a delivery isn't found good: its first fault, or want of memory.
+/// Why a delivery isn't found good: its first fault, or that memory was refused.
 #[derive(Clone, Copy, Debug, PartialEq, Eq, Error)]
 pub enum ExamineFault {
     #[error("{0}")]

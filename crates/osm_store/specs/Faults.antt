@@ -35,7 +35,7 @@ fault_of_unknown_code code.CannotOpen = Disk
 fault_of_unknown_code code.Closed = Disk
 fault_of_unknown_code _ = NotThisStore None
 
--- over tables that may be another program's: what is no want of memory or room, no interruption and no failure of the disk
+-- over tables that may be another program's: what is neither memory nor room, no interruption and no failure of the disk
 abbrev pub fault_over_unknown : Error → StoreFault
 fault_over_unknown (SqliteFailure c) = fault_of_unknown_code c
 fault_over_unknown _ = NotThisStore None

@@ -62,7 +62,7 @@ impl<S: Alter, L: StoreLayout> BlobStore<S, L> {
     /// Makes the tables of a store in a database that has none, in one transaction.
     ///
     /// A fault hands the connection back. It is `NotThisStore(None)` where the database has tables, or for a
-    /// cause that is no want of memory or room, no step limit and no failure of the disk.
+    /// cause other than memory or room, no step limit and no failure of the disk.
     pub fn create(connection: Connection<S>) -> Result<BlobStore<S, L>, (StoreFault, Connection<S>)>
         requires { (state S.Store connection).in_transaction ≡ false }
         ensures empty { IfOk result (λ store. HasCleanDisk (state S.Store store.connection) → Holds L.LAYOUT (state S.Store store.connection) empty) }

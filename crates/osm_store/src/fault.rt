@@ -121,7 +121,7 @@ fn fault_of_unknown_code(code: ErrorCode) -> StoreFault
     }
 }
 
-/// What a column that doesn't read as wanted means: a row of no map, or want of memory.
+/// What a column that doesn't read as wanted means: a row of no map, or that memory was refused.
 pub(crate) fn unread(error: SqlError) -> StoreFault
     ensures exact { result ≡ unread_fault error }
     ensures unnamed { NamesNoVersion result }

@@ -45,7 +45,7 @@ pub trait Reader {
     /// So far the disk has returned what was written.
     ghost is_honest: { Self → Type 0 };
 
-    /// The store needn't be opened again.
+    /// The store is still usable, and needn't be opened anew.
     ghost is_open: { Self → Type 0 };
 
     /// How many calls have answered a fault, up to 2 ^ 64 - 1.

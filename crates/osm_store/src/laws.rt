@@ -66,7 +66,7 @@ pub fn holds_what_was_left<S: Alter, L: StoreLayout>(
     let _opened = connection;
 }
 
-/// A store in memory can always go on: its disk returns what was written, and it needn't be opened again.
+/// A store in memory stays usable: its disk returns what was written, and it is still open after any answer.
 pub fn memory_goes_on<L: StoreLayout>(store: &BlobStore<MemStore, L>)
     ensures { HasCleanDisk (state over_memory store.now.connection) × IsTrue (state over_memory store.now.connection).is_open }
 {

@@ -30,7 +30,7 @@ pub fn no_frame_begins_another()
     ensures whole { (type blob kind other w rest : List ℕ) → Frame type blob w → Frame kind other (w ++ rest) → rest ≡ [] }
 {}
 
-/// Where a frame stands at the front, no fault stands.
+/// Where a frame stands at the front, no fault applies.
 pub fn frame_or_fault()
     ensures apart { (fault : FrameFault) (type blob w rest : List ℕ) → Frame type blob w → Stands fault (w ++ rest) → ⊥ }
     ensures one { (v : List ℕ) (fault other : FrameFault) → FirstFault fault v → FirstFault other v → fault ≡ other }
@@ -57,7 +57,7 @@ pub fn frame_waits()
     ensures read { (f : Framing) (x : ℕ × List ℕ) → waiting f ≡ Ok (Some x) → (x ≡ (f.offset, f.rest)) × FrameWaits f }
 {}
 
-/// A fault stands in a framer exactly where the first fault of its rest is one that no further bytes mend, or where the
+/// A fault applies in a framer exactly where the first fault of its rest is one that no further bytes mend, or where the
 /// frame would end above 2^62.
 pub fn fault_stands()
     ensures stands { (f : Framing) (fault : FrameFault) → FaultStands fault f → waiting f ≡ Err fault }

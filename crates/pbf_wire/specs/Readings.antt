@@ -43,7 +43,7 @@ row_within (suc left) at (b ∷ bs) = number_and (placed at (number_at (b ∷ bs
 abbrev pub row : List ℕ → List (Result ℕ WireFault)
 row w = row_within (length w) 0 w
 
--- the numbers of a packed payload; and why it is no row of numbers
+-- the numbers of a packed payload; and why it is no packed array
 abbrev pub numbers : List ℕ → List ℕ
 numbers w = front (row w)
 

@@ -8,6 +8,6 @@ abbrev pub Row : List ℕ → List ℕ → Type 0
 Row [] w = w ≡ []
 Row (n ∷ ns) w = (first rest : List ℕ) × Num n first × Row ns rest × (w ≡ first ++ rest)
 
--- w is no row of numbers: its first bytes are one, and no number begins the rest.
+-- w is no packed array: its first bytes are one, and no number begins the rest.
 abbrev pub RowFault : WireFault → List ℕ → Type 0
 RowFault fault w = (ns : List ℕ) × (fault.at < length w) × Row ns (take fault.at w) × NumberFault fault.kind (drop fault.at w)

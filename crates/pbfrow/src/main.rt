@@ -27,7 +27,7 @@ use std::{env, io};
 /// The exit status where a fault was printed, or the output couldn't be written.
 const FAULTY: u8 = 1;
 
-/// The exit status where the words can't be read.
+/// The exit status for invalid arguments.
 const UNREADABLE: u8 = 2;
 
 fn main(rt: HostRuntime) -> ExitCode {
@@ -57,7 +57,7 @@ fn refuse_bytes(rt: &HostRuntime, error: io::Error) -> io::Result<u8> {
     if error.kind() != ErrorKind::InvalidData {
         return Err(error);
     }
-    // the words can't be read, whether or not anyone is told
+    // the arguments are invalid, whether or not anyone is told
     let _told = eprintln!(rt; "pbfrow: a word of the command isn't UTF-8");
     Ok(UNREADABLE)
 }
@@ -69,8 +69,8 @@ fn answer<'a>(rt: HostRuntime, words: &'a [&'a str]) -> io::Result<u8> {
     }
 }
 
-/// Prints the help that was asked for, or why the words can't be read, and answers the exit status. Where the help can't
-/// be written that is an error; words that can't be read have their status also where nobody can be told.
+/// Prints the help that was asked for, or why the arguments are invalid, and answers the exit status. Where the help can't
+/// be written that is an error; invalid arguments have their status also where nobody can be told.
 fn refuse(rt: HostRuntime, error: Error) -> io::Result<u8> {
     let printed = error.print(&rt);
     if !error.use_stderr() {

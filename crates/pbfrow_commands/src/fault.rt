@@ -10,7 +10,7 @@ use osm_store::StoreFault;
 use std::io;
 use std::io::Write;
 
-/// Writes `fault NUMBER NAME at OFFSET`, the offset being that of the frame at which the fault stands.
+/// Writes `fault NUMBER NAME at OFFSET`, the offset being that of the frame at which the fault applies.
 pub(crate) fn print_fault<W: Write>(number: u8, name: &str, at: u64, out: &mut W) -> io::Result<()>
     ensures { OnOk result (Appends (W.contents out.old) (W.contents out.new) (fault_line number name.now at)) }
 {

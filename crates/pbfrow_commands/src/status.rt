@@ -1,4 +1,4 @@
-//! The command `status`: what a store lacks of its file.
+//! The command `status`: the byte ranges of its file that a store lacks.
 
 ghost use Rattle.std.specs.Prelude.{◌≡◌, IfOk, IfErr};
 ghost use Rattle.osm_value.specs.Sink.{Writes};

@@ -39,7 +39,7 @@ fn is_cut(fault: FrameFault) -> bool
     )
 }
 
-/// Whether the framer takes no more: a frame waits in it, or a fault stands.
+/// Whether the framer takes no more: a frame waits in it, or a fault applies.
 fn is_full(framer: &Framer) -> bool
     requires { framer.now.lent ≡ [] }
     ensures { (result ≡ true) ↔ IsFull framer.now }

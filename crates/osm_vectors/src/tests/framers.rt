@@ -32,7 +32,7 @@ fn parts_of_two_frames(rt: HostRuntime) -> Result<(), Fail> {
     Ok(())
 }
 
-/// A fault stands once it is seen: nothing more is taken, and each call answers it.
+/// A fault applies once it is seen: nothing more is taken, and each call answers it.
 #[test]
 fn standing_faults(rt: HostRuntime) -> Result<(), Fail> {
     let rows: [([u8; 4], FrameFault); 2] = [
