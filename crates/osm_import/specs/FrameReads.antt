@@ -17,8 +17,8 @@ use Rattle.osm_import.specs.declared.stream.fault.StreamFault.{StreamFault}
 abbrev pub HasFrame : Framing → Known → Type 0
 HasFrame f left = FrameWaits f ⊎ ((f.rest ≡ []) × IsAtEnd left)
 
--- Why no frame waits: a fault applies, or the input ended inside a frame; a read failed, with no frame and no fault in what
--- was read; or memory was refused.
+-- Why no frame waits: a fault applies, or the input ended inside a frame; a read failed, with no frame and no fault in
+-- what was read; or memory was refused.
 abbrev pub LacksFrame : Framing → Known → Bool → Stop → Type 0
 LacksFrame f left failed (Frame fault) = FaultStands fault f ⊎ (IsUnfinished fault f × IsAtEnd left)
 LacksFrame f left failed ReadFailed = (failed ≡ true) × (IsFull f → ⊥)

@@ -69,8 +69,8 @@ fn answer<'a>(rt: HostRuntime, words: &'a [&'a str]) -> io::Result<u8> {
     }
 }
 
-/// Prints the help that was asked for, or why the arguments are invalid, and answers the exit status. Where the help can't
-/// be written that is an error; invalid arguments have their status also where nobody can be told.
+/// Prints the help that was asked for, or why the arguments are invalid, and answers the exit status. Where the help
+/// can't be written that is an error; invalid arguments have their status also where nobody can be told.
 fn refuse(rt: HostRuntime, error: Error) -> io::Result<u8> {
     let printed = error.print(&rt);
     if !error.use_stderr() {
