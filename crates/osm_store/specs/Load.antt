@@ -1,6 +1,5 @@
 -- What queries answer, and what their rows stand for.
 pub mod Loading
-pub mod TableQueries
 pub mod TableElements
 pub mod TableParts
 pub mod TableAnswers

@@ -16,8 +16,7 @@ use Rattle.sqlite_trees.proofs.ListLemmas.{ascending_weaker, ascending-filter}
 use Rattle.osm_value.specs.declared.element.MemberKind.{MemberKind}
 use Rattle.osm_value.specs.Value.{Text, MemberValue}
 use Rattle.osm_value.specs.Elements.{tags_of_element, kind_of_element, id_of_element}
-use Rattle.osm_store.specs.Schema.Tables.{table_schema}
-use Rattle.osm_store.specs.Load.TableQueries.{select_elements_text, select_tags_text, select_links_text, find_elements_text, select_its_tags_text, select_its_links_text}
+use Rattle.osm_store.specs.Schema.Tables.{table_schema, select_elements_text, select_tags_text, select_links_text, find_elements_text, select_its_tags_text, select_its_links_text}
 use Rattle.osm_store.specs.Rows.{Placed, element_code, is_in, is_of}
 use Rattle.osm_store.specs.Load.TableParts.{is_part_at}
 use Rattle.osm_store.specs.TableRows.{Part, element_row, tags_at, tag_row, links_at, links_of, link_row}

@@ -6,8 +6,7 @@ use Rattle.sqlite_sql.specs.declared.ops.CompareOp.TheVariants.{Eq}
 use Rattle.sqlite_tied.specs.Compute.{everything}
 use Rattle.sqlite.specs.Listing.{understood, reads_listing}
 use Rattle.sqlite.proofs.Callers.{IsPlain, command_of}
-use Rattle.osm_store.specs.Schema.Tables.{table_schema}
-use Rattle.osm_store.specs.Load.TableQueries.{select_elements_text, select_tags_text, select_links_text, find_elements_text, select_its_tags_text, select_its_links_text}
+use Rattle.osm_store.specs.Schema.Tables.{table_schema, select_elements_text, select_tags_text, select_links_text, find_elements_text, select_its_tags_text, select_its_links_text}
 use Rattle.osm_store.proofs.LoadLemmas.OneTable.{select}
 use Rattle.osm_store.proofs.LoadLemmas.BodyTexts.{compares}
 
