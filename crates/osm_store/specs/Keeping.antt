@@ -43,15 +43,6 @@ pub record OnlyReads {S T : Type 0} (holds leaves : S → HeldMap → Type 0) (l
   pub own : (held : HeldMap) → holds old held → is_honest new → IfErr result (λ fault. ¬ (IsForeign fault))
   pub counted : failures new ≡ failures_after result (failures old)
 
--- any number of reads has kept what the store holds, if it can go on, and what a crash may leave
-pub record Rereads {S T E : Type 0} (holds leaves : S → HeldMap → Type 0) (leaves_a_map is_honest is_open : S → Type 0) (old : S) (result : Result T E) (new : S) : Type 0 where
-  pub honest : is_honest new → is_honest old
-  pub open_if : is_open new → is_open old
-  pub ok : OnOk result (is_honest new → (held : HeldMap) → holds old held → holds new held)
-  pub err : OnErr result (is_honest new → is_open new → (held : HeldMap) → holds old held → holds new held)
-  pub crash : is_honest new → (held : HeldMap) → leaves new held → leaves old held
-  pub whole : is_honest new → leaves_a_map old → leaves_a_map new
-
 -- the map with one more blob
 abbrev pub with_blob : HeldMap → ℕ → Blob → HeldMap
 with_blob held off blob = insert held off blob
