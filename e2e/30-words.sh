@@ -17,7 +17,7 @@ expect "a form that isn't there" 2 "" export words.db --form xml
 expect "words of two commands" 2 "" status words.db --partial
 [ -e words.db ] && fail "words that can't be read touch no file" || pass "words that can't be read touch no file"
 expect "a word that isn't UTF-8" 2 "" list "$(printf 'x\xff')"
-lines "pbfrow: a word of the command isn't UTF-8" > want.txt
+lines "pbfrow: an argument isn't valid UTF-8" > want.txt
 same "standard error says that a word isn't UTF-8" stderr.txt want.txt
 
 # words that can't be read end with 2 also where nobody can be told why

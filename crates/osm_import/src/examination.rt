@@ -1,15 +1,17 @@
 //! What a delivery is: a good blob, or its first fault.
 
-ghost use Rattle.std.specs.Prelude.{◌≡◌, [], length, IfOk, IfErr, OnOk, MatchOption};
+ghost use Rattle.std.specs.Prelude.{◌≡◌, ℕ, List, [], length, Some, Ok, IfOk, IfErr, OnOk, MatchOption};
+ghost use Rattle.pbf_frame.specs.Frame.{whole_at};
+ghost use Rattle.pbf_frame.specs.View.{found};
 ghost use Rattle.pbf_frame.specs.declared.kind.Kind.TheVariants.{OsmHeader, OsmData};
-ghost use Rattle.osm_import.specs.Good.{IsGood, HasElements};
+ghost use Rattle.osm_import.specs.Good.{IsGood, HasElements, HasHeader};
 ghost use Rattle.osm_import.specs.ExamineFaults.{examine_number_of, examine_name_of};
 ghost use Rattle.osm_import.specs.Bad.{IsFinding, CanStand, IsMisplaced, IsBadBlob, IsBlobFinding};
 
 use crate::fault::Fault;
-use osm_block::{BlockError, read_block, read_header_block};
+use osm_block::{BlockError, HeaderBlock, read_block, read_header_block};
 use osm_value::Element;
-use pbf_frame::{FrameFault, Kind, raw, whole_frame};
+use pbf_frame::{Frame, FrameFault, Kind, raw, whole_frame};
 use std::alloc::Global;
 use thiserror::Error;
 
@@ -47,12 +49,21 @@ impl ExamineFault {
     }
 }
 
-/// A good delivery: the kind of its frame, how many bytes the frame has, and its elements, whose texts lie in it.
+/// A good delivery: the kind of its frame, how many bytes the frame has, its elements, whose texts lie in it, and its
+/// header block, where it is an OSMHeader.
 #[derive(Debug, Drop)]
 pub struct Good<'a> {
     pub kind: Kind,
     pub length: u64,
     pub elements: Vec<Element<'a>>,
+    pub header: Option<HeaderBlock<'a>>,
+}
+
+/// What a blob without a fault holds: elements, or a header block.
+#[derive(Drop)]
+struct Content<'a> {
+    elements: Vec<Element<'a>>,
+    header: Option<HeaderBlock<'a>>,
 }
 
 /// Why a frame of this kind and length may not stand at this offset.
@@ -69,9 +80,10 @@ fn placing_fault(off: u64, kind: Kind, length: u64) -> Option<Fault>
     }
 }
 
-/// Whether the blob of an OSMHeader holds a header block without a fault.
-fn check_header(blob: &[u8]) -> Result<(), Fault>
+/// The header block in the blob of an OSMHeader.
+fn read_header(blob: &[u8]) -> Result<HeaderBlock<'_>, Fault>
     ensures ok { OnOk result (HasElements OsmHeader blob.now []) }
+    ensures header { IfOk result (λ header. HasHeader OsmHeader blob.now (Some header)) }
     ensures err { IfErr result (IsBadBlob OsmHeader blob.now) }
 {
     let block = match raw(blob) {
@@ -79,7 +91,7 @@ fn check_header(blob: &[u8]) -> Result<(), Fault>
         Err(fault) => return Err(Fault::Blob(fault)),
     };
     match read_header_block(block) {
-        Ok(_) => Ok(()),
+        Ok(header) => Ok(header),
         Err(fault) => Err(Fault::Header(fault)),
     }
 }
@@ -100,22 +112,57 @@ fn read_data(alloc: Global, blob: &[u8]) -> Result<Vec<Element<'_>>, ExamineFaul
     }
 }
 
-/// The elements of a blob of this kind.
-fn read_elements(alloc: Global, kind: Kind, blob: &[u8]) -> Result<Vec<Element<'_>>, ExamineFault>
-    ensures ok { IfOk result (λ es. HasElements kind blob.now es.items) }
+/// What a blob of this kind holds.
+fn read_content(alloc: Global, kind: Kind, blob: &[u8]) -> Result<Content<'_>, ExamineFault>
+    ensures ok { IfOk result (λ content. HasElements kind blob.now content.elements.items) }
+    ensures header { IfOk result (λ content. HasHeader kind blob.now content.header) }
     ensures err { IfErr result (IsBlobFinding kind blob.now) }
 {
     match kind {
-        Kind::OsmData => read_data(alloc, blob),
-        Kind::Other => Ok(Vec::new(alloc)),
-        Kind::OsmHeader => match check_header(blob) {
-            Ok(()) => Ok(Vec::new(alloc)),
+        Kind::OsmData => Ok(Content {
+            elements: read_data(alloc, blob)?,
+            header: None,
+        }),
+        Kind::Other => Ok(Content {
+            elements: Vec::new(alloc),
+            header: None,
+        }),
+        Kind::OsmHeader => match read_header(blob) {
+            Ok(header) => Ok(Content {
+                elements: Vec::new(alloc),
+                header: Some(header),
+            }),
             Err(fault) => Err(ExamineFault::Bad(fault)),
         },
     }
 }
 
-/// The kind, the length and the elements of a good delivery, or its first fault.
+/// What `examine` says of the bytes that are this frame.
+pub fn examine_frame<'a>(
+    alloc: Global,
+    off: u64,
+    frame: &Frame<'a>,
+) -> Result<Good<'a>, ExamineFault>
+    ensures good { (bytes : List ℕ) → whole_at bytes ≡ Ok (found frame.now) → IfOk result (λ good. IsGood off bytes good.kind good.elements.items) }
+    ensures length { (bytes : List ℕ) → whole_at bytes ≡ Ok (found frame.now) → IfOk result (λ good. good.length ≡ length bytes) }
+    ensures header { IfOk result (λ good. HasHeader frame.now.kind frame.now.blob.now good.header) }
+    ensures bad { (bytes : List ℕ) → whole_at bytes ≡ Ok (found frame.now) → IfErr result (IsFinding off bytes) }
+{
+    if let Some(fault) = placing_fault(off, frame.kind, frame.length) {
+        return Err(ExamineFault::Bad(fault));
+    }
+    match read_content(alloc, frame.kind, frame.blob) {
+        Ok(content) => Ok(Good {
+            kind: frame.kind,
+            length: frame.length,
+            elements: content.elements,
+            header: content.header,
+        }),
+        Err(fault) => Err(fault),
+    }
+}
+
+/// The kind, the length, the elements and the header block of a good delivery, or its first fault.
 ///
 /// A delivery is good where the bytes are one whole frame that ends at 2^62 at most and stands at offset 0 exactly
 /// where it is an OSMHeader; where an OSMHeader's header block has no fault; and where an OSMData's block says these
@@ -129,19 +176,8 @@ pub fn examine(alloc: Global, off: u64, bytes: &[u8]) -> Result<Good<'_>, Examin
     ensures length { IfOk result (λ good. good.length ≡ length bytes.now) }
     ensures bad { IfErr result (IsFinding off bytes.now) }
 {
-    let frame = match whole_frame(bytes) {
-        Ok(frame) => frame,
-        Err(fault) => return Err(ExamineFault::Bad(Fault::Frame(fault))),
-    };
-    if let Some(fault) = placing_fault(off, frame.kind, frame.length) {
-        return Err(ExamineFault::Bad(fault));
-    }
-    match read_elements(alloc, frame.kind, frame.blob) {
-        Ok(elements) => Ok(Good {
-            kind: frame.kind,
-            length: frame.length,
-            elements,
-        }),
-        Err(fault) => Err(fault),
+    match whole_frame(bytes) {
+        Ok(frame) => examine_frame(alloc, off, &frame),
+        Err(fault) => Err(ExamineFault::Bad(Fault::Frame(fault))),
     }
 }

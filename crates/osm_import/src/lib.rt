@@ -18,7 +18,7 @@ pub use answer::{Answer, Conflict};
 pub use copy::{BlobCopy, CopyCounts, CopyFault, CopyStop, copy_held};
 pub use deliveries::{Delivery, deliver_all, deliver_until_fault};
 pub use delivery::deliver;
-pub use examination::{ExamineFault, Good, examine};
+pub use examination::{ExamineFault, Good, examine, examine_frame};
 pub use export::{ExportFault, export_lines, export_pbf, greatest_end};
 pub use fault::Fault;
 pub use gap::gaps;

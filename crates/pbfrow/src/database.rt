@@ -1,4 +1,4 @@
-//! The commands on a database: its file is opened, and the answer goes to standard output.
+//! The commands on a database: they open its file and write the answer to standard output.
 
 ghost use Rattle.std.specs.Prelude.{◌≡◌, ◌≤◌, false};
 ghost use Rattle.sqlite.specs.Held.{state};
@@ -45,7 +45,7 @@ fn adopted<S: Alter + Drop>(connection: Connection<S>) -> Result<TableStore<S>, 
     }
 }
 
-/// The store that a connection has. Where it has none, it is made.
+/// The store that a connection has. If it has none, one is made.
 fn adopted_or_created<S: Alter + Drop>(
     connection: Connection<S>,
 ) -> Result<TableStore<S>, StoreFault>
@@ -64,7 +64,7 @@ fn adopted_or_created<S: Alter + Drop>(
     }
 }
 
-/// Whether a file isn't there. One that can't be looked at for another cause counts as there.
+/// Whether a file is missing. One that can't be opened for another reason isn't.
 fn is_missing(rt: &HostRuntime, name: &str) -> bool {
     match File::open(rt, name) {
         Ok(_) => false,
@@ -85,7 +85,7 @@ fn imported<R: Read + Drop, K: Keeper, W: Write>(
     import(alloc, &mut Inlet::new(reader), store, from, out)
 }
 
-/// Imports what a reader gives into the store of a connection, which is made where it has none. Answers the exit status,
+/// Imports what a reader gives into the store of a connection, which is made if it has none. Answers the exit status,
 /// and gives the connection back unless it has another store.
 fn filled<S: Alter + Drop, R: Read + Drop, W: Write>(
     alloc: Global,
@@ -161,14 +161,14 @@ fn fill_from<R: Read + Drop, W: Write>(
     };
     meter.erase();
     if let Some(connection) = connection {
-        // the log is copied into the database; where that fails it stays, and the next opening reads it
+        // the log is copied into the database; if that fails it stays, and is read when the database is next opened
         let _closed = connection.close();
     }
     status
 }
 
-/// Imports a file into a database, from the offset `from` on, and answers the exit status. Where the file can't be opened,
-/// no database is made.
+/// Imports a file into a database, starting at the offset `from`, and answers the exit status. If the file can't be
+/// opened, no database is made.
 pub(crate) fn fill(rt: &HostRuntime, file: &str, database: &str, from: u64) -> io::Result<u8>
     requires { from ≤ 4611686018427387904 }
 {
@@ -203,7 +203,7 @@ fn ask_in<W: Write>(
     }
 }
 
-/// Asks a question of a database, and answers the exit status. Where there is no database, none is made.
+/// Asks a question of a database, and answers the exit status. If there is no database, none is made.
 pub(crate) fn ask(rt: &HostRuntime, database: &str, question: Question) -> io::Result<u8> {
     let meter = Meter::new(rt, matches!(question, Question::Export { .. }));
     let output = MeteredOutput::new(io::writer(rt), &meter);

@@ -24,11 +24,11 @@ use std::io::{BufWriter, ErrorKind, Read, Write};
 use std::process::ExitCode;
 use std::{env, io};
 
-/// The exit status where a fault was printed, or the output couldn't be written.
+/// The exit status if a fault was printed or the output couldn't be written.
 const FAULTY: u8 = 1;
 
 /// The exit status for invalid arguments.
-const UNREADABLE: u8 = 2;
+const INVALID_ARGUMENTS: u8 = 2;
 
 fn main(rt: HostRuntime) -> ExitCode {
     let status = match entered(rt) {
@@ -52,14 +52,14 @@ fn entered(rt: HostRuntime) -> io::Result<u8> {
     answer(rt, texts.as_slice())
 }
 
-/// Tells that a word isn't UTF-8, and answers the exit status. Any other error is answered as it is.
+/// Reports that an argument isn't UTF-8, and answers the exit status. Any other error is passed on.
 fn refuse_bytes(rt: &HostRuntime, error: io::Error) -> io::Result<u8> {
     if error.kind() != ErrorKind::InvalidData {
         return Err(error);
     }
-    // the arguments are invalid, whether or not anyone is told
-    let _told = eprintln!(rt; "pbfrow: a word of the command isn't UTF-8");
-    Ok(UNREADABLE)
+    // the status is the same if this can't be written
+    let _told = eprintln!(rt; "pbfrow: an argument isn't valid UTF-8");
+    Ok(INVALID_ARGUMENTS)
 }
 
 fn answer<'a>(rt: HostRuntime, words: &'a [&'a str]) -> io::Result<u8> {
@@ -69,8 +69,8 @@ fn answer<'a>(rt: HostRuntime, words: &'a [&'a str]) -> io::Result<u8> {
     }
 }
 
-/// Prints the help that was asked for, or why the arguments are invalid, and answers the exit status. Where the help
-/// can't be written that is an error; invalid arguments have their status also where nobody can be told.
+/// Prints the help that was asked for, or why the arguments are invalid, and answers the exit status. If the help can't
+/// be written, that is an error; invalid arguments have their status even if the message can't be written.
 fn refuse(rt: HostRuntime, error: Error) -> io::Result<u8> {
     let printed = error.print(&rt);
     if !error.use_stderr() {

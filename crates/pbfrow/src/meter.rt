@@ -1,4 +1,4 @@
-//! How far a command has come, and the line on a terminal that tells it.
+//! The progress of a command, and its line on a terminal.
 
 ghost use Rattle.std.specs.Prelude.{◌≡◌, ◌<◌};
 
@@ -13,20 +13,20 @@ use std::time::Instant;
 /// How long a command works before its line is drawn, in milliseconds.
 const PATIENCE: u64 = 1000;
 
-/// How long a line stands before it is drawn anew, in milliseconds.
+/// How long a line stands before it is redrawn, in milliseconds.
 const PAUSE: u64 = 200;
 
-/// Back to the front of the line, and all behind it erased.
+/// Moves to the start of the line and erases it.
 const ERASURE: &[u8] = b"\r\x1b[K";
 
-/// Counts what a command has done, and draws a line about it on standard error where that is a terminal. A line that
-/// can't be drawn is left out.
+/// Counts what a command has done, and draws a progress line on standard error if that is a terminal. A line that can't
+/// be drawn is left out.
 #[derive(Drop)]
 pub(crate) struct Meter<'a> {
     rt: &'a HostRuntime,
-    /// When the command began; none where no line is drawn.
+    /// When the command began; none if no line is drawn.
     start: Option<Instant>,
-    /// Whether standard output is a terminal too, so that its lines and this one have to make room for each other.
+    /// Whether standard output is a terminal too, so that its lines and this one must make room for each other.
     shares_terminal: bool,
     size: Cell<Option<u64>>,
     bytes: Cell<u64>,
@@ -34,12 +34,12 @@ pub(crate) struct Meter<'a> {
     /// When the line was drawn, in milliseconds since the start.
     drawn_at: Cell<u64>,
     is_drawn: Cell<bool>,
-    /// Whether standard output stands inside a line.
+    /// Whether standard output is in the middle of a line.
     is_inside_line: Cell<bool>,
 }
 
 impl<'a> Meter<'a> {
-    /// A meter that begins now. Where it isn't shown it draws nothing.
+    /// A meter that begins now. If it isn't shown, it draws nothing.
     pub(crate) fn new(rt: &'a HostRuntime, is_shown: bool) -> Meter<'a> {
         let start = if is_shown && rt.stderr().is_terminal() {
             Instant::now(rt).ok()
@@ -59,12 +59,12 @@ impl<'a> Meter<'a> {
         }
     }
 
-    /// Tells how many bytes there are in all.
+    /// Sets how many bytes there are in all.
     pub(crate) fn set_size(&self, size: u64) {
         self.size.set(Some(size));
     }
 
-    /// Takes the size of a file where that says how many bytes it gives, which isn't so of a pipe.
+    /// Takes the size from a regular file. A pipe has none.
     pub(crate) fn measure(&self, file: &File) {
         if let Ok(metadata) = file.metadata() {
             if metadata.is_file() {
@@ -73,7 +73,7 @@ impl<'a> Meter<'a> {
         }
     }
 
-    /// Tells how many of the bytes are done.
+    /// Sets how many of the bytes are done.
     pub(crate) fn set_bytes(&self, count: u64) {
         self.bytes.set(count);
         self.update();
@@ -89,7 +89,7 @@ impl<'a> Meter<'a> {
         self.update();
     }
 
-    /// Draws the line where it is due.
+    /// Draws the line if it is due.
     fn update(&self) {
         let Some(start) = self.start else {
             return;
@@ -104,7 +104,7 @@ impl<'a> Meter<'a> {
         }
     }
 
-    /// Draws the line over the one before.
+    /// Draws the line over the previous one.
     fn draw(&self, milliseconds: u64)
         requires { 0 < milliseconds }
     {
@@ -130,7 +130,7 @@ impl<'a> Meter<'a> {
         }
     }
 
-    /// Sees what went to standard output.
+    /// Notes what went to standard output.
     pub(crate) fn see_output(&self, taken: &[u8]) {
         if let Some(last) = taken.last() {
             self.is_inside_line
@@ -153,7 +153,7 @@ impl Watcher for Meter<'_> {
     }
 }
 
-/// Writes what draws the line over the one before: in one piece, so that it doesn't flicker.
+/// Writes what draws the line over the previous one, in one piece, so that it doesn't flicker.
 fn compose(progress: &Progress, line: &mut Vec<u8>) -> io::Result<()>
     requires { 0 < progress.now.milliseconds }
 {

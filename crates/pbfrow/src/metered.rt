@@ -101,8 +101,8 @@ impl<W: Write> Write for BlobLines<'_, W> {
     }
 }
 
-/// A store whose blobs are counted as they are loaded, by offset, and their offsets as bytes done, up to the greatest
-/// end of one.
+/// A store that counts its blobs as they are loaded, in the order of their offsets, and takes these offsets as the bytes
+/// done, up to the greatest end of a blob.
 #[derive(Drop)]
 pub(crate) struct MeteredStore<'a, K> {
     store: K,

@@ -10,7 +10,7 @@ use Rattle.osm_import.specs.StopFaults.{stop_number_of, stop_name_of}
 use Rattle.osm_import.specs.declared.stream.fault.StreamFault.{StreamFault}
 use Rattle.osm_import.specs.declared.stream.fault.Stop.TheVariants.{Store}
 use Rattle.osm_store.specs.declared.fault.StoreFault.TheVariants.{Memory}
-use Rattle.pbfrow_commands.specs.FaultLine.{fault_line}
+use Rattle.osm_import.specs.Lines.{fault_line}
 use Rattle.pbfrow_commands.specs.Listing.{Part, IsPart, joined, lines_from, frame_line, Lists, PrintsFrame, ListsInput}
 
 -- the frames so far

@@ -9,7 +9,7 @@ use Rattle.pbf_frame.specs.declared.fault.FrameFault.{FrameFault}
 use Rattle.pbf_frame.specs.Frame.{FirstFault, Found, found_at, frame_at}
 use Rattle.pbf_frame.proofs.FrameLaws.{frame_again, frame_takes, frame_faults, faults_again, frame_len}
 use Rattle.pbf_frame.specs.Fault.{number_of, name_of}
-use Rattle.pbfrow_commands.specs.FaultLine.{fault_line}
+use Rattle.osm_import.specs.Lines.{fault_line}
 use Rattle.pbfrow_commands.specs.Listing.{Part, IsPart, joined, lines_from, frame_line, EndsAs, Lists}
 use Rattle.pbfrow_commands.specs.Reading.{Listing, line_and, listing_from, listing}
 use Rattle.pbfrow_commands.proofs.ListingSteps.{listing_step, listing_end}

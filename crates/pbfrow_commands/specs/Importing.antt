@@ -15,7 +15,7 @@ use Rattle.osm_import.specs.declared.stream.fault.Stop.{Stop}
 use Rattle.osm_import.specs.declared.stream.fault.Stop.TheVariants.{Frame, NoHeaderFirst, WriteFailed, Store, ReadFailed, BlobLimit}
 use Rattle.osm_import.specs.declared.stream.fault.StreamFault.{StreamFault}
 use Rattle.pbfrow_commands.specs.CommandLines.{summary_line}
-use Rattle.pbfrow_commands.specs.FaultLine.{fault_line}
+use Rattle.osm_import.specs.Lines.{fault_line}
 
 abbrev pub stop_line : Stop → ℕ → List ℕ
 stop_line fault at = fault_line (stop_number_of fault) (stop_name_of fault) at
@@ -57,6 +57,7 @@ abbrev pub import_status : Result Summary StreamFault → Bool → ℕ
 import_status (Ok summary) sink_failed = if (summary.bad == 0) && (summary.refused == 0) && not sink_failed then 0 else 1
 import_status (Err stop) sink_failed = 1
 
--- the bytes are a file; and where nothing but entries of it was held, what is held now tiles it
+-- the bytes are a file that was imported with no bad blob: where nothing but entries of it was held, what is held now
+-- tiles it
 abbrev pub HoldsFile : (HeldMap → Type 0) → List ℕ → HeldMap → Type 0
 HoldsFile holds file start = (frames : List (List ℕ)) × IsFile file frames × (IsHeldOfFile frames start → TilesFile holds file frames)

@@ -1,6 +1,5 @@
 pub mod CommandLines
 pub mod Exporting
-pub mod FaultLine
 pub mod Finding
 pub mod Importing
 pub mod Listing

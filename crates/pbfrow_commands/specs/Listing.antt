@@ -3,6 +3,7 @@ use Rattle.std.specs.Prelude.{◌≡◌, ℕ, ◌+◌, ◌/◌, ◌%◌, ◌<◌
 use Rattle.std.specs.List.{AllByRecursion, flat_map}
 use Rattle.std.specs.Fmt.{decimal}
 use Rattle.std.specs.Io.KnownBytes.{Appends, Consumes, IsAtEnd}
+use Rattle.osm_value.specs.Escape.{hex_digit}
 use Rattle.pbf_frame.specs.declared.fault.FrameFault.{FrameFault}
 use Rattle.pbf_frame.specs.Fault.{number_of, name_of}
 use Rattle.pbf_frame.specs.Frame.{Frame, FirstFault}
@@ -10,10 +11,7 @@ use Rattle.osm_import.specs.Exports.{Known}
 use Rattle.osm_import.specs.FrameReads.{LacksFrame, framing_of}
 use Rattle.osm_import.specs.StopFaults.{stop_number_of, stop_name_of}
 use Rattle.osm_import.specs.declared.stream.fault.Stop.{Stop}
-use Rattle.pbfrow_commands.specs.FaultLine.{fault_line}
-
-abbrev pub hex_digit : ℕ → ℕ
-hex_digit n = if nat_lt n 10 then 48 + n else 55 + n
+use Rattle.osm_import.specs.Lines.{fault_line}
 
 -- A byte of a type: as it stands, or as `%` and two upper-case hexadecimal digits.
 abbrev pub byte_text : ℕ → List ℕ

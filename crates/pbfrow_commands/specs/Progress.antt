@@ -1,4 +1,4 @@
--- The line that tells how far a command has come.
+-- The progress line of a command.
 use Rattle.std.specs.Prelude.{ℕ, ◌-◌, ◌*◌, ◌/◌, ◌%◌, ◌==◌, List, [], ◌++◌, Option, Some, None, codes, if◌then◌else◌}
 use Rattle.std.specs.Fmt.{decimal}
 use Rattle.pbfrow_commands.specs.declared.progress.Progress.{Progress}

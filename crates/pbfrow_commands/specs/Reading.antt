@@ -3,7 +3,7 @@ use Rattle.std.specs.Prelude.{ℕ, zero, suc, ◌+◌, ◌-◌, nat_lt, Bool, tr
 use Rattle.pbf_frame.specs.declared.fault.FrameFault.{FrameFault}
 use Rattle.pbf_frame.specs.Frame.{Found, frame_at}
 use Rattle.pbf_frame.specs.Fault.{number_of, name_of}
-use Rattle.pbfrow_commands.specs.FaultLine.{fault_line}
+use Rattle.osm_import.specs.Lines.{fault_line}
 use Rattle.pbfrow_commands.specs.Listing.{frame_line}
 
 -- the lines, and whether the bytes are frames to their end

@@ -11,7 +11,7 @@ use std::alloc::Global;
 use std::io;
 use std::io::{Read, Write};
 
-/// How many whole frames, elements of good blobs, and faults an input has. A count stays at 2^64 - 1 once there.
+/// How many whole frames, elements of good blobs, and faults an input has. A count stops at 2^64 - 1.
 #[derive(Clone, Copy, Debug, PartialEq, Eq)]
 struct Counts {
     blobs: u64,
@@ -53,9 +53,9 @@ impl Counts {
     }
 }
 
-/// Writes a fault's line for each bad blob of the input, up to a frame fault, and last the counts; answers the exit
-/// status: 0 where there is no fault, and 1 where there is one, or the input or the output failed. The lines so far are
-/// flushed before more of the input is read. The watcher is told of each blob that was checked.
+/// Writes a fault's line for each bad blob of the input, up to a frame fault, and finally the counts. Answers the exit
+/// status: 0 if there is no fault, and 1 if there is one, or the input or the output failed. The lines so far are flushed
+/// before more of the input is read. The watcher is called for each blob that was checked.
 pub fn check<R: Read, P: Watcher, W: Write>(
     alloc: Global,
     input: &mut R,
@@ -70,7 +70,7 @@ pub fn check<R: Read, P: Watcher, W: Write>(
     }
 }
 
-/// Writes what `check` writes of this input, and answers whether there is no fault.
+/// Writes what `check` writes for this input, and answers whether there is no fault.
 fn print_check<R: Read, P: Watcher, W: Write>(
     alloc: Global,
     input: &mut R,
@@ -97,7 +97,7 @@ fn print_check<R: Read, P: Watcher, W: Write>(
     Ok(counts.faults == 0)
 }
 
-/// Writes the faults of the blobs and counts them, up to a frame fault; answers no where a read failed or memory was
+/// Writes the faults of the blobs and counts them, up to a frame fault. Answers false if a read failed or memory was
 /// refused, which ends the output.
 fn count_blobs<R: Source, P: Watcher, W: Write>(
     alloc: Global,
@@ -125,7 +125,7 @@ fn count_blobs<R: Source, P: Watcher, W: Write>(
     }
 }
 
-/// Counts a blob and its elements, or writes its fault and counts that; answers no where memory was refused.
+/// Counts a blob and its elements, or writes its fault and counts that. Answers false if memory was refused.
 fn count_blob<W: Write>(
     alloc: Global,
     at: u64,

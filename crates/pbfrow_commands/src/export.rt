@@ -16,7 +16,7 @@ use osm_store::Reader;
 use osm_value::{Form, Sink};
 use std::alloc::Global;
 
-/// Writes the line of the fault at which an export stopped. Where the output has failed nothing is written.
+/// Writes the line of the fault at which an export stopped. If the output has failed, nothing is written.
 fn put_export_fault<S: Sink>(out: &mut S, fault: ExportFault)
     ensures ends { EndsExport (S.written out.old) (S.written out.new) (S.has_failed out.new) 1 (Err fault) }
     ensures kept { fault ≡ ExportFault.WriteFailed → S.has_failed out.new ≡ S.has_failed out.old }
@@ -42,8 +42,8 @@ fn finish<S: Sink>(out: &mut S, answer: Result<(), ExportFault>) -> u8
 }
 
 /// Writes the elements of a store as lines or as a PBF file, or the line of the fault at which it stopped. The file has
-/// `size` bytes, or where none is given ends with the last blob held; where blobs of it are missing nothing is exported,
-/// but for a `partial` export, which has what is held. Answers the exit status: 0 where all was written, else 1.
+/// `size` bytes or, if no size is given, ends with the last blob held. If blobs of it are missing, nothing is exported,
+/// unless the export is `partial`. Answers the exit status: 0 if everything was written, else 1.
 pub fn export<K: Reader, S: Sink>(
     alloc: Global,
     store: &mut K,

@@ -3,14 +3,14 @@
 ghost use Rattle.std.specs.Prelude.{OnOk};
 ghost use Rattle.std.specs.Io.KnownBytes.{Appends};
 ghost use Rattle.osm_import.specs.StopFaults.{stop_number_of, stop_name_of};
-ghost use Rattle.pbfrow_commands.specs.FaultLine.{fault_line};
+ghost use Rattle.osm_import.specs.Lines.{fault_line};
 
 use osm_import::{ExamineFault, Stop, StreamFault};
 use osm_store::StoreFault;
 use std::io;
 use std::io::Write;
 
-/// Writes `fault NUMBER NAME at OFFSET`, the offset being that of the frame at which the fault applies.
+/// Writes `fault NUMBER NAME at OFFSET`, with the offset of the frame to which the fault applies.
 pub(crate) fn print_fault<W: Write>(number: u8, name: &str, at: u64, out: &mut W) -> io::Result<()>
     ensures { OnOk result (Appends (W.contents out.old) (W.contents out.new) (fault_line number name.now at)) }
 {

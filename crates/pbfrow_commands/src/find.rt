@@ -1,4 +1,4 @@
-//! The command `find`: where a store holds an element.
+//! The command `find`: the occurrences of an element in a store.
 
 ghost use Rattle.std.specs.Prelude.{◌≡◌, List, OnOk, OnErr, filter};
 ghost use Rattle.osm_value.specs.Sink.{Writes};
@@ -40,17 +40,14 @@ fn write_found<S: Sink>(alloc: Global, found: &Found, out: &mut S) -> Result<(),
         → OnOk result (Writes (S.written out.old) (S.has_failed out.old) (S.written out.new) (S.has_failed out.new) (match_lines matches)) }
     ensures none { OnErr result (out.new ≡ out.old) }
 {
-    let matches = match found.matches(alloc) {
-        Ok(matches) => matches,
-        Err(error) => return Err(error),
-    };
+    let matches = found.matches(alloc)?;
     put_matches(out, &matches);
     Ok(())
 }
 
-/// Writes a line for each time that the element is held, by offset and position, or the line of a fault of the store.
-/// Answers the exit status: 0 where all was written, also where nothing was found, and 1 at a fault or where the output
-/// failed.
+/// Writes a line for each occurrence of the element, by offset and position, or the line of a fault of the store.
+/// Answers the exit status: 0 if everything was written, even if nothing was found, and 1 if there was a fault or the
+/// output failed.
 pub fn find<K: Reader, S: Sink>(
     alloc: Global,
     store: &mut K,

@@ -16,17 +16,17 @@ use osm_store::Keeper;
 use osm_value::Sink;
 use std::alloc::Global;
 
-/// The most blobs that one import may have.
+/// The most blobs that one import may store.
 const MAX_BLOBS: u32 = 4_294_967_295;
 
-/// How many bytes are asked of a reader at a time.
+/// How many bytes are requested from a reader at a time.
 const PIECE: usize = 65_536;
 
 /// A read that failed, or an input that ended early.
 #[derive(Drop)]
 struct Short;
 
-/// Reads so many bytes and drops them.
+/// Reads this many bytes and drops them.
 fn skip<R: Source>(reader: &mut R, count: u64) -> Result<(), Short>
     ensures all { OnOk result (Skips count (R.bytes_left reader.old) (R.bytes_left reader.new)) }
     ensures short { OnErr result (IsShort count (R.bytes_left reader.old) (R.bytes_left reader.new) (R.has_failed reader.new)) }
@@ -35,9 +35,8 @@ fn skip<R: Source>(reader: &mut R, count: u64) -> Result<(), Short>
     let mut left = count;
     while left > 0 {
         let wanted = left.min(PIECE as u64) as usize;
-        let taken = match reader.read(&mut piece[..wanted]) {
-            Ok(taken) => taken,
-            Err(_) => return Err(Short),
+        let Ok(taken) = reader.read(&mut piece[..wanted]) else {
+            return Err(Short);
         };
         if taken == 0 {
             return Err(Short);
@@ -69,7 +68,7 @@ fn import_from<R: Source, K: Keeper, S: Sink>(
     }
 }
 
-/// Writes the last line of an import that came to the end of its input, and answers the exit status.
+/// Writes the last line of an import that reached the end of its input, and answers the exit status.
 fn finish<S: Sink>(out: &mut S, summary: &Summary) -> u8
     ensures line { EndsLine (S.written out.old) (S.written out.new) (S.has_failed out.new) (Ok summary.now) }
     ensures status { result ≡ import_status (Ok summary.now) (S.has_failed out.new) }
@@ -82,7 +81,7 @@ fn finish<S: Sink>(out: &mut S, summary: &Summary) -> u8
     }
 }
 
-/// Writes the line of the fault at which an import stopped. Where the output has failed nothing is written.
+/// Writes the line of the fault at which an import stopped. If the output has failed, nothing is written.
 fn put_stop<S: Sink>(out: &mut S, stop: StreamFault)
     ensures line { EndsStop (S.written out.old) (S.written out.new) (S.has_failed out.new) stop.at stop.fault }
     ensures kept { stop.fault ≡ Stop.WriteFailed → S.has_failed out.new ≡ S.has_failed out.old }
@@ -93,12 +92,12 @@ fn put_stop<S: Sink>(out: &mut S, stop: StreamFault)
     }
 }
 
-/// Imports the blobs of a reader into a store, from the offset `from` on, which is at most 2^62; the bytes before it are
-/// read and dropped. Writes a line for each blob, and last the counts, or the line of the fault at which it stopped.
-/// Answers the exit status: 0 where all blobs are held, and 1 where a blob was bad or refused, it stopped, or the output
-/// failed.
+/// Imports the blobs of a reader into a store, starting at the offset `from`, which is at most 2^62; the bytes before it
+/// are read and dropped. Writes a line for each blob, and finally the counts or the line of the fault at which it
+/// stopped. Answers the exit status: 0 if all blobs are held, and 1 if a blob was bad or refused, the import stopped, or
+/// the output failed.
 ///
-/// Where it answers 0 from the offset 0 over a reader that tells its bytes, these are a file; and where the store held
+/// If it answers 0 from the offset 0 over a reader whose bytes are known, these are a file; and if the store held
 /// nothing but blobs of that file, what it holds now tiles the file.
 pub fn import<R: Source, K: Keeper, S: Sink>(
     alloc: Global,

@@ -8,8 +8,8 @@ use osm_import::{FrameReader, Source, Stop, StreamFault};
 use std::io;
 use std::io::Write;
 
-/// Writes the line of an input that can't be opened, as of a read that failed at 0, and answers the exit status, 1, whether
-/// or not that can be written.
+/// Writes the line of an input that can't be opened: a read that failed at 0. Answers the exit status, 1, whether or not
+/// the line can be written.
 pub fn refuse_input<W: Write>(out: &mut W) -> u8
     ensures { result ≡ 1 }
 {
@@ -18,7 +18,7 @@ pub fn refuse_input<W: Write>(out: &mut W) -> u8
     1
 }
 
-/// Flushes the output where the next frame isn't there yet, so that who waits for it has all lines before it.
+/// Flushes the output if the next frame hasn't been read yet, so that a reader of the output has all lines before it.
 pub(crate) fn flush_to_wait<R: Source, W: Write>(
     frames: &mut FrameReader<R>,
     out: &mut W,

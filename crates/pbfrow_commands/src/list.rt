@@ -4,7 +4,8 @@ ghost use Rattle.std.specs.Prelude.{◌≡◌, ℕ, ◌<◌, ◌≤◌, true, Li
 ghost use Rattle.std.specs.List.{flat_map};
 ghost use Rattle.std.specs.Io.KnownBytes.{Appends};
 ghost use Rattle.pbf_frame.specs.Frame as definitions;
-ghost use Rattle.pbfrow_commands.specs.Listing.{Lists, ListsInput, frame_line, hex_digit, byte_text};
+ghost use Rattle.osm_value.specs.Escape.{hex_digit};
+ghost use Rattle.pbfrow_commands.specs.Listing.{Lists, ListsInput, frame_line, byte_text};
 
 use crate::fault::print_stop;
 use crate::input::flush_to_wait;
@@ -14,11 +15,11 @@ use std::alloc::Global;
 use std::io;
 use std::io::{ErrorKind, Read, Write};
 
-/// Writes a line for each frame of the input, up to a fault's line, and answers the exit status: 0 where all of the
-/// input is frames, and 1 where it isn't, or couldn't be read or written. The lines so far are flushed before more of the
-/// input is read.
+/// Writes a line for each frame of the input, up to a fault's line, and answers the exit status: 0 if the whole input
+/// consists of frames, and 1 if it doesn't, or couldn't be read or written. The lines so far are flushed before more of
+/// the input is read.
 pub fn list<R: Read, W: Write>(alloc: Global, input: &mut R, out: &mut W) -> u8
-    // At 0 all bytes of the input are frames, and the text that lists them is written, no more and no less.
+    // At 0 the whole input consists of frames, and the text that lists them is written, no more and no less.
     ensures whole { result ≡ 0 → IfSome (R.remaining input.old) (λ bytes. (text : List ℕ) × Lists true bytes text × Appends (W.contents out.old) (W.contents out.new) text) }
     ensures status { result ≤ 1 }
 {
@@ -28,7 +29,8 @@ pub fn list<R: Read, W: Write>(alloc: Global, input: &mut R, out: &mut W) -> u8
     }
 }
 
-/// Writes a line for each frame, and one for what ends them early, and answers whether the input is frames to its end.
+/// Writes a line for each frame, and one for what ends them early, and answers whether the input consists of frames to
+/// its end.
 fn print_frames<R: Read, W: Write>(alloc: Global, input: &mut R, out: &mut W) -> io::Result<bool>
     ensures { IfOk result (λ whole. ListsInput whole (R.remaining input.old) (W.contents out.old) (W.contents out.new)) }
 {
@@ -52,7 +54,7 @@ fn print_frames<R: Read, W: Write>(alloc: Global, input: &mut R, out: &mut W) ->
     }
 }
 
-/// The frame that the bytes are; an error where they are anything but one whole frame.
+/// The frame that the bytes are; an error if they are anything but one whole frame.
 pub(crate) fn frame_of(bytes: &[u8]) -> io::Result<Frame<'_>>
     ensures { IfOk result (λ frame. definitions.Frame frame.type_name.now frame.blob.now bytes.now) }
 {

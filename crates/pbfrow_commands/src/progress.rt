@@ -1,4 +1,4 @@
-//! The line that tells how far a command has come.
+//! The progress line of a command.
 
 ghost use Rattle.std.specs.Prelude.{◌≡◌, ◌<◌, OnOk};
 ghost use Rattle.std.specs.Io.KnownBytes.{Appends};
@@ -7,7 +7,7 @@ ghost use Rattle.pbfrow_commands.specs.Progress.{done_text, left_text, megabytes
 use std::io;
 use std::io::Write;
 
-/// How far a command has come.
+/// The progress of a command.
 #[derive(Clone, Copy, Debug, PartialEq, Eq)]
 pub struct Progress {
     /// How many bytes are done.
@@ -16,7 +16,7 @@ pub struct Progress {
     pub blobs: u64,
     /// The time since the command began.
     pub milliseconds: u64,
-    /// How many bytes there are in all, where that is known.
+    /// How many bytes there are in all, if that is known.
     pub size: Option<u64>,
 }
 
@@ -50,7 +50,7 @@ fn print_size<W: Write>(size: Option<u64>, out: &mut W) -> io::Result<()>
     }
 }
 
-/// Writes in how many seconds the rest is done, at the rate so far.
+/// Writes how many seconds are left, at the rate so far.
 fn print_left<W: Write>(progress: &Progress, out: &mut W) -> io::Result<()>
     ensures { OnOk result (Appends (W.contents out.old) (W.contents out.new) (left_text progress.now.bytes progress.now.milliseconds progress.now.size)) }
 {
@@ -82,9 +82,9 @@ fn print_speed<W: Write>(progress: &Progress, out: &mut W) -> io::Result<()>
     write!(out, "/s")
 }
 
-/// Writes `DONE MB of SIZE MB, BLOBS blobs, RATE MB/s, SECONDS s left`, without the size and the seconds where the size
-/// isn't known, and without the seconds where no byte is done. A MB is 1,000,000 bytes; the MB are rounded down to a tenth
-/// and the seconds to a whole one. It fails where the writer does.
+/// Writes `DONE MB of SIZE MB, BLOBS blobs, RATE MB/s, SECONDS s left`, without the size and the seconds if the size isn't
+/// known, and without the seconds if no byte is done. One MB is 1,000,000 bytes; MB are rounded down to a tenth and
+/// seconds to a whole number. It fails if the writer does.
 pub fn print_progress<W: Write>(progress: &Progress, out: &mut W) -> io::Result<()>
     requires { 0 < progress.now.milliseconds }
     ensures { OnOk result (Appends (W.contents out.old) (W.contents out.new) (progress_line progress.now)) }

@@ -9,7 +9,7 @@ pub use osm_import::put_fault_at;
 use osm_store::StoreFault;
 use osm_value::{Sink, put, put_digits};
 
-/// Writes `fault NUMBER NAME`: a fault of the whole database.
+/// Writes `fault NUMBER NAME`: a fault of the database as a whole.
 pub(crate) fn put_plain_fault<S: Sink>(out: &mut S, number: u8, name: &str)
     ensures { Writes (S.written out.old) (S.has_failed out.old) (S.written out.new) (S.has_failed out.new) (plain_fault_line number name.now) }
 {

@@ -1,21 +1,21 @@
-//! The command `show`: each blob with the lines of its header, its elements or its fault.
+//! The command `show`: each blob, with the lines of its header, its elements or its fault.
 
 ghost use Rattle.std.specs.Prelude.{◌≤◌};
 
 use crate::fault::{print_finding, print_stop};
 use crate::input::flush_to_wait;
 use crate::list::{frame_of, print_type};
-use osm_block::{HeaderBlock, read_header_block};
-use osm_import::{ExamineFault, FrameReader, Inlet, Source, examine};
+use osm_block::HeaderBlock;
+use osm_import::{ExamineFault, FrameReader, Good, Inlet, Source, examine_frame};
 use osm_value::{Element, Outlet, Sink, put_escaped, write_line};
-use pbf_frame::{Frame, Kind, raw};
+use pbf_frame::Frame;
 use std::alloc::Global;
 use std::io;
 use std::io::{ErrorKind, Read, Write};
 
-/// Writes a line for each blob of the input, and behind it those of its header, its elements or its fault, up to a
-/// frame fault's line; answers the exit status: 0 where there is no fault, and 1 where there is one, or the input or the
-/// output failed. The lines so far are flushed before more of the input is read.
+/// Writes a line for each blob of the input, followed by those of its header, its elements or its fault, up to a frame
+/// fault's line. Answers the exit status: 0 if there is no fault, and 1 if there is one, or the input or the output
+/// failed. The lines so far are flushed before more of the input is read.
 pub fn show<R: Read, W: Write>(alloc: Global, input: &mut R, out: &mut W) -> u8
     ensures { result ≤ 1 }
 {
@@ -59,7 +59,7 @@ fn show_blobs<R: Source, W: Write>(
     }
 }
 
-/// Writes the line of a blob, and behind it those of its header, its elements or its fault, which it answers.
+/// Writes the line of a blob, followed by those of its header, its elements or its fault, and answers the fault.
 fn show_blob<W: Write>(
     alloc: Global,
     at: u64,
@@ -68,9 +68,9 @@ fn show_blob<W: Write>(
 ) -> io::Result<Option<ExamineFault>> {
     let frame = frame_of(bytes)?;
     print_blob(at, &frame, out)?;
-    match examine(alloc, at, bytes) {
+    match examine_frame(alloc, at, &frame) {
         Ok(good) => {
-            print_content(&frame, &good.elements, out)?;
+            print_content(&good, out)?;
             Ok(None)
         }
         Err(finding) => {
@@ -88,21 +88,14 @@ fn print_blob<W: Write>(at: u64, frame: &Frame, out: &mut W) -> io::Result<()> {
 }
 
 /// Writes the lines of a good blob.
-fn print_content<W: Write>(frame: &Frame, elements: &[Element], out: &mut W) -> io::Result<()> {
-    if frame.kind != Kind::OsmHeader {
-        return print_elements(elements, out);
-    }
-    match header_of(frame.blob) {
-        Some(header) => print_header(&header, out),
-        None => Err(io::Error::from(ErrorKind::InvalidData)),
+fn print_content<W: Write>(good: &Good, out: &mut W) -> io::Result<()> {
+    match &good.header {
+        Some(header) => print_header(header, out),
+        None => print_elements(&good.elements, out),
     }
 }
 
-fn header_of(blob: &[u8]) -> Option<HeaderBlock<'_>> {
-    read_header_block(raw(blob).ok()?).ok()
-}
-
-/// Writes what a header block has, a line for each field that is there.
+/// Writes a header block, a line for each field that is there.
 fn print_header<W: Write>(header: &HeaderBlock, out: &mut W) -> io::Result<()> {
     if let Some(bbox) = header.bbox() {
         let (left, right) = (bbox.left, bbox.right);
@@ -133,7 +126,7 @@ fn print_optional_text<W: Write>(label: &str, text: Option<&str>, out: &mut W) -
     }
 }
 
-/// Writes a text behind its label, escaped as in the line of an element.
+/// Writes a label and a text, escaped as in the line of an element.
 fn print_text<W: Write>(label: &str, text: &str, out: &mut W) -> io::Result<()> {
     write!(out, "{label} ")?;
     let mut sink = Outlet::new(&mut *out);

@@ -1,4 +1,4 @@
-//! The command `status`: the byte ranges of its file that a store lacks.
+//! The command `status`: the byte ranges that a store is missing.
 
 ghost use Rattle.std.specs.Prelude.{◌≡◌, IfOk, IfErr};
 ghost use Rattle.osm_value.specs.Sink.{Writes};
@@ -14,7 +14,7 @@ use osm_store::{Reader, StoreFault};
 use osm_value::{Sink, put, put_digits};
 use std::alloc::Global;
 
-/// How many blobs a store holds, the greatest end of one, and which ranges none covers.
+/// How many blobs a store holds, the greatest end of one, and the ranges that none covers.
 #[derive(Debug, Drop)]
 struct Holdings {
     blobs: u64,
@@ -22,7 +22,7 @@ struct Holdings {
     gaps: Vec<(u64, u64)>,
 }
 
-/// What a store holds, and the gaps up to the size, or up to the greatest end where no size is given.
+/// What a store holds, and the gaps up to the size, or up to the greatest end if no size is given.
 fn survey<K: Reader>(
     alloc: Global,
     store: &mut K,
@@ -80,9 +80,9 @@ fn put_counts<S: Sink>(out: &mut S, blobs: u64, end: u64, gaps: u64)
     put(out, b"\n");
 }
 
-/// Writes a line for each range that no blob covers, up to the size in bytes or else the greatest held end, and last the
-/// counts; or the line of a fault of the store. Answers the exit status: 0 where all was written, and 1 at a fault or
-/// where the output failed.
+/// Writes a line for each range that no blob covers, up to the size in bytes or else the greatest held end, and finally
+/// the counts; or the line of a fault of the store. Answers the exit status: 0 if everything was written, and 1 if there
+/// was a fault or the output failed.
 pub fn status<K: Reader, S: Sink>(
     alloc: Global,
     store: &mut K,

@@ -1,8 +1,8 @@
-//! Who is told of what a command has done.
+//! Who watches the progress of a command.
 
-/// What is told of each blob that a command is done with.
+/// What is called for each blob that a command is done with.
 pub trait Watcher {
-    /// Sees that a command is done with one more blob. What it makes of that, a count or a line for who waits, changes
-    /// neither what the command writes nor its exit status, and it has no error to answer.
+    /// Called when a command is done with one more blob. It may count blobs or draw a progress line. It changes neither
+    /// what the command writes nor its exit status, and it can't fail.
     fn see_blob(&self);
 }

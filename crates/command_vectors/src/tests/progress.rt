@@ -1,4 +1,4 @@
-//! Tests of the line that tells how far a command has come.
+//! Tests of the progress line of a command.
 
 use pbfrow_commands::progress::{Progress, print_progress};
 use std::alloc::Global;

@@ -6,4 +6,4 @@ use Rattle.pbfrow_commands.proofs.find.write_found.Goals as goal
 
 pub returns-clause-lines : goal.returns-clause-lines
 returns-clause-lines g c = λ matches are start before h.
-    Wrote-text start _ _ _ _ (ap (λ (ms : List Placed). before ++ match_lines ms) (c.deref.ensures.value ∙ c.in-Ok.ensures matches are)) (c.put_matches.ensures start before h)
+    Wrote-text start _ _ _ _ (ap (λ (ms : List Placed). before ++ match_lines ms) (c.deref.ensures.value ∙ c.in_ok-matches.ensures matches are)) (c.put_matches.ensures start before h)

@@ -3,7 +3,7 @@ use Rattle.std.specs.Io.KnownBytes.{Appends}
 use Rattle.osm_import.specs.FrameReads.{Reading, GivesFrame, Halts}
 use Rattle.osm_import.specs.StopFaults.{stop_number_of, stop_name_of}
 use Rattle.osm_import.specs.declared.stream.fault.StreamFault.{StreamFault}
-use Rattle.pbfrow_commands.specs.FaultLine.{fault_line}
+use Rattle.osm_import.specs.Lines.{fault_line}
 use Rattle.pbfrow_commands.proofs.ListedInput.{Listed, listed-kept, listed-more, listed-stop, listed-nothing}
 use Rattle.pbfrow_commands.proofs.list.print_frames.Goals as goal
 
