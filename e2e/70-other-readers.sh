@@ -23,6 +23,27 @@ if has sqlite3; then
   sqlite3 country.db "SELECT k, link.kind, ref, role FROM element JOIN link USING (off, pos) WHERE element.kind = 1 AND id = 1367 ORDER BY k LIMIT 3" > way.txt
   printf '%s\n' "0|0|15721|" "1|0|15718|" "2|0|15720|" > want.txt
   same "sqlite3 reads the nodes of a way" way.txt want.txt
+
+  # what somebody else puts into the database, between two imports
+  rm -f own.db
+  "$pbfrow" import "$country" own.db --from 1259691 > imported.txt
+  sqlite3 own.db "CREATE INDEX tag_by_key ON tag (key, val); CREATE TABLE mine (name TEXT); INSERT INTO mine VALUES ('a'); \
+    CREATE VIEW node AS SELECT off, pos, id, lat / 1e9 AS lat, lon / 1e9 AS lon FROM element WHERE kind = 0"
+  "$pbfrow" import "$country" own.db | tail -n 1 > last.txt
+  echo "blobs stored 11 held 1 bad 0 refused 0" > want.txt
+  same "an import beside indexes, views and tables of one's own" last.txt want.txt
+  "$pbfrow" export country.db > want.txt
+  "$pbfrow" export own.db > got.txt
+  same "its export" got.txt want.txt
+  sqlite3 own.db "PRAGMA integrity_check; SELECT name FROM mine; SELECT id FROM node JOIN tag USING (off, pos) WHERE key = 'amenity' AND val = 'pub' ORDER BY id" > got.txt
+  printf '%s\n' ok a 14688 15197 > want.txt
+  same "in which one's own is still there, and complete" got.txt want.txt
+  sqlite3 own.db "CREATE TRIGGER told AFTER INSERT ON element BEGIN DELETE FROM mine; END"
+  expect "a trigger on a table of the database" 1 $'fault 65 Disk\n' export own.db
+  sqlite3 own.db "DROP TRIGGER told"
+  "$pbfrow" export own.db > got.txt
+  "$pbfrow" export country.db > want.txt
+  same "and the export when it was dropped" got.txt want.txt
 else
   skip "the database under sqlite3" "sqlite3 isn't installed"
 fi

@@ -13,15 +13,15 @@ use Rattle.osm_block.specs.Message.{Context, Dense, DenseMessage, dense_message,
 use Rattle.osm_block.specs.Differences.{Diff, front_sums, fits_i64}
 use Rattle.osm_block.specs.DenseTags.{Pair, Tags, pairs_of, indexes_of}
 use Rattle.osm_block.specs.NodeTags.{pair_indexes}
-use Rattle.osm_block.specs.Block.{place, time, version, text_at, texts_at, all_there, column, StandsOrNone, DenseOf}
+use Rattle.osm_block.specs.Block.{coordinate, time, version, text_at, texts_at, all_there, values_for, StandsOrNone, DenseOf}
 use Rattle.osm_block.specs.Reads.{Says}
-use Rattle.osm_block.specs.Phases.{first, when, is_index, place_in_range, fits_ids, deltas_of, tags_phases, dense_phases, message_phases, wire_phases}
+use Rattle.osm_block.specs.Phases.{first, when, is_index, coordinate_in_range, fits_ids, deltas_of, tags_phases, dense_phases, message_phases, wire_phases}
 use Rattle.osm_block.proofs.IndexesLemmas.{and_left}
 use Rattle.osm_block.proofs.DifferencesLemmas.{Diff-are_sums, list_all-fits}
 use Rattle.osm_block.proofs.Unique.{pairs_of-joined}
 use Rattle.osm_block.proofs.WayComplete.{all_indexes_there}
 use Rattle.osm_block.proofs.ReadingLemmas.{first-append_none}
-use Rattle.osm_block.proofs.DenseColumnLemmas.{lengths_are, Diff-length, fits_by}
+use Rattle.osm_block.proofs.DenseArrayLemmas.{lengths_are, Diff-length, fits_by}
 use Rattle.osm_block.proofs.DensePhaseLemmas.{sums_fit, message_in_range, users_fit, dense_fault_is}
 
 both : (a b : Bool) → a ≡ true → b ≡ true → (a && b) ≡ true
@@ -37,23 +37,23 @@ list_all-map : {A B : Type 0} (p : B → Bool) (f : A → B) (xs : List A) → l
 list_all-map p f [] = refl
 list_all-map p f (x ∷ xs) = ap (λ b. p (f x) && b) (list_all-map p f xs)
 
--- what the elements of a column pass, the numbers that it is read from pass
-column_passes : {A : Type 0} (p : A → Bool) (f : ℤ → Option A) (n : ℕ) (xs : List ℤ) → list_all (passes p) (column n (map f xs)) ≡ true → list_all (λ v. passes p (f v)) xs ≡ true
-column_passes p f n [] h = refl
-column_passes p f n (x ∷ xs) h = sym (list_all-map (passes p) f (x ∷ xs)) ∙ h
+-- what the values of an array pass, the numbers that it is read from pass
+values_for_pass : {A : Type 0} (p : A → Bool) (f : ℤ → Option A) (n : ℕ) (xs : List ℤ) → list_all (passes p) (values_for n (map f xs)) ≡ true → list_all (λ v. passes p (f v)) xs ≡ true
+values_for_pass p f n [] h = refl
+values_for_pass p f n (x ∷ xs) h = sym (list_all-map (passes p) f (x ∷ xs)) ∙ h
 
 infos_pass : {A : Type 0} (p : A → Bool) (f : InfoValue → Option A) (meaning : ℤ → Option A) (n : ℕ) (vs : List ℤ) → ((i : InfoValue) → IsInfo i → passes p (f i) ≡ true) →
-    (is : List InfoValue) → AllByRecursion IsInfo is → map f is ≡ column n (map meaning vs) → list_all (λ v. passes p (meaning v)) vs ≡ true
-infos_pass p f meaning n vs by is h e = column_passes p meaning n vs (sym (ap (list_all (passes p)) e) ∙ all_pass (passes p) f IsInfo by is h)
+    (is : List InfoValue) → AllByRecursion IsInfo is → map f is ≡ values_for n (map meaning vs) → list_all (λ v. passes p (meaning v)) vs ≡ true
+infos_pass p f meaning n vs by is h e = values_for_pass p meaning n vs (sym (ap (list_all (passes p)) e) ∙ all_pass (passes p) f IsInfo by is h)
 
 -- ---- lengths
 
-column_fits : {A : Type 0} (ids xs : List ℤ) (is : List (Option A)) (f : ℤ → Option A) (n : ℕ) → length is ≡ length ids → is ≡ column n (map f xs) → fits_ids ids xs ≡ true
-column_fits ids [] is f n len e = refl
-column_fits ids (x ∷ xs) is f n len e = eq-eqb _ _ (sym (length-map (x ∷ xs) f) ∙ sym (ap length e) ∙ len)
+values_for_fit : {A : Type 0} (ids xs : List ℤ) (is : List (Option A)) (f : ℤ → Option A) (n : ℕ) → length is ≡ length ids → is ≡ values_for n (map f xs) → fits_ids ids xs ≡ true
+values_for_fit ids [] is f n len e = refl
+values_for_fit ids (x ∷ xs) is f n len e = eq-eqb _ _ (sym (length-map (x ∷ xs) f) ∙ sym (ap length e) ∙ len)
 
 deltas_fit : {A : Type 0} (ids ds : List ℤ) (is : List (Option A)) (meaning : ℤ → A) → length is ≡ length ids → StandsOrNone (length is) is meaning ds → fits_ids ids ds ≡ true
-deltas_fit ids ds is meaning len h = sym (fits_by ids ids h.0 ds refl (Diff-length h.0 ds h.1)) ∙ column_fits ids h.0 is (λ v. Some (meaning v)) (length is) len h.2
+deltas_fit ids ds is meaning len h = sym (fits_by ids ids h.0 ds refl (Diff-length h.0 ds h.1)) ∙ values_for_fit ids h.0 is (λ v. Some (meaning v)) (length is) len h.2
 
 -- ---- sums
 
@@ -117,7 +117,7 @@ users_there table (i ∷ is) (v ∷ vs) e =
     user_there None h = absurd cc
     user_there (Some t) h = let there : text_at table v ≡ Some t = cc in index_there table v t there
 
-users_hold : (table : List Text) (is : List InfoValue) (n : ℕ) (vs : List ℤ) → map (λ i. option_map Some i.user) is ≡ column n (map (λ v. Some (text_at table v)) vs) → list_all (is_index (length table)) vs ≡ true
+users_hold : (table : List Text) (is : List InfoValue) (n : ℕ) (vs : List ℤ) → map (λ i. option_map Some i.user) is ≡ values_for n (map (λ v. Some (text_at table v)) vs) → list_all (is_index (length table)) vs ≡ true
 users_hold table is n [] e = refl
 users_hold table is n (v ∷ vs) e = users_there table is (v ∷ vs) e
 
@@ -128,10 +128,10 @@ DenseOf-no_phase b ns m h =
     let is : List InfoValue = map (λ n. n.info) ns in
     let i = h.infos_are in
     let ids : length ns ≡ length m.id = sym (length-map ns (λ n. n.id)) ∙ Diff-length (map (λ n. n.id) ns) m.id h.ids_are in
-    let lats : length m.lat ≡ length m.id = sym (Diff-length h.lats_are.0 m.lat h.lats_are.1) ∙ sym (length-map h.lats_are.0 (place b.lat_offset b.granularity)) ∙ sym (ap length h.lats_are.2) ∙ length-map ns (λ n. n.lat) ∙ ids in
-    let lons : length m.lon ≡ length m.id = sym (Diff-length h.lons_are.0 m.lon h.lons_are.1) ∙ sym (length-map h.lons_are.0 (place b.lon_offset b.granularity)) ∙ sym (ap length h.lons_are.2) ∙ length-map ns (λ n. n.lon) ∙ ids in
+    let lats : length m.lat ≡ length m.id = sym (Diff-length h.lats_are.0 m.lat h.lats_are.1) ∙ sym (length-map h.lats_are.0 (coordinate b.lat_offset b.granularity)) ∙ sym (ap length h.lats_are.2) ∙ length-map ns (λ n. n.lat) ∙ ids in
+    let lons : length m.lon ≡ length m.id = sym (Diff-length h.lons_are.0 m.lon h.lons_are.1) ∙ sym (length-map h.lons_are.0 (coordinate b.lon_offset b.granularity)) ∙ sym (ap length h.lons_are.2) ∙ length-map ns (λ n. n.lon) ∙ ids in
     let infos : length is ≡ length m.id = length-map ns (λ n. n.info) ∙ ids in
-    let versions : fits_ids m.id m.info.version ≡ true = column_fits m.id m.info.version (map (λ i. i.version) is) version (length is) (length-map is (λ i. i.version) ∙ infos) i.versions_are in
+    let versions : fits_ids m.id m.info.version ≡ true = values_for_fit m.id m.info.version (map (λ i. i.version) is) version (length is) (length-map is (λ i. i.version) ∙ infos) i.versions_are in
     let times : fits_ids m.id m.info.timestamp ≡ true = deltas_fit m.id m.info.timestamp (map (λ i. i.time) is) (time b.date_granularity) (length-map is (λ i. i.time) ∙ infos) (resized (map (λ i. i.time) is) (length-map is (λ i. i.time)) i.times_are) in
     let changesets : fits_ids m.id m.info.changeset ≡ true = deltas_fit m.id m.info.changeset (map (λ i. i.changeset) is) (λ v. v) (length-map is (λ i. i.changeset) ∙ infos) (resized (map (λ i. i.changeset) is) (length-map is (λ i. i.changeset)) i.changesets_are) in
     let uids : fits_ids m.id m.info.uid ≡ true = deltas_fit m.id m.info.uid (map (λ i. i.uid) is) (λ v. v) (length-map is (λ i. i.uid) ∙ infos) (resized (map (λ i. i.uid) is) (length-map is (λ i. i.uid)) i.uids_are) in
@@ -142,10 +142,10 @@ DenseOf-no_phase b ns m h =
     both _ _ (sums_hold _ m.id h.ids_are) (both _ _ (sums_hold _ m.lat h.lats_are.1) (both _ _ (sums_hold _ m.lon h.lons_are.1) (both _ _ (sums_hold _ m.info.timestamp i.times_are.1)
     (both _ _ (sums_hold _ m.info.changeset i.changesets_are.1) (both _ _ (sums_hold _ m.info.uid i.uids_are.1) (both _ _ (sums_hold _ m.info.user_sid i.users_are.1) refl)))))) in
     let ids_wide : list_all is_wide (front_sums m.id) ≡ true = sym (ap (list_all is_wide) (Diff-are_sums _ m.id h.ids_are)) ∙ all_pass is_wide (λ n. n.id) IsNode (λ n k. k.id) ns h.in_range in
-    let lats_wide : list_all (place_in_range b.lat_offset b.granularity) (front_sums m.lat) ≡ true =
-    sym (ap (list_all (place_in_range b.lat_offset b.granularity)) (Diff-are_sums _ m.lat h.lats_are.1)) ∙ sym (list_all-map is_wide (place b.lat_offset b.granularity) h.lats_are.0) ∙ sym (ap (list_all is_wide) h.lats_are.2) ∙ all_pass is_wide (λ n. n.lat) IsNode (λ n k. k.lat) ns h.in_range in
-    let lons_wide : list_all (place_in_range b.lon_offset b.granularity) (front_sums m.lon) ≡ true =
-    sym (ap (list_all (place_in_range b.lon_offset b.granularity)) (Diff-are_sums _ m.lon h.lons_are.1)) ∙ sym (list_all-map is_wide (place b.lon_offset b.granularity) h.lons_are.0) ∙ sym (ap (list_all is_wide) h.lons_are.2) ∙ all_pass is_wide (λ n. n.lon) IsNode (λ n k. k.lon) ns h.in_range in
+    let lats_wide : list_all (coordinate_in_range b.lat_offset b.granularity) (front_sums m.lat) ≡ true =
+    sym (ap (list_all (coordinate_in_range b.lat_offset b.granularity)) (Diff-are_sums _ m.lat h.lats_are.1)) ∙ sym (list_all-map is_wide (coordinate b.lat_offset b.granularity) h.lats_are.0) ∙ sym (ap (list_all is_wide) h.lats_are.2) ∙ all_pass is_wide (λ n. n.lat) IsNode (λ n k. k.lat) ns h.in_range in
+    let lons_wide : list_all (coordinate_in_range b.lon_offset b.granularity) (front_sums m.lon) ≡ true =
+    sym (ap (list_all (coordinate_in_range b.lon_offset b.granularity)) (Diff-are_sums _ m.lon h.lons_are.1)) ∙ sym (list_all-map is_wide (coordinate b.lon_offset b.granularity) h.lons_are.0) ∙ sym (ap (list_all is_wide) h.lons_are.2) ∙ all_pass is_wide (λ n. n.lon) IsNode (λ n k. k.lon) ns h.in_range in
     let versions_fit = infos_pass is_version (λ i. i.version) version (length is) m.info.version (λ i k. k.version) is i.in_range i.versions_are in
     let times_wide = sym (ap (list_all (λ t. is_wide (time b.date_granularity t))) (Diff-are_sums _ m.info.timestamp i.times_are.1)) ∙ infos_pass is_wide (λ i. i.time) (λ t. Some (time b.date_granularity t)) (length is) i.times_are.0 (λ i k. k.time) is i.in_range i.times_are.2 in
     let changesets_wide = sym (ap (list_all is_wide) (Diff-are_sums _ m.info.changeset i.changesets_are.1)) ∙ infos_pass is_wide (λ i. i.changeset) (λ v. Some v) (length is) i.changesets_are.0 (λ i k. k.changeset) is i.in_range i.changesets_are.2 in

@@ -14,9 +14,9 @@ use Rattle.osm_block.specs.declared.fields.TheConstants.{DENSEINFO_CHANGESET, DE
 use Rattle.osm_block.specs.declared.fault.BlockFault.TheVariants as faults
 use Rattle.osm_block.specs.declared.dense.fields.DenseFields.{DenseFields}
 use Rattle.osm_block.specs.Message.{Dense, wires, arrays, some_visible, dense_message}
-use Rattle.osm_block.specs.Columns.{numbers_in, fault_in, first_there}
+use Rattle.osm_block.specs.FieldsLeft.{numbers_in, fault_in, first_there}
 use Rattle.osm_block.specs.Dense.{dense_message_of}
-use Rattle.osm_block.specs.DenseFieldsRead.{ColumnRead, DenseInfoRead}
+use Rattle.osm_block.specs.DenseFieldsRead.{ArrayRead, DenseInfoRead}
 use Rattle.osm_block.specs.Phases.{first, wire_phases}
 use Rattle.osm_block.proofs.FieldLemmas.{option_or-assoc, option_or-none, first_there-append, first_of_wire}
 use Rattle.osm_block.proofs.ReadingLemmas.{each-append}
@@ -129,10 +129,10 @@ low_are (n ∷ ns) = ap (λ l. sint32 n ∷ l) (low_are ns)
 
 -- what was read of a message
 pub record DenseRead (d : DenseFields) (fs : List Entry) : Type 0 where
-  pub ids : ColumnRead d.ids DENSE_ID fs
-  pub lats : ColumnRead d.lats DENSE_LAT fs
-  pub lons : ColumnRead d.lons DENSE_LON fs
-  pub keys_vals : ColumnRead d.keys_vals DENSE_KEYS_VALS fs
+  pub ids : ArrayRead d.ids DENSE_ID fs
+  pub lats : ArrayRead d.lats DENSE_LAT fs
+  pub lons : ArrayRead d.lons DENSE_LON fs
+  pub keys_vals : ArrayRead d.keys_vals DENSE_KEYS_VALS fs
   pub info : DenseInfoRead d.info (sub fs DENSE_DENSEINFO)
 
 pub message_is : (d : DenseFields) (fs : List Entry) → DenseRead d fs → dense_message_of d ≡ dense_message fs

@@ -7,14 +7,14 @@ use Rattle.pbf_wire.specs.Readings.{is_there}
 use Rattle.osm_value.specs.Ranges.{is_wide, is_version, is_uid, passes}
 use Rattle.osm_block.specs.declared.fault.BlockFault.{BlockFault}
 use Rattle.osm_block.specs.declared.fault.BlockFault.TheVariants as faults
-use Rattle.osm_block.specs.declared.dense.columns.Columns.{Columns}
+use Rattle.osm_block.specs.declared.dense.arrays.DenseArrays.{DenseArrays}
 use Rattle.osm_block.specs.Message.{Context, DenseMessage}
 use Rattle.osm_block.specs.Differences.{front_sums, fits_i64}
 use Rattle.osm_block.specs.Block.{time, version}
-use Rattle.osm_block.specs.Dense.{AreColumns, columns_in_range}
-use Rattle.osm_block.specs.Phases.{Phase, first, when, is_index, all_in, place_in_range, same_length, fits_ids, deltas_of, dense_info_in_range, tags_phases, dense_phases}
+use Rattle.osm_block.specs.Dense.{AreArraysOf, arrays_in_range}
+use Rattle.osm_block.specs.Phases.{Phase, first, when, is_index, all_in, coordinate_in_range, same_length, fits_ids, deltas_of, dense_info_in_range, tags_phases, dense_phases}
 use Rattle.osm_block.proofs.DifferencesLemmas.{Diff-are_sums, list_all-stops}
-use Rattle.osm_block.proofs.DenseColumnLemmas.{Diff-length, lengths_are}
+use Rattle.osm_block.proofs.DenseArrayLemmas.{Diff-length, lengths_are}
 
 -- ---- lengths, as the code tests them
 
@@ -59,15 +59,15 @@ sum_goes ds rest e h = go (sums_fit ds) e
 abbrev pub message_in_range : Context → DenseMessage → Bool
 message_in_range b m =
     list_all is_wide (front_sums m.id)
-    && list_all (place_in_range b.lat_offset b.granularity) (front_sums m.lat)
-    && list_all (place_in_range b.lon_offset b.granularity) (front_sums m.lon)
+    && list_all (coordinate_in_range b.lat_offset b.granularity) (front_sums m.lat)
+    && list_all (coordinate_in_range b.lon_offset b.granularity) (front_sums m.lon)
     && dense_info_in_range b m.info
 
-pub ranges_are : (b : Context) (c : Columns) (m : DenseMessage) → AreColumns c m → columns_in_range b c ≡ message_in_range b m
+pub ranges_are : (b : Context) (c : DenseArrays) (m : DenseMessage) → AreArraysOf c m → arrays_in_range b c ≡ message_in_range b m
 ranges_are b c m are =
     let i = ap (list_all is_wide) (Diff-are_sums c.ids.items m.id are.ids) in
-    let l = ap (list_all (place_in_range b.lat_offset b.granularity)) (Diff-are_sums c.lats.items m.lat are.lats) in
-    let o = ap (list_all (place_in_range b.lon_offset b.granularity)) (Diff-are_sums c.lons.items m.lon are.lons) in
+    let l = ap (list_all (coordinate_in_range b.lat_offset b.granularity)) (Diff-are_sums c.lats.items m.lat are.lats) in
+    let o = ap (list_all (coordinate_in_range b.lon_offset b.granularity)) (Diff-are_sums c.lons.items m.lon are.lons) in
     let v = ap (list_all (λ v. passes is_version (version v))) are.versions in
     let t = ap (list_all (λ t. is_wide (time b.date_granularity t))) (Diff-are_sums c.timestamps.items m.info.timestamp are.timestamps) in
     let s = ap (list_all is_wide) (Diff-are_sums c.changesets.items m.info.changeset are.changesets) in
@@ -113,10 +113,10 @@ dense_fault_is b m unknown lengths sums ranges tags users ev el es er et eu =
     ∙ ap (λ x. judged unknown lengths sums ranges x (users_fit b m)) (sym et)
     ∙ ap (λ x. judged unknown lengths sums ranges tags x) (sym eu)
 
--- the tags and the users of the columns
-pub tags_are : (b : Context) (c : Columns) (m : DenseMessage) → AreColumns c m → first (tags_phases (length c.ids.items) (length b.table) c.keys_vals.items) ≡ tags_phase b m
+-- the tags and the users of the arrays
+pub tags_are : (b : Context) (c : DenseArrays) (m : DenseMessage) → AreArraysOf c m → first (tags_phases (length c.ids.items) (length b.table) c.keys_vals.items) ≡ tags_phase b m
 tags_are b c m are =
     ap (λ n. first (tags_phases n (length b.table) c.keys_vals.items)) (Diff-length c.ids.items m.id are.ids) ∙ ap (λ l. first (tags_phases (length m.id) (length b.table) l)) are.keys_vals
 
-pub users_are : (b : Context) (c : Columns) (m : DenseMessage) → AreColumns c m → list_all (is_index (length b.table)) c.users.items ≡ users_fit b m
+pub users_are : (b : Context) (c : DenseArrays) (m : DenseMessage) → AreArraysOf c m → list_all (is_index (length b.table)) c.users.items ≡ users_fit b m
 users_are b c m are = ap (list_all (is_index (length b.table))) (Diff-are_sums c.users.items m.info.user_sid are.users)

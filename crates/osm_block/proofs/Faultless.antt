@@ -21,7 +21,7 @@ use Rattle.osm_block.proofs.ReadingLemmas.{first-append_none}
 use Rattle.osm_block.proofs.LoopLemmas.{first-front_none, message_wire}
 use Rattle.osm_block.proofs.HeadLemmas.{tables, texts as head_texts, scales, last_phase, all_none}
 use Rattle.osm_block.proofs.BlockLemmas.{groups_phases}
-use Rattle.osm_block.proofs.PlaceLemmas.{le_true}
+use Rattle.osm_block.proofs.CoordinateLemmas.{le_true}
 use Rattle.osm_block.proofs.IndexesLemmas.{and_left, and_right}
 use Rattle.osm_block.proofs.RangeLemmas.{both, text_from, table_passes}
 use Rattle.osm_block.proofs.FaultlessElements.{none_stands, is_true, node_of, way_of, relation_of}

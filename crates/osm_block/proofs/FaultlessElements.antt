@@ -13,13 +13,13 @@ use Rattle.osm_block.specs.declared.fault.BlockFault.{BlockFault}
 use Rattle.osm_block.specs.declared.fault.BlockFault.TheVariants as faults
 use Rattle.osm_block.specs.Message.{Context, InfoMessage, NodeMessage, WayMessage, RelationMessage}
 use Rattle.osm_block.specs.Differences.{Diff, front_sums, fits_i64}
-use Rattle.osm_block.specs.Block.{place, time, version, kind, text_at, TagsAt, InfoOf, NodeOf, WayOf, RelationOf}
+use Rattle.osm_block.specs.Block.{coordinate, time, version, kind, text_at, TagsAt, InfoOf, NodeOf, WayOf, RelationOf}
 use Rattle.osm_block.specs.Members.{MembersAt}
 use Rattle.osm_block.specs.Texts.{is_text}
-use Rattle.osm_block.specs.Phases.{Phase, first, when, is_index, all_in, same_length, info_in_range, place_in_range, user_indexes, node_phases, way_phases, relation_phases}
+use Rattle.osm_block.specs.Phases.{Phase, first, when, is_index, all_in, same_length, info_in_range, coordinate_in_range, user_indexes, node_phases, way_phases, relation_phases}
 use Rattle.osm_block.proofs.IndexesLemmas.{and_left, and_right}
 use Rattle.osm_block.proofs.DifferencesLemmas.{Diff-from_sums}
-use Rattle.osm_block.proofs.DenseColumnLemmas.{length-sums}
+use Rattle.osm_block.proofs.DenseArrayLemmas.{length-sums}
 use Rattle.osm_block.proofs.NodeTagsLemmas.{index_is}
 use Rattle.osm_block.proofs.NodePhases.{nodes_range, four}
 use Rattle.osm_block.proofs.RelationPhases.{lengths, relations_range, indexes, kinds_known, three}
@@ -134,21 +134,21 @@ node_of b m texts none =
     let lat = there m.lat (or_right (is_none m.id) (is_none m.lat) two) in
     let lon = there m.lon (or_right (is_none m.id || is_none m.lat) (is_none m.lon) missing) in
     let even = eqb-true (length m.keys) (length m.vals) (is_true (same_length m.keys m.vals) faults.LengthsDiffer p.1.1.0) in
-    let ranges = four (passes is_wide m.id) (passes (place_in_range b.lat_offset b.granularity) m.lat) (passes (place_in_range b.lon_offset b.granularity) m.lon) (info_in_range b m.info) (is_true (nodes_range b m) faults.OutOfRange p.1.1.1.0) in
+    let ranges = four (passes is_wide m.id) (passes (coordinate_in_range b.lat_offset b.granularity) m.lat) (passes (coordinate_in_range b.lon_offset b.granularity) m.lon) (info_in_range b m.info) (is_true (nodes_range b m) faults.OutOfRange p.1.1.1.0) in
     let all = three_in (is_index (length b.table)) m.keys m.vals (user_indexes m.info) (is_true (all_in b.table (m.keys ++ m.vals ++ user_indexes m.info)) faults.BadIndex p.1.1.1.1.0) in
     let tags = tags_of b.table m.keys m.vals even all.0 all.1 in
     let info = info_of b m.info texts (is_false m.info.is_visible_there faults.VisibleNotKnown p.0) ranges.3 all.2 in (
-      record { id = id.0; lat = place b.lat_offset b.granularity lat.0; lon = place b.lon_offset b.granularity lon.0; tags = tags.0; info = info.0 },
+      record { id = id.0; lat = coordinate b.lat_offset b.granularity lat.0; lon = coordinate b.lon_offset b.granularity lon.0; tags = tags.0; info = info.0 },
       record {
         id_is = sym id.1;
-        lat_is = sym (ap (option_map (place b.lat_offset b.granularity)) lat.1);
-        lon_is = sym (ap (option_map (place b.lon_offset b.granularity)) lon.1);
+        lat_is = sym (ap (option_map (coordinate b.lat_offset b.granularity)) lat.1);
+        lon_is = sym (ap (option_map (coordinate b.lon_offset b.granularity)) lon.1);
         tags_are = tags.1;
         info_is = info.1;
         in_range = record {
           id = tested is_wide m.id id.0 id.1 ranges.0;
-          lat = tested (place_in_range b.lat_offset b.granularity) m.lat lat.0 lat.1 ranges.1;
-          lon = tested (place_in_range b.lon_offset b.granularity) m.lon lon.0 lon.1 ranges.2;
+          lat = tested (coordinate_in_range b.lat_offset b.granularity) m.lat lat.0 lat.1 ranges.1;
+          lon = tested (coordinate_in_range b.lon_offset b.granularity) m.lon lon.0 lon.1 ranges.2;
           tags = tags_in_range b.table tags.0 m.keys m.vals texts tags.1;
           info = info.1.in_range;
         };

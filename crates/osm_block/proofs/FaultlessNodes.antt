@@ -10,27 +10,27 @@ use Rattle.osm_block.specs.Message.{Context, DenseMessage, DenseInfoMessage}
 use Rattle.osm_block.specs.Differences.{Diff, front_sums, fits_i64}
 use Rattle.osm_block.specs.DenseTags.{Pair, indexes_of}
 use Rattle.osm_block.specs.NodeTags.{node_pairs, pair_indexes}
-use Rattle.osm_block.specs.Block.{place, time, version, text_at, texts_at, all_there, column, DenseInfoOf, DenseOf}
+use Rattle.osm_block.specs.Block.{coordinate, time, version, text_at, texts_at, all_there, values_for, DenseInfoOf, DenseOf}
 use Rattle.osm_block.specs.Texts.{is_text}
-use Rattle.osm_block.specs.Phases.{first, when, is_index, place_in_range, same_length, fits_ids, dense_info_fits, dense_info_in_range, deltas_of, dense_phases}
+use Rattle.osm_block.specs.Phases.{first, when, is_index, coordinate_in_range, same_length, fits_ids, dense_info_fits, dense_info_in_range, deltas_of, dense_phases}
 use Rattle.osm_block.proofs.IndexesLemmas.{and_left, and_right}
 use Rattle.osm_block.proofs.NodeTagsLemmas.{tags_fit, indexes_in_two}
 use Rattle.osm_block.proofs.RangeLemmas.{each_true, text_there}
 use Rattle.osm_block.proofs.NodePhases.{four}
 use Rattle.osm_block.proofs.RelationPhases.{three}
-use Rattle.osm_block.proofs.DenseColumnLemmas.{length-sums, fits_by, lengths_are, tags_are_in_range}
+use Rattle.osm_block.proofs.DenseArrayLemmas.{length-sums, fits_by, lengths_are, tags_are_in_range}
 use Rattle.osm_block.proofs.DensePhaseLemmas.{sums_phase, message_in_range, tags_phase, users_fit, judged, dense_fault_is}
 use Rattle.osm_block.proofs.FaultlessElements.{none_stands, is_false, is_true, sums_differ, text_of}
 
--- ---- columns of one value or none for each node
+-- ---- arrays of one value or none for each node
 
-column_length : {A : Type 0} (ids xs : List ℤ) (meaning : ℤ → Option A) → fits_ids ids xs ≡ true → length (column (length ids) (map meaning xs)) ≡ length ids
-column_length ids [] meaning h = length-replicate (length ids) None
-column_length ids (x ∷ xs) meaning h = length-map (x ∷ xs) meaning ∙ eqb-true (length (x ∷ xs)) (length ids) h
+values_for_length : {A : Type 0} (ids xs : List ℤ) (meaning : ℤ → Option A) → fits_ids ids xs ≡ true → length (values_for (length ids) (map meaning xs)) ≡ length ids
+values_for_length ids [] meaning h = length-replicate (length ids) None
+values_for_length ids (x ∷ xs) meaning h = length-map (x ∷ xs) meaning ∙ eqb-true (length (x ∷ xs)) (length ids) h
 
 -- the same, of the sums of an array
-sums_length : {A : Type 0} (ids ds : List ℤ) (meaning : ℤ → Option A) → fits_ids ids ds ≡ true → length (column (length ids) (map meaning (front_sums ds))) ≡ length ids
-sums_length ids ds meaning h = column_length ids (front_sums ds) meaning (fits_by ids ids (front_sums ds) ds refl (length-sums ds) ∙ h)
+sums_length : {A : Type 0} (ids ds : List ℤ) (meaning : ℤ → Option A) → fits_ids ids ds ≡ true → length (values_for (length ids) (map meaning (front_sums ds))) ≡ length ids
+sums_length ids ds meaning h = values_for_length ids (front_sums ds) meaning (fits_by ids ids (front_sums ds) ds refl (length-sums ds) ∙ h)
 
 none_passes : {A : Type 0} (test : A → Bool) (n : ℕ) → AllByRecursion (λ (o : Option A). IsTrue (passes test o)) (replicate n None)
 none_passes test zero = tt
@@ -40,16 +40,16 @@ mapped_pass : {A : Type 0} (P : A → Type 0) (test : ℤ → Bool) (f : ℤ →
 mapped_pass P test f by [] h = tt
 mapped_pass P test f by (x ∷ xs) h = (by x (and_left _ _ h), mapped_pass P test f by xs (and_right _ _ h))
 
-column_passes : {A : Type 0} (test : A → Bool) (n : ℕ) (meaning : ℤ → Option A) (xs : List ℤ) → list_all (λ v. passes test (meaning v)) xs ≡ true →
-    AllByRecursion (λ (o : Option A). IsTrue (passes test o)) (column n (map meaning xs))
-column_passes test n meaning [] h = none_passes test n
-column_passes test n meaning (x ∷ xs) h = mapped_pass (λ o. IsTrue (passes test o)) (λ v. passes test (meaning v)) meaning (λ v e. e) (x ∷ xs) h
+values_for_pass : {A : Type 0} (test : A → Bool) (n : ℕ) (meaning : ℤ → Option A) (xs : List ℤ) → list_all (λ v. passes test (meaning v)) xs ≡ true →
+    AllByRecursion (λ (o : Option A). IsTrue (passes test o)) (values_for n (map meaning xs))
+values_for_pass test n meaning [] h = none_passes test n
+values_for_pass test n meaning (x ∷ xs) h = mapped_pass (λ o. IsTrue (passes test o)) (λ v. passes test (meaning v)) meaning (λ v e. e) (x ∷ xs) h
 
 -- ---- users
 
 record Users (table : List Text) (n : ℕ) (indexes : List ℤ) : Type 0 where
   pub names : List (Option Text)
-  pub stand : map (λ u. option_map Some u) names ≡ column n (map (λ v. Some (text_at table v)) indexes)
+  pub stand : map (λ u. option_map Some u) names ≡ values_for n (map (λ v. Some (text_at table v)) indexes)
   pub in_range : AllByRecursion IsTextOrNone names
 
 nobody : (table : List Text) (n : ℕ) → Users table n []
@@ -72,7 +72,7 @@ users_of : (table : List Text) (n : ℕ) (indexes : List ℤ) → list_all is_te
 users_of table n [] texts h = nobody table n
 users_of table n (i ∷ indexes) texts h = let s = somebody table (i ∷ indexes) texts h in record { names = s.0; stand = s.1; in_range = s.2 }
 
--- ---- infos by their columns
+-- ---- infos by their arrays
 
 record Infos (versions times changesets uids : List (Option ℤ)) (names : List (Option Text)) : Type 0 where
   pub list : List InfoValue
@@ -116,25 +116,25 @@ dense_infos b ids m texts unseen fits ranges users dt dc du dn =
     let stamp : ℤ → Option ℤ = λ t. Some (time b.date_granularity t) in
     let same : ℤ → Option ℤ = λ v. Some v in
     let name : ℤ → Option (Option Text) = λ v. Some (text_at b.table v) in
-    let long_versions = column_length ids m.version version (and_left (fits_ids ids m.version) (fits_ids ids m.timestamp) fit.0) in
+    let long_versions = values_for_length ids m.version version (and_left (fits_ids ids m.version) (fits_ids ids m.timestamp) fit.0) in
     let long_times = sums_length ids m.timestamp stamp (and_right (fits_ids ids m.version) (fits_ids ids m.timestamp) fit.0) in
     let long_changesets = sums_length ids m.changeset same fit.1 in
     let long_uids = sums_length ids m.uid same fit.2 in
     let long_names = sums_length ids m.user_sid name fit.3 in
     let people = users_of b.table n (front_sums m.user_sid) texts users in
     let long_people = sym (length-map people.names (λ u. option_map Some u)) ∙ ap length people.stand ∙ long_names in
-    let all = infos_of (column n (map version m.version)) (column n (map stamp (front_sums m.timestamp))) (column n (map same (front_sums m.changeset))) (column n (map same (front_sums m.uid))) people.names
+    let all = infos_of (values_for n (map version m.version)) (values_for n (map stamp (front_sums m.timestamp))) (values_for n (map same (front_sums m.changeset))) (values_for n (map same (front_sums m.uid))) people.names
     (long_times ∙ sym long_versions) (long_changesets ∙ sym long_versions) (long_uids ∙ sym long_versions) (long_people ∙ sym long_versions)
-    (column_passes is_version n version m.version wide.0) (column_passes is_wide n stamp (front_sums m.timestamp) wide.1)
-    (column_passes is_wide n same (front_sums m.changeset) wide.2) (column_passes is_uid n same (front_sums m.uid) wide.3) people.in_range in
+    (values_for_pass is_version n version m.version wide.0) (values_for_pass is_wide n stamp (front_sums m.timestamp) wide.1)
+    (values_for_pass is_wide n same (front_sums m.changeset) wide.2) (values_for_pass is_uid n same (front_sums m.uid) wide.3) people.in_range in
     let len : length all.list ≡ n = sym (length-map all.list (λ i. i.version)) ∙ ap length all.versions_are ∙ long_versions in (
       all.list,
       record {
-        versions_are = all.versions_are ∙ ap (λ k. column k (map version m.version)) (sym len);
-        times_are = (front_sums m.timestamp, dt, all.times_are ∙ ap (λ k. column k (map stamp (front_sums m.timestamp))) (sym len));
-        changesets_are = (front_sums m.changeset, dc, all.changesets_are ∙ ap (λ k. column k (map same (front_sums m.changeset))) (sym len));
-        uids_are = (front_sums m.uid, du, all.uids_are ∙ ap (λ k. column k (map same (front_sums m.uid))) (sym len));
-        users_are = (front_sums m.user_sid, dn, (all.users_are ∙ people.stand) ∙ ap (λ k. column k (map name (front_sums m.user_sid))) (sym len));
+        versions_are = all.versions_are ∙ ap (λ k. values_for k (map version m.version)) (sym len);
+        times_are = (front_sums m.timestamp, dt, all.times_are ∙ ap (λ k. values_for k (map stamp (front_sums m.timestamp))) (sym len));
+        changesets_are = (front_sums m.changeset, dc, all.changesets_are ∙ ap (λ k. values_for k (map same (front_sums m.changeset))) (sym len));
+        uids_are = (front_sums m.uid, du, all.uids_are ∙ ap (λ k. values_for k (map same (front_sums m.uid))) (sym len));
+        users_are = (front_sums m.user_sid, dn, (all.users_are ∙ people.stand) ∙ ap (λ k. values_for k (map name (front_sums m.user_sid))) (sym len));
         no_visible = unseen;
         in_range = all.in_range;
       },
@@ -170,7 +170,7 @@ pairs_length : (n : ℕ) (kv : List ℤ) → length (node_pairs n kv) ≡ n
 pairs_length zero kv = refl
 pairs_length (suc n) kv = ap suc (pairs_length n _)
 
--- ---- nodes by their columns
+-- ---- nodes by their arrays
 
 record Nodes (ids lats lons : List ℤ) (rows : List (List (Text × Text))) (infos : List InfoValue) : Type 0 where
   pub list : List NodeValue
@@ -218,15 +218,15 @@ dense_of b m texts none =
     let after_times = and_right _ _ after_lons in
     let after_changesets = and_right _ _ after_times in
     let after_uids = and_right _ _ after_changesets in
-    let ranges = four (list_all is_wide (front_sums m.id)) (list_all (place_in_range b.lat_offset b.granularity) (front_sums m.lat)) (list_all (place_in_range b.lon_offset b.granularity) (front_sums m.lon))
+    let ranges = four (list_all is_wide (front_sums m.id)) (list_all (coordinate_in_range b.lat_offset b.granularity) (front_sums m.lat)) (list_all (coordinate_in_range b.lon_offset b.granularity) (front_sums m.lon))
     (dense_info_in_range b m.info) (is_true (message_in_range b m) faults.OutOfRange p.1.1.1.0) in
     let fit = tags_fit n (length b.table) m.keys_vals p.1.1.1.1.0 in
     let rows = rows_of b.table (node_pairs n m.keys_vals) texts fit.in_table in
     let infos = dense_infos b m.id m.info texts (is_false m.info.is_visible_there faults.VisibleNotKnown p.0) even.2 ranges.3 (is_true (users_fit b m) faults.BadIndex p.1.1.1.1.1.0)
     (sums_differ m.info.timestamp (and_left _ _ after_lons)) (sums_differ m.info.changeset (and_left _ _ after_times))
     (sums_differ m.info.uid (and_left _ _ after_changesets)) (sums_differ m.info.user_sid (and_left _ _ after_uids)) in
-    let lat : ℤ → ℤ = place b.lat_offset b.granularity in
-    let lon : ℤ → ℤ = place b.lon_offset b.granularity in
+    let lat : ℤ → ℤ = coordinate b.lat_offset b.granularity in
+    let lon : ℤ → ℤ = coordinate b.lon_offset b.granularity in
     let long_ids : n ≡ length (front_sums m.id) = sym (length-sums m.id) in
     let long_lats : length (map lat (front_sums m.lat)) ≡ n = length-map (front_sums m.lat) lat ∙ length-sums m.lat ∙ eqb-true (length m.lat) n even.0 in
     let long_lons : length (map lon (front_sums m.lon)) ≡ n = length-map (front_sums m.lon) lon ∙ length-sums m.lon ∙ eqb-true (length m.lon) n even.1 in
@@ -234,8 +234,8 @@ dense_of b m texts none =
     let ns = nodes_of (front_sums m.id) (map lat (front_sums m.lat)) (map lon (front_sums m.lon)) rows.0 infos.0
     (long_lats ∙ long_ids) (long_lons ∙ long_ids) (long_rows ∙ long_ids) (infos.2 ∙ long_ids)
     (each_true is_wide (front_sums m.id) ranges.0)
-    (mapped_pass IsWide (place_in_range b.lat_offset b.granularity) lat (λ x e. e) (front_sums m.lat) ranges.1)
-    (mapped_pass IsWide (place_in_range b.lon_offset b.granularity) lon (λ x e. e) (front_sums m.lon) ranges.2)
+    (mapped_pass IsWide (coordinate_in_range b.lat_offset b.granularity) lat (λ x e. e) (front_sums m.lat) ranges.1)
+    (mapped_pass IsWide (coordinate_in_range b.lon_offset b.granularity) lon (λ x e. e) (front_sums m.lon) ranges.2)
     rows.2 infos.1.in_range in (
       ns.list,
       record {

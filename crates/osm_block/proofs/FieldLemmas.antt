@@ -12,7 +12,7 @@ use Rattle.pbf_wire.specs.Readings.{front, fields, wire, packed, fitting, number
 use Rattle.osm_block.specs.declared.fields.TheConstants.{ELEMENT_ID, ELEMENT_INFO, ELEMENT_KEYS, ELEMENT_VALS, INFO_CHANGESET, INFO_TIMESTAMP, INFO_UID, INFO_USER_SID, INFO_VERSION, INFO_VISIBLE, NODE_LAT, NODE_LON, RELATION_MEMIDS, RELATION_ROLES_SID, RELATION_TYPES, WAY_REFS}
 use Rattle.osm_block.specs.declared.fault.BlockFault.{BlockFault}
 use Rattle.osm_block.specs.declared.fault.BlockFault.TheVariants as faults
-use Rattle.osm_block.specs.declared.column.Column.{Column}
+use Rattle.osm_block.specs.declared.number_array.NumberArray.{NumberArray}
 use Rattle.osm_block.specs.declared.info.InfoNumbers.{InfoNumbers}
 use Rattle.osm_block.specs.declared.info.InfoFields.{InfoFields}
 use Rattle.osm_block.specs.declared.node.NodeFields.{NodeFields}
@@ -21,7 +21,7 @@ use Rattle.osm_block.specs.declared.relation.RelationFields.{RelationFields}
 use Rattle.osm_block.specs.Message.{info_message, node_message, way_message, relation_message, arrays, wires_with, wires, Plain, Way, Relation}
 use Rattle.osm_block.specs.Fields.{info_message_of, node_message_of, way_message_of, relation_message_of}
 use Rattle.osm_block.specs.Phases.{first, wire_phases}
-use Rattle.osm_block.specs.Columns.{info_after, first_there, ColumnLeft, InfoLeft, NodeLeft, WayLeft, RelationLeft}
+use Rattle.osm_block.specs.FieldsLeft.{info_after, first_there, ArrayLeft, InfoLeft, NodeLeft, WayLeft, RelationLeft}
 
 pub last_or-append : (b : Option ℕ) (xs ys : List ℕ) → last_or b (xs ++ ys) ≡ last_or (last_or b xs) ys
 last_or-append b [] ys = refl
@@ -70,11 +70,11 @@ pub option_or-none : {A : Type 0} (x : Option A) → option_or x None ≡ x
 option_or-none None = refl
 option_or-none (Some a) = refl
 
-pub column_numbers : (column : Column) (k : ℕ) (whole : List Entry) → ColumnLeft column k [] whole → column.numbers.items ≡ nums whole k
-column_numbers column k whole h = sym (append-nil column.numbers.items) ∙ h.numbers
+pub array_numbers : (array : NumberArray) (k : ℕ) (whole : List Entry) → ArrayLeft array k [] whole → array.numbers.items ≡ nums whole k
+array_numbers array k whole h = sym (append-nil array.numbers.items) ∙ h.numbers
 
-pub column_fault : (column : Column) (k : ℕ) (whole : List Entry) → ColumnLeft column k [] whole → column.fault ≡ first_there (map packed (each whole k))
-column_fault column k whole h = sym (option_or-none column.fault) ∙ h.fault
+pub array_fault : (array : NumberArray) (k : ℕ) (whole : List Entry) → ArrayLeft array k [] whole → array.fault ≡ first_there (map packed (each whole k))
+array_fault array k whole h = sym (option_or-none array.fault) ∙ h.fault
 
 pub info_fault : (info : InfoFields) (whole : List Entry) → InfoLeft info ELEMENT_INFO [] whole → info.fault ≡ first_there (map wire (each whole ELEMENT_INFO))
 info_fault info whole h = sym (option_or-none info.fault) ∙ h.fault
@@ -107,29 +107,29 @@ node_read node whole h =
     let id : node.id ≡ last whole ELEMENT_ID = h.id.number in
     let lat : node.lat ≡ last whole NODE_LAT = h.lat.number in
     let lon : node.lon ≡ last whole NODE_LON = h.lon.number in
-    let keys : node.keys.numbers.items ≡ nums whole ELEMENT_KEYS = column_numbers node.keys ELEMENT_KEYS whole h.keys in
-    let vals : node.vals.numbers.items ≡ nums whole ELEMENT_VALS = column_numbers node.vals ELEMENT_VALS whole h.vals in
+    let keys : node.keys.numbers.items ≡ nums whole ELEMENT_KEYS = array_numbers node.keys ELEMENT_KEYS whole h.keys in
+    let vals : node.vals.numbers.items ≡ nums whole ELEMENT_VALS = array_numbers node.vals ELEMENT_VALS whole h.vals in
     let info : info_message_of node.info.numbers ≡ info_message (sub whole ELEMENT_INFO) = info_read node.info whole h.info in
     cc
 
 pub way_read : (way : WayFields) (whole : List Entry) → WayLeft way [] whole → way_message_of way ≡ way_message whole
 way_read way whole h =
     let id : way.id ≡ last whole ELEMENT_ID = h.id.number in
-    let keys : way.keys.numbers.items ≡ nums whole ELEMENT_KEYS = column_numbers way.keys ELEMENT_KEYS whole h.keys in
-    let vals : way.vals.numbers.items ≡ nums whole ELEMENT_VALS = column_numbers way.vals ELEMENT_VALS whole h.vals in
+    let keys : way.keys.numbers.items ≡ nums whole ELEMENT_KEYS = array_numbers way.keys ELEMENT_KEYS whole h.keys in
+    let vals : way.vals.numbers.items ≡ nums whole ELEMENT_VALS = array_numbers way.vals ELEMENT_VALS whole h.vals in
     let info : info_message_of way.info.numbers ≡ info_message (sub whole ELEMENT_INFO) = info_read way.info whole h.info in
-    let refs : way.refs.numbers.items ≡ nums whole WAY_REFS = column_numbers way.refs WAY_REFS whole h.refs in
+    let refs : way.refs.numbers.items ≡ nums whole WAY_REFS = array_numbers way.refs WAY_REFS whole h.refs in
     cc
 
 pub relation_read : (relation : RelationFields) (whole : List Entry) → RelationLeft relation [] whole → relation_message_of relation ≡ relation_message whole
 relation_read relation whole h =
     let id : relation.id ≡ last whole ELEMENT_ID = h.id.number in
-    let keys : relation.keys.numbers.items ≡ nums whole ELEMENT_KEYS = column_numbers relation.keys ELEMENT_KEYS whole h.keys in
-    let vals : relation.vals.numbers.items ≡ nums whole ELEMENT_VALS = column_numbers relation.vals ELEMENT_VALS whole h.vals in
+    let keys : relation.keys.numbers.items ≡ nums whole ELEMENT_KEYS = array_numbers relation.keys ELEMENT_KEYS whole h.keys in
+    let vals : relation.vals.numbers.items ≡ nums whole ELEMENT_VALS = array_numbers relation.vals ELEMENT_VALS whole h.vals in
     let info : info_message_of relation.info.numbers ≡ info_message (sub whole ELEMENT_INFO) = info_read relation.info whole h.info in
-    let roles : relation.roles.numbers.items ≡ nums whole RELATION_ROLES_SID = column_numbers relation.roles RELATION_ROLES_SID whole h.roles in
-    let memids : relation.memids.numbers.items ≡ nums whole RELATION_MEMIDS = column_numbers relation.memids RELATION_MEMIDS whole h.memids in
-    let types : relation.types.numbers.items ≡ nums whole RELATION_TYPES = column_numbers relation.types RELATION_TYPES whole h.types in
+    let roles : relation.roles.numbers.items ≡ nums whole RELATION_ROLES_SID = array_numbers relation.roles RELATION_ROLES_SID whole h.roles in
+    let memids : relation.memids.numbers.items ≡ nums whole RELATION_MEMIDS = array_numbers relation.memids RELATION_MEMIDS whole h.memids in
+    let types : relation.types.numbers.items ≡ nums whole RELATION_TYPES = array_numbers relation.types RELATION_TYPES whole h.types in
     cc
 
 pub none_of : {A B : Type 0} (f : A → B) (o : Option A) → option_map f o ≡ None → o ≡ None
@@ -172,21 +172,21 @@ pub node_fault : (node : NodeFields) (p : List ℕ) → wire p ≡ None → Node
     first (wire_phases (wires (Plain p))) ≡ option_map faults.BlockWire (option_or node.info.fault (option_or node.keys.fault node.vals.fault))
 node_fault node p none h =
     let info : node.info.fault ≡ first_there (map wire (each (fields p) ELEMENT_INFO)) = info_fault node.info (fields p) h.info in
-    let keys : node.keys.fault ≡ first_there (map packed (each (fields p) ELEMENT_KEYS)) = column_fault node.keys ELEMENT_KEYS (fields p) h.keys in
+    let keys : node.keys.fault ≡ first_there (map packed (each (fields p) ELEMENT_KEYS)) = array_fault node.keys ELEMENT_KEYS (fields p) h.keys in
     let vals : option_or node.vals.fault None ≡ first_there (map packed (each (fields p) ELEMENT_VALS)) = h.vals.fault in
     message_fault (ELEMENT_KEYS ∷ ELEMENT_VALS ∷ []) p none
     ∙ sym (ap (λ x. option_map faults.BlockWire (option_or x (arrays_fault (ELEMENT_KEYS ∷ ELEMENT_VALS ∷ []) (fields p)))) info)
     ∙ sym (ap (λ x. option_map faults.BlockWire (option_or node.info.fault (option_or x (arrays_fault (ELEMENT_VALS ∷ []) (fields p))))) keys)
-    ∙ ap (λ x. option_map faults.BlockWire (option_or node.info.fault (option_or node.keys.fault x))) (option_or-none (first_there (map packed (each (fields p) ELEMENT_VALS))) ∙ sym (column_fault node.vals ELEMENT_VALS (fields p) h.vals))
+    ∙ ap (λ x. option_map faults.BlockWire (option_or node.info.fault (option_or node.keys.fault x))) (option_or-none (first_there (map packed (each (fields p) ELEMENT_VALS))) ∙ sym (array_fault node.vals ELEMENT_VALS (fields p) h.vals))
 
 pub way_fault : (way : WayFields) (p : List ℕ) → wire p ≡ None → WayLeft way [] (fields p) →
     first (wire_phases (wires (Way p))) ≡ option_map faults.BlockWire (option_or way.info.fault (option_or way.keys.fault (option_or way.vals.fault way.refs.fault)))
 way_fault way p none h =
     message_fault (ELEMENT_KEYS ∷ ELEMENT_VALS ∷ WAY_REFS ∷ []) p none
     ∙ sym (ap (λ x. option_map faults.BlockWire (option_or x (arrays_fault (ELEMENT_KEYS ∷ ELEMENT_VALS ∷ WAY_REFS ∷ []) (fields p)))) (info_fault way.info (fields p) h.info))
-    ∙ sym (ap (λ x. option_map faults.BlockWire (option_or way.info.fault (option_or x (arrays_fault (ELEMENT_VALS ∷ WAY_REFS ∷ []) (fields p))))) (column_fault way.keys ELEMENT_KEYS (fields p) h.keys))
-    ∙ sym (ap (λ x. option_map faults.BlockWire (option_or way.info.fault (option_or way.keys.fault (option_or x (arrays_fault (WAY_REFS ∷ []) (fields p)))))) (column_fault way.vals ELEMENT_VALS (fields p) h.vals))
-    ∙ ap (λ x. option_map faults.BlockWire (option_or way.info.fault (option_or way.keys.fault (option_or way.vals.fault x)))) (option_or-none (first_there (map packed (each (fields p) WAY_REFS))) ∙ sym (column_fault way.refs WAY_REFS (fields p) h.refs))
+    ∙ sym (ap (λ x. option_map faults.BlockWire (option_or way.info.fault (option_or x (arrays_fault (ELEMENT_VALS ∷ WAY_REFS ∷ []) (fields p))))) (array_fault way.keys ELEMENT_KEYS (fields p) h.keys))
+    ∙ sym (ap (λ x. option_map faults.BlockWire (option_or way.info.fault (option_or way.keys.fault (option_or x (arrays_fault (WAY_REFS ∷ []) (fields p)))))) (array_fault way.vals ELEMENT_VALS (fields p) h.vals))
+    ∙ ap (λ x. option_map faults.BlockWire (option_or way.info.fault (option_or way.keys.fault (option_or way.vals.fault x)))) (option_or-none (first_there (map packed (each (fields p) WAY_REFS))) ∙ sym (array_fault way.refs WAY_REFS (fields p) h.refs))
 
 pub relation_fault : (relation : RelationFields) (p : List ℕ) → wire p ≡ None → RelationLeft relation [] (fields p) →
     first (wire_phases (wires (Relation p))) ≡
@@ -195,8 +195,8 @@ relation_fault relation p none h =
     let after : Option WireFault → Option BlockFault = λ x. option_map faults.BlockWire (option_or relation.info.fault (option_or relation.keys.fault (option_or relation.vals.fault x))) in
     message_fault (ELEMENT_KEYS ∷ ELEMENT_VALS ∷ RELATION_ROLES_SID ∷ RELATION_MEMIDS ∷ RELATION_TYPES ∷ []) p none
     ∙ sym (ap (λ x. option_map faults.BlockWire (option_or x (arrays_fault (ELEMENT_KEYS ∷ ELEMENT_VALS ∷ RELATION_ROLES_SID ∷ RELATION_MEMIDS ∷ RELATION_TYPES ∷ []) (fields p)))) (info_fault relation.info (fields p) h.info))
-    ∙ sym (ap (λ x. option_map faults.BlockWire (option_or relation.info.fault (option_or x (arrays_fault (ELEMENT_VALS ∷ RELATION_ROLES_SID ∷ RELATION_MEMIDS ∷ RELATION_TYPES ∷ []) (fields p))))) (column_fault relation.keys ELEMENT_KEYS (fields p) h.keys))
-    ∙ sym (ap (λ x. option_map faults.BlockWire (option_or relation.info.fault (option_or relation.keys.fault (option_or x (arrays_fault (RELATION_ROLES_SID ∷ RELATION_MEMIDS ∷ RELATION_TYPES ∷ []) (fields p)))))) (column_fault relation.vals ELEMENT_VALS (fields p) h.vals))
-    ∙ sym (ap (λ x. after (option_or x (arrays_fault (RELATION_MEMIDS ∷ RELATION_TYPES ∷ []) (fields p)))) (column_fault relation.roles RELATION_ROLES_SID (fields p) h.roles))
-    ∙ sym (ap (λ x. after (option_or relation.roles.fault (option_or x (arrays_fault (RELATION_TYPES ∷ []) (fields p))))) (column_fault relation.memids RELATION_MEMIDS (fields p) h.memids))
-    ∙ ap (λ x. after (option_or relation.roles.fault (option_or relation.memids.fault x))) (option_or-none (first_there (map packed (each (fields p) RELATION_TYPES))) ∙ sym (column_fault relation.types RELATION_TYPES (fields p) h.types))
+    ∙ sym (ap (λ x. option_map faults.BlockWire (option_or relation.info.fault (option_or x (arrays_fault (ELEMENT_VALS ∷ RELATION_ROLES_SID ∷ RELATION_MEMIDS ∷ RELATION_TYPES ∷ []) (fields p))))) (array_fault relation.keys ELEMENT_KEYS (fields p) h.keys))
+    ∙ sym (ap (λ x. option_map faults.BlockWire (option_or relation.info.fault (option_or relation.keys.fault (option_or x (arrays_fault (RELATION_ROLES_SID ∷ RELATION_MEMIDS ∷ RELATION_TYPES ∷ []) (fields p)))))) (array_fault relation.vals ELEMENT_VALS (fields p) h.vals))
+    ∙ sym (ap (λ x. after (option_or x (arrays_fault (RELATION_MEMIDS ∷ RELATION_TYPES ∷ []) (fields p)))) (array_fault relation.roles RELATION_ROLES_SID (fields p) h.roles))
+    ∙ sym (ap (λ x. after (option_or relation.roles.fault (option_or x (arrays_fault (RELATION_TYPES ∷ []) (fields p))))) (array_fault relation.memids RELATION_MEMIDS (fields p) h.memids))
+    ∙ ap (λ x. after (option_or relation.roles.fault (option_or relation.memids.fault x))) (option_or-none (first_there (map packed (each (fields p) RELATION_TYPES))) ∙ sym (array_fault relation.types RELATION_TYPES (fields p) h.types))

@@ -7,7 +7,7 @@ use Rattle.std.proofs.lemmas.Bool.{true≢false}
 use Rattle.std.proofs.lemmas.Bool.Decides.{nat_tests}
 use Rattle.pbf_wire.specs.Readings.{uint32, int32}
 use Rattle.osm_block.specs.Phases.{is_index}
-use Rattle.osm_block.specs.Columns.{all_below, user_in, tag_indexes_in, indexes_in}
+use Rattle.osm_block.specs.FieldsLeft.{all_below, user_in, tag_indexes_in, indexes_in}
 
 as_numbers : (n : ℕ) (ks : List ℕ) → list_all (is_index n) (map uint32 ks) ≡ all_below n ks
 as_numbers n [] = refl

@@ -17,14 +17,14 @@ pub mod RelationPhases
 pub mod InfoLemmas
 pub mod RangeLemmas
 pub mod RangeTests
-pub mod PlaceLemmas
+pub mod CoordinateLemmas
 pub mod MemberLemmas
 pub mod Unique
 pub mod UniqueDense
 pub mod VectorBlocks
 pub mod WayComplete
 pub mod NodeTagsLemmas
-pub mod DenseColumnLemmas
+pub mod DenseArrayLemmas
 pub mod DensePhaseLemmas
 pub mod DenseFieldLemmas
 pub mod NodeComplete

@@ -4,12 +4,12 @@ use Rattle.std.specs.List.{list_all}
 use Rattle.osm_block.specs.declared.fault.BlockFault.TheVariants as faults
 use Rattle.osm_value.specs.Ranges.{is_wide, passes}
 use Rattle.osm_block.specs.Message.{Context, NodeMessage}
-use Rattle.osm_block.specs.Phases.{first, when, node_phases, same_length, info_in_range, place_in_range, all_in, user_indexes, is_index}
+use Rattle.osm_block.specs.Phases.{first, when, node_phases, same_length, info_in_range, coordinate_in_range, all_in, user_indexes, is_index}
 use Rattle.osm_block.proofs.IndexesLemmas.{and_left, and_right}
 use Rattle.osm_block.proofs.PhaseLemmas.{skip, pass, stop}
 
 abbrev pub nodes_range : Context → NodeMessage → Bool
-nodes_range b m = passes is_wide m.id && passes (place_in_range b.lat_offset b.granularity) m.lat && passes (place_in_range b.lon_offset b.granularity) m.lon && info_in_range b m.info
+nodes_range b m = passes is_wide m.id && passes (coordinate_in_range b.lat_offset b.granularity) m.lat && passes (coordinate_in_range b.lon_offset b.granularity) m.lon && info_in_range b m.info
 
 abbrev pub nodes_index : Context → NodeMessage → Bool
 nodes_index b m = all_in b.table (m.keys ++ m.vals ++ user_indexes m.info)
@@ -39,9 +39,9 @@ late b m id lat lon r =
     ∙ pass (same_length m.keys m.vals) faults.LengthsDiffer _ r.even
 
 pub range_is : (b : Context) (m : NodeMessage) (id lat lon i a o : ℤ) (t : Bool) → NodeRead b m id lat lon → i ≡ id → a ≡ lat → o ≡ lon →
-    t ≡ (is_wide i && place_in_range b.lat_offset b.granularity a && place_in_range b.lon_offset b.granularity o && info_in_range b m.info) → t ≡ nodes_range b m
+    t ≡ (is_wide i && coordinate_in_range b.lat_offset b.granularity a && coordinate_in_range b.lon_offset b.granularity o && info_in_range b m.info) → t ≡ nodes_range b m
 range_is b m id lat lon i a o t r e f g is =
-    let inside : ℤ → ℤ → Bool = λ offset v. place_in_range offset b.granularity v in
+    let inside : ℤ → ℤ → Bool = λ offset v. coordinate_in_range offset b.granularity v in
     is ∙ ap (λ x. x && inside b.lat_offset a && inside b.lon_offset o && info_in_range b m.info) (ap is_wide e ∙ ap (passes is_wide) (sym r.there))
     ∙ ap (λ x. passes is_wide m.id && x && inside b.lon_offset o && info_in_range b m.info) (ap (inside b.lat_offset) f ∙ ap (passes (inside b.lat_offset)) (sym r.lat_there))
     ∙ ap (λ x. passes is_wide m.id && passes (inside b.lat_offset) m.lat && x && info_in_range b m.info) (ap (inside b.lon_offset) g ∙ ap (passes (inside b.lon_offset)) (sym r.lon_there))

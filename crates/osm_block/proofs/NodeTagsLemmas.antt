@@ -49,7 +49,7 @@ front_at_end kv i h = short (drop i kv) (omega (arith, length-drop i kv))
 pub text_of_index : {B : Type 0} (now : B → Text) (table : List B) (z : ℤ) (i : ℕ) (d : B) → pos i ≡ z → i < length table → text_at (map now table) z ≡ Some (now (get_or table i d))
 text_of_index now table z i d is h = ap (text_at (map now table)) (sym is) ∙ slice_get-map now table i ∙ ap (option_map now) (slice_get-get_or table i d h)
 
--- what is known at a place in the pairs of a node that begin at another
+-- what is known at an index in the pairs of a node that begin at another
 pub record PairsLeft (table : List Text) (kv : List ℤ) (at i : ℕ) (tags : List (Text × Text)) : Type 0 where
   pub within : i ≤ length kv
   pub in_table : list_all (is_index (length table)) (pair_indexes (front_pairs (drop i kv)).0) ≡ true

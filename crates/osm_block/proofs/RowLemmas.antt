@@ -1,4 +1,4 @@
--- The numbers of a packed payload, from a place on.
+-- The numbers of a packed payload, from an offset on.
 use Rattle.std.proofs.Common.{◌≡◌, ℕ, zero, suc, ◌+◌, ◌-◌, ◌<◌, ◌≤◌, List, [], ◌∷◌, ◌++◌, length, drop, refl, sym, ap, ◌∙◌, arith, Result, Ok, Err}
 use Rattle.std.proofs.Common.{get_or, true, cond}
 use Rattle.std.specs.Prelude.{nat_lt}
@@ -28,7 +28,7 @@ fuel (suc n) (suc m) at (b ∷ bs) g h =
     behind (placed at (number_at (b ∷ bs))) (λ len. row_within n (at + len) (drop (len - 1) bs)) (λ len. row_within m (at + len) (drop (len - 1) bs))
     (λ len. fuel n m (at + len) (drop (len - 1) bs) (omega (arith, length-drop (len - 1) bs)) (omega (arith, length-drop (len - 1) bs)))
 
--- from a place on
+-- from an offset on
 abbrev pub row_from : ℕ → List ℕ → List (Result ℕ WireFault)
 row_from at w = row_within (length (drop at w)) at (drop at w)
 

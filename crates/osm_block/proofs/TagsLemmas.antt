@@ -52,7 +52,7 @@ pub at_end_left : (b : Bool) (texts n : ℕ) → 0 < n → stands b texts (pairs
 at_end_left b texts zero some = absurd (omega arith)
 at_end_left b texts (suc n) some = refl
 
--- ---- the same at a place of the array, where the phase of the rest is that of the whole
+-- ---- the same at an index of the array, where the phase of the rest is that of the whole
 
 pub none_left_stops : (whole : Phase) (b : Bool) (texts n i : ℕ) (kv : List ℤ) → i < length kv → stands b texts (pairs_of n (drop i kv)) ≡ whole → n ≡ 0 → whole ≡ Some faults.TagsUneven
 none_left_stops whole b texts n i kv h e is =

@@ -12,7 +12,7 @@ use Rattle.osm_block.specs.declared.fields.TheConstants.{BLOCK_PRIMITIVEGROUP}
 use Rattle.osm_block.specs.Message.{Context, DenseInfoMessage, DenseMessage, Message, Plain, Dense, Way, Relation, node_message, dense_message, way_message, relation_message, context, messages}
 use Rattle.pbf_wire.specs.Readings.{each}
 use Rattle.osm_block.specs.DenseTags.{Pair, Tags, pairs_and_zero, KeysAreNotZero, pairs_of}
-use Rattle.osm_block.specs.Block.{DenseInfoOf, DenseOf, Stands, StandsOrNone, column, version, all_there, texts_at, MessageOf, AllAreWire, GroupOf, Block}
+use Rattle.osm_block.specs.Block.{DenseInfoOf, DenseOf, Stands, StandsOrNone, values_for, version, all_there, texts_at, MessageOf, AllAreWire, GroupOf, Block}
 use Rattle.osm_block.proofs.DifferencesLemmas.{Diff-unique}
 use Rattle.osm_block.proofs.Unique.{some_one, option_one, pairs_of-joined, Joins-unique, NodeOf-unique, WayOf-unique, RelationOf-unique}
 
@@ -58,7 +58,7 @@ there_one (u ∷ us) (v ∷ vs) e =
     let tails : all_there us ≡ all_there vs = cc in
     ap (λ x. (x, u.1) ∷ us) (some_one u.0 v.0 (ap (λ p. p.0) heads)) ∙ ap (λ x. (v.0, x) ∷ us) (some_one u.1 v.1 (ap (λ p. p.1) heads)) ∙ ap (λ l. v ∷ l) (there_one us vs tails)
 
--- ---- nodes by their columns
+-- ---- nodes by their arrays
 
 infos_one : (us vs : List InfoValue) → map (λ i. i.version) us ≡ map (λ i. i.version) vs → map (λ i. i.time) us ≡ map (λ i. i.time) vs → map (λ i. i.changeset) us ≡ map (λ i. i.changeset) vs
     → map (λ i. i.uid) us ≡ map (λ i. i.uid) vs → map (λ i. option_map Some i.user) us ≡ map (λ i. option_map Some i.user) vs → AllByRecursion IsInfo us → AllByRecursion IsInfo vs → us ≡ vs
@@ -110,17 +110,17 @@ nodes_one (u ∷ us) (v ∷ vs) a b c d e =
 stands_one : {A : Type 0} (xs ys : List A) (meaning : ℤ → A) (ds : List ℤ) → Stands xs meaning ds → Stands ys meaning ds → xs ≡ ys
 stands_one xs ys meaning ds g h = g.2 ∙ ap (map meaning) (Diff-unique g.0 h.0 ds g.1 h.1) ∙ sym h.2
 
-columns_one : {A : Type 0} (n m : ℕ) (xs ys : List (Option A)) (meaning : ℤ → A) (ds : List ℤ) → n ≡ m → StandsOrNone n xs meaning ds → StandsOrNone m ys meaning ds → xs ≡ ys
-columns_one n m xs ys meaning ds len g h =
-    g.2 ∙ ap (λ vs. column n (map (λ v. Some (meaning v)) vs)) (Diff-unique g.0 h.0 ds g.1 h.1) ∙ ap (λ k. column k (map (λ v. Some (meaning v)) h.0)) len ∙ sym h.2
+values_for_one : {A : Type 0} (n m : ℕ) (xs ys : List (Option A)) (meaning : ℤ → A) (ds : List ℤ) → n ≡ m → StandsOrNone n xs meaning ds → StandsOrNone m ys meaning ds → xs ≡ ys
+values_for_one n m xs ys meaning ds len g h =
+    g.2 ∙ ap (λ vs. values_for n (map (λ v. Some (meaning v)) vs)) (Diff-unique g.0 h.0 ds g.1 h.1) ∙ ap (λ k. values_for k (map (λ v. Some (meaning v)) h.0)) len ∙ sym h.2
 
 pub DenseInfoOf-unique : (b : Context) (us vs : List InfoValue) (m : DenseInfoMessage) → length us ≡ length vs → DenseInfoOf b us m → DenseInfoOf b vs m → us ≡ vs
 DenseInfoOf-unique b us vs m len g h = infos_one us vs
-    (g.versions_are ∙ ap (λ k. column k (map version m.version)) len ∙ sym h.versions_are)
-    (columns_one _ _ _ _ _ m.timestamp len g.times_are h.times_are)
-    (columns_one _ _ _ _ _ m.changeset len g.changesets_are h.changesets_are)
-    (columns_one _ _ _ _ _ m.uid len g.uids_are h.uids_are)
-    (columns_one _ _ _ _ _ m.user_sid len g.users_are h.users_are)
+    (g.versions_are ∙ ap (λ k. values_for k (map version m.version)) len ∙ sym h.versions_are)
+    (values_for_one _ _ _ _ _ m.timestamp len g.times_are h.times_are)
+    (values_for_one _ _ _ _ _ m.changeset len g.changesets_are h.changesets_are)
+    (values_for_one _ _ _ _ _ m.uid len g.uids_are h.uids_are)
+    (values_for_one _ _ _ _ _ m.user_sid len g.users_are h.users_are)
     g.in_range h.in_range
 
 pub DenseOf-unique : (b : Context) (us vs : List NodeValue) (m : DenseMessage) → DenseOf b us m → DenseOf b vs m → us ≡ vs

@@ -38,9 +38,9 @@ tagged_nodes_says = record {
   elements_are = (((Node (record { id = pos 1; lat = pos 0; lon = pos 0; tags = (((97 ∷ []), (98 ∷ [])) ∷ []); info = record { version = None; time = None; changeset = None; uid = None; user = None; visible = None } })) ∷ (Node (record { id = pos 2; lat = pos 0; lon = pos 0; tags = ([]); info = record { version = None; time = None; changeset = None; uid = None; user = None; visible = None } })) ∷ []), ([]), refl, record { is_message = refl; one_kind = lit≤ tt; elements_are = (((Node (record { id = pos 1; lat = pos 0; lon = pos 0; tags = (((97 ∷ []), (98 ∷ [])) ∷ []); info = record { version = None; time = None; changeset = None; uid = None; user = None; visible = None } })) ∷ (Node (record { id = pos 2; lat = pos 0; lon = pos 0; tags = ([]); info = record { version = None; time = None; changeset = None; uid = None; user = None; visible = None } })) ∷ []), ([]), refl, ((refl, (refl, (refl, (refl, (refl, tt))))), (((record { id = pos 1; lat = pos 0; lon = pos 0; tags = (((97 ∷ []), (98 ∷ [])) ∷ []); info = record { version = None; time = None; changeset = None; uid = None; user = None; visible = None } }) ∷ (record { id = pos 2; lat = pos 0; lon = pos 0; tags = ([]); info = record { version = None; time = None; changeset = None; uid = None; user = None; visible = None } }) ∷ []), refl, record { ids_are = record { are = refl; fit = (record { sfits = lit< tt }, (record { sfits = lit< tt }, tt)) }; lats_are = ((pos 0 ∷ pos 0 ∷ []), record { are = refl; fit = (record { sfits = lit< tt }, (record { sfits = lit< tt }, tt)) }, refl); lons_are = ((pos 0 ∷ pos 0 ∷ []), record { are = refl; fit = (record { sfits = lit< tt }, (record { sfits = lit< tt }, tt)) }, refl); tags_are = ((((pos 1, pos 2) ∷ []) ∷ ([]) ∷ []), inl (refl, (((λ e. cc), tt), (tt, tt))), refl); infos_are = record { versions_are = refl; times_are = (([]), record { are = refl; fit = tt }, refl); changesets_are = (([]), record { are = refl; fit = tt }, refl); uids_are = (([]), record { are = refl; fit = tt }, refl); users_are = (([]), record { are = refl; fit = tt }, refl); no_visible = refl; in_range = (info_from _ refl, (info_from _ refl, tt)) }; in_range = (node_from _ refl, (node_from _ refl, tt)) })), refl) }, refl);
 }
 
-pub greatest_place_says : Block VectorElements.greatest_place_elements Vectors.greatest_place
+pub greatest_coordinate_says : Block VectorElements.greatest_coordinate_elements Vectors.greatest_coordinate
 unfolding is_utf8 chars number_within number_at value_at field_at next_at items_within items_from row_within lib.Utf8.encode
-greatest_place_says = record {
+greatest_coordinate_says = record {
   is_message = refl;
   has_table = refl;
   tables_are = (refl, tt);

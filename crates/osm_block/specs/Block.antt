@@ -16,9 +16,9 @@ use Rattle.osm_block.specs.DenseTags.{Pair, Tags}
 
 -- ---- what numbers stand for
 
--- nanodegrees
-abbrev pub place : ℤ → ℤ → ℤ → ℤ
-place offset granularity v = offset +ℤ granularity *ℤ v
+-- a latitude or a longitude, in nanodegrees
+abbrev pub coordinate : ℤ → ℤ → ℤ → ℤ
+coordinate offset granularity v = offset +ℤ granularity *ℤ v
 
 -- milliseconds
 abbrev pub time : ℤ → ℤ → ℤ
@@ -64,8 +64,8 @@ pub record InfoOf (b : Context) (i : InfoValue) (m : InfoMessage) : Type 0 where
 
 pub record NodeOf (b : Context) (n : NodeValue) (m : NodeMessage) : Type 0 where
   pub id_is : Some n.id ≡ m.id
-  pub lat_is : Some n.lat ≡ option_map (place b.lat_offset b.granularity) m.lat
-  pub lon_is : Some n.lon ≡ option_map (place b.lon_offset b.granularity) m.lon
+  pub lat_is : Some n.lat ≡ option_map (coordinate b.lat_offset b.granularity) m.lat
+  pub lon_is : Some n.lon ≡ option_map (coordinate b.lon_offset b.granularity) m.lon
   pub tags_are : TagsAt b.table n.tags m.keys m.vals
   pub info_is : InfoOf b n.info m.info
   pub in_range : IsNode n
@@ -89,9 +89,9 @@ pub record RelationOf (b : Context) (r : RelationValue) (m : RelationMessage) : 
 -- ---- dense nodes
 
 -- the values for n nodes: none for any of them where the array is empty
-abbrev pub column : {A : Type 0} → ℕ → List (Option A) → List (Option A)
-column n [] = replicate n None
-column n (x ∷ xs) = x ∷ xs
+abbrev pub values_for : {A : Type 0} → ℕ → List (Option A) → List (Option A)
+values_for n [] = replicate n None
+values_for n (x ∷ xs) = x ∷ xs
 
 -- absolute numbers whose differences stand in the message, and what they stand for
 abbrev pub Stands : {A : Type 0} → List A → (ℤ → A) → List ℤ → Type 0
@@ -99,10 +99,10 @@ Stands xs meaning ds = (vs : List ℤ) × Diff vs ds × (xs ≡ map meaning vs)
 
 -- the same, for one value or none for each of n nodes
 abbrev pub StandsOrNone : {A : Type 0} → ℕ → List (Option A) → (ℤ → A) → List ℤ → Type 0
-StandsOrNone n xs meaning ds = (vs : List ℤ) × Diff vs ds × (xs ≡ column n (map (λ v. Some (meaning v)) vs))
+StandsOrNone n xs meaning ds = (vs : List ℤ) × Diff vs ds × (xs ≡ values_for n (map (λ v. Some (meaning v)) vs))
 
 pub record DenseInfoOf (b : Context) (infos : List InfoValue) (m : DenseInfoMessage) : Type 0 where
-  pub versions_are : map (λ i. i.version) infos ≡ column (length infos) (map version m.version)
+  pub versions_are : map (λ i. i.version) infos ≡ values_for (length infos) (map version m.version)
   pub times_are : StandsOrNone (length infos) (map (λ i. i.time) infos) (time b.date_granularity) m.timestamp
   pub changesets_are : StandsOrNone (length infos) (map (λ i. i.changeset) infos) (λ v. v) m.changeset
   pub uids_are : StandsOrNone (length infos) (map (λ i. i.uid) infos) (λ v. v) m.uid
@@ -112,15 +112,15 @@ pub record DenseInfoOf (b : Context) (infos : List InfoValue) (m : DenseInfoMess
 
 pub record DenseOf (b : Context) (ns : List NodeValue) (m : DenseMessage) : Type 0 where
   pub ids_are : Diff (map (λ n. n.id) ns) m.id
-  pub lats_are : Stands (map (λ n. n.lat) ns) (place b.lat_offset b.granularity) m.lat
-  pub lons_are : Stands (map (λ n. n.lon) ns) (place b.lon_offset b.granularity) m.lon
+  pub lats_are : Stands (map (λ n. n.lat) ns) (coordinate b.lat_offset b.granularity) m.lat
+  pub lons_are : Stands (map (λ n. n.lon) ns) (coordinate b.lon_offset b.granularity) m.lon
   pub tags_are : (ts : List (List Pair)) × Tags ts m.keys_vals × (map (λ n. all_there n.tags) ns ≡ map (texts_at b.table) ts)
   pub infos_are : DenseInfoOf b (map (λ n. n.info) ns) m.info
   pub in_range : AllByRecursion IsNode ns
 
 -- ---- a message, a group, a block
 
--- the payloads are field lists and rows of numbers, as they should be
+-- the payloads are field lists and packed arrays, as they should be
 abbrev pub AllAreWire : Message → Type 0
 AllAreWire m = AllByRecursion IsNone (wires m)
 

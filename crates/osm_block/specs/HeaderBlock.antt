@@ -15,13 +15,13 @@ abbrev pub number_of : HeaderFault → ℕ
 number_of (faults.HeaderBlockWire fault) = 30
 number_of faults.BBoxIncomplete = 31
 number_of faults.HeaderTextNotUtf8 = 32
-number_of (faults.UnknownFeature place) = 33
+number_of (faults.UnknownFeature index) = 33
 
 abbrev pub name_of : HeaderFault → List ℕ
 name_of (faults.HeaderBlockWire fault) = codes "HeaderBlockWire"
 name_of faults.BBoxIncomplete = codes "BBoxIncomplete"
 name_of faults.HeaderTextNotUtf8 = codes "HeaderTextNotUtf8"
-name_of (faults.UnknownFeature place) = codes "UnknownFeature"
+name_of (faults.UnknownFeature index) = codes "UnknownFeature"
 
 -- ---- what it says
 
@@ -93,7 +93,7 @@ are_texts fs = list_all (λ k. list_all is_utf8 (each fs k)) (HEADER_REQUIRED_FE
 abbrev pub is_known : Text → Bool
 is_known feature = bytes_eq feature (codes "OsmSchema-V0.6") || bytes_eq feature (codes "DenseNodes")
 
--- the first required feature that isn't known, by its place
+-- the first required feature that isn't known, by its index
 abbrev pub unknown_feature : List Text → Option ℕ
 unknown_feature features = position (λ f. not (is_known f)) features
 

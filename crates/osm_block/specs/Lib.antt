@@ -11,10 +11,10 @@ pub mod HeaderPayloads
 pub mod HeaderTexts
 pub mod Fields
 pub mod Reads
-pub mod Parts
+pub mod GroupMessages
 pub mod Head
 pub mod Texts
-pub mod Columns
+pub mod FieldsLeft
 pub mod NodeTags
 pub mod Dense
 pub mod DenseRead

@@ -14,7 +14,7 @@ use Rattle.osm_block.specs.Message.{InfoMessage, DenseInfoMessage, NodeMessage, 
 use Rattle.osm_block.specs.Differences.{front_sums, fits_i64}
 use Rattle.osm_block.specs.DenseTags.{pairs_for, indexes_of}
 use Rattle.osm_value.specs.Ranges.{is_wide, is_version, is_uid, has_no_nul, passes}
-use Rattle.osm_block.specs.Block.{place, time, version, kind, kinds_in}
+use Rattle.osm_block.specs.Block.{coordinate, time, version, kind, kinds_in}
 
 -- a phase: the fault, where it stands
 abbrev pub Phase : Type 0
@@ -60,8 +60,8 @@ info_in_range b m = passes (λ v. passes is_version (version v)) m.version
 abbrev pub user_indexes : InfoMessage → List ℤ
 user_indexes m = option_to_list m.user_sid
 
-abbrev pub place_in_range : ℤ → ℤ → ℤ → Bool
-place_in_range offset granularity v = is_wide (place offset granularity v)
+abbrev pub coordinate_in_range : ℤ → ℤ → ℤ → Bool
+coordinate_in_range offset granularity v = is_wide (coordinate offset granularity v)
 
 -- ---- the phases of a message, after those of its wire
 
@@ -70,8 +70,8 @@ node_phases b m =
     when m.info.is_visible_there faults.VisibleNotKnown
     ∷ when (is_none m.id || is_none m.lat || is_none m.lon) faults.Missing
     ∷ when (not (same_length m.keys m.vals)) faults.LengthsDiffer
-    ∷ when (not (passes is_wide m.id && passes (place_in_range b.lat_offset b.granularity) m.lat
-    && passes (place_in_range b.lon_offset b.granularity) m.lon && info_in_range b m.info)) faults.OutOfRange
+    ∷ when (not (passes is_wide m.id && passes (coordinate_in_range b.lat_offset b.granularity) m.lat
+    && passes (coordinate_in_range b.lon_offset b.granularity) m.lon && info_in_range b m.info)) faults.OutOfRange
     ∷ when (not (all_in b.table (m.keys ++ m.vals ++ user_indexes m.info))) faults.BadIndex
     ∷ []
 
@@ -125,8 +125,8 @@ dense_phases b m =
     ∷ when (not (same_length m.lat m.id && same_length m.lon m.id && dense_info_fits m.id m.info)) faults.LengthsDiffer
     ∷ when (not (list_all (λ ds. list_all fits_i64 (front_sums ds)) (deltas_of m))) faults.SumTooLarge
     ∷ when (not (list_all is_wide (front_sums m.id)
-    && list_all (place_in_range b.lat_offset b.granularity) (front_sums m.lat)
-    && list_all (place_in_range b.lon_offset b.granularity) (front_sums m.lon)
+    && list_all (coordinate_in_range b.lat_offset b.granularity) (front_sums m.lat)
+    && list_all (coordinate_in_range b.lon_offset b.granularity) (front_sums m.lon)
     && dense_info_in_range b m.info)) faults.OutOfRange
     ∷ tags_phases (length m.id) (length b.table) m.keys_vals
     ++ when (not (all_in b.table (front_sums m.info.user_sid))) faults.BadIndex

@@ -22,8 +22,8 @@ way_in_pieces_elements = ((Way (record { id = pos 7; refs = (pos 5 ∷ pos 6 ∷
 abbrev pub way_elements : List Element
 way_elements = ((Way (record { id = pos 7; refs = (pos 5 ∷ pos 6 ∷ pos 7 ∷ pos 6 ∷ []); tags = (((97 ∷ []), (98 ∷ [])) ∷ []); info = record { version = None; time = None; changeset = None; uid = None; user = None; visible = None } })) ∷ [])
 
-abbrev pub greatest_place_elements : List Element
-greatest_place_elements = ((Node (record { id = pos 1; lat = pos 4611686018427387903; lon = pos 0; tags = ([]); info = record { version = None; time = None; changeset = None; uid = None; user = None; visible = None } })) ∷ [])
+abbrev pub greatest_coordinate_elements : List Element
+greatest_coordinate_elements = ((Node (record { id = pos 1; lat = pos 4611686018427387903; lon = pos 0; tags = ([]); info = record { version = None; time = None; changeset = None; uid = None; user = None; visible = None } })) ∷ [])
 
 abbrev pub widest_ids_elements : List Element
 widest_ids_elements = ((Node (record { id = pos 4611686018427387903; lat = pos 0; lon = pos 0; tags = ([]); info = record { version = None; time = None; changeset = None; uid = None; user = None; visible = None } })) ∷ (Node (record { id = negsuc 4611686018427387902; lat = pos 0; lon = pos 0; tags = ([]); info = record { version = None; time = None; changeset = None; uid = None; user = None; visible = None } })) ∷ [])

@@ -16,9 +16,9 @@ use crate::fields::{
     BLOCK_DATE_GRANULARITY, BLOCK_GRANULARITY, BLOCK_LAT_OFFSET, BLOCK_LON_OFFSET,
     BLOCK_PRIMITIVEGROUP, BLOCK_STRINGTABLE, STRINGTABLE_S,
 };
-use crate::group::{Parts, Scratch, read_groups, some_there};
+use crate::group::{GroupPayloads, Scratch, read_groups, some_there};
 use crate::info::{optional_i32, optional_i64};
-use crate::readings::{check_all, each, each_of_all, last_number, read_payloads, wire_of};
+use crate::payloads::{check_all, each, each_of_all, last_number, read_payloads, wire_of};
 use crate::scale::Scale;
 use crate::texts::read_texts;
 use osm_value::Element;
@@ -87,9 +87,9 @@ fn are_scales(granularity: i32, date_granularity: i32) -> bool
     ensures granularity { IsTrue result → pos 1 ≤ℤ granularity }
     ensures date_granularity { IsTrue result → pos 1 ≤ℤ date_granularity }
 {
-    let place = granularity >= 1;
-    let time = date_granularity >= 1;
-    place & time
+    let coordinates = granularity >= 1;
+    let times = date_granularity >= 1;
+    coordinates & times
 }
 
 /// Reads the payloads of the fields `number` of all payloads.
@@ -105,7 +105,7 @@ fn read_payloads_of_all<'a>(
 }
 
 /// The elements of a primitive block, in the order of its groups and of their fields (osmformat.proto, PrimitiveBlock):
-/// plain nodes, dense nodes, ways and relations; changesets are skipped. Places are in nanodegrees, times in
+/// plain nodes, dense nodes, ways and relations; changesets are skipped. Coordinates are in nanodegrees, times in
 /// milliseconds since 1970. Texts are slices of `bytes`.
 ///
 /// `Fault` is the first fault of the block, in the order of the block's parts and of the elements; then no element is
@@ -117,9 +117,16 @@ pub fn read_block<'a>(alloc: Global, bytes: &'a [u8]) -> Result<Vec<Element<'a>>
     let scale = read_scale(alloc, bytes)?;
     let mut groups = Vec::new(alloc);
     each(bytes, BLOCK_PRIMITIVEGROUP, &mut groups)?;
-    let mut parts = Parts::new(alloc);
+    let mut payloads = GroupPayloads::new(alloc);
     let mut scratch = Scratch::new(alloc);
     let mut out = Vec::new(alloc);
-    read_groups(alloc, &scale, &groups, &mut parts, &mut scratch, &mut out)?;
+    read_groups(
+        alloc,
+        &scale,
+        &groups,
+        &mut payloads,
+        &mut scratch,
+        &mut out,
+    )?;
     Ok(out)
 }

@@ -13,13 +13,13 @@ ghost use Rattle.osm_block.specs.Reads.{Appended};
 use crate::fault::{BlockError, BlockFault};
 use crate::scale::Scale;
 use crate::tags::check_tags;
-use columns::{all_users, columns_in_range, columns_of, lengths_fit};
+use arrays::{all_users, arrays_in_range, arrays_of, lengths_fit};
 use fields::{DenseFields, read_fields};
 use nodes::nodes_of;
 use osm_value::Element;
 use std::alloc::Global;
 
-mod columns;
+mod arrays;
 mod fields;
 mod nodes;
 mod tags;
@@ -40,16 +40,16 @@ fn dense_of<'a>(
     if !lengths_fit(dense) {
         return Err(BlockError::Fault(BlockFault::LengthsDiffer));
     }
-    let columns = columns_of(alloc, dense)?;
-    if !columns_in_range(scale, &columns) {
+    let arrays = arrays_of(alloc, dense)?;
+    if !arrays_in_range(scale, &arrays) {
         return Err(BlockError::Fault(BlockFault::OutOfRange));
     }
     let texts = scale.table.len();
-    check_tags(&columns.keys_vals, columns.ids.len(), texts)?;
-    if !all_users(&columns.users, texts) {
+    check_tags(&arrays.keys_vals, arrays.ids.len(), texts)?;
+    if !all_users(&arrays.users, texts) {
         return Err(BlockError::Fault(BlockFault::BadIndex));
     }
-    nodes_of(alloc, scale, &columns, out)?;
+    nodes_of(alloc, scale, &arrays, out)?;
     Ok(())
 }
 

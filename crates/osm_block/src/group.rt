@@ -6,7 +6,7 @@ ghost use Rattle.pbf_wire.specs.Readings.{fields, wire};
 ghost use Rattle.osm_block.specs.Message.{Plain, Way, Relation};
 ghost use Rattle.pbf_wire.specs.Readings.{each, is_there};
 ghost use Rattle.osm_block.specs.Block.{GroupOf};
-ghost use Rattle.osm_block.specs.Parts.{messages_of};
+ghost use Rattle.osm_block.specs.GroupMessages.{messages_of};
 ghost use Rattle.osm_block.specs.Fields.{context_of};
 ghost use Rattle.osm_block.specs.declared.fault.BlockFault.TheVariants as faults;
 ghost use Rattle.osm_block.specs.Phases.{Gives, first, message_phases, group_phases};
@@ -97,16 +97,16 @@ fn read_relations<'a>(
 
 /// The payloads of a group, by kind.
 #[derive(Drop)]
-pub struct Parts<'a> {
+pub struct GroupPayloads<'a> {
     pub nodes: Vec<&'a [u8]>,
     pub dense: Vec<&'a [u8]>,
     pub ways: Vec<&'a [u8]>,
     pub relations: Vec<&'a [u8]>,
 }
 
-impl<'a> Parts<'a> {
-    pub(crate) fn new(alloc: Global) -> Parts<'a> {
-        Parts {
+impl<'a> GroupPayloads<'a> {
+    pub(crate) fn new(alloc: Global) -> GroupPayloads<'a> {
+        GroupPayloads {
             nodes: Vec::new(alloc),
             dense: Vec::new(alloc),
             ways: Vec::new(alloc),
@@ -128,55 +128,58 @@ fn several(a: bool, b: bool, c: bool, d: bool) -> bool
 }
 
 /// Whether a group has elements of several kinds.
-fn is_mixed(parts: &Parts) -> bool
-    ensures { result ≡ not (nat_le (count_by (λ x. x) (is_there (map (λ p. p.now) parts.now.nodes.items) ∷ is_there (map (λ p. p.now) parts.now.dense.items) ∷ is_there (map (λ p. p.now) parts.now.ways.items) ∷ is_there (map (λ p. p.now) parts.now.relations.items) ∷ [])) 1) }
+fn is_mixed(payloads: &GroupPayloads) -> bool
+    ensures { result ≡ not (nat_le (count_by (λ x. x) (is_there (map (λ p. p.now) payloads.now.nodes.items) ∷ is_there (map (λ p. p.now) payloads.now.dense.items) ∷ is_there (map (λ p. p.now) payloads.now.ways.items) ∷ is_there (map (λ p. p.now) payloads.now.relations.items) ∷ [])) 1) }
 {
-    let nodes = some_there(&parts.nodes);
-    let dense = some_there(&parts.dense);
-    let ways = some_there(&parts.ways);
-    several(nodes, dense, ways, some_there(&parts.relations))
+    let nodes = some_there(&payloads.nodes);
+    let dense = some_there(&payloads.dense);
+    let ways = some_there(&payloads.ways);
+    several(nodes, dense, ways, some_there(&payloads.relations))
 }
 
 /// Reads the payloads of a group.
-fn read_parts<'a>(group: &'a [u8], parts: &mut Parts<'a>) -> Result<(), BlockError>
+fn read_group_payloads<'a>(
+    group: &'a [u8],
+    payloads: &mut GroupPayloads<'a>,
+) -> Result<(), BlockError>
     ensures phase { Gives (λ _. ⊤) (option_map faults.BlockWire (wire group.now)) result }
-    ensures nodes { OnOk result (map (λ p. p.now) parts.new.nodes.items ≡ each (fields group.now) GROUP_NODES) }
-    ensures dense { OnOk result (map (λ p. p.now) parts.new.dense.items ≡ each (fields group.now) GROUP_DENSE) }
-    ensures ways { OnOk result (map (λ p. p.now) parts.new.ways.items ≡ each (fields group.now) GROUP_WAYS) }
-    ensures relations { OnOk result (map (λ p. p.now) parts.new.relations.items ≡ each (fields group.now) GROUP_RELATIONS) }
+    ensures nodes { OnOk result (map (λ p. p.now) payloads.new.nodes.items ≡ each (fields group.now) GROUP_NODES) }
+    ensures dense { OnOk result (map (λ p. p.now) payloads.new.dense.items ≡ each (fields group.now) GROUP_DENSE) }
+    ensures ways { OnOk result (map (λ p. p.now) payloads.new.ways.items ≡ each (fields group.now) GROUP_WAYS) }
+    ensures relations { OnOk result (map (λ p. p.now) payloads.new.relations.items ≡ each (fields group.now) GROUP_RELATIONS) }
 {
-    parts.nodes.clear();
-    parts.dense.clear();
-    parts.ways.clear();
-    parts.relations.clear();
+    payloads.nodes.clear();
+    payloads.dense.clear();
+    payloads.ways.clear();
+    payloads.relations.clear();
     for field in Fields::new(group) {
         let field = field?;
         match (field.number, field.value) {
-            (GROUP_NODES, Value::Bytes(node)) => parts.nodes.push(node)?,
-            (GROUP_DENSE, Value::Bytes(dense)) => parts.dense.push(dense)?,
-            (GROUP_WAYS, Value::Bytes(way)) => parts.ways.push(way)?,
-            (GROUP_RELATIONS, Value::Bytes(relation)) => parts.relations.push(relation)?,
+            (GROUP_NODES, Value::Bytes(node)) => payloads.nodes.push(node)?,
+            (GROUP_DENSE, Value::Bytes(dense)) => payloads.dense.push(dense)?,
+            (GROUP_WAYS, Value::Bytes(way)) => payloads.ways.push(way)?,
+            (GROUP_RELATIONS, Value::Bytes(relation)) => payloads.relations.push(relation)?,
             _ => {}
         }
     }
     Ok(())
 }
 
-/// Appends the elements of the parts, in order.
+/// Appends the elements of the payloads, in order.
 fn read_messages<'a>(
     alloc: Global,
     scale: &Scale<'a>,
-    parts: &Parts<'a>,
+    payloads: &GroupPayloads<'a>,
     scratch: &mut Scratch,
     out: &mut Vec<Element<'a>>,
 ) -> Result<(), BlockError>
-    ensures phase { Gives (λ _. ⊤) (first (flat_map (message_phases (context_of scale.now)) (messages_of parts.now))) result }
-    ensures read { OnOk result (Appended (context_of scale.now) out.old.items out.new.items (messages_of parts.now)) }
+    ensures phase { Gives (λ _. ⊤) (first (flat_map (message_phases (context_of scale.now)) (messages_of payloads.now))) result }
+    ensures read { OnOk result (Appended (context_of scale.now) out.old.items out.new.items (messages_of payloads.now)) }
 {
-    read_nodes(alloc, scale, &parts.nodes, scratch, out)?;
-    read_dense(alloc, scale, &parts.dense, out)?;
-    read_ways(alloc, scale, &parts.ways, scratch, out)?;
-    read_relations(alloc, scale, &parts.relations, scratch, out)
+    read_nodes(alloc, scale, &payloads.nodes, scratch, out)?;
+    read_dense(alloc, scale, &payloads.dense, out)?;
+    read_ways(alloc, scale, &payloads.ways, scratch, out)?;
+    read_relations(alloc, scale, &payloads.relations, scratch, out)
 }
 
 /// Appends the elements of a group.
@@ -184,18 +187,18 @@ pub(crate) fn read_group<'a>(
     alloc: Global,
     scale: &Scale<'a>,
     group: &'a [u8],
-    parts: &mut Parts<'a>,
+    payloads: &mut GroupPayloads<'a>,
     scratch: &mut Scratch,
     out: &mut Vec<Element<'a>>,
 ) -> Result<(), BlockError>
     ensures phase { Gives (λ _. ⊤) (first (group_phases (context_of scale.now) group.now)) result }
     ensures read { OnOk result (AppendedOne (GroupOf (context_of scale.now)) out.old.items out.new.items group.now) }
 {
-    read_parts(group, parts)?;
-    if is_mixed(parts) {
+    read_group_payloads(group, payloads)?;
+    if is_mixed(payloads) {
         return Err(BlockError::Fault(BlockFault::MixedGroup));
     }
-    read_messages(alloc, scale, parts, scratch, out)
+    read_messages(alloc, scale, payloads, scratch, out)
 }
 
 /// Appends the elements of the groups.
@@ -203,7 +206,7 @@ pub(crate) fn read_groups<'a>(
     alloc: Global,
     scale: &Scale<'a>,
     groups: &[&'a [u8]],
-    parts: &mut Parts<'a>,
+    payloads: &mut GroupPayloads<'a>,
     scratch: &mut Scratch,
     out: &mut Vec<Element<'a>>,
 ) -> Result<(), BlockError>
@@ -211,7 +214,7 @@ pub(crate) fn read_groups<'a>(
     ensures read { OnOk result (AppendedGroups (context_of scale.now) out.old.items out.new.items (map (λ p. p.now) groups.now)) }
 {
     for group in groups {
-        read_group(alloc, scale, group, parts, scratch, out)?;
+        read_group(alloc, scale, group, payloads, scratch, out)?;
     }
     Ok(())
 }

@@ -14,7 +14,7 @@ use crate::fields::{
     HEADER_REPLICATION_BASE_URL, HEADER_REPLICATION_SEQUENCE_NUMBER, HEADER_REPLICATION_TIMESTAMP,
     HEADER_REQUIRED_FEATURES, HEADER_SOURCE, HEADER_WRITINGPROGRAM,
 };
-use crate::readings::{last_number, wire_of};
+use crate::payloads::{last_number, wire_of};
 use payloads::Payloads;
 use pbf_wire::{WireFault, unzigzag};
 use std::marker::Model;
@@ -205,7 +205,7 @@ fn is_known(feature: &str) -> bool
     feature == "OsmSchema-V0.6" || feature == "DenseNodes"
 }
 
-/// The place of the first required feature that isn't known.
+/// The index of the first required feature that isn't known, among the required ones.
 fn unknown_feature(bytes: &[u8]) -> Option<usize>
     requires { list_all is_utf8 (each (fields bytes.now) HEADER_REQUIRED_FEATURES) ≡ true }
     ensures { result ≡ unknown_feature (each (fields bytes.now) HEADER_REQUIRED_FEATURES) }
@@ -259,8 +259,8 @@ pub fn read_header_block(bytes: &[u8]) -> Result<HeaderBlock<'_>, HeaderFault>
     if !are_texts(bytes) {
         return Err(HeaderFault::HeaderTextNotUtf8);
     }
-    if let Some(place) = unknown_feature(bytes) {
-        return Err(HeaderFault::UnknownFeature(place));
+    if let Some(index) = unknown_feature(bytes) {
+        return Err(HeaderFault::UnknownFeature(index));
     }
     Ok(HeaderBlock {
         bytes,

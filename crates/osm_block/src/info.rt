@@ -4,7 +4,7 @@ ghost use Rattle.std.specs.Prelude.{◌≡◌, None, Some, map, pos, true, false
 ghost use Rattle.std.specs.Option.{option_or, is_some};
 ghost use Rattle.pbf_wire.specs.Readings.{fields, wire, int32, int64, uint32};
 ghost use Rattle.osm_value.specs.Ranges.{is_wide, passes, is_version, is_uid};
-ghost use Rattle.osm_block.specs.Columns.{info_after, no_info};
+ghost use Rattle.osm_block.specs.FieldsLeft.{info_after, no_info};
 ghost use Rattle.osm_block.specs.Block.{text_at, time, version as version_of, InfoOf};
 ghost use Rattle.osm_block.specs.Fields.{context_of, info_message_of};
 ghost use Rattle.osm_block.specs.Phases.{info_in_range, all_in, user_indexes};

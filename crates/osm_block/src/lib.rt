@@ -2,7 +2,6 @@
 #![tactic(auto)]
 
 mod block;
-mod column;
 mod deltas;
 mod dense;
 mod fault;
@@ -12,8 +11,9 @@ mod header;
 mod info;
 pub mod laws;
 mod node;
+mod number_array;
+mod payloads;
 mod ranges;
-mod readings;
 mod relation;
 mod scale;
 mod tag_list;

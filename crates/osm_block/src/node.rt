@@ -8,17 +8,17 @@ ghost use Rattle.pbf_wire.specs.Readings.{fields, wire};
 ghost use Rattle.osm_value.specs.Ranges.{is_wide};
 ghost use Rattle.osm_block.specs.Message.{Plain, node_message, wires};
 ghost use Rattle.osm_block.specs.Block.{NodeOf};
-ghost use Rattle.osm_block.specs.Columns.{NodeLeft, indexes_in};
+ghost use Rattle.osm_block.specs.FieldsLeft.{NodeLeft, indexes_in};
 ghost use Rattle.osm_block.specs.Fields.{context_of, info_message_of, node_message_of};
 ghost use Rattle.osm_block.specs.declared.fault.BlockFault.TheVariants as faults;
-ghost use Rattle.osm_block.specs.Phases.{Gives, first, node_phases, message_phases, wire_phases, info_in_range, place_in_range};
+ghost use Rattle.osm_block.specs.Phases.{Gives, first, node_phases, message_phases, wire_phases, info_in_range, coordinate_in_range};
 
-use crate::column::Column;
 use crate::deltas::optional_unzigzag;
 use crate::fault::{BlockError, BlockFault};
 use crate::fields::{ELEMENT_ID, ELEMENT_INFO, ELEMENT_KEYS, ELEMENT_VALS, NODE_LAT, NODE_LON};
 use crate::info::{InfoFields, InfoNumbers, info_in_range, info_of, user_fits};
-use crate::ranges::{all_indexes, place_in_range, place_of};
+use crate::number_array::NumberArray;
+use crate::ranges::{all_indexes, coordinate_in_range, coordinate_of};
 use crate::scale::Scale;
 use crate::tag_list::tags_of;
 use osm_value::wide_in_range;
@@ -29,8 +29,8 @@ use std::alloc::Global;
 #[derive(Drop)]
 pub struct NodeFields {
     pub id: Option<u64>,
-    pub keys: Column,
-    pub vals: Column,
+    pub keys: NumberArray,
+    pub vals: NumberArray,
     pub info: InfoFields,
     pub lat: Option<u64>,
     pub lon: Option<u64>,
@@ -40,8 +40,8 @@ impl NodeFields {
     pub(crate) fn new(alloc: Global) -> NodeFields {
         NodeFields {
             id: None,
-            keys: Column::new(alloc),
-            vals: Column::new(alloc),
+            keys: NumberArray::new(alloc),
+            vals: NumberArray::new(alloc),
             info: InfoFields::new(),
             lat: None,
             lon: None,
@@ -102,10 +102,10 @@ fn read_node_fields(payload: &[u8], node: &mut NodeFields) -> Result<(), BlockEr
 }
 
 fn node_in_range(scale: &Scale, id: i64, lat: i64, lon: i64, info: &InfoNumbers) -> bool
-    ensures { result ≡ (is_wide id && place_in_range scale.now.lat_offset scale.now.granularity lat && place_in_range scale.now.lon_offset scale.now.granularity lon && info_in_range (context_of scale.now) (info_message_of info.now)) }
+    ensures { result ≡ (is_wide id && coordinate_in_range scale.now.lat_offset scale.now.granularity lat && coordinate_in_range scale.now.lon_offset scale.now.granularity lon && info_in_range (context_of scale.now) (info_message_of info.now)) }
 {
-    let lat = place_in_range(scale.lat_offset, scale.granularity, lat);
-    let lon = place_in_range(scale.lon_offset, scale.granularity, lon);
+    let lat = coordinate_in_range(scale.lat_offset, scale.granularity, lat);
+    let lon = coordinate_in_range(scale.lon_offset, scale.granularity, lon);
     wide_in_range(id) & lat & lon & info_in_range(scale, info)
 }
 
@@ -149,8 +149,8 @@ fn node_of<'a>(
         return Err(BlockError::Fault(BlockFault::BadIndex));
     }
     let tags = tags_of(alloc, table, &node.keys.numbers, &node.vals.numbers)?;
-    let lat = place_of(scale.lat_offset, scale.granularity, lat);
-    let lon = place_of(scale.lon_offset, scale.granularity, lon);
+    let lat = coordinate_of(scale.lat_offset, scale.granularity, lat);
+    let lon = coordinate_of(scale.lon_offset, scale.granularity, lon);
     Ok(osm_value::Node::new(id, lat, lon, tags, info_of(scale, info)))
 }
 

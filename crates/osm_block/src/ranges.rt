@@ -3,8 +3,8 @@
 ghost use Rattle.std.specs.Prelude.{◌≡◌, ◌≤ℤ◌, ◌+ℤ◌, ◌-ℤ◌, ◌*ℤ◌, nat_lt, pos, negsuc, true, ◌%◌, ◌^◌};
 ghost use Rattle.std.specs.List.{list_all};
 ghost use Rattle.osm_value.specs.Ranges.{is_wide, is_version, is_uid, passes};
-ghost use Rattle.osm_block.specs.Block.{place, time, version as version_of};
-ghost use Rattle.osm_block.specs.Phases.{place_in_range};
+ghost use Rattle.osm_block.specs.Block.{coordinate, time, version as version_of};
+ghost use Rattle.osm_block.specs.Phases.{coordinate_in_range};
 
 use osm_value::{uid_in_range, version_in_range, wide_in_range};
 
@@ -14,7 +14,7 @@ const LEAST: i128 = -4_611_686_018_427_387_903;
 /// The greatest of them.
 const MOST: i128 = 4_611_686_018_427_387_903;
 
-/// Whether all of the numbers are ids, references or places.
+/// Whether all of the numbers are ids, references or coordinates.
 pub(crate) fn all_wide(numbers: &[i64]) -> bool
     ensures { result ≡ list_all is_wide numbers.now }
 {
@@ -82,14 +82,14 @@ fn scaled(granularity: i32, units: i64) -> i128
     i128::from(granularity) * i128::from(units)
 }
 
-/// How far a place may lie below the offset.
+/// How far a coordinate may lie below the offset.
 fn least_from(offset: i64) -> i128
     ensures { result ≡ LEAST -ℤ offset }
 {
     LEAST - i128::from(offset)
 }
 
-/// How far a place may lie above the offset.
+/// How far a coordinate may lie above the offset.
 fn most_from(offset: i64) -> i128
     ensures { result ≡ MOST -ℤ offset }
 {
@@ -102,9 +102,9 @@ fn sum_in_range(offset: i64, moved: i128) -> bool
     (least_from(offset) <= moved) & (moved <= most_from(offset))
 }
 
-/// Whether a place of that many units is in the range.
-pub(crate) fn place_in_range(offset: i64, granularity: i32, units: i64) -> bool
-    ensures { result ≡ place_in_range offset granularity units }
+/// Whether a coordinate of that many units is in the range.
+pub(crate) fn coordinate_in_range(offset: i64, granularity: i32, units: i64) -> bool
+    ensures { result ≡ coordinate_in_range offset granularity units }
 {
     sum_in_range(offset, scaled(granularity, units))
 }
@@ -117,10 +117,10 @@ fn narrow_sum(offset: i64, moved: i128) -> i64
     (i128::from(offset) + moved) as i64
 }
 
-/// The place of that many units, in nanodegrees.
-pub(crate) fn place_of(offset: i64, granularity: i32, units: i64) -> i64
-    requires { place_in_range offset granularity units ≡ true }
-    ensures { result ≡ place offset granularity units }
+/// The coordinate of that many units, in nanodegrees.
+pub(crate) fn coordinate_of(offset: i64, granularity: i32, units: i64) -> i64
+    requires { coordinate_in_range offset granularity units ≡ true }
+    ensures { result ≡ coordinate offset granularity units }
 {
     narrow_sum(offset, scaled(granularity, units))
 }

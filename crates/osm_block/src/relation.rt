@@ -8,14 +8,13 @@ ghost use Rattle.pbf_wire.specs.Readings.{fields, wire, int32};
 ghost use Rattle.osm_value.specs.Ranges.{is_wide};
 ghost use Rattle.osm_block.specs.Message.{Relation, relation_message, wires};
 ghost use Rattle.osm_block.specs.Block.{RelationOf, kind, text_at};
-ghost use Rattle.osm_block.specs.Columns.{RelationLeft, tag_indexes_in, user_in};
+ghost use Rattle.osm_block.specs.FieldsLeft.{RelationLeft, tag_indexes_in, user_in};
 ghost use Rattle.osm_block.specs.Texts.{is_text};
 ghost use Rattle.osm_block.specs.Members.{MembersAt};
 ghost use Rattle.osm_block.specs.Fields.{context_of, info_message_of, relation_message_of};
 ghost use Rattle.osm_block.specs.declared.fault.BlockFault.TheVariants as faults;
 ghost use Rattle.osm_block.specs.Phases.{Gives, first, when, relation_phases, message_phases, wire_phases, info_in_range, is_index};
 
-use crate::column::Column;
 use crate::deltas::absolute;
 use crate::fault::{BlockError, BlockFault};
 use crate::fields::{
@@ -23,6 +22,7 @@ use crate::fields::{
     RELATION_TYPES,
 };
 use crate::info::{InfoFields, InfoNumbers, info_in_range, info_of, optional_i64, user_fits};
+use crate::number_array::NumberArray;
 use crate::ranges::{all_indexes, all_wide};
 use crate::scale::Scale;
 use crate::tag_list::tags_of;
@@ -34,24 +34,24 @@ use std::alloc::Global;
 #[derive(Drop)]
 pub struct RelationFields {
     pub id: Option<u64>,
-    pub keys: Column,
-    pub vals: Column,
+    pub keys: NumberArray,
+    pub vals: NumberArray,
     pub info: InfoFields,
-    pub roles: Column,
-    pub memids: Column,
-    pub types: Column,
+    pub roles: NumberArray,
+    pub memids: NumberArray,
+    pub types: NumberArray,
 }
 
 impl RelationFields {
     pub(crate) fn new(alloc: Global) -> RelationFields {
         RelationFields {
             id: None,
-            keys: Column::new(alloc),
-            vals: Column::new(alloc),
+            keys: NumberArray::new(alloc),
+            vals: NumberArray::new(alloc),
             info: InfoFields::new(),
-            roles: Column::new(alloc),
-            memids: Column::new(alloc),
-            types: Column::new(alloc),
+            roles: NumberArray::new(alloc),
+            memids: NumberArray::new(alloc),
+            types: NumberArray::new(alloc),
         }
     }
 

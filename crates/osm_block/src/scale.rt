@@ -4,7 +4,7 @@ ghost use Rattle.std.specs.Prelude.{map, IsTrue};
 ghost use Rattle.std.specs.List.{list_all};
 ghost use Rattle.osm_block.specs.Texts.{is_text};
 
-/// The texts of a block, and the units of its places and times.
+/// The texts of a block, and the units of its coordinates and times.
 #[derive(Drop)]
 pub struct Scale<'a> {
     pub table: Vec<&'a str>,

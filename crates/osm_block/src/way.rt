@@ -8,16 +8,16 @@ ghost use Rattle.pbf_wire.specs.Readings.{fields, wire};
 ghost use Rattle.osm_value.specs.Ranges.{is_wide};
 ghost use Rattle.osm_block.specs.Message.{Way, way_message, wires};
 ghost use Rattle.osm_block.specs.Block.{WayOf};
-ghost use Rattle.osm_block.specs.Columns.{WayLeft, indexes_in};
+ghost use Rattle.osm_block.specs.FieldsLeft.{WayLeft, indexes_in};
 ghost use Rattle.osm_block.specs.Fields.{context_of, info_message_of, way_message_of};
 ghost use Rattle.osm_block.specs.declared.fault.BlockFault.TheVariants as faults;
 ghost use Rattle.osm_block.specs.Phases.{Gives, first, way_phases, message_phases, wire_phases, info_in_range};
 
-use crate::column::Column;
 use crate::deltas::absolute;
 use crate::fault::{BlockError, BlockFault};
 use crate::fields::{ELEMENT_ID, ELEMENT_INFO, ELEMENT_KEYS, ELEMENT_VALS, WAY_REFS};
 use crate::info::{InfoFields, InfoNumbers, info_in_range, info_of, optional_i64, user_fits};
+use crate::number_array::NumberArray;
 use crate::ranges::{all_indexes, all_wide};
 use crate::scale::Scale;
 use crate::tag_list::tags_of;
@@ -29,20 +29,20 @@ use std::alloc::Global;
 #[derive(Drop)]
 pub struct WayFields {
     pub id: Option<u64>,
-    pub keys: Column,
-    pub vals: Column,
+    pub keys: NumberArray,
+    pub vals: NumberArray,
     pub info: InfoFields,
-    pub refs: Column,
+    pub refs: NumberArray,
 }
 
 impl WayFields {
     pub(crate) fn new(alloc: Global) -> WayFields {
         WayFields {
             id: None,
-            keys: Column::new(alloc),
-            vals: Column::new(alloc),
+            keys: NumberArray::new(alloc),
+            vals: NumberArray::new(alloc),
             info: InfoFields::new(),
-            refs: Column::new(alloc),
+            refs: NumberArray::new(alloc),
         }
     }
 

@@ -1,17 +1,16 @@
 -- From what is read of a delivery to what it is.
-use Rattle.std.proofs.Common.{◌≡◌, ◌≢◌, ℕ, ◌<◌, cond, ltb, List, length, take, drop, Option, Some, None, Ok, Err, refl, sym, subst, inl, inr, arith}
+use Rattle.std.proofs.Common.{◌≡◌, ◌≢◌, ℕ, cond, ltb, List, length, Option, Some, None, Ok, Err, refl, subst, inl, inr}
 use Rattle.std.specs.Prelude.{MatchOption}
 use Rattle.std.proofs.lemmas.Bool.{ltb-true}
-use Rattle.std.proofs.lemmas.List.{take-append-drop, length-drop}
 use Rattle.pbf_wire.proofs.Choices.{chosen, err_is, not_both, then_err}
 use Rattle.osm_value.specs.declared.element.Element.{Element}
 use Rattle.pbf_frame.specs.declared.kind.Kind.{Kind}
 use Rattle.pbf_frame.specs.declared.fault.FrameFault.{FrameFault}
 use Rattle.pbf_frame.specs.declared.fault.FrameFault.TheVariants as frames
 use Rattle.pbf_frame.specs.Frame.{Frame, FirstFault, Found, kind_of, frame_at, whole_at}
-use Rattle.pbf_frame.proofs.FrameLaws.{frame_faults, frame_takes, whole_takes}
+use Rattle.pbf_frame.proofs.FrameLaws.{frame_faults, is_followed, whole_takes}
 use Rattle.osm_import.specs.Good.{IsGood, IsPlaced, HasElements}
-use Rattle.osm_import.specs.Bad.{IsBad, IsBadFrame, IsTrailing, CanStand, IsMisplaced, IsBadBlob, IsFinding, IsBlobFinding}
+use Rattle.osm_import.specs.Bad.{IsBad, IsBadFrame, CanStand, IsMisplaced, IsBadBlob, IsFinding, IsBlobFinding}
 use Rattle.osm_import.specs.declared.fault.Fault.{Fault}
 use Rattle.osm_import.specs.declared.fault.Fault.TheVariants as faults
 use Rattle.osm_import.specs.declared.examination.ExamineFault.{ExamineFault}
@@ -26,18 +25,13 @@ bad-frame off w frames.OffsetTooLarge h = absurd h.0
 bad-frame off w frames.Trailing h = absurd h.0
 bad-frame off w fault h = h
 
-trailing : (w : List ℕ) (f : Found) → frame_at w ≡ Ok f → f.len < length w → IsTrailing w
-trailing w f e lt =
-    let t = frame_takes w f e in
-    (f.type_name, f.blob, take f.len w, drop f.len w, t.spelled, sym (take-append-drop f.len w), omega (arith, length-drop f.len w))
-
 pub whole-faults : (off : ℕ) (w : List ℕ) (fault : FrameFault) → whole_at w ≡ Err fault → IsBadFrame off w fault
 unfolding whole_at
 whole-faults off w fault e =
     elim (then_err (frame_at w) (λ g. cond (ltb g.len (length w)) (Err frames.Trailing) (Ok g)) fault e) [
       | inl a ↦ bad-frame off w fault (frame_faults w fault a)
       | inr a ↦ elim (chosen (ltb a.0.len (length w)) (Err frames.Trailing) (Ok a.0) (Err fault) a.2) [
-        | inl p ↦ subst (IsBadFrame off w) (err_is {A = Found} frames.Trailing fault p.1) (trailing w a.0 a.1 (ltb-true _ _ p.0))
+        | inl p ↦ subst (IsBadFrame off w) (err_is {A = Found} frames.Trailing fault p.1) (is_followed w a.0 a.1 (ltb-true _ _ p.0))
         | inr p ↦ not_both a.0 fault p.1
       ]
     ]

@@ -15,7 +15,7 @@ use Rattle.osm_value.specs.Value.{Text, InfoValue, MemberValue, NodeValue}
 use Rattle.osm_value.specs.declared.element.Element.{Element}
 use Rattle.osm_value.specs.declared.element.Element.TheVariants as elements
 use Rattle.osm_block.specs.Message.{Context, Message, Plain, Dense, Way, Relation, context, messages}
-use Rattle.osm_block.specs.Block.{Block, GroupOf, Joins, AllAreWire, MessageOf, TagsAt, text_at, texts_at, all_there, column}
+use Rattle.osm_block.specs.Block.{Block, GroupOf, Joins, AllAreWire, MessageOf, TagsAt, text_at, texts_at, all_there, values_for}
 use Rattle.osm_write.specs.Canon.{texts_of, tag_texts, first_uses}
 use Rattle.osm_store.specs.Held.{HaveFewTexts}
 
@@ -200,7 +200,7 @@ users_present table [] (i ∷ infos) e = absurd cc
 users_present table (v ∷ vs) (i ∷ infos) e =
     let it = heads (shown i) (somebody table v) (map shown infos) (map (somebody table) vs) e in (user_in table i.user (Some v) it.0, users_present table vs infos it.1)
 
-users_in : (table : List Text) (n : ℕ) (vs : List ℤ) (infos : List InfoValue) → map shown infos ≡ column n (map (somebody table) vs) → UsersIn table infos
+users_in : (table : List Text) (n : ℕ) (vs : List ℤ) (infos : List InfoValue) → map shown infos ≡ values_for n (map (somebody table) vs) → UsersIn table infos
 users_in table n [] infos e = users_absent table n infos e
 users_in table n (v ∷ vs) infos e = users_present table (v ∷ vs) infos e
 

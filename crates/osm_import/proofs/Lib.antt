@@ -9,6 +9,9 @@ pub mod GapsLemmas
 pub mod GoodLaws
 pub mod HistoryLemmas
 pub mod RunsLemmas
+pub mod RepeatLemmas
+pub mod EventLemmas
+pub mod ShutLemmas
 pub mod StepLaws
 pub mod Touching
 pub mod WritingLemmas

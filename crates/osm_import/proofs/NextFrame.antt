@@ -1,5 +1,6 @@
 -- The next frame of an input: from what its framer has to what was read.
-use Rattle.std.proofs.Common.{◌≡◌, ℕ, ◌+◌, Bool, List, [], ◌++◌, length, Result, Option, Some, None, Ok, Err, refl, sym, ap, subst, inl, inr, ◌∙◌, arith, append_assoc, append-nil}
+use Rattle.std.proofs.Common.{◌≡◌, ◌↔◌, ℕ, ◌+◌, Bool, true, false, List, [], ◌++◌, length, Result, Option, Some, None, Ok, Err, refl, sym, ap, subst, inl, inr, ◌∙◌, arith, append_assoc, append-nil}
+use Rattle.std.specs.Prelude.{IfOk}
 use Rattle.std.specs.Borrow.{Bor}
 use Rattle.std.specs.Io.KnownBytes.{Consumes, IsAtEnd, Keeps, prepend_known}
 use Rattle.pbf_wire.proofs.Choices.{ok_is, not_both, neither_both}
@@ -121,3 +122,21 @@ begun_given g h left (inr (empty, end)) begun is = begun-empty h (ap (λ (x : Fr
     rests (Ok (Some frame)) = refl
     rests (Ok None) = empty
     rests (Err fault) = empty
+
+-- the reader is ready exactly where its framer takes no more
+pub ready-exact : (f : Framing) (piece : List ℕ) (is_full : Bool) → f.lent ≡ [] → IsBegun f → (is_full ≡ true) ↔ IsFull f → (is_full ≡ false → piece ≡ [])
+    → (is_full ≡ true) ↔ ((front more : List ℕ) × (f.rest ++ piece ≡ front ++ more) × IsFull (framing_of f.offset front))
+ready-exact f piece true none begun exact spent = (
+  (λ is. (f.rest, piece, refl, subst IsFull (framing-is f f.offset refl none) (exact.0 is))),
+  (λ ready. refl),
+)
+ready-exact f piece false none begun exact spent = (
+  (λ is. absurd (cc)),
+  (λ ready. absurd (none-held f begun (λ full. (let bad : false ≡ true = exact.1 full in cc)) ready.0 ready.1
+      (sym (ap (λ (v : List ℕ). f.rest ++ v) (spent refl) ∙ append-nil f.rest) ∙ ready.2) ready.3)),
+)
+
+pub ready-result : {E : Type 0} (f : Framing) (piece : List ℕ) (r : Result Bool E) → f.lent ≡ [] → IsBegun f → IfOk r (λ is_full. (is_full ≡ true) ↔ IsFull f) → IfOk r (λ is_full. is_full ≡ false → piece ≡ [])
+    → IfOk r (λ is_full. (is_full ≡ true) ↔ ((front more : List ℕ) × (f.rest ++ piece ≡ front ++ more) × IsFull (framing_of f.offset front)))
+ready-result f piece (Ok is_full) none begun exact spent = ready-exact f piece is_full none begun exact spent
+ready-result f piece (Err refused) none begun exact spent = tt

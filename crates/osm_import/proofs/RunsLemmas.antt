@@ -288,29 +288,9 @@ leaves-fault leaves held (e ∷ ds) [] between d more a run sound is crash = abs
 leaves-fault leaves held (e ∷ ds) (x ∷ rs) between d more a run sound is crash =
     leaves-cons leaves held e (ds ++ d ∷ more) x (rs ++ a ∷ []) sound.0 run.0 run.1 (leaves-fault leaves run.0 ds rs between d more a run.2 sound.1 is crash)
 
--- the same at a place of a list of deliveries
-pub leaves-fault-at : (leaves : HeldMap → Type 0) (held : HeldMap) (ds : List DeliveryValue) (i : ℕ) (d item : DeliveryValue) (rs items : List Answer) (a : Answer)
-    → i < length ds → d ≡ item → item ≡ get_or ds i item → items ≡ rs ++ a ∷ [] → (between : HeldMap) → IsRun held (take i ds) rs between → IsNone IsFault rs → IsFault a
-    → CrashLeaves leaves between d.off d.bytes → LeavesAfter leaves held ds items
-leaves-fault-at leaves held ds i d item rs items a within is_item at pushed between run sound is crash =
-    let split : take i ds ++ d ∷ drop (i + 1) ds ≡ ds
-    = sym (append_assoc (take i ds) (d ∷ []) (drop (i + 1) ds))
-    ∙ ap (λ (xs : List DeliveryValue). xs ++ drop (i + 1) ds) (sym (take_more ds i item within ∙ ap (λ (y : DeliveryValue). take i ds ++ y ∷ []) (sym at ∙ sym is_item)))
-    ∙ take-append-drop (i + 1) ds in
-    subst (λ (ys : List Answer). LeavesAfter leaves held ds ys) (sym pushed)
-    (subst (λ (xs : List DeliveryValue). LeavesAfter leaves held xs (rs ++ a ∷ [])) split
-    (leaves-fault leaves held (take i ds) rs between d (drop (i + 1) ds) a run sound is crash))
-
 pub none-push : (P : Answer → Type 0) (rs : List Answer) (a : Answer) → IsNone P rs → ¬ (P a) → IsNone P (rs ++ a ∷ [])
 none-push P [] a none last = (last, tt)
 none-push P (r ∷ rs) a none last = (none.0, none-push P rs a none.1 last)
-
-pub no-fault : (a : Answer) → ((fault : StoreFault) → a ≡ Fault fault → ⊥) → ¬ (IsFault a)
-no-fault (Fault fault) none is = none fault refl
-no-fault (Stored count) none is = is
-no-fault AlreadyHeld none is = is
-no-fault (Bad fault) none is = is
-no-fault (Refused reason) none is = is
 
 pub own-push : (rs : List Answer) (a : Answer) → AreOwn rs → IsOwn a → AreOwn (rs ++ a ∷ [])
 own-push [] a all own = (own, tt)
@@ -324,17 +304,3 @@ own-sound (Stored count ∷ rs) sound = (tt, own-sound rs sound.1)
 own-sound (AlreadyHeld ∷ rs) sound = (tt, own-sound rs sound.1)
 own-sound (Bad fault ∷ rs) sound = (tt, own-sound rs sound.1)
 own-sound (Refused reason ∷ rs) sound = (tt, own-sound rs sound.1)
-
--- the deliveries that were answered: one for each answer
-pub runs-answered : (holds : HeldMap → Type 0) (start : HeldMap) (ds : List DeliveryValue) (i n : ℕ) (rs : List Answer) → n ≡ i → Runs holds start (take i ds) rs → Runs holds start (take n ds) rs
-runs-answered holds start ds i n rs same run = subst (λ k. Runs holds start (take k ds) rs) (sym same) run
-
-pub answered-more : (rs items : List Answer) (a : Answer) (i : ℕ) → items ≡ rs ++ a ∷ [] → length rs ≡ i → length items ≡ i + 1
-answered-more rs items a i pushed many = ap length pushed ∙ length-append rs (a ∷ []) ∙ ap (λ n. n + 1) many
-
-pub fault-is : (a : Answer) → IsFault a → (fault : StoreFault) × (a ≡ Fault fault)
-fault-is (Fault fault) is = (fault, refl)
-fault-is (Stored count) is = absurd is
-fault-is AlreadyHeld is = absurd is
-fault-is (Bad fault) is = absurd is
-fault-is (Refused reason) is = absurd is

@@ -1,8 +1,10 @@
 -- A stream that ended well, over the bytes of a file.
-use Rattle.std.proofs.Common.{◌≡◌, ◌≢◌, ℕ, ◌+◌, ◌<◌, ◌≤◌, List, [], ◌∷◌, ◌++◌, length, Some, None, Result, Ok, Err, refl, sym, ap, subst, ◌∙◌, inl, inr, arith, append-nil, length-append}
+use Rattle.std.proofs.Common.{◌≡◌, ◌≢◌, ℕ, ◌+◌, ◌<◌, ◌≤◌, cond, List, [], ◌∷◌, ◌++◌, length, Some, None, Result, Ok, Err, refl, sym, ap, subst, ◌∙◌, inl, inr, arith, append-nil, length-append}
 use Rattle.std.specs.Prelude.{IfOk}
 use Rattle.std.specs.FinMap.{get}
+use Rattle.std.specs.List.{count_by}
 use Rattle.std.proofs.lemmas.Bool.{cases_lt}
+use Rattle.std.proofs.lemmas.List.Sums.{sum_by-cons}
 use Rattle.std.specs.Io.KnownBytes.{Consumes, IsAtEnd}
 use Rattle.osm_store.specs.Held.{Blob, HeldMap}
 use Rattle.osm_store.specs.HeldLaws.{get-insert_here}
@@ -13,7 +15,7 @@ use Rattle.osm_import.specs.Step.{IsStep}
 use Rattle.osm_import.specs.Runs.{IsRun, Runs, IsFault, IsRefused, IsNone}
 use Rattle.osm_import.specs.Exports.{Known}
 use Rattle.osm_import.specs.Flows.{Input, Output}
-use Rattle.osm_import.specs.Streams.{Reply, frames_of, answers_of, deliveries_at, counted, summary_from, nothing_at, EndsWell, Streams, ImportsFile}
+use Rattle.osm_import.specs.Streams.{Reply, frames_of, answers_of, deliveries_at, is_bad, EndsWell, Streams, ImportsFile}
 use Rattle.osm_import.specs.declared.answer.Answer.{Answer}
 use Rattle.osm_import.specs.declared.answer.Answer.TheVariants.{Stored, AlreadyHeld, Bad, Refused, Fault}
 use Rattle.osm_import.specs.declared.stream.summary.Summary.{Summary}
@@ -57,22 +59,21 @@ abbrev AreKept : List Reply → Type 0
 AreKept [] = Unit {0}
 AreKept (r ∷ rs) = IsKept r.1 × AreKept rs
 
-bad-grows : (s : Summary) (off : ℕ) (rs : List Reply) → s.bad ≤ (summary_from s off rs).bad
-bad-grows s off [] = omega arith
-bad-grows s off ((w, Stored count) ∷ rs) = bad-grows (record s { stored = s.stored + 1; next = off + length w }) (off + length w) rs
-bad-grows s off ((w, AlreadyHeld) ∷ rs) = bad-grows (record s { held = s.held + 1; next = off + length w }) (off + length w) rs
-bad-grows s off ((w, Bad fault) ∷ rs) = let h : s.bad + 1 ≤ (summary_from (counted s (Bad fault) (off + length w)) (off + length w) rs).bad = bad-grows (counted s (Bad fault) (off + length w)) (off + length w) rs in omega arith
-bad-grows s off ((w, Refused conflict) ∷ rs) = bad-grows (record s { refused = s.refused + 1; next = off + length w }) (off + length w) rs
-bad-grows s off ((w, Fault fault) ∷ rs) = bad-grows s (off + length w) rs
+abbrev bad_in : Answer → ℕ
+bad_in a = cond (is_bad a) 1 0
 
-all-kept : (s : Summary) (off : ℕ) (rs : List Reply) → IsNone IsFault (answers_of rs) → IsNone IsRefused (answers_of rs) → (summary_from s off rs).bad ≡ 0 → AreKept rs
-all-kept s off [] sound unrefused none = tt
-all-kept s off ((w, Stored count) ∷ rs) sound unrefused none = (tt, all-kept (counted s (Stored count) (off + length w)) (off + length w) rs sound.1 unrefused.1 none)
-all-kept s off ((w, AlreadyHeld) ∷ rs) sound unrefused none = (tt, all-kept (counted s AlreadyHeld (off + length w)) (off + length w) rs sound.1 unrefused.1 none)
-all-kept s off ((w, Bad fault) ∷ rs) sound unrefused none =
-    let h : s.bad + 1 ≤ (summary_from (counted s (Bad fault) (off + length w)) (off + length w) rs).bad = bad-grows (counted s (Bad fault) (off + length w)) (off + length w) rs in absurd (omega arith)
-all-kept s off ((w, Refused conflict) ∷ rs) sound unrefused none = absurd (unrefused.0 tt)
-all-kept s off ((w, Fault fault) ∷ rs) sound unrefused none = absurd (sound.0 tt)
+kept-answer : (a : Answer) → ¬ (IsFault a) → ¬ (IsRefused a) → bad_in a ≡ 0 → IsKept a
+kept-answer (Stored count) sound unrefused none = tt
+kept-answer AlreadyHeld sound unrefused none = tt
+kept-answer (Bad fault) sound unrefused none = absurd (omega arith)
+kept-answer (Refused conflict) sound unrefused none = absurd (unrefused tt)
+kept-answer (Fault fault) sound unrefused none = absurd (sound tt)
+
+all-kept : (rs : List Reply) → IsNone IsFault (answers_of rs) → IsNone IsRefused (answers_of rs) → count_by is_bad (answers_of rs) ≡ 0 → AreKept rs
+all-kept [] sound unrefused none = tt
+all-kept (r ∷ rs) sound unrefused none =
+    let both : count_by is_bad (answers_of (r ∷ rs)) ≡ bad_in r.1 + count_by is_bad (answers_of rs) = sum_by-cons bad_in r.1 (answers_of rs) in
+    (kept-answer r.1 sound.0 unrefused.0 (omega arith), all-kept rs sound.1 unrefused.1 (omega arith))
 
 kept-step : (held : HeldMap) (off : ℕ) (w : List ℕ) (a : Answer) (next : HeldMap) → IsKept a → IsStep held off w a next → (blob : Blob) × (get next off ≡ Some blob)
 kept-step held off w (Stored count) next kept step = (step.entry, ap (λ (m : HeldMap). get m off) step.added ∙ get-insert_here held off step.entry)
@@ -142,7 +143,7 @@ stream-tiles limit file input output Took summary start after is end of_file run
     let frames : List (List ℕ) = frames_of end.replies in
     let is_file = stream-file limit file input output Took summary is end in
     let import = run-imports frames end.frames start (deliveries_at 0 end.replies) (answers_of end.replies) after run (of-file frames 0 end.replies (λ o w stands. stands)) of_file in
-    let kept = all-kept (nothing_at 0) 0 end.replies end.answered import.unrefused (sym (ap (λ (s : Summary). s.bad) end.sums) ∙ none) in
+    let kept = all-kept end.replies end.answered import.unrefused (sym (ap (λ (s : Summary). s.bad) end.sums) ∙ none) in
     let all = frame-held 0 end.replies start after run kept in
     let size : length file ≡ length (joined frames) = ap length is_file.is_joined in (
       record {

@@ -15,7 +15,7 @@ use Rattle.osm_import.specs.Exports.{Known}
 use Rattle.osm_import.specs.Flows.{Input, Output}
 use Rattle.osm_import.specs.Runs.{IsFault, IsNone}
 use Rattle.osm_import.specs.Lines.{answer_line}
-use Rattle.osm_import.specs.Streams.{Reply, frames_of, answers_of, deliveries_at, lines_at, end_at, counted, summary_from, nothing_at, ended_at, HasRoom, IsStop, Stops, Streams}
+use Rattle.osm_import.specs.Streams.{Reply, frames_of, answers_of, deliveries_at, lines_at, end_at, summary_of, ended_at, HasRoom, IsStop, Stops, Streams}
 use Rattle.osm_import.specs.StreamSteps.{HasNoFrame, FrameAnswered, FrameStop}
 use Rattle.osm_import.specs.declared.answer.Answer.{Answer}
 use Rattle.osm_import.specs.declared.answer.Answer.TheVariants as answers
@@ -26,7 +26,7 @@ use Rattle.osm_import.specs.declared.stream.fault.Stop.TheVariants.{Frame, NoHea
 use Rattle.osm_import.proofs.RunsLemmas.{none-push}
 use Rattle.osm_import.proofs.GoodLaws.{frame-filled}
 use Rattle.osm_import.proofs.WritingLemmas.{front-of-piece}
-use Rattle.osm_import.proofs.StreamLists.{frames-push, answers-push, delivery_of, deliveries-push, lines-push, end-push, summary-push, frames-more, joined-push, Small, small-more}
+use Rattle.osm_import.proofs.StreamLists.{frames-push, answers-push, delivery_of, deliveries-push, answers-length, lines-push, end-push, frames-more, joined-push, Small, small-of}
 
 -- ---- one frame
 
@@ -66,7 +66,7 @@ pub record InStream (from count : ℕ) (f : Framing) (before now written_old wri
   pub empty : f.rest ≡ []
   pub read : Consumes before now (joined (frames_of replies))
   pub lines : Appends written_old written_now (lines_at from replies)
-  pub sums : summary ≡ summary_from (nothing_at from) from replies
+  pub sums : summary ≡ summary_of (answers_of replies) (end_at from replies)
   pub next : summary.next ≡ f.offset
   pub small : Small summary count
 
@@ -83,35 +83,38 @@ took-push from rs w a Then Now One grows answered took off here one =
     (subst (λ n. Now (deliveries_at from rs ++ delivery_of n w ∷ []) (answers_of rs ++ a ∷ [])) here
     (grows (deliveries_at from rs) (answers_of rs) off w a answered took one)))
 
-counted-next : (s : Summary) (a : Answer) (next : ℕ) → ¬ (IsFault a) → (counted s a next).next ≡ next
-counted-next s (answers.Stored count) next sound = refl
-counted-next s answers.AlreadyHeld next sound = refl
-counted-next s (answers.Bad fault) next sound = refl
-counted-next s (answers.Refused conflict) next sound = refl
-counted-next s (answers.Fault fault) next sound = absurd (sound tt)
+-- the summary of some answers becomes that of these and one more
+abbrev pub Counts : Summary → Answer → ℕ → Summary → Type 0
+Counts summary a fin next = (list : List Answer) (at : ℕ) → summary ≡ summary_of list at → next ≡ summary_of (list ++ a ∷ []) fin
 
 pub stream-more : (from count : ℕ) (f g : Framing) (before written_old : Known) (input : Input) (output : Output) (summary next : Summary) (Then Now : List DeliveryValue → List Answer → Type 0) (One : ℕ → List ℕ → Answer → Type 0) (blob : Delivered)
-    → InStream from count f before input.before written_old output.before summary Then → FrameAnswered f g input output One blob → Grows Then One Now → next ≡ counted summary blob.answer blob.fin
+    → InStream from count f before input.before written_old output.before summary Then → FrameAnswered f g input output One blob → Grows Then One Now → Counts summary blob.answer blob.fin next
     → InStream from (count + 1) g before input.after written_old output.after next Now
-stream-more from count f g before written_old input output summary next Then Now One blob so_far one grows is =
+stream-more from count f g before written_old input output summary next Then Now One blob so_far one grows counts =
     let rs = so_far.replies in
     let r : Reply = (one.frame, blob.answer) in
     let fin : blob.fin ≡ end_at from rs + length one.frame = one.ends ∙ ap (λ n. n + length one.frame) so_far.stands in
+    let sums : next ≡ summary_of (answers_of (rs ++ r ∷ [])) (end_at from (rs ++ r ∷ [])) =
+    counts (answers_of rs) (end_at from rs) so_far.sums ∙ ap (λ (list : List Answer). summary_of list blob.fin) (sym (answers-push rs r))
+    ∙ ap (λ n. summary_of (answers_of (rs ++ r ∷ [])) n) (fin ∙ sym (end-push from rs r)) in
+    let many : length (rs ++ r ∷ []) ≡ count + 1 = length-append rs (r ∷ []) ∙ ap (λ n. n + 1) so_far.many in
+    let stands : g.offset ≡ end_at from (rs ++ r ∷ []) = one.moved ∙ ap (λ n. n + length one.frame) so_far.stands ∙ sym (end-push from rs r) in
     record {
       replies = rs ++ r ∷ [];
       frames = subst AreFrames (sym (frames-push rs r)) (frames-more (frames_of rs) one.frame so_far.frames one.whole);
       took = took-push from rs one.frame blob.answer Then Now One grows so_far.answered so_far.took f.offset so_far.stands one.took;
       answered = subst (IsNone IsFault) (sym (answers-push rs r)) (none-push IsFault (answers_of rs) blob.answer so_far.answered one.answered);
-      many = length-append rs (r ∷ []) ∙ ap (λ n. n + 1) so_far.many;
-      stands = one.moved ∙ ap (λ n. n + length one.frame) so_far.stands ∙ sym (end-push from rs r);
+      many = many;
+      stands = stands;
       inside = (let fits = one.fits in let moved = one.moved in omega arith);
       empty = one.empty;
       read = subst (λ (v : List ℕ). Consumes before input.after v) (sym (ap joined (frames-push rs r) ∙ joined-push (frames_of rs) one.frame)) (Consumes-trans before input.before input.after (joined (frames_of rs)) one.frame so_far.read one.read);
       lines = subst (λ (v : List ℕ). Appends written_old output.after v) (sym (lines-push from rs r))
           (Appends-trans written_old output.before output.after (lines_at from rs) (answer_line (end_at from rs) blob.answer) so_far.lines (subst (λ n. Appends output.before output.after (answer_line n blob.answer)) so_far.stands one.line));
-      sums = is ∙ ap (λ (s : Summary). counted s blob.answer blob.fin) so_far.sums ∙ ap (λ n. counted (summary_from (nothing_at from) from rs) blob.answer n) fin ∙ sym (summary-push (nothing_at from) from rs r);
-      next = ap (λ (s : Summary). s.next) is ∙ counted-next summary blob.answer blob.fin one.answered ∙ one.ends ∙ sym one.moved;
-      small = subst (λ (s : Summary). Small s (count + 1)) (sym is) (small-more summary blob.answer blob.fin count so_far.small);
+      sums = sums;
+      next = ap (λ (s : Summary). s.next) sums ∙ sym stands;
+      small = subst (λ (s : Summary). Small s (count + 1)) (sym sums) (subst (λ n. Small (summary_of (answers_of (rs ++ r ∷ [])) (end_at from (rs ++ r ∷ []))) n)
+          (answers-length (rs ++ r ∷ []) ∙ many) (small-of (answers_of (rs ++ r ∷ [])) (end_at from (rs ++ r ∷ []))));
     }
 
 pub has-room : (s : Summary) (n : ℕ) → Small s n → n < 2 ^ 32 → HasRoom s
@@ -271,7 +274,7 @@ stream-stops from limit count f input piece mid output written_mid summary Then 
 stream-stops from limit count f input piece mid output written_mid summary Then Now One Same BlobLimit so_far h stays grows few spent = absurd h
 
 -- nothing was read yet
-pub stream-begins : (from : ℕ) (left written : Known) (f : Framing) (summary : Summary) (Took : List DeliveryValue → List Answer → Type 0) → f.offset ≡ from → f.rest ≡ [] → from ≤ 4611686018427387904 → summary ≡ nothing_at from → Took [] []
+pub stream-begins : (from : ℕ) (left written : Known) (f : Framing) (summary : Summary) (Took : List DeliveryValue → List Answer → Type 0) → f.offset ≡ from → f.rest ≡ [] → from ≤ 4611686018427387904 → summary ≡ summary_of [] from → Took [] []
     → InStream from 0 f left (prepend_known [] left) written written summary Took
 stream-begins from left written f summary Took here empty inside is took = record {
   replies = [];
@@ -286,7 +289,7 @@ stream-begins from left written f summary Took here empty inside is took = recor
   lines = Appends-nil written;
   sums = is;
   next = ap (λ (s : Summary). s.next) is ∙ sym here;
-  small = subst (λ (s : Summary). Small s 0) (sym is) (record { stored = omega arith; held = omega arith; bad = omega arith; refused = omega arith });
+  small = subst (λ (s : Summary). Small s 0) (sym is) (small-of [] from);
 }
 
 -- no memory for a piece

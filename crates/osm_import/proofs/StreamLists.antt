@@ -1,12 +1,12 @@
 -- One more frame and its answer.
-use Rattle.std.proofs.Common.{◌≡◌, ℕ, ◌+◌, ◌≤◌, List, [], ◌∷◌, ◌++◌, length, refl, sym, ap, ◌∙◌, arith, append_assoc, append-nil}
+use Rattle.std.proofs.Common.{◌≡◌, ℕ, suc, ◌+◌, ◌≤◌, List, [], ◌∷◌, ◌++◌, length, refl, sym, ap, ◌∙◌, append_assoc, append-nil}
+use Rattle.std.proofs.lemmas.List.Sums.{count_by-le-length}
 use Rattle.osm_import.specs.Good.{IsFrame}
 use Rattle.osm_import.specs.Files.{AreFrames, joined}
 use Rattle.osm_import.specs.Deliveries.{DeliveryValue}
 use Rattle.osm_import.specs.Lines.{answer_line}
-use Rattle.osm_import.specs.Streams.{Reply, frames_of, answers_of, deliveries_at, lines_at, end_at, counted, summary_from}
+use Rattle.osm_import.specs.Streams.{Reply, frames_of, answers_of, deliveries_at, lines_at, end_at, is_stored, is_held, is_bad, is_refused, summary_of}
 use Rattle.osm_import.specs.declared.answer.Answer.{Answer}
-use Rattle.osm_import.specs.declared.answer.Answer.TheVariants as answers
 use Rattle.osm_import.specs.declared.stream.summary.Summary.{Summary}
 
 pub frames-push : (rs : List Reply) (r : Reply) → frames_of (rs ++ r ∷ []) ≡ frames_of rs ++ r.0 ∷ []
@@ -33,9 +33,9 @@ pub end-push : (off : ℕ) (rs : List Reply) (r : Reply) → end_at off (rs ++ r
 end-push off [] r = refl
 end-push off (x ∷ rs) r = end-push (off + length x.0) rs r
 
-pub summary-push : (s : Summary) (off : ℕ) (rs : List Reply) (r : Reply) → summary_from s off (rs ++ r ∷ []) ≡ counted (summary_from s off rs) r.1 (end_at off rs + length r.0)
-summary-push s off [] r = refl
-summary-push s off (x ∷ rs) r = summary-push (counted s x.1 (off + length x.0)) (off + length x.0) rs r
+pub answers-length : (rs : List Reply) → length (answers_of rs) ≡ length rs
+answers-length [] = refl
+answers-length (x ∷ rs) = ap (λ n. suc n) (answers-length rs)
 
 pub frames-more : (ws : List (List ℕ)) (w : List ℕ) → AreFrames ws → IsFrame w → AreFrames (ws ++ w ∷ [])
 frames-more [] w all is = (is, tt)
@@ -45,16 +45,12 @@ pub joined-push : (ws : List (List ℕ)) (w : List ℕ) → joined (ws ++ w ∷ 
 joined-push [] w = append-nil w
 joined-push (x ∷ ws) w = ap (λ (l : List ℕ). x ++ l) (joined-push ws w) ∙ sym (append_assoc x (joined ws) w)
 
--- no count grows by more than one a blob
+-- no count is above that of the blobs
 pub record Small (s : Summary) (n : ℕ) : Type 0 where
   pub stored : s.stored ≤ n
   pub held : s.held ≤ n
   pub bad : s.bad ≤ n
   pub refused : s.refused ≤ n
 
-pub small-more : (s : Summary) (a : Answer) (next n : ℕ) → Small s n → Small (counted s a next) (n + 1)
-small-more s (answers.Stored count) next n h = let a = h.stored in let b = h.held in let c = h.bad in let d = h.refused in record { stored = omega arith; held = omega arith; bad = omega arith; refused = omega arith }
-small-more s answers.AlreadyHeld next n h = let a = h.stored in let b = h.held in let c = h.bad in let d = h.refused in record { stored = omega arith; held = omega arith; bad = omega arith; refused = omega arith }
-small-more s (answers.Bad fault) next n h = let a = h.stored in let b = h.held in let c = h.bad in let d = h.refused in record { stored = omega arith; held = omega arith; bad = omega arith; refused = omega arith }
-small-more s (answers.Refused conflict) next n h = let a = h.stored in let b = h.held in let c = h.bad in let d = h.refused in record { stored = omega arith; held = omega arith; bad = omega arith; refused = omega arith }
-small-more s (answers.Fault fault) next n h = let a = h.stored in let b = h.held in let c = h.bad in let d = h.refused in record { stored = omega arith; held = omega arith; bad = omega arith; refused = omega arith }
+pub small-of : (list : List Answer) (next : ℕ) → Small (summary_of list next) (length list)
+small-of list next = record { stored = count_by-le-length is_stored list; held = count_by-le-length is_held list; bad = count_by-le-length is_bad list; refused = count_by-le-length is_refused list }

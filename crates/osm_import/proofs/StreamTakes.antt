@@ -10,7 +10,7 @@ use Rattle.osm_import.specs.declared.answer.Answer.TheVariants.{Stored, AlreadyH
 use Rattle.osm_import.proofs.RunsLemmas.{run-push, delivers-step, delivers-sound, causes-push, cause-wider, own-push, none-push, none-split, leaves-run, leaves-fault}
 use Rattle.osm_import.proofs.StreamLists.{delivery_of}
 
-abbrev fault-or-not : (a : Answer) → IsFault a ⊎ ¬ (IsFault a)
+abbrev pub fault-or-not : (a : Answer) → IsFault a ⊎ ¬ (IsFault a)
 fault-or-not (Fault fault) = inl tt
 fault-or-not (Stored count) = inr (λ h. h)
 fault-or-not AlreadyHeld = inr (λ h. h)

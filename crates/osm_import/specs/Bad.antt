@@ -1,10 +1,10 @@
 -- Why a delivery isn't good: its first fault.
-use Rattle.std.specs.Prelude.{◌≡◌, ◌≢◌, ◌↔◌, ℕ, ◌+◌, ◌^◌, ◌<◌, ◌≤◌, List, ◌++◌, length, Some}
+use Rattle.std.specs.Prelude.{◌≡◌, ◌≢◌, ◌↔◌, ℕ, ◌+◌, ◌^◌, ◌<◌, ◌≤◌, List, length, Some}
 use Rattle.pbf_frame.specs.declared.kind.Kind.{Kind}
 use Rattle.pbf_frame.specs.declared.kind.Kind.TheVariants.{OsmHeader, OsmData, Other}
 use Rattle.pbf_frame.specs.declared.fault.FrameFault.{FrameFault}
 use Rattle.pbf_frame.specs.declared.fault.FrameFault.TheVariants as frames
-use Rattle.pbf_frame.specs.Frame.{Frame, FirstFault, kind_of}
+use Rattle.pbf_frame.specs.Frame.{Frame, FirstFault, IsFollowed, kind_of}
 use Rattle.pbf_frame.specs.Blob.{Raw, IsBlobFault}
 use Rattle.osm_block.specs.Phases.{fault}
 use Rattle.osm_block.specs.HeaderBlock.{header_fault}
@@ -14,14 +14,10 @@ use Rattle.osm_import.specs.declared.fault.Fault.TheVariants.{Frame as FrameFaul
 use Rattle.osm_import.specs.declared.examination.ExamineFault.{ExamineFault}
 use Rattle.osm_import.specs.declared.examination.ExamineFault.TheVariants as found
 
--- a frame stands at the front, and bytes follow it
-abbrev pub IsTrailing : List ℕ → Type 0
-IsTrailing w = (type blob front rest : List ℕ) × Frame type blob front × (w ≡ front ++ rest) × (0 < length rest)
-
 -- what the fault of a frame says of the bytes
 abbrev pub IsBadFrame : ℕ → List ℕ → FrameFault → Type 0
 IsBadFrame off w frames.OffsetTooLarge = IsFrame w × (2 ^ 62 < off + length w)
-IsBadFrame off w frames.Trailing = IsTrailing w
+IsBadFrame off w frames.Trailing = IsFollowed w
 IsBadFrame off w fault = FirstFault fault w
 
 -- The first fault of a delivery. In each case the ones before don't stand: first the frame's, then where it ends,

@@ -20,6 +20,12 @@ IsEvent held (answered delivery answer) next = IsStep held delivery.off delivery
 IsEvent held (broken delivery) next = (next ≡ held) ⊎ ((count : ℕ) × IsStoring held delivery.off delivery.bytes count next)
 IsEvent held reopened next = next ≡ held
 
+-- each map that a crash may leave after a delivery is that of an event: of the answered one, unless the answer is a
+-- fault, and of the broken one
+pub record LeavesEvents (leaves : HeldMap → Type 0) (held : HeldMap) (delivery : DeliveryValue) (answer : Answer) : Type 0 where
+  pub of_answered : ¬ (IsFault answer) → (left : HeldMap) → leaves left → IsEvent held (answered delivery answer) left
+  pub of_broken : (left : HeldMap) → leaves left → IsEvent held (broken delivery) left
+
 abbrev pub IsHistory : HeldMap → List Event → HeldMap → Type 0
 IsHistory held [] after = after ≡ held
 IsHistory held (event ∷ events) after = (next : HeldMap) × IsEvent held event next × IsHistory next events after

@@ -7,7 +7,7 @@ use Rattle.osm_import.specs.Files.{IsHeldOfFile}
 use Rattle.osm_import.specs.Step.{IsStep, IsEntry, IsOwn, CrashLeaves, FaultHasCause}
 use Rattle.osm_store.specs.declared.fault.StoreFault.{StoreFault}
 use Rattle.osm_import.specs.declared.answer.Answer.{Answer}
-use Rattle.osm_import.specs.declared.answer.Answer.TheVariants.{Stored, Refused, Fault}
+use Rattle.osm_import.specs.declared.answer.Answer.TheVariants.{Stored, AlreadyHeld, Refused, Fault}
 
 -- the deliveries are answered one after the other, each by its step
 abbrev pub IsRun : HeldMap → List DeliveryValue → List Answer → HeldMap → Type 0
@@ -87,12 +87,33 @@ LeavesAfter leaves held [] (answer ∷ answers) = ⊥
 LeavesAfter leaves held (delivery ∷ deliveries) (Fault fault ∷ answers) = CrashLeaves leaves held delivery.off delivery.bytes
 LeavesAfter leaves held (delivery ∷ deliveries) (answer ∷ answers) = (next : HeldMap) × IsStep held delivery.off delivery.bytes answer next × LeavesAfter leaves next deliveries answers
 
--- One answer to each of so many deliveries, and no fault; or a fault is the last answer, and the only one.
-abbrev pub EndsAtFault : ℕ → List Answer → Type 0
-EndsAtFault count answers = (IsNone IsFault answers × (length answers ≡ count))
-    ⊎ ((front : List Answer) × (fault : StoreFault) × (answers ≡ front ++ Fault fault ∷ []) × IsNone IsFault front × (length answers ≤ count))
+-- A fault among the answers has shut the store: up to it each answer is that of its step, a crash leaves the map before
+-- it or that map with the entry of its delivery, and nothing was stored behind it.
+abbrev pub ShutAfter : (HeldMap → Type 0) → HeldMap → List DeliveryValue → List Answer → Type 0
+ShutAfter leaves held [] answers = ⊥
+ShutAfter leaves held (delivery ∷ deliveries) [] = ⊥
+ShutAfter leaves held (delivery ∷ deliveries) (answer ∷ answers) = (IsFault answer × CrashLeaves leaves held delivery.off delivery.bytes × IsNone IsStored answers)
+    ⊎ ((next : HeldMap) × IsStep held delivery.off delivery.bytes answer next × ShutAfter leaves next deliveries answers)
+
+-- What a crash may leave after deliveries that go on after a fault: the map after all of them, or what the fault left
+-- that shut the store.
+abbrev pub LeavesAfterAll : (HeldMap → Type 0) → HeldMap → List DeliveryValue → List Answer → Type 0
+LeavesAfterAll leaves held deliveries answers = Runs (λ after. (left : HeldMap) → leaves left → left ≡ after) held deliveries answers ⊎ ShutAfter leaves held deliveries answers
+
+-- A store that had to be opened again before a delivery stores nothing, and a crash leaves what it could leave before.
+pub record StaysShut (could_leave leaves : HeldMap → Type 0) (left_a_map leaves_a_map : Type 0) (answer : Answer) : Type 0 where
+  pub unstored : ¬ (IsStored answer)
+  pub crash : (left : HeldMap) → leaves left → could_leave left
+  pub whole : left_a_map → leaves_a_map
 
 -- no fault among the answers says that the tables are another store's
 abbrev pub AreOwn : List Answer → Type 0
 AreOwn [] = Unit {0}
 AreOwn (answer ∷ answers) = IsOwn answer × AreOwn answers
+
+-- A blob that was stored or was held already is answered AlreadyHeld when it is delivered again, whatever was delivered
+-- meanwhile, and the map stays as it is.
+abbrev pub RepeatsChangeNothing : Type 0
+RepeatsChangeNothing = (held next now after : HeldMap) (delivery : DeliveryValue) (first again : Answer) (between : List DeliveryValue) (answers : List Answer)
+    → IsStep held delivery.off delivery.bytes first next → IsStored first ⊎ (first ≡ AlreadyHeld) → IsRun next between answers now
+    → IsStep now delivery.off delivery.bytes again after → ¬ (IsFault again) → (again ≡ AlreadyHeld) × (after ≡ now)

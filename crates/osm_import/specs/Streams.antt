@@ -1,5 +1,6 @@
 -- What the import of a stream does: to its input, its output and the store.
-use Rattle.std.specs.Prelude.{◌≡◌, ◌≢◌, ◌⊎◌, ℕ, ◌+◌, ◌^◌, ◌==◌, ◌&&◌, if◌then◌else◌, ◌<◌, ◌≤◌, Bool, true, List, [], ◌∷◌, ◌++◌, length, Result, Ok, Err}
+use Rattle.std.specs.Prelude.{◌≡◌, ◌≢◌, ◌⊎◌, ℕ, ◌+◌, ◌^◌, ◌==◌, ◌&&◌, if◌then◌else◌, ◌<◌, ◌≤◌, Bool, true, false, List, [], ◌∷◌, ◌++◌, length, Result, Ok, Err}
+use Rattle.std.specs.List.{count_by}
 use Rattle.std.specs.Io.KnownBytes.{Appends, Consumes, IsAtEnd, prepend_known}
 use Rattle.pbf_frame.specs.Framer.{Framing, FaultStands, IsUnfinished}
 use Rattle.osm_value.specs.Sink.{AppendsFront}
@@ -49,13 +50,26 @@ abbrev pub end_at : ℕ → List Reply → ℕ
 end_at off [] = off
 end_at off (reply ∷ replies) = end_at (off + length reply.0) replies
 
--- the count with one more blob
-abbrev pub counted : Summary → Answer → ℕ → Summary
-counted s (answers.Stored count) next = record s { stored = s.stored + 1; next = next }
-counted s answers.AlreadyHeld next = record s { held = s.held + 1; next = next }
-counted s (answers.Bad fault) next = record s { bad = s.bad + 1; next = next }
-counted s (answers.Refused conflict) next = record s { refused = s.refused + 1; next = next }
-counted s (answers.Fault fault) next = s
+abbrev pub is_stored : Answer → Bool
+is_stored (answers.Stored count) = true
+is_stored _ = false
+
+abbrev pub is_held : Answer → Bool
+is_held answers.AlreadyHeld = true
+is_held _ = false
+
+abbrev pub is_bad : Answer → Bool
+is_bad (answers.Bad fault) = true
+is_bad _ = false
+
+abbrev pub is_refused : Answer → Bool
+is_refused (answers.Refused conflict) = true
+is_refused _ = false
+
+-- how many blobs were answered with each, and the offset behind the last
+abbrev pub summary_of : List Answer → ℕ → Summary
+summary_of replies next =
+    record { stored = count_by is_stored replies; held = count_by is_held replies; bad = count_by is_bad replies; refused = count_by is_refused replies; next = next }
 
 -- no count is at its end
 pub record HasRoom (s : Summary) : Type 0 where
@@ -63,13 +77,6 @@ pub record HasRoom (s : Summary) : Type 0 where
   pub held : s.held < 2 ^ 63
   pub bad : s.bad < 2 ^ 63
   pub refused : s.refused < 2 ^ 63
-
-abbrev pub nothing_at : ℕ → Summary
-nothing_at off = record { stored = 0; held = 0; bad = 0; refused = 0; next = off }
-
-abbrev pub summary_from : Summary → ℕ → List Reply → Summary
-summary_from s off [] = s
-summary_from s off (reply ∷ replies) = summary_from (counted s reply.1 (off + length reply.0)) (off + length reply.0) replies
 
 -- what is said at the end of an input that stood at `from` at its start
 abbrev pub ended_at : ℕ → Summary → Result Summary StreamFault
@@ -99,7 +106,7 @@ pub record EndsWell (from limit : ℕ) (input : Input) (output : Output) (Took :
   pub read : Consumes input.before input.after (joined (frames_of replies))
   pub ended : IsAtEnd input.after
   pub lines : Appends output.before output.after (lines_at from replies)
-  pub sums : summary ≡ summary_from (nothing_at from) from replies
+  pub sums : summary ≡ summary_of (answers_of replies) (end_at from replies)
   pub some : from ≡ 0 → replies ≢ []
 
 -- Why it stopped behind these answered frames, with this frame being delivered if there is one, and these bytes read behind it.

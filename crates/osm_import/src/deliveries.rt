@@ -1,9 +1,9 @@
 //! Any list of deliveries.
 
-ghost use Rattle.std.specs.Prelude.{◌≡◌, ◌≤◌, ◌⊎◌, ℕ, List, length, take, IfOk, OnErr, vec_len};
+ghost use Rattle.std.specs.Prelude.{◌≡◌, ◌⊎◌, ℕ, List, length, IfOk, OnErr, vec_len};
 ghost use Rattle.osm_store.specs.Held.{HeldMap};
 ghost use Rattle.osm_import.specs.Files.{AreFrames, AreOfFile, IsHeldOfFile};
-ghost use Rattle.osm_import.specs.Runs.{Runs, Imports, HaveCauses, AreOwn, LeavesAfter, EndsAtFault, IsNone, IsFault};
+ghost use Rattle.osm_import.specs.Runs.{Runs, Imports, HaveCauses, AreOwn, LeavesAfterAll, IsNone, IsStored, IsFault};
 
 use crate::answer::Answer;
 use crate::delivery::deliver;
@@ -36,8 +36,9 @@ impl<'a> Model for Delivery<'a> {
 /// Nothing is `Refused`. Where no answer is a `Fault`, all good deliveries are held.
 ///
 /// This holds over an honest disk, where the store can go on at the end (no fault asks for it to be opened again) or no
-/// answer is a `Fault`. Behind a fault that asks for that nothing is said of what is held until the store was opened
-/// again; `deliver_until_fault` stops there.
+/// answer is a `Fault`. A fault that asks for that shuts the store: nothing is stored behind it, and the next opening finds
+/// the map after the answers before it, or that map with the blob of the delivery at fault. A crash now leaves the same,
+/// or, where no fault has shut the store, the map after all answers.
 pub fn deliver_all<K: Keeper>(
     alloc: Global,
     keeper: &mut K,
@@ -58,6 +59,14 @@ pub fn deliver_all<K: Keeper>(
     ensures unbroken { (held : HeldMap) → K.holds keeper.old held → K.is_honest keeper.new
         → IfOk result (λ answers. IsNone IsFault answers.items → Runs (K.holds keeper.new) held deliveries.now answers.items) }
 
+    // Where nothing is stored the tables are as they were, whatever rows they have.
+    ensures same { K.is_honest keeper.new → K.is_open keeper.new → IfOk result (λ answers. IsNone IsStored answers.items → K.same_tables keeper.old keeper.new) }
+
+    // What a crash may leave, also behind a fault that has shut the store.
+    ensures crash { (held : HeldMap) → K.holds keeper.old held → K.is_honest keeper.new
+        → IfOk result (λ answers. LeavesAfterAll (K.leaves keeper.new) held deliveries.now answers.items) }
+    ensures whole { (held : HeldMap) → K.holds keeper.old held → K.is_honest keeper.new → K.leaves_a_map keeper.new }
+
     // Why faults are answered.
     ensures own { (held : HeldMap) → K.holds keeper.old held → K.is_honest keeper.new
         → IfOk result (λ answers. K.is_open keeper.new ⊎ IsNone IsFault answers.items → AreOwn answers.items) }
@@ -71,45 +80,6 @@ pub fn deliver_all<K: Keeper>(
         answers
             .push(deliver(alloc, keeper, delivery.off, delivery.bytes))
             .unwrap();
-    }
-    Ok(answers)
-}
-
-/// The same, up to the first fault: one answer to each delivery, or to those up to the first that is answered `Fault`,
-/// which is then the last answer. `Err` has changed nothing.
-///
-/// A crash now leaves the map after the answered deliveries; after a `Fault` it may leave that map with the entry of the
-/// delivery at fault too, and the store has to be opened again before more is delivered.
-pub fn deliver_until_fault<K: Keeper>(
-    alloc: Global,
-    keeper: &mut K,
-    deliveries: &[Delivery<'_>],
-) -> Result<Vec<Answer>, AllocError>
-    // What a crash may leave: the map after the answered deliveries; and, after a fault alone, that map with the blob at fault.
-    ensures crash { (held : HeldMap) → K.holds keeper.old held → K.is_honest keeper.new
-        → IfOk result (λ answers. LeavesAfter (K.leaves keeper.new) held deliveries.now answers.items) }
-    ensures whole { (held : HeldMap) → K.holds keeper.old held → K.is_honest keeper.new → K.leaves_a_map keeper.new }
-
-    // It ends at the first fault alone; each answer is that of its step, and the store holds what the steps leave.
-    ensures ends { IfOk result (λ answers. EndsAtFault (length deliveries.now) answers.items) }
-    ensures run { (held : HeldMap) → K.holds keeper.old held → K.is_honest keeper.new
-        → IfOk result (λ answers. K.is_open keeper.new ⊎ IsNone IsFault answers.items
-        → Runs (K.holds keeper.new) held (take (length answers.items) deliveries.now) answers.items) }
-
-    // Why a fault is answered.
-    ensures own { (held : HeldMap) → K.holds keeper.old held → K.is_honest keeper.new → IfOk result (λ answers. AreOwn answers.items) }
-    ensures cause { IfOk result (λ answers. HaveCauses (K.failures keeper.old) (K.failures keeper.new) answers.items) }
-    ensures honest { K.is_honest keeper.new → K.is_honest keeper.old }
-    ensures open_if { K.is_open keeper.new → K.is_open keeper.old }
-    ensures err { OnErr result (keeper.new ≡ keeper.old) }
-{
-    let mut answers = Vec::with_capacity(alloc, deliveries.len())?;
-    for delivery in deliveries {
-        let answer = deliver(alloc, keeper, delivery.off, delivery.bytes);
-        answers.push(answer).unwrap();
-        if let Answer::Fault(_) = answer {
-            return Ok(answers);
-        }
     }
     Ok(answers)
 }

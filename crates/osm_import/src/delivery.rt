@@ -4,6 +4,8 @@ ghost use Rattle.std.specs.Prelude.{◌≡◌, ◌==◌, ◌≤◌, find};
 ghost use Rattle.osm_store.specs.Held.{HeldMap};
 ghost use Rattle.osm_import.specs.Good.{IsGood};
 ghost use Rattle.osm_import.specs.Step.{Delivers, CrashLeaves, FaultHasCause, IsOwn};
+ghost use Rattle.osm_import.specs.Runs.{IsStored, StaysShut};
+ghost use Rattle.osm_import.specs.Histories.{LeavesEvents};
 
 use crate::answer::{Answer, Conflict};
 use crate::examination::{ExamineFault, Good, examine};
@@ -39,6 +41,9 @@ fn deliver_good<K: Keeper>(
     ensures cause { FaultHasCause (K.failures keeper.old) (K.failures keeper.new) result }
     ensures honest { K.is_honest keeper.new → K.is_honest keeper.old }
     ensures open_if { K.is_open keeper.new → K.is_open keeper.old }
+    ensures same { K.is_honest keeper.new → K.is_open keeper.new → ¬ (IsStored result) → K.same_tables keeper.old keeper.new }
+    ensures shut { K.is_honest keeper.new → ¬ (K.is_open keeper.old)
+        → StaysShut (K.leaves keeper.old) (K.leaves keeper.new) (K.leaves_a_map keeper.old) (K.leaves_a_map keeper.new) result }
     ensures counted { K.failures keeper.old ≤ K.failures keeper.new }
 {
     let fin = off + bytes.len() as u64;
@@ -69,13 +74,17 @@ fn deliver_good<K: Keeper>(
 /// frame's extent meets a held one; else `Stored` with the number of its elements, and the blob is held. In place of
 /// any of these `Fault` may stand, where a call of the store has failed or memory was refused. All but `Stored` leave
 /// what is held, a `Fault` where the store can go on. A crash during the call, and a `Fault` after which the store has to
-/// be opened again, leave what was held, or that with this blob whole.
+/// be opened again, leave what was held, or that with this blob whole. A store that has to be opened again already
+/// stores nothing, and a crash leaves what it could leave before. Where the store can go on, each answer but `Stored`
+/// leaves the tables as they were, whatever rows they have.
 pub fn deliver<K: Keeper>(alloc: Global, keeper: &mut K, off: u64, bytes: &[u8]) -> Answer
     ensures step { (held : HeldMap) → K.holds keeper.old held → K.is_honest keeper.new
         → Delivers (K.is_open keeper.new) (K.holds keeper.new) held off bytes.now result }
 
     // What a crash may leave now.
     ensures crash { (held : HeldMap) → K.holds keeper.old held → K.is_honest keeper.new → CrashLeaves (K.leaves keeper.new) held off bytes.now }
+    ensures events { (held : HeldMap) → K.holds keeper.old held → K.is_honest keeper.new
+        → LeavesEvents (K.leaves keeper.new) held (record { off = off; bytes = bytes.now }) result }
     ensures whole { (held : HeldMap) → K.holds keeper.old held → K.is_honest keeper.new → K.leaves_a_map keeper.new }
 
     // Why a fault is answered.
@@ -83,6 +92,9 @@ pub fn deliver<K: Keeper>(alloc: Global, keeper: &mut K, off: u64, bytes: &[u8])
     ensures cause { FaultHasCause (K.failures keeper.old) (K.failures keeper.new) result }
     ensures honest { K.is_honest keeper.new → K.is_honest keeper.old }
     ensures open_if { K.is_open keeper.new → K.is_open keeper.old }
+    ensures same { K.is_honest keeper.new → K.is_open keeper.new → ¬ (IsStored result) → K.same_tables keeper.old keeper.new }
+    ensures shut { K.is_honest keeper.new → ¬ (K.is_open keeper.old)
+        → StaysShut (K.leaves keeper.old) (K.leaves keeper.new) (K.leaves_a_map keeper.old) (K.leaves_a_map keeper.new) result }
     ensures counted { K.failures keeper.old ≤ K.failures keeper.new }
 {
     match examine(alloc, off, bytes) {

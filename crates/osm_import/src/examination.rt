@@ -11,12 +11,9 @@ ghost use Rattle.osm_import.specs.Bad.{IsFinding, CanStand, IsMisplaced, IsBadBl
 use crate::fault::Fault;
 use osm_block::{BlockError, HeaderBlock, read_block, read_header_block};
 use osm_value::Element;
-use pbf_frame::{Frame, FrameFault, Kind, raw, whole_frame};
+use pbf_frame::{Frame, FrameFault, Kind, MAX_OFFSET, raw, whole_frame};
 use std::alloc::Global;
 use thiserror::Error;
-
-/// The greatest offset at which a frame ends: 2^62.
-pub(crate) const MAX_OFFSET: u64 = 4_611_686_018_427_387_904;
 
 /// Why a delivery isn't found good: its first fault, or that memory was refused.
 #[derive(Clone, Copy, Debug, PartialEq, Eq, Error)]

@@ -3,12 +3,20 @@
 ghost use Rattle.std.specs.Prelude.{◌≡◌, IfOk, IfErr};
 ghost use Rattle.osm_store.specs.Held.{HeldMap};
 ghost use Rattle.osm_store.specs.Keeping.{IsForeign};
-ghost use Rattle.osm_import.specs.Gaps.{AreGaps, ranges_between};
+ghost use Rattle.osm_import.specs.Gaps.{AreGaps, gap_before, ranges_between};
 ghost use Rattle.osm_import.specs.Step.{HasCause};
 ghost use Rattle.osm_import.specs.Stores.{Rereads};
 
 use osm_store::{Extent, Reader, StoreFault};
 use std::alloc::{AllocError, Global};
+
+/// The bytes from `end` to `next`, within the size, if there are any.
+pub(crate) fn gap_before(end: u64, next: u64, size: u64) -> Option<(u64, u64)>
+    ensures { result ≡ gap_before end next size }
+{
+    let to = next.min(size);
+    if end < to { Some((end, to)) } else { None }
+}
 
 fn gaps_between(alloc: Global, extents: &[Extent], size: u64) -> Result<Vec<(u64, u64)>, AllocError>
     ensures { IfOk result (λ gaps. gaps.items ≡ ranges_between 0 size extents.now) }
@@ -16,13 +24,13 @@ fn gaps_between(alloc: Global, extents: &[Extent], size: u64) -> Result<Vec<(u64
     let mut gaps = Vec::new(alloc);
     let mut end = 0;
     for extent in extents {
-        if end < extent.off && end < size {
-            gaps.push((end, extent.off.min(size)))?;
+        if let Some(gap) = gap_before(end, extent.off, size) {
+            gaps.push(gap)?;
         }
         end = end.max(extent.fin);
     }
-    if end < size {
-        gaps.push((end, size))?;
+    if let Some(gap) = gap_before(end, size, size) {
+        gaps.push(gap)?;
     }
     Ok(gaps)
 }

@@ -7,7 +7,7 @@ ghost use Rattle.pbf_frame.specs.declared.kind.Kind.{Kind};
 ghost use Rattle.pbf_frame.specs.Framer.{Framing, FaultStands, IsUnfinished};
 ghost use Rattle.osm_store.specs.Held.{HeldMap};
 ghost use Rattle.osm_import.specs.Step.{IsStep};
-ghost use Rattle.osm_import.specs.Runs.{IsFault};
+ghost use Rattle.osm_import.specs.Runs.{IsFault, RepeatsChangeNothing};
 ghost use Rattle.osm_import.specs.declared.answer.Answer.{Answer};
 ghost use Rattle.osm_import.specs.Good.{IsGood};
 ghost use Rattle.osm_import.specs.Bad.{IsBad};
@@ -34,6 +34,12 @@ pub fn step_is_one()
     ensures some { (held : HeldMap) (off : ℕ) (bytes : List ℕ) → (answer : Answer) × (after : HeldMap) × IsStep held off bytes answer after × ¬ (IsFault answer) }
     ensures one { (held : HeldMap) (off : ℕ) (bytes : List ℕ) (answer answer' : Answer) (after after' : HeldMap) → IsStep held off bytes answer after → IsStep held off bytes answer' after'
         → ¬ (IsFault answer) → ¬ (IsFault answer') → (answer ≡ answer') × (after ≡ after') }
+{}
+
+/// A repeated delivery changes nothing: a blob that was stored, or was held already, is answered `AlreadyHeld` when it is
+/// delivered again, whatever was delivered meanwhile, and what is held stays as it is.
+pub fn a_repeated_delivery_changes_nothing()
+    ensures { RepeatsChangeNothing }
 {}
 
 /// The frames of one file at two offsets don't meet.

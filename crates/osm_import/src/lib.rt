@@ -16,7 +16,7 @@ mod stream;
 
 pub use answer::{Answer, Conflict};
 pub use copy::{BlobCopy, CopyCounts, CopyFault, CopyStop, copy_held};
-pub use deliveries::{Delivery, deliver_all, deliver_until_fault};
+pub use deliveries::{Delivery, deliver_all};
 pub use delivery::deliver;
 pub use examination::{ExamineFault, Good, examine, examine_frame};
 pub use export::{ExportFault, export_lines, export_pbf, greatest_end};
@@ -25,5 +25,5 @@ pub use gap::gaps;
 pub use parts::{Openings, PartsFault, export_in_turn, extents_in_turn};
 pub use stream::{
     FrameReader, Inlet, Source, SourceFailed, Stop, StreamFault, Summary, import_stream,
-    put_fault_at,
+    put_fault_at, put_plain_fault,
 };

@@ -11,7 +11,7 @@ mod summary;
 
 pub use fault::{Stop, StreamFault};
 pub use frames::FrameReader;
-pub use line::put_fault_at;
+pub use line::{put_fault_at, put_plain_fault};
 pub use run::import_stream;
 pub use source::{Inlet, Source, SourceFailed};
 pub use summary::Summary;

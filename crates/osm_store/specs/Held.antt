@@ -6,6 +6,7 @@ use Rattle.std.specs.Ordering.{nat_cmp}
 use Rattle.std.specs.FinMap.{FinMap, get}
 use Rattle.osm_value.specs.declared.element.Element.{Element}
 use Rattle.pbf_frame.specs.declared.kind.Kind.{Kind}
+use Rattle.pbf_frame.specs.declared.part.TheConstants.{MAX_OFFSET}
 
 -- a held blob: where its frame ends, the frame's SHA-256, its kind and its elements
 pub record Blob : Type 0 where
@@ -29,8 +30,8 @@ HeldMap = FinMap nat_cmp Blob
 abbrev pub IsFree : HeldMap → ℕ → ℕ → Type 0
 IsFree held off fin = (at : ℕ) (blob : Blob) → get held at ≡ Some blob → (blob.fin ≤ off) ⊎ (fin ≤ at)
 
--- held extents have bytes, don't meet, and end at 2 ^ 62 at most
+-- held extents have bytes, don't meet, and end at `MAX_OFFSET` at most
 pub record IsApart (held : HeldMap) : Type 0 where
   pub filled : (at : ℕ) (blob : Blob) → get held at ≡ Some blob → at < blob.fin
-  pub limit : (at : ℕ) (blob : Blob) → get held at ≡ Some blob → blob.fin ≤ 2 ^ 62
+  pub limit : (at : ℕ) (blob : Blob) → get held at ≡ Some blob → blob.fin ≤ MAX_OFFSET
   pub apart : (at next : ℕ) (blob other : Blob) → get held at ≡ Some blob → get held next ≡ Some other → at < next → blob.fin ≤ next

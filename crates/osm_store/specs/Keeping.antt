@@ -1,6 +1,7 @@
 -- What the calls of a keeper leave.
 use Rattle.std.specs.Prelude.{◌≡◌, ◌⊎◌, ℕ, ◌+◌, ◌-◌, ◌^◌, ◌<◌, ◌≤◌, ◌==◌, Bool, ◌&&◌, nat_lt, List, map, length, Result, Ok, Err, if◌then◌else◌, OnOk, OnErr, IfErr}
 use Rattle.std.specs.FinMap.{entries, insert}
+use Rattle.pbf_frame.specs.declared.part.TheConstants.{MAX_OFFSET}
 use Rattle.osm_store.specs.Held.{Blob, HeldMap, IsFree, HaveFewTexts}
 use Rattle.osm_store.specs.declared.keeper.Extent.{Extent}
 use Rattle.osm_store.specs.declared.fault.StoreFault.{StoreFault}
@@ -10,9 +11,9 @@ use Rattle.osm_store.specs.declared.fault.StoreFault.TheVariants.{NotThisStore}
 abbrev pub extent_of : ℕ × Blob → Extent
 extent_of (off, blob) = record { off = off; fin = blob.fin; digest = blob.digest; kind = blob.kind; n = length blob.elements }
 
--- it has bytes, and ends at 2 ^ 62 at most
+-- it has bytes, and ends at `MAX_OFFSET` at most
 abbrev pub IsRange : Extent → Type 0
-IsRange e = (e.off < e.fin) × (e.fin ≤ 2 ^ 62)
+IsRange e = (e.off < e.fin) × (e.fin ≤ MAX_OFFSET)
 
 -- all held extents, ascending
 abbrev pub extents_of : HeldMap → List Extent
@@ -33,11 +34,12 @@ IsForeign (NotThisStore found) = Unit {0}
 IsForeign _ = ⊥
 
 -- the call has kept what the store holds, if it can go on, and what a crash may leave, and has counted its failure
-pub record OnlyReads {S T : Type 0} (holds leaves : S → HeldMap → Type 0) (leaves_a_map is_honest is_open : S → Type 0) (failures : S → ℕ) (old : S) (result : Result T StoreFault) (new : S) : Type 0 where
+pub record OnlyReads {S T : Type 0} (holds leaves : S → HeldMap → Type 0) (leaves_a_map : S → Type 0) (same_tables : S → S → Type 0) (is_honest is_open : S → Type 0) (failures : S → ℕ) (old : S) (result : Result T StoreFault) (new : S) : Type 0 where
   pub honest : is_honest new → is_honest old
   pub open_if : is_open new → is_open old
   pub ok : OnOk result (is_honest new → (held : HeldMap) → holds old held → holds new held)
   pub err : OnErr result (is_honest new → is_open new → (held : HeldMap) → holds old held → holds new held)
+  pub same : is_honest new → is_open new → same_tables old new
   pub crash : is_honest new → (held : HeldMap) → leaves new held → leaves old held
   pub whole : is_honest new → leaves_a_map old → leaves_a_map new
   pub own : (held : HeldMap) → holds old held → is_honest new → IfErr result (λ fault. ¬ (IsForeign fault))
@@ -52,13 +54,18 @@ pub record IsAddable (held : HeldMap) (off : ℕ) (blob : Blob) : Type 0 where
   pub free : IsFree held off blob.fin
   pub few_texts : HaveFewTexts blob.elements
 
--- the call adds the blob at a free place, or has failed. A crash leaves what it left before or the new map
-pub record Adds {S T : Type 0} (holds leaves : S → HeldMap → Type 0) (leaves_a_map is_honest is_open : S → Type 0) (failures : S → ℕ) (off : ℕ) (blob : Blob) (old : S) (result : Result T StoreFault) (new : S) : Type 0 where
+-- the call adds the blob at a free place, or has failed. A crash leaves what it left before or the new map. A store that
+-- has to be opened again takes nothing, and a crash leaves nothing new
+pub record Adds {S T : Type 0} (holds leaves : S → HeldMap → Type 0) (leaves_a_map : S → Type 0) (same_tables : S → S → Type 0) (is_honest is_open : S → Type 0) (failures : S → ℕ) (off : ℕ) (blob : Blob) (old : S) (result : Result T StoreFault) (new : S) : Type 0 where
   pub honest : is_honest new → is_honest old
   pub open_if : is_open new → is_open old
   pub ok : OnOk result (is_honest new → (held : HeldMap) → holds old held → IsAddable held off blob → holds new (with_blob held off blob))
   pub err : OnErr result (is_honest new → is_open new → (held : HeldMap) → holds old held → IsAddable held off blob → holds new held)
+  pub same : is_honest new → is_open new → OnErr result (same_tables old new)
   pub crash : is_honest new → (held left : HeldMap) → holds old held → IsAddable held off blob → leaves new left → leaves old left ⊎ (left ≡ with_blob held off blob)
   pub whole : is_honest new → (held : HeldMap) → holds old held → IsAddable held off blob → leaves_a_map new
   pub own : (held : HeldMap) → holds old held → is_honest new → IsAddable held off blob → IfErr result (λ fault. ¬ (IsForeign fault))
+  pub was_open : is_honest new → OnOk result (is_open old)
+  pub shut : is_honest new → ¬ (is_open old) → (left : HeldMap) → leaves new left → leaves old left
+  pub shut_whole : is_honest new → ¬ (is_open old) → leaves_a_map old → leaves_a_map new
   pub counted : failures new ≡ failures_after result (failures old)

@@ -64,6 +64,10 @@ pub record MayLeave (layout : Layout) (s : State) (held : HeldMap) : Type 0 wher
   pub left : s.may_leave trees
   pub tables : TablesHold layout held trees
 
+-- the last commits have the same tables with the same rows
+abbrev pub SameTables : State → State → Type 0
+SameTables old new = new.committed ≡ old.committed
+
 -- whatever a crash now leaves, the tables' rows are those of a map
 abbrev pub LeavesAMap : Layout → State → Type 0
 LeavesAMap layout s = (db : Trees) → s.may_leave db → (left : HeldMap) × IsKept layout left × TablesHold layout left db

@@ -1,5 +1,5 @@
 -- What a crash leaves of a store that can go on: what it holds, alone.
-use Rattle.std.proofs.Common.{◌≡◌, ℕ, List, [], ◌∷◌, Some, cond, eqb, IsTrue, inl, inr, sym, ap, subst, ◌∙◌}
+use Rattle.std.proofs.Common.{◌≡◌, ◌⊎◌, ℕ, Bool, true, false, List, [], ◌∷◌, Some, cond, eqb, IsTrue, refl, inl, inr, sym, ap, subst, ◌∙◌}
 use Rattle.std.specs.List.{AllByRecursion}
 use Rattle.std.specs.Ordering.{nat_cmp}
 use Rattle.std.specs.Cmp.{unsigned_tied}
@@ -26,6 +26,15 @@ module _ (layout : Layout) (s : State) (held : HeldMap) (holds : Holds layout s 
 
   pub leaves_held : LeavesAMap layout s
   leaves_held db left = (held, holds.kept, subst (TablesHold layout held) (sym (left_is db left)) holds.tables)
+
+-- what is the same after one call and after the next is the same after both
+pub same_then : {T : Type 0} (first next last : T) → next ≡ first → last ≡ next → last ≡ first
+same_then first next last one two = two ∙ one
+
+-- over a clean disk a connection is open or isn't
+pub open_or_shut : (is_open : Bool) {IsClean : Type 0} → IsClean → (IsClean × IsTrue is_open) ⊎ ¬ (IsClean × IsTrue is_open)
+open_or_shut true clean = inl (clean, refl)
+open_or_shut false clean = inr (λ both. (let is : false ≡ true = both.1 in cc))
 
 kept_at : (layout : Layout) (es : List (ℕ × Blob)) (off : ℕ) (blob : Blob) → AllByRecursion (λ (entry : ℕ × Blob). IsBlob layout entry.1) es → find nat_cmp off es ≡ Some blob → IsBlob layout blob
 kept_at layout [] off blob all found = absurd (cc)

@@ -130,15 +130,17 @@ impl<S: Alter, L: StoreLayout> BlobStore<S, L> {
 impl<S: Alter, L: StoreLayout> Reader for BlobStore<S, L> {
     ghost use Rattle.sqlite.specs.State.{HasCleanDisk};
     ghost use Rattle.sqlite.specs.Held.{state};
-    ghost use Rattle.std.specs.Prelude.{IsTrue};
-    ghost use Rattle.osm_store.specs.LayoutHolding.{Holds, MayLeave, LeavesAMap};
-    ghost use Rattle.osm_store.specs.StoreLaws.{leaves_held_alone, leaves_held, few_texts_of};
+    ghost use Rattle.std.specs.Prelude.{IsTrue, refl};
+    ghost use Rattle.osm_store.specs.LayoutHolding.{Holds, MayLeave, LeavesAMap, SameTables};
+    ghost use Rattle.osm_store.specs.StoreLaws.{leaves_held_alone, leaves_held, few_texts_of, open_or_shut, same_then};
 
     ghost holds = { λ s held. Holds L.LAYOUT (state S.Store s.connection) held };
 
     ghost leaves = { λ s left. MayLeave L.LAYOUT (state S.Store s.connection) left };
 
     ghost leaves_a_map = { λ s. LeavesAMap L.LAYOUT (state S.Store s.connection) };
+
+    ghost same_tables = { λ s t. SameTables (state S.Store s.connection) (state S.Store t.connection) };
 
     ghost is_honest = { λ s. HasCleanDisk (state S.Store s.connection) };
 
@@ -180,6 +182,12 @@ impl<S: Alter, L: StoreLayout> Reader for BlobStore<S, L> {
     }
 
     ghost settled = { λ store held left holds may. leaves_held_alone L.LAYOUT _ held holds (λ db there. S.settled store.connection.store db there) left may };
+
+    ghost open_or_shut = { λ store clean. open_or_shut _ clean };
+
+    ghost same_tables_self = { λ store. refl };
+
+    ghost same_tables_then = { λ first next last one two. same_then _ _ _ one two };
 
     ghost leaves_held = { λ store held holds. leaves_held L.LAYOUT _ held holds (λ db there. S.settled store.connection.store db there) };
 

@@ -1,5 +1,5 @@
 //! What is asked of a store.
-ghost use Rattle.std.specs.Prelude.{◌≡◌, ℕ, ◌^◌, ◌<◌, ◌≤◌, Some, IfOk, All, filter};
+ghost use Rattle.std.specs.Prelude.{◌≡◌, ◌⊎◌, ℕ, ◌<◌, ◌≤◌, Some, IfOk, All, filter};
 ghost use Rattle.std.specs.FinMap as map;
 ghost use Rattle.osm_store.specs.Held.{Blob, HeldMap, IsApart, HaveFewTexts};
 ghost use Rattle.osm_store.specs.Load.Loading.{HasRowsOf};
@@ -10,7 +10,7 @@ ghost use Rattle.osm_store.specs.Rows.{is_of, placed_in};
 use crate::fault::StoreFault;
 use crate::load::{Found, Loaded};
 use osm_value::{Element, MemberKind};
-use pbf_frame::Kind;
+use pbf_frame::{Kind, MAX_OFFSET};
 use std::alloc::Global;
 
 /// Where a held blob stands.
@@ -18,7 +18,7 @@ use std::alloc::Global;
 pub struct Extent {
     /// The offset of the blob's frame in its file.
     pub off: u64,
-    /// The offset after the frame, 2^62 at most.
+    /// The offset after the frame, `MAX_OFFSET` at most.
     pub fin: u64,
     /// The frame's SHA-256 (FIPS 180-4).
     pub digest: [u8; 32],
@@ -27,9 +27,6 @@ pub struct Extent {
     /// The number of its elements.
     pub n: u64,
 }
-
-/// No held blob starts here or later, or ends later.
-pub(crate) const OFFSET_LIMIT: u64 = 1 << 62;
 
 /// What is read of a store of blobs, which stands for a finite map from offsets.
 pub trait Reader {
@@ -41,6 +38,9 @@ pub trait Reader {
 
     /// Whatever a crash now leaves, the tables' rows are those of a map.
     ghost leaves_a_map: { Self → Type 0 };
+
+    /// The last commits of both have the same tables with the same rows, whether or not these are those of a map.
+    ghost same_tables: { Self → Self → Type 0 };
 
     /// So far the disk has returned what was written.
     ghost is_honest: { Self → Type 0 };
@@ -57,10 +57,10 @@ pub trait Reader {
         ensures all { (held : HeldMap) → holds self.old held → is_honest self.new
             → IfOk result (λ extents. extents.items ≡ extents_of held) }
         ensures ranges { IfOk result (λ extents. All IsRange extents.items) }
-        ensures reads { OnlyReads holds leaves leaves_a_map is_honest is_open failures self.old result self.new };
+        ensures reads { OnlyReads holds leaves leaves_a_map same_tables is_honest is_open failures self.old result self.new };
 
     /// The held extents that share a byte with `from..to`, ascending by offset; both are offsets in bytes, `to` at
-    /// most 2^62. What is held stays, also after a fault.
+    /// most `MAX_OFFSET`. What is held stays, also after a fault.
     fn extents_touching(
         &mut self,
         alloc: Global,
@@ -68,24 +68,24 @@ pub trait Reader {
         to: u64,
     ) -> Result<Vec<Extent>, StoreFault>
         requires order { from < to }
-        requires limit { to ≤ 2 ^ 62 }
+        requires limit { to ≤ MAX_OFFSET }
         ensures touching { (held : HeldMap) → holds self.old held → is_honest self.new
             → IfOk result (λ extents. extents.items ≡ filter (touches from to) (extents_of held)) }
-        ensures reads { OnlyReads holds leaves leaves_a_map is_honest is_open failures self.old result self.new };
+        ensures reads { OnlyReads holds leaves leaves_a_map same_tables is_honest is_open failures self.old result self.new };
 
     /// The rows of the blob that is held at an offset; where none is held there, nothing is said of the answer. What is
     /// held stays, also after a fault.
     fn load(&mut self, alloc: Global, off: u64) -> Result<Loaded, StoreFault>
         ensures rows { (held : HeldMap) (blob : Blob) → holds self.old held → is_honest self.new
             → map.get held off ≡ Some blob → IfOk result (λ loaded. HasRowsOf loaded blob.elements) }
-        ensures reads { OnlyReads holds leaves leaves_a_map is_honest is_open failures self.old result self.new };
+        ensures reads { OnlyReads holds leaves leaves_a_map same_tables is_honest is_open failures self.old result self.new };
 
     /// All held elements of this kind and id, each after the offset of its blob and its position there, ascending by both.
     /// What is held stays, also after a fault.
     fn find(&mut self, alloc: Global, kind: MemberKind, id: i64) -> Result<Found, StoreFault>
         ensures found { (held : HeldMap) → holds self.old held → is_honest self.new
             → IfOk result (λ found. AreMatches found (filter (is_of kind id) (placed_in held))) }
-        ensures reads { OnlyReads holds leaves leaves_a_map is_honest is_open failures self.old result self.new };
+        ensures reads { OnlyReads holds leaves leaves_a_map same_tables is_honest is_open failures self.old result self.new };
 
     /// How many calls have answered a fault, up to 2 ^ 64 - 1.
     fn failures(&self) -> u64
@@ -93,6 +93,13 @@ pub trait Reader {
 
     /// While the store can go on, a crash leaves what it holds and nothing else.
     ghost settled: { (store : Self) (held left : HeldMap) → holds store held → leaves store left → left ≡ held };
+
+    /// Over an honest disk a store is still usable or has to be opened anew.
+    ghost open_or_shut: { (store : Self) → is_honest store → is_open store ⊎ ¬ (is_open store) };
+
+    ghost same_tables_self: { (store : Self) → same_tables store store };
+
+    ghost same_tables_then: { (first next last : Self) → same_tables first next → same_tables next last → same_tables first last };
 
     /// Where a map is held, whatever a crash leaves is a map.
     ghost leaves_held: { (store : Self) (held : HeldMap) → holds store held → leaves_a_map store };
@@ -106,9 +113,10 @@ pub trait Reader {
 
 /// A store of blobs that takes more of them.
 pub trait Keeper: Reader {
-    /// Adds a blob where no held extent is touched: its bytes are those from `off` to `fin`, at most 2^62, and `digest` is
-    /// the SHA-256 of its frame (FIPS 180-4). It is added whole, or a fault is answered and, where the store needn't be
-    /// opened again, what is held stays. A crash during the call leaves what was held, or that with the whole blob.
+    /// Adds a blob where no held extent is touched: its bytes are those from `off` to `fin`, at most `MAX_OFFSET`, and
+    /// `digest` is the SHA-256 of its frame (FIPS 180-4). It is added whole, or a fault is answered and, where the store
+    /// needn't be opened again, what is held stays. A crash during the call leaves what was held, or that with the whole
+    /// blob. A store that has to be opened again answers a fault, and a crash leaves what it could leave before.
     fn put(
         &mut self,
         alloc: Global,
@@ -119,7 +127,7 @@ pub trait Keeper: Reader {
         elements: &[Element],
     ) -> Result<(), StoreFault>
         requires order { off < fin }
-        requires limit { fin ≤ 2 ^ 62 }
-        ensures adds { Adds Self.holds Self.leaves Self.leaves_a_map Self.is_honest Self.is_open Self.failures off
+        requires limit { fin ≤ MAX_OFFSET }
+        ensures adds { Adds Self.holds Self.leaves Self.leaves_a_map Self.same_tables Self.is_honest Self.is_open Self.failures off
             (record { fin = fin; digest = digest.now; kind = kind; elements = elements.now }) self.old result self.new };
 }

@@ -1,6 +1,6 @@
 //! What holds of the definitions, over all maps and tables.
 
-ghost use Rattle.std.specs.Prelude.{◌≡◌, ℕ, pos, negsuc, [], ◌∷◌, codes, IsTrue};
+ghost use Rattle.std.specs.Prelude.{◌≡◌, ℕ, pos, negsuc, false, [], ◌∷◌, codes, IsTrue, MatchResult};
 ghost use Rattle.sqlite.specs.declared.types.Value.TheVariants.{Null, Int, Text as Words};
 ghost use Rattle.sqlite.specs.Held.{state};
 ghost use Rattle.sqlite.specs.State.{HasCleanDisk, IsLive, Opens};
@@ -9,9 +9,11 @@ ghost use Rattle.sqlite.specs.Tree.{Trees};
 ghost use Rattle.osm_store.specs.RowExamples.{a_node, a_way, a_relation, eight_nulls};
 ghost use Rattle.osm_store.specs.TableRows.{element_rows, tag_rows, link_rows};
 ghost use Rattle.osm_store.specs.Held.{HeldMap};
+ghost use Rattle.osm_store.specs.Keeping.{IsForeign};
 ghost use Rattle.osm_store.specs.LayoutHolding.{Holds, IsKept, LeavesAMap, MayLeave, TablesHold};
 
 use crate::blob_store::BlobStore;
+use crate::fault::StoreFault;
 use crate::schema::{Layout, StoreLayout};
 use sqlite::{Alter, Connection, MemStore};
 
@@ -64,6 +66,23 @@ pub fn holds_what_was_left<S: Alter, L: StoreLayout>(
 {
     let _stopped = before;
     let _opened = connection;
+}
+
+/// A store that is adopted over what a crash left of another holds a map that the crash could leave, and it isn't refused
+/// as another store.
+pub fn adopted_over_what_was_left<S: Alter, L: StoreLayout>(
+    before: &BlobStore<S, L>,
+    connection: Connection<S>,
+) -> Result<BlobStore<S, L>, (StoreFault, Connection<S>)>
+    requires { (state S.Store connection).in_transaction ≡ false }
+    ensures { LeavesAMap L.LAYOUT (state S.Store before.now.connection) → (state S.Store before.now.connection).may_leave (state S.Store connection).now.trees
+        → HasCleanDisk (state S.Store connection) → Opens (state S.Store connection) → IsLive (state S.Store connection)
+        → MatchResult result
+        (λ store. HasCleanDisk (state S.Store store.connection) → (left : HeldMap) × MayLeave L.LAYOUT (state S.Store before.now.connection) left × Holds L.LAYOUT (state S.Store store.connection) left)
+        (λ e. HasCleanDisk (state S.Store e.1) → ¬ (IsForeign e.0)) }
+{
+    holds_what_was_left(before, &connection);
+    BlobStore::adopt(connection)
 }
 
 /// A store in memory stays usable: its disk returns what was written, and it is still open after any answer.

@@ -13,7 +13,7 @@ use Rattle.osm_value.specs.Escape.{escaped}
 abbrev pub commas : List (List ℕ) → List ℕ
 commas pieces = join_with_byte 44 pieces
 
--- what stands before the piece at that place
+-- what stands before the piece at that index
 abbrev pub comma_before : ℕ → List ℕ
 comma_before zero = []
 comma_before (suc n) = 44 ∷ []

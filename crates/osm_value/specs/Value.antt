@@ -6,7 +6,7 @@ use Rattle.osm_value.specs.declared.element.MemberKind.{MemberKind}
 abbrev pub Text : Type 0
 Text = List ℕ
 
--- places are nanodegrees, times are milliseconds; what is absent is None
+-- coordinates are nanodegrees, times are milliseconds; what is absent is None
 pub record InfoValue : Type 0 where
   pub version : Option ℤ
   pub time : Option ℤ

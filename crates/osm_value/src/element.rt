@@ -177,7 +177,7 @@ impl<'a> Model for Node<'a> {
 }
 
 impl<'a> Node<'a> {
-    /// A node at a place in nanodegrees. All numbers are at most 2^62 - 1 away from 0, and no text holds U+0000.
+    /// A node at coordinates in nanodegrees. All numbers are at most 2^62 - 1 away from 0, and no text holds U+0000.
     pub fn new(id: i64, lat: i64, lon: i64, tags: Vec<(&'a str, &'a str)>, info: Info<'a>) -> Self
         requires in_range { IsNode (record { id = id; lat = lat; lon = lon; tags = map (λ t. (t.0.now, t.1.now)) tags.items; info = info }) }
         ensures { result ≡ record { id = id; lat = lat; lon = lon; tags = map (λ t. (t.0.now, t.1.now)) tags.entry.items; info = info.entry } }

@@ -169,7 +169,7 @@ fn put_info<S: Sink>(sink: &mut S, info: &Info)
     put_info_user(sink, at, info.user());
 }
 
-/// Writes a number of the info, if it is there, as the piece at that place, and says the next place.
+/// Writes a number of the info, if it is there, as the piece at that index, and says the next index.
 fn put_info_number<S: Sink>(sink: &mut S, at: usize, letter: u8, number: Option<i64>) -> usize
     requires { at < 100 }
     ensures text { (start : Option (List ℕ)) (before : List ℕ) (pieces : List (List ℕ)) → length pieces ≡ at
@@ -187,7 +187,7 @@ fn put_info_number<S: Sink>(sink: &mut S, at: usize, letter: u8, number: Option<
     at + 1
 }
 
-/// Writes the user, if it is there, as the piece at that place.
+/// Writes the user, if it is there, as the piece at that index.
 fn put_info_user<S: Sink>(sink: &mut S, at: usize, user: Option<&str>)
     ensures { (start : Option (List ℕ)) (before : List ℕ) (pieces : List (List ℕ)) → length pieces ≡ at
         → Wrote start (before ++ commas pieces) (S.written sink.old) (S.has_failed sink.old)

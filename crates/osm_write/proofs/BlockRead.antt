@@ -18,7 +18,7 @@ use Rattle.osm_value.proofs.Ranges.{all_append, all_front, all_back, all_mapped,
 use Rattle.osm_block.specs.declared.fields.TheConstants.{BLOCK_DATE_GRANULARITY, BLOCK_GRANULARITY, BLOCK_LAT_OFFSET, BLOCK_LON_OFFSET, BLOCK_PRIMITIVEGROUP, BLOCK_STRINGTABLE, STRINGTABLE_S}
 use Rattle.osm_block.specs.Message.{Context, context}
 use Rattle.osm_block.specs.Block.{Block, GroupOf, Joins}
-use Rattle.osm_write.specs.Canon.{Scale, number_field, bytes_field, optional, tag_texts, texts_of, first_uses, place_of, places_of, info_of, divisor, scale_of, groups_of, group_bytes, granularity_field, block_bytes, canon}
+use Rattle.osm_write.specs.Canon.{Scale, number_field, bytes_field, optional, tag_texts, texts_of, first_uses, index_in, coordinates_of, info_of, divisor, scale_of, groups_of, group_bytes, granularity_field, block_bytes, canon}
 use Rattle.osm_write.specs.Texts.{has}
 use Rattle.osm_write.specs.Laws.{FewTexts, ReadsBack}
 use Rattle.osm_write.proofs.TextsRead.{text_at_index, first_uses_has}
@@ -33,11 +33,11 @@ use Rattle.osm_write.proofs.RunsRead.{IsRun, groups_are_runs}
 
 -- ---- the texts of the table
 
-place_below : (ts : List Text) (t : Text) → has ts t ≡ true → place_of t ts < length ts
-place_below [] t e = absurd (true≢false (sym e))
-place_below (u ∷ us) t e = by (bytes_eq u t) (place_below us t) e
+index_below : (ts : List Text) (t : Text) → has ts t ≡ true → index_in t ts < length ts
+index_below [] t e = absurd (true≢false (sym e))
+index_below (u ∷ us) t e = by (bytes_eq u t) (index_below us t) e
   where
-    by : (b : Bool) → (has us t ≡ true → place_of t us < length us) → (b || has us t) ≡ true → (if b then 0 else suc (place_of t us)) < suc (length us)
+    by : (b : Bool) → (has us t ≡ true → index_in t us < length us) → (b || has us t) ≡ true → (if b then 0 else suc (index_in t us)) < suc (length us)
     by true again h = omega arith
     by false again h = let lt = again h in omega arith
 
@@ -58,7 +58,7 @@ all_had all (u ∷ us) h = (h u (has_self us u), all_had all us (λ t e. h t (ha
 known : (s : Scale) (us : List Text) (t : Text) → s.texts ≡ first_uses us → length (first_uses us) < 2 ^ 31 - 1 → has us t ≡ true → IsKnown s t
 known s us t is few e =
     let there : has s.texts t ≡ true = rw is (first_uses_has us t e) in
-    let p = place_below s.texts t there in
+    let p = index_below s.texts t there in
     let l = ap length is in
     record { small = omega arith; text_is = text_at_index s us t is e }
 
@@ -104,26 +104,26 @@ times_of e = option_to_list (info_of e).time
 info_known : (s : Scale) (i : InfoValue) → IsInfo i → AllByRecursion (IsKnown s) (option_to_list i.user) → AllByRecursion (Whole s.date_granularity) (option_to_list i.time) → IsWritten s i
 info_known s i h user time = record { in_range = h; user = user; time = time }
 
-element_known : (s : Scale) (e : Element) → IsElement e → AllByRecursion (IsKnown s) (texts_of e) → AllByRecursion (Whole s.granularity) (places_of e) → AllByRecursion (Whole s.date_granularity) (times_of e)
+element_known : (s : Scale) (e : Element) → IsElement e → AllByRecursion (IsKnown s) (texts_of e) → AllByRecursion (Whole s.granularity) (coordinates_of e) → AllByRecursion (Whole s.date_granularity) (times_of e)
     → ElementIsKnown s e
-element_known s (elements.Node n) h texts places times =
+element_known s (elements.Node n) h texts coordinates times =
     let tags = all_front (IsKnown s) (tag_texts n.tags) (option_to_list n.info.user) texts in
     record {
       in_range = h;
       keys = keys_known s n.tags tags;
       values = values_known s n.tags tags;
       info = info_known s n.info h.info (all_back (IsKnown s) (tag_texts n.tags) (option_to_list n.info.user) texts) times;
-      lat = places.0;
-      lon = places.1.0;
+      lat = coordinates.0;
+      lon = coordinates.1.0;
     }
-element_known s (elements.Way w) h texts places times =
+element_known s (elements.Way w) h texts coordinates times =
     let tags = all_front (IsKnown s) (tag_texts w.tags) (option_to_list w.info.user) texts in
     record {
       in_range = h;
       head = record { keys = keys_known s w.tags tags; values = values_known s w.tags tags };
       info = info_known s w.info h.info (all_back (IsKnown s) (tag_texts w.tags) (option_to_list w.info.user) texts) times;
     }
-element_known s (elements.Relation r) h texts places times =
+element_known s (elements.Relation r) h texts coordinates times =
     let roles : List Text = map (λ (m : MemberValue). m.role) r.members in
     let front = all_front (IsKnown s) (tag_texts r.tags ++ option_to_list r.info.user) roles texts in
     let tags = all_front (IsKnown s) (tag_texts r.tags) (option_to_list r.info.user) front in
@@ -134,12 +134,12 @@ element_known s (elements.Relation r) h texts places times =
       roles = all_mapped (IsKnown s) (λ (m : MemberValue). m.role) r.members (all_back (IsKnown s) (tag_texts r.tags ++ option_to_list r.info.user) roles texts);
     }
 
-elements_known : (s : Scale) (es : List Element) → AllByRecursion IsElement es → AllByRecursion (IsKnown s) (flat_map texts_of es) → AllByRecursion (Whole s.granularity) (flat_map places_of es)
+elements_known : (s : Scale) (es : List Element) → AllByRecursion IsElement es → AllByRecursion (IsKnown s) (flat_map texts_of es) → AllByRecursion (Whole s.granularity) (flat_map coordinates_of es)
     → AllByRecursion (Whole s.date_granularity) (flat_map times_of es) → AllByRecursion (ElementIsKnown s) es
-elements_known s [] h texts places times = tt
-elements_known s (e ∷ es) h texts places times = (
-  element_known s e h.0 (all_front _ _ _ texts) (all_front _ _ _ places) (all_front _ _ _ times),
-  elements_known s es h.1 (all_back _ (texts_of e) _ texts) (all_back _ (places_of e) _ places) (all_back _ (times_of e) _ times),
+elements_known s [] h texts coordinates times = tt
+elements_known s (e ∷ es) h texts coordinates times = (
+  element_known s e h.0 (all_front _ _ _ texts) (all_front _ _ _ coordinates) (all_front _ _ _ times),
+  elements_known s es h.1 (all_back _ (texts_of e) _ texts) (all_back _ (coordinates_of e) _ coordinates) (all_back _ (times_of e) _ times),
 )
 
 -- ---- groups
@@ -364,7 +364,7 @@ block_written s es h =
 scale_is : (es : List Element) → IsScale (scale_of es)
 unfolding scale_of
 scale_is es =
-    let a = divisor_is 100 (flat_map places_of es) (record { some = omega arith; small = omega arith }) in
+    let a = divisor_is 100 (flat_map coordinates_of es) (record { some = omega arith; small = omega arith }) in
     let b = divisor_is 1000 (flat_map times_of es) (record { some = omega arith; small = omega arith }) in
     record { some = a.some; small = a.small; date_some = b.some; date_small = b.small }
 
@@ -372,9 +372,9 @@ pub texts_are : (es : List Element) → (scale_of es).texts ≡ first_uses (flat
 unfolding scale_of
 texts_are es = refl
 
-places_are : (es : List Element) → AllByRecursion (Whole (scale_of es).granularity) (flat_map places_of es)
+coordinates_are : (es : List Element) → AllByRecursion (Whole (scale_of es).granularity) (flat_map coordinates_of es)
 unfolding scale_of
-places_are es = divisor_whole 100 (flat_map places_of es)
+coordinates_are es = divisor_whole 100 (flat_map coordinates_of es)
 
 times_are : (es : List Element) → AllByRecursion (Whole (scale_of es).date_granularity) (flat_map times_of es)
 unfolding scale_of
@@ -385,7 +385,7 @@ block_is_written es ranges few short =
     let s : Scale = scale_of es in
     record {
       scale = scale_is es;
-      known = elements_known s es ranges (all_known s (flat_map texts_of es) (texts_are es) few) (places_are es) (times_are es);
+      known = elements_known s es ranges (all_known s (flat_map texts_of es) (texts_are es) few) (coordinates_are es) (times_are es);
       texts = rw (texts_are es) (uses_texts (flat_map texts_of es) (all_texts es ranges));
       short = short;
     }

@@ -21,7 +21,7 @@ use Rattle.osm_write.proofs.Known.{context_of, IsKnown, IsScale}
 use Rattle.osm_write.proofs.Segments.{Segment, IsSegment, IsMessage, message_segment, is_message_segment, message_read, five_parts, entries_of, fitting_at, packed_at}
 use Rattle.osm_write.proofs.InfoRead.{IsWritten}
 use Rattle.osm_write.proofs.ElementRead.{message_long, deltas_of}
-use Rattle.osm_write.proofs.Columns.{read_of, IsUniform, column_of, stands, all_filter_map, is_some-option_map}
+use Rattle.osm_write.proofs.ArraysRead.{read_of, IsUniform, array_of, stands, all_filter_map, is_some-option_map}
 
 -- each field of info is there for all of them, or for none
 pub record IsSame (is : List InfoValue) : Type 0 where
@@ -39,7 +39,7 @@ pub all_of : {A : Type 0} (P Q : A → Type 0) (xs : List A) → ((x : A) → P 
 all_of P Q [] f h = tt
 all_of P Q (x ∷ xs) f h = (f x h.0, all_of P Q xs f h.1)
 
--- ---- the columns
+-- ---- the arrays
 
 abbrev versions_of : List InfoValue → List ℕ
 versions_of is = filter_map (λ (i : InfoValue). option_map (cast_unsigned w64) i.version) is
@@ -159,7 +159,7 @@ user_part : (s : Scale) (o : Option Text) → AllByRecursion (IsKnown s) (option
 user_part s None h = refl
 user_part s (Some t) h = ap Some (sym h.0.text_is)
 
--- the arrays, and that they are rows of numbers
+-- the arrays, and that their payloads are packed arrays
 pub record IsDenseInfo (s : Scale) (is : List InfoValue) (w : List ℕ) : Type 0 where
   pub sound : wire w ≡ None
   pub arrays : AllByRecursion IsNone (map packed (each (fields w) DENSEINFO_VERSION) ++ (map packed (each (fields w) DENSEINFO_TIMESTAMP) ++ (map packed (each (fields w) DENSEINFO_CHANGESET) ++ (map packed (each (fields w) DENSEINFO_UID) ++ (map packed (each (fields w) DENSEINFO_USER_SID) ++ [])))))
@@ -184,7 +184,7 @@ dense_info_read s is sc all same short =
       arrays = subst Q (sym m.fields_are) (all_append IsNone _ _ a.sound (all_append IsNone _ _ b.sound (all_append IsNone _ _ c.sound (all_append IsNone _ _ d.sound (all_append IsNone _ _ e.sound tt)))));
       holds = subst P (sym m.fields_are) (record {
         versions_are = rw (a.nums_are, map_two version int32 (versions_of is))
-            (column_of (λ (i : InfoValue). i.version) (λ (i : InfoValue). option_map (cast_unsigned w64) i.version) (λ n. version (int32 n)) same.version.0 is
+            (array_of (λ (i : InfoValue). i.version) (λ (i : InfoValue). option_map (cast_unsigned w64) i.version) (λ n. version (int32 n)) same.version.0 is
             (uniform_mapped (cast_unsigned w64) (λ (i : InfoValue). i.version) same.version.0 is same.version.1) (all_of (IsWritten s) _ is (λ i w. version_part i.version w.in_range.version) all));
         times_are = rw b.nums_are
             (stands (λ (i : InfoValue). i.time) (λ (i : InfoValue). times_of s i.time) (time (pos s.date_granularity)) same.time.0 is (map sint64 (deltas_of (all_times s is)))

@@ -13,9 +13,9 @@ use Rattle.osm_value.proofs.Ranges.{all_append}
 use Rattle.osm_block.specs.declared.fields.TheConstants.{DENSEINFO_CHANGESET, DENSEINFO_TIMESTAMP, DENSEINFO_UID, DENSEINFO_USER_SID, DENSEINFO_VERSION, DENSE_DENSEINFO, DENSE_ID, DENSE_KEYS_VALS, DENSE_LAT, DENSE_LON}
 use Rattle.osm_block.specs.DenseTags.{Pair, Tags, pairs_and_zero, KeysAreNotZero}
 use Rattle.osm_block.specs.Message.{dense_message}
-use Rattle.osm_block.specs.Block.{DenseOf, place, texts_at, all_there}
-use Rattle.osm_write.specs.Canon.{Scale, index_of, number, message_field, packed_field, delta_field, raw_place, tag_indexes, has_tags, keys_vals_of, dense_info_bytes, dense_bytes}
-use Rattle.osm_write.proofs.Values.{int32_read, Whole, place_read, quotient_is_wide}
+use Rattle.osm_block.specs.Block.{DenseOf, coordinate, texts_at, all_there}
+use Rattle.osm_write.specs.Canon.{Scale, index_of, number, message_field, packed_field, delta_field, raw_coordinate, tag_indexes, has_tags, keys_vals_of, dense_info_bytes, dense_bytes}
+use Rattle.osm_write.proofs.Values.{int32_read, Whole, coordinate_read, quotient_is_wide}
 use Rattle.osm_write.proofs.DeltasRead.{deltas_fit, diff_read}
 use Rattle.osm_write.proofs.Known.{context_of, IsKnown, IsScale}
 use Rattle.osm_write.proofs.Segments.{Segment, IsSegment, message_segment, message_entries, is_message_segment, message_each, message_sub, payloads_of, message_read, five_parts, entries_of, each_at, packed_at}
@@ -32,19 +32,19 @@ pub record NodeIsWritten (s : Scale) (n : NodeValue) : Type 0 where
   pub lat : Whole s.granularity n.lat
   pub lon : Whole s.granularity n.lon
 
--- ---- places
+-- ---- coordinates
 
 all_mapped_by : {A B : Type 0} (P : A → Type 0) (Q : B → Type 0) (f : A → B) (xs : List A) → ((x : A) → P x → Q (f x)) → AllByRecursion P xs → AllByRecursion Q (map f xs)
 all_mapped_by P Q f [] h all = tt
 all_mapped_by P Q f (x ∷ xs) h all = (h x all.0, all_mapped_by P Q f xs h all.1)
 
 abbrev raws : Scale → (NodeValue → ℤ) → List NodeValue → List ℤ
-raws s part ns = map (λ (n : NodeValue). raw_place s (part n)) ns
+raws s part ns = map (λ (n : NodeValue). raw_coordinate s (part n)) ns
 
-places_are : (s : Scale) (part : NodeValue → ℤ) (ns : List NodeValue) → AllByRecursion (λ (n : NodeValue). Whole s.granularity (part n)) ns
-    → map part ns ≡ map (place (pos 0) (pos s.granularity)) (raws s part ns)
-places_are s part [] all = refl
-places_are s part (n ∷ ns) all = let a = place_read s.granularity (part n) all.0 in let b = places_are s part ns all.1 in cc
+coordinates_are : (s : Scale) (part : NodeValue → ℤ) (ns : List NodeValue) → AllByRecursion (λ (n : NodeValue). Whole s.granularity (part n)) ns
+    → map part ns ≡ map (coordinate (pos 0) (pos s.granularity)) (raws s part ns)
+coordinates_are s part [] all = refl
+coordinates_are s part (n ∷ ns) all = let a = coordinate_read s.granularity (part n) all.0 in let b = coordinates_are s part ns all.1 in cc
 
 -- ---- tags
 
@@ -215,8 +215,8 @@ dense_read s ns sc all same short =
     let m = message_read ss (dense_bytes s ns)
     (five_parts (delta_field DENSE_ID (ids_of ns)) (message_field DENSE_DENSEINFO (dense_info_bytes s (infos_of ns))) (delta_field DENSE_LAT (lats_of s ns)) (delta_field DENSE_LON (lons_of s ns)) (packed_field DENSE_KEYS_VALS (keys_vals_of s ns))) whole in
     let ids_wide : AllByRecursion IsWide (ids_of ns) = all_mapped_by (NodeIsWritten s) IsWide (λ (n : NodeValue). n.id) ns (λ n w. w.in_range.id) all in
-    let lats_wide : AllByRecursion IsWide (lats_of s ns) = all_mapped_by (NodeIsWritten s) IsWide (λ (n : NodeValue). raw_place s n.lat) ns (λ n w. quotient_is_wide s.granularity n.lat w.in_range.lat) all in
-    let lons_wide : AllByRecursion IsWide (lons_of s ns) = all_mapped_by (NodeIsWritten s) IsWide (λ (n : NodeValue). raw_place s n.lon) ns (λ n w. quotient_is_wide s.granularity n.lon w.in_range.lon) all in
+    let lats_wide : AllByRecursion IsWide (lats_of s ns) = all_mapped_by (NodeIsWritten s) IsWide (λ (n : NodeValue). raw_coordinate s n.lat) ns (λ n w. quotient_is_wide s.granularity n.lat w.in_range.lat) all in
+    let lons_wide : AllByRecursion IsWide (lons_of s ns) = all_mapped_by (NodeIsWritten s) IsWide (λ (n : NodeValue). raw_coordinate s n.lon) ns (λ n w. quotient_is_wide s.granularity n.lon w.in_range.lon) all in
     let i = dense_info_read s (infos_of ns) sc (all_mapped_by (NodeIsWritten s) (IsWritten s) (λ (n : NodeValue). n.info) ns (λ n w. w.info) all) same (info_short s ns short) in
     let a = packed_at ss whole DENSE_ID (deltas_of (ids_of ns)) (append-nil _) (deltas_fit (ids_of ns) ids_wide) in
     let c = packed_at ss whole DENSE_LAT (deltas_of (lats_of s ns)) (append-nil _) (deltas_fit (lats_of s ns) lats_wide) in
@@ -237,8 +237,8 @@ dense_read s ns sc all same short =
       info_arrays = subst T (sym m.fields_are) (subst S (sym subs) i.arrays);
       holds = subst P (sym m.fields_are) (record {
         ids_are = rw a.nums_are (diff_read (ids_of ns) ids_wide);
-        lats_are = (lats_of s ns, rw c.nums_are (diff_read (lats_of s ns) lats_wide), places_are s (λ (n : NodeValue). n.lat) ns (all_of (NodeIsWritten s) _ ns (λ n w. w.lat) all));
-        lons_are = (lons_of s ns, rw d.nums_are (diff_read (lons_of s ns) lons_wide), places_are s (λ (n : NodeValue). n.lon) ns (all_of (NodeIsWritten s) _ ns (λ n w. w.lon) all));
+        lats_are = (lats_of s ns, rw c.nums_are (diff_read (lats_of s ns) lats_wide), coordinates_are s (λ (n : NodeValue). n.lat) ns (all_of (NodeIsWritten s) _ ns (λ n w. w.lat) all));
+        lons_are = (lons_of s ns, rw d.nums_are (diff_read (lons_of s ns) lons_wide), coordinates_are s (λ (n : NodeValue). n.lon) ns (all_of (NodeIsWritten s) _ ns (λ n w. w.lon) all));
         tags_are = (map (pairs_of s) ns, rw e.nums_are (tags_stand s ns all), tags_are s ns all);
         infos_are = rw subs i.holds;
         in_range = all_of (NodeIsWritten s) IsNode ns (λ n w. w.in_range) all;

@@ -10,9 +10,9 @@ use Rattle.osm_value.specs.Elements.{IsElement}
 use Rattle.osm_value.specs.Ranges.{is_wide, passes, IsInfo}
 use Rattle.osm_value.proofs.Ranges.{all_front, all_back}
 use Rattle.osm_block.specs.declared.fields.TheConstants.{DENSEINFO_CHANGESET, DENSEINFO_TIMESTAMP, DENSEINFO_UID, DENSEINFO_USER_SID, DENSEINFO_VERSION, DENSE_DENSEINFO, DENSE_ID, DENSE_KEYS_VALS, DENSE_LAT, DENSE_LON, ELEMENT_ID, ELEMENT_INFO, ELEMENT_KEYS, ELEMENT_VALS, GROUP_DENSE, GROUP_RELATIONS, GROUP_WAYS, INFO_CHANGESET, INFO_TIMESTAMP, INFO_UID, INFO_USER_SID, INFO_VERSION, RELATION_MEMIDS, RELATION_ROLES_SID, RELATION_TYPES, WAY_REFS}
-use Rattle.osm_write.specs.Canon.{Scale, index_of, tag_texts, number, number_field, message_field, packed_field, int_field, delta_field, optional, times_of, info_bytes, head_bytes, way_bytes, number_of_kind, relation_bytes, dense_info_bytes, tag_indexes, has_tags, keys_vals_of, raw_place, dense_bytes, node_of, way_or_relation, group_bytes}
+use Rattle.osm_write.specs.Canon.{Scale, index_of, tag_texts, number, number_field, message_field, packed_field, int_field, delta_field, optional, times_of, info_bytes, head_bytes, way_bytes, number_of_kind, relation_bytes, dense_info_bytes, tag_indexes, has_tags, keys_vals_of, raw_coordinate, dense_bytes, node_of, way_or_relation, group_bytes}
 use Rattle.osm_write.proofs.Coarser.{Coarser}
-use Rattle.osm_write.proofs.NumberLengths.{NoLonger, itself, nothing, joined, Finer, zigzag_finer, number_finer, bytes_field_no_longer, message_field_no_longer, packed_front, delta_first, Below, below_itself, packed_column, delta_column}
+use Rattle.osm_write.proofs.NumberLengths.{NoLonger, itself, nothing, joined, Finer, zigzag_finer, number_finer, bytes_field_no_longer, message_field_no_longer, packed_front, delta_first, Below, below_itself, packed_array, delta_array}
 
 -- ---- indexes of texts
 
@@ -103,11 +103,11 @@ dense_info_no_longer one all i is finer same =
     let version : InfoValue → Option ℕ = λ j. option_map (cast_unsigned w64) j.version in
     let changeset : InfoValue → Option ℤ = λ j. j.changeset in
     let uid : InfoValue → Option ℤ = λ j. j.uid in
-    let a = packed_column DENSEINFO_VERSION version version i is (below_itself (λ n. n) (version i)) in
-    let b = delta_column DENSEINFO_TIMESTAMP (λ j. times_of one j.time) (λ j. times_of all j.time) i is (below_times one all i.time finer) in
-    let c = delta_column DENSEINFO_CHANGESET changeset changeset i is (below_itself zigzag i.changeset) in
-    let d = delta_column DENSEINFO_UID uid uid i is (below_itself zigzag i.uid) in
-    let e = delta_column DENSEINFO_USER_SID (λ j. option_map (λ t. pos (index_of one t)) j.user) (λ j. option_map (λ t. pos (index_of all t)) j.user) i is (below_users one all i.user same) in
+    let a = packed_array DENSEINFO_VERSION version version i is (below_itself (λ n. n) (version i)) in
+    let b = delta_array DENSEINFO_TIMESTAMP (λ j. times_of one j.time) (λ j. times_of all j.time) i is (below_times one all i.time finer) in
+    let c = delta_array DENSEINFO_CHANGESET changeset changeset i is (below_itself zigzag i.changeset) in
+    let d = delta_array DENSEINFO_UID uid uid i is (below_itself zigzag i.uid) in
+    let e = delta_array DENSEINFO_USER_SID (λ j. option_map (λ t. pos (index_of one t)) j.user) (λ j. option_map (λ t. pos (index_of all t)) j.user) i is (below_users one all i.user same) in
     joined (joined (joined (joined a b) c) d) e
 
 keys_vals_no_longer : (one all : Scale) (n : NodeValue) (ns : List NodeValue) → SameTags one all n.tags
@@ -129,8 +129,8 @@ dense_no_longer n ns one all c =
     let infos : List InfoValue = map (λ (m : NodeValue). m.info) ns in
     let ids = delta_first DENSE_ID n.id n.id (map (λ (m : NodeValue). m.id) ns) (le_refl (zigzag n.id)) in
     let info = message_field_no_longer DENSE_DENSEINFO (dense_info_bytes one (n.info ∷ [])) (dense_info_bytes all (n.info ∷ infos)) (dense_info_no_longer one all n.info infos c.times user) in
-    let lats = delta_first DENSE_LAT (raw_place one n.lat) (raw_place all n.lat) (map (λ (m : NodeValue). raw_place all m.lat) ns) (zigzag_finer 100 one.granularity all.granularity n.lat c.places) in
-    let lons = delta_first DENSE_LON (raw_place one n.lon) (raw_place all n.lon) (map (λ (m : NodeValue). raw_place all m.lon) ns) (zigzag_finer 100 one.granularity all.granularity n.lon c.places) in
+    let lats = delta_first DENSE_LAT (raw_coordinate one n.lat) (raw_coordinate all n.lat) (map (λ (m : NodeValue). raw_coordinate all m.lat) ns) (zigzag_finer 100 one.granularity all.granularity n.lat c.coordinates) in
+    let lons = delta_first DENSE_LON (raw_coordinate one n.lon) (raw_coordinate all n.lon) (map (λ (m : NodeValue). raw_coordinate all m.lon) ns) (zigzag_finer 100 one.granularity all.granularity n.lon c.coordinates) in
     joined (joined (joined (joined ids info) lats) lons) (keys_vals_no_longer one all n ns tags)
 
 -- ---- the group

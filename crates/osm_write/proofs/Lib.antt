@@ -13,7 +13,7 @@ pub mod Known
 pub mod InfoRead
 pub mod DeltasRead
 pub mod ElementRead
-pub mod Columns
+pub mod ArraysRead
 pub mod DenseInfoRead
 pub mod DenseRead
 pub mod RunsRead

@@ -139,7 +139,7 @@ minus_zero (negsuc n) = search (arith, ints)
 pub delta_first : (k : ℕ) (v w : ℤ) (ws : List ℤ) → zigzag v ≤ zigzag w → NoLonger (delta_field k (v ∷ [])) (delta_field k (w ∷ ws))
 delta_first k v w ws le = packed_first k (zigzag (v -ℤ pos 0)) (zigzag (w -ℤ pos 0)) (map zigzag (differences_from w ws)) (rw (minus_zero v, minus_zero w) le)
 
--- ---- columns
+-- ---- arrays
 
 -- the first is absent, or no greater than the second
 abbrev pub Below : {A : Type 0} → (A → ℕ) → Option A → Option A → Type 0
@@ -152,16 +152,16 @@ below_itself size None = tt
 below_itself size (Some x) = le_refl (size x)
 
 module _ {I : Type 0} where
-  pub packed_column : (k : ℕ) (get got : I → Option ℕ) (i : I) (is : List I) → Below (λ n. n) (get i) (got i) → NoLonger (packed_field k (filter_map get (i ∷ []))) (packed_field k (filter_map got (i ∷ is)))
-  packed_column k get got i is below = by (get i) (got i) below
+  pub packed_array : (k : ℕ) (get got : I → Option ℕ) (i : I) (is : List I) → Below (λ n. n) (get i) (got i) → NoLonger (packed_field k (filter_map get (i ∷ []))) (packed_field k (filter_map got (i ∷ is)))
+  packed_array k get got i is below = by (get i) (got i) below
     where
       by : (o p : Option ℕ) → Below (λ n. n) o p → NoLonger (packed_field k (cons_option o [])) (packed_field k (cons_option p (filter_map got is)))
       by None p h = nothing (packed_field k (cons_option p (filter_map got is)))
       by (Some x) None h = absurd h
       by (Some x) (Some y) h = packed_first k x y (filter_map got is) h
 
-  pub delta_column : (k : ℕ) (get got : I → Option ℤ) (i : I) (is : List I) → Below zigzag (get i) (got i) → NoLonger (delta_field k (filter_map get (i ∷ []))) (delta_field k (filter_map got (i ∷ is)))
-  delta_column k get got i is below = by (get i) (got i) below
+  pub delta_array : (k : ℕ) (get got : I → Option ℤ) (i : I) (is : List I) → Below zigzag (get i) (got i) → NoLonger (delta_field k (filter_map get (i ∷ []))) (delta_field k (filter_map got (i ∷ is)))
+  delta_array k get got i is below = by (get i) (got i) below
     where
       by : (o p : Option ℤ) → Below zigzag o p → NoLonger (delta_field k (cons_option o [])) (delta_field k (cons_option p (filter_map got is)))
       by None p h = nothing (delta_field k (cons_option p (filter_map got is)))

@@ -82,7 +82,7 @@ block_no_longer e es range =
     let b = parts_length all (e ∷ es) in
     let c = table_no_longer one.texts all.texts m.0 m.1 in
     let d = groups_no_longer e es one all range coarse in
-    let f = granularity_no_longer BLOCK_GRANULARITY 100 one.granularity all.granularity coarse.places in
+    let f = granularity_no_longer BLOCK_GRANULARITY 100 one.granularity all.granularity coarse.coordinates in
     let g = granularity_no_longer BLOCK_DATE_GRANULARITY 1000 one.date_granularity all.date_granularity coarse.times in
     omega arith
 

@@ -56,7 +56,7 @@ fields_join [] gs v w a b = rw a b
 fields_join (f ∷ fs) gs v w a b =
     (a.0, a.1 ++ w, a.2, fields_join fs gs a.1 w a.3 b, ap (λ x. x ++ w) a.4 ∙ append_assoc a.0 a.1 w)
 
--- ---- rows of numbers
+-- ---- packed arrays
 
 drop_length : (bs w : List ℕ) → drop (length bs) (bs ++ w) ≡ w
 drop_length [] w = refl

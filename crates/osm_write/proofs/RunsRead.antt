@@ -6,7 +6,7 @@ use Rattle.osm_value.specs.declared.element.Element.{Element}
 use Rattle.osm_value.specs.declared.element.Element.TheVariants.{Node, Way, Relation}
 use Rattle.osm_value.specs.Value.{InfoValue, NodeValue, WayValue, RelationValue}
 use Rattle.osm_write.specs.Canon.{same, same_present, fit_together, put_before, groups_of}
-use Rattle.osm_write.proofs.Columns.{IsUniform}
+use Rattle.osm_write.proofs.ArraysRead.{IsUniform}
 use Rattle.osm_write.proofs.DenseInfoRead.{IsSame}
 
 -- each element fits together with the one before it

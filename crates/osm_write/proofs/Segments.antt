@@ -142,7 +142,7 @@ message_nums : (k : ℕ) (bs : List ℕ) → nums (message_entries k bs) k ≡ f
 message_nums k [] = refl
 message_nums k (b ∷ bs) = rw (same k) refl
 
--- an array stands in its segment, and its payloads are rows of numbers
+-- an array stands in its segment, and its payloads are packed arrays
 pub record IsPacked (es : List Entry) (k : ℕ) (ns : List ℕ) : Type 0 where
   pub nums_are : nums es k ≡ ns
   pub sound : AllByRecursion IsNone (map packed (each es k))

@@ -17,7 +17,7 @@ use Rattle.osm_value.proofs.Ranges.{all_append, all_map}
 use Rattle.osm_block.specs.declared.fields.TheConstants.{BLOCK_PRIMITIVEGROUP, BLOCK_STRINGTABLE, STRINGTABLE_S}
 use Rattle.osm_block.specs.DenseTags.{Pair}
 use Rattle.osm_block.specs.Message.{Context, context, Message, Plain, Dense, Way, Relation, messages}
-use Rattle.osm_block.specs.Block.{Block, GroupOf, Joins, AllAreWire, MessageOf, TagsAt, text_at, texts_at, all_there, column}
+use Rattle.osm_block.specs.Block.{Block, GroupOf, Joins, AllAreWire, MessageOf, TagsAt, text_at, texts_at, all_there, values_for}
 use Rattle.osm_write.specs.declared.block.TheConstants.{MAX_BLOCK_LEN}
 use Rattle.osm_write.specs.Canon.{first_uses, tag_texts, texts_of}
 use Rattle.osm_write.specs.Texts.{has}
@@ -284,7 +284,7 @@ some_users table (i ∷ is) (v ∷ vs) e =
     let b : map (λ (i : InfoValue). option_map Some i.user) is ≡ map (λ v. Some (text_at table v)) vs = cc in
     (present table i.user v a, some_users table is vs b)
 
-users_there : (table : List Text) (is : List InfoValue) (vs : List ℤ) → map (λ (i : InfoValue). option_map Some i.user) is ≡ column (length is) (map (λ v. Some (text_at table v)) vs)
+users_there : (table : List Text) (is : List InfoValue) (vs : List ℤ) → map (λ (i : InfoValue). option_map Some i.user) is ≡ values_for (length is) (map (λ v. Some (text_at table v)) vs)
     → AllByRecursion (UserThere table) is
 users_there table is [] e = no_users table is e
 users_there table is (v ∷ vs) e = some_users table is (v ∷ vs) e

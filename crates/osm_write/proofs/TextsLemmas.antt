@@ -1,4 +1,4 @@
--- Places of texts in a table.
+-- Indexes of texts in a table.
 use Rattle.std.proofs.Common.{◌≡◌, ℕ, suc, List, [], ◌∷◌, ◌++◌, length, map, Option, Some, None, is_some, option_map, unwrap_or, Bool, true, false, refl, ap, sym, if◌then◌else◌, ◌∙◌, bytes_eq, ◌||◌, Bor, ◌<◌, arith}
 use Rattle.std.specs.HashMap as hash
 use Rattle.std.proofs.lemmas.Slice.Eq.{bytes_eq-Decides}
@@ -7,13 +7,13 @@ use Rattle.std.proofs.lemmas.List.{map-append}
 use Rattle.std.specs.Option.{option_copied}
 use Rattle.osm_value.specs.Value.{Text}
 use Rattle.osm_write.specs.Texts.{has, Knows, find_text, with_text}
-use Rattle.osm_write.specs.Canon.{place_of}
+use Rattle.osm_write.specs.Canon.{index_in}
 
-pub place_is : (ts : List Text) (t : Text) → place_of t ts ≡ unwrap_or (find_text ts t) (length ts)
-place_is [] t = refl
-place_is (u ∷ us) t = by (bytes_eq u t) (find_text us t) (place_is us t)
+pub index_is : (ts : List Text) (t : Text) → index_in t ts ≡ unwrap_or (find_text ts t) (length ts)
+index_is [] t = refl
+index_is (u ∷ us) t = by (bytes_eq u t) (find_text us t) (index_is us t)
   where
-    by : (b : Bool) (f : Option ℕ) → place_of t us ≡ unwrap_or f (length us) → (if b then 0 else suc (place_of t us)) ≡ unwrap_or (if b then Some 0 else option_map suc f) (suc (length us))
+    by : (b : Bool) (f : Option ℕ) → index_in t us ≡ unwrap_or f (length us) → (if b then 0 else suc (index_in t us)) ≡ unwrap_or (if b then Some 0 else option_map suc f) (suc (length us))
     by true f e = refl
     by false None e = ap suc e
     by false (Some n) e = ap suc e
@@ -55,11 +55,11 @@ find_push (u ∷ us) t q apart = first (bytes_eq u t) (λ no. find_push us t q n
     first true again e apart = absurd (let f : true ≡ false = apart in cc)
     first false again e apart = by (bytes_eq u q) again refl e apart
 
-pub place_some : (ts : List Text) (t : Text) (n : ℕ) → find_text ts t ≡ Some n → n ≡ place_of t ts
-place_some ts t n e = let p = place_is ts t in rw (p, e) refl
+pub index_some : (ts : List Text) (t : Text) (n : ℕ) → find_text ts t ≡ Some n → n ≡ index_in t ts
+index_some ts t n e = let p = index_is ts t in rw (p, e) refl
 
-pub place_none : (ts : List Text) (t : Text) → find_text ts t ≡ None → length ts ≡ place_of t ts
-place_none ts t e = let p = place_is ts t in rw (p, e) refl
+pub index_none : (ts : List Text) (t : Text) → find_text ts t ≡ None → length ts ≡ index_in t ts
+index_none ts t e = let p = index_is ts t in rw (p, e) refl
 
 pub text_found : (ts : List Text) (t : Text) → is_some (find_text ts t) ≡ true → ts ≡ with_text ts t
 text_found ts t e = let h = has_is ts t in rw (h, e) refl

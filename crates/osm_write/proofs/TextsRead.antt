@@ -4,14 +4,14 @@ use Rattle.std.proofs.lemmas.Slice.Eq.{bytes_eq-Decides}
 use Rattle.osm_value.specs.Value.{Text}
 use Rattle.osm_write.specs.Texts.{has}
 use Rattle.osm_block.specs.Block.{text_at}
-use Rattle.osm_write.specs.Canon.{Scale, first_uses, place_of, index_of}
+use Rattle.osm_write.specs.Canon.{Scale, first_uses, index_in, index_of}
 
--- the text at the place of a text that is there
-pub text_at_place : (ts : List Text) (t : Text) → has ts t ≡ true → slice_get ts (place_of t ts) ≡ Some t
-text_at_place [] t e = absurd (let f : false ≡ true = e in cc)
-text_at_place (u ∷ us) t e = by (bytes_eq u t) refl (text_at_place us t) e
+-- the text at the index of a text that is there
+pub text_at_own_index : (ts : List Text) (t : Text) → has ts t ≡ true → slice_get ts (index_in t ts) ≡ Some t
+text_at_own_index [] t e = absurd (let f : false ≡ true = e in cc)
+text_at_own_index (u ∷ us) t e = by (bytes_eq u t) refl (text_at_own_index us t) e
   where
-    by : (b : Bool) → bytes_eq u t ≡ b → (has us t ≡ true → slice_get us (place_of t us) ≡ Some t) → (b || has us t) ≡ true → slice_get (u ∷ us) (if b then 0 else suc (place_of t us)) ≡ Some t
+    by : (b : Bool) → bytes_eq u t ≡ b → (has us t ≡ true → slice_get us (index_in t us) ≡ Some t) → (b || has us t) ≡ true → slice_get (u ∷ us) (if b then 0 else suc (index_in t us)) ≡ Some t
     by true f again h = let same : u ≡ t = (bytes_eq-Decides u t).0 f in ap (λ x. Some x) same
     by false f again h = again h
 
@@ -46,6 +46,6 @@ first_uses_has (u ∷ us) t e = by (bytes_eq u t) refl (first_uses_has us t) e
     by true f again h = rw f refl
     by false f again h = let k = same_test f in rw f (kept (λ v. not (bytes_eq v u)) (first_uses us) t (rw k refl) (again h))
 
--- the index of a used text is its place in the table, whose text 0 is empty
+-- the index of a used text leads to it in the table, whose text 0 is empty
 pub text_at_index : (s : Scale) (us : List Text) (t : Text) → s.texts ≡ first_uses us → has us t ≡ true → text_at ([] ∷ s.texts) (pos (index_of s t)) ≡ Some t
-text_at_index s us t e h = rw e (text_at_place (first_uses us) t (first_uses_has us t h))
+text_at_index s us t e h = rw e (text_at_own_index (first_uses us) t (first_uses_has us t h))

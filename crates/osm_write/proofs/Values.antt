@@ -79,9 +79,9 @@ swap : (q : ℤ) (n : ℕ) → q *ℤ pos n ≡ pos n *ℤ q
 swap (pos a) n = search (arith, ints)
 swap (negsuc a) n = search (arith, ints)
 
--- a place that its granularity divides
-pub place_read : (n : ℕ) (z : ℤ) → Whole n z → z ≡ block.place (pos 0) (pos n) (int_div z (pos n))
-place_read n z whole = let e = swap (int_div z (pos n)) n in let f : pos n *ℤ int_div z (pos n) ≡ z = sym e ∙ whole in search (arith, ints)
+-- a coordinate that its granularity divides
+pub coordinate_read : (n : ℕ) (z : ℤ) → Whole n z → z ≡ block.coordinate (pos 0) (pos n) (int_div z (pos n))
+coordinate_read n z whole = let e = swap (int_div z (pos n)) n in let f : pos n *ℤ int_div z (pos n) ≡ z = sym e ∙ whole in search (arith, ints)
 
 pub quotient_is_wide : (n : ℕ) (z : ℤ) → IsWide z → IsWide (int_div z (pos n))
 quotient_is_wide n (pos a) wide =

@@ -62,9 +62,9 @@ first_uses (t ∷ ts) = t ∷ filter (λ u. not (bytes_eq u t)) (first_uses ts)
 abbrev pub table_of : List Element → List Text
 table_of es = [] ∷ first_uses (flat_map texts_of es)
 
-abbrev pub place_of : Text → List Text → ℕ
-place_of t [] = 0
-place_of t (u ∷ us) = if bytes_eq u t then 0 else suc (place_of t us)
+abbrev pub index_in : Text → List Text → ℕ
+index_in t [] = 0
+index_in t (u ∷ us) = if bytes_eq u t then 0 else suc (index_in t us)
 
 -- ---- what a block says for all its elements
 
@@ -74,11 +74,11 @@ pub record Scale : Type 0 where
   pub date_granularity : ℕ
 
 abbrev pub index_of : Scale → Text → ℕ
-index_of s t = suc (place_of t s.texts)
+index_of s t = suc (index_in t s.texts)
 
-abbrev pub places_of : Element → List ℤ
-places_of (Node n) = n.lat ∷ n.lon ∷ []
-places_of _ = []
+abbrev pub coordinates_of : Element → List ℤ
+coordinates_of (Node n) = n.lat ∷ n.lon ∷ []
+coordinates_of _ = []
 
 abbrev pub info_of : Element → InfoValue
 info_of (Node n) = n.info
@@ -92,7 +92,7 @@ divisor n zs = if list_all (λ z. unsigned_abs z % n == 0) zs then n else 1
 unfoldable pub scale_of : List Element → Scale
 scale_of es = record {
   texts = first_uses (flat_map texts_of es);
-  granularity = divisor 100 (flat_map places_of es);
+  granularity = divisor 100 (flat_map coordinates_of es);
   date_granularity = divisor 1000 (flat_map (λ e. option_to_list (info_of e).time) es);
 }
 
@@ -143,12 +143,12 @@ has_tags n = nat_lt 0 (length n.tags)
 abbrev pub keys_vals_of : Scale → List NodeValue → List ℕ
 keys_vals_of s ns = if list_any has_tags ns then flat_map (λ n. tag_indexes s n.tags ++ 0 ∷ []) ns else []
 
-abbrev pub raw_place : Scale → ℤ → ℤ
-raw_place s z = int_div z (pos s.granularity)
+abbrev pub raw_coordinate : Scale → ℤ → ℤ
+raw_coordinate s z = int_div z (pos s.granularity)
 
 abbrev pub dense_bytes : Scale → List NodeValue → List ℕ
 dense_bytes s ns = delta_field DENSE_ID (map (λ n. n.id) ns) ++ message_field DENSE_DENSEINFO (dense_info_bytes s (map (λ n. n.info) ns))
-    ++ delta_field DENSE_LAT (map (λ n. raw_place s n.lat) ns) ++ delta_field DENSE_LON (map (λ n. raw_place s n.lon) ns)
+    ++ delta_field DENSE_LAT (map (λ n. raw_coordinate s n.lat) ns) ++ delta_field DENSE_LON (map (λ n. raw_coordinate s n.lon) ns)
     ++ packed_field DENSE_KEYS_VALS (keys_vals_of s ns)
 
 -- ---- groups

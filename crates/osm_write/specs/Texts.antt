@@ -9,7 +9,7 @@ use Rattle.osm_value.specs.Value.{Text}
 abbrev pub has : List Text → Text → Bool
 has ts t = list_any (λ u. bytes_eq u t) ts
 
--- the first place of the text
+-- the first index of the text
 abbrev pub find_text : List Text → Text → Option ℕ
 find_text [] t = None
 find_text (u ∷ us) t = if bytes_eq u t then Some 0 else option_map suc (find_text us t)
@@ -23,6 +23,6 @@ abbrev pub with_texts : List Text → List Text → List Text
 with_texts ts [] = ts
 with_texts ts (u ∷ us) = with_texts (with_text ts u) us
 
--- the map knows the place of every text of the list, and no other text
+-- the map knows the index of every text of the list, and no other text
 abbrev pub Knows : {S : Type 0} → HashMap (Bor Text) ℕ S → List Text → Type 0
-Knows places ts = (t : Text) → get_by (λ k. bytes_eq t k.now) places ≡ find_text ts t
+Knows indexes ts = (t : Text) → get_by (λ k. bytes_eq t k.now) indexes ≡ find_text ts t

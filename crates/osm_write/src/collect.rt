@@ -7,7 +7,7 @@ ghost use Rattle.osm_value.specs.Elements.{IsElement};
 ghost use Rattle.osm_value.specs.Value.{Text};
 ghost use Rattle.osm_write.specs.Texts.{with_texts};
 ghost use Rattle.osm_write.specs.Scale.{view};
-ghost use Rattle.osm_write.specs.Canon.{tag_texts, texts_of, places_of, info_of, scale_of};
+ghost use Rattle.osm_write.specs.Canon.{tag_texts, texts_of, coordinates_of, info_of, scale_of};
 
 use crate::scale::Scale;
 use crate::texts::TextTable;
@@ -75,8 +75,8 @@ fn add_elements<'a>(table: &mut TextTable<'a>, elements: &[Element<'a>]) -> Resu
     Ok(())
 }
 
-fn place_is_whole(element: &Element) -> bool
-    ensures { result ≡ list_all (λ z. unsigned_abs z % 100 == 0) (places_of element.now) }
+fn coordinate_is_whole(element: &Element) -> bool
+    ensures { result ≡ list_all (λ z. unsigned_abs z % 100 == 0) (coordinates_of element.now) }
 {
     match element {
         Element::Node(node) => {
@@ -102,11 +102,11 @@ fn time_is_whole(element: &Element) -> bool
     }
 }
 
-fn places_are_whole(elements: &[Element]) -> bool
-    ensures { result ≡ list_all (λ z. unsigned_abs z % 100 == 0) (flat_map places_of elements.now) }
+fn coordinates_are_whole(elements: &[Element]) -> bool
+    ensures { result ≡ list_all (λ z. unsigned_abs z % 100 == 0) (flat_map coordinates_of elements.now) }
 {
     for element in elements {
-        if !place_is_whole(element) {
+        if !coordinate_is_whole(element) {
             return false;
         }
     }
@@ -133,7 +133,7 @@ pub(crate) fn scale_of<'a>(alloc: Global, elements: &[Element<'a>]) -> Result<Sc
     add_elements(&mut texts, elements)?;
     Ok(Scale {
         texts,
-        hundreds: places_are_whole(elements),
+        hundreds: coordinates_are_whole(elements),
         thousands: times_are_whole(elements),
     })
 }

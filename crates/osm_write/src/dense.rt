@@ -1,4 +1,4 @@
-//! Nodes as one message of columns.
+//! Nodes as one message of packed arrays.
 
 ghost use Rattle.std.specs.Prelude.{◌≡◌, ◌++◌, ◌∷◌, [], OnOk, map, List, pos, option_map};
 ghost use Rattle.std.specs.List.{filter_map, flat_map, list_any};
@@ -6,11 +6,11 @@ ghost use Rattle.std.specs.Int.{w64, cast_unsigned};
 ghost use Rattle.osm_value.specs.Value.{NodeValue, InfoValue};
 ghost use Rattle.osm_write.specs.Arrays.{AllWide};
 ghost use Rattle.osm_write.specs.Scale.{view};
-ghost use Rattle.osm_write.specs.Canon.{dense_bytes, dense_info_bytes, raw_place, times_of, index_of, keys_vals_of, has_tags, tag_indexes, packed_field, delta_field, message_field};
+ghost use Rattle.osm_write.specs.Canon.{dense_bytes, dense_info_bytes, raw_coordinate, times_of, index_of, keys_vals_of, has_tags, tag_indexes, packed_field, delta_field, message_field};
 
 use crate::append::{append_deltas, append_message, append_packed};
+use crate::info::{uid_of, version_number};
 use crate::message::Scratch;
-use crate::parts::{uid_of, version_number};
 use crate::scale::Scale;
 use osm_block::fields::{
     DENSE_DENSEINFO, DENSE_ID, DENSE_KEYS_VALS, DENSE_LAT, DENSE_LON, DENSEINFO_CHANGESET,
@@ -20,98 +20,98 @@ use osm_value::Node;
 use std::alloc::{AllocError, Global};
 
 #[tactic(auto, using(crate::proofs::Deltas::wide_push))]
-fn id_column(nodes: &[&Node], column: &mut Vec<i64>) -> Result<(), AllocError>
-    ensures exact { OnOk result (column.new.items ≡ map (λ (n : NodeValue). n.id) (map (λ n. n.now) nodes.now)) }
-    ensures in_range { AllWide column.new.items }
+fn collect_ids(nodes: &[&Node], values: &mut Vec<i64>) -> Result<(), AllocError>
+    ensures exact { OnOk result (values.new.items ≡ map (λ (n : NodeValue). n.id) (map (λ n. n.now) nodes.now)) }
+    ensures in_range { AllWide values.new.items }
 {
-    column.clear();
+    values.clear();
     for node in nodes {
-        column.push(node.id())?;
+        values.push(node.id())?;
     }
     Ok(())
 }
 
 #[tactic(auto, using(crate::proofs::Deltas::wide_push))]
-fn lat_column(scale: &Scale, nodes: &[&Node], column: &mut Vec<i64>) -> Result<(), AllocError>
-    ensures exact { OnOk result (column.new.items ≡ map (λ (n : NodeValue). raw_place (view scale.now) n.lat) (map (λ n. n.now) nodes.now)) }
-    ensures in_range { AllWide column.new.items }
+fn collect_lats(scale: &Scale, nodes: &[&Node], values: &mut Vec<i64>) -> Result<(), AllocError>
+    ensures exact { OnOk result (values.new.items ≡ map (λ (n : NodeValue). raw_coordinate (view scale.now) n.lat) (map (λ n. n.now) nodes.now)) }
+    ensures in_range { AllWide values.new.items }
 {
-    column.clear();
+    values.clear();
     for node in nodes {
-        column.push(scale.raw_place(node.lat()))?;
+        values.push(scale.raw_coordinate(node.lat()))?;
     }
     Ok(())
 }
 
 #[tactic(auto, using(crate::proofs::Deltas::wide_push))]
-fn lon_column(scale: &Scale, nodes: &[&Node], column: &mut Vec<i64>) -> Result<(), AllocError>
-    ensures exact { OnOk result (column.new.items ≡ map (λ (n : NodeValue). raw_place (view scale.now) n.lon) (map (λ n. n.now) nodes.now)) }
-    ensures in_range { AllWide column.new.items }
+fn collect_lons(scale: &Scale, nodes: &[&Node], values: &mut Vec<i64>) -> Result<(), AllocError>
+    ensures exact { OnOk result (values.new.items ≡ map (λ (n : NodeValue). raw_coordinate (view scale.now) n.lon) (map (λ n. n.now) nodes.now)) }
+    ensures in_range { AllWide values.new.items }
 {
-    column.clear();
+    values.clear();
     for node in nodes {
-        column.push(scale.raw_place(node.lon()))?;
+        values.push(scale.raw_coordinate(node.lon()))?;
     }
     Ok(())
 }
 
 #[tactic(auto, using(crate::proofs::Deltas::wide_push))]
-fn time_column(scale: &Scale, nodes: &[&Node], column: &mut Vec<i64>) -> Result<(), AllocError>
-    ensures exact { OnOk result (column.new.items ≡ filter_map (λ (i : InfoValue). times_of (view scale.now) i.time) (map (λ n. n.now.info) nodes.now)) }
-    ensures in_range { AllWide column.new.items }
+fn collect_times(scale: &Scale, nodes: &[&Node], values: &mut Vec<i64>) -> Result<(), AllocError>
+    ensures exact { OnOk result (values.new.items ≡ filter_map (λ (i : InfoValue). times_of (view scale.now) i.time) (map (λ n. n.now.info) nodes.now)) }
+    ensures in_range { AllWide values.new.items }
 {
-    column.clear();
+    values.clear();
     for node in nodes {
         if let Some(value) = scale.raw_time(node.info().time()) {
-            column.push(value)?;
+            values.push(value)?;
         }
     }
     Ok(())
 }
 
 #[tactic(auto, using(crate::proofs::Deltas::wide_push))]
-fn changeset_column(nodes: &[&Node], column: &mut Vec<i64>) -> Result<(), AllocError>
-    ensures exact { OnOk result (column.new.items ≡ filter_map (λ (i : InfoValue). i.changeset) (map (λ n. n.now.info) nodes.now)) }
-    ensures in_range { AllWide column.new.items }
+fn collect_changesets(nodes: &[&Node], values: &mut Vec<i64>) -> Result<(), AllocError>
+    ensures exact { OnOk result (values.new.items ≡ filter_map (λ (i : InfoValue). i.changeset) (map (λ n. n.now.info) nodes.now)) }
+    ensures in_range { AllWide values.new.items }
 {
-    column.clear();
+    values.clear();
     for node in nodes {
         if let Some(value) = node.info().changeset() {
-            column.push(value)?;
+            values.push(value)?;
         }
     }
     Ok(())
 }
 
 #[tactic(auto, using(crate::proofs::Deltas::wide_push))]
-fn uid_column(nodes: &[&Node], column: &mut Vec<i64>) -> Result<(), AllocError>
-    ensures exact { OnOk result (column.new.items ≡ filter_map (λ (i : InfoValue). i.uid) (map (λ n. n.now.info) nodes.now)) }
-    ensures in_range { AllWide column.new.items }
+fn collect_uids(nodes: &[&Node], values: &mut Vec<i64>) -> Result<(), AllocError>
+    ensures exact { OnOk result (values.new.items ≡ filter_map (λ (i : InfoValue). i.uid) (map (λ n. n.now.info) nodes.now)) }
+    ensures in_range { AllWide values.new.items }
 {
-    column.clear();
+    values.clear();
     for node in nodes {
         if let Some(uid) = uid_of(node.info()) {
-            column.push(uid)?;
+            values.push(uid)?;
         }
     }
     Ok(())
 }
 
 #[tactic(auto, using(crate::proofs::Deltas::wide_push))]
-fn user_column(scale: &Scale, nodes: &[&Node], column: &mut Vec<i64>) -> Result<(), AllocError>
-    ensures exact { OnOk result (column.new.items ≡ filter_map (λ (i : InfoValue). option_map (λ t. pos (index_of (view scale.now) t)) i.user) (map (λ n. n.now.info) nodes.now)) }
-    ensures in_range { AllWide column.new.items }
+fn collect_users(scale: &Scale, nodes: &[&Node], values: &mut Vec<i64>) -> Result<(), AllocError>
+    ensures exact { OnOk result (values.new.items ≡ filter_map (λ (i : InfoValue). option_map (λ t. pos (index_of (view scale.now) t)) i.user) (map (λ n. n.now.info) nodes.now)) }
+    ensures in_range { AllWide values.new.items }
 {
-    column.clear();
+    values.clear();
     for node in nodes {
         if let Some(user) = node.info().user() {
-            column.push(scale.index_of(user) as i64)?;
+            values.push(scale.index_of(user) as i64)?;
         }
     }
     Ok(())
 }
 
-fn version_column(nodes: &[&Node], numbers: &mut Vec<u64>) -> Result<(), AllocError>
+fn collect_versions(nodes: &[&Node], numbers: &mut Vec<u64>) -> Result<(), AllocError>
     ensures { OnOk result (numbers.new.items ≡ filter_map (λ (i : InfoValue). option_map (cast_unsigned w64) i.version) (map (λ n. n.now.info) nodes.now)) }
 {
     numbers.clear();
@@ -174,7 +174,7 @@ fn append_versions(
 ) -> Result<(), AllocError>
     ensures { OnOk result (out.new.items ≡ out.old.items ++ packed_field DENSEINFO_VERSION (filter_map (λ (i : InfoValue). option_map (cast_unsigned w64) i.version) (map (λ n. n.now.info) nodes.now))) }
 {
-    version_column(nodes, &mut scratch.numbers)?;
+    collect_versions(nodes, &mut scratch.numbers)?;
     append_packed(DENSEINFO_VERSION, &scratch.numbers, &mut scratch.array, out)
 }
 
@@ -186,10 +186,10 @@ fn append_times(
 ) -> Result<(), AllocError>
     ensures { OnOk result (out.new.items ≡ out.old.items ++ delta_field DENSEINFO_TIMESTAMP (filter_map (λ (i : InfoValue). times_of (view scale.now) i.time) (map (λ n. n.now.info) nodes.now))) }
 {
-    time_column(scale, nodes, &mut scratch.column)?;
+    collect_times(scale, nodes, &mut scratch.values)?;
     append_deltas(
         DENSEINFO_TIMESTAMP,
-        &scratch.column,
+        &scratch.values,
         &mut scratch.array,
         out,
     )
@@ -202,10 +202,10 @@ fn append_changesets(
 ) -> Result<(), AllocError>
     ensures { OnOk result (out.new.items ≡ out.old.items ++ delta_field DENSEINFO_CHANGESET (filter_map (λ (i : InfoValue). i.changeset) (map (λ n. n.now.info) nodes.now))) }
 {
-    changeset_column(nodes, &mut scratch.column)?;
+    collect_changesets(nodes, &mut scratch.values)?;
     append_deltas(
         DENSEINFO_CHANGESET,
-        &scratch.column,
+        &scratch.values,
         &mut scratch.array,
         out,
     )
@@ -214,8 +214,8 @@ fn append_changesets(
 fn append_uids(nodes: &[&Node], scratch: &mut Scratch, out: &mut Vec<u8>) -> Result<(), AllocError>
     ensures { OnOk result (out.new.items ≡ out.old.items ++ delta_field DENSEINFO_UID (filter_map (λ (i : InfoValue). i.uid) (map (λ n. n.now.info) nodes.now))) }
 {
-    uid_column(nodes, &mut scratch.column)?;
-    append_deltas(DENSEINFO_UID, &scratch.column, &mut scratch.array, out)
+    collect_uids(nodes, &mut scratch.values)?;
+    append_deltas(DENSEINFO_UID, &scratch.values, &mut scratch.array, out)
 }
 
 fn append_users(
@@ -226,15 +226,15 @@ fn append_users(
 ) -> Result<(), AllocError>
     ensures { OnOk result (out.new.items ≡ out.old.items ++ delta_field DENSEINFO_USER_SID (filter_map (λ (i : InfoValue). option_map (λ t. pos (index_of (view scale.now) t)) i.user) (map (λ n. n.now.info) nodes.now))) }
 {
-    user_column(scale, nodes, &mut scratch.column)?;
-    append_deltas(DENSEINFO_USER_SID, &scratch.column, &mut scratch.array, out)
+    collect_users(scale, nodes, &mut scratch.values)?;
+    append_deltas(DENSEINFO_USER_SID, &scratch.values, &mut scratch.array, out)
 }
 
 fn append_ids(nodes: &[&Node], scratch: &mut Scratch, out: &mut Vec<u8>) -> Result<(), AllocError>
     ensures { OnOk result (out.new.items ≡ out.old.items ++ delta_field DENSE_ID (map (λ (n : NodeValue). n.id) (map (λ n. n.now) nodes.now))) }
 {
-    id_column(nodes, &mut scratch.column)?;
-    append_deltas(DENSE_ID, &scratch.column, &mut scratch.array, out)
+    collect_ids(nodes, &mut scratch.values)?;
+    append_deltas(DENSE_ID, &scratch.values, &mut scratch.array, out)
 }
 
 fn append_lats(
@@ -243,10 +243,10 @@ fn append_lats(
     scratch: &mut Scratch,
     out: &mut Vec<u8>,
 ) -> Result<(), AllocError>
-    ensures { OnOk result (out.new.items ≡ out.old.items ++ delta_field DENSE_LAT (map (λ (n : NodeValue). raw_place (view scale.now) n.lat) (map (λ n. n.now) nodes.now))) }
+    ensures { OnOk result (out.new.items ≡ out.old.items ++ delta_field DENSE_LAT (map (λ (n : NodeValue). raw_coordinate (view scale.now) n.lat) (map (λ n. n.now) nodes.now))) }
 {
-    lat_column(scale, nodes, &mut scratch.column)?;
-    append_deltas(DENSE_LAT, &scratch.column, &mut scratch.array, out)
+    collect_lats(scale, nodes, &mut scratch.values)?;
+    append_deltas(DENSE_LAT, &scratch.values, &mut scratch.array, out)
 }
 
 fn append_lons(
@@ -255,10 +255,10 @@ fn append_lons(
     scratch: &mut Scratch,
     out: &mut Vec<u8>,
 ) -> Result<(), AllocError>
-    ensures { OnOk result (out.new.items ≡ out.old.items ++ delta_field DENSE_LON (map (λ (n : NodeValue). raw_place (view scale.now) n.lon) (map (λ n. n.now) nodes.now))) }
+    ensures { OnOk result (out.new.items ≡ out.old.items ++ delta_field DENSE_LON (map (λ (n : NodeValue). raw_coordinate (view scale.now) n.lon) (map (λ n. n.now) nodes.now))) }
 {
-    lon_column(scale, nodes, &mut scratch.column)?;
-    append_deltas(DENSE_LON, &scratch.column, &mut scratch.array, out)
+    collect_lons(scale, nodes, &mut scratch.values)?;
+    append_deltas(DENSE_LON, &scratch.values, &mut scratch.array, out)
 }
 
 fn append_dense_info(

@@ -10,9 +10,9 @@ mod fault;
 mod group;
 mod groups;
 mod header;
+mod info;
 pub mod laws;
 mod message;
-mod parts;
 mod scale;
 mod texts;
 

@@ -9,7 +9,7 @@ ghost use Rattle.osm_write.specs.Canon.{index_of, info_bytes, head_bytes, way_by
 use crate::append::{
     append_deltas, append_int, append_message, append_number, append_optional, append_packed,
 };
-use crate::parts::{uid_of, version_of};
+use crate::info::{uid_of, version_of};
 use crate::scale::Scale;
 use osm_block::fields::{
     ELEMENT_ID, ELEMENT_INFO, ELEMENT_KEYS, ELEMENT_VALS, INFO_CHANGESET, INFO_TIMESTAMP, INFO_UID,
@@ -24,7 +24,7 @@ pub(crate) struct Scratch {
     pub(crate) numbers: Vec<u64>,
     pub(crate) array: Vec<u8>,
     pub(crate) info: Vec<u8>,
-    pub(crate) column: Vec<i64>,
+    pub(crate) values: Vec<i64>,
 }
 
 impl Scratch {
@@ -33,7 +33,7 @@ impl Scratch {
             numbers: Vec::new(alloc),
             array: Vec::new(alloc),
             info: Vec::new(alloc),
-            column: Vec::new(alloc),
+            values: Vec::new(alloc),
         }
     }
 }
@@ -169,13 +169,13 @@ fn number_kinds(members: &[Member], numbers: &mut Vec<u64>) -> Result<(), AllocE
 }
 
 #[tactic(auto, using(crate::proofs::Deltas::wide_push))]
-fn member_ids(members: &[Member], column: &mut Vec<i64>) -> Result<(), AllocError>
-    ensures exact { OnOk result (column.new.items ≡ map (λ (m : MemberValue). m.id) members.now) }
-    ensures in_range { AllWide column.new.items }
+fn member_ids(members: &[Member], values: &mut Vec<i64>) -> Result<(), AllocError>
+    ensures exact { OnOk result (values.new.items ≡ map (λ (m : MemberValue). m.id) members.now) }
+    ensures in_range { AllWide values.new.items }
 {
-    column.clear();
+    values.clear();
     for member in members {
-        column.push(member.id())?;
+        values.push(member.id())?;
     }
     Ok(())
 }
@@ -195,8 +195,8 @@ fn append_members(
         &mut scratch.array,
         out,
     )?;
-    member_ids(members, &mut scratch.column)?;
-    append_deltas(RELATION_MEMIDS, &scratch.column, &mut scratch.array, out)?;
+    member_ids(members, &mut scratch.values)?;
+    append_deltas(RELATION_MEMIDS, &scratch.values, &mut scratch.array, out)?;
     number_kinds(members, &mut scratch.numbers)?;
     append_packed(RELATION_TYPES, &scratch.numbers, &mut scratch.array, out)
 }

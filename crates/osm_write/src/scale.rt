@@ -3,7 +3,7 @@
 ghost use Rattle.std.specs.Prelude.{◌≡◌, ◌<◌, ◌^◌, ◌-◌, ◌≤ℤ◌, pos, int_div};
 ghost use Rattle.osm_value.specs.Ranges.{IsWide};
 ghost use Rattle.osm_write.specs.Arrays.{IsWideOrNone};
-ghost use Rattle.osm_write.specs.Canon.{index_of, raw_place, times_of};
+ghost use Rattle.osm_write.specs.Canon.{index_of, raw_coordinate, times_of};
 ghost use Rattle.osm_write.specs.Scale.{view};
 
 use crate::texts::TextTable;
@@ -11,7 +11,7 @@ use crate::texts::TextTable;
 #[derive(Drop)]
 pub(crate) struct Scale<'a> {
     pub(crate) texts: TextTable<'a>,
-    /// All places are divisible by 100.
+    /// All coordinates are divisible by 100.
     pub(crate) hundreds: bool,
     /// All times are divisible by 1000.
     pub(crate) thousands: bool,
@@ -22,13 +22,13 @@ impl<'a> Scale<'a> {
         ensures exact { result ≡ index_of (view self.now) text.now }
         ensures small { result < 2 ^ 62 - 1 }
     {
-        self.texts.place_of(text) as u64 + 1
+        self.texts.index_of(text) as u64 + 1
     }
 
-    /// The number that stands for a place.
-    pub(crate) fn raw_place(&self, nanodegrees: i64) -> i64
+    /// The number that stands for a coordinate.
+    pub(crate) fn raw_coordinate(&self, nanodegrees: i64) -> i64
         requires { IsWide nanodegrees }
-        ensures exact { result ≡ raw_place (view self.now) nanodegrees }
+        ensures exact { result ≡ raw_coordinate (view self.now) nanodegrees }
         ensures in_range { IsWide result }
     {
         if self.hundreds {

@@ -3,7 +3,7 @@
 ghost use Rattle.std.specs.Prelude.{◌≡◌, ◌+◌, ◌<◌, ◌^◌, List, [], map, suc, OnOk, length};
 ghost use Rattle.osm_value.specs.Value.{Text};
 ghost use Rattle.osm_write.specs.Texts.{Knows, with_text};
-ghost use Rattle.osm_write.specs.Canon.{place_of};
+ghost use Rattle.osm_write.specs.Canon.{index_in};
 
 use std::alloc::{AllocError, Global};
 use std::collections::HashMap;
@@ -15,7 +15,7 @@ use std::marker::Model;
 #[derive(Drop)]
 pub(crate) struct TextTable<'a> {
     texts: Vec<&'a str>,
-    places: HashMap<&'a str, usize>,
+    indexes: HashMap<&'a str, usize>,
 }
 
 impl<'a> Model for TextTable<'a> {
@@ -23,7 +23,7 @@ impl<'a> Model for TextTable<'a> {
 
     ghost view = { λ t. map (λ s. s.now) t.texts.items };
 
-    ghost invariant = { λ t. Knows t.places (map (λ s. s.now) t.texts.items) };
+    ghost invariant = { λ t. Knows t.indexes (map (λ s. s.now) t.texts.items) };
 }
 
 impl<'a> TextTable<'a> {
@@ -32,7 +32,7 @@ impl<'a> TextTable<'a> {
     {
         TextTable {
             texts: Vec::new(alloc),
-            places: HashMap::new(alloc),
+            indexes: HashMap::new(alloc),
         }
     }
 
@@ -46,24 +46,24 @@ impl<'a> TextTable<'a> {
     pub fn add(&mut self, text: &'a str) -> Result<(), AllocError>
         ensures { OnOk result (self.new ≡ with_text self.old text.now) }
     {
-        if self.places.get(text).is_some() {
+        if self.indexes.get(text).is_some() {
             return Ok(());
         }
-        let place = self.texts.len();
+        let index = self.texts.len();
         self.texts.reserve(1)?;
-        self.places.insert(text, place)?;
+        self.indexes.insert(text, index)?;
         self.texts.push(text)?;
         Ok(())
     }
 
-    /// The place of the text; the number of texts where it isn't there.
-    pub fn place_of(&self, text: &str) -> usize
-        ensures exact { result ≡ place_of text.now self.now }
+    /// The index of the text; the number of texts where it isn't there.
+    pub fn index_of(&self, text: &str) -> usize
+        ensures exact { result ≡ index_in text.now self.now }
         ensures small { result < 2 ^ 61 }
     {
         let count = self.texts.as_slice().len();
-        match self.places.get(text) {
-            Some(place) => *place,
+        match self.indexes.get(text) {
+            Some(index) => *index,
             None => count,
         }
     }

@@ -4,6 +4,7 @@ ghost use Rattle.std.specs.Prelude.{◌≡◌, ℕ, ◌++◌, ◌≤◌, ◌<◌
 ghost use Rattle.pbf_frame.specs.declared.fault.FrameFault.{FrameFault};
 ghost use Rattle.pbf_frame.specs.declared.fault.FrameFault.TheVariants.{Trailing};
 ghost use Rattle.pbf_frame.specs.declared.blob.BlobFault.{BlobFault};
+ghost use Rattle.pbf_frame.specs.declared.blob.TheConstants.{MAX_RAW};
 ghost use Rattle.pbf_frame.specs.Write.{blob_bytes, frame_bytes};
 ghost use Rattle.pbf_frame.specs.Fault.{number_of};
 ghost use Rattle.pbf_frame.specs.Parts.{EndsTooFar};
@@ -76,6 +77,6 @@ pub fn fault_stays()
 
 /// A written frame is a frame, and its Blob holds the raw payload.
 pub fn written_frame_is_a_frame()
-    ensures frame { (name payload : List ℕ) → length name ≤ 9 → length payload ≤ 33554431 → Frame name (blob_bytes payload) (frame_bytes name payload) }
-    ensures raw { (payload : List ℕ) → length payload ≤ 33554431 → Raw (blob_bytes payload) payload }
+    ensures frame { (name payload : List ℕ) → length name ≤ 9 → length payload ≤ MAX_RAW → Frame name (blob_bytes payload) (frame_bytes name payload) }
+    ensures raw { (payload : List ℕ) → length payload ≤ MAX_RAW → Raw (blob_bytes payload) payload }
 {}

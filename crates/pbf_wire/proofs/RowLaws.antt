@@ -1,4 +1,4 @@
--- The plain reading of a row of numbers against what a row of numbers is.
+-- The plain reading of a packed array against what a packed array is.
 use Rattle.std.proofs.Common.{◌≡◌, ℕ, zero, suc, ◌+◌, ◌-◌, ◌<◌, ◌≤◌, List, [], ◌∷◌, ◌++◌, length, take, drop, Some, None, Result, Ok, Err, refl, sym, ap, subst, inl, inr, ◌∙◌, arith, append_assoc}
 use Rattle.std.proofs.lemmas.List.{drop_at, drop-drop, length-append, length-take, length-drop, take-append-drop}
 use Rattle.std.proofs.Math.Seq.{take-add}
@@ -13,7 +13,7 @@ use Rattle.pbf_wire.proofs.Choices.{ok_is, err_is, not_both, neither_both, then_
 use Rattle.pbf_wire.proofs.FieldLaws.{number_at_takes, number_at_again, number_at_faults, faults_at_again}
 use Rattle.pbf_wire.proofs.ReadingLaws.{is_front, is_fault, front_is, fault_is}
 
--- ---- one number of the row
+-- ---- one number of the array
 
 drop_rest : (n b : ℕ) (bs : List ℕ) → 0 < n → drop (n - 1) bs ≡ drop n (b ∷ bs)
 drop_rest zero b bs lt = absurd (omega arith)
@@ -31,7 +31,7 @@ unfolding row_within
 row_none zero at = refl
 row_none (suc left) at = refl
 
--- ---- a row
+-- ---- an array
 
 takes_of : (left at b : ℕ) (bs ns : List ℕ) → ((x : ℕ) (v ms : List ℕ) → length v ≤ left → all_ok (row_within left x v) ≡ Ok ms → Row ms v) → length bs ≤ left
     → (r : Result (ℕ × ℕ) WireFaultKind) → number_at (b ∷ bs) ≡ r → all_ok (items_of left at b bs r) ≡ Ok ns → Row ns (b ∷ bs)
@@ -79,7 +79,7 @@ row_again (n ∷ ns) left at w few h = step_again left at w n h.0 h.1 (Ok ns) h.
 abbrev failed_row : WireFault → Result (List ℕ) WireFault
 failed_row fault = Err fault
 
--- what items that end in a fault say of w, which stands at a place
+-- what items that end in a fault say of w, which stands at an offset
 pub record RowBreaks (at : ℕ) (w : List ℕ) (fault : WireFault) : Type 0 where
   pub ns : List ℕ
   pub len : ℕ

@@ -1,4 +1,4 @@
--- What is read from a payload: its field list, its rows of numbers, and the values of its fields.
+-- What is read from a payload: its field list, its packed arrays, and the values of its fields.
 -- Protocol Buffers, Encoding, "Message Structure", "Packed Repeated Fields", "Last One Wins" and "More Integer Types".
 -- All of these are functions: of a payload that is no field list they give what stands in front of its first fault.
 use Rattle.std.specs.Prelude.{ℕ, zero, suc, ◌+◌, ◌-◌, ◌/◌, ◌%◌, ◌^◌, ◌==◌, List, [], ◌∷◌, length, drop, Option, Some, None, Result, Ok, Err, ℤ, pos, negsuc, Bool, true, false, cond}
@@ -34,7 +34,7 @@ abbrev pub number_and : Result (ℕ × ℕ) WireFault → (ℕ → List (Result 
 number_and (Ok n) behind = Ok n.0 ∷ behind n.1
 number_and (Err fault) behind = Err fault ∷ []
 
--- the numbers of a packed payload from a place on, at most `left`, and last the first fault; each takes one byte or more
+-- the numbers of a packed payload from an offset on, at most `left`, and last the first fault; each takes one byte or more
 unfoldable pub row_within : ℕ → ℕ → List ℕ → List (Result ℕ WireFault)
 row_within left at [] = []
 row_within zero at (b ∷ bs) = []
@@ -79,7 +79,7 @@ abbrev pub bytes_of : Content → Option (List ℕ)
 bytes_of (Bytes bs) = Some bs
 bytes_of _ = None
 
--- one number, or a row of them
+-- one number, or a packed array of them
 abbrev pub numbers_of : Content → Option (List ℕ)
 numbers_of (Number n) = Some (n ∷ [])
 numbers_of (Bytes bs) = Some (numbers bs)

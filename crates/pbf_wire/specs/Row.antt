@@ -1,4 +1,4 @@
--- Rows of numbers. Protocol Buffers, Encoding, "Packed Repeated Fields".
+-- Packed arrays of numbers. Protocol Buffers, Encoding, "Packed Repeated Fields".
 use Rattle.std.specs.Prelude.{◌≡◌, ℕ, ◌<◌, List, [], ◌∷◌, ◌++◌, length, take, drop}
 use Rattle.pbf_wire.specs.declared.fault.WireFault.{WireFault}
 use Rattle.pbf_wire.specs.Number.{Num, NumberFault}

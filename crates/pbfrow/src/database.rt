@@ -9,10 +9,11 @@ use crate::metered::{BlobLines, MeteredOutput, MeteredReader, MeteredStore};
 use osm_import::{Inlet, Stop};
 use osm_store::{Keeper, Reader, StoreFault, TableStore};
 use osm_value::Outlet;
+use pbf_frame::MAX_OFFSET;
 use pbfrow_commands::export::export;
 use pbfrow_commands::find::find;
 use pbfrow_commands::import::import;
-use pbfrow_commands::report::{put_fault_at, put_store_fault};
+use pbfrow_commands::report::{put_fault_at, put_store_fault, refuse_memory};
 use pbfrow_commands::status::status;
 use pbfrow_words::Question;
 use sqlite::{Alter, Connection, Error, ErrorCode};
@@ -80,7 +81,7 @@ fn imported<R: Read + Drop, K: Keeper, W: Write>(
     from: u64,
     out: &mut Outlet<W>,
 ) -> u8
-    requires { from ≤ 4611686018427387904 }
+    requires { from ≤ MAX_OFFSET }
 {
     import(alloc, &mut Inlet::new(reader), store, from, out)
 }
@@ -94,7 +95,7 @@ fn filled<S: Alter + Drop, R: Read + Drop, W: Write>(
     from: u64,
     out: &mut Outlet<W>,
 ) -> (u8, Option<Connection<S>>)
-    requires within { from ≤ 4611686018427387904 }
+    requires within { from ≤ MAX_OFFSET }
     requires settled { (state S.Store connection).in_transaction ≡ false }
 {
     match adopted_or_created(connection) {
@@ -153,7 +154,7 @@ fn fill_from<R: Read + Drop, W: Write>(
     meter: &Meter,
     out: &mut Outlet<W>,
 ) -> u8
-    requires { from ≤ 4611686018427387904 }
+    requires { from ≤ MAX_OFFSET }
 {
     let (status, connection) = match Connection::open(rt, database) {
         Ok(connection) => filled(rt.alloc(), connection, reader, from, out),
@@ -169,21 +170,24 @@ fn fill_from<R: Read + Drop, W: Write>(
 
 /// Imports a file into a database, starting at the offset `from`, and answers the exit status. If the file can't be
 /// opened, no database is made.
-pub(crate) fn fill(rt: &HostRuntime, file: &str, database: &str, from: u64) -> io::Result<u8>
-    requires { from ≤ 4611686018427387904 }
+pub(crate) fn fill(rt: &HostRuntime, file: &str, database: &str, from: u64) -> u8
+    requires { from ≤ MAX_OFFSET }
 {
     let meter = Meter::new(rt, true);
     let lines = BlobLines::new(MeteredOutput::new(io::writer(rt), &meter), &meter);
     // each line goes out before more is read
-    let mut out = Outlet::new(LineWriter::new(rt.alloc(), lines)?);
+    let Ok(lines) = LineWriter::new(rt.alloc(), lines) else {
+        return refuse_memory(&mut Outlet::new(io::writer(rt)), Some(from));
+    };
+    let mut out = Outlet::new(lines);
     let Ok(input) = File::open(rt, file) else {
         let fault = Stop::ReadFailed;
         put_fault_at(&mut out, fault.number(), fault.name(), from);
-        return Ok(FAULTY);
+        return FAULTY;
     };
     meter.measure(&input);
     let reader = MeteredReader::new(input, &meter);
-    Ok(fill_from(rt, reader, database, from, &meter, &mut out))
+    fill_from(rt, reader, database, from, &meter, &mut out)
 }
 
 /// Asks a question of a database file, and answers the exit status.
@@ -204,15 +208,18 @@ fn ask_in<W: Write>(
 }
 
 /// Asks a question of a database, and answers the exit status. If there is no database, none is made.
-pub(crate) fn ask(rt: &HostRuntime, database: &str, question: Question) -> io::Result<u8> {
+pub(crate) fn ask(rt: &HostRuntime, database: &str, question: Question) -> u8 {
     let meter = Meter::new(rt, matches!(question, Question::Export { .. }));
     let output = MeteredOutput::new(io::writer(rt), &meter);
-    let mut out = Outlet::new(BufWriter::new(rt.alloc(), output)?);
+    let Ok(output) = BufWriter::new(rt.alloc(), output) else {
+        return refuse_memory(&mut Outlet::new(io::writer(rt)), None);
+    };
+    let mut out = Outlet::new(output);
     let status = ask_in(rt, database, question, &meter, &mut out);
     let flushed = out.flush();
     meter.erase();
     match flushed {
-        Ok(()) => Ok(status),
-        Err(_) => Ok(FAULTY),
+        Ok(()) => status,
+        Err(_) => FAULTY,
     }
 }

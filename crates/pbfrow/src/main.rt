@@ -13,12 +13,14 @@ use clap::Error;
 use database::{ask, fill};
 use meter::Meter;
 use metered::{MeteredOutput, MeteredReader};
+use osm_value::Outlet;
 use pbfrow_commands::check::check;
 use pbfrow_commands::input::refuse_input;
 use pbfrow_commands::list::list;
+use pbfrow_commands::report::refuse_memory;
 use pbfrow_commands::show::show;
 use pbfrow_words::{Reading, Words, read_words};
-use std::alloc::Global;
+use std::alloc::{AllocError, Global};
 use std::fs::File;
 use std::io::{BufWriter, ErrorKind, Read, Write};
 use std::process::ExitCode;
@@ -40,26 +42,40 @@ fn main(rt: HostRuntime) -> ExitCode {
 
 /// Runs the program with the words that it was started with, and answers the exit status.
 fn entered(rt: HostRuntime) -> io::Result<u8> {
-    let alloc = rt.alloc();
-    let words: Vec<String> = match env::args(&rt) {
-        Ok(words) => words.collect(alloc)?,
-        Err(error) => return refuse_bytes(&rt, error),
+    let words = match words_of(&rt) {
+        Ok(words) => words,
+        Err(error) => return refuse_words(&rt, error),
     };
-    let mut texts: Vec<&str> = Vec::new(alloc);
-    for word in words.iter() {
-        texts.push(word.as_str())?;
-    }
+    let Ok(texts) = texts_of(rt.alloc(), &words) else {
+        return Ok(refuse_memory(&mut Outlet::new(io::writer(&rt)), None));
+    };
     answer(rt, texts.as_slice())
 }
 
-/// Reports that an argument isn't UTF-8, and answers the exit status. Any other error is passed on.
-fn refuse_bytes(rt: &HostRuntime, error: io::Error) -> io::Result<u8> {
-    if error.kind() != ErrorKind::InvalidData {
-        return Err(error);
+fn words_of(rt: &HostRuntime) -> io::Result<Vec<String>> {
+    Ok(env::args(rt)?.collect(rt.alloc())?)
+}
+
+fn texts_of<'a>(alloc: Global, words: &'a [String]) -> Result<Vec<&'a str>, AllocError> {
+    let mut texts = Vec::new(alloc);
+    for word in words {
+        texts.push(word.as_str())?;
     }
-    // the status is the same if this can't be written
-    let _told = eprintln!(rt; "pbfrow: an argument isn't valid UTF-8");
-    Ok(INVALID_ARGUMENTS)
+    Ok(texts)
+}
+
+/// Reports that an argument isn't UTF-8, or that memory was refused, and answers the exit status. Any other error is
+/// passed on.
+fn refuse_words(rt: &HostRuntime, error: io::Error) -> io::Result<u8> {
+    match error.kind() {
+        ErrorKind::InvalidData => {
+            // the status is the same if this can't be written
+            let _told = eprintln!(rt; "pbfrow: an argument isn't valid UTF-8");
+            Ok(INVALID_ARGUMENTS)
+        }
+        ErrorKind::OutOfMemory => Ok(refuse_memory(&mut Outlet::new(io::writer(rt)), None)),
+        _ => Err(error),
+    }
 }
 
 fn answer<'a>(rt: HostRuntime, words: &'a [&'a str]) -> io::Result<u8> {
@@ -88,15 +104,18 @@ fn run(rt: HostRuntime, words: Words) -> io::Result<u8>
             file,
             database,
             from,
-        } => fill(&rt, file, database, from.unwrap_or(0)),
-        Words::Ask { database, question } => ask(&rt, database, question),
+        } => Ok(fill(&rt, file, database, from.unwrap_or(0))),
+        Words::Ask { database, question } => Ok(ask(&rt, database, question)),
     }
 }
 
 /// Runs a command on the file, or where there is none on standard input.
 fn run_on_file(rt: HostRuntime, reading: Reading, file: Option<&str>) -> io::Result<u8> {
     let meter = Meter::new(&rt, reading == Reading::Check);
-    let mut out = BufWriter::new(rt.alloc(), MeteredOutput::new(io::writer(&rt), &meter))?;
+    let output = MeteredOutput::new(io::writer(&rt), &meter);
+    let Ok(mut out) = BufWriter::new(rt.alloc(), output) else {
+        return Ok(refuse_memory(&mut Outlet::new(io::writer(&rt)), Some(0)));
+    };
     let status = match file {
         None => read_with(rt.alloc(), reading, &mut rt.stdin(), &meter, &mut out),
         Some(name) => match File::open(&rt, name) {

@@ -124,6 +124,8 @@ impl<K: Reader> Reader for MeteredStore<'_, K> {
 
     ghost leaves_a_map = { λ m. K.leaves_a_map m.store };
 
+    ghost same_tables = { λ m n. K.same_tables m.store n.store };
+
     ghost is_honest = { λ m. K.is_honest m.store };
 
     ghost is_open = { λ m. K.is_open m.store };
@@ -165,6 +167,12 @@ impl<K: Reader> Reader for MeteredStore<'_, K> {
     }
 
     ghost settled = { λ m held left h l. K.settled m.store held left h l };
+
+    ghost open_or_shut = { λ m honest. K.open_or_shut m.store honest };
+
+    ghost same_tables_self = { λ m. K.same_tables_self m.store };
+
+    ghost same_tables_then = { λ first next last one two. K.same_tables_then first.store next.store last.store one two };
 
     ghost leaves_held = { λ m held h. K.leaves_held m.store held h };
 

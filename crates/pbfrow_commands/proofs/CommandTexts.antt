@@ -1,11 +1,11 @@
 -- Pieces of the lines of commands, joined.
-use Rattle.std.proofs.Common.{◌≡◌, ℕ, List, ◌++◌, ap, ◌∙◌, append_assoc}
+use Rattle.std.proofs.Common.{◌≡◌, ℕ, List, ◌++◌, append_assoc}
 use Rattle.std.specs.Prelude.{codes}
 use Rattle.std.specs.Fmt.{decimal}
 use Rattle.osm_import.specs.declared.stream.summary.Summary.{Summary}
 use Rattle.osm_value.specs.Line.{line}
 use Rattle.osm_value.specs.declared.element.Element.{Element}
-use Rattle.pbfrow_commands.specs.CommandLines.{plain_fault_line, kept_text, summary_line, gap_line, counts_line, match_line}
+use Rattle.pbfrow_commands.specs.CommandLines.{kept_text, summary_line, gap_line, counts_line, match_line}
 
 four : (b x y z w : List ℕ) → (((b ++ x) ++ y) ++ z) ++ w ≡ b ++ (((x ++ y) ++ z) ++ w)
 four b x y z w = simp append_assoc
@@ -18,13 +18,6 @@ six b p q r s t u = simp append_assoc
 
 seven : (b p q r s t u v : List ℕ) → ((((((b ++ p) ++ q) ++ r) ++ s) ++ t) ++ u) ++ v ≡ b ++ ((((((p ++ q) ++ r) ++ s) ++ t) ++ u) ++ v)
 seven b p q r s t u v = simp append_assoc
-
-pub plain_fault_parts : (before : List ℕ) (number m : ℕ) (name n : List ℕ) → m ≡ number → n ≡ name
-    → ((((before ++ codes "fault ") ++ decimal m) ++ codes " ") ++ n) ++ codes "\n" ≡ before ++ plain_fault_line number name
-plain_fault_parts before number m name n is named =
-    ap (λ k. ((((before ++ codes "fault ") ++ decimal k) ++ codes " ") ++ n) ++ codes "\n") is
-    ∙ ap (λ (v : List ℕ). ((((before ++ codes "fault ") ++ decimal number) ++ codes " ") ++ v) ++ codes "\n") named
-    ∙ five before (codes "fault ") (decimal number) (codes " ") name (codes "\n")
 
 pub kept_parts : (before : List ℕ) (s : Summary) → (((before ++ codes "blobs stored ") ++ decimal s.stored) ++ codes " held ") ++ decimal s.held ≡ before ++ kept_text s
 kept_parts before s = four before (codes "blobs stored ") (decimal s.stored) (codes " held ") (decimal s.held)

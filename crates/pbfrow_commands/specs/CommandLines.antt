@@ -1,19 +1,22 @@
 -- The lines of `import`, `status`, `export` and `find`, beside those of the importer.
-use Rattle.std.specs.Prelude.{ℕ, List, ◌++◌, codes}
+use Rattle.std.specs.Prelude.{ℕ, List, ◌++◌, Option, Some, None, codes}
 use Rattle.std.specs.List.{flat_map}
 use Rattle.std.specs.Fmt.{decimal}
 use Rattle.osm_value.specs.Line.{line}
 use Rattle.osm_store.specs.Faults.{number_of, name_of}
 use Rattle.osm_store.specs.Rows.{Placed}
 use Rattle.osm_store.specs.declared.fault.StoreFault.{StoreFault}
+use Rattle.osm_store.specs.declared.fault.StoreFault.TheVariants.{Memory}
+use Rattle.osm_import.specs.Lines.{plain_fault_line, fault_line}
 use Rattle.osm_import.specs.declared.stream.summary.Summary.{Summary}
-
--- the line of a fault of the whole store
-abbrev pub plain_fault_line : ℕ → List ℕ → List ℕ
-plain_fault_line number name = codes "fault " ++ decimal number ++ codes " " ++ name ++ codes "\n"
 
 abbrev pub store_fault_line : StoreFault → List ℕ
 store_fault_line fault = plain_fault_line (number_of fault) (name_of fault)
+
+-- refused memory: of a command as a whole, or at an offset
+abbrev pub memory_line : Option ℕ → List ℕ
+memory_line None = store_fault_line Memory
+memory_line (Some at) = fault_line (number_of Memory) (name_of Memory) at
 
 abbrev pub kept_text : Summary → List ℕ
 kept_text s = codes "blobs stored " ++ decimal s.stored ++ codes " held " ++ decimal s.held

@@ -10,8 +10,7 @@ ghost use Rattle.osm_import.specs.declared.export.fault.ExportFault.{ExportFault
 ghost use Rattle.osm_import.specs.Stores.{Stays};
 ghost use Rattle.pbfrow_commands.specs.Exporting.{EndsExport};
 
-use crate::report::put_plain_fault;
-use osm_import::{ExportFault, export_lines, export_pbf};
+use osm_import::{ExportFault, export_lines, export_pbf, put_plain_fault};
 use osm_store::Reader;
 use osm_value::{Form, Sink};
 use std::alloc::Global;

@@ -11,6 +11,8 @@ use std::io;
 use std::io::Write;
 
 /// Writes `fault NUMBER NAME at OFFSET`, with the offset of the frame to which the fault applies.
+// `put_fault_at` writes the same line to a sink. It can't be called here: of a sink that borrows `out` no contract says
+// that it still has the same writer after the call.
 pub(crate) fn print_fault<W: Write>(number: u8, name: &str, at: u64, out: &mut W) -> io::Result<()>
     ensures { OnOk result (Appends (W.contents out.old) (W.contents out.new) (fault_line number name.now at)) }
 {

@@ -14,6 +14,7 @@ use crate::report::{put_fault_at, put_summary};
 use osm_import::{Source, Stop, StreamFault, Summary, import_stream};
 use osm_store::Keeper;
 use osm_value::Sink;
+use pbf_frame::MAX_OFFSET;
 use std::alloc::Global;
 
 /// The most blobs that one import may store.
@@ -54,7 +55,7 @@ fn import_from<R: Source, K: Keeper, S: Sink>(
     from: u64,
     out: &mut S,
 ) -> Result<Summary, StreamFault>
-    requires { from ≤ 4611686018427387904 }
+    requires { from ≤ MAX_OFFSET }
     ensures imports { Imports from (input R.Source reader.old reader.new) (output S.Sink out.old out.new) (store.new ≡ store.old) (Takes K.Reader store.old store.new) result }
     ensures one_file { (file : List ℕ) (held : HeldMap) → R.bytes_left reader.old ≡ Some file → from ≡ 0 → K.holds store.old held → K.is_honest store.new
         → IfOk result (λ summary. ImportsFile (K.holds store.new) file held summary) }
@@ -106,7 +107,7 @@ pub fn import<R: Source, K: Keeper, S: Sink>(
     from: u64,
     out: &mut S,
 ) -> u8
-    requires { from ≤ 4611686018427387904 }
+    requires { from ≤ MAX_OFFSET }
     ensures imports { (outcome : Result SummaryValue StreamFaultValue) × (listed : Known) × Imports from (input R.Source reader.old reader.new) (record (output S.Sink out.old out.new) { after = listed })
         (store.new ≡ store.old) (Takes K.Reader store.old store.new) outcome
         × EndsLine listed (S.written out.new) (S.has_failed out.new) outcome × (result ≡ import_status outcome (S.has_failed out.new)) }

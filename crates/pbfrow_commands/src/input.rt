@@ -26,7 +26,7 @@ pub(crate) fn flush_to_wait<R: Source, W: Write>(
     ensures frames { frames.new ≡ frames.old }
     ensures output { Keeps (W.contents out.old) (W.contents out.new) }
 {
-    if frames.is_ready() {
+    if let Ok(true) = frames.is_ready() {
         return Ok(());
     }
     out.flush()

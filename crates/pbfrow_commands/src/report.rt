@@ -2,29 +2,32 @@
 
 ghost use Rattle.std.specs.Prelude.{◌≡◌};
 ghost use Rattle.osm_value.specs.Sink.{Writes};
-ghost use Rattle.pbfrow_commands.specs.CommandLines.{kept_text, plain_fault_line, store_fault_line, summary_line};
+ghost use Rattle.pbfrow_commands.specs.CommandLines.{kept_text, memory_line, store_fault_line, summary_line};
 
-use osm_import::Summary;
 pub use osm_import::put_fault_at;
+use osm_import::{Summary, put_plain_fault};
 use osm_store::StoreFault;
 use osm_value::{Sink, put, put_digits};
-
-/// Writes `fault NUMBER NAME`: a fault of the database as a whole.
-pub(crate) fn put_plain_fault<S: Sink>(out: &mut S, number: u8, name: &str)
-    ensures { Writes (S.written out.old) (S.has_failed out.old) (S.written out.new) (S.has_failed out.new) (plain_fault_line number name.now) }
-{
-    put(out, b"fault ");
-    put_digits(out, u64::from(number));
-    put(out, b" ");
-    put(out, name.as_bytes());
-    put(out, b"\n");
-}
 
 /// Writes the line of a fault of the store.
 pub fn put_store_fault<S: Sink>(out: &mut S, fault: StoreFault)
     ensures { Writes (S.written out.old) (S.has_failed out.old) (S.written out.new) (S.has_failed out.new) (store_fault_line fault) }
 {
     put_plain_fault(out, fault.number(), fault.name());
+}
+
+/// Writes the line of refused memory, with the offset where the command has one, and answers the exit status, 1. The line
+/// itself takes no memory.
+pub fn refuse_memory<S: Sink>(out: &mut S, at: Option<u64>) -> u8
+    ensures line { Writes (S.written out.old) (S.has_failed out.old) (S.written out.new) (S.has_failed out.new) (memory_line at) }
+    ensures status { result ≡ 1 }
+{
+    let fault = StoreFault::Memory;
+    match at {
+        Some(off) => put_fault_at(out, fault.number(), fault.name(), off),
+        None => put_store_fault(out, fault),
+    }
+    1
 }
 
 /// Writes `blobs stored STORED held HELD`.

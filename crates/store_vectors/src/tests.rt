@@ -1,7 +1,12 @@
 mod batches;
+mod bodies;
 mod copies;
 mod deliveries;
+mod faults;
+mod fixtures;
+mod memory;
 mod parts;
+mod steps;
 mod stops;
 mod stores;
 mod tables;

@@ -8,6 +8,7 @@ use osm_store::Keeper;
 use osm_value::{Form, MemberKind, Outlet};
 use pbfrow_commands::export::export;
 use pbfrow_commands::find::find;
+use pbfrow_commands::report::refuse_memory;
 use pbfrow_commands::status::status;
 use std::alloc::Global;
 use std::io::Cursor;
@@ -269,4 +270,16 @@ fn a_write_that_fails_ends_with_1_of<K: NewStore, R: Abort + Alloc<A = Global>>(
 fn a_write_that_fails_ends_with_1(rt: HostRuntime) -> Result<(), Fail> {
     a_write_that_fails_ends_with_1_of::<Blocks, _>(&rt)?;
     a_write_that_fails_ends_with_1_of::<Columns, _>(&rt)
+}
+
+#[test]
+fn lines_of_refused_memory(rt: HostRuntime) {
+    for (at, line) in [
+        (None, b"fault 65 Memory\n".as_slice()),
+        (Some(47), b"fault 65 Memory at 47\n".as_slice()),
+    ] {
+        let mut out = Outlet::new(Vec::new(rt.alloc()));
+        assert_eq!(rt; refuse_memory(&mut out, at), 1);
+        assert!(rt; out.into_inner().as_slice() == line);
+    }
 }

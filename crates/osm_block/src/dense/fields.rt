@@ -6,50 +6,50 @@ ghost use Rattle.std.specs.Option.{option_or, is_some};
 ghost use Rattle.pbf_wire.specs.Field.{content_of};
 ghost use Rattle.pbf_wire.specs.Readings.{fields, wire, packed, each, nums, fitting, is_there};
 ghost use Rattle.osm_block.specs.Message.{Dense, dense_message, some_visible, wires};
-ghost use Rattle.osm_block.specs.Columns.{first_there};
+ghost use Rattle.osm_block.specs.FieldsLeft.{first_there};
 ghost use Rattle.osm_block.specs.Dense.{dense_message_of};
-ghost use Rattle.osm_block.specs.DenseFieldsRead.{ColumnRead, ColumnRead32, DenseInfoRead};
+ghost use Rattle.osm_block.specs.DenseFieldsRead.{ArrayRead, ArrayRead32, DenseInfoRead};
 ghost use Rattle.osm_block.specs.Phases.{Gives, first, wire_phases};
 
-use crate::column::Column;
 use crate::fault::{BlockError, BlockFault};
 use crate::fields::{
     DENSE_DENSEINFO, DENSE_ID, DENSE_KEYS_VALS, DENSE_LAT, DENSE_LON, DENSEINFO_CHANGESET,
     DENSEINFO_TIMESTAMP, DENSEINFO_UID, DENSEINFO_USER_SID, DENSEINFO_VERSION, DENSEINFO_VISIBLE,
 };
-use crate::readings::{each_of_all, first_wire, low_32};
+use crate::number_array::NumberArray;
+use crate::payloads::{each_of_all, first_wire, low_32};
 use pbf_wire::{Fields, Value, WireFault};
 use std::alloc::{AllocError, Global};
 
 /// The arrays of a DenseInfo. They are read into again for each message.
 #[derive(Drop)]
 pub struct DenseInfoFields {
-    pub versions: Column,
-    pub timestamps: Column,
-    pub changesets: Column,
-    pub uids: Column,
-    pub users: Column,
+    pub versions: NumberArray,
+    pub timestamps: NumberArray,
+    pub changesets: NumberArray,
+    pub uids: NumberArray,
+    pub users: NumberArray,
     pub has_visible: bool,
 }
 
 /// The arrays of a message of dense nodes. They are read into again for each message.
 #[derive(Drop)]
 pub struct DenseFields {
-    pub ids: Column,
-    pub lats: Column,
-    pub lons: Column,
-    pub keys_vals: Column,
+    pub ids: NumberArray,
+    pub lats: NumberArray,
+    pub lons: NumberArray,
+    pub keys_vals: NumberArray,
     pub info: DenseInfoFields,
 }
 
 impl DenseInfoFields {
     fn new(alloc: Global) -> DenseInfoFields {
         DenseInfoFields {
-            versions: Column::new(alloc),
-            timestamps: Column::new(alloc),
-            changesets: Column::new(alloc),
-            uids: Column::new(alloc),
-            users: Column::new(alloc),
+            versions: NumberArray::new(alloc),
+            timestamps: NumberArray::new(alloc),
+            changesets: NumberArray::new(alloc),
+            uids: NumberArray::new(alloc),
+            users: NumberArray::new(alloc),
             has_visible: false,
         }
     }
@@ -67,10 +67,10 @@ impl DenseInfoFields {
 impl DenseFields {
     pub(crate) fn new(alloc: Global) -> DenseFields {
         DenseFields {
-            ids: Column::new(alloc),
-            lats: Column::new(alloc),
-            lons: Column::new(alloc),
-            keys_vals: Column::new(alloc),
+            ids: NumberArray::new(alloc),
+            lats: NumberArray::new(alloc),
+            lons: NumberArray::new(alloc),
+            keys_vals: NumberArray::new(alloc),
             info: DenseInfoFields::new(alloc),
         }
     }
@@ -79,48 +79,48 @@ impl DenseFields {
     fn fault(&self) -> Option<WireFault>
         ensures { result ≡ option_or self.now.ids.fault (option_or self.now.lats.fault (option_or self.now.lons.fault self.now.keys_vals.fault)) }
     {
-        let places = self.lats.fault.or(self.lons.fault.or(self.keys_vals.fault));
-        self.ids.fault.or(places)
+        let others = self.lats.fault.or(self.lons.fault.or(self.keys_vals.fault));
+        self.ids.fault.or(others)
     }
 }
 
-/// Appends the numbers of the fields `number` of one payload.
-fn take_fields(payload: &[u8], number: u32, column: &mut Column) -> Result<(), AllocError>
-    ensures numbers { OnOk result (column.new.numbers.items ≡ column.old.numbers.items ++ nums (fields payload.now) number) }
-    ensures fault { OnOk result (column.new.fault ≡ option_or column.old.fault (first_there (map packed (each (fields payload.now) number)))) }
+/// Appends the numbers of the fields `number` of one payload to the array.
+fn take_fields(payload: &[u8], number: u32, array: &mut NumberArray) -> Result<(), AllocError>
+    ensures numbers { OnOk result (array.new.numbers.items ≡ array.old.numbers.items ++ nums (fields payload.now) number) }
+    ensures fault { OnOk result (array.new.fault ≡ option_or array.old.fault (first_there (map packed (each (fields payload.now) number)))) }
 {
     for field in Fields::new(payload) {
         let Ok(field) = field else {
             return Ok(());
         };
         if field.number == number {
-            column.take(field.value)?;
+            array.take(field.value)?;
         }
     }
     Ok(())
 }
 
 /// Reads the numbers of the fields `number` of all payloads.
-fn read_column(payloads: &[&[u8]], number: u32, column: &mut Column) -> Result<(), AllocError>
-    ensures { OnOk result (ColumnRead column.new number (flat_map fields (map (λ p. p.now) payloads.now))) }
+fn read_array(payloads: &[&[u8]], number: u32, array: &mut NumberArray) -> Result<(), AllocError>
+    ensures { OnOk result (ArrayRead array.new number (flat_map fields (map (λ p. p.now) payloads.now))) }
 {
-    column.clear();
+    array.clear();
     for payload in payloads {
-        take_fields(payload, number, column)?;
+        take_fields(payload, number, array)?;
     }
     Ok(())
 }
 
 /// The same of numbers of 32 bits.
-fn read_column_32(payloads: &[&[u8]], number: u32, column: &mut Column) -> Result<(), AllocError>
-    ensures { OnOk result (ColumnRead32 column.new number (flat_map fields (map (λ p. p.now) payloads.now))) }
+fn read_array_32(payloads: &[&[u8]], number: u32, array: &mut NumberArray) -> Result<(), AllocError>
+    ensures { OnOk result (ArrayRead32 array.new number (flat_map fields (map (λ p. p.now) payloads.now))) }
 {
-    read_column(payloads, number, column)?;
-    low_32(&mut column.numbers);
+    read_array(payloads, number, array)?;
+    low_32(&mut array.numbers);
     Ok(())
 }
 
-/// Whether a field holds a flag of visibility: a number, or a packed row that isn't empty.
+/// Whether a field holds a flag of visibility: a number, or a packed array that isn't empty.
 fn is_flag(value: Value) -> bool
     ensures { result ≡ is_some (some_visible (content_of value.entry)) }
 {
@@ -162,11 +162,11 @@ fn has_visible(payloads: &[&[u8]]) -> bool
 fn read_infos(payloads: &[&[u8]], info: &mut DenseInfoFields) -> Result<(), AllocError>
     ensures { OnOk result (DenseInfoRead info.new (flat_map fields (map (λ p. p.now) payloads.now))) }
 {
-    read_column(payloads, DENSEINFO_VERSION, &mut info.versions)?;
-    read_column(payloads, DENSEINFO_TIMESTAMP, &mut info.timestamps)?;
-    read_column(payloads, DENSEINFO_CHANGESET, &mut info.changesets)?;
-    read_column_32(payloads, DENSEINFO_UID, &mut info.uids)?;
-    read_column_32(payloads, DENSEINFO_USER_SID, &mut info.users)?;
+    read_array(payloads, DENSEINFO_VERSION, &mut info.versions)?;
+    read_array(payloads, DENSEINFO_TIMESTAMP, &mut info.timestamps)?;
+    read_array(payloads, DENSEINFO_CHANGESET, &mut info.changesets)?;
+    read_array_32(payloads, DENSEINFO_UID, &mut info.uids)?;
+    read_array_32(payloads, DENSEINFO_USER_SID, &mut info.users)?;
     info.has_visible = has_visible(payloads);
     Ok(())
 }
@@ -182,10 +182,10 @@ pub(crate) fn read_fields<'a>(
 {
     let mut infos = Vec::new(alloc);
     each_of_all(payloads, DENSE_DENSEINFO, &mut infos)?;
-    read_column(payloads, DENSE_ID, &mut dense.ids)?;
-    read_column(payloads, DENSE_LAT, &mut dense.lats)?;
-    read_column(payloads, DENSE_LON, &mut dense.lons)?;
-    read_column(payloads, DENSE_KEYS_VALS, &mut dense.keys_vals)?;
+    read_array(payloads, DENSE_ID, &mut dense.ids)?;
+    read_array(payloads, DENSE_LAT, &mut dense.lats)?;
+    read_array(payloads, DENSE_LON, &mut dense.lons)?;
+    read_array(payloads, DENSE_KEYS_VALS, &mut dense.keys_vals)?;
     read_infos(&infos, &mut dense.info)?;
     let wires = first_wire(payloads).or(first_wire(&infos));
     match wires.or(dense.fault()).or(dense.info.fault()) {

@@ -1,17 +1,17 @@
-//! Dense nodes, built from their columns.
+//! Dense nodes, built from their arrays.
 
 ghost use Rattle.std.specs.Prelude.{◌≡◌, ◌*ℤ◌, ◌<◌, length, true, pos, IfOk, OnOk, Some, None, option_map, option_and_then, option_copied, slice_get, slice_index_or, map, ◌++◌};
 ghost use Rattle.std.specs.List.{list_all};
 ghost use Rattle.osm_value.specs.Ranges.{is_wide, is_uid, passes, AreTags};
-ghost use Rattle.osm_block.specs.Phases.{is_index, place_in_range};
-ghost use Rattle.osm_block.specs.Block.{place, time, version as version_of, text_at};
+ghost use Rattle.osm_block.specs.Phases.{is_index, coordinate_in_range};
+ghost use Rattle.osm_block.specs.Block.{coordinate, time, version as version_of, text_at};
 ghost use Rattle.osm_block.specs.Dense.{AreReady, InfoAt, NodeAt};
 ghost use Rattle.osm_block.specs.DenseRead.{AppendedNodes};
 ghost use Rattle.osm_block.specs.Fields.{context_of};
 
-use super::columns::Columns;
+use super::arrays::DenseArrays;
 use super::tags::{index_of, node_tags};
-use crate::ranges::place_of;
+use crate::ranges::coordinate_of;
 use crate::scale::Scale;
 use osm_value::{Element, Info, Node};
 use std::alloc::{AllocError, Global};
@@ -25,10 +25,10 @@ fn version_at(versions: &[i32], index: usize) -> Option<i32>
     }
 }
 
-fn number_at(column: &[i64], index: usize) -> Option<i64>
-    ensures { result ≡ slice_get column.now index }
+fn number_at(numbers: &[i64], index: usize) -> Option<i64>
+    ensures { result ≡ slice_get numbers.now index }
 {
-    column.get(index).copied()
+    numbers.get(index).copied()
 }
 
 fn time_of(date_granularity: i32, units: Option<i64>) -> Option<i64>
@@ -61,68 +61,65 @@ fn user_of<'a>(table: &[&'a str], index: Option<i64>) -> Option<&'a str>
     }
 }
 
-/// The info of the node at the place.
-fn info_at<'a>(scale: &Scale<'a>, columns: &Columns, index: usize) -> Info<'a>
-    requires ready { AreReady (context_of scale.now) columns.now }
-    requires within { index < length columns.now.ids.items }
-    ensures { InfoAt (context_of scale.now) columns.now index result }
+/// The info of the node at the index.
+fn info_at<'a>(scale: &Scale<'a>, arrays: &DenseArrays, index: usize) -> Info<'a>
+    requires ready { AreReady (context_of scale.now) arrays.now }
+    requires within { index < length arrays.now.ids.items }
+    ensures { InfoAt (context_of scale.now) arrays.now index result }
 {
-    let version = version_at(&columns.versions, index);
-    let time = time_of(
-        scale.date_granularity,
-        number_at(&columns.timestamps, index),
-    );
-    let changeset = number_at(&columns.changesets, index);
-    let uid = uid_of(number_at(&columns.uids, index));
-    let user = user_of(&scale.table, number_at(&columns.users, index));
+    let version = version_at(&arrays.versions, index);
+    let time = time_of(scale.date_granularity, number_at(&arrays.timestamps, index));
+    let changeset = number_at(&arrays.changesets, index);
+    let uid = uid_of(number_at(&arrays.uids, index));
+    let user = user_of(&scale.table, number_at(&arrays.users, index));
     Info::new(version, time, changeset, uid, user, None)
 }
 
-/// A place of that column, in nanodegrees.
-fn place_at(offset: i64, granularity: i32, units: &[i64], index: usize) -> i64
+/// The coordinate at the index, in nanodegrees.
+fn coordinate_at(offset: i64, granularity: i32, units: &[i64], index: usize) -> i64
     requires within { index < length units.now }
-    requires in_range { list_all (place_in_range offset granularity) units.now ≡ true }
-    ensures { result ≡ place offset granularity (slice_index_or units.now index (pos 0)) }
+    requires in_range { list_all (coordinate_in_range offset granularity) units.now ≡ true }
+    ensures { result ≡ coordinate offset granularity (slice_index_or units.now index (pos 0)) }
 {
-    place_of(offset, granularity, units[index])
+    coordinate_of(offset, granularity, units[index])
 }
 
-/// The node at the place, with these tags.
+/// The node at the index, with these tags.
 fn node_at<'a>(
     scale: &Scale<'a>,
-    columns: &Columns,
+    arrays: &DenseArrays,
     index: usize,
     tags: Vec<(&'a str, &'a str)>,
 ) -> Node<'a>
-    requires ready { AreReady (context_of scale.now) columns.now }
-    requires within { index < length columns.now.ids.items }
+    requires ready { AreReady (context_of scale.now) arrays.now }
+    requires within { index < length arrays.now.ids.items }
     requires tags { AreTags (map (λ t. (t.0.now, t.1.now)) tags.items) }
-    ensures node { NodeAt (context_of scale.now) columns.now index result }
+    ensures node { NodeAt (context_of scale.now) arrays.now index result }
     ensures tags { result.tags ≡ map (λ t. (t.0.now, t.1.now)) tags.entry.items }
 {
-    let ids: &[i64] = &columns.ids;
-    let info = info_at(scale, columns, index);
-    let lat = place_at(scale.lat_offset, scale.granularity, &columns.lats, index);
-    let lon = place_at(scale.lon_offset, scale.granularity, &columns.lons, index);
+    let ids: &[i64] = &arrays.ids;
+    let info = info_at(scale, arrays, index);
+    let lat = coordinate_at(scale.lat_offset, scale.granularity, &arrays.lats, index);
+    let lon = coordinate_at(scale.lon_offset, scale.granularity, &arrays.lons, index);
     Node::new(ids[index], lat, lon, tags, info)
 }
 
-/// Appends the nodes that the columns stand for.
+/// Appends the nodes that the arrays stand for.
 pub(crate) fn nodes_of<'a>(
     alloc: Global,
     scale: &Scale<'a>,
-    columns: &Columns,
+    arrays: &DenseArrays,
     out: &mut Vec<Element<'a>>,
 ) -> Result<(), AllocError>
-    requires ready { AreReady (context_of scale.now) columns.now }
-    ensures { OnOk result (AppendedNodes (context_of scale.now) columns.now out.old.items out.new.items) }
+    requires ready { AreReady (context_of scale.now) arrays.now }
+    ensures { OnOk result (AppendedNodes (context_of scale.now) arrays.now out.old.items out.new.items) }
 {
-    let count = columns.ids.len();
+    let count = arrays.ids.len();
     out.reserve(count)?;
     let mut at = 0;
     for index in 0..count {
-        let (tags, next) = node_tags(alloc, &scale.table, &columns.keys_vals, at)?;
-        let node = node_at(scale, columns, index, tags);
+        let (tags, next) = node_tags(alloc, &scale.table, &arrays.keys_vals, at)?;
+        let node = node_at(scale, arrays, index, tags);
         out.push(Element::Node(node))?;
         at = next;
     }

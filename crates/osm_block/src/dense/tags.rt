@@ -8,18 +8,18 @@ ghost use Rattle.osm_block.specs.Phases.{is_index};
 
 use std::alloc::{AllocError, Global};
 
-/// How many pairs stand from the place on, in front of the next 0.
+/// How many pairs stand from the index on, in front of the next 0.
 fn pair_count(keys_vals: &[i32], at: usize) -> usize
     requires { at ≤ length keys_vals.now }
 {
-    let mut place = at;
-    while keys_vals.len() - place >= 2 {
-        if keys_vals[place] == 0 {
-            return (place - at) / 2;
+    let mut index = at;
+    while keys_vals.len() - index >= 2 {
+        if keys_vals[index] == 0 {
+            return (index - at) / 2;
         }
-        place += 2;
+        index += 2;
     }
-    (place - at) / 2
+    (index - at) / 2
 }
 
 /// An index that the table has.
@@ -31,7 +31,7 @@ pub(crate) fn index_of(index: i64, texts: usize) -> usize
     index as usize
 }
 
-/// The tags of the node whose pairs begin at the place, and the place behind its 0.
+/// The tags of the node whose pairs begin at the index, and the index behind its 0.
 pub(crate) fn node_tags<'a>(
     alloc: Global,
     table: &[&'a str],
@@ -45,16 +45,16 @@ pub(crate) fn node_tags<'a>(
     ensures rest { IfOk result (λ r. drop r.1 keys_vals.now ≡ (front_pairs (drop at keys_vals.now)).1) }
 {
     let mut tags = Vec::with_capacity(alloc, pair_count(keys_vals, at))?;
-    let mut place = at;
-    while keys_vals.len() - place >= 2 {
-        let key = keys_vals[place];
+    let mut index = at;
+    while keys_vals.len() - index >= 2 {
+        let key = keys_vals[index];
         if key == 0 {
-            return Ok((tags, place + 1));
+            return Ok((tags, index + 1));
         }
         let key = index_of(i64::from(key), table.len());
-        let value = index_of(i64::from(keys_vals[place + 1]), table.len());
+        let value = index_of(i64::from(keys_vals[index + 1]), table.len());
         tags.push((table[key], table[value]))?;
-        place += 2;
+        index += 2;
     }
     Ok((tags, keys_vals.len()))
 }

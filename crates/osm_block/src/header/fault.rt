@@ -15,7 +15,7 @@ pub enum HeaderFault {
     BBoxIncomplete,
     #[error("a text of the header block isn't UTF-8")]
     HeaderTextNotUtf8,
-    /// The place of the feature among the required ones, from 0.
+    /// The index of the feature among the required ones, from 0.
     #[error("required feature {0} isn't known")]
     UnknownFeature(usize),
 }

@@ -17,7 +17,7 @@ use super::blobs::{BlobStep, extents_to_export, write_blobs};
 use osm_store::{Reader, StoreFault};
 use osm_value::{Element, Sink, put};
 use osm_write::{BlobCutter, WriteFault, encode_header};
-use pbf_frame::{Kind, write_frame};
+use pbf_frame::{Kind, MAX_RAW, write_frame};
 use std::alloc::Global;
 
 /// Writes the frame of this kind with this raw payload.
@@ -28,7 +28,7 @@ fn write_payload<S: Sink>(
     out: &mut S,
 ) -> Result<(), ExportFault>
     requires known { kind ≢ Other }
-    requires small { length payload.now ≤ 33554431 }
+    requires small { length payload.now ≤ MAX_RAW }
     ensures wrote { WritesBlob (S.written out.old) (frame_bytes (type_name_of kind) payload.now) (S.written out.new) result }
     ensures cause { WriteHasCause (S.has_failed out.new) result }
 {

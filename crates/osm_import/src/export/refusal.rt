@@ -5,6 +5,7 @@ ghost use Rattle.osm_import.specs.Gaps.{ranges_between};
 ghost use Rattle.osm_import.specs.Exports.{greatest_end, size_of, IsRefusalOf, AreTiling};
 
 use super::ExportFault;
+use crate::gap::gap_before;
 use osm_store::Extent;
 
 fn first_gap(extents: &[Extent], size: u64) -> Option<(u64, u64)>
@@ -12,12 +13,13 @@ fn first_gap(extents: &[Extent], size: u64) -> Option<(u64, u64)>
 {
     let mut end = 0;
     for extent in extents {
-        if end < extent.off && end < size {
-            return Some((end, extent.off.min(size)));
+        let gap = gap_before(end, extent.off, size);
+        if gap.is_some() {
+            return gap;
         }
         end = end.max(extent.fin);
     }
-    if end < size { Some((end, size)) } else { None }
+    gap_before(end, size, size)
 }
 
 /// The greatest end of extents, 0 where there is none.

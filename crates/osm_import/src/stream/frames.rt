@@ -1,9 +1,10 @@
 //! The frames of a source, one after the other.
 
-ghost use Rattle.std.specs.Prelude.{◌≡◌, ◌≤◌, ◌++◌, [], true, IfOk, IfErr};
+ghost use Rattle.std.specs.Prelude.{◌≡◌, ◌≤◌, ◌++◌, ◌↔◌, [], true, IfOk, IfErr};
 ghost use Rattle.std.specs.Borrow.{sem};
 ghost use Rattle.std.specs.Io.BufRead.{Rests};
 ghost use Rattle.std.specs.Io.KnownBytes.{prepend_known};
+ghost use Rattle.pbf_frame.specs.declared.part.TheConstants.{MAX_OFFSET};
 ghost use Rattle.osm_store.specs.declared.fault.StoreFault.TheVariants.{Memory};
 ghost use Rattle.osm_import.specs.declared.stream.fault.Stop.TheVariants.{Store};
 ghost use Rattle.osm_import.specs.FrameReads.{Reading, ReadsFrame, IsReady};
@@ -15,7 +16,7 @@ use super::reading::{absorb, read_frame};
 use super::source::Source;
 use osm_store::StoreFault;
 use pbf_frame::Framer;
-use std::alloc::Global;
+use std::alloc::{AllocError, Global};
 use std::marker::Model;
 
 /// Gives the frames of a source, one after the other. It holds one frame and one piece of the input at most.
@@ -32,7 +33,7 @@ impl<R: Source> Model for FrameReader<R> {
 
     ghost view = { λ r. record { offset = r.framer.offset; left = prepend_known (r.framer.rest ++ r.piece) (R.bytes_left r.reader); has_failed = R.has_failed r.reader; read = r.framer.rest ++ r.piece; behind = R.bytes_left r.reader } };
 
-    ghost invariant = { λ r. (r.next_at ≡ r.framer.offset) × (r.next_at ≤ 4611686018427387904) × IsBegun r.framer };
+    ghost invariant = { λ r. (r.next_at ≡ r.framer.offset) × (r.next_at ≤ MAX_OFFSET) × IsBegun r.framer };
 }
 
 impl<R: Source> FrameReader<R> {
@@ -42,7 +43,7 @@ impl<R: Source> FrameReader<R> {
     pub fn new(alloc: Global, from: u64, reader: R) -> Result<FrameReader<R>, StreamFault>
     where
         R: Drop,
-        requires { from ≤ 4611686018427387904 }
+        requires { from ≤ MAX_OFFSET }
         ensures ok { IfOk result (λ r. r ≡ record { offset = from; left = R.bytes_left reader; has_failed = R.has_failed reader; read = []; behind = R.bytes_left reader }) }
         ensures err { IfErr result (λ stop. stop ≡ record { fault = Store Memory; at = from }) }
     {
@@ -61,12 +62,12 @@ impl<R: Source> FrameReader<R> {
     }
 
     /// Whether a whole frame was read, or bytes at whose fault `next` stops: the next call of `next` then answers without
-    /// a read of the reader. False is answered also where memory was refused.
-    pub fn is_ready(&mut self) -> bool
+    /// a read of the reader. An error where memory was refused; nothing is lost by it.
+    pub fn is_ready(&mut self) -> Result<bool, AllocError>
         ensures kept { self.new ≡ self.old }
-        ensures ready { result ≡ true → IsReady self.new }
+        ensures ready { IfOk result (λ ready. (ready ≡ true) ↔ IsReady self.new) }
     {
-        matches!(absorb(&mut self.framer, &mut self.piece), Ok(true))
+        absorb(&mut self.framer, &mut self.piece)
     }
 
     /// Lends the next frame, with its offset, and gives none where the input has ended behind the frame before. The

@@ -19,7 +19,7 @@ use crate::answer::Answer;
 use crate::delivery::deliver;
 use osm_store::{Keeper, StoreFault};
 use osm_value::Sink;
-use pbf_frame::{FrameFault, Framer};
+use pbf_frame::{FrameFault, Framer, MAX_OFFSET};
 use std::alloc::Global;
 
 /// A frame that was delivered: where it stands and ends, and what it was answered with.
@@ -112,7 +112,7 @@ pub fn import_stream<K: Keeper, R: Source, S: Sink>(
     max_blobs: u32,
     out: &mut S,
 ) -> Result<Summary, StreamFault>
-    requires { from ≤ 4611686018427387904 }
+    requires { from ≤ MAX_OFFSET }
     ensures streams { Streams from max_blobs (input R.Source reader.old reader.new) (output S.Sink out.old out.new) (Takes K.Reader keeper.old keeper.new) result }
     ensures one_file { (file : List ℕ) (held : HeldMap) → R.bytes_left reader.old ≡ Some file → from ≡ 0 → K.holds keeper.old held → K.is_honest keeper.new
         → IfOk result (λ summary. ImportsFile (K.holds keeper.new) file held summary) }

@@ -1,6 +1,7 @@
 //! What a stream's blobs were answered with.
 
-ghost use Rattle.std.specs.Prelude.{◌≡◌};
+ghost use Rattle.std.specs.Prelude.{◌≡◌, ℕ, List, [], ◌∷◌, ◌++◌};
+ghost use Rattle.osm_import.specs.declared.answer.Answer.{Answer as AnswerValue};
 
 use crate::answer::Answer;
 
@@ -15,19 +16,19 @@ pub struct Summary {
 }
 
 impl Summary {
-    ghost use Rattle.osm_import.specs.Streams.{counted, HasRoom};
+    ghost use Rattle.osm_import.specs.Streams.{summary_of, HasRoom};
 
-    /// Counts a blob that ends at this offset.
+    /// Counts a blob that ends at this offset: the summary of some answers becomes that of these and one more.
     pub(super) fn add(&mut self, answer: &Answer, fin: u64)
         requires { HasRoom self.old }
-        ensures { self.new ≡ counted self.old answer.now fin }
+        ensures { (answers : List AnswerValue) (at : ℕ) → self.old ≡ summary_of answers at → self.new ≡ summary_of (answers ++ answer.now ∷ []) fin }
     {
         match answer {
             Answer::Stored(_) => self.stored += 1,
             Answer::AlreadyHeld => self.held += 1,
             Answer::Bad(_) => self.bad += 1,
             Answer::Refused(_) => self.refused += 1,
-            Answer::Fault(_) => return,
+            Answer::Fault(_) => {}
         }
         self.next = fin;
     }

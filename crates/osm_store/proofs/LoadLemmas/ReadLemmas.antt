@@ -32,7 +32,8 @@ use Rattle.osm_store.specs.declared.schema.layout.Layout.{Layout}
 use Rattle.osm_store.specs.declared.schema.layout.Layout.TheVariants.{Bodies, Tables}
 use Rattle.osm_store.specs.Schema.Layouts.{schema_of}
 use Rattle.osm_store.specs.Keeping.{touches}
-use Rattle.osm_store.specs.Schema.Bodies.{body_schema, select_version_text, select_extents_text, select_last_start_text, select_touching_text, select_bodies_text, find_bodies_text}
+use Rattle.osm_store.specs.declared.schema.sql.TheConstants.{SELECT_VERSION, SELECT_EXTENTS, SELECT_LAST_START, SELECT_TOUCHING, SELECT_BODIES, FIND_BODIES}
+use Rattle.osm_store.specs.Schema.Bodies.{body_schema}
 use Rattle.osm_value.specs.Elements.{kind_of_element, id_of_element}
 use Rattle.osm_store.specs.Rows.{Placed, body_row, extent_columns as shown_extent, data_row, found_row, element_code, is_in, is_of}
 use Rattle.osm_store.specs.Load.Selects.{selects}
@@ -105,10 +106,10 @@ first_of P (o ∷ rows) all = (all.0, tt)
 
 module _ (layout : Layout) (old new : State) (rows : List Row) (held : List Extent) (h : HasExtents layout old.now held) where
   -- each row shows the start of an extent at `from` or before
-  pub last_start_read : (from : ℕ) (P : ℕ → Type 0) → AllByRecursion (λ (e : Extent). e.off ≤ from → P e.off) held → Shown select_last_start_text (Int (pos from) ∷ []) old new rows → AllByRecursion (ShowsOne P) rows
+  pub last_start_read : (from : ℕ) (P : ℕ → Type 0) → AllByRecursion (λ (e : Extent). e.off ≤ from → P e.off) held → Shown SELECT_LAST_START.now (Int (pos from) ∷ []) old new rows → AllByRecursion (ShowsOne P) rows
   last_start_read from P all shown =
       let params = Int (pos from) ∷ [] in
-      let read = reads_as select_last_start_text params old new (schema_of layout) h.schema _ (last_start_is layout).0 (last_start_is layout).2 (last_start_is layout).1 rows shown in
+      let read = reads_as SELECT_LAST_START.now params old new (schema_of layout) h.schema _ (last_start_is layout).0 (last_start_is layout).2 (last_start_is layout).1 rows shown in
       let a = read.answer Null in
       let ordered = orders 1 (compares Le (col 1 0) (col 0 0) ∷ []) (col 1 0 ∷ []) latest_first (lit (Int (pos 1))) (overlay old.now.trees []) params rows
       (columns_at (0 ∷ 2 ∷ 3 ∷ 4 ∷ 5 ∷ [])) shown_extent held h.rows
@@ -120,18 +121,18 @@ module _ (layout : Layout) (old new : State) (rows : List Row) (held : List Exte
       all_both _ _ (λ (x : Extent). ShowsOne P (start_output (shown_extent x)).1) (λ x p test. (x.off, p (grind (arith, nat_tests)), refl)) passing (all-filter _ (λ (x : Extent). nat_le x.off from) held all) low in
       subst (AllByRecursion (ShowsOne P)) (sym a.shown) (first_of P a.ordered (all-permutation _ _ _ ordered (all-map (λ (o : Output). ShowsOne P o.1) (λ x. start_output (shown_extent x)) passing starts)))
 
-  pub extents_read : Shown select_extents_text [] old new rows → rows ≡ map shown_extent held
+  pub extents_read : Shown SELECT_EXTENTS.now [] old new rows → rows ≡ map shown_extent held
   extents_read shown =
-      let read = reads_as select_extents_text [] old new (schema_of layout) h.schema _ (extents_is layout).0 (extents_is layout).2 (extents_is layout).1 rows shown in
+      let read = reads_as SELECT_EXTENTS.now [] old new (schema_of layout) h.schema _ (extents_is layout).0 (extents_is layout).2 (extents_is layout).1 rows shown in
       answer_is 1 [] extent_columns (col 1 0 ∷ []) (overlay old.now.trees []) [] rows (columns_at (0 ∷ 2 ∷ 3 ∷ 4 ∷ 5 ∷ [])) shown_extent held h.rows
       (λ _. true) (λ r. refl) extent_output (λ r. refl) (λ _. true) (λ x. refl)
       (ascending-filter _ (λ _. true) held (ascending_weaker _ _ by_offset held h.ascending)) (read.answer Null)
       ∙ ap (map shown_extent) (always held)
 
-  pub touching_read : (start from to : ℕ) → Shown select_touching_text (Int (pos start) ∷ Int (pos to) ∷ Int (pos from) ∷ []) old new rows → rows ≡ map shown_extent (filter (touches_from start from to) held)
+  pub touching_read : (start from to : ℕ) → Shown SELECT_TOUCHING.now (Int (pos start) ∷ Int (pos to) ∷ Int (pos from) ∷ []) old new rows → rows ≡ map shown_extent (filter (touches_from start from to) held)
   touching_read start from to shown =
       let params = Int (pos start) ∷ Int (pos to) ∷ Int (pos from) ∷ [] in
-      let read = reads_as select_touching_text params old new (schema_of layout) h.schema _ (touching_is layout).0 (touching_is layout).2 (touching_is layout).1 rows shown in
+      let read = reads_as SELECT_TOUCHING.now params old new (schema_of layout) h.schema _ (touching_is layout).0 (touching_is layout).2 (touching_is layout).1 rows shown in
       answer_is 1 (compares Ge (col 1 0) (col 0 0) ∷ compares Lt (col 1 0) (col 0 1) ∷ compares Gt (col 1 2) (col 0 2) ∷ []) extent_columns (col 1 0 ∷ []) (overlay old.now.trees []) params rows
       (columns_at (0 ∷ 2 ∷ 3 ∷ 4 ∷ 5 ∷ [])) shown_extent held h.rows
       (λ v. is Ge (column v 0) (Int (pos start)) && (is Lt (column v 0) (Int (pos to)) && (is Gt (column v 1) (Int (pos from)) && true))) (λ r. refl) extent_output (λ r. refl)
@@ -164,20 +165,20 @@ abbrev found_output : Row → Output
 found_output v = (column v 0 ∷ column v 1 ∷ [], column v 0 ∷ column v 1 ∷ column v 4 ∷ [])
 
 module _ (old new : State) (rows : List Row) (held : List Placed) (h : HasElements old.now held) where
-  pub element_read : (kind : MemberKind) (id : ℤ) → Shown find_bodies_text (Int (pos (element_code kind)) ∷ Int id ∷ []) old new rows → rows ≡ map found_row (filter (is_of kind id) held)
+  pub element_read : (kind : MemberKind) (id : ℤ) → Shown FIND_BODIES.now (Int (pos (element_code kind)) ∷ Int id ∷ []) old new rows → rows ≡ map found_row (filter (is_of kind id) held)
   element_read kind id shown =
       let params = Int (pos (element_code kind)) ∷ Int id ∷ [] in
-      let read = reads_as find_bodies_text params old new body_schema h.schema _ element_is.0 element_is.2 element_is.1 rows shown in
+      let read = reads_as FIND_BODIES.now params old new body_schema h.schema _ element_is.0 element_is.2 element_is.1 rows shown in
       answer_is 2 (compares Eq (col 1 3) (col 0 0) ∷ compares Eq (col 1 4) (col 0 1) ∷ []) (col 1 1 ∷ col 1 2 ∷ col 1 5 ∷ []) (col 1 1 ∷ col 1 2 ∷ []) (overlay old.now.trees []) params rows
       (columns_at (1 ∷ 2 ∷ 3 ∷ 4 ∷ 5 ∷ [])) body_row held h.rows
       (λ v. is Eq (column v 2) (Int (pos (element_code kind))) && (is Eq (column v 3) (Int id) && true)) (λ r. refl) found_output (λ r. refl)
       (is_of kind id) (λ x. rw (same_number (element_code (kind_of_element x.2)) (element_code kind), same_int (id_of_element x.2) id) (and_true (element_code (kind_of_element x.2) == element_code kind) _))
       (ascending-filter _ (is_of kind id) held (ascending_weaker _ _ in_order held h.ascending)) (read.answer Null)
 
-  pub rows_read : (off : ℕ) → Shown select_bodies_text (Int (pos off) ∷ []) old new rows → rows ≡ map (λ p. data_row p.2) (filter (is_in off) held)
+  pub rows_read : (off : ℕ) → Shown SELECT_BODIES.now (Int (pos off) ∷ []) old new rows → rows ≡ map (λ p. data_row p.2) (filter (is_in off) held)
   rows_read off shown =
       let params = Int (pos off) ∷ [] in
-      let read = reads_as select_bodies_text params old new body_schema h.schema _ rows_are.0 rows_are.2 rows_are.1 rows shown in
+      let read = reads_as SELECT_BODIES.now params old new body_schema h.schema _ rows_are.0 rows_are.2 rows_are.1 rows shown in
       answer_is 2 (compares Eq (col 1 1) (col 0 0) ∷ []) (col 1 5 ∷ []) (col 1 2 ∷ []) (overlay old.now.trees []) params rows
       (columns_at (1 ∷ 2 ∷ 3 ∷ 4 ∷ 5 ∷ [])) body_row held h.rows
       (λ v. is Eq (column v 0) (Int (pos off)) && true) (λ r. refl) row_output (λ r. refl)
@@ -187,13 +188,13 @@ module _ (old new : State) (rows : List Row) (held : List Placed) (h : HasElemen
 abbrev version_output : Row → Output
 version_output v = ([], column v 0 ∷ [])
 
-pub version_read : (layout : Layout) (old new : State) (rows : List Row) (version : ℤ) → HasVersion layout old.now version → Shown select_version_text [] old new rows → rows ≡ (Int version ∷ []) ∷ []
+pub version_read : (layout : Layout) (old new : State) (rows : List Row) (version : ℤ) → HasVersion layout old.now version → Shown SELECT_VERSION.now [] old new rows → rows ≡ (Int version ∷ []) ∷ []
 version_read layout old new rows version h shown =
-    let read = reads_as select_version_text [] old new (schema_of layout) h.schema _ (version_is layout).0 (version_is layout).2 (version_is layout).1 rows shown in
+    let read = reads_as SELECT_VERSION.now [] old new (schema_of layout) h.schema _ (version_is layout).0 (version_is layout).2 (version_is layout).1 rows shown in
     answer_is 0 [] (col 1 0 ∷ []) [] (overlay old.now.trees []) [] rows (columns_at (0 ∷ [])) (λ (v : ℤ). Int v ∷ []) (version ∷ []) h.rows
     (λ _. true) (λ r. refl) version_output (λ r. refl) (λ _. true) (λ x. refl) (tt, tt) (read.answer Null)
 
-version_takes : (layout : Layout) → takes (understood (schema_of layout) select_version_text) (length select_version_text) 0 ≡ true
+version_takes : (layout : Layout) → takes (understood (schema_of layout) SELECT_VERSION.now) (length SELECT_VERSION.now) 0 ≡ true
 unfolding understood everything
 version_takes Bodies = refl
 version_takes Tables = refl
@@ -202,10 +203,10 @@ version_typed : (layout : Layout) → accepts_program (schema_of layout) [] (sel
 version_typed Bodies = refl
 version_typed Tables = refl
 
-version_selects : selects select_version_text ≡ true
+version_selects : selects SELECT_VERSION.now ≡ true
 unfolding everything
 version_selects = refl
 
-pub version_fails : (layout : Layout) (old new : State) → old.now.schema ≡ schema_of layout → (e : Error) → FailsToQuery select_version_text [] old new e → IsCause e
+pub version_fails : (layout : Layout) (old new : State) → old.now.schema ≡ schema_of layout → (e : Error) → FailsToQuery SELECT_VERSION.now [] old new e → IsCause e
 version_fails layout old new has e failed =
-    query_causes select_version_text [] old new (schema_of layout) has version_selects (version_takes layout) 0 [] (col 1 0 ∷ []) [] _ (version_is layout).0 (version_is layout).1 (version_typed layout) e failed
+    query_causes SELECT_VERSION.now [] old new (schema_of layout) has version_selects (version_takes layout) 0 [] (col 1 0 ∷ []) [] _ (version_is layout).0 (version_is layout).1 (version_typed layout) e failed

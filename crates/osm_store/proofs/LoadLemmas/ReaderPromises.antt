@@ -23,6 +23,7 @@ module _ {S T : Type 0} (layout : Layout) (g : Ghosts S) (old new : Store S) (as
     open_if = λ up. (clean_before (state g old.connection) (state g new.connection) asks up.0, (asks.keeps up.0).was_open up.1);
     ok = λ clean held holds. asks_holds layout (state g old.connection) (state g new.connection) asks held holds clean (answers clean held holds);
     err = tt;
+    same = λ clean up. (asks.keeps clean).committed up.1;
     crash = λ clean held may. asks_leaves layout (state g old.connection) (state g new.connection) asks clean held may;
     whole = λ clean all. asks_leaves_a_map layout (state g old.connection) (state g new.connection) asks clean all;
     own = λ held holds clean. tt;
@@ -33,6 +34,7 @@ module _ {S T : Type 0} (layout : Layout) (g : Ghosts S) (old new : Store S) (as
     open_if = λ up. (clean_before (state g old.connection) (state g new.connection) asks up.0, (asks.keeps up.0).was_open up.1);
     ok = tt;
     err = λ clean up held holds. asks_holds layout (state g old.connection) (state g new.connection) asks held holds clean up.1;
+    same = λ clean up. (asks.keeps clean).committed up.1;
     crash = λ clean held may. asks_leaves layout (state g old.connection) (state g new.connection) asks clean held may;
     whole = λ clean all. asks_leaves_a_map layout (state g old.connection) (state g new.connection) asks clean all;
     own = λ held holds clean. answers clean held holds;

@@ -16,7 +16,8 @@ use Rattle.sqlite_trees.proofs.ListLemmas.{ascending_weaker, ascending-filter}
 use Rattle.osm_value.specs.declared.element.MemberKind.{MemberKind}
 use Rattle.osm_value.specs.Value.{Text, MemberValue}
 use Rattle.osm_value.specs.Elements.{tags_of_element, kind_of_element, id_of_element}
-use Rattle.osm_store.specs.Schema.Tables.{table_schema, select_elements_text, select_tags_text, select_links_text, find_elements_text, select_its_tags_text, select_its_links_text}
+use Rattle.osm_store.specs.declared.schema.sql.TheConstants.{SELECT_ELEMENTS, SELECT_TAGS, SELECT_LINKS, FIND_ELEMENTS, SELECT_ITS_TAGS, SELECT_ITS_LINKS}
+use Rattle.osm_store.specs.Schema.Tables.{table_schema}
 use Rattle.osm_store.specs.Rows.{Placed, element_code, is_in, is_of}
 use Rattle.osm_store.specs.Load.TableParts.{is_part_at}
 use Rattle.osm_store.specs.TableRows.{Part, element_row, tags_at, tag_row, links_at, links_of, link_row}
@@ -70,19 +71,19 @@ abbrev link_output : Row → Output
 link_output v = (column v 0 ∷ column v 1 ∷ column v 2 ∷ [], column v 0 ∷ column v 1 ∷ column v 2 ∷ column v 3 ∷ column v 4 ∷ column v 5 ∷ [])
 
 module _ (old new : State) (rows : List Row) (held : List Placed) (h : HasTables old.now held) where
-  pub elements_read : (off : ℕ) → Shown select_elements_text (Int (pos off) ∷ []) old new rows → rows ≡ map element_row (filter (is_in off) held)
+  pub elements_read : (off : ℕ) → Shown SELECT_ELEMENTS.now (Int (pos off) ∷ []) old new rows → rows ≡ map element_row (filter (is_in off) held)
   elements_read off shown =
       let params = Int (pos off) ∷ [] in
-      let read = reads_as select_elements_text params old new table_schema h.schema _ elements_are.0 elements_are.2 elements_are.1 rows shown in
+      let read = reads_as SELECT_ELEMENTS.now params old new table_schema h.schema _ elements_are.0 elements_are.2 elements_are.1 rows shown in
       answer_is 2 at_off element_shown by_place (overlay old.now.trees []) params rows (columns_at twelve_places) element_row held h.elements
       (λ v. is Eq (column v 0) (Int (pos off)) && true) (λ r. refl) element_output (λ r. refl)
       (is_in off) (λ x. rw (same_number x.0 off) (alone (x.0 == off)))
       (ascending-filter _ (is_in off) held (ascending_weaker _ _ in_order held h.ascending)) (read.answer Null)
 
-  pub found_read : (kind : MemberKind) (id : ℤ) → Shown find_elements_text (Int (pos (element_code kind)) ∷ Int id ∷ []) old new rows → rows ≡ map element_row (filter (is_of kind id) held)
+  pub found_read : (kind : MemberKind) (id : ℤ) → Shown FIND_ELEMENTS.now (Int (pos (element_code kind)) ∷ Int id ∷ []) old new rows → rows ≡ map element_row (filter (is_of kind id) held)
   found_read kind id shown =
       let params = Int (pos (element_code kind)) ∷ Int id ∷ [] in
-      let read = reads_as find_elements_text params old new table_schema h.schema _ found_are.0 found_are.2 found_are.1 rows shown in
+      let read = reads_as FIND_ELEMENTS.now params old new table_schema h.schema _ found_are.0 found_are.2 found_are.1 rows shown in
       answer_is 2 of_kind_and_id element_shown by_place (overlay old.now.trees []) params rows (columns_at twelve_places) element_row held h.elements
       (λ v. is Eq (column v 2) (Int (pos (element_code kind))) && (is Eq (column v 3) (Int id) && true)) (λ r. refl) element_output (λ r. refl)
       (is_of kind id) (λ x. rw (same_number (element_code (kind_of_element x.2)) (element_code kind), same_int (id_of_element x.2) id) (and_true (element_code (kind_of_element x.2) == element_code kind) _))
@@ -94,37 +95,37 @@ module _ (old new : State) (rows : List Row) (held : List Placed) (h : HasTables
   links_rise : IsAscending (λ (x y : Part MemberValue). IsPartBefore x y) (flat_map links_at held)
   links_rise = all_parts_rise (λ (p : Placed). links_of p.2) held h.ascending
 
-  pub tags_read : (off : ℕ) → Shown select_tags_text (Int (pos off) ∷ []) old new rows → rows ≡ map tag_row (filter (is_part_in off) (flat_map tags_at held))
+  pub tags_read : (off : ℕ) → Shown SELECT_TAGS.now (Int (pos off) ∷ []) old new rows → rows ≡ map tag_row (filter (is_part_in off) (flat_map tags_at held))
   tags_read off shown =
       let params = Int (pos off) ∷ [] in
-      let read = reads_as select_tags_text params old new table_schema h.schema _ tags_are.0 tags_are.2 tags_are.1 rows shown in
+      let read = reads_as SELECT_TAGS.now params old new table_schema h.schema _ tags_are.0 tags_are.2 tags_are.1 rows shown in
       answer_is 4 at_off tag_shown by_part (overlay old.now.trees []) params rows (columns_at five_places) tag_row (flat_map tags_at held) h.tags
       (λ v. is Eq (column v 0) (Int (pos off)) && true) (λ r. refl) tag_output (λ r. refl)
       (is_part_in off) (λ x. rw (same_number x.off off) (alone (x.off == off)))
       (ascending-filter _ (is_part_in off) (flat_map tags_at held) (ascending_weaker _ _ parts_in_order (flat_map tags_at held) tags_rise)) (read.answer Null)
 
-  pub links_read : (off : ℕ) → Shown select_links_text (Int (pos off) ∷ []) old new rows → rows ≡ map link_row (filter (is_part_in off) (flat_map links_at held))
+  pub links_read : (off : ℕ) → Shown SELECT_LINKS.now (Int (pos off) ∷ []) old new rows → rows ≡ map link_row (filter (is_part_in off) (flat_map links_at held))
   links_read off shown =
       let params = Int (pos off) ∷ [] in
-      let read = reads_as select_links_text params old new table_schema h.schema _ links_are.0 links_are.2 links_are.1 rows shown in
+      let read = reads_as SELECT_LINKS.now params old new table_schema h.schema _ links_are.0 links_are.2 links_are.1 rows shown in
       answer_is 6 at_off link_shown by_part (overlay old.now.trees []) params rows (columns_at six_places) link_row (flat_map links_at held) h.links
       (λ v. is Eq (column v 0) (Int (pos off)) && true) (λ r. refl) link_output (λ r. refl)
       (is_part_in off) (λ x. rw (same_number x.off off) (alone (x.off == off)))
       (ascending-filter _ (is_part_in off) (flat_map links_at held) (ascending_weaker _ _ parts_in_order (flat_map links_at held) links_rise)) (read.answer Null)
 
-  pub its_tags_read : (off position : ℕ) → Shown select_its_tags_text (Int (pos off) ∷ Int (pos position) ∷ []) old new rows → rows ≡ map tag_row (filter (is_part_at off position) (flat_map tags_at held))
+  pub its_tags_read : (off position : ℕ) → Shown SELECT_ITS_TAGS.now (Int (pos off) ∷ Int (pos position) ∷ []) old new rows → rows ≡ map tag_row (filter (is_part_at off position) (flat_map tags_at held))
   its_tags_read off position shown =
       let params = Int (pos off) ∷ Int (pos position) ∷ [] in
-      let read = reads_as select_its_tags_text params old new table_schema h.schema _ its_tags_are.0 its_tags_are.2 its_tags_are.1 rows shown in
+      let read = reads_as SELECT_ITS_TAGS.now params old new table_schema h.schema _ its_tags_are.0 its_tags_are.2 its_tags_are.1 rows shown in
       answer_is 4 at_place tag_shown by_part (overlay old.now.trees []) params rows (columns_at five_places) tag_row (flat_map tags_at held) h.tags
       (λ v. is Eq (column v 0) (Int (pos off)) && (is Eq (column v 1) (Int (pos position)) && true)) (λ r. refl) tag_output (λ r. refl)
       (is_part_at off position) (λ x. rw (same_number x.off off, same_number x.position position) (and_true (x.off == off) (x.position == position)))
       (ascending-filter _ (is_part_at off position) (flat_map tags_at held) (ascending_weaker _ _ parts_in_order (flat_map tags_at held) tags_rise)) (read.answer Null)
 
-  pub its_links_read : (off position : ℕ) → Shown select_its_links_text (Int (pos off) ∷ Int (pos position) ∷ []) old new rows → rows ≡ map link_row (filter (is_part_at off position) (flat_map links_at held))
+  pub its_links_read : (off position : ℕ) → Shown SELECT_ITS_LINKS.now (Int (pos off) ∷ Int (pos position) ∷ []) old new rows → rows ≡ map link_row (filter (is_part_at off position) (flat_map links_at held))
   its_links_read off position shown =
       let params = Int (pos off) ∷ Int (pos position) ∷ [] in
-      let read = reads_as select_its_links_text params old new table_schema h.schema _ its_links_are.0 its_links_are.2 its_links_are.1 rows shown in
+      let read = reads_as SELECT_ITS_LINKS.now params old new table_schema h.schema _ its_links_are.0 its_links_are.2 its_links_are.1 rows shown in
       answer_is 6 at_place link_shown by_part (overlay old.now.trees []) params rows (columns_at six_places) link_row (flat_map links_at held) h.links
       (λ v. is Eq (column v 0) (Int (pos off)) && (is Eq (column v 1) (Int (pos position)) && true)) (λ r. refl) link_output (λ r. refl)
       (is_part_at off position) (λ x. rw (same_number x.off off, same_number x.position position) (and_true (x.off == off) (x.position == position)))

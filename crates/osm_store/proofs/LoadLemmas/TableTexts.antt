@@ -6,7 +6,8 @@ use Rattle.sqlite_sql.specs.declared.ops.CompareOp.TheVariants.{Eq}
 use Rattle.sqlite_tied.specs.Compute.{everything}
 use Rattle.sqlite.specs.Listing.{understood, reads_listing}
 use Rattle.sqlite.proofs.Callers.{IsPlain, command_of}
-use Rattle.osm_store.specs.Schema.Tables.{table_schema, select_elements_text, select_tags_text, select_links_text, find_elements_text, select_its_tags_text, select_its_links_text}
+use Rattle.osm_store.specs.declared.schema.sql.TheConstants.{SELECT_ELEMENTS, SELECT_TAGS, SELECT_LINKS, FIND_ELEMENTS, SELECT_ITS_TAGS, SELECT_ITS_LINKS}
+use Rattle.osm_store.specs.Schema.Tables.{table_schema}
 use Rattle.osm_store.proofs.LoadLemmas.OneTable.{select}
 use Rattle.osm_store.proofs.LoadLemmas.BodyTexts.{compares}
 
@@ -43,26 +44,26 @@ at_place = compares Eq (col 1 1) (col 0 0) ∷ compares Eq (col 1 2) (col 0 1) �
 abbrev pub of_kind_and_id : List Term
 of_kind_and_id = compares Eq (col 1 3) (col 0 0) ∷ compares Eq (col 1 4) (col 0 1) ∷ []
 
-pub elements_are : (command_of (understood table_schema select_elements_text) ≡ Select (record { lets = []; body = select 2 at_off element_shown by_place }) element_names) × (reads_listing table_schema select_elements_text ≡ false) × IsPlain (understood table_schema select_elements_text)
+pub elements_are : (command_of (understood table_schema SELECT_ELEMENTS.now) ≡ Select (record { lets = []; body = select 2 at_off element_shown by_place }) element_names) × (reads_listing table_schema SELECT_ELEMENTS.now ≡ false) × IsPlain (understood table_schema SELECT_ELEMENTS.now)
 unfolding understood everything
 elements_are = (refl, refl, (refl, refl))
 
-pub tags_are : (command_of (understood table_schema select_tags_text) ≡ Select (record { lets = []; body = select 4 at_off tag_shown by_part }) tag_names) × (reads_listing table_schema select_tags_text ≡ false) × IsPlain (understood table_schema select_tags_text)
+pub tags_are : (command_of (understood table_schema SELECT_TAGS.now) ≡ Select (record { lets = []; body = select 4 at_off tag_shown by_part }) tag_names) × (reads_listing table_schema SELECT_TAGS.now ≡ false) × IsPlain (understood table_schema SELECT_TAGS.now)
 unfolding understood everything
 tags_are = (refl, refl, (refl, refl))
 
-pub links_are : (command_of (understood table_schema select_links_text) ≡ Select (record { lets = []; body = select 6 at_off link_shown by_part }) link_names) × (reads_listing table_schema select_links_text ≡ false) × IsPlain (understood table_schema select_links_text)
+pub links_are : (command_of (understood table_schema SELECT_LINKS.now) ≡ Select (record { lets = []; body = select 6 at_off link_shown by_part }) link_names) × (reads_listing table_schema SELECT_LINKS.now ≡ false) × IsPlain (understood table_schema SELECT_LINKS.now)
 unfolding understood everything
 links_are = (refl, refl, (refl, refl))
 
-pub found_are : (command_of (understood table_schema find_elements_text) ≡ Select (record { lets = []; body = select 2 of_kind_and_id element_shown by_place }) element_names) × (reads_listing table_schema find_elements_text ≡ false) × IsPlain (understood table_schema find_elements_text)
+pub found_are : (command_of (understood table_schema FIND_ELEMENTS.now) ≡ Select (record { lets = []; body = select 2 of_kind_and_id element_shown by_place }) element_names) × (reads_listing table_schema FIND_ELEMENTS.now ≡ false) × IsPlain (understood table_schema FIND_ELEMENTS.now)
 unfolding understood everything
 found_are = (refl, refl, (refl, refl))
 
-pub its_tags_are : (command_of (understood table_schema select_its_tags_text) ≡ Select (record { lets = []; body = select 4 at_place tag_shown by_part }) tag_names) × (reads_listing table_schema select_its_tags_text ≡ false) × IsPlain (understood table_schema select_its_tags_text)
+pub its_tags_are : (command_of (understood table_schema SELECT_ITS_TAGS.now) ≡ Select (record { lets = []; body = select 4 at_place tag_shown by_part }) tag_names) × (reads_listing table_schema SELECT_ITS_TAGS.now ≡ false) × IsPlain (understood table_schema SELECT_ITS_TAGS.now)
 unfolding understood everything
 its_tags_are = (refl, refl, (refl, refl))
 
-pub its_links_are : (command_of (understood table_schema select_its_links_text) ≡ Select (record { lets = []; body = select 6 at_place link_shown by_part }) link_names) × (reads_listing table_schema select_its_links_text ≡ false) × IsPlain (understood table_schema select_its_links_text)
+pub its_links_are : (command_of (understood table_schema SELECT_ITS_LINKS.now) ≡ Select (record { lets = []; body = select 6 at_place link_shown by_part }) link_names) × (reads_listing table_schema SELECT_ITS_LINKS.now ≡ false) × IsPlain (understood table_schema SELECT_ITS_LINKS.now)
 unfolding understood everything
 its_links_are = (refl, refl, (refl, refl))

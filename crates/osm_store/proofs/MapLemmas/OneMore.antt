@@ -1,5 +1,5 @@
 -- A put adds one entry to the map, and a read leaves it.
-use Rattle.std.proofs.Common.{◌≡◌, ◌≢◌, ◌⊎◌, inl, inr, ℕ, pos, ◌^◌, ◌<◌, ◌≤◌, List, [], ◌∷◌, ◌++◌, map, drop, length, Option, Some, None, IsTrue, cond, eqb, refl, sym, ap, subst, ◌∙◌, arith, Less, Greater, nat_lt}
+use Rattle.std.proofs.Common.{◌≡◌, ◌≢◌, ◌⊎◌, inl, inr, ℕ, pos, ◌<◌, ◌≤◌, List, [], ◌∷◌, ◌++◌, map, drop, length, Option, Some, None, IsTrue, cond, eqb, refl, sym, ap, subst, ◌∙◌, arith, Less, Greater, nat_lt}
 use Rattle.std.specs.Prelude.{flat_map}
 use Rattle.std.specs.List.{AllByRecursion}
 use Rattle.std.specs.List.Sorted.{IsPermutation}
@@ -19,6 +19,7 @@ use Rattle.sqlite.specs.Order.{Row}
 use Rattle.sqlite.specs.Tree.{Trees, put_row}
 use Rattle.sqlite.specs.Effect.{Database}
 use Rattle.sqlite.specs.State.{State, HasCleanDisk, Survives}
+use Rattle.pbf_frame.specs.declared.part.TheConstants.{MAX_OFFSET}
 use Rattle.osm_store.specs.Held.{Blob, HeldMap, IsFree}
 use Rattle.osm_store.specs.HeldLaws.{IsFree-unheld, IsApart-insert}
 use Rattle.osm_store.specs.Keeping.{extent_of, with_blob}
@@ -112,7 +113,7 @@ module _ (held : HeldMap) (off : ℕ) (blob : Blob) (layout : Layout) (kept : Is
   inserted : entries (with_blob held off blob) ≡ put nat_cmp off blob (entries held)
   inserted = entries-insert nat_cmp_total held off blob
 
-  pub kept_more : blob.fin ≤ 2 ^ 62 → IsBlob layout blob → IsKept layout (with_blob held off blob)
+  pub kept_more : blob.fin ≤ MAX_OFFSET → IsBlob layout blob → IsKept layout (with_blob held off blob)
   kept_more limit is = record {
     apart = IsApart-insert held off blob kept.apart free order limit;
     blobs = subst (AllByRecursion (λ (entry : Entry). IsBlob layout entry.1)) (sym inserted) (all_put off blob (λ (entry : Entry). IsBlob layout entry.1) (entries held) is kept.blobs unheld);
@@ -202,7 +203,7 @@ nothing_else layout db h other kept tables = one_map layout other empty db kept 
 
 -- ---- a put
 
-module _ (held : HeldMap) (off : ℕ) (blob : Blob) (layout : Layout) (old new : State) (holds : Holds layout old held) (free : IsFree held off blob.fin) (order : off < blob.fin) (limit : blob.fin ≤ 2 ^ 62) where
+module _ (held : HeldMap) (off : ℕ) (blob : Blob) (layout : Layout) (old new : State) (holds : Holds layout old held) (free : IsFree held off blob.fin) (order : off < blob.fin) (limit : blob.fin ≤ MAX_OFFSET) where
   abbrev added : List Placed
   added = placed off 0 blob.elements
 

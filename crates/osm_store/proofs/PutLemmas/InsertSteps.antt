@@ -24,7 +24,8 @@ use Rattle.osm_store.specs.declared.put.table_row.TagRow.{TagRow}
 use Rattle.osm_store.specs.declared.put.table_row.LinkRow.{LinkRow}
 use Rattle.osm_store.specs.Put.WrittenRows.{element_columns, tag_columns, link_columns}
 use Rattle.osm_store.specs.Rows.{element_code}
-use Rattle.osm_store.specs.Schema.Tables.{element, tag, link, insert_element_text, insert_tag_text, insert_link_text, insert_elements_text, insert_tags_text, insert_links_text, table_schema}
+use Rattle.osm_store.specs.declared.schema.sql.TheConstants.{INSERT_ELEMENT, INSERT_TAG, INSERT_LINK, INSERT_ELEMENTS, INSERT_TAGS, INSERT_LINKS}
+use Rattle.osm_store.specs.Schema.Tables.{element, tag, link, table_schema}
 use Rattle.osm_store.proofs.PutLemmas.Adds.{cast_null, cast_int}
 use Rattle.osm_store.proofs.PutLemmas.RowValues.{cast_or_null, cast_words}
 use Rattle.osm_store.proofs.PutLemmas.InsertTexts.{insert_element_is, insert_element_plain, insert_tag_is, insert_tag_plain, insert_link_is, insert_link_plain, insert_elements_is, insert_elements_plain, insert_tags_is, insert_tags_plain, insert_links_is, insert_links_plain}
@@ -102,13 +103,13 @@ link_cast : (r : LinkRow) → cast_row link (Null ∷ link_columns r) ≡ Null �
 link_cast r = rw (cast_null, cast_int r.off, cast_int r.position, cast_int r.number, cast_int (pos (element_code r.kind)), cast_int r.id) refl
 
 pub inserts_element : (batch : Batch) → Inserts element_columns 2 (element_statement batch) (rows_of batch)
-inserts_element One = inserts element_columns element 12 insert_element_text 2 1 (λ r. refl) element_cast insert_element_is insert_element_plain refl refl (λ params. rw append-nil refl) refl (λ db news. refl)
-inserts_element ThirtyTwo = inserts element_columns element 12 insert_elements_text 2 32 (λ r. refl) element_cast insert_elements_is insert_elements_plain refl refl (λ params. rw append-nil refl) refl (λ db news. refl)
+inserts_element One = inserts element_columns element 12 INSERT_ELEMENT.now 2 1 (λ r. refl) element_cast insert_element_is insert_element_plain refl refl (λ params. rw append-nil refl) refl (λ db news. refl)
+inserts_element ThirtyTwo = inserts element_columns element 12 INSERT_ELEMENTS.now 2 32 (λ r. refl) element_cast insert_elements_is insert_elements_plain refl refl (λ params. rw append-nil refl) refl (λ db news. refl)
 
 pub inserts_tag : (batch : Batch) → Inserts tag_columns 4 (tag_statement batch) (rows_of batch)
-inserts_tag One = inserts tag_columns tag 5 insert_tag_text 3 1 (λ r. refl) tag_cast insert_tag_is insert_tag_plain refl refl (λ params. rw append-nil refl) refl (λ db news. refl)
-inserts_tag ThirtyTwo = inserts tag_columns tag 5 insert_tags_text 3 32 (λ r. refl) tag_cast insert_tags_is insert_tags_plain refl refl (λ params. rw append-nil refl) refl (λ db news. refl)
+inserts_tag One = inserts tag_columns tag 5 INSERT_TAG.now 3 1 (λ r. refl) tag_cast insert_tag_is insert_tag_plain refl refl (λ params. rw append-nil refl) refl (λ db news. refl)
+inserts_tag ThirtyTwo = inserts tag_columns tag 5 INSERT_TAGS.now 3 32 (λ r. refl) tag_cast insert_tags_is insert_tags_plain refl refl (λ params. rw append-nil refl) refl (λ db news. refl)
 
 pub inserts_link : (batch : Batch) → Inserts link_columns 6 (link_statement batch) (rows_of batch)
-inserts_link One = inserts link_columns link 6 insert_link_text 4 1 (λ r. refl) link_cast insert_link_is insert_link_plain refl refl (λ params. rw append-nil refl) refl (λ db news. refl)
-inserts_link ThirtyTwo = inserts link_columns link 6 insert_links_text 4 32 (λ r. refl) link_cast insert_links_is insert_links_plain refl refl (λ params. rw append-nil refl) refl (λ db news. refl)
+inserts_link One = inserts link_columns link 6 INSERT_LINK.now 4 1 (λ r. refl) link_cast insert_link_is insert_link_plain refl refl (λ params. rw append-nil refl) refl (λ db news. refl)
+inserts_link ThirtyTwo = inserts link_columns link 6 INSERT_LINKS.now 4 32 (λ r. refl) link_cast insert_links_is insert_links_plain refl refl (λ params. rw append-nil refl) refl (λ db news. refl)

@@ -29,8 +29,9 @@ use Rattle.sqlite.specs.Term.{lit}
 use Rattle.sqlite.specs.declared.types.Value.TheVariants.{Null, Int}
 use Rattle.osm_store.specs.declared.schema.layout.Layout.{Layout}
 use Rattle.osm_store.specs.declared.schema.layout.Layout.TheVariants.{Bodies, Tables}
-use Rattle.osm_store.specs.Schema.Bodies.{meta, blob, body, body_schema, insert_body_text, insert_blob_text, body_version_text}
-use Rattle.osm_store.specs.Schema.Tables.{table_schema, table_version_text}
+use Rattle.osm_store.specs.declared.schema.sql.TheConstants.{INSERT_BODY, INSERT_BLOB, INSERT_BODY_VERSION, INSERT_TABLE_VERSION}
+use Rattle.osm_store.specs.Schema.Bodies.{meta, blob, body, body_schema}
+use Rattle.osm_store.specs.Schema.Tables.{table_schema}
 use Rattle.osm_store.specs.Schema.Layouts.{schema_of, version_of, version_text_of}
 use Rattle.osm_store.proofs.SchemaLemmas.BodyTexts.{body_terms, insert_body_is, insert_body_plain, blob_terms, insert_blob_is, insert_blob_plain, version_terms, version_is, version_plain}
 use Rattle.osm_store.proofs.SchemaLemmas.TableTexts.{table_blob_is, table_blob_plain, table_version_terms, table_version_is, table_version_plain}
@@ -87,20 +88,20 @@ inserts : (schema : Schema) (sql : List ℕ) (at : ℕ) (table : Table) (terms :
     → (new.now.schema ≡ schema) × Applies schema Enforced old.now.trees (edit_for old.now.trees table params terms) new.now.trees × IsSound schema new.now.trees
 inserts schema sql at table terms params = inserts_all schema sql at table terms (length terms) params (eval_all terms (params ∷ []) ∷ [])
 
-pub inserts_body : (params : Row) (old new : State) (count : ℕ) → old.now.schema ≡ body_schema → Executes insert_body_text params old new (Ok count)
+pub inserts_body : (params : Row) (old new : State) (count : ℕ) → old.now.schema ≡ body_schema → Executes INSERT_BODY.now params old new (Ok count)
     → (new.now.schema ≡ body_schema) × Applies body_schema Enforced old.now.trees (edit_for old.now.trees body params body_terms) new.now.trees × IsSound body_schema new.now.trees
-inserts_body params = inserts body_schema insert_body_text 2 body body_terms params insert_body_is insert_body_plain refl refl (rw append-nil) (λ db news. refl)
+inserts_body params = inserts body_schema INSERT_BODY.now 2 body body_terms params insert_body_is insert_body_plain refl refl (rw append-nil) (λ db news. refl)
 
 -- a row of `blob`, whatever the layout
-pub inserts_blob : (layout : Layout) (params : Row) (old new : State) (count : ℕ) → old.now.schema ≡ schema_of layout → Executes insert_blob_text params old new (Ok count)
+pub inserts_blob : (layout : Layout) (params : Row) (old new : State) (count : ℕ) → old.now.schema ≡ schema_of layout → Executes INSERT_BLOB.now params old new (Ok count)
     → (new.now.schema ≡ schema_of layout) × Applies (schema_of layout) Enforced old.now.trees (edit_for old.now.trees blob params blob_terms) new.now.trees × IsSound (schema_of layout) new.now.trees
-inserts_blob Bodies params = inserts body_schema insert_blob_text 1 blob blob_terms params insert_blob_is insert_blob_plain refl refl (rw append-nil) (λ db news. refl)
-inserts_blob Tables params = inserts table_schema insert_blob_text 1 blob blob_terms params table_blob_is table_blob_plain refl refl (rw append-nil) (λ db news. refl)
+inserts_blob Bodies params = inserts body_schema INSERT_BLOB.now 1 blob blob_terms params insert_blob_is insert_blob_plain refl refl (rw append-nil) (λ db news. refl)
+inserts_blob Tables params = inserts table_schema INSERT_BLOB.now 1 blob blob_terms params table_blob_is table_blob_plain refl refl (rw append-nil) (λ db news. refl)
 
 abbrev pub version_terms_of : Layout → List Term
 version_terms_of layout = lit (Int (pos (version_of layout))) ∷ lit Null ∷ []
 
 pub inserts_version : (layout : Layout) (old new : State) (count : ℕ) → old.now.schema ≡ schema_of layout → Executes (version_text_of layout) [] old new (Ok count)
     → (new.now.schema ≡ schema_of layout) × Applies (schema_of layout) Enforced old.now.trees (edit_for old.now.trees meta [] (version_terms_of layout)) new.now.trees × IsSound (schema_of layout) new.now.trees
-inserts_version Bodies = inserts body_schema body_version_text 0 meta version_terms [] version_is version_plain refl refl refl (λ db news. refl)
-inserts_version Tables = inserts table_schema table_version_text 0 meta table_version_terms [] table_version_is table_version_plain refl refl refl (λ db news. refl)
+inserts_version Bodies = inserts body_schema INSERT_BODY_VERSION.now 0 meta version_terms [] version_is version_plain refl refl refl (λ db news. refl)
+inserts_version Tables = inserts table_schema INSERT_TABLE_VERSION.now 0 meta table_version_terms [] table_version_is table_version_plain refl refl refl (λ db news. refl)

@@ -24,7 +24,8 @@ use Rattle.std.specs.List.{AllByRecursion}
 use Rattle.sqlite.specs.declared.types.Value.TheVariants.{Int, Blob as Octets}
 use Rattle.osm_store.specs.declared.schema.layout.Layout.{Layout}
 use Rattle.osm_store.specs.declared.schema.layout.Layout.TheVariants.{Bodies, Tables}
-use Rattle.osm_store.specs.Schema.Bodies.{body_schema, body, insert_body_text, insert_blob_text}
+use Rattle.osm_store.specs.declared.schema.sql.TheConstants.{INSERT_BODY, INSERT_BLOB}
+use Rattle.osm_store.specs.Schema.Bodies.{body_schema, body}
 use Rattle.osm_store.specs.Schema.Layouts.{schema_of}
 use Rattle.osm_store.specs.Rows.{Placed, body_row, extent_row}
 use Rattle.osm_store.specs.TableRows.{element_rows, tag_rows, link_rows}
@@ -96,7 +97,7 @@ rows_more layout tree old mid new rows more before h = record {
 abbrev pub five : ℤ → ℤ → ℤ → ℤ → List ℕ → Row
 five off place kind id content = Int off ∷ Int place ∷ Int kind ∷ Int id ∷ Octets content ∷ []
 
-pub adds_body : (old new : State) (off place kind id : ℤ) (content : List ℕ) (count : ℕ) → IsWriting Bodies old → ExecutesInside 0 insert_body_text (five off place kind id content) old new (Ok count)
+pub adds_body : (old new : State) (off place kind id : ℤ) (content : List ℕ) (count : ℕ) → IsWriting Bodies old → ExecutesInside 0 INSERT_BODY.now (five off place kind id content) old new (Ok count)
     → AddsRow Bodies 2 old new (five off place kind id content)
 adds_body old new off place kind id content count over h =
     let row = five off place kind id content in
@@ -108,7 +109,7 @@ adds_body old new off place kind id content count over h =
       rows = row_added body_schema body old.now.trees new.now.trees row row body_terms it.1 (rw (cast_null, cast_int off, cast_int place, cast_int kind, cast_int id) refl);
     }
 
-pub adds_extent : (layout : Layout) (old new : State) (off fin : ℤ) (digest : List ℕ) (kind n : ℤ) (count : ℕ) → IsWriting layout old → ExecutesInside 0 insert_blob_text (blob_values off fin digest kind n) old new (Ok count)
+pub adds_extent : (layout : Layout) (old new : State) (off fin : ℤ) (digest : List ℕ) (kind n : ℤ) (count : ℕ) → IsWriting layout old → ExecutesInside 0 INSERT_BLOB.now (blob_values off fin digest kind n) old new (Ok count)
     → AddsExtent layout old new (new_blob off fin digest kind n)
 adds_extent layout old new off fin digest kind n count over h =
     let it = inserts_blob layout (blob_values off fin digest kind n) old new count over.schema_is h.0 in

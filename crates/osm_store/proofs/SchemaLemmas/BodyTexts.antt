@@ -9,21 +9,22 @@ use Rattle.sqlite.specs.Term.{Term, lit, col}
 use Rattle.sqlite.specs.declared.types.Value.TheVariants.{Null, Int}
 use Rattle.sqlite.specs.Listing.{understood}
 use Rattle.sqlite.proofs.Callers.{IsPlain, command_of, statement_of}
-use Rattle.osm_store.specs.Schema.Bodies.{body_version_text, select_version_text, insert_blob_text, insert_body_text, meta_text, blob_text, body_text, body_index_text, meta, blob, body, by_element, no_schema, one_table, two_tables, three_tables, body_schema}
+use Rattle.osm_store.specs.declared.schema.sql.TheConstants.{INSERT_BODY_VERSION, SELECT_VERSION, INSERT_BLOB, INSERT_BODY, CREATE_META, CREATE_BLOB, CREATE_BODY, CREATE_BODY_INDEX}
+use Rattle.osm_store.specs.Schema.Bodies.{meta, blob, body, by_element, no_schema, one_table, two_tables, three_tables, body_schema}
 
-pub meta_defined : table_defined_by meta_text ≡ Ok meta
+pub meta_defined : table_defined_by CREATE_META.now ≡ Ok meta
 unfolding everything
 meta_defined = refl
 
-pub blob_defined : table_defined_by blob_text ≡ Ok (record blob { tree = 0 })
+pub blob_defined : table_defined_by CREATE_BLOB.now ≡ Ok (record blob { tree = 0 })
 unfolding everything
 blob_defined = refl
 
-pub body_defined : table_defined_by body_text ≡ Ok (record body { tree = 0 })
+pub body_defined : table_defined_by CREATE_BODY.now ≡ Ok (record body { tree = 0 })
 unfolding everything
 body_defined = refl
 
-pub index_defined : index_defined_by body body_index_text ≡ Ok (record by_element { tree = 0 })
+pub index_defined : index_defined_by body CREATE_BODY_INDEX.now ≡ Ok (record by_element { tree = 0 })
 unfolding everything
 index_defined = refl
 
@@ -50,62 +51,62 @@ blob_terms = col 0 0 ∷ lit Null ∷ col 0 1 ∷ col 0 2 ∷ col 0 3 ∷ col 0 
 abbrev pub body_terms : List Term
 body_terms = lit Null ∷ col 0 0 ∷ col 0 1 ∷ col 0 2 ∷ col 0 3 ∷ col 0 4 ∷ []
 
-pub version_is : command_of (understood body_schema body_version_text) ≡ Insert 0 (Values version_terms 2)
+pub version_is : command_of (understood body_schema INSERT_BODY_VERSION.now) ≡ Insert 0 (Values version_terms 2)
 unfolding understood everything
 version_is = refl
 
-pub insert_blob_is : command_of (understood body_schema insert_blob_text) ≡ Insert 1 (Values blob_terms 6)
+pub insert_blob_is : command_of (understood body_schema INSERT_BLOB.now) ≡ Insert 1 (Values blob_terms 6)
 unfolding understood everything
 insert_blob_is = refl
 
-pub insert_body_is : command_of (understood body_schema insert_body_text) ≡ Insert 2 (Values body_terms 6)
+pub insert_body_is : command_of (understood body_schema INSERT_BODY.now) ≡ Insert 2 (Values body_terms 6)
 unfolding understood everything
 insert_body_is = refl
 
-pub version_plain : IsPlain (understood body_schema body_version_text)
+pub version_plain : IsPlain (understood body_schema INSERT_BODY_VERSION.now)
 unfolding understood everything
 version_plain = (refl, refl)
 
-pub insert_blob_plain : IsPlain (understood body_schema insert_blob_text)
+pub insert_blob_plain : IsPlain (understood body_schema INSERT_BLOB.now)
 unfolding understood everything
 insert_blob_plain = (refl, refl)
 
-pub insert_body_plain : IsPlain (understood body_schema insert_body_text)
+pub insert_body_plain : IsPlain (understood body_schema INSERT_BODY.now)
 unfolding understood everything
 insert_body_plain = (refl, refl)
 
-pub meta_is : (command_of (understood no_schema meta_text) ≡ CreateTable) × (statement_of meta_text (understood no_schema meta_text) ≡ meta_text)
+pub meta_is : (command_of (understood no_schema CREATE_META.now) ≡ CreateTable) × (statement_of CREATE_META.now (understood no_schema CREATE_META.now) ≡ CREATE_META.now)
 unfolding understood everything
 meta_is = (refl, refl)
 
-pub blob_is : (command_of (understood one_table blob_text) ≡ CreateTable) × (statement_of blob_text (understood one_table blob_text) ≡ blob_text)
+pub blob_is : (command_of (understood one_table CREATE_BLOB.now) ≡ CreateTable) × (statement_of CREATE_BLOB.now (understood one_table CREATE_BLOB.now) ≡ CREATE_BLOB.now)
 unfolding understood everything
 blob_is = (refl, refl)
 
-pub body_is : (command_of (understood two_tables body_text) ≡ CreateTable) × (statement_of body_text (understood two_tables body_text) ≡ body_text)
+pub body_is : (command_of (understood two_tables CREATE_BODY.now) ≡ CreateTable) × (statement_of CREATE_BODY.now (understood two_tables CREATE_BODY.now) ≡ CREATE_BODY.now)
 unfolding understood everything
 body_is = (refl, refl)
 
-pub index_is : (command_of (understood three_tables body_index_text) ≡ CreateIndex 2) × (statement_of body_index_text (understood three_tables body_index_text) ≡ body_index_text)
+pub index_is : (command_of (understood three_tables CREATE_BODY_INDEX.now) ≡ CreateIndex 2) × (statement_of CREATE_BODY_INDEX.now (understood three_tables CREATE_BODY_INDEX.now) ≡ CREATE_BODY_INDEX.now)
 unfolding understood everything
 index_is = (refl, refl)
 
-pub meta_plain : IsPlain (understood no_schema meta_text)
+pub meta_plain : IsPlain (understood no_schema CREATE_META.now)
 unfolding understood everything
 meta_plain = (refl, refl)
 
-pub blob_plain : IsPlain (understood one_table blob_text)
+pub blob_plain : IsPlain (understood one_table CREATE_BLOB.now)
 unfolding understood everything
 blob_plain = (refl, refl)
 
-pub body_plain : IsPlain (understood two_tables body_text)
+pub body_plain : IsPlain (understood two_tables CREATE_BODY.now)
 unfolding understood everything
 body_plain = (refl, refl)
 
-pub index_plain : IsPlain (understood three_tables body_index_text)
+pub index_plain : IsPlain (understood three_tables CREATE_BODY_INDEX.now)
 unfolding understood everything
 index_plain = (refl, refl)
 
-pub select_version_plain : IsPlain (understood body_schema select_version_text)
+pub select_version_plain : IsPlain (understood body_schema SELECT_VERSION.now)
 unfolding understood everything
 select_version_plain = (refl, refl)

@@ -6,10 +6,11 @@ use Rattle.sqlite.specs.Schema.{Schema}
 use Rattle.sqlite.proofs.InsideLemmas.{keeps_then}
 use Rattle.sqlite.specs.State.{State, Shows, KeepsCommit, ExecutesInside}
 use Rattle.sqlite_catalog.specs.Listing.{IsSound}
-use Rattle.osm_store.specs.Schema.Bodies.{meta_text, blob_text, body_text, body_index_text, meta, blob, body, by_element, no_schema, one_table, two_tables, three_tables, body_schema}
+use Rattle.osm_store.specs.declared.schema.sql.TheConstants.{CREATE_META, CREATE_BLOB, CREATE_BODY, CREATE_BODY_INDEX, CREATE_ELEMENT, CREATE_TAG, CREATE_LINK, CREATE_ELEMENT_INDEX}
+use Rattle.osm_store.specs.Schema.Bodies.{meta, blob, body, by_element, no_schema, one_table, two_tables, three_tables, body_schema}
 use Rattle.osm_store.specs.declared.schema.layout.Layout.{Layout}
 use Rattle.osm_store.specs.declared.schema.layout.Layout.TheVariants.{Bodies, Tables}
-use Rattle.osm_store.specs.Schema.Tables.{element_text, tag_text, link_text, element_index_text, element, tag, link, element_by_id, with_element, with_tag, with_link, table_schema}
+use Rattle.osm_store.specs.Schema.Tables.{element, tag, link, element_by_id, with_element, with_tag, with_link, table_schema}
 use Rattle.osm_store.specs.Schema.Layouts.{schema_of, version_text_of}
 use Rattle.osm_store.specs.Schema.Over.{IsOver, IsWriting, Becomes}
 use Rattle.osm_store.specs.declared.schema.create.Making.{Making}
@@ -28,28 +29,28 @@ becomes old new schema is sound shown = record { over = record { schema_is = is;
 module _ (old new : State) (count : ℕ) where
   pub makes : (what : Making) → IsOver (before what) old → ExecutesInside 0 (text_of what) [] old new (Ok count) → Makes what old new
   makes making.Meta over h =
-      let it = creates meta_text no_schema one_table meta_plain meta_is.1 meta meta_is.0 meta_defined meta_created refl old new count over.schema_is h.0 in
+      let it = creates CREATE_META.now no_schema one_table meta_plain meta_is.1 meta meta_is.0 meta_defined meta_created refl old new count over.schema_is h.0 in
       record { becomes = becomes old new one_table it.0 it.1 h.1; others = it.3; empty = (it.2, tt) }
   makes making.Blob over h =
-      let it = creates blob_text one_table two_tables blob_plain blob_is.1 (record blob { tree = 0 }) blob_is.0 blob_defined blob_created refl old new count over.schema_is h.0 in
+      let it = creates CREATE_BLOB.now one_table two_tables blob_plain blob_is.1 (record blob { tree = 0 }) blob_is.0 blob_defined blob_created refl old new count over.schema_is h.0 in
       record { becomes = becomes old new two_tables it.0 it.1 h.1; others = it.3; empty = (it.2, tt) }
   makes making.Body over h =
-      let it = creates body_text two_tables three_tables body_plain body_is.1 (record body { tree = 0 }) body_is.0 body_defined body_created refl old new count over.schema_is h.0 in
+      let it = creates CREATE_BODY.now two_tables three_tables body_plain body_is.1 (record body { tree = 0 }) body_is.0 body_defined body_created refl old new count over.schema_is h.0 in
       record { becomes = becomes old new three_tables it.0 it.1 h.1; others = it.3; empty = (it.2, tt) }
   makes making.BodyIndex over h =
-      let it = indexes body_index_text three_tables body_schema index_plain index_is.1 2 body (record by_element { tree = 0 }) index_is.0 refl index_defined index_created old new count over.schema_is h.0 in
+      let it = indexes CREATE_BODY_INDEX.now three_tables body_schema index_plain index_is.1 2 body (record by_element { tree = 0 }) index_is.0 refl index_defined index_created old new count over.schema_is h.0 in
       record { becomes = becomes old new body_schema it.0 it.1 h.1; others = it.2; empty = tt }
   makes making.Element over h =
-      let it = creates element_text two_tables with_element element_plain element_is.1 (record element { tree = 0 }) element_is.0 element_defined element_created refl old new count over.schema_is h.0 in
+      let it = creates CREATE_ELEMENT.now two_tables with_element element_plain element_is.1 (record element { tree = 0 }) element_is.0 element_defined element_created refl old new count over.schema_is h.0 in
       record { becomes = becomes old new with_element it.0 it.1 h.1; others = it.3; empty = (it.2, tt) }
   makes making.Tag over h =
-      let it = creates tag_text with_element with_tag tag_plain tag_is.1 (record tag { tree = 0 }) tag_is.0 tag_defined tag_created refl old new count over.schema_is h.0 in
+      let it = creates CREATE_TAG.now with_element with_tag tag_plain tag_is.1 (record tag { tree = 0 }) tag_is.0 tag_defined tag_created refl old new count over.schema_is h.0 in
       record { becomes = becomes old new with_tag it.0 it.1 h.1; others = it.3; empty = (it.2, tt) }
   makes making.Link over h =
-      let it = creates link_text with_tag with_link link_plain link_is.1 (record link { tree = 0 }) link_is.0 link_defined link_created refl old new count over.schema_is h.0 in
+      let it = creates CREATE_LINK.now with_tag with_link link_plain link_is.1 (record link { tree = 0 }) link_is.0 link_defined link_created refl old new count over.schema_is h.0 in
       record { becomes = becomes old new with_link it.0 it.1 h.1; others = it.3; empty = (it.2, tt) }
   makes making.ElementIndex over h =
-      let it = indexes element_index_text with_link table_schema element_index_plain element_index_is.1 2 element (record element_by_id { tree = 0 }) element_index_is.0 refl element_index_defined element_index_created old new count over.schema_is h.0 in
+      let it = indexes CREATE_ELEMENT_INDEX.now with_link table_schema element_index_plain element_index_is.1 2 element (record element_by_id { tree = 0 }) element_index_is.0 refl element_index_defined element_index_created old new count over.schema_is h.0 in
       record { becomes = becomes old new table_schema it.0 it.1 h.1; others = it.2; empty = tt }
 
   -- the tables of elements stay without rows

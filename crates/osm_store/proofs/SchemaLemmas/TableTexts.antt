@@ -9,23 +9,24 @@ use Rattle.sqlite.specs.Term.{Term, lit}
 use Rattle.sqlite.specs.declared.types.Value.TheVariants.{Null, Int}
 use Rattle.sqlite.specs.Listing.{understood}
 use Rattle.sqlite.proofs.Callers.{IsPlain, command_of, statement_of}
-use Rattle.osm_store.specs.Schema.Bodies.{insert_blob_text, two_tables}
-use Rattle.osm_store.specs.Schema.Tables.{table_version_text, element_text, tag_text, link_text, element_index_text, element, tag, link, element_by_id, with_element, with_tag, with_link, table_schema}
+use Rattle.osm_store.specs.declared.schema.sql.TheConstants.{INSERT_BLOB, INSERT_TABLE_VERSION, CREATE_ELEMENT, CREATE_TAG, CREATE_LINK, CREATE_ELEMENT_INDEX}
+use Rattle.osm_store.specs.Schema.Bodies.{two_tables}
+use Rattle.osm_store.specs.Schema.Tables.{element, tag, link, element_by_id, with_element, with_tag, with_link, table_schema}
 use Rattle.osm_store.proofs.SchemaLemmas.BodyTexts.{blob_terms}
 
-pub element_defined : table_defined_by element_text ≡ Ok (record element { tree = 0 })
+pub element_defined : table_defined_by CREATE_ELEMENT.now ≡ Ok (record element { tree = 0 })
 unfolding everything
 element_defined = refl
 
-pub tag_defined : table_defined_by tag_text ≡ Ok (record tag { tree = 0 })
+pub tag_defined : table_defined_by CREATE_TAG.now ≡ Ok (record tag { tree = 0 })
 unfolding everything
 tag_defined = refl
 
-pub link_defined : table_defined_by link_text ≡ Ok (record link { tree = 0 })
+pub link_defined : table_defined_by CREATE_LINK.now ≡ Ok (record link { tree = 0 })
 unfolding everything
 link_defined = refl
 
-pub element_index_defined : index_defined_by element element_index_text ≡ Ok (record element_by_id { tree = 0 })
+pub element_index_defined : index_defined_by element CREATE_ELEMENT_INDEX.now ≡ Ok (record element_by_id { tree = 0 })
 unfolding everything
 element_index_defined = refl
 
@@ -45,53 +46,53 @@ pub element_index_created : indexed with_link element (record element_by_id { tr
 unfolding everything
 element_index_created = refl
 
-pub element_is : (command_of (understood two_tables element_text) ≡ CreateTable) × (statement_of element_text (understood two_tables element_text) ≡ element_text)
+pub element_is : (command_of (understood two_tables CREATE_ELEMENT.now) ≡ CreateTable) × (statement_of CREATE_ELEMENT.now (understood two_tables CREATE_ELEMENT.now) ≡ CREATE_ELEMENT.now)
 unfolding understood everything
 element_is = (refl, refl)
 
-pub tag_is : (command_of (understood with_element tag_text) ≡ CreateTable) × (statement_of tag_text (understood with_element tag_text) ≡ tag_text)
+pub tag_is : (command_of (understood with_element CREATE_TAG.now) ≡ CreateTable) × (statement_of CREATE_TAG.now (understood with_element CREATE_TAG.now) ≡ CREATE_TAG.now)
 unfolding understood everything
 tag_is = (refl, refl)
 
-pub link_is : (command_of (understood with_tag link_text) ≡ CreateTable) × (statement_of link_text (understood with_tag link_text) ≡ link_text)
+pub link_is : (command_of (understood with_tag CREATE_LINK.now) ≡ CreateTable) × (statement_of CREATE_LINK.now (understood with_tag CREATE_LINK.now) ≡ CREATE_LINK.now)
 unfolding understood everything
 link_is = (refl, refl)
 
-pub element_index_is : (command_of (understood with_link element_index_text) ≡ CreateIndex 2) × (statement_of element_index_text (understood with_link element_index_text) ≡ element_index_text)
+pub element_index_is : (command_of (understood with_link CREATE_ELEMENT_INDEX.now) ≡ CreateIndex 2) × (statement_of CREATE_ELEMENT_INDEX.now (understood with_link CREATE_ELEMENT_INDEX.now) ≡ CREATE_ELEMENT_INDEX.now)
 unfolding understood everything
 element_index_is = (refl, refl)
 
-pub element_plain : IsPlain (understood two_tables element_text)
+pub element_plain : IsPlain (understood two_tables CREATE_ELEMENT.now)
 unfolding understood everything
 element_plain = (refl, refl)
 
-pub tag_plain : IsPlain (understood with_element tag_text)
+pub tag_plain : IsPlain (understood with_element CREATE_TAG.now)
 unfolding understood everything
 tag_plain = (refl, refl)
 
-pub link_plain : IsPlain (understood with_tag link_text)
+pub link_plain : IsPlain (understood with_tag CREATE_LINK.now)
 unfolding understood everything
 link_plain = (refl, refl)
 
-pub element_index_plain : IsPlain (understood with_link element_index_text)
+pub element_index_plain : IsPlain (understood with_link CREATE_ELEMENT_INDEX.now)
 unfolding understood everything
 element_index_plain = (refl, refl)
 
 abbrev pub table_version_terms : List Term
 table_version_terms = lit (Int (pos 2)) ∷ lit Null ∷ []
 
-pub table_version_is : command_of (understood table_schema table_version_text) ≡ Insert 0 (Values table_version_terms 2)
+pub table_version_is : command_of (understood table_schema INSERT_TABLE_VERSION.now) ≡ Insert 0 (Values table_version_terms 2)
 unfolding understood everything
 table_version_is = refl
 
-pub table_version_plain : IsPlain (understood table_schema table_version_text)
+pub table_version_plain : IsPlain (understood table_schema INSERT_TABLE_VERSION.now)
 unfolding understood everything
 table_version_plain = (refl, refl)
 
-pub table_blob_is : command_of (understood table_schema insert_blob_text) ≡ Insert 1 (Values blob_terms 6)
+pub table_blob_is : command_of (understood table_schema INSERT_BLOB.now) ≡ Insert 1 (Values blob_terms 6)
 unfolding understood everything
 table_blob_is = refl
 
-pub table_blob_plain : IsPlain (understood table_schema insert_blob_text)
+pub table_blob_plain : IsPlain (understood table_schema INSERT_BLOB.now)
 unfolding understood everything
 table_blob_plain = (refl, refl)

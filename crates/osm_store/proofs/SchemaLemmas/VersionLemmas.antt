@@ -6,9 +6,9 @@ use Rattle.sqlite.specs.Order.{Row, column}
 use Rattle.sqlite.specs.State.{State}
 use Rattle.osm_store.specs.declared.fault.StoreFault.{StoreFault}
 use Rattle.osm_store.specs.Load.Asking.{IsAnswered, NamesVersion}
-use Rattle.osm_store.specs.Schema.Bodies.{select_version_text}
+use Rattle.osm_store.specs.declared.schema.sql.TheConstants.{SELECT_VERSION}
 
-pub names_version : (old new : State) (rows : List Row) {shown : List Row} (r : Result ℤ StoreFault) → shown ≡ rows → IsAnswered select_version_text [] old new rows
+pub names_version : (old new : State) (rows : List Row) {shown : List Row} (r : Result ℤ StoreFault) → shown ≡ rows → IsAnswered SELECT_VERSION.now [] old new rows
     → IfOk r (λ version. (row : Row) × (shown ≡ row ∷ []) × (column row 0 ≡ Int version)) → IfOk r (NamesVersion old new)
-names_version old new rows (Ok version) is answered h = record { row = h.0; answered = subst (IsAnswered select_version_text [] old new) (sym is ∙ h.1) answered; named = h.2 }
+names_version old new rows (Ok version) is answered h = record { row = h.0; answered = subst (IsAnswered SELECT_VERSION.now [] old new) (sym is ∙ h.1) answered; named = h.2 }
 names_version old new rows (Err fault) is answered h = tt

@@ -3,7 +3,7 @@ use Rattle.std.specs.Prelude.{◌≡◌, false, IsTrue, ℕ, ℤ, List, [], ◌�
 use Rattle.sqlite.specs.declared.types.Value.TheVariants.{Int}
 use Rattle.sqlite.specs.Order.{Row, column}
 use Rattle.sqlite.specs.State.{State, HasCleanDisk, Shown, Survives}
-use Rattle.osm_store.specs.Schema.Bodies.{select_version_text}
+use Rattle.osm_store.specs.declared.schema.sql.TheConstants.{SELECT_VERSION}
 
 -- The connection sees the last commit as before, and, where no transaction had written, the same rows and schema.
 pub record Keeps (old new : State) : Type 0 where
@@ -26,5 +26,5 @@ pub record IsAnswered (sql : List ℕ) (params : Row) (old new : State) (rows : 
 -- The table `meta` was asked, and has one row, which names this version.
 pub record NamesVersion (old new : State) (version : ℤ) : Type 0 where
   pub row : Row
-  pub answered : IsAnswered select_version_text [] old new (row ∷ [])
+  pub answered : IsAnswered SELECT_VERSION.now [] old new (row ∷ [])
   pub named : column row 0 ≡ Int version

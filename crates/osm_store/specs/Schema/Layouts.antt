@@ -3,8 +3,9 @@ use Rattle.std.specs.Prelude.{ℕ, List}
 use Rattle.sqlite.specs.Schema.{Schema}
 use Rattle.osm_store.specs.declared.schema.layout.Layout.{Layout}
 use Rattle.osm_store.specs.declared.schema.layout.Layout.TheVariants.{Bodies, Tables}
-use Rattle.osm_store.specs.Schema.Bodies.{body_schema, body_version_text}
-use Rattle.osm_store.specs.Schema.Tables.{table_schema, table_version_text}
+use Rattle.osm_store.specs.declared.schema.sql.TheConstants.{INSERT_BODY_VERSION, INSERT_TABLE_VERSION}
+use Rattle.osm_store.specs.Schema.Bodies.{body_schema}
+use Rattle.osm_store.specs.Schema.Tables.{table_schema}
 
 abbrev pub schema_of : Layout → Schema
 schema_of Bodies = body_schema
@@ -17,5 +18,5 @@ version_of Tables = 2
 
 -- the statement that writes it
 abbrev pub version_text_of : Layout → List ℕ
-version_text_of Bodies = body_version_text
-version_text_of Tables = table_version_text
+version_text_of Bodies = INSERT_BODY_VERSION.now
+version_text_of Tables = INSERT_TABLE_VERSION.now

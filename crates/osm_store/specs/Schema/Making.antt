@@ -11,21 +11,23 @@ use Rattle.osm_store.specs.declared.schema.create.Making.{Making}
 use Rattle.osm_store.specs.declared.schema.create.Making.TheVariants as making
 use Rattle.osm_store.specs.declared.schema.layout.Layout.{Layout}
 use Rattle.osm_store.specs.declared.schema.layout.Layout.TheVariants.{Bodies, Tables}
-use Rattle.osm_store.specs.Schema.Bodies.{meta_text, blob_text, body_text, body_index_text, meta, blob, body, no_schema, one_table, two_tables, three_tables, body_schema}
-use Rattle.osm_store.specs.Schema.Tables.{element_text, tag_text, link_text, element_index_text, element, tag, link, with_element, with_tag, with_link, table_schema}
+use Rattle.osm_store.specs.declared.schema.sql.TheConstants.{CREATE_META, CREATE_BLOB, CREATE_BODY, CREATE_BODY_INDEX, CREATE_ELEMENT, CREATE_TAG, CREATE_LINK, CREATE_ELEMENT_INDEX}
+use Rattle.osm_store.specs.Schema.Bodies.{meta, blob, body, no_schema, one_table, two_tables, three_tables, body_schema}
+use Rattle.osm_store.specs.Schema.Tables.{element, tag, link, with_element, with_tag, with_link, table_schema}
 use Rattle.osm_store.specs.Schema.Layouts.{schema_of}
 use Rattle.osm_store.specs.Schema.Over.{Becomes}
 use Rattle.osm_store.specs.Rows.{version_row}
 
+-- the statement that makes it
 abbrev pub text_of : Making → List ℕ
-text_of making.Meta = meta_text
-text_of making.Blob = blob_text
-text_of making.Body = body_text
-text_of making.BodyIndex = body_index_text
-text_of making.Element = element_text
-text_of making.Tag = tag_text
-text_of making.Link = link_text
-text_of making.ElementIndex = element_index_text
+text_of making.Meta = CREATE_META.now
+text_of making.Blob = CREATE_BLOB.now
+text_of making.Body = CREATE_BODY.now
+text_of making.BodyIndex = CREATE_BODY_INDEX.now
+text_of making.Element = CREATE_ELEMENT.now
+text_of making.Tag = CREATE_TAG.now
+text_of making.Link = CREATE_LINK.now
+text_of making.ElementIndex = CREATE_ELEMENT_INDEX.now
 
 -- the schema over which a statement is run
 abbrev pub before : Making → Schema

@@ -13,7 +13,6 @@ ghost use Rattle.osm_store.specs.Load.Loading.{HasRowsOf};
 ghost use Rattle.osm_store.specs.Rows.{is_of, placed_in};
 
 use crate::fault::StoreFault;
-use crate::keeper::OFFSET_LIMIT;
 use crate::load::answer::{answer, integer, number};
 use crate::load::found::{Found, FoundBodies, FoundRows};
 use crate::load::loaded::{Loaded, LoadedBodies, LoadedRows};
@@ -21,6 +20,7 @@ use crate::schema::Layout;
 use crate::schema::codes::element_code;
 use crate::schema::sql::{FIND_BODIES, SELECT_BODIES};
 use osm_value::MemberKind;
+use pbf_frame::MAX_OFFSET;
 use sqlite::{Alter, Connection};
 use std::alloc::Global;
 
@@ -34,7 +34,8 @@ pub(crate) fn load_bodies<S: Alter>(
         → MatchResult result (λ loaded. ((blob : Blob) → map.get held off ≡ Some blob → HasRowsOf loaded blob.elements) × IsTrue (state S.Store connection.new).is_open) (λ fault. ¬ (IsForeign fault)) }
     ensures asks { JustAsks (state S.Store connection.old) (state S.Store connection.new) }
 {
-    if off >= OFFSET_LIMIT {
+    // A held blob has bytes, and ends at `MAX_OFFSET` at most.
+    if off >= MAX_OFFSET {
         let bodies = LoadedBodies {
             rows: Vec::new(alloc),
         };

@@ -1,6 +1,6 @@
 //! The extents of the held blobs.
 
-ghost use Rattle.std.specs.Prelude.{◌≡◌, ◌∷◌, [], ◌<◌, ◌≤◌, ◌^◌, ℤ, pos, filter, Some, None, Ok, List, map, IsTrue, MatchResult, IfOk, All};
+ghost use Rattle.std.specs.Prelude.{◌≡◌, ◌∷◌, [], ◌<◌, ◌≤◌, ℤ, pos, filter, Some, None, Ok, List, map, IsTrue, MatchResult, IfOk, All};
 ghost use Rattle.sqlite.specs.declared.types.Value.TheVariants.{Int};
 ghost use Rattle.sqlite.specs.Order.{Row};
 ghost use Rattle.sqlite.specs.State.{HasCleanDisk};
@@ -13,11 +13,12 @@ ghost use Rattle.osm_store.specs.Rows.{extent_columns};
 ghost use Rattle.osm_store.specs.Load.Starting.{IsStart};
 
 use crate::fault::{StoreFault, unread};
-use crate::keeper::{Extent, OFFSET_LIMIT};
+use crate::keeper::Extent;
 use crate::load::answer::{answer, integer, number};
 use crate::schema::Layout;
 use crate::schema::codes::blob_kind;
 use crate::schema::sql::{SELECT_EXTENTS, SELECT_LAST_START, SELECT_TOUCHING};
+use pbf_frame::MAX_OFFSET;
 use sqlite::{Alter, Connection, Row};
 use std::alloc::Global;
 
@@ -34,7 +35,7 @@ fn extent_of(row: &Row) -> Result<Extent, StoreFault>
     let (Some(digest), Some(kind)) = (digest.as_array(), blob_kind(code)) else {
         return Err(StoreFault::NotThisStore(None));
     };
-    if off >= fin || fin > OFFSET_LIMIT {
+    if off >= fin || fin > MAX_OFFSET {
         return Err(StoreFault::NotThisStore(None));
     }
     Ok(Extent {
@@ -85,7 +86,7 @@ fn first_offset(rows: &[Row]) -> Result<i64, StoreFault>
 
 /// The offset of the last blob that starts at `from` or before. Since extents don't meet, those before it end there.
 fn last_start<S: Alter>(connection: &mut Connection<S>, from: u64) -> Result<i64, StoreFault>
-    requires { from ≤ 2 ^ 62 }
+    requires { from ≤ MAX_OFFSET }
     ensures held { HasCleanDisk (state S.Store connection.new) → (layout : Layout) (held : HeldMap) → Holds layout (state S.Store connection.old) held
         → MatchResult result (λ start. IsStart from (extents_of held) start × IsTrue (state S.Store connection.new).is_open) (λ fault. ¬ (IsForeign fault)) }
     ensures asks { JustAsks (state S.Store connection.old) (state S.Store connection.new) }
@@ -102,7 +103,7 @@ pub(crate) fn touched_extents<S: Alter>(
     from: u64,
     to: u64,
 ) -> Result<Vec<Extent>, StoreFault>
-    requires { (from < to) × (to ≤ 2 ^ 62) }
+    requires { (from < to) × (to ≤ MAX_OFFSET) }
     ensures held { HasCleanDisk (state S.Store connection.new) → (layout : Layout) (held : HeldMap) → Holds layout (state S.Store connection.old) held
         → MatchResult result (λ extents. (extents.items ≡ filter (touches from to) (extents_of held)) × IsTrue (state S.Store connection.new).is_open) (λ fault. ¬ (IsForeign fault)) }
     ensures asks { JustAsks (state S.Store connection.old) (state S.Store connection.new) }

@@ -18,11 +18,11 @@ ghost use Rattle.osm_store.specs.Load.Loading.{HasRowsOf};
 ghost use Rattle.osm_store.specs.Rows.{is_of, placed_in};
 
 use crate::fault::StoreFault;
-use crate::keeper::OFFSET_LIMIT;
 use crate::load::found::{Found, FoundRows};
 use crate::load::loaded::{Loaded, LoadedRows};
 use crate::schema::Layout;
 use osm_value::MemberKind;
+use pbf_frame::MAX_OFFSET;
 pub(crate) use rows::TableRows;
 use rows::load_table_rows;
 use search::find_table_rows;
@@ -39,7 +39,8 @@ pub(crate) fn load_tables<S: Alter>(
         → MatchResult result (λ loaded. ((blob : Blob) → map.get held off ≡ Some blob → HasRowsOf loaded blob.elements) × IsTrue (state S.Store connection.new).is_open) (λ fault. ¬ (IsForeign fault)) }
     ensures asks { JustAsks (state S.Store connection.old) (state S.Store connection.new) }
 {
-    if off >= OFFSET_LIMIT {
+    // A held blob has bytes, and ends at `MAX_OFFSET` at most.
+    if off >= MAX_OFFSET {
         let rows = TableRows {
             elements: Vec::new(alloc),
             tags: Vec::new(alloc),

@@ -1,6 +1,6 @@
 //! A blob's elements in the layout of bodies: each as a row with the canonical block of it alone.
 
-ghost use Rattle.std.specs.Prelude.{◌≤◌, ◌^◌, OnOk, map};
+ghost use Rattle.std.specs.Prelude.{◌<◌, ◌≤◌, ◌^◌, OnOk, map};
 ghost use Rattle.std.specs.List.{AllByRecursion};
 ghost use Rattle.sqlite.specs.State.{HasCleanDisk};
 ghost use Rattle.sqlite.specs.Held.{state};
@@ -15,6 +15,7 @@ use crate::schema::codes::element_code;
 use crate::schema::sql::INSERT_BODY;
 use osm_value::{Element, MemberKind};
 use osm_write::encode_one;
+use pbf_frame::MAX_OFFSET;
 use sqlite::{Alter, Transaction, params};
 use std::alloc::Global;
 
@@ -27,7 +28,7 @@ fn add_body<S: Alter>(
     id: i64,
     block: &[u8],
 ) -> Result<(), StoreFault>
-    requires bounds { (off ≤ 2 ^ 62) × (position ≤ 2 ^ 62) }
+    requires bounds { (off ≤ MAX_OFFSET) × (position < 2 ^ 63) }
     ensures step { WorksInside S.Store transaction.old.conn result transaction.new.conn }
     ensures added { HasCleanDisk (state S.Store transaction.new.conn.now) → IsWriting Layout.Bodies (state S.Store transaction.old.conn.now)
         → OnOk result (AddsRow Layout.Bodies 2 (state S.Store transaction.old.conn.now) (state S.Store transaction.new.conn.now) (body_columns off position kind id block.now)) }
@@ -48,7 +49,7 @@ fn add_element<S: Alter>(
     position: u64,
     element: &Element,
 ) -> Result<(), StoreFault>
-    requires bounds { (off ≤ 2 ^ 62) × (position ≤ 2 ^ 62) }
+    requires bounds { (off ≤ MAX_OFFSET) × (position < 2 ^ 63) }
     ensures step { WorksInside S.Store transaction.old.conn result transaction.new.conn }
     ensures added { HasCleanDisk (state S.Store transaction.new.conn.now) → IsWriting Layout.Bodies (state S.Store transaction.old.conn.now)
         → OnOk result (AddsRow Layout.Bodies 2 (state S.Store transaction.old.conn.now) (state S.Store transaction.new.conn.now) (body_row (off, position, element.now))) }
@@ -72,7 +73,7 @@ pub(crate) fn add_bodies<S: Alter>(
     off: u64,
     elements: &[Element],
 ) -> Result<(), StoreFault>
-    requires bounds { off ≤ 2 ^ 62 }
+    requires bounds { off ≤ MAX_OFFSET }
     ensures step { WorksInside S.Store transaction.old.conn result transaction.new.conn }
     ensures added { HasCleanDisk (state S.Store transaction.new.conn.now) → IsWriting Layout.Bodies (state S.Store transaction.old.conn.now)
         → OnOk result (AddsRows Layout.Bodies 2 (state S.Store transaction.old.conn.now) (state S.Store transaction.new.conn.now) (map body_row (placed off 0 elements.now))) }

@@ -1,6 +1,6 @@
 //! A blob's elements in the layout of tables: all their rows are made, and then written.
 
-ghost use Rattle.std.specs.Prelude.{◌≡◌, ◌++◌, ◌≤◌, ◌^◌, pos, List, map, OnOk, IfOk};
+ghost use Rattle.std.specs.Prelude.{◌≡◌, ◌++◌, ◌<◌, ◌≤◌, ◌^◌, pos, List, map, OnOk, IfOk};
 ghost use Rattle.std.specs.List.{AllByRecursion};
 ghost use Rattle.sqlite.specs.State.{HasCleanDisk};
 ghost use Rattle.sqlite.specs.Held.{state};
@@ -17,12 +17,13 @@ use crate::put::table_row::{ElementRow, LinkRow, TagRow, add_rows};
 use crate::schema::Layout;
 use osm_value::laws::elements_in_range;
 use osm_value::{Element, Member, MemberKind};
+use pbf_frame::MAX_OFFSET;
 use sqlite::{Alter, Transaction};
 use std::alloc::{AllocError, Global};
 
 /// A number as `sqlite` keeps it.
 fn signed(number: u64) -> i64
-    requires { number ≤ 2 ^ 62 }
+    requires { number < 2 ^ 63 }
     ensures { result ≡ pos number }
 {
     number as i64
@@ -47,7 +48,7 @@ fn lon_of(element: &Element) -> Option<i64>
 }
 
 fn element_row<'a>(off: u64, position: u64, element: &Element<'a>) -> ElementRow<'a>
-    requires bounds { (off ≤ 2 ^ 62) × (position ≤ 2 ^ 62) }
+    requires bounds { (off ≤ MAX_OFFSET) × (position < 2 ^ 63) }
     ensures { element_columns result ≡ element_row (off, position, element.now) }
 {
     let info = element.info();
@@ -73,7 +74,7 @@ fn element_rows<'a>(
     off: u64,
     elements: &[Element<'a>],
 ) -> Result<Vec<ElementRow<'a>>, AllocError>
-    requires bounds { off ≤ 2 ^ 62 }
+    requires bounds { off ≤ MAX_OFFSET }
     ensures { IfOk result (λ rows. map element_columns rows.items ≡ element_rows (placed off 0 elements.now)) }
 {
     let mut rows = Vec::new(alloc);
@@ -84,7 +85,7 @@ fn element_rows<'a>(
 }
 
 fn tag_row<'a>(off: u64, position: u64, number: u64, tag: &(&'a str, &'a str)) -> TagRow<'a>
-    requires bounds { (off ≤ 2 ^ 62) × (position ≤ 2 ^ 62) × (number ≤ 2 ^ 62) }
+    requires bounds { (off ≤ MAX_OFFSET) × (position < 2 ^ 63) × (number < 2 ^ 63) }
     ensures { tag_columns result ≡ tag_row (record { off = off; position = position; number = number; item = (tag.now.0.now, tag.now.1.now) }) }
 {
     TagRow {
@@ -103,7 +104,7 @@ fn push_pairs<'a>(
     position: u64,
     tags: &[(&'a str, &'a str)],
 ) -> Result<(), AllocError>
-    requires bounds { (off ≤ 2 ^ 62) × (position ≤ 2 ^ 62) }
+    requires bounds { (off ≤ MAX_OFFSET) × (position < 2 ^ 63) }
     ensures { OnOk result (map tag_columns rows.new.items ≡ map tag_columns rows.old.items ++ map tag_row (parts off position 0 (map (λ t. (t.0.now, t.1.now)) tags.now))) }
 {
     for (number, tag) in tags.iter().enumerate() {
@@ -119,7 +120,7 @@ fn push_tags<'a>(
     position: u64,
     element: &Element<'a>,
 ) -> Result<(), AllocError>
-    requires bounds { (off ≤ 2 ^ 62) × (position ≤ 2 ^ 62) }
+    requires bounds { (off ≤ MAX_OFFSET) × (position < 2 ^ 63) }
     ensures { OnOk result (map tag_columns rows.new.items ≡ map tag_columns rows.old.items ++ map tag_row (parts off position 0 (tags_of_element element.now))) }
 {
     push_pairs(rows, off, position, element.tags())
@@ -131,7 +132,7 @@ fn tag_rows<'a>(
     off: u64,
     elements: &[Element<'a>],
 ) -> Result<Vec<TagRow<'a>>, AllocError>
-    requires bounds { off ≤ 2 ^ 62 }
+    requires bounds { off ≤ MAX_OFFSET }
     ensures { IfOk result (λ rows. map tag_columns rows.items ≡ tag_rows (placed off 0 elements.now)) }
 {
     let mut rows = Vec::new(alloc);
@@ -142,7 +143,7 @@ fn tag_rows<'a>(
 }
 
 fn node_row<'a>(off: u64, position: u64, number: u64, node: &i64) -> LinkRow<'a>
-    requires bounds { (off ≤ 2 ^ 62) × (position ≤ 2 ^ 62) × (number ≤ 2 ^ 62) }
+    requires bounds { (off ≤ MAX_OFFSET) × (position < 2 ^ 63) × (number < 2 ^ 63) }
     ensures { link_columns result ≡ link_row (record { off = off; position = position; number = number; item = node_link node.now }) }
 {
     LinkRow {
@@ -156,7 +157,7 @@ fn node_row<'a>(off: u64, position: u64, number: u64, node: &i64) -> LinkRow<'a>
 }
 
 fn member_row<'a>(off: u64, position: u64, number: u64, member: &Member<'a>) -> LinkRow<'a>
-    requires bounds { (off ≤ 2 ^ 62) × (position ≤ 2 ^ 62) × (number ≤ 2 ^ 62) }
+    requires bounds { (off ≤ MAX_OFFSET) × (position < 2 ^ 63) × (number < 2 ^ 63) }
     ensures { link_columns result ≡ link_row (record { off = off; position = position; number = number; item = member.now }) }
 {
     LinkRow {
@@ -176,7 +177,7 @@ fn push_nodes<'a>(
     position: u64,
     refs: &[i64],
 ) -> Result<(), AllocError>
-    requires bounds { (off ≤ 2 ^ 62) × (position ≤ 2 ^ 62) }
+    requires bounds { (off ≤ MAX_OFFSET) × (position < 2 ^ 63) }
     ensures { OnOk result (map link_columns rows.new.items ≡ map link_columns rows.old.items ++ map link_row (parts off position 0 (map node_link refs.now))) }
 {
     for (number, node) in refs.iter().enumerate() {
@@ -192,7 +193,7 @@ fn push_members<'a>(
     position: u64,
     members: &[Member<'a>],
 ) -> Result<(), AllocError>
-    requires bounds { (off ≤ 2 ^ 62) × (position ≤ 2 ^ 62) }
+    requires bounds { (off ≤ MAX_OFFSET) × (position < 2 ^ 63) }
     ensures { OnOk result (map link_columns rows.new.items ≡ map link_columns rows.old.items ++ map link_row (parts off position 0 members.now)) }
 {
     for (number, member) in members.iter().enumerate() {
@@ -208,7 +209,7 @@ fn push_links<'a>(
     position: u64,
     element: &Element<'a>,
 ) -> Result<(), AllocError>
-    requires bounds { (off ≤ 2 ^ 62) × (position ≤ 2 ^ 62) }
+    requires bounds { (off ≤ MAX_OFFSET) × (position < 2 ^ 63) }
     ensures { OnOk result (map link_columns rows.new.items ≡ map link_columns rows.old.items ++ map link_row (parts off position 0 (links_of element.now))) }
 {
     match element {
@@ -224,7 +225,7 @@ fn link_rows<'a>(
     off: u64,
     elements: &[Element<'a>],
 ) -> Result<Vec<LinkRow<'a>>, AllocError>
-    requires bounds { off ≤ 2 ^ 62 }
+    requires bounds { off ≤ MAX_OFFSET }
     ensures { IfOk result (λ rows. map link_columns rows.items ≡ link_rows (placed off 0 elements.now)) }
 {
     let mut rows = Vec::new(alloc);
@@ -259,7 +260,7 @@ pub(crate) fn add_table_rows<S: Alter>(
     off: u64,
     elements: &[Element],
 ) -> Result<(), StoreFault>
-    requires bounds { off ≤ 2 ^ 62 }
+    requires bounds { off ≤ MAX_OFFSET }
     ensures step { WorksInside S.Store transaction.old.conn result transaction.new.conn }
     ensures added { HasCleanDisk (state S.Store transaction.new.conn.now) → IsWriting Layout.Tables (state S.Store transaction.old.conn.now)
         → OnOk result (AddsElements Layout.Tables (state S.Store transaction.old.conn.now) (state S.Store transaction.new.conn.now) (placed off 0 elements.now)) }

@@ -1,6 +1,6 @@
 //! The rows of a blob, written in one transaction.
 
-ghost use Rattle.std.specs.Prelude.{◌≡◌, ◌≤◌, ◌^◌, false, IsTrue, OnOk, OnErr, IfErr};
+ghost use Rattle.std.specs.Prelude.{◌≡◌, ◌<◌, ◌≤◌, ◌^◌, false, IsTrue, OnOk, OnErr, IfErr};
 ghost use Rattle.std.specs.List.{AllByRecursion};
 ghost use Rattle.sqlite.specs.State.{HasCleanDisk, Survives};
 ghost use Rattle.sqlite.specs.Held.{state};
@@ -19,6 +19,7 @@ use crate::schema::Layout;
 use crate::schema::codes::blob_code;
 use crate::schema::sql::INSERT_BLOB;
 use osm_value::Element;
+use pbf_frame::MAX_OFFSET;
 use sqlite::{Alter, Connection, Transaction, params};
 use std::alloc::Global;
 
@@ -27,7 +28,7 @@ fn add_extent<S: Alter>(
     extent: &Extent,
 ) -> Result<(), StoreFault>
     requires inside { IsTrue (state S.Store transaction.old.conn.now).in_transaction }
-    requires bounds { (extent.now.off ≤ 2 ^ 62) × (extent.now.fin ≤ 2 ^ 62) × (extent.now.n ≤ 2 ^ 62) }
+    requires bounds { (extent.now.off ≤ MAX_OFFSET) × (extent.now.fin ≤ MAX_OFFSET) × (extent.now.n < 2 ^ 63) }
     ensures step { WorksInside S.Store transaction.old.conn result transaction.new.conn }
     ensures added { HasCleanDisk (state S.Store transaction.new.conn.now) → (layout : Layout) → IsWriting layout (state S.Store transaction.old.conn.now)
         → OnOk result (AddsExtent layout (state S.Store transaction.old.conn.now) (state S.Store transaction.new.conn.now) (extent_row extent.now)) }
@@ -55,7 +56,7 @@ fn write_elements<S: Alter>(
     off: u64,
     elements: &[Element],
 ) -> Result<(), StoreFault>
-    requires bounds { off ≤ 2 ^ 62 }
+    requires bounds { off ≤ MAX_OFFSET }
     ensures step { WorksInside S.Store transaction.old.conn result transaction.new.conn }
     ensures added { HasCleanDisk (state S.Store transaction.new.conn.now) → IsWriting layout (state S.Store transaction.old.conn.now)
         → OnOk result (AddsElements layout (state S.Store transaction.old.conn.now) (state S.Store transaction.new.conn.now) (placed off 0 elements.now)) }
@@ -75,7 +76,7 @@ fn write_rows<S: Alter>(
     elements: &[Element],
 ) -> Result<(), StoreFault>
     requires inside { IsTrue (state S.Store transaction.old.conn.now).in_transaction }
-    requires bounds { (extent.now.off ≤ 2 ^ 62) × (extent.now.fin ≤ 2 ^ 62) × (extent.now.n ≤ 2 ^ 62) }
+    requires bounds { (extent.now.off ≤ MAX_OFFSET) × (extent.now.fin ≤ MAX_OFFSET) × (extent.now.n < 2 ^ 63) }
     ensures step { WorksInside S.Store transaction.old.conn result transaction.new.conn }
     ensures written { HasCleanDisk (state S.Store transaction.new.conn.now)
         → OnOk result (Writes layout (state S.Store transaction.old.conn.now) (state S.Store transaction.new.conn.now) extent.now (placed extent.now.off 0 elements.now)) }
@@ -94,7 +95,7 @@ pub(crate) fn put_rows<S: Alter>(
     elements: &[Element],
 ) -> Result<(), StoreFault>
     requires autocommit { (state S.Store connection.old).in_transaction ≡ false }
-    requires bounds { (extent.now.off ≤ 2 ^ 62) × (extent.now.fin ≤ 2 ^ 62) × (extent.now.n ≤ 2 ^ 62) }
+    requires bounds { (extent.now.off ≤ MAX_OFFSET) × (extent.now.fin ≤ MAX_OFFSET) × (extent.now.n < 2 ^ 63) }
     ensures added { HasCleanDisk (state S.Store connection.new) → (state S.Store connection.old).now.schema ≡ schema_of layout
         → OnOk result (((state S.Store connection.new).now.schema ≡ schema_of layout) × Puts layout (state S.Store connection.old).now.trees (state S.Store connection.new).now.trees extent.now (placed extent.now.off 0 elements.now)) }
     ensures can_store { OnOk result (AllByRecursion (CanStore layout) elements.now) }

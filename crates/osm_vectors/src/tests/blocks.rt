@@ -240,7 +240,7 @@ fn faults_of_dense_nodes(rt: HostRuntime) {
             ),
             // 0 units of 1, where the offset of latitudes is 2^62
             (
-                "a place over the range",
+                "a coordinate over the range",
                 &PLACE_OVER_RANGE_BLOCK,
                 BlockFault::OutOfRange,
                 50,

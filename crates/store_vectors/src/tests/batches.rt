@@ -3,17 +3,23 @@
 
 ghost use Rattle.osm_value.specs.Ranges.{IsWide};
 
-use super::deliveries::{Columns, NewStore};
-use super::stores::number;
-use osm_store::{Keeper, Reader, TableStore};
-use osm_value::{Element, Info, Member, MemberKind, Node, Outlet, Relation, Way, write_line};
+use super::memory::{CountedRows, NewStore, TablesInMemory, expect_rows};
+use super::steps::loaded_lines;
+use osm_store::{Keeper, StoreFault};
+use osm_value::{Element, Info, Member, MemberKind, Node, Relation, Way};
 use pbf_frame::Kind;
-use sqlite::{Connection, MemStore};
 use std::alloc::{AllocError, Global};
-use std::test::Fail;
+use std::test::*;
 
 /// How many elements a blob has, in turn.
 const SIZES: [u8; 7] = [0, 1, 31, 32, 33, 64, 65];
+
+/// 65 elements are 22 nodes, 22 ways and 21 relations.
+const ROWS_OF_65: &[CountedRows] = &[
+    ("SELECT count(*) FROM element", 65),
+    ("SELECT count(*) FROM tag", 64),
+    ("SELECT count(*) FROM link", 107),
+];
 
 fn no_info<'a>() -> Info<'a> {
     Info::new(None, None, None, None, None, None)
@@ -77,48 +83,28 @@ fn lines_of(alloc: Global, size: u8) -> Result<Vec<u8>, Fail> {
     Ok(lines)
 }
 
-/// The lines of what is loaded of a blob of so many elements.
-fn loaded_lines<K: NewStore>(alloc: Global, size: u8) -> Result<Vec<u8>, Fail> {
-    let mut store = K::new_store(alloc)?;
+/// A store of tables with one blob of so many elements, at 100.
+fn filled(alloc: Global, size: u8) -> Result<TablesInMemory, StoreFault> {
+    let mut store = TablesInMemory::new_store(alloc)?;
     let elements = elements_of(alloc, size)?;
     store.put(alloc, 100, 200, &[5; 32], Kind::OsmData, &elements)?;
-    let loaded = store.load(alloc, 100)?;
-    let mut out = Outlet::new(Vec::new(alloc));
-    for element in loaded.elements(alloc)?.iter() {
-        write_line(element, &mut out)?;
-    }
-    Ok(out.into_inner())
+    Ok(store)
 }
 
 #[test]
 fn loaded_batches(rt: HostRuntime) -> Result<(), Fail> {
     for size in SIZES {
-        let loaded = loaded_lines::<Columns>(rt.alloc(), size)?;
+        let mut store = filled(rt.alloc(), size)?;
+        let loaded = loaded_lines(rt.alloc(), &mut store, 100)?;
         let wanted = lines_of(rt.alloc(), size)?;
         assert!(rt; loaded.as_slice() == wanted.as_slice(), "{size}");
     }
     Ok(())
 }
 
-/// The tables of one blob of 65 elements.
-fn filled(alloc: Global) -> Option<Connection<MemStore>> {
-    let mut store = TableStore::create(Connection::open_in_memory(alloc).ok()?).ok()?;
-    let elements = elements_of(alloc, 65).ok()?;
-    store
-        .put(alloc, 100, 200, &[5; 32], Kind::OsmData, &elements)
-        .ok()?;
-    Some(store.into_connection())
-}
-
-/// 65 elements are 22 nodes, 22 ways and 21 relations.
 #[test]
 fn rows_of_batches(rt: HostRuntime) -> Result<(), Fail> {
-    let mut tables = filled(rt.alloc()).ok_or("a store")?;
-    assert_eq!(rt;
-        number(&mut tables, "SELECT count(*) FROM element"),
-        Some(65)
-    );
-    assert_eq!(rt; number(&mut tables, "SELECT count(*) FROM tag"), Some(64));
-    assert_eq!(rt; number(&mut tables, "SELECT count(*) FROM link"), Some(107));
+    let mut tables = filled(rt.alloc(), 65)?.into_connection();
+    expect_rows(&rt, &mut tables, ROWS_OF_65);
     Ok(())
 }

@@ -1,120 +1,136 @@
 //! Copies of the blobs of one store in memory into another, between both layouts.
 
-use super::deliveries::{
-    Blocks, CHANGED, CHANGED_LINES, Columns, LINES, NewStore, answers_to, data_at, extra,
-    file_store, header, joined, lines_of, pbf_of,
+use super::deliveries::file_store;
+use super::fixtures::{
+    CHANGED, CHANGED_LINES, HELD_EXTRA, HELD_HEADER, HELD_NODES, HELD_NODES_AT_200, LINES, NODES,
 };
-use super::stores::{HEADER, NODES};
-use osm_import::{Conflict, CopyCounts, CopyFault, CopyStop, Delivery, copy_held, gaps};
+use super::memory::{BodiesInMemory, NewStore, TablesInMemory};
+use super::steps::{STORE_EXTRA, STORE_HEADER, STORE_NODES, Step, holds_the_file};
+use osm_import::{Answer, Conflict, CopyCounts, CopyFault, CopyStop, copy_held};
 use osm_store::{Reader, StoreFault};
-use osm_vectors::vectors::{TWO_NODES_FRAME, WRITTEN_HEADER_FRAME};
 use std::alloc::Global;
 use std::process::Abort;
 use std::test::*;
 
-/// What a copy answers that added so many blobs and met so many that were held.
-fn counted(copied: u64, held: u64) -> Result<CopyCounts, CopyStop> {
-    Ok(CopyCounts { copied, held })
+/// A step of a test over two stores.
+enum CopyStep {
+    /// A step over the store that is copied from.
+    From(Step),
+    /// A step over the store that is copied into.
+    To(Step),
+    /// A copy adds so many blobs and meets so many that are held.
+    Copy(u64, u64),
+    /// A copy is refused at an offset.
+    Refused(Conflict, u64),
 }
 
-/// What a copy answers that was refused at an offset.
-fn refused(conflict: Conflict, off: u64) -> Result<CopyCounts, CopyStop> {
-    let fault = CopyFault::Refused(conflict);
-    Err(CopyStop { fault, off })
+impl CopyStep {
+    /// Makes the call, and says whether it is answered as it has to be.
+    fn is_met<F: NewStore, T: NewStore>(
+        &self,
+        alloc: Global,
+        from: &mut F,
+        to: &mut T,
+    ) -> Result<bool, StoreFault> {
+        match self {
+            CopyStep::From(step) => step.is_met(alloc, from),
+            CopyStep::To(step) => step.is_met(alloc, to),
+            CopyStep::Copy(copied, held) => {
+                let (copied, held) = (*copied, *held);
+                Ok(copy_held(alloc, from, to) == Ok(CopyCounts { copied, held }))
+            }
+            CopyStep::Refused(conflict, off) => {
+                let (fault, off) = (CopyFault::Refused(*conflict), *off);
+                Ok(copy_held(alloc, from, to) == Err(CopyStop { fault, off }))
+            }
+        }
+    }
 }
 
-/// Whether a store holds the file of two frames, and gives it back as lines and as PBF.
-fn holds_the_file<K: Reader>(alloc: Global, store: &mut K) -> Result<bool, Fail> {
-    let extents = store.extents(alloc)?;
-    let (whole, lines) = lines_of(alloc, store, Some(84), false);
-    let (written, bytes) = pbf_of(alloc, store, Some(84), false);
-    let frames = joined(
-        alloc,
-        &[WRITTEN_HEADER_FRAME.as_slice(), TWO_NODES_FRAME.as_slice()],
-    )?;
-    let has_lines = whole == Ok(()) && lines.as_slice() == LINES;
-    let has_frames = written == Ok(()) && bytes.as_slice() == frames.as_slice();
-    Ok(extents.as_slice() == [HEADER, NODES].as_slice() && has_lines && has_frames)
+/// Takes the steps in turn over two new stores.
+fn follow<F: NewStore, T: NewStore, R: Abort + Alloc<A = Global>>(
+    rt: &R,
+    layouts: &str,
+    steps: &[CopyStep],
+) -> Result<(), Fail> {
+    let alloc = rt.alloc();
+    let mut from = F::new_store(alloc)?;
+    let mut to = T::new_store(alloc)?;
+    for (number, step) in steps.iter().enumerate() {
+        let outcome = step.is_met(alloc, &mut from, &mut to);
+        assert_eq!(rt; outcome, Ok(true), "step {number} from {layouts}");
+    }
+    Ok(())
+}
+
+/// Takes the steps in turn over two new stores of any layouts. A step that isn't met is named by its number, from 0.
+fn over_any_layouts<R: Abort + Alloc<A = Global>>(rt: &R, steps: &[CopyStep]) -> Result<(), Fail> {
+    follow::<BodiesInMemory, BodiesInMemory, _>(rt, "bodies to bodies", steps)?;
+    follow::<BodiesInMemory, TablesInMemory, _>(rt, "bodies to tables", steps)?;
+    follow::<TablesInMemory, BodiesInMemory, _>(rt, "tables to bodies", steps)?;
+    follow::<TablesInMemory, TablesInMemory, _>(rt, "tables to tables", steps)
 }
 
 /// A second copy finds each blob held and changes nothing.
-fn a_file_and_again_of<F: NewStore, T: NewStore, R: Abort + Alloc<A = Global>>(
-    rt: &R,
-) -> Result<(), Fail> {
-    let alloc = rt.alloc();
-    let mut from = file_store::<F>(alloc)?;
-    let mut to = T::new_store(alloc)?;
-    for expected in [counted(2, 0), counted(0, 2)] {
-        assert!(rt; copy_held(alloc, &mut from, &mut to) == expected);
-        assert!(rt; holds_the_file(alloc, &mut from)?);
-        assert!(rt; holds_the_file(alloc, &mut to)?);
-    }
-    Ok(())
-}
-
 #[test]
 fn a_file_and_again(rt: HostRuntime) -> Result<(), Fail> {
-    a_file_and_again_of::<Blocks, Blocks, _>(&rt)?;
-    a_file_and_again_of::<Blocks, Columns, _>(&rt)?;
-    a_file_and_again_of::<Columns, Blocks, _>(&rt)?;
-    a_file_and_again_of::<Columns, Columns, _>(&rt)
+    const STEPS: &[CopyStep] = &[
+        CopyStep::From(STORE_HEADER),
+        CopyStep::From(STORE_NODES),
+        CopyStep::Copy(2, 0),
+        CopyStep::From(Step::HoldsTheFile),
+        CopyStep::To(Step::HoldsTheFile),
+        CopyStep::Copy(0, 2),
+        CopyStep::From(Step::HoldsTheFile),
+        CopyStep::To(Step::HoldsTheFile),
+    ];
+    over_any_layouts(&rt, STEPS)
 }
 
 /// What is in the way stays, and the blobs below it were taken; so was the one that doesn't meet it.
-fn what_is_in_the_way_of<F: NewStore, T: NewStore, R: Abort + Alloc<A = Global>>(
-    rt: &R,
-) -> Result<(), Fail> {
-    let alloc = rt.alloc();
-    let mut from = file_store::<F>(alloc)?;
-    let changed = Delivery {
-        off: 47,
-        bytes: &CHANGED,
-    };
-    for (held, conflict, gap, lines) in [
-        (changed, Conflict::Differs, (84, 100), CHANGED_LINES),
-        (data_at(60), Conflict::Overlap, (47, 60), LINES),
-        (data_at(30), Conflict::Overlap, (0, 30), LINES),
-    ] {
-        let (_, mut to) = answers_to::<T>(alloc, &[held])?;
-        let at = if gap.0 == 0 { 0 } else { 47 };
-        assert!(rt; copy_held(alloc, &mut from, &mut to) == refused(conflict, at));
-        assert!(rt; gaps(alloc, &mut to, 100)?.first() == Some(&gap));
-        let (partial, found) = lines_of(alloc, &mut to, None, true);
-        assert!(rt; partial == Ok(()));
-        assert!(rt; found.as_slice() == lines);
-        assert!(rt; holds_the_file(alloc, &mut from)?);
-    }
-    Ok(())
-}
-
 #[test]
 fn what_is_in_the_way(rt: HostRuntime) -> Result<(), Fail> {
-    what_is_in_the_way_of::<Blocks, Columns, _>(&rt)?;
-    what_is_in_the_way_of::<Columns, Blocks, _>(&rt)
+    const STEPS: &[CopyStep] = &[
+        CopyStep::From(STORE_HEADER),
+        CopyStep::From(STORE_NODES),
+        CopyStep::To(Step::Deliver(47, CHANGED, Answer::Stored(2))),
+        CopyStep::Refused(Conflict::Differs, 47),
+        CopyStep::To(Step::Gaps(100, &[(84, 100)])),
+        CopyStep::To(Step::PartialLines(&[CHANGED_LINES])),
+        CopyStep::From(Step::HoldsTheFile),
+        CopyStep::To(Step::NewStore),
+        CopyStep::To(Step::Deliver(60, NODES, Answer::Stored(2))),
+        CopyStep::Refused(Conflict::Overlap, 47),
+        CopyStep::To(Step::Gaps(100, &[(47, 60), (97, 100)])),
+        CopyStep::To(Step::PartialLines(&[LINES])),
+        CopyStep::From(Step::HoldsTheFile),
+        CopyStep::To(Step::NewStore),
+        CopyStep::To(Step::Deliver(30, NODES, Answer::Stored(2))),
+        CopyStep::Refused(Conflict::Overlap, 0),
+        CopyStep::To(Step::Gaps(100, &[(0, 30), (67, 100)])),
+        CopyStep::To(Step::PartialLines(&[LINES])),
+        CopyStep::From(Step::HoldsTheFile),
+    ];
+    over_any_layouts(&rt, STEPS)
 }
 
 /// A blob elsewhere stays, and one that is held is counted as held; a store that holds nothing adds nothing.
-fn beside_other_blobs_of<F: NewStore, T: NewStore, R: Abort + Alloc<A = Global>>(
-    rt: &R,
-) -> Result<(), Fail> {
-    let alloc = rt.alloc();
-    let (_, mut from) = answers_to::<F>(alloc, &[header(), data_at(47), extra()])?;
-    let (_, mut to) = answers_to::<T>(alloc, &[data_at(200), data_at(47)])?;
-    assert!(rt; copy_held(alloc, &mut from, &mut to) == counted(2, 1));
-    assert!(rt; gaps(alloc, &mut to, 237)?.as_slice() == [(100, 200)].as_slice());
-    let (partial, found) = lines_of(alloc, &mut to, None, true);
-    assert!(rt; partial == Ok(()));
-    assert!(rt; found.as_slice() == joined(alloc, &[LINES, LINES])?.as_slice());
-    let mut nothing = F::new_store(alloc)?;
-    assert!(rt; copy_held(alloc, &mut nothing, &mut to) == counted(0, 0));
-    assert!(rt; to.extents(alloc)?.len() == 4);
-    Ok(())
-}
-
 #[test]
 fn beside_other_blobs(rt: HostRuntime) -> Result<(), Fail> {
-    beside_other_blobs_of::<Blocks, Columns, _>(&rt)?;
-    beside_other_blobs_of::<Columns, Blocks, _>(&rt)
+    const STEPS: &[CopyStep] = &[
+        CopyStep::From(STORE_HEADER),
+        CopyStep::From(STORE_NODES),
+        CopyStep::From(STORE_EXTRA),
+        CopyStep::To(Step::Deliver(200, NODES, Answer::Stored(2))),
+        CopyStep::To(STORE_NODES),
+        CopyStep::Copy(2, 1),
+        CopyStep::To(Step::Gaps(237, &[(100, 200)])),
+        CopyStep::To(Step::PartialLines(&[LINES, LINES])),
+        CopyStep::From(Step::NewStore),
+        CopyStep::Copy(0, 0),
+        CopyStep::To(Step::Extents(&[HELD_HEADER, HELD_NODES, HELD_EXTRA, HELD_NODES_AT_200])),
+    ];
+    over_any_layouts(&rt, STEPS)
 }
 
 /// A copy that the step limit of its source breaks off has taken nothing, or the blobs below; the next goes on.
@@ -137,34 +153,14 @@ fn under_step_limits_of<F: NewStore, T: NewStore, R: Abort + Alloc<A = Global>>(
     }
     assert!(rt; interrupted > 0);
     from.limit_steps(None);
-    assert!(rt; copy_held(alloc, &mut from, &mut to) == counted(0, 2));
+    let both_held = CopyCounts { copied: 0, held: 2 };
+    assert!(rt; copy_held(alloc, &mut from, &mut to) == Ok(both_held));
     assert!(rt; holds_the_file(alloc, &mut to)?);
     Ok(())
 }
 
 #[test]
 fn under_step_limits(rt: HostRuntime) -> Result<(), Fail> {
-    under_step_limits_of::<Blocks, Columns, _>(&rt)?;
-    under_step_limits_of::<Columns, Blocks, _>(&rt)
-}
-
-#[test]
-fn numbers_and_names_of_copy_faults(rt: HostRuntime) -> Result<(), Fail> {
-    for (fault, number, name) in [
-        (CopyFault::Refused(Conflict::Differs), 63, "Differs"),
-        (CopyFault::Refused(Conflict::Overlap), 64, "Overlap"),
-        (CopyFault::Store(StoreFault::Disk), 65, "Disk"),
-    ] {
-        assert!(rt; fault.number() == number && fault.name() == name);
-    }
-    let stop = CopyStop {
-        fault: CopyFault::Refused(Conflict::Differs),
-        off: 47,
-    };
-    let text = format!(in rt.alloc(); "{stop}")?;
-    assert_eq!(rt;
-        text.as_str(),
-        "another blob is held at this offset (at 47)"
-    );
-    Ok(())
+    under_step_limits_of::<BodiesInMemory, TablesInMemory, _>(&rt)?;
+    under_step_limits_of::<TablesInMemory, BodiesInMemory, _>(&rt)
 }

@@ -1,16 +1,22 @@
 //! One map in several stores in memory, of which one at a time is open.
 
-use super::deliveries::{
-    Blocks, Columns, LINES, NewStore, answers_to, data_at, extra, header, joined,
+use super::deliveries::answers_to;
+use super::fixtures::{
+    EXTRA_AT_84, FILE, Frame, HEADER_AT_0, HELD_EXTRA, HELD_HEADER, HELD_NODES, HELD_NODES_AT_100,
+    LINES, NODES, NODES_AT_47, NODES_AT_100,
 };
-use super::stores::{HEADER, NODES};
-use osm_import::{Delivery, ExportFault, Openings, PartsFault, export_in_turn, extents_in_turn};
-use osm_store::{Reader, StoreFault};
+use super::memory::{BodiesInMemory, NewStore, TablesInMemory};
+use super::steps::are_joined;
+use osm_import::{ExportFault, Openings, PartsFault, export_in_turn, extents_in_turn};
+use osm_store::{Extent, Reader, StoreFault};
 use osm_value::Outlet;
 use osm_vectors::FailingWriter;
 use std::alloc::Global;
 use std::process::Abort;
 use std::test::*;
+
+/// The nodes over the last byte of the file.
+const NODES_AT_83: Frame = (83, NODES);
 
 /// Stores by their places. One that is open is missing until it is closed, and no other is given out meanwhile. What they
 /// hold is claimed nowhere: the tests compare what is read of them.
@@ -50,11 +56,11 @@ impl<K: Reader + Drop> Openings<K> for Stores<K> {
     }
 }
 
-/// New stores, to each of which these were delivered.
-fn parts<K: NewStore>(alloc: Global, lists: &[&[Delivery<'_>]]) -> Result<Stores<K>, Fail> {
+/// New stores, to each of which these frames were delivered.
+fn parts<K: NewStore>(alloc: Global, lists: &[&[Frame<'_>]]) -> Result<Stores<K>, Fail> {
     let mut closed = Vec::new(alloc);
-    for deliveries in lists {
-        let (_, store) = answers_to::<K>(alloc, deliveries)?;
+    for frames in lists {
+        let (_, store) = answers_to::<K>(alloc, frames)?;
         closed.push(Some(store))?;
     }
     Ok(Stores { closed, open: None })
@@ -71,86 +77,93 @@ fn lines_in_turn<K: Reader + Drop>(
     (result, out.into_inner())
 }
 
-fn a_file_in_two_of<K: NewStore, R: Abort + Alloc<A = Global>>(rt: &R) -> Result<(), Fail> {
+/// Stores that are read in turn, twice: what is delivered to each, and what is read of all.
+struct Turn {
+    lists: &'static [&'static [Frame<'static>]],
+    extents: &'static [Extent],
+    lines: &'static [&'static [u8]],
+}
+
+fn expect_turn<K: NewStore, R: Abort + Alloc<A = Global>>(rt: &R, turn: &Turn) -> Result<(), Fail> {
     let alloc = rt.alloc();
-    let mut stores = parts::<K>(alloc, &[&[header()], &[data_at(47)]])?;
+    let mut stores = parts::<K>(alloc, turn.lists)?;
+    let count = turn.lists.len() as u64;
     for _ in 0..2 {
-        let extents = extents_in_turn(alloc, &mut stores, 2)?;
-        assert!(rt; extents.as_slice() == [HEADER, NODES].as_slice());
-        let (result, lines) = lines_in_turn(alloc, &mut stores, 2);
+        let extents = extents_in_turn(alloc, &mut stores, count)?;
+        assert!(rt; extents.as_slice() == turn.extents);
+        let (result, lines) = lines_in_turn(alloc, &mut stores, count);
         assert!(rt; result == Ok(()));
-        assert!(rt; lines.as_slice() == LINES);
+        assert!(rt; are_joined(&lines, turn.lines));
     }
     Ok(())
 }
 
-#[test]
-fn a_file_in_two(rt: HostRuntime) -> Result<(), Fail> {
-    a_file_in_two_of::<Blocks, _>(&rt)?;
-    a_file_in_two_of::<Columns, _>(&rt)
-}
+/// A file in two stores; and one in three, of which the second holds nothing, and the third two blobs, one without lines.
+const TURNS: [Turn; 2] = [
+    Turn {
+        lists: &[&[HEADER_AT_0], &[NODES_AT_47]],
+        extents: &[HELD_HEADER, HELD_NODES],
+        lines: &[LINES],
+    },
+    Turn {
+        lists: &[FILE, &[], &[NODES_AT_100, EXTRA_AT_84]],
+        extents: &[HELD_HEADER, HELD_NODES, HELD_EXTRA, HELD_NODES_AT_100],
+        lines: &[LINES, LINES],
+    },
+];
 
-/// The second holds nothing, and the third two blobs, of which one has no lines.
-fn a_file_in_three_of<K: NewStore, R: Abort + Alloc<A = Global>>(rt: &R) -> Result<(), Fail> {
-    let alloc = rt.alloc();
-    let front = [header(), data_at(47)];
-    let back = [data_at(100), extra()];
-    let mut stores = parts::<K>(alloc, &[&front, &[], &back])?;
-    let extents = extents_in_turn(alloc, &mut stores, 3)?;
-    let [first, second, third, fourth] = extents.as_slice() else {
-        return Err("four extents".into());
-    };
-    assert!(rt; first == &HEADER && second == &NODES);
-    assert!(rt; third.off == 84 && third.fin == 100 && third.n == 0);
-    assert!(rt; fourth.off == 100 && fourth.fin == 137 && fourth.n == 2);
-    let (result, lines) = lines_in_turn(alloc, &mut stores, 3);
-    assert!(rt; result == Ok(()));
-    assert!(rt; lines.as_slice() == joined(alloc, &[LINES, LINES])?.as_slice());
+#[test]
+fn files_in_parts(rt: HostRuntime) -> Result<(), Fail> {
+    for turn in &TURNS {
+        expect_turn::<BodiesInMemory, _>(&rt, turn)?;
+        expect_turn::<TablesInMemory, _>(&rt, turn)?;
+    }
     Ok(())
-}
-
-#[test]
-fn a_file_in_three(rt: HostRuntime) -> Result<(), Fail> {
-    a_file_in_three_of::<Blocks, _>(&rt)?;
-    a_file_in_three_of::<Columns, _>(&rt)
 }
 
 /// The second of two stores begins at an offset before the end of the first, which is read alone all the same.
 fn expect_interleaved<K: NewStore, R: Abort + Alloc<A = Global>>(
     rt: &R,
-    lists: &[&[Delivery<'_>]],
+    lists: &[&[Frame<'_>]],
     off: u64,
 ) -> Result<(), Fail> {
     let alloc = rt.alloc();
     let mut stores = parts::<K>(alloc, lists)?;
     let found = extents_in_turn(alloc, &mut stores, 2);
-    assert!(rt; matches!(found, Err(PartsFault::Interleaved(at)) if at == off));
+    assert!(rt;
+        matches!(found, Err(PartsFault::Interleaved(at)) if at == off),
+        "at {off}"
+    );
     let first = lists.first().ok_or("a list")?;
-    assert!(rt; extents_in_turn(alloc, &mut stores, 1)?.len() == first.len());
+    assert!(rt;
+        extents_in_turn(alloc, &mut stores, 1)?.len() == first.len(),
+        "at {off}"
+    );
     Ok(())
 }
 
 /// The stores in the other order, one that lies between the blobs of another, one that begins before another's end, and
 /// two that hold one blob.
-fn stores_that_do_not_follow_of<K: NewStore, R: Abort + Alloc<A = Global>>(
-    rt: &R,
-) -> Result<(), Fail> {
-    expect_interleaved::<K, _>(rt, &[&[data_at(47), data_at(100)], &[header()]], 0)?;
-    expect_interleaved::<K, _>(rt, &[&[header(), extra()], &[data_at(47)]], 47)?;
-    expect_interleaved::<K, _>(rt, &[&[data_at(47)], &[data_at(83)]], 83)?;
-    expect_interleaved::<K, _>(rt, &[&[header()], &[header(), data_at(47)]], 0)
-}
+const INTERLEAVED: [(&[&[Frame]], u64); 4] = [
+    (&[&[NODES_AT_47, NODES_AT_100], &[HEADER_AT_0]], 0),
+    (&[&[HEADER_AT_0, EXTRA_AT_84], &[NODES_AT_47]], 47),
+    (&[&[NODES_AT_47], &[NODES_AT_83]], 83),
+    (&[&[HEADER_AT_0], FILE], 0),
+];
 
 #[test]
 fn stores_that_do_not_follow(rt: HostRuntime) -> Result<(), Fail> {
-    stores_that_do_not_follow_of::<Blocks, _>(&rt)?;
-    stores_that_do_not_follow_of::<Columns, _>(&rt)
+    for (lists, off) in INTERLEAVED {
+        expect_interleaved::<BodiesInMemory, _>(&rt, lists, off)?;
+        expect_interleaved::<TablesInMemory, _>(&rt, lists, off)?;
+    }
+    Ok(())
 }
 
 /// After each failure no store is open, and the lines before it were written.
 fn failures_of<K: NewStore, R: Abort + Alloc<A = Global>>(rt: &R) -> Result<(), Fail> {
     let alloc = rt.alloc();
-    let mut stores = parts::<K>(alloc, &[&[header()], &[data_at(47)]])?;
+    let mut stores = parts::<K>(alloc, &[&[HEADER_AT_0], &[NODES_AT_47]])?;
     let found = extents_in_turn(alloc, &mut stores, 3);
     assert!(rt; matches!(found, Err(PartsFault::Store(StoreFault::Disk))));
     let (result, lines) = lines_in_turn(alloc, &mut stores, 3);
@@ -172,14 +185,6 @@ fn failures_of<K: NewStore, R: Abort + Alloc<A = Global>>(rt: &R) -> Result<(), 
 
 #[test]
 fn failures(rt: HostRuntime) -> Result<(), Fail> {
-    failures_of::<Blocks, _>(&rt)?;
-    failures_of::<Columns, _>(&rt)
-}
-
-#[test]
-fn texts_of_parts_faults(rt: HostRuntime) -> Result<(), Fail> {
-    let text = format!(in rt.alloc(); "{}", PartsFault::Interleaved(47))?;
-    let expected = "the store of the blob at 47 doesn't follow the one before it";
-    assert_eq!(rt; text.as_str(), expected);
-    Ok(())
+    failures_of::<BodiesInMemory, _>(&rt)?;
+    failures_of::<TablesInMemory, _>(&rt)
 }

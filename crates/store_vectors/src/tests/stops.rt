@@ -1,9 +1,11 @@
 //! An import that stops at a call of either file of a database, what the next opening finds, and how it goes on.
 
-use super::deliveries::{LINES, data_at, header, lines_of};
-use super::stores::{HEADER, KnownLayout, NODES, number};
-use osm_import::{Answer, deliver_all, deliver_until_fault};
+use super::deliveries::{deliveries_of, exported};
+use super::fixtures::{FILE, HELD_HEADER, HELD_NODES, LINES};
+use super::memory::{KnownLayout, has_rows, number};
+use osm_import::{Answer, deliver_all};
 use osm_store::{BlobStore, Bodies, Extent, Keeper, Reader, StoreFault, StoreLayout, Tables};
+use osm_value::Form;
 use sqlite::{Alter, Connection, FileStore, Files, Options};
 use sqlite_disk::{Crash, Disk, Fuse, Memory};
 use std::alloc::Global;
@@ -117,26 +119,25 @@ fn lost(mut files: Files<Fused>) -> Files<Fused> {
     files
 }
 
-/// The database that a new connection to the files finds after a stop. They don't stop again.
-fn reopened(alloc: Global, files: Files<Fused>, unsynced: Unsynced) -> Option<Database> {
-    let files = match unsynced {
-        Unsynced::Lost => lost(files),
-        Unsynced::Kept => kept(alloc, files)?,
-    };
-    opened(alloc, files).ok()
+/// The files as the next opening finds them after a stop. They don't stop again.
+fn after_stop(alloc: Global, files: Files<Fused>, unsynced: Unsynced) -> Option<Files<Fused>> {
+    match unsynced {
+        Unsynced::Lost => Some(lost(files)),
+        Unsynced::Kept => kept(alloc, files),
+    }
 }
 
-/// How far deliveries up to the first fault were answered.
+/// How far deliveries were answered before a file stopped; behind that each is a fault.
 fn answered(answers: &[Answer]) -> Option<Reached> {
     match answers {
-        [Answer::Fault(_)] => Some(Reached::Store),
+        [Answer::Fault(_), Answer::Fault(_)] => Some(Reached::Store),
         [Answer::Stored(0), Answer::Fault(_)] => Some(Reached::Header),
         [Answer::Stored(0), Answer::Stored(2)] => Some(Reached::HeaderAndNodes),
         _ => None,
     }
 }
 
-/// Imports the file into a new store, up to the first fault. How far that was answered, and the database.
+/// Imports the file into a new store. How far that was answered, and the database.
 fn filled<S: Alter + Drop, L: StoreLayout>(
     alloc: Global,
     database: Connection<S>,
@@ -146,17 +147,21 @@ fn filled<S: Alter + Drop, L: StoreLayout>(
     }
     match BlobStore::<S, L>::create(database) {
         Ok(mut store) => {
-            let answers = deliver_until_fault(alloc, &mut store, &[header(), data_at(47)]).ok()?;
+            let deliveries = deliveries_of(alloc, FILE).ok()?;
+            let answers = deliver_all(alloc, &mut store, &deliveries).ok()?;
             Some((answered(&answers), store.into_connection()))
         }
         Err((_, database)) => Some((Some(Reached::Database), database)),
     }
 }
 
-fn import<L: StoreLayout>(alloc: Global, database: Database) -> Option<(Reached, Files<Fused>)> {
-    let (reached, database) = filled::<_, L>(alloc, database)?;
-    let files = database.into_store().close();
-    Some((reached?, files))
+/// How far that came, and what the database lies in.
+fn import<S: Alter + Drop, L: StoreLayout>(
+    alloc: Global,
+    database: Connection<S>,
+) -> Option<(Reached, S)> {
+    let (reached, database) = filled::<S, L>(alloc, database)?;
+    Some((reached?, database.into_store()))
 }
 
 /// The same in new files, one of which stops after so many calls.
@@ -166,7 +171,10 @@ fn stopped_import<L: StoreLayout>(
     calls: u64,
 ) -> Option<(Reached, Files<Fused>)> {
     match opened(alloc, fused(alloc, stopped, calls)) {
-        Ok(database) => import::<L>(alloc, database),
+        Ok(database) => {
+            let (reached, store) = import::<_, L>(alloc, database)?;
+            Some((reached, store.close()))
+        }
         Err(files) => Some((Reached::Nothing, files)),
     }
 }
@@ -175,8 +183,8 @@ fn stopped_import<L: StoreLayout>(
 fn held_by(extents: &[Extent], rows: i64, has_nodes: bool) -> Option<Reached> {
     match (extents, rows) {
         ([], 0) => Some(Reached::Store),
-        ([only], 0) if only == &HEADER => Some(Reached::Header),
-        ([first, last], 2) if first == &HEADER && last == &NODES && has_nodes => {
+        ([only], 0) if only == &HELD_HEADER => Some(Reached::Header),
+        ([first, last], 2) if first == &HELD_HEADER && last == &HELD_NODES && has_nodes => {
             Some(Reached::HeaderAndNodes)
         }
         _ => None,
@@ -191,7 +199,7 @@ fn map<S: Alter + Drop, L: KnownLayout>(
     let extents = store.extents(alloc).ok()?;
     let mut database = store.into_connection();
     let rows = number(&mut database, L::COUNT)?;
-    let has_nodes = L::has_nodes(&mut database);
+    let has_nodes = has_rows(&mut database, L::NODES);
     Some((held_by(&extents, rows, has_nodes)?, database))
 }
 
@@ -235,8 +243,9 @@ fn goes_on<K: Keeper>(alloc: Global, store: &mut K, held: Reached) -> Option<boo
         Reached::Header => [Answer::AlreadyHeld, Answer::Stored(2)],
         _ => [Answer::Stored(0), Answer::Stored(2)],
     };
-    let answers = deliver_all(alloc, store, &[header(), data_at(47)]).ok()?;
-    let (result, lines) = lines_of(alloc, store, None, false);
+    let deliveries = deliveries_of(alloc, FILE).ok()?;
+    let answers = deliver_all(alloc, store, &deliveries).ok()?;
+    let (result, lines) = exported(alloc, store, Form::Lines, None, false);
     Some(answers.as_slice() == wanted.as_slice() && result == Ok(()) && lines.as_slice() == LINES)
 }
 
@@ -250,6 +259,14 @@ fn continued<S: Alter + Drop, L: KnownLayout>(
     Some((held, is_whole))
 }
 
+/// The same of the database in these files.
+fn reopened<L: KnownLayout>(alloc: Global, files: Files<Fused>) -> Option<(Reached, bool)> {
+    match opened(alloc, files) {
+        Ok(database) => continued::<_, L>(alloc, database),
+        Err(_) => None,
+    }
+}
+
 /// The outcome of a stop after so many calls, where the next opening goes on.
 fn outcome<L: KnownLayout>(
     alloc: Global,
@@ -258,8 +275,7 @@ fn outcome<L: KnownLayout>(
     calls: u64,
 ) -> Option<Outcome> {
     let (answered, files) = stopped_import::<L>(alloc, stopped, calls)?;
-    let database = reopened(alloc, files, unsynced)?;
-    let (held, is_whole) = continued::<_, L>(alloc, database)?;
+    let (held, is_whole) = reopened::<L>(alloc, after_stop(alloc, files, unsynced)?)?;
     is_whole.then_some((answered, held))
 }
 
@@ -305,7 +321,7 @@ fn expect_outcomes<L: KnownLayout, R: Abort + Alloc<A = Global>>(rt: &R) {
 }
 
 #[test]
-fn stops_over_blocks(rt: HostRuntime) {
+fn stops_over_bodies(rt: HostRuntime) {
     expect_outcomes::<Bodies, _>(&rt);
 }
 

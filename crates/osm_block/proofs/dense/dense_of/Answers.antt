@@ -1,11 +1,11 @@
 use Rattle.std.proofs.Common.{rules, ◌≡◌, ◌∙◌, sym, ap, refl, length, true, false, Some, None}
 use Rattle.std.specs.List.{list_all}
 use Rattle.std.proofs.lemmas.List.{length-map}
-use Rattle.osm_block.specs.Dense.{dense_message_of, columns_in_range, AreReady}
+use Rattle.osm_block.specs.Dense.{dense_message_of, arrays_in_range, AreReady}
 use Rattle.osm_block.specs.Fields.{context_of}
 use Rattle.osm_block.specs.Phases.{first, dense_phases, tags_phases, is_index}
 use Rattle.osm_block.proofs.NodeTagsLemmas.{TagsFit, tags_fit}
-use Rattle.osm_block.proofs.DenseColumnLemmas.{lengths_are, ready, all_read}
+use Rattle.osm_block.proofs.DenseArrayLemmas.{lengths_are, ready, all_read}
 use Rattle.osm_block.proofs.DensePhaseLemmas.{dense_fault_is, ranges_are, tags_are, users_are}
 use Rattle.osm_block.proofs.dense.dense_of.Goals.{After-check_tags, After-all_users}
 use Rattle.osm_block.proofs.dense.dense_of.Goals as goal
@@ -15,35 +15,35 @@ module _ (c : After-check_tags) where
   texts : c.len-texts.result ≡ length (context_of c.args.scale.now).table
   texts = let table : c.len-texts.result ≡ length c.args.scale.now.table.items = search rules in table ∙ sym (length-map c.args.scale.now.table.items (λ t. t.now))
 
-  tested : first (tags_phases c.len.result c.len-texts.result c.deref.result.now) ≡ first (tags_phases (length c.in_ok-columns.columns.ids.items) (length (context_of c.args.scale.now).table) c.in_ok-columns.columns.keys_vals.items)
+  tested : first (tags_phases c.len.result c.len-texts.result c.deref.result.now) ≡ first (tags_phases (length c.in_ok-arrays.arrays.ids.items) (length (context_of c.args.scale.now).table) c.in_ok-arrays.arrays.keys_vals.items)
   tested =
-      let ids : c.len.result ≡ length c.in_ok-columns.columns.ids.items = search rules in
-      ap (λ n. first (tags_phases n c.len-texts.result c.deref.result.now)) ids ∙ ap (λ n. first (tags_phases (length c.in_ok-columns.columns.ids.items) n c.deref.result.now)) texts
-      ∙ ap (λ l. first (tags_phases (length c.in_ok-columns.columns.ids.items) (length (context_of c.args.scale.now).table) l)) c.deref.ensures.value
+      let ids : c.len.result ≡ length c.in_ok-arrays.arrays.ids.items = search rules in
+      ap (λ n. first (tags_phases n c.len-texts.result c.deref.result.now)) ids ∙ ap (λ n. first (tags_phases (length c.in_ok-arrays.arrays.ids.items) n c.deref.result.now)) texts
+      ∙ ap (λ l. first (tags_phases (length c.in_ok-arrays.arrays.ids.items) (length (context_of c.args.scale.now).table) l)) c.deref.ensures.value
 
 -- and of the users
-users : (c : After-all_users) → c.all_users.result ≡ list_all (is_index (length (context_of c.args.scale.now).table)) c.in_ok-columns.columns.users.items
+users : (c : After-all_users) → c.all_users.result ≡ list_all (is_index (length (context_of c.args.scale.now).table)) c.in_ok-arrays.arrays.users.items
 users c =
     let table : c.len-texts.result ≡ length c.args.scale.now.table.items = search rules in
     c.all_users.ensures ∙ ap (λ n. list_all (is_index n) c.deref-2.result.now) (table ∙ sym (length-map c.args.scale.now.table.items (λ t. t.now)))
     ∙ ap (list_all (is_index (length (context_of c.args.scale.now).table))) c.deref-2.ensures.value
 
-pub returns-then-not-columns_in_range-clause-phase : goal.returns-then-not-columns_in_range-clause-phase
-returns-then-not-columns_in_range-clause-phase c =
+pub returns-then-not-arrays_in_range-clause-phase : goal.returns-then-not-arrays_in_range-clause-phase
+returns-then-not-arrays_in_range-clause-phase c =
     let b = context_of c.args.scale.now in
     let m = dense_message_of c.args.dense.now in
-    let cols = c.in_ok-columns.columns in
-    let are = c.in_ok-columns.ensures.1 in
-    dense_fault_is b m false true None false _ _ (sym c.if-dense.false) (sym c.if-not-lengths_fit.false ∙ c.lengths_fit.ensures) (sym c.in_ok-columns.ensures.0) (sym c.if-not-columns_in_range.true ∙ c.columns_in_range.ensures ∙ ranges_are b cols m are) refl refl
+    let cols = c.in_ok-arrays.arrays in
+    let are = c.in_ok-arrays.ensures.1 in
+    dense_fault_is b m false true None false _ _ (sym c.if-dense.false) (sym c.if-not-lengths_fit.false ∙ c.lengths_fit.ensures) (sym c.in_ok-arrays.ensures.0) (sym c.if-not-arrays_in_range.true ∙ c.arrays_in_range.ensures ∙ ranges_are b cols m are) refl refl
 
 pub returns-in_err-check_tags-clause-phase : goal.returns-in_err-check_tags-clause-phase
 returns-in_err-check_tags-clause-phase c =
     let b = context_of c.args.scale.now in
     let m = dense_message_of c.args.dense.now in
-    let cols = c.in_ok-columns.columns in
-    let are = c.in_ok-columns.ensures.1 in
+    let cols = c.in_ok-arrays.arrays in
+    let are = c.in_ok-arrays.ensures.1 in
     let stands : first (dense_phases b m) ≡ Some c.in_err-check_tags.field-0.0 =
-    dense_fault_is b m false true None true (Some c.in_err-check_tags.field-0.0) _ (sym c.if-dense.false) (sym c.if-not-lengths_fit.false ∙ c.lengths_fit.ensures) (sym c.in_ok-columns.ensures.0) (sym c.if-not-columns_in_range.false ∙ c.columns_in_range.ensures ∙ ranges_are b cols m are)
+    dense_fault_is b m false true None true (Some c.in_err-check_tags.field-0.0) _ (sym c.if-dense.false) (sym c.if-not-lengths_fit.false ∙ c.lengths_fit.ensures) (sym c.in_ok-arrays.ensures.0) (sym c.if-not-arrays_in_range.false ∙ c.arrays_in_range.ensures ∙ ranges_are b cols m are)
     (sym c.in_err-check_tags.ensures ∙ tested (goal.at.returns-in_err-check_tags-clause-phase c).After-check_tags ∙ tags_are b cols m are) refl in
     search rules
 
@@ -51,21 +51,21 @@ pub returns-then-not-all_users-clause-phase : goal.returns-then-not-all_users-cl
 returns-then-not-all_users-clause-phase c =
     let b = context_of c.args.scale.now in
     let m = dense_message_of c.args.dense.now in
-    let cols = c.in_ok-columns.columns in
-    let are = c.in_ok-columns.ensures.1 in
+    let cols = c.in_ok-arrays.arrays in
+    let are = c.in_ok-arrays.ensures.1 in
     let known = goal.at.returns-then-not-all_users-clause-phase c in
-    dense_fault_is b m false true None true None false (sym c.if-dense.false) (sym c.if-not-lengths_fit.false ∙ c.lengths_fit.ensures) (sym c.in_ok-columns.ensures.0) (sym c.if-not-columns_in_range.false ∙ c.columns_in_range.ensures ∙ ranges_are b cols m are)
+    dense_fault_is b m false true None true None false (sym c.if-dense.false) (sym c.if-not-lengths_fit.false ∙ c.lengths_fit.ensures) (sym c.in_ok-arrays.ensures.0) (sym c.if-not-arrays_in_range.false ∙ c.arrays_in_range.ensures ∙ ranges_are b cols m are)
     (sym c.in_ok-check_tags.ensures ∙ tested known.After-check_tags ∙ tags_are b cols m are) (sym c.if-not-all_users.true ∙ users known.After-all_users ∙ users_are b cols m are)
 
 pub nodes_of-requires : goal.nodes_of-requires
 nodes_of-requires c =
     let b = context_of c.args.scale.now in
     let m = dense_message_of c.args.dense.now in
-    let cols = c.in_ok-columns.columns in
-    let are = c.in_ok-columns.ensures.1 in
+    let cols = c.in_ok-arrays.arrays in
+    let are = c.in_ok-arrays.ensures.1 in
     let known = goal.at.nodes_of-requires c in
     let lengths : lengths_are m ≡ true = sym c.lengths_fit.ensures ∙ c.if-not-lengths_fit.false in
-    let ranges : columns_in_range b cols ≡ true = sym c.columns_in_range.ensures ∙ c.if-not-columns_in_range.false in
+    let ranges : arrays_in_range b cols ≡ true = sym c.arrays_in_range.ensures ∙ c.if-not-arrays_in_range.false in
     let tags : TagsFit (length cols.ids.items) (length b.table) cols.keys_vals.items = tags_fit (length cols.ids.items) (length b.table) cols.keys_vals.items (sym (tested known.After-check_tags) ∙ c.in_ok-check_tags.ensures) in
     let is_ready : AreReady b cols = ready b cols m are lengths ranges tags (sym (users known.After-all_users) ∙ c.if-not-all_users.false) in
     record { ready = is_ready }
@@ -74,10 +74,10 @@ pub returns-clause-phase : goal.returns-clause-phase
 returns-clause-phase c =
     let b = context_of c.args.scale.now in
     let m = dense_message_of c.args.dense.now in
-    let cols = c.in_ok-columns.columns in
-    let are = c.in_ok-columns.ensures.1 in
+    let cols = c.in_ok-arrays.arrays in
+    let are = c.in_ok-arrays.ensures.1 in
     let known = goal.at.returns-clause-phase c in (
-      dense_fault_is b m false true None true None true (sym c.if-dense.false) (sym c.if-not-lengths_fit.false ∙ c.lengths_fit.ensures) (sym c.in_ok-columns.ensures.0) (sym c.if-not-columns_in_range.false ∙ c.columns_in_range.ensures ∙ ranges_are b cols m are)
+      dense_fault_is b m false true None true None true (sym c.if-dense.false) (sym c.if-not-lengths_fit.false ∙ c.lengths_fit.ensures) (sym c.in_ok-arrays.ensures.0) (sym c.if-not-arrays_in_range.false ∙ c.arrays_in_range.ensures ∙ ranges_are b cols m are)
           (sym c.in_ok-check_tags.ensures ∙ tested known.After-check_tags ∙ tags_are b cols m are) (sym c.if-not-all_users.false ∙ users known.After-all_users ∙ users_are b cols m are),
       tt,
     )
@@ -86,11 +86,11 @@ pub returns-clause-read : goal.returns-clause-read
 returns-clause-read c =
     let b = context_of c.args.scale.now in
     let m = dense_message_of c.args.dense.now in
-    let cols = c.in_ok-columns.columns in
-    let are = c.in_ok-columns.ensures.1 in
+    let cols = c.in_ok-arrays.arrays in
+    let are = c.in_ok-arrays.ensures.1 in
     let known = goal.at.returns-clause-read c in
     let lengths : lengths_are m ≡ true = sym c.lengths_fit.ensures ∙ c.if-not-lengths_fit.false in
-    let ranges : columns_in_range b cols ≡ true = sym c.columns_in_range.ensures ∙ c.if-not-columns_in_range.false in
+    let ranges : arrays_in_range b cols ≡ true = sym c.arrays_in_range.ensures ∙ c.if-not-arrays_in_range.false in
     let tags : TagsFit (length cols.ids.items) (length b.table) cols.keys_vals.items = tags_fit (length cols.ids.items) (length b.table) cols.keys_vals.items (sym (tested known.After-check_tags) ∙ c.in_ok-check_tags.ensures) in
     let is_ready : AreReady b cols = ready b cols m are lengths ranges tags (sym (users known.After-all_users) ∙ c.if-not-all_users.false) in
     let read = c.in_ok-nodes_of.ensures in

@@ -35,7 +35,7 @@ returns-then-not-are_texts-clause-fault c =
 pub returns-in-Some-unknown_feature-clause-fault : goal.returns-in-Some-unknown_feature-clause-fault
 returns-in-Some-unknown_feature-clause-fault c =
     let w = c.args.bytes.now in
-    header_fault_is w None None false true (Some c.in-Some-unknown_feature.place)
+    header_fault_is w None None false true (Some c.in-Some-unknown_feature.index)
     (sym c.in_default.is ∙ c.wire_of.ensures)
     (ap (option_map faults.HeaderBlockWire) (sym c.in_default-wire_of_boxes.is) ∙ c.wire_of_boxes.ensures)
     (incomplete_is (fields w) c.has_box.result c.is_none.result false c.bbox_of-bbox.result c.has_box.ensures c.bbox_of-bbox.ensures c.is_none.ensures c.if-has_box-is_none.false)

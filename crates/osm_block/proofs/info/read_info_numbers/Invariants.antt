@@ -1,7 +1,7 @@
 use Rattle.std.proofs.Common.{◌≡◌}
 use Rattle.pbf_wire.specs.Walk.{items_left}
 use Rattle.pbf_wire.specs.Readings.{front, first_fault, fields, wire}
-use Rattle.osm_block.specs.Columns.{info_after}
+use Rattle.osm_block.specs.FieldsLeft.{info_after}
 use Rattle.osm_block.proofs.info.read_info_numbers.Given as goal
 
 abbrev pub invariant-loop-field : goal.invariant-loop-field

@@ -5,10 +5,10 @@ use Rattle.std.specs.Prelude.{option_map}
 use Rattle.std.specs.List.{list_all}
 use Rattle.pbf_wire.specs.Readings.{uint32}
 use Rattle.osm_value.specs.Ranges.{is_wide, IsNode}
-use Rattle.osm_block.specs.Block.{place, TagsAt}
-use Rattle.osm_block.specs.Columns.{indexes_in, tag_indexes_in, user_in}
+use Rattle.osm_block.specs.Block.{coordinate, TagsAt}
+use Rattle.osm_block.specs.FieldsLeft.{indexes_in, tag_indexes_in, user_in}
 use Rattle.osm_block.specs.Fields.{context_of, info_message_of, node_message_of}
-use Rattle.osm_block.specs.Phases.{info_in_range, place_in_range, is_index, user_indexes}
+use Rattle.osm_block.specs.Phases.{info_in_range, coordinate_in_range, is_index, user_indexes}
 use Rattle.osm_block.proofs.IndexesLemmas.{indexes_are, and_right}
 use Rattle.osm_block.proofs.PhaseLemmas.{even_from}
 use Rattle.osm_block.proofs.NodePhases.{NodeRead, four, nodes_range, range_is, fails_range, fails_index, no_phase}
@@ -49,38 +49,38 @@ module _ (c : After-indexes_fit) where
   fit = c.indexes_fit.ensures ∙ indexes_are _ c.args.node.now.keys.numbers.items c.args.node.now.vals.numbers.items c.args.node.now.info.numbers.user_sid
 
   passed : (is_wide (to_z w64 (of_z w64 c.in-Some.id)) ≡ true)
-      × (place_in_range c.args.scale.now.lat_offset c.args.scale.now.granularity (to_z w64 (of_z w64 c.in-Some-optional_unzigzag.lat)) ≡ true)
-      × (place_in_range c.args.scale.now.lon_offset c.args.scale.now.granularity (to_z w64 (of_z w64 c.in-Some-optional_unzigzag-2.lon)) ≡ true)
+      × (coordinate_in_range c.args.scale.now.lat_offset c.args.scale.now.granularity (to_z w64 (of_z w64 c.in-Some-optional_unzigzag.lat)) ≡ true)
+      × (coordinate_in_range c.args.scale.now.lon_offset c.args.scale.now.granularity (to_z w64 (of_z w64 c.in-Some-optional_unzigzag-2.lon)) ≡ true)
       × (info_in_range (context_of c.args.scale.now) (info_message_of c.args.node.now.info.numbers) ≡ true)
   passed = four _ _ _ _ (sym c.node_in_range.ensures ∙ c.if-not-node_in_range.false)
 
--- the node's places and tags, as they are made
+-- the node's coordinates and tags, as they are made
 module _ (c : After-info_of) where
-  lat_is_place : to_z w64 (of_z w64 c.place_of-lat.result) ≡ place c.args.scale.now.lat_offset c.args.scale.now.granularity (to_z w64 (of_z w64 c.in-Some-optional_unzigzag.lat))
-  lat_is_place =
-      let fits : FitsSigned w64 c.place_of-lat.result = search rules in
+  lat_is_coordinate : to_z w64 (of_z w64 c.coordinate_of-lat.result) ≡ coordinate c.args.scale.now.lat_offset c.args.scale.now.granularity (to_z w64 (of_z w64 c.in-Some-optional_unzigzag.lat))
+  lat_is_coordinate =
+      let fits : FitsSigned w64 c.coordinate_of-lat.result = search rules in
       let offset : FitsSigned w64 c.args.scale.now.lat_offset = search rules in
       let unit : FitsSigned w32 c.args.scale.now.granularity = search rules in
-      to_z-of_z w64 c.place_of-lat.result fits ∙ c.place_of-lat.ensures ∙ ap (λ x. place x (to_z w32 (of_z w32 c.args.scale.now.granularity)) (to_z w64 (of_z w64 c.in-Some-optional_unzigzag.lat))) (to_z-of_z w64 c.args.scale.now.lat_offset offset)
-      ∙ ap (λ x. place c.args.scale.now.lat_offset x (to_z w64 (of_z w64 c.in-Some-optional_unzigzag.lat))) (to_z-of_z w32 c.args.scale.now.granularity unit)
+      to_z-of_z w64 c.coordinate_of-lat.result fits ∙ c.coordinate_of-lat.ensures ∙ ap (λ x. coordinate x (to_z w32 (of_z w32 c.args.scale.now.granularity)) (to_z w64 (of_z w64 c.in-Some-optional_unzigzag.lat))) (to_z-of_z w64 c.args.scale.now.lat_offset offset)
+      ∙ ap (λ x. coordinate c.args.scale.now.lat_offset x (to_z w64 (of_z w64 c.in-Some-optional_unzigzag.lat))) (to_z-of_z w32 c.args.scale.now.granularity unit)
 
-  lon_is_place : to_z w64 (of_z w64 c.place_of-lon.result) ≡ place c.args.scale.now.lon_offset c.args.scale.now.granularity (to_z w64 (of_z w64 c.in-Some-optional_unzigzag-2.lon))
-  lon_is_place =
-      let fits : FitsSigned w64 c.place_of-lon.result = search rules in
+  lon_is_coordinate : to_z w64 (of_z w64 c.coordinate_of-lon.result) ≡ coordinate c.args.scale.now.lon_offset c.args.scale.now.granularity (to_z w64 (of_z w64 c.in-Some-optional_unzigzag-2.lon))
+  lon_is_coordinate =
+      let fits : FitsSigned w64 c.coordinate_of-lon.result = search rules in
       let offset : FitsSigned w64 c.args.scale.now.lon_offset = search rules in
       let unit : FitsSigned w32 c.args.scale.now.granularity = search rules in
-      to_z-of_z w64 c.place_of-lon.result fits ∙ c.place_of-lon.ensures ∙ ap (λ x. place x (to_z w32 (of_z w32 c.args.scale.now.granularity)) (to_z w64 (of_z w64 c.in-Some-optional_unzigzag-2.lon))) (to_z-of_z w64 c.args.scale.now.lon_offset offset)
-      ∙ ap (λ x. place c.args.scale.now.lon_offset x (to_z w64 (of_z w64 c.in-Some-optional_unzigzag-2.lon))) (to_z-of_z w32 c.args.scale.now.granularity unit)
+      to_z-of_z w64 c.coordinate_of-lon.result fits ∙ c.coordinate_of-lon.ensures ∙ ap (λ x. coordinate x (to_z w32 (of_z w32 c.args.scale.now.granularity)) (to_z w64 (of_z w64 c.in-Some-optional_unzigzag-2.lon))) (to_z-of_z w64 c.args.scale.now.lon_offset offset)
+      ∙ ap (λ x. coordinate c.args.scale.now.lon_offset x (to_z w64 (of_z w64 c.in-Some-optional_unzigzag-2.lon))) (to_z-of_z w32 c.args.scale.now.granularity unit)
 
   tags_are : TagsAt (map (λ t. t.now) c.args.scale.now.table.items) (map (λ t. (t.0.now, t.1.now)) c.in_ok-tags.tags.items) (map uint32 c.args.node.now.keys.numbers.items) (map uint32 c.args.node.now.vals.numbers.items)
   tags_are = TagsAt-along _ _ _ _ _ _ _ _ c.deref-table.ensures.value c.deref.ensures.value c.deref-2.ensures.value c.in_ok-tags.ensures
 
-  in_range : IsNode (record { id = to_z w64 (of_z w64 c.in-Some.id); lat = to_z w64 (of_z w64 c.place_of-lat.result); lon = to_z w64 (of_z w64 c.place_of-lon.result); tags = map (λ t. (t.0.now, t.1.now)) c.in_ok-tags.tags.items; info = c.info_of.result })
+  in_range : IsNode (record { id = to_z w64 (of_z w64 c.in-Some.id); lat = to_z w64 (of_z w64 c.coordinate_of-lat.result); lon = to_z w64 (of_z w64 c.coordinate_of-lon.result); tags = map (λ t. (t.0.now, t.1.now)) c.in_ok-tags.tags.items; info = c.info_of.result })
   in_range =
-      let p = four (is_wide (to_z w64 (of_z w64 c.in-Some.id))) (place_in_range c.args.scale.now.lat_offset c.args.scale.now.granularity (to_z w64 (of_z w64 c.in-Some-optional_unzigzag.lat)))
-      (place_in_range c.args.scale.now.lon_offset c.args.scale.now.granularity (to_z w64 (of_z w64 c.in-Some-optional_unzigzag-2.lon))) (info_in_range (context_of c.args.scale.now) (info_message_of c.args.node.now.info.numbers))
+      let p = four (is_wide (to_z w64 (of_z w64 c.in-Some.id))) (coordinate_in_range c.args.scale.now.lat_offset c.args.scale.now.granularity (to_z w64 (of_z w64 c.in-Some-optional_unzigzag.lat)))
+      (coordinate_in_range c.args.scale.now.lon_offset c.args.scale.now.granularity (to_z w64 (of_z w64 c.in-Some-optional_unzigzag-2.lon))) (info_in_range (context_of c.args.scale.now) (info_message_of c.args.node.now.info.numbers))
       (sym c.node_in_range.ensures ∙ c.if-not-node_in_range.false) in
-      record { id = p.0; lat = ap is_wide lat_is_place ∙ p.1; lon = ap is_wide lon_is_place ∙ p.2; tags = tags_in_range (map (λ t. t.now) c.args.scale.now.table.items) _ _ _ c.args.scale.now.texts tags_are; info = c.info_of.ensures.in_range }
+      record { id = p.0; lat = ap is_wide lat_is_coordinate ∙ p.1; lon = ap is_wide lon_is_coordinate ∙ p.2; tags = tags_in_range (map (λ t. t.now) c.args.scale.now.table.items) _ _ _ c.args.scale.now.texts tags_are; info = c.info_of.ensures.in_range }
 
 pub returns-then-not-node_in_range : goal.returns-then-not-node_in_range
 returns-then-not-node_in_range c =
@@ -93,23 +93,23 @@ returns-then-not-indexes_fit c =
     let inside = (goal.at.returns-then-not-indexes_fit c).After-indexes_fit in
     fails_index _ _ _ _ _ _ _ _ (read tested) (range tested) c.if-not-node_in_range.false (texts inside) (fit inside) c.if-not-indexes_fit.true
 
-pub place_of-lat-requires : goal.place_of-lat-requires
-place_of-lat-requires c =
-    let inside = (goal.at.place_of-lat-requires c).After-indexes_fit in
+pub coordinate_of-lat-requires : goal.coordinate_of-lat-requires
+coordinate_of-lat-requires c =
+    let inside = (goal.at.coordinate_of-lat-requires c).After-indexes_fit in
     let lat : ℤ = to_z w64 (of_z w64 c.in-Some-optional_unzigzag.lat) in
     let offset : FitsSigned w64 c.args.scale.now.lat_offset = search rules in
     let unit : FitsSigned w32 c.args.scale.now.granularity = search rules in
-    ap (λ x. place_in_range x (to_z w32 (of_z w32 c.args.scale.now.granularity)) lat) (to_z-of_z w64 c.args.scale.now.lat_offset offset)
-    ∙ ap (λ x. place_in_range c.args.scale.now.lat_offset x lat) (to_z-of_z w32 c.args.scale.now.granularity unit) ∙ (passed inside).1
+    ap (λ x. coordinate_in_range x (to_z w32 (of_z w32 c.args.scale.now.granularity)) lat) (to_z-of_z w64 c.args.scale.now.lat_offset offset)
+    ∙ ap (λ x. coordinate_in_range c.args.scale.now.lat_offset x lat) (to_z-of_z w32 c.args.scale.now.granularity unit) ∙ (passed inside).1
 
-pub place_of-lon-requires : goal.place_of-lon-requires
-place_of-lon-requires c =
-    let inside = (goal.at.place_of-lon-requires c).After-indexes_fit in
+pub coordinate_of-lon-requires : goal.coordinate_of-lon-requires
+coordinate_of-lon-requires c =
+    let inside = (goal.at.coordinate_of-lon-requires c).After-indexes_fit in
     let lon : ℤ = to_z w64 (of_z w64 c.in-Some-optional_unzigzag-2.lon) in
     let offset : FitsSigned w64 c.args.scale.now.lon_offset = search rules in
     let unit : FitsSigned w32 c.args.scale.now.granularity = search rules in
-    ap (λ x. place_in_range x (to_z w32 (of_z w32 c.args.scale.now.granularity)) lon) (to_z-of_z w64 c.args.scale.now.lon_offset offset)
-    ∙ ap (λ x. place_in_range c.args.scale.now.lon_offset x lon) (to_z-of_z w32 c.args.scale.now.granularity unit) ∙ (passed inside).2
+    ap (λ x. coordinate_in_range x (to_z w32 (of_z w32 c.args.scale.now.granularity)) lon) (to_z-of_z w64 c.args.scale.now.lon_offset offset)
+    ∙ ap (λ x. coordinate_in_range c.args.scale.now.lon_offset x lon) (to_z-of_z w32 c.args.scale.now.granularity unit) ∙ (passed inside).2
 
 pub info_of-requires-clause-in_range : goal.info_of-requires-clause-in_range
 info_of-requires-clause-in_range c = (passed (goal.at.info_of-requires-clause-in_range c).After-indexes_fit).3
@@ -131,8 +131,8 @@ returns c =
       no_phase _ _ _ _ _ _ _ _ (read tested) (range tested) c.if-not-node_in_range.false (texts inside) (fit inside) c.if-not-indexes_fit.false,
       rw c.new.ensures (record {
         id_is = ap Some (id_is tested) ∙ sym (read tested).there;
-        lat_is = ap Some (lat_is_place made ∙ ap (place c.args.scale.now.lat_offset c.args.scale.now.granularity) (lat_is tested)) ∙ sym (ap (option_map (place c.args.scale.now.lat_offset c.args.scale.now.granularity)) (read tested).lat_there);
-        lon_is = ap Some (lon_is_place made ∙ ap (place c.args.scale.now.lon_offset c.args.scale.now.granularity) (lon_is tested)) ∙ sym (ap (option_map (place c.args.scale.now.lon_offset c.args.scale.now.granularity)) (read tested).lon_there);
+        lat_is = ap Some (lat_is_coordinate made ∙ ap (coordinate c.args.scale.now.lat_offset c.args.scale.now.granularity) (lat_is tested)) ∙ sym (ap (option_map (coordinate c.args.scale.now.lat_offset c.args.scale.now.granularity)) (read tested).lat_there);
+        lon_is = ap Some (lon_is_coordinate made ∙ ap (coordinate c.args.scale.now.lon_offset c.args.scale.now.granularity) (lon_is tested)) ∙ sym (ap (option_map (coordinate c.args.scale.now.lon_offset c.args.scale.now.granularity)) (read tested).lon_there);
         tags_are = tags_are made;
         info_is = c.info_of.ensures;
         in_range = in_range made;

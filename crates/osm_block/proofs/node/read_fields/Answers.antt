@@ -3,7 +3,7 @@ use Rattle.pbf_wire.specs.Field.{content_of}
 use Rattle.pbf_wire.specs.Readings.{front, fields}
 use Rattle.pbf_wire.specs.Walk.{items_left}
 use Rattle.osm_block.specs.declared.fields.TheConstants.{ELEMENT_INFO}
-use Rattle.osm_block.specs.Columns.{InfoLeft}
+use Rattle.osm_block.specs.FieldsLeft.{InfoLeft}
 use Rattle.osm_block.proofs.FieldLemmas.{payload_first, info_taken}
 use Rattle.osm_block.proofs.node.read_fields.Goals as goal
 

@@ -1,7 +1,7 @@
 use Rattle.std.proofs.Common.{◌≡◌}
 use Rattle.pbf_wire.specs.Walk.{items_left}
 use Rattle.pbf_wire.specs.Readings.{front, first_fault, fields, wire}
-use Rattle.osm_block.specs.Columns.{NodeLeft}
+use Rattle.osm_block.specs.FieldsLeft.{NodeLeft}
 use Rattle.osm_block.proofs.node.read_fields.Given as goal
 
 abbrev pub invariant-loop-field : goal.invariant-loop-field

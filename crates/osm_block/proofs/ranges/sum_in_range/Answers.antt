@@ -3,7 +3,7 @@ use Rattle.std.specs.Prelude.{int_le}
 use Rattle.std.specs.Int.{w64, w128}
 use Rattle.std.proofs.lemmas.Int.{to_z-of_z}
 use Rattle.osm_block.specs.declared.ranges.TheConstants.{LEAST, MOST}
-use Rattle.osm_block.proofs.PlaceLemmas.{range_shift}
+use Rattle.osm_block.proofs.CoordinateLemmas.{range_shift}
 use Rattle.osm_block.proofs.ranges.sum_in_range.Goals as goal
 
 pub returns : goal.returns

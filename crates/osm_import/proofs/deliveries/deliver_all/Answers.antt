@@ -1,8 +1,9 @@
 use Rattle.std.proofs.Common.{◌≡◌, ◌++◌, ◌∷◌, [], List, take, refl, sym, subst, inl, inr, arith, rules}
 use Rattle.std.proofs.lemmas.Grind.{common_steps}
 use Rattle.osm_import.specs.declared.answer.Answer.{Answer}
-use Rattle.osm_import.specs.Runs.{AreOwn, Runs, IsNone, IsFault}
+use Rattle.osm_import.specs.Runs.{AreOwn, Runs, IsNone, IsStored, IsFault}
 use Rattle.osm_import.proofs.RunsLemmas.{run-imports, cause-wider, causes-push, runs-more, runs-step, runs-all, none-split, delivers-sound, own-push, own-sound}
+use Rattle.osm_import.proofs.ShutLemmas.{come-more-at, come-all, come-leaves, come-leaves_a_map}
 use Rattle.osm_import.proofs.deliveries.deliver_all.Goals as goal
 
 pub loop-delivery-init : goal.loop-delivery-init
@@ -16,6 +17,8 @@ loop-delivery-init g c = record {
   own = λ held holds honest is_open. rw c.in_ok-answers.ensures.items tt;
   run = λ held holds honest is_open. rw c.in_ok-answers.ensures.items (held, refl, holds);
   unbroken = λ held holds honest sound. rw c.in_ok-answers.ensures.items (held, refl, holds);
+  same = λ honest is_open none. g.met.K.Reader.same_tables_self c.args.keeper.now;
+  come = λ held holds honest. rw c.in_ok-answers.ensures.items (inl (held, refl, holds));
 }
 
 pub loop-delivery-preserved : goal.loop-delivery-preserved
@@ -47,7 +50,35 @@ loop-delivery-preserved g c =
           (inv.unbroken held holds (made.honest honest) parts.0)
           (λ now holds_now. delivers-sound (K.is_open c.deliver.new.keeper) (K.holds c.deliver.new.keeper) now c.delivery.inside.off c.delivery.inside.bytes.now c.deliver.result parts.1
           (made.step now holds_now honest));
+      same = λ honest is_open none.
+          (let parts = none-split IsStored c.loop-delivery.answers.items c.deliver.result (subst (λ (rs : List Answer). IsNone IsStored rs) pushed none) in
+          g.met.K.Reader.same_tables_then c.args.keeper.now c.loop-delivery.keeper c.deliver.new.keeper
+          (inv.same (made.honest honest) (made.open_if is_open) parts.0) (made.same honest is_open parts.1));
+      come = λ held holds honest.
+          come-more-at K g.met.K.Reader.open_or_shut c.loop-delivery.keeper c.deliver.new.keeper held c.args.deliveries.now c.loop-delivery.delivery-index _ c.delivery-item.result
+          c.loop-delivery.answers.items c.push.new.self.items c.deliver.result (omega arith) c.delivery.view_is c.delivery-item.is pushed honest
+          (record {
+            step = made.step;
+            crash = made.crash;
+            whole = made.whole;
+            own = made.own;
+            cause = made.cause;
+            honest = made.honest;
+            open_if = made.open_if;
+            counted = made.counted;
+          })
+          (made.shut honest) (inv.come held holds (made.honest honest));
     }
+
+pub returns-clause-crash : goal.returns-clause-crash
+returns-clause-crash g c = λ held holds honest.
+    let ds = c.args.deliveries.now in
+    let come = come-all g.K.Reader c.loop-delivery.keeper held ds c.loop-delivery.delivery-index c.loop-delivery.answers.items (omega arith) (c.loop-delivery.invariant.come held holds honest) in
+    come-leaves g.K.Reader g.met.K.Reader.settled c.loop-delivery.keeper held ds c.loop-delivery.answers.items come
+
+pub returns-clause-whole : goal.returns-clause-whole
+returns-clause-whole g c = λ held holds honest.
+    come-leaves_a_map g.K.Reader g.met.K.Reader.leaves_held c.loop-delivery.keeper held _ c.loop-delivery.answers.items (c.loop-delivery.invariant.come held holds honest)
 
 pub returns-clause-run : goal.returns-clause-run
 returns-clause-run g c = λ held holds honest is_open.

@@ -1,7 +1,8 @@
 use Rattle.std.proofs.Common.{◌≡◌, ◌≤◌, length, take, vec_len}
 use Rattle.std.specs.Prelude.{vec_capacity}
 use Rattle.osm_store.specs.Held.{HeldMap}
-use Rattle.osm_import.specs.Runs.{Runs, HaveCauses, AreOwn, IsNone, IsFault}
+use Rattle.osm_import.specs.Runs.{Runs, HaveCauses, AreOwn, IsNone, IsStored, IsFault}
+use Rattle.osm_import.proofs.ShutLemmas.{HasCome}
 use Rattle.osm_import.proofs.deliveries.deliver_all.Given as goal
 
 abbrev pub invariant-loop-delivery : goal.invariant-loop-delivery
@@ -18,4 +19,6 @@ invariant-loop-delivery g l =
       run : (held : HeldMap) → K.holds l.fn.keeper held → K.is_honest l.keeper → K.is_open l.keeper → Runs (K.holds l.keeper) held (take l.delivery-index l.deliveries) l.answers.items;
       unbroken : (held : HeldMap) → K.holds l.fn.keeper held → K.is_honest l.keeper → IsNone IsFault l.answers.items
           → Runs (K.holds l.keeper) held (take l.delivery-index l.deliveries) l.answers.items;
+      same : K.is_honest l.keeper → K.is_open l.keeper → IsNone IsStored l.answers.items → K.same_tables l.fn.keeper l.keeper;
+      come : (held : HeldMap) → K.holds l.fn.keeper held → K.is_honest l.keeper → HasCome K l.keeper held (take l.delivery-index l.deliveries) l.answers.items;
     }

@@ -1,6 +1,6 @@
 //! The rows of one blob, in the layout of tables.
 
-ghost use Rattle.std.specs.Prelude.{◌<◌, ◌^◌, filter, IsTrue, MatchResult};
+ghost use Rattle.std.specs.Prelude.{◌<◌, filter, IsTrue, MatchResult};
 ghost use Rattle.sqlite.specs.State.{HasCleanDisk};
 ghost use Rattle.sqlite.specs.Held.{state};
 ghost use Rattle.osm_store.specs.Load.Asking.{JustAsks};
@@ -14,6 +14,7 @@ use crate::fault::StoreFault;
 use crate::load::answer::{answer, number};
 use crate::schema::Layout;
 use crate::schema::sql::{SELECT_ELEMENTS, SELECT_LINKS, SELECT_TAGS};
+use pbf_frame::MAX_OFFSET;
 use sqlite::{Alter, Connection, Row};
 
 /// The rows of some elements, and those of their tags and links, by offset, position and number.
@@ -29,7 +30,7 @@ pub(crate) fn load_table_rows<S: Alter>(
     connection: &mut Connection<S>,
     off: u64,
 ) -> Result<TableRows, StoreFault>
-    requires { off < 2 ^ 62 }
+    requires { off < MAX_OFFSET }
     ensures held { HasCleanDisk (state S.Store connection.new) → (held : HeldMap) → Holds Layout.Tables (state S.Store connection.old) held
         → MatchResult result (λ rows. AreRowsOf rows (filter (is_in off) (placed_in held)) × IsTrue (state S.Store connection.new).is_open) (λ fault. ¬ (IsForeign fault)) }
     ensures asks { JustAsks (state S.Store connection.old) (state S.Store connection.new) }

@@ -1,7 +1,7 @@
 use Rattle.std.proofs.Common.{◌++◌, List, ℕ, subst}
 use Rattle.osm_value.specs.Sink.{Wrote}
 use Rattle.osm_store.specs.Faults.{name_of}
-use Rattle.pbfrow_commands.specs.CommandLines.{plain_fault_line}
+use Rattle.osm_import.specs.Lines.{plain_fault_line}
 use Rattle.pbfrow_commands.proofs.report.put_store_fault.Goals as goal
 
 pub returns : goal.returns

@@ -1,10 +1,12 @@
 //! Every list of up to four deliveries, against a small program that keeps the blobs that it has stored in a list.
 
-use super::{Blocks, CHANGED, CHANGED_LINES, Columns, LINES, NewStore, answers_to, lines_of};
+use super::{answers_to, exported};
+use crate::tests::fixtures::{CHANGED, CHANGED_LINES, EXTRA, Frame, HEADER, LINES, NODES};
+use crate::tests::memory::{BodiesInMemory, NewStore, TablesInMemory};
 use osm_block::BlockFault;
-use osm_import::{Answer, Conflict, Delivery, Fault, gaps};
+use osm_import::{Answer, Conflict, Fault, gaps};
 use osm_store::{Extent, Reader};
-use osm_vectors::vectors::{EXTRA_FRAME, HEADER_FRAME, TWO_NODES_FRAME};
+use osm_value::Form;
 use pbf_wire::{WireFault, WireFaultKind};
 use std::alloc::{AllocError, Global};
 use std::process::Abort;
@@ -35,11 +37,11 @@ fn choices<'a>() -> [Choice<'a>; 6] {
         at: 1,
     });
     [
-        make_choice(0, 47, &HEADER_FRAME, Answer::Stored(0), b""),
-        make_choice(47, 84, &TWO_NODES_FRAME, Answer::Stored(2), LINES),
-        make_choice(84, 100, &EXTRA_FRAME, Answer::Stored(0), b""),
-        make_choice(47, 84, &CHANGED, Answer::Stored(2), CHANGED_LINES),
-        make_choice(75, 91, &EXTRA_FRAME, Answer::Stored(0), b""),
+        make_choice(0, 47, HEADER, Answer::Stored(0), b""),
+        make_choice(47, 84, NODES, Answer::Stored(2), LINES),
+        make_choice(84, 100, EXTRA, Answer::Stored(0), b""),
+        make_choice(47, 84, CHANGED, Answer::Stored(2), CHANGED_LINES),
+        make_choice(75, 91, EXTRA, Answer::Stored(0), b""),
         make_choice(47, 84, &CUT, Answer::Bad(Fault::Block(cut)), b""),
     ]
 }
@@ -121,18 +123,12 @@ fn held_lines(alloc: Global, held: &[&Choice<'_>]) -> Result<Vec<u8>, AllocError
     Ok(lines)
 }
 
-fn deliveries_of<'a>(
-    alloc: Global,
-    chosen: &[&Choice<'a>],
-) -> Result<Vec<Delivery<'a>>, AllocError> {
-    let mut deliveries = Vec::new(alloc);
+fn frames_of<'a>(alloc: Global, chosen: &[&Choice<'a>]) -> Result<Vec<Frame<'a>>, AllocError> {
+    let mut frames = Vec::new(alloc);
     for choice in chosen {
-        deliveries.push(Delivery {
-            off: choice.off,
-            bytes: choice.bytes,
-        })?;
+        frames.push((choice.off, choice.bytes))?;
     }
-    Ok(deliveries)
+    Ok(frames)
 }
 
 /// The extents, the gaps in 100 bytes and the lines of a store that holds these.
@@ -151,7 +147,7 @@ fn check_held<K: NewStore, R: Abort>(
     for byte in 0..100 {
         assert!(rt; is_covered(held, byte) != is_in_a_gap(&ranges, byte));
     }
-    let (result, lines) = lines_of(alloc, store, None, true);
+    let (result, lines) = exported(alloc, store, Form::Lines, None, true);
     assert!(rt; result == Ok(()));
     assert!(rt; lines.as_slice() == held_lines(alloc, held)?.as_slice());
     Ok(())
@@ -162,8 +158,8 @@ fn check_list<K: NewStore, R: Abort>(
     alloc: Global,
     chosen: &[&Choice<'_>],
 ) -> Result<(), Fail> {
-    let deliveries = deliveries_of(alloc, chosen)?;
-    let (answers, mut store) = answers_to::<K>(alloc, &deliveries)?;
+    let frames = frames_of(alloc, chosen)?;
+    let (answers, mut store) = answers_to::<K>(alloc, &frames)?;
     let mut held = Vec::new(alloc);
     let mut expected = Vec::new(alloc);
     for choice in chosen {
@@ -212,8 +208,8 @@ fn every_list_of_up_to_four_of<K: NewStore, R: Abort + Alloc<A = Global>>(
 
 #[test]
 fn every_list_of_up_to_four(rt: HostRuntime) -> Result<(), Fail> {
-    every_list_of_up_to_four_of::<Blocks, _>(&rt)?;
-    every_list_of_up_to_four_of::<Columns, _>(&rt)
+    every_list_of_up_to_four_of::<BodiesInMemory, _>(&rt)?;
+    every_list_of_up_to_four_of::<TablesInMemory, _>(&rt)
 }
 
 /// A bad blob leaves what is held, whatever that is.
@@ -231,6 +227,6 @@ fn a_bad_blob_before_and_behind_of<K: NewStore, R: Abort + Alloc<A = Global>>(
 
 #[test]
 fn a_bad_blob_before_and_behind(rt: HostRuntime) -> Result<(), Fail> {
-    a_bad_blob_before_and_behind_of::<Blocks, _>(&rt)?;
-    a_bad_blob_before_and_behind_of::<Columns, _>(&rt)
+    a_bad_blob_before_and_behind_of::<BodiesInMemory, _>(&rt)?;
+    a_bad_blob_before_and_behind_of::<TablesInMemory, _>(&rt)
 }

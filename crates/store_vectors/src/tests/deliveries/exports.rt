@@ -1,172 +1,105 @@
 //! Gaps and exports.
 
-use super::{
-    Blocks, Columns, LINES, NewStore, answers_to, data_at, extra, file_store, header, joined,
-    lines_of, pbf_of,
-};
-use osm_import::{Answer, ExportFault, deliver, export_lines, export_pbf, gaps};
-use osm_value::Outlet;
+use super::{export_as, exported, file_store};
+use crate::tests::fixtures::{LINES, NODES, WRITTEN_HEADER};
+use crate::tests::memory::{BodiesInMemory, NewStore, TablesInMemory};
+use crate::tests::steps::{STORE_EXTRA, STORE_HEADER, STORE_NODES, Step, over_both_layouts};
+use osm_import::{Answer, ExportFault};
+use osm_value::{Form, Outlet};
 use osm_vectors::FailingWriter;
-use osm_vectors::vectors::{TWO_NODES_FRAME, WRITTEN_HEADER_FRAME};
 use std::alloc::Global;
 use std::process::Abort;
 use std::test::*;
 
-fn sizes_of_a_whole_file_of<K: NewStore, R: Abort + Alloc<A = Global>>(rt: &R) -> Result<(), Fail> {
-    let alloc = rt.alloc();
-    let mut store = file_store::<K>(alloc)?;
-    assert!(rt; gaps(alloc, &mut store, 84)?.is_empty());
-    assert!(rt; gaps(alloc, &mut store, 90)?.as_slice() == [(84, 90)].as_slice());
-    for size in [None, Some(84)] {
-        let (result, lines) = lines_of(alloc, &mut store, size, false);
-        assert!(rt; result == Ok(()));
-        assert!(rt; lines.as_slice() == LINES);
-    }
-    for (size, fault) in [
-        (83, ExportFault::PastEnd(84)),
-        (85, ExportFault::Incomplete(84, 85)),
-    ] {
-        let (result, nothing) = lines_of(alloc, &mut store, Some(size), false);
-        assert!(rt; result == Err(fault));
-        assert!(rt; nothing.is_empty());
-        let (result, nothing) = pbf_of(alloc, &mut store, Some(size), false);
-        assert!(rt; result == Err(fault));
-        assert!(rt; nothing.is_empty());
-    }
-    Ok(())
-}
-
 #[test]
 fn sizes_of_a_whole_file(rt: HostRuntime) -> Result<(), Fail> {
-    sizes_of_a_whole_file_of::<Blocks, _>(&rt)?;
-    sizes_of_a_whole_file_of::<Columns, _>(&rt)
-}
-
-fn a_gap_before_the_data_of<K: NewStore, R: Abort + Alloc<A = Global>>(rt: &R) -> Result<(), Fail> {
-    let alloc = rt.alloc();
-    let (answers, mut store) = answers_to::<K>(alloc, &[data_at(47)])?;
-    assert!(rt; answers.as_slice() == [Answer::Stored(2)].as_slice());
-    assert!(rt; gaps(alloc, &mut store, 84)?.as_slice() == [(0, 47)].as_slice());
-    let (whole, nothing) = lines_of(alloc, &mut store, None, false);
-    assert!(rt; whole == Err(ExportFault::Incomplete(0, 47)));
-    assert!(rt; nothing.is_empty());
-    let (whole, nothing) = pbf_of(alloc, &mut store, None, false);
-    assert!(rt; whole == Err(ExportFault::Incomplete(0, 47)));
-    assert!(rt; nothing.is_empty());
-    let (partial, lines) = lines_of(alloc, &mut store, None, true);
-    assert!(rt; partial == Ok(()));
-    assert!(rt; lines.as_slice() == LINES);
-    Ok(())
+    const STEPS: &[Step] = &[
+        STORE_HEADER,
+        STORE_NODES,
+        Step::Gaps(84, &[]),
+        Step::Gaps(90, &[(84, 90)]),
+        Step::Lines(None, &[LINES]),
+        Step::Lines(Some(84), &[LINES]),
+        Step::NoExport(Some(83), ExportFault::PastEnd(84)),
+        Step::NoExport(Some(85), ExportFault::Incomplete(84, 85)),
+    ];
+    over_both_layouts(&rt, STEPS)
 }
 
 #[test]
 fn a_gap_before_the_data(rt: HostRuntime) -> Result<(), Fail> {
-    a_gap_before_the_data_of::<Blocks, _>(&rt)?;
-    a_gap_before_the_data_of::<Columns, _>(&rt)
-}
-
-fn a_store_that_holds_nothing_of<K: NewStore, R: Abort + Alloc<A = Global>>(
-    rt: &R,
-) -> Result<(), Fail> {
-    let alloc = rt.alloc();
-    let mut store = K::new_store(alloc)?;
-    assert!(rt; gaps(alloc, &mut store, 10)?.as_slice() == [(0, 10)].as_slice());
-    let (whole, nothing) = lines_of(alloc, &mut store, None, false);
-    assert!(rt; whole == Err(ExportFault::Incomplete(0, 0)));
-    assert!(rt; nothing.is_empty());
-    let (whole, nothing) = pbf_of(alloc, &mut store, None, false);
-    assert!(rt; whole == Err(ExportFault::Incomplete(0, 0)));
-    assert!(rt; nothing.is_empty());
-    let (partial, lines) = lines_of(alloc, &mut store, None, true);
-    assert!(rt; partial == Ok(()));
-    assert!(rt; lines.is_empty());
-    let (partial, bytes) = pbf_of(alloc, &mut store, None, true);
-    assert!(rt; partial == Ok(()));
-    assert!(rt; bytes.as_slice() == WRITTEN_HEADER_FRAME.as_slice());
-    Ok(())
+    const STEPS: &[Step] = &[
+        STORE_NODES,
+        Step::Gaps(84, &[(0, 47)]),
+        Step::NoExport(None, ExportFault::Incomplete(0, 47)),
+        Step::PartialLines(&[LINES]),
+    ];
+    over_both_layouts(&rt, STEPS)
 }
 
 #[test]
 fn a_store_that_holds_nothing(rt: HostRuntime) -> Result<(), Fail> {
-    a_store_that_holds_nothing_of::<Blocks, _>(&rt)?;
-    a_store_that_holds_nothing_of::<Columns, _>(&rt)
+    const STEPS: &[Step] = &[
+        Step::Gaps(10, &[(0, 10)]),
+        Step::NoExport(None, ExportFault::Incomplete(0, 0)),
+        Step::PartialLines(&[]),
+        Step::PartialPbf(&[WRITTEN_HEADER]),
+    ];
+    over_both_layouts(&rt, STEPS)
 }
 
-fn a_file_as_pbf_of<K: NewStore, R: Abort + Alloc<A = Global>>(rt: &R) -> Result<(), Fail> {
-    let alloc = rt.alloc();
-    let mut store = file_store::<K>(alloc)?;
-    let (result, bytes) = pbf_of(alloc, &mut store, None, false);
-    assert!(rt; result == Ok(()));
-    let expected = joined(
-        alloc,
-        &[WRITTEN_HEADER_FRAME.as_slice(), TWO_NODES_FRAME.as_slice()],
-    )?;
-    assert!(rt; expected.len() == 93);
-    assert!(rt; bytes.as_slice() == expected.as_slice());
-    let mut again = K::new_store(alloc)?;
-    assert!(rt; deliver(alloc, &mut again, 0, &WRITTEN_HEADER_FRAME) == Answer::Stored(0));
-    assert!(rt; deliver(alloc, &mut again, 56, &TWO_NODES_FRAME) == Answer::Stored(2));
-    let (result, lines) = lines_of(alloc, &mut again, Some(93), false);
-    assert!(rt; result == Ok(()));
-    assert!(rt; lines.as_slice() == LINES);
-    Ok(())
-}
-
+/// What was exported is delivered again, where it stands in the new file of 93 bytes.
 #[test]
 fn a_file_as_pbf(rt: HostRuntime) -> Result<(), Fail> {
-    a_file_as_pbf_of::<Blocks, _>(&rt)?;
-    a_file_as_pbf_of::<Columns, _>(&rt)
+    const STEPS: &[Step] = &[
+        STORE_HEADER,
+        STORE_NODES,
+        Step::Pbf(None, &[WRITTEN_HEADER, NODES]),
+        Step::NewStore,
+        Step::Deliver(0, WRITTEN_HEADER, Answer::Stored(0)),
+        Step::Deliver(56, NODES, Answer::Stored(2)),
+        Step::Lines(Some(93), &[LINES]),
+    ];
+    over_both_layouts(&rt, STEPS)
 }
 
-/// A blob of another type has no elements, and so no frame in the export.
-fn a_file_with_another_type_as_pbf_of<K: NewStore, R: Abort + Alloc<A = Global>>(
-    rt: &R,
-) -> Result<(), Fail> {
-    let alloc = rt.alloc();
-    let deliveries = [data_at(100), extra(), data_at(47), header()];
-    let (_, mut store) = answers_to::<K>(alloc, &deliveries)?;
-    let (result, bytes) = pbf_of(alloc, &mut store, Some(137), false);
-    assert!(rt; result == Ok(()));
-    let data: &[u8] = &TWO_NODES_FRAME;
-    let expected = joined(alloc, &[WRITTEN_HEADER_FRAME.as_slice(), data, data])?;
-    assert!(rt; expected.len() == 130);
-    assert!(rt; bytes.as_slice() == expected.as_slice());
-    Ok(())
-}
+const _: () = prove!(WRITTEN_HEADER.len() + 2 * NODES.len() == 130);
 
+/// A blob of another type has no elements, and so no frame in the export, of 130 bytes.
 #[test]
 fn a_file_with_another_type_as_pbf(rt: HostRuntime) -> Result<(), Fail> {
-    a_file_with_another_type_as_pbf_of::<Blocks, _>(&rt)?;
-    a_file_with_another_type_as_pbf_of::<Columns, _>(&rt)
+    const STEPS: &[Step] = &[
+        Step::Deliver(100, NODES, Answer::Stored(2)),
+        STORE_EXTRA,
+        STORE_NODES,
+        STORE_HEADER,
+        Step::Pbf(Some(137), &[WRITTEN_HEADER, NODES, NODES]),
+    ];
+    over_both_layouts(&rt, STEPS)
 }
 
+/// An export fails over a writer with room for less than all of it, which has then taken a front.
 fn writers_that_fail_of<K: NewStore, R: Abort + Alloc<A = Global>>(rt: &R) -> Result<(), Fail> {
     let alloc = rt.alloc();
     let mut store = file_store::<K>(alloc)?;
-    for room in 0..39 {
-        let inner = Vec::new(alloc);
-        let mut out = Outlet::new(FailingWriter { inner, room });
-        let result = export_lines(alloc, &mut store, None, false, &mut out);
-        assert!(rt; result == Err(ExportFault::WriteFailed));
-        let taken = out.into_inner().inner;
-        assert!(rt; taken.len() == room);
-        assert!(rt; LINES.starts_with(&taken));
-    }
-    let (_, whole) = pbf_of(alloc, &mut store, None, false);
-    for room in 0..93 {
-        let inner = Vec::new(alloc);
-        let mut out = Outlet::new(FailingWriter { inner, room });
-        let result = export_pbf(alloc, &mut store, None, false, &mut out);
-        assert!(rt; result == Err(ExportFault::WriteFailed));
-        let taken = out.into_inner().inner;
-        assert!(rt; taken.len() == room);
-        assert!(rt; whole.starts_with(&taken));
+    for (form, length) in [(Form::Lines, 39), (Form::Pbf, 93)] {
+        let (_, whole) = exported(alloc, &mut store, form, None, false);
+        assert_eq!(rt; whole.len(), length);
+        for room in 0..length {
+            let inner = Vec::new(alloc);
+            let mut out = Outlet::new(FailingWriter { inner, room });
+            let result = export_as(alloc, &mut store, form, None, false, &mut out);
+            assert!(rt; result == Err(ExportFault::WriteFailed));
+            let taken = out.into_inner().inner;
+            assert!(rt; taken.len() == room);
+            assert!(rt; whole.starts_with(&taken));
+        }
     }
     Ok(())
 }
 
 #[test]
 fn writers_that_fail(rt: HostRuntime) -> Result<(), Fail> {
-    writers_that_fail_of::<Blocks, _>(&rt)?;
-    writers_that_fail_of::<Columns, _>(&rt)
+    writers_that_fail_of::<BodiesInMemory, _>(&rt)?;
+    writers_that_fail_of::<TablesInMemory, _>(&rt)
 }

@@ -1,14 +1,17 @@
 //! Deliveries in any order, again, and in the way of one another.
 
-use super::{
-    Blocks, CHANGED, Columns, LINES, NewStore, answers_to, data_at, extra, header, joined, lines_of,
+use super::{answers_to, exported};
+use crate::tests::fixtures::{
+    CHANGED, EXTRA, EXTRA_AT_84, FILE, HEADER, HEADER_AT_0, LINES, NODES, NODES_AT_47,
 };
-use osm_import::{
-    Answer, Conflict, Delivery, ExamineFault, Fault, deliver, deliver_until_fault, examine,
+use crate::tests::memory::{BodiesInMemory, NewStore, TablesInMemory};
+use crate::tests::steps::{
+    STORE_EXTRA, STORE_HEADER, STORE_NODES, Step, are_joined, over_both_layouts,
 };
+use osm_import::{Answer, Conflict, Fault, deliver, examine};
 use osm_store::{Reader, StoreFault};
-use osm_vectors::vectors::{EXTRA_FRAME, HEADER_FRAME, TWO_NODES_FRAME};
-use pbf_frame::{FrameFault, Kind};
+use osm_value::Form;
+use pbf_frame::Kind;
 use std::alloc::Global;
 use std::process::Abort;
 use std::test::*;
@@ -20,147 +23,72 @@ const THREE_NODES: [u8; 40] = [
     0x00, 0x00, 0x00, 0x4A, 0x03, 0x00, 0x00, 0x00,
 ];
 
-fn frames_in_any_order_and_again_of<K: NewStore, R: Abort + Alloc<A = Global>>(
-    rt: &R,
-) -> Result<(), Fail> {
-    let alloc = rt.alloc();
-    let deliveries = [data_at(47), header(), data_at(47), data_at(47)];
-    let (answers, mut store) = answers_to::<K>(alloc, &deliveries)?;
-    let expected = [
-        Answer::Stored(2),
-        Answer::Stored(0),
-        Answer::AlreadyHeld,
-        Answer::AlreadyHeld,
-    ];
-    assert!(rt; answers.as_slice() == expected.as_slice());
-    let (result, lines) = lines_of(alloc, &mut store, None, false);
-    assert!(rt; result == Ok(()));
-    assert!(rt; lines.as_slice() == LINES);
-    Ok(())
-}
+const THREE_NODES_LINES: &[u8] = b"n 1 0 0 [] {}\nn 2 0 0 [] {}\nn 3 0 0 [] {}\n";
 
 #[test]
 fn frames_in_any_order_and_again(rt: HostRuntime) -> Result<(), Fail> {
-    frames_in_any_order_and_again_of::<Blocks, _>(&rt)?;
-    frames_in_any_order_and_again_of::<Columns, _>(&rt)
-}
-
-fn a_frame_of_another_type_of<K: NewStore, R: Abort + Alloc<A = Global>>(
-    rt: &R,
-) -> Result<(), Fail> {
-    let alloc = rt.alloc();
-    let deliveries = [header(), data_at(47), extra(), data_at(100)];
-    let (answers, mut store) = answers_to::<K>(alloc, &deliveries)?;
-    let expected = [
-        Answer::Stored(0),
-        Answer::Stored(2),
-        Answer::Stored(0),
-        Answer::Stored(2),
+    const STEPS: &[Step] = &[
+        STORE_NODES,
+        STORE_HEADER,
+        Step::Deliver(47, NODES, Answer::AlreadyHeld),
+        Step::Deliver(47, NODES, Answer::AlreadyHeld),
+        Step::Lines(None, &[LINES]),
     ];
-    assert!(rt; answers.as_slice() == expected.as_slice());
-    let (result, lines) = lines_of(alloc, &mut store, Some(137), false);
-    assert!(rt; result == Ok(()));
-    let expected = joined(alloc, &[LINES, LINES])?;
-    assert!(rt; lines.as_slice() == expected.as_slice());
-    Ok(())
+    over_both_layouts(&rt, STEPS)
 }
 
 #[test]
 fn a_frame_of_another_type(rt: HostRuntime) -> Result<(), Fail> {
-    a_frame_of_another_type_of::<Blocks, _>(&rt)?;
-    a_frame_of_another_type_of::<Columns, _>(&rt)
-}
-
-fn what_is_in_the_way_of<K: NewStore, R: Abort + Alloc<A = Global>>(rt: &R) -> Result<(), Fail> {
-    let alloc = rt.alloc();
-    let changed = Delivery {
-        off: 47,
-        bytes: &CHANGED,
-    };
-    let second_header = Delivery {
-        off: 84,
-        bytes: &HEADER_FRAME,
-    };
-    let deliveries = [
-        header(),
-        data_at(47),
-        changed,
-        data_at(60),
-        second_header,
-        data_at(0),
+    const STEPS: &[Step] = &[
+        STORE_HEADER,
+        STORE_NODES,
+        STORE_EXTRA,
+        Step::Deliver(100, NODES, Answer::Stored(2)),
+        Step::Lines(Some(137), &[LINES, LINES]),
     ];
-    let (answers, mut store) = answers_to::<K>(alloc, &deliveries)?;
-    let expected = [
-        Answer::Stored(0),
-        Answer::Stored(2),
-        Answer::Refused(Conflict::Differs),
-        Answer::Refused(Conflict::Overlap),
-        Answer::Bad(Fault::HeaderNotFirst),
-        Answer::Bad(Fault::NoHeaderFirst),
-    ];
-    assert!(rt; answers.as_slice() == expected.as_slice());
-    let (result, lines) = lines_of(alloc, &mut store, None, false);
-    assert!(rt; result == Ok(()));
-    assert!(rt; lines.as_slice() == LINES);
-    Ok(())
+    over_both_layouts(&rt, STEPS)
 }
 
 #[test]
 fn what_is_in_the_way(rt: HostRuntime) -> Result<(), Fail> {
-    what_is_in_the_way_of::<Blocks, _>(&rt)?;
-    what_is_in_the_way_of::<Columns, _>(&rt)
+    const STEPS: &[Step] = &[
+        STORE_HEADER,
+        STORE_NODES,
+        Step::Deliver(47, CHANGED, Answer::Refused(Conflict::Differs)),
+        Step::Deliver(60, NODES, Answer::Refused(Conflict::Overlap)),
+        Step::Deliver(84, HEADER, Answer::Bad(Fault::HeaderNotFirst)),
+        Step::Deliver(0, NODES, Answer::Bad(Fault::NoHeaderFirst)),
+        Step::Lines(None, &[LINES]),
+    ];
+    over_both_layouts(&rt, STEPS)
 }
 
-/// Each is answered where no call of the store fails, and the first alone where one does.
-fn deliveries_until_a_fault_of<K: NewStore, R: Abort + Alloc<A = Global>>(
-    rt: &R,
-) -> Result<(), Fail> {
-    let alloc = rt.alloc();
-    let mut store = K::new_store(alloc)?;
-    let file = [header(), data_at(47)];
-    let first = deliver_until_fault(alloc, &mut store, &file)?;
-    assert!(rt; first.as_slice() == [Answer::Stored(0), Answer::Stored(2)].as_slice());
-    let again = deliver_until_fault(alloc, &mut store, &file)?;
-    assert!(rt; again.as_slice() == [Answer::AlreadyHeld, Answer::AlreadyHeld].as_slice());
-    store.limit_steps(Some(1));
-    let stopped = deliver_until_fault(alloc, &mut store, &[data_at(47), header()])?;
-    assert!(rt; stopped.as_slice() == [Answer::Fault(StoreFault::Interrupted)].as_slice());
-    Ok(())
-}
-
+/// Each is answered, also behind a call of the store that fails, and the next deliveries go on.
 #[test]
-fn deliveries_until_a_fault(rt: HostRuntime) -> Result<(), Fail> {
-    deliveries_until_a_fault_of::<Blocks, _>(&rt)?;
-    deliveries_until_a_fault_of::<Columns, _>(&rt)
-}
-
-#[test]
-fn numbers_and_names_of_refusals(rt: HostRuntime) {
-    assert!(rt; Conflict::Differs.number() == 63 && Conflict::Differs.name() == "Differs");
-    assert!(rt; Conflict::Overlap.number() == 64 && Conflict::Overlap.name() == "Overlap");
-    let first = Fault::NoHeaderFirst;
-    assert!(rt; first.number() == 61 && first.name() == "NoHeaderFirst");
-    let not_first = Fault::HeaderNotFirst;
-    assert!(rt; not_first.number() == 62 && not_first.name() == "HeaderNotFirst");
-}
-
-#[test]
-fn past_the_greatest_offset(rt: HostRuntime) {
-    let found = examine(rt.alloc(), 1 << 62, &HEADER_FRAME);
-    let too_large = Fault::Frame(FrameFault::OffsetTooLarge);
-    assert!(rt; matches!(found, Err(ExamineFault::Bad(fault)) if fault == too_large));
-    assert!(rt; too_large.number() == 60 && too_large.name() == "OffsetTooLarge");
+fn deliveries_behind_a_fault(rt: HostRuntime) -> Result<(), Fail> {
+    const INTERRUPTED: Answer = Answer::Fault(StoreFault::Interrupted);
+    const STEPS: &[Step] = &[
+        Step::DeliverAll(FILE, &[Answer::Stored(0), Answer::Stored(2)]),
+        Step::LimitSteps(Some(1)),
+        Step::DeliverAll(&[NODES_AT_47, HEADER_AT_0], &[INTERRUPTED, INTERRUPTED]),
+        Step::LimitSteps(None),
+        Step::DeliverAll(FILE, &[Answer::AlreadyHeld, Answer::AlreadyHeld]),
+    ];
+    over_both_layouts(&rt, STEPS)
 }
 
 #[test]
 fn what_a_good_delivery_says(rt: HostRuntime) -> Result<(), Fail> {
     let alloc = rt.alloc();
-    let data = examine(alloc, 47, &TWO_NODES_FRAME)?;
-    assert!(rt; data.kind == Kind::OsmData && data.length == 37 && data.elements.len() == 2);
-    let first = examine(alloc, 0, &HEADER_FRAME)?;
-    assert!(rt; first.kind == Kind::OsmHeader && first.length == 47 && first.elements.is_empty());
-    let other = examine(alloc, 84, &EXTRA_FRAME)?;
-    assert!(rt; other.kind == Kind::Other && other.length == 16 && other.elements.is_empty());
+    for (off, bytes, kind, length, elements) in [
+        (47, NODES, Kind::OsmData, 37, 2),
+        (0, HEADER, Kind::OsmHeader, 47, 0),
+        (84, EXTRA, Kind::Other, 16, 0),
+    ] {
+        let good = examine(alloc, off, bytes)?;
+        assert!(rt; good.kind == kind && good.length == length, "at {off}");
+        assert_eq!(rt; good.elements.len(), elements, "at {off}");
+    }
     Ok(())
 }
 
@@ -168,7 +96,7 @@ fn what_a_good_delivery_says(rt: HostRuntime) -> Result<(), Fail> {
 /// that a query visits, so something has to be held.
 fn under_each_step_limit_of<K: NewStore, R: Abort + Alloc<A = Global>>(rt: &R) -> Result<(), Fail> {
     let alloc = rt.alloc();
-    let (_, mut store) = answers_to::<K>(alloc, &[header(), data_at(47), extra()])?;
+    let (_, mut store) = answers_to::<K>(alloc, &[HEADER_AT_0, NODES_AT_47, EXTRA_AT_84])?;
     let mut interrupted = 0;
     for limit in 1..100 {
         store.limit_steps(Some(limit));
@@ -181,20 +109,18 @@ fn under_each_step_limit_of<K: NewStore, R: Abort + Alloc<A = Global>>(rt: &R) -
         interrupted = limit;
         assert!(rt; store.failures() == interrupted);
         assert!(rt; store.extents(alloc)?.len() == 3);
-        let (_, lines) = lines_of(alloc, &mut store, None, false);
+        let (_, lines) = exported(alloc, &mut store, Form::Lines, None, false);
         assert!(rt; lines.as_slice() == LINES);
     }
     assert!(rt; interrupted > 0);
     assert!(rt; deliver(alloc, &mut store, 100, &THREE_NODES) == Answer::AlreadyHeld);
-    let (_, lines) = lines_of(alloc, &mut store, Some(140), false);
-    let three = b"n 1 0 0 [] {}\nn 2 0 0 [] {}\nn 3 0 0 [] {}\n";
-    let expected = joined(alloc, &[LINES, three.as_slice()])?;
-    assert!(rt; lines.as_slice() == expected.as_slice());
+    let (_, lines) = exported(alloc, &mut store, Form::Lines, Some(140), false);
+    assert!(rt; are_joined(&lines, &[LINES, THREE_NODES_LINES]));
     Ok(())
 }
 
 #[test]
 fn under_each_step_limit(rt: HostRuntime) -> Result<(), Fail> {
-    under_each_step_limit_of::<Blocks, _>(&rt)?;
-    under_each_step_limit_of::<Columns, _>(&rt)
+    under_each_step_limit_of::<BodiesInMemory, _>(&rt)?;
+    under_each_step_limit_of::<TablesInMemory, _>(&rt)
 }

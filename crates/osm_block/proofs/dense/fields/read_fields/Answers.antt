@@ -13,15 +13,15 @@ pub returns-in-Some-clause-phase : goal.returns-in-Some-clause-phase
 returns-in-Some-clause-phase c =
     let ps : List (List ℕ) = map (λ p. p.now) c.args.payloads.now in
     let fs = flat_map fields ps in
-    let d : DenseFields = record { ids = c.read_column.new.column; lats = c.read_column-2.new.column; lons = c.read_column-3.new.column; keys_vals = c.read_column-4.new.column; info = c.read_infos.new.info } in
+    let d : DenseFields = record { ids = c.read_array.new.array; lats = c.read_array-2.new.array; lons = c.read_array-3.new.array; keys_vals = c.read_array-4.new.array; info = c.read_infos.new.info } in
     let infos : map (λ p. p.now) c.each_of_all.new.out.items ≡ each fs DENSE_DENSEINFO = c.in_ok-each_of_all.ensures ∙ ap (λ l. map (λ p. p.now) l ++ each fs DENSE_DENSEINFO) c.new-infos.ensures.items in
     let lent : map (λ p. p.now) c.deref.result.now ≡ each fs DENSE_DENSEINFO = ap (map (λ p. p.now)) c.deref.ensures.value ∙ infos in
     let P : List (List ℕ) → Type 0 = λ l. DenseInfoRead c.read_infos.new.info (flat_map fields l) in
     let r : DenseRead d fs = record {
-      ids = c.in_ok-read_column.ensures;
-      lats = c.in_ok-read_column-2.ensures;
-      lons = c.in_ok-read_column-3.ensures;
-      keys_vals = c.in_ok-read_column-4.ensures;
+      ids = c.in_ok-read_array.ensures;
+      lats = c.in_ok-read_array-2.ensures;
+      lons = c.in_ok-read_array-3.ensures;
+      keys_vals = c.in_ok-read_array-4.ensures;
       info = subst P lent c.in_ok-read_infos.ensures;
     } in
     let all = faults_are d ps (map (λ p. p.now) c.deref-2.result.now) _ _ _ _ r (ap (map (λ p. p.now)) c.deref-2.ensures.value ∙ infos) c.first_wire.ensures c.first_wire-2.ensures c.fault.ensures c.fault-2.ensures in
@@ -33,15 +33,15 @@ pub returns-clause-phase : goal.returns-clause-phase
 returns-clause-phase c =
     let ps : List (List ℕ) = map (λ p. p.now) c.args.payloads.now in
     let fs = flat_map fields ps in
-    let d : DenseFields = record { ids = c.read_column.new.column; lats = c.read_column-2.new.column; lons = c.read_column-3.new.column; keys_vals = c.read_column-4.new.column; info = c.read_infos.new.info } in
+    let d : DenseFields = record { ids = c.read_array.new.array; lats = c.read_array-2.new.array; lons = c.read_array-3.new.array; keys_vals = c.read_array-4.new.array; info = c.read_infos.new.info } in
     let infos : map (λ p. p.now) c.each_of_all.new.out.items ≡ each fs DENSE_DENSEINFO = c.in_ok-each_of_all.ensures ∙ ap (λ l. map (λ p. p.now) l ++ each fs DENSE_DENSEINFO) c.new-infos.ensures.items in
     let lent : map (λ p. p.now) c.deref.result.now ≡ each fs DENSE_DENSEINFO = ap (map (λ p. p.now)) c.deref.ensures.value ∙ infos in
     let P : List (List ℕ) → Type 0 = λ l. DenseInfoRead c.read_infos.new.info (flat_map fields l) in
     let r : DenseRead d fs = record {
-      ids = c.in_ok-read_column.ensures;
-      lats = c.in_ok-read_column-2.ensures;
-      lons = c.in_ok-read_column-3.ensures;
-      keys_vals = c.in_ok-read_column-4.ensures;
+      ids = c.in_ok-read_array.ensures;
+      lats = c.in_ok-read_array-2.ensures;
+      lons = c.in_ok-read_array-3.ensures;
+      keys_vals = c.in_ok-read_array-4.ensures;
       info = subst P lent c.in_ok-read_infos.ensures;
     } in
     let all = faults_are d ps (map (λ p. p.now) c.deref-2.result.now) _ _ _ _ r (ap (map (λ p. p.now)) c.deref-2.ensures.value ∙ infos) c.first_wire.ensures c.first_wire-2.ensures c.fault.ensures c.fault-2.ensures in
@@ -53,15 +53,15 @@ pub returns-clause-read : goal.returns-clause-read
 returns-clause-read c =
     let ps : List (List ℕ) = map (λ p. p.now) c.args.payloads.now in
     let fs = flat_map fields ps in
-    let d : DenseFields = record { ids = c.read_column.new.column; lats = c.read_column-2.new.column; lons = c.read_column-3.new.column; keys_vals = c.read_column-4.new.column; info = c.read_infos.new.info } in
+    let d : DenseFields = record { ids = c.read_array.new.array; lats = c.read_array-2.new.array; lons = c.read_array-3.new.array; keys_vals = c.read_array-4.new.array; info = c.read_infos.new.info } in
     let infos : map (λ p. p.now) c.each_of_all.new.out.items ≡ each fs DENSE_DENSEINFO = c.in_ok-each_of_all.ensures ∙ ap (λ l. map (λ p. p.now) l ++ each fs DENSE_DENSEINFO) c.new-infos.ensures.items in
     let lent : map (λ p. p.now) c.deref.result.now ≡ each fs DENSE_DENSEINFO = ap (map (λ p. p.now)) c.deref.ensures.value ∙ infos in
     let P : List (List ℕ) → Type 0 = λ l. DenseInfoRead c.read_infos.new.info (flat_map fields l) in
     let r : DenseRead d fs = record {
-      ids = c.in_ok-read_column.ensures;
-      lats = c.in_ok-read_column-2.ensures;
-      lons = c.in_ok-read_column-3.ensures;
-      keys_vals = c.in_ok-read_column-4.ensures;
+      ids = c.in_ok-read_array.ensures;
+      lats = c.in_ok-read_array-2.ensures;
+      lons = c.in_ok-read_array-3.ensures;
+      keys_vals = c.in_ok-read_array-4.ensures;
       info = subst P lent c.in_ok-read_infos.ensures;
     } in
     message_is d fs r

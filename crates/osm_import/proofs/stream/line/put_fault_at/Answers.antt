@@ -1,10 +1,8 @@
-use Rattle.std.proofs.Common.{rules, ◌≡◌}
 use Rattle.osm_value.proofs.SinkLemmas.{Wrote-text}
-use Rattle.osm_import.proofs.AnswerLines.{fault_parts}
+use Rattle.osm_import.proofs.AnswerLines.{placed_parts}
 use Rattle.osm_import.proofs.stream.line.put_fault_at.Goals as goal
 
 pub returns : goal.returns
 returns g c = λ start before h.
-    let number : c.from.result ≡ c.args.number = search rules in
-    Wrote-text start _ _ _ _ (fault_parts before c.args.number c.from.result c.args.name.now c.as_bytes.result.now c.args.off number c.as_bytes.ensures.value)
-    (c.put-5.ensures start _ (c.put_digits-2.ensures start _ (c.put-4.ensures start _ (c.put-3.ensures start _ (c.put-2.ensures start _ (c.put_digits.ensures start _ (c.put.ensures start before h)))))))
+    Wrote-text start _ _ _ _ (placed_parts before c.args.number c.args.name.now c.args.off)
+    (c.put.ensures start _ (c.put_digits.ensures start _ (c.put_fault_and.ensures start before h)))

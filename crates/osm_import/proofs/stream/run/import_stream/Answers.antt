@@ -4,7 +4,7 @@ use Rattle.std.specs.Io.KnownBytes.{prepend_known}
 use Rattle.pbf_frame.specs.Framer.{Framing}
 use Rattle.osm_import.specs.Flows.{input, input_behind, output}
 use Rattle.osm_import.specs.Stores.{Takes, TakesOne}
-use Rattle.osm_import.specs.Streams.{Streams, nothing_at, end_at}
+use Rattle.osm_import.specs.Streams.{Streams, summary_of, end_at}
 use Rattle.osm_import.specs.declared.stream.fault.StreamFault.{StreamFault}
 use Rattle.osm_import.specs.declared.stream.fault.Stop.TheVariants.{ReadFailed, BlobLimit}
 use Rattle.osm_import.specs.declared.stream.summary.Summary.{Summary}
@@ -25,8 +25,8 @@ pub loop-blobs-init : goal.loop-blobs-init
 loop-blobs-init g c =
     let left = g.R.Source.bytes_left c.args.reader.now in
     let written = g.S.Sink.written c.args.out.now in
-    subst (λ (piece : List ℕ). InStream c.args.from 0 c.new-framer.result left (prepend_known piece left) written written (nothing_at c.args.from) (Takes g.K.Reader c.args.keeper.now c.args.keeper.now)) (sym c.in-Ok.ensures)
-    (stream-begins c.args.from left written c.new-framer.result (nothing_at c.args.from) (Takes g.K.Reader c.args.keeper.now c.args.keeper.now)
+    subst (λ (piece : List ℕ). InStream c.args.from 0 c.new-framer.result left (prepend_known piece left) written written (summary_of [] c.args.from) (Takes g.K.Reader c.args.keeper.now c.args.keeper.now)) (sym c.in-Ok.ensures)
+    (stream-begins c.args.from left written c.new-framer.result (summary_of [] c.args.from) (Takes g.K.Reader c.args.keeper.now c.args.keeper.now)
     (ap (λ (f : Framing). f.offset) c.new-framer.ensures) (ap (λ (f : Framing). f.rest) c.new-framer.ensures) c.requires refl
     (took-none g.K.Reader g.met.K.Reader.settled g.met.K.Reader.leaves_held c.args.keeper.now))
 

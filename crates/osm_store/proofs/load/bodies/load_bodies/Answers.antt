@@ -1,9 +1,10 @@
-use Rattle.std.proofs.Common.{◌<◌, ◌≤◌, ◌^◌, map, refl, ◌∙◌, ap, sym, subst, arith}
+use Rattle.std.proofs.Common.{◌<◌, ◌≤◌, map, refl, ◌∙◌, ap, sym, subst, arith}
 use Rattle.std.specs.Prelude.{filter}
 use Rattle.std.proofs.lemmas.List.Elements.{All-from_recursion}
 use Rattle.sqlite.specs.Held.{state}
 use Rattle.sqlite_tied.specs.Compute.{everything}
 use Rattle.sqlite_trees.proofs.ListLemmas.{map-map, all-map, all-filter}
+use Rattle.pbf_frame.specs.declared.part.TheConstants.{MAX_OFFSET}
 use Rattle.osm_store.specs.LayoutHolding.{IsBlob}
 use Rattle.osm_store.specs.Keeping.{IsForeign}
 use Rattle.osm_store.proofs.MapLemmas.PlacedLaws.{Entry, all_held}
@@ -18,12 +19,12 @@ pub answer-requires : goal.answer-requires
 unfolding everything
 answer-requires g c = refl
 
-pub returns-then-off-ge-OFFSET_LIMIT-clause-held : goal.returns-then-off-ge-OFFSET_LIMIT-clause-held
-returns-then-off-ge-OFFSET_LIMIT-clause-held g c clean held holds = (
+pub returns-then-off-ge-MAX_OFFSET-clause-held : goal.returns-then-off-ge-MAX_OFFSET-clause-held
+returns-then-off-ge-MAX_OFFSET-clause-held g c clean held holds = (
   λ blob is.
       let below : c.args.off < blob.fin = holds.kept.apart.filled c.args.off blob is in
-      let limit : blob.fin ≤ 2 ^ 62 = holds.kept.apart.limit c.args.off blob is in
-      absurd (omega (arith, c.if-off-ge-OFFSET_LIMIT.true)),
+      let limit : blob.fin ≤ MAX_OFFSET = holds.kept.apart.limit c.args.off blob is in
+      absurd (omega (arith, c.if-off-ge-MAX_OFFSET.true)),
   holds.opened,
 )
 

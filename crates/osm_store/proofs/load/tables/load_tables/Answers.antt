@@ -1,17 +1,18 @@
-use Rattle.std.proofs.Common.{◌<◌, ◌≤◌, ◌^◌, subst, arith}
+use Rattle.std.proofs.Common.{◌<◌, ◌≤◌, subst, arith}
 use Rattle.std.specs.Prelude.{filter}
+use Rattle.pbf_frame.specs.declared.part.TheConstants.{MAX_OFFSET}
 use Rattle.osm_store.specs.Load.TableAnswers.{AreRowsOf}
 use Rattle.osm_store.specs.Keeping.{IsForeign}
 use Rattle.osm_store.specs.Rows.{placed_in, is_in}
 use Rattle.osm_store.proofs.MapLemmas.HeldLemmas.{placed_at}
 use Rattle.osm_store.proofs.load.tables.load_tables.Goals as goal
 
-pub returns-then-off-ge-OFFSET_LIMIT-clause-held : goal.returns-then-off-ge-OFFSET_LIMIT-clause-held
-returns-then-off-ge-OFFSET_LIMIT-clause-held g c clean held holds = (
+pub returns-then-off-ge-MAX_OFFSET-clause-held : goal.returns-then-off-ge-MAX_OFFSET-clause-held
+returns-then-off-ge-MAX_OFFSET-clause-held g c clean held holds = (
   λ blob is.
       let below : c.args.off < blob.fin = holds.kept.apart.filled c.args.off blob is in
-      let limit : blob.fin ≤ 2 ^ 62 = holds.kept.apart.limit c.args.off blob is in
-      absurd (omega (arith, c.if-off-ge-OFFSET_LIMIT.true)),
+      let limit : blob.fin ≤ MAX_OFFSET = holds.kept.apart.limit c.args.off blob is in
+      absurd (omega (arith, c.if-off-ge-MAX_OFFSET.true)),
   holds.opened,
 )
 

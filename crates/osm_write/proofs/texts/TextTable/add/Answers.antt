@@ -17,8 +17,8 @@ invariant_of-self-2 c =
     let missing : is_some (find_text ts c.args.text.now) ≡ false =
     rw (sym (c.self.invariant c.args.text.now)) (ap is_some (sym c.get.ensures.value) ∙ sym (copied_some c.get.result) ∙ sym c.is_some.ensures ∙ c.if-is_some.false) in
     let items = now_push c.self.inside.texts.items c.push.new.self.items c.args.text (c.in_ok-push.ensures.items ∙ ap (λ (xs : List (Bor Text)). xs ++ c.args.text ∷ []) c.in_ok-reserve.ensures.items) in
-    let place : c.len-place.result ≡ length ts = rw length-map (c.len-place.ensures ∙ c.self.inside.texts.ok.0) in
-    rw items (knows_push c.self.inside.places c.insert.new.self ts c.args.text.now c.self.invariant missing (rw (sym place) c.in_ok-insert.ensures.updates))
+    let index : c.len-index.result ≡ length ts = rw length-map (c.len-index.ensures ∙ c.self.inside.texts.ok.0) in
+    rw items (knows_push c.self.inside.indexes c.insert.new.self ts c.args.text.now c.self.invariant missing (rw (sym index) c.in_ok-insert.ensures.updates))
 
 pub returns : goal.returns
 returns c =

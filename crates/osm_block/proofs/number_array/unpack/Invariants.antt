@@ -1,0 +1,14 @@
+use Rattle.std.proofs.Common.{◌≡◌, ◌≤◌, ◌++◌, ◌-◌, length}
+use Rattle.pbf_wire.specs.Readings.{front, first_fault, numbers, packed}
+use Rattle.osm_block.proofs.RowLemmas.{row_from}
+use Rattle.osm_block.proofs.number_array.unpack.Given as goal
+
+abbrev pub invariant-loop-at : goal.invariant-loop-at
+invariant-loop-at l = record {
+  within : l.at ≤ length l.payload;
+  so_far : l.out.items ++ front (row_from l.at l.payload) ≡ l.fn.out.items ++ numbers l.payload;
+  fault : first_fault (row_from l.at l.payload) ≡ packed l.payload;
+}
+
+abbrev pub decreases-loop-at : goal.decreases-loop-at
+decreases-loop-at l = length l.payload - l.at

@@ -1,0 +1,31 @@
+//! Numbers of an info, as wide as they are written.
+
+ghost use Rattle.std.specs.Prelude.{◌≡◌, option_map};
+ghost use Rattle.std.specs.Int.{w64, cast_unsigned};
+ghost use Rattle.osm_write.specs.Arrays.{IsWideOrNone};
+
+use osm_value::Info;
+
+pub(crate) fn version_of(info: &Info) -> Option<i64>
+    ensures { result ≡ info.now.version }
+{
+    info.version().map(i64::from)
+}
+
+#[tactic(auto, using(crate::proofs::Deltas::uid_is_wide))]
+pub(crate) fn uid_of(info: &Info) -> Option<i64>
+    ensures exact { result ≡ info.now.uid }
+    ensures in_range { IsWideOrNone result }
+{
+    info.uid().map(i64::from)
+}
+
+/// The version as it is written: in two's complement.
+pub(crate) fn version_number(info: &Info) -> Option<u64>
+    ensures { result ≡ option_map (cast_unsigned w64) info.now.version }
+{
+    match version_of(info) {
+        Some(version) => Some(version.cast_unsigned()),
+        None => None,
+    }
+}

@@ -1,0 +1,129 @@
+//! What the tests share: frames and blocks as bytes, made by hand from fileformat.proto and osmformat.proto, the lines of
+//! their elements, and where blobs stand.
+
+use osm_store::Extent;
+use osm_vectors::vectors::{
+    EXTRA_FRAME, HEADER_FRAME, HEADER_FRAME_DIGEST, NO_ELEMENTS_BLOCK, TWO_NODES_BLOCK,
+    TWO_NODES_FILE, TWO_NODES_FRAME, TWO_NODES_FRAME_DIGEST, WRITTEN_HEADER_FRAME,
+};
+use pbf_frame::Kind;
+
+pub(crate) const HEADER: &[u8] = &HEADER_FRAME;
+
+/// The header frame that an export writes.
+pub(crate) const WRITTEN_HEADER: &[u8] = &WRITTEN_HEADER_FRAME;
+
+/// The data frame of the file: the nodes 1 at 1000, -100 and 2 at 900, -100.
+pub(crate) const NODES: &[u8] = &TWO_NODES_FRAME;
+
+pub(crate) const LINES: &[u8] = b"n 1 1000 -100 [] {}\nn 2 900 -100 [] {}\n";
+
+/// The data frame with another last byte: the second node lies elsewhere.
+pub(crate) const CHANGED: &[u8] = &[
+    0x00, 0x00, 0x00, 0x0B, 0x0A, 0x07, 0x4F, 0x53, 0x4D, 0x44, 0x61, 0x74, 0x61, 0x18, 0x16, 0x0A,
+    0x14, 0x0A, 0x02, 0x0A, 0x00, 0x12, 0x0E, 0x12, 0x0C, 0x0A, 0x02, 0x02, 0x02, 0x42, 0x02, 0x14,
+    0x01, 0x4A, 0x02, 0x01, 0x02,
+];
+
+pub(crate) const CHANGED_LINES: &[u8] = b"n 1 1000 -100 [] {}\nn 2 900 0 [] {}\n";
+
+/// A frame of another type.
+pub(crate) const EXTRA: &[u8] = &EXTRA_FRAME;
+
+/// A frame and where it stands.
+pub(crate) type Frame<'a> = (u64, &'a [u8]);
+
+pub(crate) const HEADER_AT_0: Frame = (0, HEADER);
+
+pub(crate) const NODES_AT_47: Frame = (47, NODES);
+
+pub(crate) const EXTRA_AT_84: Frame = (84, EXTRA);
+
+pub(crate) const NODES_AT_100: Frame = (100, NODES);
+
+/// The file of two frames, of 84 bytes.
+pub(crate) const FILE: &[Frame] = &[HEADER_AT_0, NODES_AT_47];
+
+pub(crate) const FILE_BYTES: &[u8] = &TWO_NODES_FILE;
+
+/// Its blobs, as they are held once it was delivered.
+pub(crate) const HELD_HEADER: Extent = Extent {
+    off: 0,
+    fin: 47,
+    digest: HEADER_FRAME_DIGEST,
+    kind: Kind::OsmHeader,
+    n: 0,
+};
+
+pub(crate) const HELD_NODES: Extent = Extent {
+    off: 47,
+    fin: 84,
+    digest: TWO_NODES_FRAME_DIGEST,
+    kind: Kind::OsmData,
+    n: 2,
+};
+
+/// The SHA-256 of `EXTRA_FRAME`, as coreutils' sha256sum prints it for a file of those 16 bytes.
+const EXTRA_FRAME_DIGEST: [u8; 32] = [
+    0x72, 0xC0, 0xBB, 0x20, 0x6B, 0x93, 0x2B, 0xF0, 0x86, 0x26, 0x86, 0xCD, 0x87, 0x6E, 0xF7, 0xB5,
+    0xA0, 0x2F, 0xAC, 0x8D, 0x27, 0x85, 0x92, 0x2B, 0xC4, 0xDA, 0x85, 0xB6, 0x2C, 0xB2, 0xFE, 0x7F,
+];
+
+/// The frame of another type, held behind the file.
+pub(crate) const HELD_EXTRA: Extent = Extent {
+    off: 84,
+    fin: 100,
+    digest: EXTRA_FRAME_DIGEST,
+    kind: Kind::Other,
+    n: 0,
+};
+
+/// The two nodes, held elsewhere.
+pub(crate) const HELD_NODES_AT_100: Extent = Extent {
+    off: 100,
+    fin: 137,
+    ..HELD_NODES
+};
+
+pub(crate) const HELD_NODES_AT_200: Extent = Extent {
+    off: 200,
+    fin: 237,
+    ..HELD_NODES
+};
+
+/// Blobs that are put into a store as such, with digests of one byte over and over: the two of the file, one of another type
+/// behind it, and three ways.
+pub(crate) const PLACED_HEADER: Extent = Extent {
+    digest: [1; 32],
+    ..HELD_HEADER
+};
+
+pub(crate) const PLACED_NODES: Extent = Extent {
+    digest: [2; 32],
+    ..HELD_NODES
+};
+
+pub(crate) const PLACED_EXTRA: Extent = Extent {
+    digest: [3; 32],
+    ..HELD_EXTRA
+};
+
+pub(crate) const PLACED_WAYS: Extent = Extent {
+    off: 100,
+    fin: 137,
+    digest: [4; 32],
+    kind: Kind::OsmData,
+    n: 3,
+};
+
+/// The block of a blob with no elements.
+pub(crate) const NOTHING: &[u8] = &NO_ELEMENTS_BLOCK;
+
+/// The block of the two nodes.
+pub(crate) const TWO_NODES: &[u8] = &TWO_NODES_BLOCK;
+
+/// That of the ways 7, 8 and 1, which have no nodes.
+pub(crate) const THREE_WAYS: &[u8] =
+    b"\x0A\x02\x0A\x00\x12\x0C\x1A\x02\x08\x07\x1A\x02\x08\x08\x1A\x02\x08\x01";
+
+pub(crate) const THREE_WAYS_LINES: &[u8] = b"w 7 () [] {}\nw 8 () [] {}\nw 1 () [] {}\n";

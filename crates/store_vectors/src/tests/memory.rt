@@ -1,0 +1,158 @@
+//! Stores in memory, of both layouts, and the rows of their tables.
+
+use osm_store::{
+    BlobStore, Bodies, BodyStore, Keeper, StoreFault, StoreLayout, TableStore, Tables,
+};
+use sqlite::{Alter, Connection, MemStore};
+use std::alloc::Global;
+use std::process::Abort;
+use std::test::*;
+
+/// A store in memory that keeps each element as one block of bytes.
+pub(crate) type BodiesInMemory = BodyStore<MemStore>;
+
+/// One that keeps each as rows of numbers and texts.
+pub(crate) type TablesInMemory = TableStore<MemStore>;
+
+/// A query, and the number that it shows.
+pub(crate) type CountedRows = (&'static str, i64);
+
+/// A layout whose rows are known.
+pub(crate) trait KnownLayout: StoreLayout {
+    /// The query for the number of rows that elements have.
+    const COUNT: &'static str;
+
+    /// What is shown where the elements at 47 are the two nodes of the file.
+    const NODES: &'static [CountedRows];
+
+    /// The queries for all rows of all tables.
+    const ALL: &'static [&'static str];
+}
+
+impl KnownLayout for Bodies {
+    const COUNT: &'static str = "SELECT count(*) FROM body";
+
+    const NODES: &'static [CountedRows] = NODES_AS_BODIES;
+
+    const ALL: &'static [&'static str] = &[
+        "SELECT * FROM meta",
+        "SELECT * FROM blob",
+        "SELECT * FROM body",
+    ];
+}
+
+impl KnownLayout for Tables {
+    const COUNT: &'static str = "SELECT count(*) FROM element";
+
+    const NODES: &'static [CountedRows] = NODES_AS_ROWS;
+
+    const ALL: &'static [&'static str] = &[
+        "SELECT * FROM meta",
+        "SELECT * FROM blob",
+        "SELECT * FROM element",
+        "SELECT * FROM tag",
+        "SELECT * FROM link",
+    ];
+}
+
+/// The nodes at 47, each as its block: node 1 at 1000, -100 and node 2 at 900, -100.
+pub(crate) const NODES_AS_BODIES: &[CountedRows] = &[
+    (
+        "SELECT count(*) FROM body WHERE off = 47 AND pos = 0 AND kind = 0 AND id = 1 AND data = x'0A020A00120B12090A01024201144A0101'",
+        1,
+    ),
+    (
+        "SELECT count(*) FROM body WHERE off = 47 AND pos = 1 AND kind = 0 AND id = 2 AND data = x'0A020A00120B12090A01044201124A0101'",
+        1,
+    ),
+];
+
+/// The same as numbers.
+pub(crate) const NODES_AS_ROWS: &[CountedRows] = &[
+    (
+        "SELECT count(*) FROM element WHERE off = 47 AND pos = 0 AND kind = 0 AND id = 1 AND lat = 1000 AND lon = -100",
+        1,
+    ),
+    (
+        "SELECT count(*) FROM element WHERE off = 47 AND pos = 1 AND kind = 0 AND id = 2 AND lat = 900 AND lon = -100",
+        1,
+    ),
+];
+
+/// A store in memory, which holds nothing at first.
+pub(crate) trait NewStore: Keeper + Drop {
+    fn new_store(alloc: Global) -> Result<Self, StoreFault>;
+
+    /// How many steps each later statement may take; None is no limit.
+    fn limit_steps(&mut self, limit: Option<u64>);
+
+    /// The store with no limit on steps, opened again, and all its rows as text.
+    fn with_rows(self, alloc: Global) -> Option<(Self, String)>;
+}
+
+impl<L: KnownLayout> NewStore for BlobStore<MemStore, L> {
+    fn new_store(alloc: Global) -> Result<BlobStore<MemStore, L>, StoreFault> {
+        let connection = Connection::open_in_memory(alloc)?;
+        match BlobStore::create(connection) {
+            Ok(store) => Ok(store),
+            Err((fault, _)) => Err(fault),
+        }
+    }
+
+    fn limit_steps(&mut self, limit: Option<u64>) {
+        self.set_step_limit(limit);
+    }
+
+    fn with_rows(self, alloc: Global) -> Option<(BlobStore<MemStore, L>, String)> {
+        let mut connection = self.into_connection();
+        connection.set_step_limit(None);
+        let rows = rows_of(alloc, &mut connection, L::ALL)?;
+        if !connection.is_autocommit() {
+            return None;
+        }
+        Some((BlobStore::adopt(connection).ok()?, rows))
+    }
+}
+
+/// The rows that these queries show, as text.
+fn rows_of<S: Alter>(
+    alloc: Global,
+    connection: &mut Connection<S>,
+    queries: &[&str],
+) -> Option<String> {
+    let mut text = String::new(alloc);
+    for sql in queries {
+        let rows = connection.query_all(sql, &[]).ok()?;
+        text.push_str(&format!(in alloc; "{rows:?} ").ok()?).ok()?;
+    }
+    Some(text)
+}
+
+/// The number that a query shows.
+pub(crate) fn number<S: Alter>(connection: &mut Connection<S>, sql: &str) -> Option<i64> {
+    match connection.query_row(sql, &[]) {
+        Ok(row) => row.get(0).ok(),
+        Err(_) => None,
+    }
+}
+
+/// Whether each query shows its number.
+pub(crate) fn has_rows<S: Alter>(connection: &mut Connection<S>, rows: &[CountedRows]) -> bool {
+    for (sql, wanted) in rows {
+        if number(connection, sql) != Some(*wanted) {
+            return false;
+        }
+    }
+    true
+}
+
+/// Expects that each query shows its number.
+pub(crate) fn expect_rows<S: Alter, R: Abort>(
+    rt: &R,
+    connection: &mut Connection<S>,
+    rows: &[CountedRows],
+) {
+    for (sql, wanted) in rows {
+        assert_eq!(rt; number(connection, sql), Some(*wanted), "{sql}");
+    }
+}

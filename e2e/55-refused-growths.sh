@@ -1,0 +1,35 @@
+# Growths of memory refused, one in each run: a command ends with the line of the fault behind a front of its output, with 2
+# where its arguments weren't read, or as with memory; and the same import again completes one that ended so.
+two=$top/data/two-nodes.osm.pbf
+program=$top/crates/pbfrow/out/pbfrow
+
+# refused NAME EVERY WORD..: so it is with the command's first growth, and with each that stands EVERY behind such a one.
+refused() {
+  local name=$1 every=$2
+  shift 2
+  if python3 "$top/e2e/refused_growths.py" "$every" "$program" "$@" > told.txt 2>&1; then pass "$name"; else fail "$name"; fi
+  sed 's/^/  /' told.txt
+}
+
+if ! has cc python3; then
+  skip "refused growths" "cc or python3 isn't installed"
+elif ! cc -shared -fPIC -O2 -o refuse.so "$top/e2e/refuse.c" -ldl; then
+  fail "a library that refuses growths is compiled"
+else
+  # in memory, where there is such a folder: on a disk most of the time would be spent waiting for it
+  folder=$(mktemp -d -p /dev/shm 2>/dev/null || mktemp -d)
+  database=$folder/refused.db
+  refused "list with each growth refused" 1 list "$two"
+  refused "check with each growth refused" 1 check "$two"
+  refused "show with each growth refused" 1 show "$two"
+  refused "import into a new database with every seventh growth refused" 7 import "$two" "$database"
+  refused "import of what is held with every seventh growth refused" 7 import "$two" "$database"
+  "$program" export "$database" > want.txt
+  refused "status with every seventh growth refused" 7 status "$database"
+  refused "export with every seventh growth refused" 7 export "$database"
+  refused "export as PBF with every seventh growth refused" 7 export "$database" --form pbf
+  refused "find with every seventh growth refused" 7 find "$database" n2
+  "$program" export "$database" > got.txt
+  same "the database that was asked so stays as it was" got.txt want.txt
+  rm -rf "$folder"
+fi

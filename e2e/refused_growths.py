@@ -1,0 +1,98 @@
+#!/usr/bin/env python3
+"""Runs a command of pbfrow on the two-node file once for each growth of memory that it makes, with that growth refused.
+
+    refused_growths.py EVERY PROGRAM WORD..
+
+EVERY is 1, or by how many growths to go on. The library refuse.so stands in the working folder. A run has to end in one
+of these ways:
+
+- as it ends with memory;
+- with 2, nothing on standard output, and `error: out of memory` on standard error: the arguments weren't read;
+- with 1 and, behind a front of the output, the line `fault 65 Memory` or `fault 65 Memory at OFFSET`.
+
+After each run of an import the same with memory has to end with 0, and the export to be whole. The counts of these ways
+are printed, and what went otherwise; the exit status is 1 if something did.
+"""
+import glob
+import os
+import re
+import subprocess
+import sys
+from collections import Counter
+
+AS_WITH_MEMORY, ARGUMENTS, FAULT = "as with memory", "with 2 and no output", "with the line of the fault"
+FAULT_LINE = re.compile(rb"fault 65 Memory(?: at (?:0|47))?\n\Z")
+
+SECONDS = 60
+
+
+def run(command, refused=None):
+    """The exit status of a command, its output and its errors. Its growths may be counted, and one of them refused."""
+    settings = dict(os.environ)
+    if refused is not None:
+        settings |= {"LD_PRELOAD": os.path.abspath("refuse.so"), "REFUSED_GROWTH": str(refused), "GROWTHS": "growths.txt"}
+    try:
+        done = subprocess.run(command, env=settings, stdin=subprocess.DEVNULL, capture_output=True, timeout=SECONDS)
+    except subprocess.TimeoutExpired:
+        return None, b"", b"it didn't end"
+    return done.returncode, done.stdout, done.stderr
+
+
+def remove(name):
+    for path in glob.glob(f"{name}*"):
+        os.remove(path)
+
+
+def counted(command):
+    """What a command does with memory, and how many growths it makes."""
+    remove("growths.txt")
+    done = run(command, 0)
+    try:
+        with open("growths.txt", encoding="ascii") as file:
+            return done, int(file.read())
+    except OSError:
+        return done, 0
+
+
+def way_of(got, wanted, is_text):
+    """In which of the ways a run has ended, if in one of them."""
+    if got == wanted:
+        return AS_WITH_MEMORY
+    if got == (2, b"", b"error: out of memory\n"):
+        return ARGUMENTS
+    status, output, errors = got
+    line = FAULT_LINE.search(output)
+    if status != 1 or errors or not line:
+        return None
+    front = output[:line.start()]
+    ends_line = not front or front.endswith(b"\n")
+    return FAULT if wanted[1].startswith(front) and (ends_line or not is_text) else None
+
+
+def main(every, program, *words):
+    command = [program, *words]
+    database = words[2] if words[0] == "import" else None
+    is_new = database and not os.path.exists(database)
+    wanted, made = counted(command)
+    whole = database and run([program, "export", database])
+    ways, told = Counter(), []
+    for refused in range(1, made + 1, int(every)):
+        if is_new:
+            remove(database)
+        got = run(command, refused)
+        way = way_of(got, wanted, "pbf" not in words)
+        ways[way] += 1
+        if not way:
+            told.append(f"growth {refused}: {got}")
+        if database and (run(command)[0] != 0 or run([program, "export", database]) != whole):
+            told.append(f"growth {refused}: the same again doesn't complete the import")
+    if not made:
+        told.append(f"no growth was counted: {wanted}")
+    print(f"{sum(ways.values())} of {made} growths: " + ", ".join(f"{ways[it]} {it}" for it in (ARGUMENTS, FAULT, AS_WITH_MEMORY)))
+    for line in told[:10]:
+        print(line)
+    return 1 if told else 0
+
+
+if __name__ == "__main__":
+    sys.exit(main(*sys.argv[1:]))
