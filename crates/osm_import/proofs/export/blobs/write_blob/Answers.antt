@@ -10,7 +10,7 @@ returns-clause-wrote g c = λ held blob holds honest found.
     (subst (λ (es : List Element). g.W.BlobStep.writes (g.S.Sink.written c.args.out.now) es (g.S.Sink.written c.write.new.out) c.write.result) same c.write.ensures.wrote)
 
 pub returns-clause-own : goal.returns-clause-own
-returns-clause-own g c = λ held holds honest. write-own (g.S.Sink.has_failed c.write.new.out) c.write.result c.write.ensures.cause
+returns-clause-own g c = λ held blob holds honest found count. write-own (g.S.Sink.has_failed c.write.new.out) c.write.result c.write.ensures.cause
 
 pub returns-clause-cause : goal.returns-clause-cause
 returns-clause-cause g c = write-cause _ _ (g.S.Sink.has_failed c.write.new.out) c.write.result c.write.ensures.cause
