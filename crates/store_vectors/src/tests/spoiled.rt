@@ -85,7 +85,11 @@ fn expect_refusals<K: NewStore, R: Abort + Alloc<A = Global>>(
         assert_eq!(rt; before, Ok(true), "before {sql} over {layout}");
         let mut store = store.changed(sql).ok_or("a store")?;
         let after = read.is_met(rt.alloc(), &mut store);
-        assert_eq!(rt; after, Err(StoreFault::NotThisStore(None)), "{sql} over {layout}");
+        assert_eq!(rt;
+            after,
+            Err(StoreFault::NotThisStore(None)),
+            "{sql} over {layout}"
+        );
     }
     Ok(())
 }
@@ -143,14 +147,26 @@ fn positions(rt: HostRuntime) -> Result<(), Fail> {
     const BODIES: &[Spoiled] = &[
         ("DELETE FROM body WHERE off = 47 AND pos = 0", LOAD_NODES),
         ("DELETE FROM body WHERE off = 100 AND pos = 1", LOAD_WAYS),
-        ("UPDATE body SET pos = 7 WHERE off = 100 AND pos = 2", LOAD_WAYS),
-        ("UPDATE body SET pos = -1 WHERE off = 100 AND pos = 0", LOAD_WAYS),
+        (
+            "UPDATE body SET pos = 7 WHERE off = 100 AND pos = 2",
+            LOAD_WAYS,
+        ),
+        (
+            "UPDATE body SET pos = -1 WHERE off = 100 AND pos = 0",
+            LOAD_WAYS,
+        ),
     ];
     const TABLES: &[Spoiled] = &[
         ("DELETE FROM element WHERE off = 47 AND pos = 0", LOAD_NODES),
         ("DELETE FROM element WHERE off = 100 AND pos = 1", LOAD_WAYS),
-        ("UPDATE element SET pos = 7 WHERE off = 100 AND pos = 2", LOAD_WAYS),
-        ("UPDATE element SET pos = -1 WHERE off = 100 AND pos = 0", LOAD_WAYS),
+        (
+            "UPDATE element SET pos = 7 WHERE off = 100 AND pos = 2",
+            LOAD_WAYS,
+        ),
+        (
+            "UPDATE element SET pos = -1 WHERE off = 100 AND pos = 0",
+            LOAD_WAYS,
+        ),
     ];
     expect_refusals::<BodiesInMemory, _>(&rt, "bodies", BODIES)?;
     expect_refusals::<TablesInMemory, _>(&rt, "tables", TABLES)
@@ -160,17 +176,26 @@ fn positions(rt: HostRuntime) -> Result<(), Fail> {
 #[test]
 fn blocks(rt: HostRuntime) -> Result<(), Fail> {
     const TABLE: &[Spoiled] = &[
-        ("UPDATE body SET id = 5 WHERE off = 47 AND pos = 0", LOAD_NODES),
+        (
+            "UPDATE body SET id = 5 WHERE off = 47 AND pos = 0",
+            LOAD_NODES,
+        ),
         (
             "UPDATE body SET id = 5 WHERE off = 47 AND pos = 0",
             Step::Finds(MemberKind::Node, 5, b""),
         ),
-        ("UPDATE body SET kind = 1 WHERE off = 47 AND pos = 0", LOAD_NODES),
+        (
+            "UPDATE body SET kind = 1 WHERE off = 47 AND pos = 0",
+            LOAD_NODES,
+        ),
         (
             "UPDATE body SET kind = 1 WHERE off = 47 AND pos = 0",
             Step::Finds(MemberKind::Way, 1, b"100 2 w 1 () [] {}\n"),
         ),
-        ("UPDATE body SET kind = 9 WHERE off = 47 AND pos = 0", LOAD_NODES),
+        (
+            "UPDATE body SET kind = 9 WHERE off = 47 AND pos = 0",
+            LOAD_NODES,
+        ),
         (
             "UPDATE body SET data = x'0A020A00120B12090A01044201124A0101' WHERE off = 47 AND pos = 0",
             LOAD_NODES,
@@ -183,8 +208,14 @@ fn blocks(rt: HostRuntime) -> Result<(), Fail> {
             "UPDATE body SET data = x'0A020A00120E120C0A020202420214014A020100' WHERE off = 47 AND pos = 0",
             LOAD_NODES,
         ),
-        ("UPDATE body SET data = x'FF' WHERE off = 47 AND pos = 0", LOAD_NODES),
-        ("UPDATE body SET data = x'FF' WHERE off = 47 AND pos = 0", FIND_NODE),
+        (
+            "UPDATE body SET data = x'FF' WHERE off = 47 AND pos = 0",
+            LOAD_NODES,
+        ),
+        (
+            "UPDATE body SET data = x'FF' WHERE off = 47 AND pos = 0",
+            FIND_NODE,
+        ),
     ];
     expect_refusals::<BodiesInMemory, _>(&rt, "bodies", TABLE)
 }
@@ -197,8 +228,14 @@ fn parts(rt: HostRuntime) -> Result<(), Fail> {
         ("DELETE FROM link WHERE off = 203 AND k = 1", FIND_WAYS),
         ("DELETE FROM link WHERE off = 203 AND k = 0", LOAD_WAY),
         ("DELETE FROM link WHERE off = 203 AND k = 0", FIND_WAYS),
-        ("UPDATE link SET k = 5 WHERE off = 137 AND k = 1", LOAD_RELATION),
-        ("UPDATE link SET k = 5 WHERE off = 137 AND k = 1", FIND_RELATION),
+        (
+            "UPDATE link SET k = 5 WHERE off = 137 AND k = 1",
+            LOAD_RELATION,
+        ),
+        (
+            "UPDATE link SET k = 5 WHERE off = 137 AND k = 1",
+            FIND_RELATION,
+        ),
         ("UPDATE tag SET k = 1 WHERE off = 137", LOAD_RELATION),
         ("UPDATE tag SET k = 1 WHERE off = 137", FIND_RELATION),
         ("UPDATE tag SET k = -1 WHERE off = 203", LOAD_WAY),
@@ -230,23 +267,62 @@ fn values(rt: HostRuntime) -> Result<(), Fail> {
             "UPDATE element SET lat = 4611686018427387904 WHERE off = 47 AND pos = 0",
             LOAD_NODES,
         ),
-        ("UPDATE element SET lon = NULL WHERE off = 47 AND pos = 0", FIND_NODE),
-        ("UPDATE element SET lat = 0 WHERE off = 100 AND pos = 1", LOAD_WAYS),
-        ("UPDATE element SET kind = 3 WHERE off = 47 AND pos = 0", LOAD_NODES),
-        ("UPDATE element SET kind = 2 WHERE off = 47 AND pos = 0", LOAD_NODES),
+        (
+            "UPDATE element SET lon = NULL WHERE off = 47 AND pos = 0",
+            FIND_NODE,
+        ),
+        (
+            "UPDATE element SET lat = 0 WHERE off = 100 AND pos = 1",
+            LOAD_WAYS,
+        ),
+        (
+            "UPDATE element SET kind = 3 WHERE off = 47 AND pos = 0",
+            LOAD_NODES,
+        ),
+        (
+            "UPDATE element SET kind = 2 WHERE off = 47 AND pos = 0",
+            LOAD_NODES,
+        ),
         (
             "UPDATE element SET id = -4611686018427387904 WHERE off = 47 AND pos = 0",
             LOAD_NODES,
         ),
-        ("UPDATE element SET version = -1 WHERE off = 47 AND pos = 0", LOAD_NODES),
-        ("UPDATE element SET uid = 2147483648 WHERE off = 47 AND pos = 0", FIND_NODE),
-        ("UPDATE element SET visible = 1 WHERE off = 47 AND pos = 0", LOAD_NODES),
-        ("UPDATE element SET visible = 0 WHERE off = 47 AND pos = 0", FIND_NODE),
-        ("UPDATE link SET kind = 3 WHERE off = 137 AND k = 0", LOAD_RELATION),
-        ("UPDATE link SET kind = 1 WHERE off = 203 AND k = 0", LOAD_WAY),
-        ("UPDATE link SET role = 'x' WHERE off = 203 AND k = 0", FIND_WAYS),
-        ("UPDATE tag SET val = CAST(x'FF' AS TEXT) WHERE off = 203", LOAD_WAY),
-        ("UPDATE tag SET key = CAST(x'00' AS TEXT) WHERE off = 203", FIND_WAYS),
+        (
+            "UPDATE element SET version = -1 WHERE off = 47 AND pos = 0",
+            LOAD_NODES,
+        ),
+        (
+            "UPDATE element SET uid = 2147483648 WHERE off = 47 AND pos = 0",
+            FIND_NODE,
+        ),
+        (
+            "UPDATE element SET visible = 1 WHERE off = 47 AND pos = 0",
+            LOAD_NODES,
+        ),
+        (
+            "UPDATE element SET visible = 0 WHERE off = 47 AND pos = 0",
+            FIND_NODE,
+        ),
+        (
+            "UPDATE link SET kind = 3 WHERE off = 137 AND k = 0",
+            LOAD_RELATION,
+        ),
+        (
+            "UPDATE link SET kind = 1 WHERE off = 203 AND k = 0",
+            LOAD_WAY,
+        ),
+        (
+            "UPDATE link SET role = 'x' WHERE off = 203 AND k = 0",
+            FIND_WAYS,
+        ),
+        (
+            "UPDATE tag SET val = CAST(x'FF' AS TEXT) WHERE off = 203",
+            LOAD_WAY,
+        ),
+        (
+            "UPDATE tag SET key = CAST(x'00' AS TEXT) WHERE off = 203",
+            FIND_WAYS,
+        ),
         (
             "UPDATE element SET user = CAST(x'C328' AS TEXT) WHERE off = 47 AND pos = 0",
             LOAD_NODES,
@@ -254,6 +330,11 @@ fn values(rt: HostRuntime) -> Result<(), Fail> {
     ];
     expect_refusals::<TablesInMemory, _>(&rt, "tables", TABLE)
 }
+
+/// What a copy holds that has stopped at the three ways.
+const COPIED: Step = Step::Extents(&[PLACED_HEADER, PLACED_NODES]);
+
+const ALL_LINES: Step = Step::PartialLines(&[LINES, THREE_WAYS_LINES, RELATION_LINE, WAY_LINE]);
 
 /// Expects that exports of whatever is held write the pieces before they stop at fault 66.
 fn expect_front<K: NewStore, R: Abort + Alloc<A = Global>>(
@@ -285,9 +366,13 @@ fn expect_stops<K: NewStore, R: Abort + Alloc<A = Global>>(
             fault: CopyFault::Store(StoreFault::NotThisStore(None)),
             off: 100,
         };
-        assert_eq!(rt; copy_held(rt.alloc(), &mut store, &mut other), Err(stop), "{sql}");
-        let copied = Step::Extents(&[PLACED_HEADER, PLACED_NODES]);
-        assert_eq!(rt; copied.is_met(rt.alloc(), &mut other), Ok(true), "{sql}");
+        assert_eq!(rt;
+            copy_held(rt.alloc(), &mut store, &mut other),
+            Err(stop),
+            "{sql}"
+        );
+        let copied = COPIED.is_met(rt.alloc(), &mut other);
+        assert_eq!(rt; copied, Ok(true), "{sql}");
     }
     Ok(())
 }
@@ -298,8 +383,8 @@ fn expect_whole<K: NewStore, R: Abort + Alloc<A = Global>>(
     layout: &str,
 ) -> Result<(), Fail> {
     let mut store: K = followed(rt, layout, FIVE_BLOBS)?;
-    let whole = Step::PartialLines(&[LINES, THREE_WAYS_LINES, RELATION_LINE, WAY_LINE]);
-    assert_eq!(rt; whole.is_met(rt.alloc(), &mut store), Ok(true), "{layout}");
+    let whole = ALL_LINES.is_met(rt.alloc(), &mut store);
+    assert_eq!(rt; whole, Ok(true), "{layout}");
     Ok(())
 }
 

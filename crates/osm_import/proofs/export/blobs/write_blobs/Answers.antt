@@ -1,4 +1,4 @@
-use Rattle.std.proofs.Common.{Result, refl, sym, subst, arith}
+use Rattle.std.proofs.Common.{Result, Err, refl, sym, subst, arith}
 use Rattle.std.specs.FinMap.{entries}
 use Rattle.osm_import.specs.ExportCauses.{ExportIsOwn}
 use Rattle.osm_import.specs.Walks.{Walks}
@@ -47,7 +47,7 @@ loop-extent-init g c = record {
 pub returns-in_err-write_blob-clause-own : goal.returns-in_err-write_blob-clause-own
 returns-in_err-write_blob-clause-own g c = λ held holds honest are.
     subst (λ (r : Result (Unit {0}) ExportFault). ExportIsOwn r) (sym (handed c.from_residual.result _ c.from_residual.ensures.1))
-    (walk-own held c.args.extents.now c.loop-extent.extent-index _ _ are (omega arith) (read-is c.args.extents.now c.loop-extent.extent-index _ _ (omega arith))
+    (walk-own held c.args.extents.now c.loop-extent.extent-index _ (Err c.in_err-write_blob.field-0.0) are (omega arith) (read-is c.args.extents.now c.loop-extent.extent-index _ _ (omega arith))
     (λ blob found count. c.in_err-write_blob.ensures.own held blob (c.loop-extent.invariant.kept (c.write_blob.ensures.rereads.stays.honest honest) held holds) honest found count))
 
 pub returns-clause-wrote : goal.returns-clause-wrote
