@@ -275,7 +275,8 @@ pub cause_wider : (f0 f1 f2 t0 t1 t2 : ℕ) (fault : CopyFault) → f0 ≤ f1 �
 cause_wider f0 f1 f2 t0 t1 t2 (Refused conflict) f t cause = tt
 cause_wider f0 f1 f2 t0 t1 t2 (Store fault) f t cause = elim cause [
   | inl from ↦ inl (wider f0 f1 f2 fault f from)
-  | inr to ↦ inr (wider t0 t1 t2 fault t to)
+  | inr (inl to) ↦ inr (inl (wider t0 t1 t2 fault t to))
+  | inr (inr uncounted) ↦ inr (inr uncounted)
 ]
   where
     wider : (a b c : ℕ) (fault : StoreFault) → a ≤ b → HasCause b c fault → HasCause a c fault

@@ -1,5 +1,5 @@
 -- A delivery that is repeated.
-use Rattle.std.proofs.Common.{◌≡◌, ◌⊎◌, ℕ, List, refl, inl, inr, sym, subst}
+use Rattle.std.proofs.Common.{◌≡◌, ℕ, List, refl, inl, inr, sym, subst}
 use Rattle.osm_store.specs.Held.{HeldMap}
 use Rattle.osm_import.specs.Deliveries.{DeliveryValue}
 use Rattle.osm_import.specs.Runs.{IsRun, IsStored, RepeatsChangeNothing}

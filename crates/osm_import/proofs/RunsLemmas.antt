@@ -1,8 +1,8 @@
 -- From single steps to whole runs.
-use Rattle.std.proofs.Common.{◌≡◌, ◌≢◌, ◌⊎◌, ℕ, ◌+◌, ◌<◌, ◌≤◌, List, [], ◌∷◌, ◌++◌, length, take, get_or, Some, None, refl, sym, ◌∙◌, ap, subst, inl, inr, arith, append_assoc, length-append, drop}
+use Rattle.std.proofs.Common.{◌≡◌, ◌≢◌, ◌⊎◌, ℕ, ◌+◌, ◌<◌, ◌≤◌, List, [], ◌∷◌, ◌++◌, length, take, get_or, Some, None, refl, sym, ◌∙◌, ap, subst, inl, inr, arith}
 use Rattle.std.specs.FinMap.{get}
 use Rattle.std.proofs.lemmas.Bool.Decides.{leb_tells}
-use Rattle.std.proofs.lemmas.List.{take_more, take_all, take-append-drop}
+use Rattle.std.proofs.lemmas.List.{take_more, take_all}
 use Rattle.sha2.specs.Sha256.{sha256}
 use Rattle.osm_store.specs.Held.{Blob, HeldMap}
 use Rattle.osm_store.specs.HeldLaws.{get-insert_here, get-insert_other, get-insert_cases}
@@ -10,7 +10,6 @@ use Rattle.osm_import.specs.Deliveries.{DeliveryValue}
 use Rattle.osm_import.specs.Files.{AreFrames, AreOfFile, IsHeldOfFile, IsFrameAt}
 use Rattle.osm_import.specs.Runs.{IsRun, IsStored, IsRefused, IsFault, IsStoredIn, IsGoodIn, IsUnion, AreStoredOnce, IsNone, IsImport, HaveCauses, AreOwn, Runs, LeavesAfter}
 use Rattle.osm_import.specs.Step.{IsStep, IsEntry, IsOwn, CrashLeaves, Delivers, FaultHasCause}
-use Rattle.osm_store.specs.declared.fault.StoreFault.{StoreFault}
 use Rattle.osm_import.specs.declared.answer.Answer.{Answer}
 use Rattle.osm_import.specs.declared.answer.Answer.TheVariants.{Stored, AlreadyHeld, Bad, Refused, Fault}
 use Rattle.osm_import.specs.declared.answer.Conflict.TheVariants.{Differs, Overlap}

@@ -4,8 +4,8 @@ use Rattle.std.proofs.lemmas.List.{take_more, take_all}
 use Rattle.osm_store.specs.Held.{HeldMap}
 use Rattle.osm_store.specs.declared.keeper.Reader.{Ghosts}
 use Rattle.osm_import.specs.Deliveries.{DeliveryValue}
-use Rattle.osm_import.specs.Runs.{IsRun, IsStored, IsFault, IsNone, Runs, ShutAfter, LeavesAfterAll, StaysShut}
-use Rattle.osm_import.specs.Step.{IsStep, CrashLeaves}
+use Rattle.osm_import.specs.Runs.{IsRun, IsStored, IsFault, Runs, ShutAfter, LeavesAfterAll, StaysShut}
+use Rattle.osm_import.specs.Step.{CrashLeaves}
 use Rattle.osm_import.specs.Stores.{TakesOne}
 use Rattle.osm_import.specs.declared.answer.Answer.{Answer}
 use Rattle.osm_import.proofs.RunsLemmas.{run-push, delivers-step, delivers-sound, none-push}

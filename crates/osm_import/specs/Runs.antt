@@ -1,11 +1,10 @@
 -- Any list of deliveries, and what the store holds after it.
-use Rattle.std.specs.Prelude.{◌≡◌, ◌⊎◌, ◌↔◌, ◌≤◌, ℕ, List, [], ◌∷◌, ◌++◌, length, Some}
+use Rattle.std.specs.Prelude.{◌≡◌, ◌⊎◌, ◌↔◌, ℕ, List, [], ◌∷◌, Some}
 use Rattle.std.specs.FinMap.{get}
 use Rattle.osm_store.specs.Held.{Blob, HeldMap}
 use Rattle.osm_import.specs.Deliveries.{DeliveryValue}
 use Rattle.osm_import.specs.Files.{IsHeldOfFile}
 use Rattle.osm_import.specs.Step.{IsStep, IsEntry, IsOwn, CrashLeaves, FaultHasCause}
-use Rattle.osm_store.specs.declared.fault.StoreFault.{StoreFault}
 use Rattle.osm_import.specs.declared.answer.Answer.{Answer}
 use Rattle.osm_import.specs.declared.answer.Answer.TheVariants.{Stored, AlreadyHeld, Refused, Fault}
 

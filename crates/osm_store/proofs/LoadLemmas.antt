@@ -15,3 +15,4 @@ pub mod ElementKinds
 pub mod ElementRows
 pub mod ElementsMade
 pub mod ExtentLaws
+pub mod Numbering

@@ -1,5 +1,5 @@
 -- What the calls of a keeper leave.
-use Rattle.std.specs.Prelude.{◌≡◌, ◌⊎◌, ℕ, ◌+◌, ◌-◌, ◌^◌, ◌<◌, ◌≤◌, ◌==◌, Bool, ◌&&◌, nat_lt, List, map, length, Result, Ok, Err, if◌then◌else◌, OnOk, OnErr, IfErr}
+use Rattle.std.specs.Prelude.{◌≡◌, ◌⊎◌, ℕ, ◌+◌, ◌-◌, ◌^◌, ◌<◌, ◌≤◌, ◌==◌, Bool, ◌&&◌, nat_lt, List, map, length, AllPairs, Result, Ok, Err, if◌then◌else◌, OnOk, OnErr, IfErr}
 use Rattle.std.specs.FinMap.{entries, insert}
 use Rattle.pbf_frame.specs.declared.part.TheConstants.{MAX_OFFSET}
 use Rattle.osm_store.specs.Held.{Blob, HeldMap, IsFree, HaveFewTexts}
@@ -14,6 +14,10 @@ extent_of (off, blob) = record { off = off; fin = blob.fin; digest = blob.digest
 -- it has bytes, and ends at `MAX_OFFSET` at most
 abbrev pub IsRange : Extent → Type 0
 IsRange e = (e.off < e.fin) × (e.fin ≤ MAX_OFFSET)
+
+-- each ends where the next one begins, or before
+abbrev pub AscendApart : List Extent → Type 0
+AscendApart extents = AllPairs (λ (a b : Extent). a.fin ≤ b.off) extents
 
 -- all held extents, ascending
 abbrev pub extents_of : HeldMap → List Extent

@@ -1,4 +1,5 @@
 -- What queries answer, and what their rows stand for.
+pub mod Numbering
 pub mod Loading
 pub mod TableElements
 pub mod TableParts

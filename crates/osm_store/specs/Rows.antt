@@ -63,13 +63,6 @@ body_row p = body_columns p.0 p.1 (kind_of_element p.2) (id_of_element p.2) (can
 abbrev pub extent_columns : Extent → Row
 extent_columns e = Int (pos e.off) ∷ Int (pos e.fin) ∷ Octets e.digest ∷ Int (pos (blob_code e.kind)) ∷ Int (pos e.n) ∷ []
 
--- what a query on one blob shows of an element, and what one on all blobs shows
-abbrev pub data_row : Element → Row
-data_row e = Octets (canon (e ∷ [])) ∷ []
-
-abbrev pub found_row : Placed → Row
-found_row p = Int (pos p.0) ∷ Int (pos p.1) ∷ Octets (canon (p.2 ∷ [])) ∷ []
-
 -- whether the element is of the blob at this offset
 abbrev pub is_in : ℕ → Placed → Bool
 is_in off p = p.0 == off

@@ -2,9 +2,9 @@
 ghost use Rattle.std.specs.Prelude.{◌≡◌, ◌⊎◌, ℕ, ◌<◌, ◌≤◌, Some, IfOk, All, filter};
 ghost use Rattle.std.specs.FinMap as map;
 ghost use Rattle.osm_store.specs.Held.{Blob, HeldMap, IsApart, HaveFewTexts};
-ghost use Rattle.osm_store.specs.Load.Loading.{HasRowsOf};
+ghost use Rattle.osm_store.specs.Load.Loading.{HasRowsOf, IsInPlace};
 ghost use Rattle.osm_store.specs.Load.Finding.{AreMatches};
-ghost use Rattle.osm_store.specs.Keeping.{extents_of, touches, IsRange, OnlyReads, Adds};
+ghost use Rattle.osm_store.specs.Keeping.{extents_of, touches, IsRange, AscendApart, OnlyReads, Adds};
 ghost use Rattle.osm_store.specs.Rows.{is_of, placed_in};
 
 use crate::fault::StoreFault;
@@ -57,6 +57,7 @@ pub trait Reader {
         ensures all { (held : HeldMap) → holds self.old held → is_honest self.new
             → IfOk result (λ extents. extents.items ≡ extents_of held) }
         ensures ranges { IfOk result (λ extents. All IsRange extents.items) }
+        ensures apart { IfOk result (λ extents. AscendApart extents.items) }
         ensures reads { OnlyReads holds leaves leaves_a_map same_tables is_honest is_open failures self.old result self.new };
 
     /// The held extents that share a byte with `from..to`, ascending by offset; both are offsets in bytes, `to` at
@@ -71,6 +72,7 @@ pub trait Reader {
         requires limit { to ≤ MAX_OFFSET }
         ensures touching { (held : HeldMap) → holds self.old held → is_honest self.new
             → IfOk result (λ extents. extents.items ≡ filter (touches from to) (extents_of held)) }
+        ensures apart { IfOk result (λ extents. AscendApart extents.items) }
         ensures reads { OnlyReads holds leaves leaves_a_map same_tables is_honest is_open failures self.old result self.new };
 
     /// The rows of the blob that is held at an offset; where none is held there, nothing is said of the answer. What is
@@ -78,6 +80,7 @@ pub trait Reader {
     fn load(&mut self, alloc: Global, off: u64) -> Result<Loaded, StoreFault>
         ensures rows { (held : HeldMap) (blob : Blob) → holds self.old held → is_honest self.new
             → map.get held off ≡ Some blob → IfOk result (λ loaded. HasRowsOf loaded blob.elements) }
+        ensures positions { IfOk result IsInPlace }
         ensures reads { OnlyReads holds leaves leaves_a_map same_tables is_honest is_open failures self.old result self.new };
 
     /// All held elements of this kind and id, each after the offset of its blob and its position there, ascending by both.

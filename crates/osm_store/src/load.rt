@@ -6,6 +6,7 @@ mod extents;
 mod found;
 mod held;
 mod loaded;
+mod rows;
 mod tables;
 mod values;
 

@@ -50,10 +50,19 @@ unfolding understood everything
 last_start_is Bodies = (refl, refl, (refl, refl))
 last_start_is Tables = (refl, refl, (refl, refl))
 
-pub rows_are : (command_of (understood body_schema SELECT_BODIES.now) ≡ Select (record { lets = []; body = select 2 (compares Eq (col 1 1) (col 0 0) ∷ []) (col 1 5 ∷ []) (col 1 2 ∷ []) }) (codes "data" ∷ [])) × (reads_listing body_schema SELECT_BODIES.now ≡ false) × IsPlain (understood body_schema SELECT_BODIES.now)
+abbrev pub body_shown : List Term
+body_shown = col 1 1 ∷ col 1 2 ∷ col 1 3 ∷ col 1 4 ∷ col 1 5 ∷ []
+
+abbrev pub body_names : List (List ℕ)
+body_names = codes "off" ∷ codes "pos" ∷ codes "kind" ∷ codes "id" ∷ codes "data" ∷ []
+
+abbrev pub body_order : List Term
+body_order = col 1 1 ∷ col 1 2 ∷ []
+
+pub rows_are : (command_of (understood body_schema SELECT_BODIES.now) ≡ Select (record { lets = []; body = select 2 (compares Eq (col 1 1) (col 0 0) ∷ []) body_shown body_order }) body_names) × (reads_listing body_schema SELECT_BODIES.now ≡ false) × IsPlain (understood body_schema SELECT_BODIES.now)
 unfolding understood everything
 rows_are = (refl, refl, (refl, refl))
 
-pub element_is : (command_of (understood body_schema FIND_BODIES.now) ≡ Select (record { lets = []; body = select 2 (compares Eq (col 1 3) (col 0 0) ∷ compares Eq (col 1 4) (col 0 1) ∷ []) (col 1 1 ∷ col 1 2 ∷ col 1 5 ∷ []) (col 1 1 ∷ col 1 2 ∷ []) }) (codes "off" ∷ codes "pos" ∷ codes "data" ∷ [])) × (reads_listing body_schema FIND_BODIES.now ≡ false) × IsPlain (understood body_schema FIND_BODIES.now)
+pub element_is : (command_of (understood body_schema FIND_BODIES.now) ≡ Select (record { lets = []; body = select 2 (compares Eq (col 1 3) (col 0 0) ∷ compares Eq (col 1 4) (col 0 1) ∷ []) body_shown body_order }) body_names) × (reads_listing body_schema FIND_BODIES.now ≡ false) × IsPlain (understood body_schema FIND_BODIES.now)
 unfolding understood everything
 element_is = (refl, refl, (refl, refl))

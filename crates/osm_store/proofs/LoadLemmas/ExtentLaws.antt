@@ -1,5 +1,5 @@
 -- Held extents don't meet, so those that start before a held offset end there.
-use Rattle.std.proofs.Common.{◌≡◌, inl, inr, ℕ, ℤ, pos, ◌<◌, ◌≤◌, List, [], ◌∷◌, Some, All, cond, Ok, Result, refl, sym, ap, subst, ◌∙◌, arith}
+use Rattle.std.proofs.Common.{◌≡◌, inl, inr, ℕ, ℤ, pos, ◌<◌, ◌≤◌, List, [], ◌∷◌, Bool, Some, All, cond, Ok, Result, refl, sym, ap, subst, ◌∙◌, arith}
 use Rattle.std.specs.Prelude.{filter, MatchResult}
 use Rattle.std.specs.List.{AllByRecursion}
 use Rattle.std.specs.Ordering.{nat_cmp}
@@ -11,12 +11,12 @@ use Rattle.std.proofs.lemmas.Result.{MatchResult-weaker}
 use Rattle.sqlite.specs.declared.types.Value.TheVariants.{Int}
 use Rattle.sqlite.specs.Order.{Row}
 use Rattle.sqlite_trees.specs.Tree.{IsAscending}
-use Rattle.sqlite_trees.proofs.ListLemmas.{all_of, all_weaker, all_both, all-map, ascending-map, filter_same}
+use Rattle.sqlite_trees.proofs.ListLemmas.{all_of, all_weaker, all_both, all-map, ascending-map, ascending-filter, ascending-get_or, filter_same}
 use Rattle.osm_store.specs.declared.keeper.Extent.{Extent}
 use Rattle.osm_store.specs.Held.{HeldMap, IsApart}
 use Rattle.osm_store.specs.declared.fault.StoreFault.{StoreFault}
 use Rattle.osm_store.specs.declared.fault.StoreFault.TheVariants.{Memory}
-use Rattle.osm_store.specs.Keeping.{IsForeign, extent_of, extents_of, touches}
+use Rattle.osm_store.specs.Keeping.{IsForeign, AscendApart, extent_of, extents_of, touches}
 use Rattle.osm_store.specs.declared.schema.layout.Layout.{Layout}
 use Rattle.osm_store.specs.LayoutHolding.{IsBlob, IsKept, IsKeptExtent}
 use Rattle.osm_store.specs.Load.Starting.{IsStart}
@@ -63,6 +63,16 @@ apart_each : (held : HeldMap) → IsApart held → IsAscending (λ (a b : Extent
 apart_each held apart =
     ascending-map (λ (a b : Extent). a.fin ≤ b.off) extent_of (entries held)
     (ascending_among (λ (e : Entry). get held e.0 ≡ Some e.1) (λ (a b : Entry). a.0 < b.0) (λ (a b : Entry). a.1.fin ≤ b.0) (λ a b is_a is_b low. apart.apart a.0 b.0 a.1 b.1 is_a is_b low) (entries held) (held_each held) (entries_rise held))
+
+ascend : (extents : List Extent) → IsAscending (λ (a b : Extent). a.fin ≤ b.off) extents → AscendApart extents
+ascend extents up = λ i j d low within. ascending-get_or (λ (a b : Extent). a.fin ≤ b.off) extents i j d up low within
+
+-- held extents ascend and don't meet, and so do some of them
+pub held_apart : (held : HeldMap) → IsApart held → AscendApart (extents_of held)
+held_apart held apart = ascend (extents_of held) (apart_each held apart)
+
+pub some_apart : (p : Extent → Bool) (held : HeldMap) → IsApart held → AscendApart (filter p (extents_of held))
+some_apart p held apart = ascend (filter p (extents_of held)) (ascending-filter (λ (a b : Extent). a.fin ≤ b.off) p (extents_of held) (apart_each held apart))
 
 -- the extents that end past `from` start here or later
 abbrev pub Starts : ℕ → List Extent → ℕ → Type 0

@@ -35,14 +35,14 @@ use Rattle.osm_store.specs.Keeping.{touches}
 use Rattle.osm_store.specs.declared.schema.sql.TheConstants.{SELECT_VERSION, SELECT_EXTENTS, SELECT_LAST_START, SELECT_TOUCHING, SELECT_BODIES, FIND_BODIES}
 use Rattle.osm_store.specs.Schema.Bodies.{body_schema}
 use Rattle.osm_value.specs.Elements.{kind_of_element, id_of_element}
-use Rattle.osm_store.specs.Rows.{Placed, body_row, extent_columns as shown_extent, data_row, found_row, element_code, is_in, is_of}
+use Rattle.osm_store.specs.Rows.{Placed, body_row, extent_columns as shown_extent, element_code, is_in, is_of}
 use Rattle.osm_store.specs.Load.Selects.{selects}
 use Rattle.osm_store.proofs.LoadLemmas.CauseLemmas.{IsCause, takes, query_causes}
 use Rattle.osm_store.proofs.LoadLemmas.OneTable.{select, orders, answer_is}
 use Rattle.osm_store.proofs.ListLemmas.CompareLemmas.{lower, higher, at_most, at_least, same_number, same_int}
 use Rattle.osm_store.proofs.ListLemmas.NumberOrder.{numbers_below, numbers_tied}
 use Rattle.osm_store.proofs.MapLemmas.PlacedLaws.{IsBefore}
-use Rattle.osm_store.proofs.LoadLemmas.BodyTexts.{compares, version_is, extents_is, extent_columns, touching_is, latest_first, last_start_is, rows_are, element_is}
+use Rattle.osm_store.proofs.LoadLemmas.BodyTexts.{compares, version_is, extents_is, extent_columns, touching_is, latest_first, last_start_is, body_shown, body_order, rows_are, element_is}
 
 -- the values at these places of a stored row, of which the rowid is place 0
 abbrev pub columns_at : List ℕ → Row → Row
@@ -154,36 +154,29 @@ ascending_among {X} P R S f (x ∷ xs) all up = (each xs all.1 up.0, ascending_a
     each [] p r = tt
     each (y ∷ ys) p r = (f x y all.0 p.0 r.0, each ys p.1 r.1)
 
-by_position : (off : ℕ) (x y : Placed) → is_in off x ≡ true → is_in off y ≡ true → IsBefore x y → ordering_then (value_cmp (Int (pos x.1)) (Int (pos y.1))) Equal ≡ Less
-by_position off x y p q (inl low) = absurd (grind (arith, nat_tests))
-by_position off x y p q (inr h) = ap (λ o. ordering_then o Equal) (numbers_below x.1 y.1 h.1)
-
-abbrev row_output : Row → Output
-row_output v = (column v 1 ∷ [], column v 4 ∷ [])
-
-abbrev found_output : Row → Output
-found_output v = (column v 0 ∷ column v 1 ∷ [], column v 0 ∷ column v 1 ∷ column v 4 ∷ [])
+abbrev body_output : Row → Output
+body_output v = (column v 0 ∷ column v 1 ∷ [], column v 0 ∷ column v 1 ∷ column v 2 ∷ column v 3 ∷ column v 4 ∷ [])
 
 module _ (old new : State) (rows : List Row) (held : List Placed) (h : HasElements old.now held) where
-  pub element_read : (kind : MemberKind) (id : ℤ) → Shown FIND_BODIES.now (Int (pos (element_code kind)) ∷ Int id ∷ []) old new rows → rows ≡ map found_row (filter (is_of kind id) held)
+  pub element_read : (kind : MemberKind) (id : ℤ) → Shown FIND_BODIES.now (Int (pos (element_code kind)) ∷ Int id ∷ []) old new rows → rows ≡ map body_row (filter (is_of kind id) held)
   element_read kind id shown =
       let params = Int (pos (element_code kind)) ∷ Int id ∷ [] in
       let read = reads_as FIND_BODIES.now params old new body_schema h.schema _ element_is.0 element_is.2 element_is.1 rows shown in
-      answer_is 2 (compares Eq (col 1 3) (col 0 0) ∷ compares Eq (col 1 4) (col 0 1) ∷ []) (col 1 1 ∷ col 1 2 ∷ col 1 5 ∷ []) (col 1 1 ∷ col 1 2 ∷ []) (overlay old.now.trees []) params rows
+      answer_is 2 (compares Eq (col 1 3) (col 0 0) ∷ compares Eq (col 1 4) (col 0 1) ∷ []) body_shown body_order (overlay old.now.trees []) params rows
       (columns_at (1 ∷ 2 ∷ 3 ∷ 4 ∷ 5 ∷ [])) body_row held h.rows
-      (λ v. is Eq (column v 2) (Int (pos (element_code kind))) && (is Eq (column v 3) (Int id) && true)) (λ r. refl) found_output (λ r. refl)
+      (λ v. is Eq (column v 2) (Int (pos (element_code kind))) && (is Eq (column v 3) (Int id) && true)) (λ r. refl) body_output (λ r. refl)
       (is_of kind id) (λ x. rw (same_number (element_code (kind_of_element x.2)) (element_code kind), same_int (id_of_element x.2) id) (and_true (element_code (kind_of_element x.2) == element_code kind) _))
       (ascending-filter _ (is_of kind id) held (ascending_weaker _ _ in_order held h.ascending)) (read.answer Null)
 
-  pub rows_read : (off : ℕ) → Shown SELECT_BODIES.now (Int (pos off) ∷ []) old new rows → rows ≡ map (λ p. data_row p.2) (filter (is_in off) held)
+  pub rows_read : (off : ℕ) → Shown SELECT_BODIES.now (Int (pos off) ∷ []) old new rows → rows ≡ map body_row (filter (is_in off) held)
   rows_read off shown =
       let params = Int (pos off) ∷ [] in
       let read = reads_as SELECT_BODIES.now params old new body_schema h.schema _ rows_are.0 rows_are.2 rows_are.1 rows shown in
-      answer_is 2 (compares Eq (col 1 1) (col 0 0) ∷ []) (col 1 5 ∷ []) (col 1 2 ∷ []) (overlay old.now.trees []) params rows
+      answer_is 2 (compares Eq (col 1 1) (col 0 0) ∷ []) body_shown body_order (overlay old.now.trees []) params rows
       (columns_at (1 ∷ 2 ∷ 3 ∷ 4 ∷ 5 ∷ [])) body_row held h.rows
-      (λ v. is Eq (column v 0) (Int (pos off)) && true) (λ r. refl) row_output (λ r. refl)
+      (λ v. is Eq (column v 0) (Int (pos off)) && true) (λ r. refl) body_output (λ r. refl)
       (is_in off) (λ x. rw (same_number x.0 off) (alone (x.0 == off)))
-      (ascending_among _ _ _ (by_position off) (filter (is_in off) held) (recursion_from_All _ _ (filter_passes (is_in off) held)) (ascending-filter IsBefore (is_in off) held h.ascending)) (read.answer Null)
+      (ascending-filter _ (is_in off) held (ascending_weaker _ _ in_order held h.ascending)) (read.answer Null)
 
 abbrev version_output : Row → Output
 version_output v = ([], column v 0 ∷ [])

@@ -1,16 +1,17 @@
 -- What the tables of a held map have.
-use Rattle.std.proofs.Common.{◌≡◌, inl, inr, ℕ, suc, ◌+◌, ◌<◌, List, [], ◌∷◌, Some, slice_get, cond, eqb, map, drop, length, refl, sym, ap, ap₂, subst, ◌∙◌, IsPermutation, pos}
-use Rattle.std.specs.Prelude.{filter}
+use Rattle.std.proofs.Common.{◌≡◌, inl, inr, ℕ, suc, ◌+◌, ◌<◌, List, [], ◌∷◌, ◌++◌, Option, Some, None, ◌==◌, false, slice_get, cond, eqb, map, drop, length, refl, sym, ap, ap₂, subst, ◌∙◌, arith, IsPermutation, pos}
+use Rattle.std.specs.Prelude.{filter, flat_map}
 use Rattle.std.specs.List.{AllByRecursion}
 use Rattle.std.specs.Ordering.{nat_cmp}
 use Rattle.std.specs.Cmp.{unsigned_tied}
 use Rattle.std.specs.FinMap.{entries, get, find, get-entries}
-use Rattle.std.proofs.lemmas.Bool.Decides.{eqb_tells}
+use Rattle.std.proofs.lemmas.Bool.Decides.{eqb_tells, nat_tests}
+use Rattle.std.proofs.lemmas.List.Elements.{filter-append}
 use Rattle.std.proofs.lemmas.List.Sorted.{IsPermutation-sym}
 use Rattle.sqlite.specs.Order.{Row, column}
 use Rattle.sqlite.specs.Effect.{Database}
 use Rattle.sqlite_trees.specs.Tree.{IsAscending}
-use Rattle.sqlite_trees.proofs.ListLemmas.{all_from_map, all-permutation, ascending-map, IsPermutation-same}
+use Rattle.sqlite_trees.proofs.ListLemmas.{all_from_map, all_weaker, all-permutation, ascending-map, filter_none, IsPermutation-same}
 use Rattle.osm_value.specs.declared.element.Element.{Element}
 use Rattle.osm_store.specs.declared.keeper.Extent.{Extent}
 use Rattle.osm_store.specs.Held.{Blob, HeldMap}
@@ -104,3 +105,28 @@ placed_at held off blob is =
 
 pub elements_at : (held : HeldMap) (off : ℕ) (blob : Blob) → get held off ≡ Some blob → map (λ (p : Placed). p.2) (filter (is_in off) (placed_in held)) ≡ blob.elements
 elements_at held off blob is = ap (map (λ (p : Placed). p.2)) (placed_at held off blob is) ∙ elements_of off 0 blob.elements
+
+-- where none is held there is none
+unequal : (m n : ℕ) → (m ≡ n → ⊥) → (m == n) ≡ false
+unequal m n e = grind (arith, nat_tests)
+
+none_at : (es : List Entry) (off : ℕ) → ◌≡◌ {A = Option Blob} (find nat_cmp off es) None → filter (is_in off) (flat_map within es) ≡ []
+none_at [] off none = refl
+none_at (e ∷ es) off none =
+    let known : cond (eqb off e.0) (Some e.1) (find nat_cmp off es) ≡ None = ap (λ b. cond b (Some e.1) (find nat_cmp off es)) (sym (unsigned_tied off e.0)) ∙ none in
+    elim (eqb_tells off e.0) [
+      | inl (test, same) ↦
+          let there : ◌≡◌ {A = Option Blob} (Some e.1) None = ap (λ b. cond b (Some e.1) (find nat_cmp off es)) (sym test) ∙ known in
+          absurd (cc)
+      | inr (test, apart) ↦
+          let others = none_at es off (ap (λ b. cond b (Some e.1) (find nat_cmp off es)) (sym test) ∙ known) in
+          let own = filter_none (is_in off) (within e) (all_weaker _ _ (λ (p : Placed) at. unequal p.0 off (λ same. apart (sym same ∙ at))) (within e) (here e)) in
+          filter-append (is_in off) (within e) (flat_map within es) ∙ ap₂ ◌++◌ own others
+    ]
+
+-- the elements at any offset are at the positions 0, 1, 2, ..
+pub counted_at : (held : HeldMap) (off : ℕ) → (es : List Element) × (filter (is_in off) (placed_in held) ≡ placed off 0 es)
+counted_at held off = elim (get held off) as (λ o. get held off ≡ o → (es : List Element) × (filter (is_in off) (placed_in held) ≡ placed off 0 es)) [
+  | Some blob ↦ λ is. (blob.elements, placed_at held off blob is)
+  | None ↦ λ none. ([], none_at (entries held) off (sym (get-entries held off) ∙ none))
+] refl

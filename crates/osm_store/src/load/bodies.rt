@@ -1,6 +1,8 @@
 //! The elements of the held blobs, in the layout of bodies.
 
-ghost use Rattle.std.specs.Prelude.{◌≡◌, Some, filter, IsTrue, MatchResult};
+mod rows;
+
+ghost use Rattle.std.specs.Prelude.{◌≡◌, Some, filter, IsTrue, IfOk, MatchResult};
 ghost use Rattle.std.specs.FinMap as map;
 ghost use Rattle.sqlite.specs.State.{HasCleanDisk};
 ghost use Rattle.sqlite.specs.Held.{state};
@@ -9,22 +11,25 @@ ghost use Rattle.osm_store.specs.Load.Finding.{AreMatches};
 ghost use Rattle.osm_store.specs.Held.{Blob, HeldMap};
 ghost use Rattle.osm_store.specs.LayoutHolding.{Holds};
 ghost use Rattle.osm_store.specs.Keeping.{IsForeign};
-ghost use Rattle.osm_store.specs.Load.Loading.{HasRowsOf};
+ghost use Rattle.osm_store.specs.Load.Loading.{HasRowsOf, IsInPlace};
 ghost use Rattle.osm_store.specs.Rows.{is_of, placed_in};
 
 use crate::fault::StoreFault;
 use crate::load::answer::{answer, integer, number};
-use crate::load::found::{Found, FoundBodies, FoundRows};
-use crate::load::loaded::{Loaded, LoadedBodies, LoadedRows};
+use crate::load::found::Found;
+use crate::load::loaded::Loaded;
+use crate::load::rows::ElementRows;
+use crate::load::values::are_numbered;
 use crate::schema::Layout;
 use crate::schema::codes::element_code;
 use crate::schema::sql::{FIND_BODIES, SELECT_BODIES};
 use osm_value::MemberKind;
 use pbf_frame::MAX_OFFSET;
+pub(crate) use rows::BodyRows;
 use sqlite::{Alter, Connection};
 use std::alloc::Global;
 
-/// The rows of the blob at this offset; none where no blob is held there.
+/// The rows of the blob at this offset, at the positions 0, 1, 2, ..; none where no blob is held there.
 pub(crate) fn load_bodies<S: Alter>(
     alloc: Global,
     connection: &mut Connection<S>,
@@ -32,22 +37,26 @@ pub(crate) fn load_bodies<S: Alter>(
 ) -> Result<Loaded, StoreFault>
     ensures held { HasCleanDisk (state S.Store connection.new) → (held : HeldMap) → Holds Layout.Bodies (state S.Store connection.old) held
         → MatchResult result (λ loaded. ((blob : Blob) → map.get held off ≡ Some blob → HasRowsOf loaded blob.elements) × IsTrue (state S.Store connection.new).is_open) (λ fault. ¬ (IsForeign fault)) }
+    ensures positions { IfOk result IsInPlace }
     ensures asks { JustAsks (state S.Store connection.old) (state S.Store connection.new) }
 {
     // A held blob has bytes, and ends at `MAX_OFFSET` at most.
     if off >= MAX_OFFSET {
-        let bodies = LoadedBodies {
+        let bodies = BodyRows {
             rows: Vec::new(alloc),
         };
         return Ok(Loaded {
-            rows: LoadedRows::Bodies(bodies),
+            rows: ElementRows::Bodies(bodies),
         });
     }
     let rows = answer(connection, SELECT_BODIES, &[number(off)])?;
-    let bodies = LoadedBodies { rows };
+    if !are_numbered(&rows, 1) {
+        return Err(StoreFault::NotThisStore(None));
+    }
+    let bodies = BodyRows { rows };
     match bodies.check(alloc) {
         Ok(()) => Ok(Loaded {
-            rows: LoadedRows::Bodies(bodies),
+            rows: ElementRows::Bodies(bodies),
         }),
         Err(fault) => Err(fault),
     }
@@ -66,10 +75,10 @@ pub(crate) fn find_bodies<S: Alter>(
 {
     let code = u64::from(element_code(kind));
     let rows = answer(connection, FIND_BODIES, &[number(code), integer(id)])?;
-    let bodies = FoundBodies { rows };
+    let bodies = BodyRows { rows };
     match bodies.check(alloc) {
         Ok(()) => Ok(Found {
-            rows: FoundRows::Bodies(bodies),
+            rows: ElementRows::Bodies(bodies),
         }),
         Err(fault) => Err(fault),
     }

@@ -1,6 +1,6 @@
 //! The extents of the held blobs.
 
-ghost use Rattle.std.specs.Prelude.{◌≡◌, ◌∷◌, [], ◌<◌, ◌≤◌, ℤ, pos, filter, Some, None, Ok, List, map, IsTrue, MatchResult, IfOk, All};
+ghost use Rattle.std.specs.Prelude.{◌≡◌, ◌↔◌, ◌∷◌, [], ◌<◌, ◌≤◌, ℤ, pos, filter, Some, None, Ok, List, map, IsTrue, MatchResult, IfOk, All};
 ghost use Rattle.sqlite.specs.declared.types.Value.TheVariants.{Int};
 ghost use Rattle.sqlite.specs.Order.{Row};
 ghost use Rattle.sqlite.specs.State.{HasCleanDisk};
@@ -8,7 +8,7 @@ ghost use Rattle.sqlite.specs.Held.{state};
 ghost use Rattle.osm_store.specs.Load.Asking.{JustAsks};
 ghost use Rattle.osm_store.specs.Held.{HeldMap};
 ghost use Rattle.osm_store.specs.LayoutHolding.{Holds, IsKeptExtent};
-ghost use Rattle.osm_store.specs.Keeping.{IsForeign, IsRange, extents_of, touches};
+ghost use Rattle.osm_store.specs.Keeping.{IsForeign, IsRange, AscendApart, extents_of, touches};
 ghost use Rattle.osm_store.specs.Rows.{extent_columns};
 ghost use Rattle.osm_store.specs.Load.Starting.{IsStart};
 
@@ -59,6 +59,35 @@ fn read_extents(alloc: Global, rows: &[Row]) -> Result<Vec<Extent>, StoreFault>
     Ok(extents)
 }
 
+/// Whether each extent ends where the next one begins, or before.
+fn are_apart(extents: &[Extent]) -> bool
+    requires { All IsRange extents.now }
+    ensures { IsTrue result ↔ (AscendApart extents.now) }
+{
+    let mut end = 0;
+    for extent in extents {
+        if extent.off < end {
+            return false;
+        }
+        end = extent.fin;
+    }
+    true
+}
+
+/// The extents that the rows stand for, which ascend and don't meet.
+fn read_apart(alloc: Global, rows: &[Row]) -> Result<Vec<Extent>, StoreFault>
+    ensures exact { (extents : List Extent) → All IsKeptExtent extents → AscendApart extents → rows.now ≡ map extent_columns extents → MatchResult result (λ found. found.items ≡ extents) (λ fault. fault ≡ StoreFault.Memory) }
+    ensures ranges { IfOk result (λ found. All IsRange found.items) }
+    ensures apart { IfOk result (λ found. AscendApart found.items) }
+{
+    let extents = read_extents(alloc, rows)?;
+    if are_apart(&extents) {
+        Ok(extents)
+    } else {
+        Err(StoreFault::NotThisStore(None))
+    }
+}
+
 /// All extents, ascending by their offsets.
 pub(crate) fn all_extents<S: Alter>(
     alloc: Global,
@@ -67,10 +96,11 @@ pub(crate) fn all_extents<S: Alter>(
     ensures held { HasCleanDisk (state S.Store connection.new) → (layout : Layout) (held : HeldMap) → Holds layout (state S.Store connection.old) held
         → MatchResult result (λ extents. (extents.items ≡ extents_of held) × IsTrue (state S.Store connection.new).is_open) (λ fault. ¬ (IsForeign fault)) }
     ensures ranges { IfOk result (λ extents. All IsRange extents.items) }
+    ensures apart { IfOk result (λ extents. AscendApart extents.items) }
     ensures asks { JustAsks (state S.Store connection.old) (state S.Store connection.new) }
 {
     let rows = answer(connection, SELECT_EXTENTS, &[])?;
-    read_extents(alloc, &rows)
+    read_apart(alloc, &rows)
 }
 
 /// The offset that the first row shows; 0 where there is none.
@@ -106,10 +136,11 @@ pub(crate) fn touched_extents<S: Alter>(
     requires { (from < to) × (to ≤ MAX_OFFSET) }
     ensures held { HasCleanDisk (state S.Store connection.new) → (layout : Layout) (held : HeldMap) → Holds layout (state S.Store connection.old) held
         → MatchResult result (λ extents. (extents.items ≡ filter (touches from to) (extents_of held)) × IsTrue (state S.Store connection.new).is_open) (λ fault. ¬ (IsForeign fault)) }
+    ensures apart { IfOk result (λ extents. AscendApart extents.items) }
     ensures asks { JustAsks (state S.Store connection.old) (state S.Store connection.new) }
 {
     let start = last_start(connection, from)?;
     let bounds = [integer(start), number(to), number(from)];
     let rows = answer(connection, SELECT_TOUCHING, &bounds)?;
-    read_extents(alloc, &rows)
+    read_apart(alloc, &rows)
 }

@@ -1,6 +1,6 @@
 //! The elements of the held blobs, in either layout.
 
-ghost use Rattle.std.specs.Prelude.{◌≡◌, Some, filter, IsTrue, MatchResult};
+ghost use Rattle.std.specs.Prelude.{◌≡◌, Some, filter, IsTrue, IfOk, MatchResult};
 ghost use Rattle.std.specs.FinMap as map;
 ghost use Rattle.sqlite.specs.State.{HasCleanDisk};
 ghost use Rattle.sqlite.specs.Held.{state};
@@ -9,7 +9,7 @@ ghost use Rattle.osm_store.specs.Load.Finding.{AreMatches};
 ghost use Rattle.osm_store.specs.Held.{Blob, HeldMap};
 ghost use Rattle.osm_store.specs.LayoutHolding.{Holds};
 ghost use Rattle.osm_store.specs.Keeping.{IsForeign};
-ghost use Rattle.osm_store.specs.Load.Loading.{HasRowsOf};
+ghost use Rattle.osm_store.specs.Load.Loading.{HasRowsOf, IsInPlace};
 ghost use Rattle.osm_store.specs.Rows.{is_of, placed_in};
 
 use crate::fault::StoreFault;
@@ -22,7 +22,7 @@ use osm_value::MemberKind;
 use sqlite::{Alter, Connection};
 use std::alloc::Global;
 
-/// The rows of the blob at this offset; none where no blob is held there.
+/// The rows of the blob at this offset, at the positions 0, 1, 2, ..; none where no blob is held there.
 pub(crate) fn load_held<S: Alter>(
     alloc: Global,
     connection: &mut Connection<S>,
@@ -31,6 +31,7 @@ pub(crate) fn load_held<S: Alter>(
 ) -> Result<Loaded, StoreFault>
     ensures held { HasCleanDisk (state S.Store connection.new) → (held : HeldMap) → Holds layout (state S.Store connection.old) held
         → MatchResult result (λ loaded. ((blob : Blob) → map.get held off ≡ Some blob → HasRowsOf loaded blob.elements) × IsTrue (state S.Store connection.new).is_open) (λ fault. ¬ (IsForeign fault)) }
+    ensures positions { IfOk result IsInPlace }
     ensures asks { JustAsks (state S.Store connection.old) (state S.Store connection.new) }
 {
     match layout {

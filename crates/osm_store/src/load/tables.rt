@@ -5,7 +5,7 @@ mod parts;
 mod rows;
 mod search;
 
-ghost use Rattle.std.specs.Prelude.{◌≡◌, Some, filter, IsTrue, MatchResult};
+ghost use Rattle.std.specs.Prelude.{◌≡◌, Some, filter, IsTrue, IfOk, MatchResult};
 ghost use Rattle.std.specs.FinMap as map;
 ghost use Rattle.sqlite.specs.State.{HasCleanDisk};
 ghost use Rattle.sqlite.specs.Held.{state};
@@ -14,12 +14,14 @@ ghost use Rattle.osm_store.specs.Load.Finding.{AreMatches};
 ghost use Rattle.osm_store.specs.Held.{Blob, HeldMap};
 ghost use Rattle.osm_store.specs.LayoutHolding.{Holds};
 ghost use Rattle.osm_store.specs.Keeping.{IsForeign};
-ghost use Rattle.osm_store.specs.Load.Loading.{HasRowsOf};
+ghost use Rattle.osm_store.specs.Load.Loading.{HasRowsOf, IsInPlace};
 ghost use Rattle.osm_store.specs.Rows.{is_of, placed_in};
 
 use crate::fault::StoreFault;
-use crate::load::found::{Found, FoundRows};
-use crate::load::loaded::{Loaded, LoadedRows};
+use crate::load::found::Found;
+use crate::load::loaded::Loaded;
+use crate::load::rows::ElementRows;
+use crate::load::values::are_numbered;
 use crate::schema::Layout;
 use osm_value::MemberKind;
 use pbf_frame::MAX_OFFSET;
@@ -29,7 +31,7 @@ use search::find_table_rows;
 use sqlite::{Alter, Connection};
 use std::alloc::Global;
 
-/// The rows of the blob at this offset; none where no blob is held there.
+/// The rows of the blob at this offset, at the positions 0, 1, 2, ..; none where no blob is held there.
 pub(crate) fn load_tables<S: Alter>(
     alloc: Global,
     connection: &mut Connection<S>,
@@ -37,6 +39,7 @@ pub(crate) fn load_tables<S: Alter>(
 ) -> Result<Loaded, StoreFault>
     ensures held { HasCleanDisk (state S.Store connection.new) → (held : HeldMap) → Holds Layout.Tables (state S.Store connection.old) held
         → MatchResult result (λ loaded. ((blob : Blob) → map.get held off ≡ Some blob → HasRowsOf loaded blob.elements) × IsTrue (state S.Store connection.new).is_open) (λ fault. ¬ (IsForeign fault)) }
+    ensures positions { IfOk result IsInPlace }
     ensures asks { JustAsks (state S.Store connection.old) (state S.Store connection.new) }
 {
     // A held blob has bytes, and ends at `MAX_OFFSET` at most.
@@ -47,13 +50,16 @@ pub(crate) fn load_tables<S: Alter>(
             links: Vec::new(alloc),
         };
         return Ok(Loaded {
-            rows: LoadedRows::Tables(rows),
+            rows: ElementRows::Tables(rows),
         });
     }
     let rows = load_table_rows(connection, off)?;
+    if !are_numbered(&rows.elements, 1) {
+        return Err(StoreFault::NotThisStore(None));
+    }
     match rows.check(alloc) {
         Ok(()) => Ok(Loaded {
-            rows: LoadedRows::Tables(rows),
+            rows: ElementRows::Tables(rows),
         }),
         Err(fault) => Err(fault),
     }
@@ -73,7 +79,7 @@ pub(crate) fn find_tables<S: Alter>(
     let rows = find_table_rows(alloc, connection, kind, id)?;
     match rows.check(alloc) {
         Ok(()) => Ok(Found {
-            rows: FoundRows::Tables(rows),
+            rows: ElementRows::Tables(rows),
         }),
         Err(fault) => Err(fault),
     }

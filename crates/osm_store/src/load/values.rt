@@ -1,10 +1,11 @@
 //! Numbers, texts and bytes in the columns of rows. A column that holds none is that of a row of no element.
 
-ghost use Rattle.std.specs.Prelude.{◌≡◌, ◌<◌, ℕ, ℤ, pos, List, length, Some, Option, IsTrue, IsSomeAnd, IfSome};
+ghost use Rattle.std.specs.Prelude.{◌≡◌, ◌↔◌, ◌<◌, ℕ, ℤ, pos, List, length, Some, Option, IsTrue, IsSomeAnd, IfSome};
 ghost use Rattle.std.specs.Option.{option_copied};
 ghost use Rattle.sqlite.specs.declared.types.Value.TheVariants.{Null, Int, Text as Words, Blob as Octets};
 ghost use Rattle.sqlite.specs.Order.{column};
 ghost use Rattle.sqlite.specs.Values.{or_null};
+ghost use Rattle.osm_store.specs.Load.Numbering.{AreNumbered};
 ghost use Rattle.osm_store.specs.Rows.{element_code};
 ghost use Rattle.osm_value.specs.Ranges.{IsText, IsTextOrNone, IsWide, passes, is_wide, is_version, is_uid};
 
@@ -14,12 +15,25 @@ use sqlite::types::ValueRef;
 
 /// The number in a column; None where no such number stands there.
 pub(crate) fn number_at(row: &Row, at: usize) -> Option<u64>
-    ensures { (n : ℕ) → at < length row.now → column row.now at ≡ Int (pos n) → result ≡ Some n }
+    ensures exact { (n : ℕ) → at < length row.now → column row.now at ≡ Int (pos n) → result ≡ Some n }
+    ensures is { IfSome result (λ n. column row.now at ≡ Int (pos n)) }
 {
     match row.get_ref(at) {
         Ok(ValueRef::Int(number)) if number >= 0 => Some(number as u64),
         _ => None,
     }
+}
+
+/// Whether a column has 0, 1, 2, .. in the order of the rows.
+pub(crate) fn are_numbered(rows: &[Row], at: usize) -> bool
+    ensures { IsTrue result ↔ (AreNumbered at rows.now) }
+{
+    for (number, row) in rows.iter().enumerate() {
+        if number_at(row, at) != Some(number as u64) {
+            return false;
+        }
+    }
+    true
 }
 
 /// The bytes in a column, which lie in the row.
@@ -58,6 +72,7 @@ pub(crate) fn text_at(row: &Row, at: usize) -> Option<&str>
 pub(crate) fn wide_at(row: &Row, at: usize) -> Option<i64>
     ensures exact { (number : ℤ) → IsWide number → at < length row.now → column row.now at ≡ Int number → result ≡ Some number }
     ensures in_range { IfSome result IsWide }
+    ensures is { IfSome result (λ number. column row.now at ≡ Int number) }
 {
     match row.get_ref(at) {
         Ok(ValueRef::Int(number)) if wide_in_range(number) => Some(number),
@@ -131,7 +146,8 @@ pub(crate) fn is_null_at(row: &Row, at: usize) -> bool
 
 /// The kind that a column names.
 pub(crate) fn kind_at(row: &Row, at: usize) -> Option<MemberKind>
-    ensures { (kind : MemberKind) → at < length row.now → column row.now at ≡ Int (pos (element_code kind)) → result ≡ Some kind }
+    ensures exact { (kind : MemberKind) → at < length row.now → column row.now at ≡ Int (pos (element_code kind)) → result ≡ Some kind }
+    ensures is { IfSome result (λ kind. column row.now at ≡ Int (pos (element_code kind))) }
 {
     match number_at(row, at) {
         Some(0) => Some(MemberKind::Node),

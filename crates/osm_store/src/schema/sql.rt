@@ -101,11 +101,12 @@ pub(crate) const SELECT_TOUCHING: &str =
     "SELECT off, fin, digest, kind, n FROM blob WHERE off >= ?1 AND off < ?2 AND fin > ?3 ORDER BY off";
 
 /// A blob's elements, in order.
-pub(crate) const SELECT_BODIES: &str = "SELECT data FROM body WHERE off = ?1 ORDER BY pos";
+pub(crate) const SELECT_BODIES: &str =
+    "SELECT off, pos, kind, id, data FROM body WHERE off = ?1 ORDER BY off, pos";
 
 /// All held elements of one kind and id, in order.
 pub(crate) const FIND_BODIES: &str =
-    "SELECT off, pos, data FROM body WHERE kind = ?1 AND id = ?2 ORDER BY off, pos";
+    "SELECT off, pos, kind, id, data FROM body WHERE kind = ?1 AND id = ?2 ORDER BY off, pos";
 
 /// A blob's elements, in order.
 pub(crate) const SELECT_ELEMENTS: &str =

@@ -86,6 +86,9 @@ pub(crate) trait NewStore: Keeper + Drop {
     /// How many steps each later statement may take; None is no limit.
     fn limit_steps(&mut self, limit: Option<u64>);
 
+    /// The store, opened again after a statement has changed its rows.
+    fn changed(self, sql: &str) -> Option<Self>;
+
     /// The store with no limit on steps, opened again, and all its rows as text.
     fn with_rows(self, alloc: Global) -> Option<(Self, String)>;
 }
@@ -101,6 +104,15 @@ impl<L: KnownLayout> NewStore for BlobStore<MemStore, L> {
 
     fn limit_steps(&mut self, limit: Option<u64>) {
         self.set_step_limit(limit);
+    }
+
+    fn changed(self, sql: &str) -> Option<BlobStore<MemStore, L>> {
+        let mut connection = self.into_connection();
+        connection.execute(sql, &[]).ok()?;
+        if !connection.is_autocommit() {
+            return None;
+        }
+        BlobStore::adopt(connection).ok()
     }
 
     fn with_rows(self, alloc: Global) -> Option<(BlobStore<MemStore, L>, String)> {

@@ -13,14 +13,14 @@ use std::process::Abort;
 use std::test::*;
 
 /// The block of relation 9 with a name, node 1 as its outer member, and way -2 without a role.
-const RELATION: &[u8] =
+pub(crate) const RELATION: &[u8] =
     b"\x0A\x16\x0A\x00\x0A\x04name\x0A\x05a b,c\x0A\x05outer\x12\x16\x22\x14\x08\x09\x12\x01\x01\x1A\x01\x02\x42\x02\x03\x00\x4A\x02\x02\x05\x52\x02\x00\x01";
 
 /// That of way 7 over the nodes 5, 6, 7 and 6.
-const WAY: &[u8] =
+pub(crate) const WAY: &[u8] =
     b"\x0A\x08\x0A\x00\x0A\x01a\x0A\x01b\x12\x10\x1A\x0E\x08\x07\x12\x01\x01\x1A\x01\x02\x42\x04\x0A\x02\x02\x01";
 
-const PLACED_RELATION: Extent = Extent {
+pub(crate) const PLACED_RELATION: Extent = Extent {
     off: 84,
     fin: 150,
     digest: [3; 32],
@@ -28,7 +28,7 @@ const PLACED_RELATION: Extent = Extent {
     n: 1,
 };
 
-const PLACED_WAY: Extent = Extent {
+pub(crate) const PLACED_WAY: Extent = Extent {
     off: 150,
     fin: 199,
     digest: [4; 32],

@@ -1,4 +1,3 @@
-use Rattle.std.proofs.Common.{◌≡◌, sym}
 use Rattle.pbf_frame.specs.View.{found}
 use Rattle.pbf_frame.proofs.FrameLaws.{whole_takes}
 use Rattle.osm_import.specs.Bad.{CanStand, IsMisplaced}

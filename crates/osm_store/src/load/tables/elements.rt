@@ -1,6 +1,6 @@
 //! Elements, read from rows of `element`, `tag` and `link`.
 
-ghost use Rattle.std.specs.Prelude.{◌≡◌, ◌++◌, ◌<◌, ℕ, List, length, [], map, All, Some, true, false, IfOk, IfErr, IsSomeAnd, IfSome};
+ghost use Rattle.std.specs.Prelude.{◌≡◌, ◌↔◌, ◌++◌, ◌<◌, ℕ, List, length, [], map, All, Some, true, false, IfOk, IfErr, IsTrue, IsSomeAnd, IfSome};
 ghost use Rattle.std.specs.List.{AllByRecursion};
 ghost use Rattle.sqlite.specs.declared.types.Value.TheVariants.{Null};
 ghost use Rattle.sqlite.specs.Order.{Row as SqlRow, column};
@@ -8,6 +8,7 @@ ghost use Rattle.osm_value.specs.declared.element.Element.TheVariants as element
 ghost use Rattle.osm_value.specs.Elements.{IsElement};
 ghost use Rattle.osm_value.specs.Ranges.{IsWide, IsMember, IsNode, IsWay, IsRelation, AreTags};
 ghost use Rattle.osm_value.specs.Value.{Text, MemberValue, NodeValue, WayValue, RelationValue};
+ghost use Rattle.osm_store.specs.Load.Numbering.{AreNumbered};
 ghost use Rattle.osm_store.specs.Load.TableElements.{StandsAt, StandsApart, IsTagPart, IsMemberPart, IsNodePart, item_of};
 ghost use Rattle.osm_store.specs.Load.TableAnswers.{AreRowsOf};
 ghost use Rattle.osm_store.specs.TableRows.{Part, element_row, tag_row, tags_at, link_row, links_at};
@@ -16,7 +17,7 @@ ghost use Rattle.osm_store.specs.Rows.{Placed};
 use crate::fault::StoreFault;
 use crate::load::tables::TableRows;
 use crate::load::tables::parts::{info_of, member_of, tag_of};
-use crate::load::values::{is_null_at, kind_at, place_of, wide_at};
+use crate::load::values::{are_numbered, is_null_at, kind_at, place_of, wide_at};
 use osm_value::{Element, Member, MemberKind, Node, Relation, Way};
 use sqlite::Row;
 use std::alloc::{AllocError, Global};
@@ -166,6 +167,13 @@ fn relation_of<'a>(
     }
 }
 
+/// Whether an element's tags and its links are each numbered 0, 1, 2, .. in their order.
+fn are_in_order(tags: &[Row], links: &[Row]) -> bool
+    ensures { IsTrue result ↔ (AreNumbered 2 tags.now × AreNumbered 2 links.now) }
+{
+    are_numbered(tags, 2) && are_numbered(links, 2)
+}
+
 /// The element that a row stands for, with the rows of its tags and links.
 fn element_of<'a>(
     alloc: Global,
@@ -175,6 +183,9 @@ fn element_of<'a>(
 ) -> Result<Option<Element<'a>>, AllocError>
     ensures { (p : Placed) → IsElement p.2 → row.now ≡ element_row p → tags.now ≡ map tag_row (tags_at p) → links.now ≡ map link_row (links_at p) → IfOk result (λ found. found ≡ Some p.2) }
 {
+    if !are_in_order(tags, links) {
+        return Ok(None);
+    }
     let Some(tags) = tags_of(alloc, tags)? else {
         return Ok(None);
     };
@@ -241,16 +252,5 @@ impl TableRows {
             Some(elements) => Ok(elements),
             None => Ok(Vec::new(alloc)),
         }
-    }
-
-    /// The elements alone.
-    pub(crate) fn elements(&self, alloc: Global) -> Result<Vec<Element<'_>>, AllocError>
-        ensures { (placed : List Placed) → AreRowsOf self.now placed → IfOk result (λ found. found.items ≡ map (λ p. p.2) placed) }
-    {
-        let mut elements = Vec::new(alloc);
-        for found in self.matches(alloc)? {
-            elements.push(found.2)?;
-        }
-        Ok(elements)
     }
 }

@@ -1,17 +1,17 @@
-use Rattle.std.proofs.Common.{◌<◌, ◌≤◌, map, refl, ◌∙◌, ap, sym, subst, arith}
+use Rattle.std.proofs.Common.{◌<◌, ◌≤◌, ◌∙◌, refl, sym, subst, true≢false, arith}
 use Rattle.std.specs.Prelude.{filter}
 use Rattle.std.proofs.lemmas.List.Elements.{All-from_recursion}
 use Rattle.sqlite.specs.Held.{state}
 use Rattle.sqlite_tied.specs.Compute.{everything}
-use Rattle.sqlite_trees.proofs.ListLemmas.{map-map, all-map, all-filter}
+use Rattle.sqlite_trees.proofs.ListLemmas.{all-filter}
 use Rattle.pbf_frame.specs.declared.part.TheConstants.{MAX_OFFSET}
-use Rattle.osm_store.specs.LayoutHolding.{IsBlob}
 use Rattle.osm_store.specs.Keeping.{IsForeign}
-use Rattle.osm_store.proofs.MapLemmas.PlacedLaws.{Entry, all_held}
-use Rattle.osm_store.specs.Rows.{Placed, IsStored, placed_in, is_in, data_row}
+use Rattle.osm_store.specs.Load.Loading.{AreBodiesOf}
+use Rattle.osm_store.specs.Rows.{placed_in, is_in, body_row}
 use Rattle.osm_store.specs.declared.schema.layout.Layout.TheVariants.{Bodies}
-use Rattle.osm_store.proofs.MapLemmas.StoredElements.{all_stored, blob_stored}
-use Rattle.osm_store.proofs.MapLemmas.HeldLemmas.{has_elements, elements_at}
+use Rattle.osm_store.proofs.MapLemmas.StoredElements.{all_stored}
+use Rattle.osm_store.proofs.MapLemmas.HeldLemmas.{has_elements, placed_at}
+use Rattle.osm_store.proofs.LoadLemmas.Numbering.{held_numbered}
 use Rattle.osm_store.proofs.LoadLemmas.ReadLemmas.{rows_read}
 use Rattle.osm_store.proofs.load.bodies.load_bodies.Goals as goal
 
@@ -28,19 +28,22 @@ returns-then-off-ge-MAX_OFFSET-clause-held g c clean held holds = (
   holds.opened,
 )
 
+pub returns-then-not-are_numbered-clause-held : goal.returns-then-not-are_numbered-clause-held
+returns-then-not-are_numbered-clause-held g c clean held holds foreign =
+    let old = state g.S.Store c.args.connection.now in
+    let answered = c.in_ok-rows.ensures.rows clean in
+    let shown = rw c.number.ensures at answered.shown in
+    let read = rows_read old (state g.S.Store c.answer.new.connection) _ (placed_in held) (has_elements old.now held holds.schema holds.tables) c.args.off shown in
+    true≢false (sym (c.are_numbered.ensures.1 (held_numbered body_row (λ p. refl) held c.args.off _ (c.deref.ensures.value ∙ read))) ∙ c.if-not-are_numbered.true)
+
 pub returns-in-Ok-clause-held : goal.returns-in-Ok-clause-held
 returns-in-Ok-clause-held g c clean held holds =
     let old = state g.S.Store c.args.connection.now in
     let answered = c.in_ok-rows.ensures.rows clean in
     let shown = rw c.number.ensures at answered.shown in
     let read = rows_read old (state g.S.Store c.answer.new.connection) _ (placed_in held) (has_elements old.now held holds.schema holds.tables) c.args.off shown in
-    let bodies = read ∙ sym (map-map data_row (λ (p : Placed). p.2) (filter (is_in c.args.off) (placed_in held))) in (
-      λ blob is. record {
-        rows = record {
-          rows = bodies ∙ ap (map data_row) (elements_at held c.args.off blob is);
-          stored = blob_stored Bodies blob (all_held (λ (entry : Entry). IsBlob Bodies entry.1) held c.args.off blob holds.kept.blobs is);
-        };
-      },
+    let stored = All-from_recursion _ _ (all-filter _ (is_in c.args.off) (placed_in held) (all_stored Bodies held holds.kept)) in (
+      λ blob is. record { off = c.args.off; rows = subst (AreBodiesOf _) (placed_at held c.args.off blob is) (record { rows = read; stored = stored }) },
       answered.is_open,
     )
 
@@ -50,8 +53,6 @@ returns-in-Err-clause-held g c clean held holds foreign =
     let answered = c.in_ok-rows.ensures.rows clean in
     let shown = rw c.number.ensures at answered.shown in
     let read = rows_read old (state g.S.Store c.answer.new.connection) _ (placed_in held) (has_elements old.now held holds.schema holds.tables) c.args.off shown in
-    let there = filter (is_in c.args.off) (placed_in held) in
-    let bodies = read ∙ sym (map-map data_row (λ (p : Placed). p.2) there) in
-    let stored = All-from_recursion _ _ (all-map (IsStored Bodies) (λ (p : Placed). p.2) there (all-filter _ (is_in c.args.off) (placed_in held) (all_stored Bodies held holds.kept))) in
-    let is = c.in-Err.ensures (map (λ (p : Placed). p.2) there) (record { rows = bodies; stored = stored }) in
+    let stored = All-from_recursion _ _ (all-filter _ (is_in c.args.off) (placed_in held) (all_stored Bodies held holds.kept)) in
+    let is = c.in-Err.ensures (filter (is_in c.args.off) (placed_in held)) (record { rows = read; stored = stored }) in
     subst IsForeign is foreign

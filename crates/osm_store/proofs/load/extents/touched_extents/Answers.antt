@@ -6,11 +6,11 @@ use Rattle.std.proofs.lemmas.Result.{MatchResult-weaker}
 use Rattle.sqlite_tied.specs.Compute.{everything}
 use Rattle.sqlite.specs.Held.{state}
 use Rattle.sqlite.specs.declared.types.Value.TheVariants.{Int}
-use Rattle.osm_store.specs.Keeping.{extents_of, IsForeign}
+use Rattle.osm_store.specs.Keeping.{extents_of, touches, IsForeign}
 use Rattle.osm_store.specs.LayoutHolding.{IsKeptExtent}
 use Rattle.osm_store.specs.Rows.{extent_columns}
 use Rattle.osm_store.proofs.LoadLemmas.AnswerLemmas.{asks_then}
-use Rattle.osm_store.proofs.LoadLemmas.ExtentLaws.{touch_from, extents_kept}
+use Rattle.osm_store.proofs.LoadLemmas.ExtentLaws.{touch_from, extents_kept, some_apart}
 use Rattle.osm_store.proofs.MapLemmas.HeldLemmas.{has_extents}
 use Rattle.osm_store.proofs.MapLemmas.OneMore.{clean_before, asks_holds}
 use Rattle.osm_store.proofs.LoadLemmas.ReadLemmas.{touching_read}
@@ -39,4 +39,4 @@ returns-clause-held g c clean layout held holds =
     let read = touching_read layout middle new _ (extents_of held) (has_extents layout middle.now held still.schema still.tables) started.0.off c.args.from c.args.to shown
     ∙ ap (map extent_columns) (touch_from started.0.off c.args.from c.args.to (extents_of held) started.0.later) in
     let fit = All-filter _ IsKeptExtent (extents_of held) (extents_kept layout held holds.kept) in
-    MatchResult-weaker c.read_extents.result (c.read_extents.ensures.exact _ fit (c.deref.ensures.value ∙ read)) (λ v same. (same, answered.is_open)) (λ fault is foreign. subst IsForeign is foreign)
+    MatchResult-weaker c.read_apart.result (c.read_apart.ensures.exact _ fit (some_apart (touches c.args.from c.args.to) held holds.kept.apart) (c.deref.ensures.value ∙ read)) (λ v same. (same, answered.is_open)) (λ fault is foreign. subst IsForeign is foreign)

@@ -2,7 +2,7 @@ use Rattle.std.proofs.Common.{◌≡◌, None, Some, sym, ap, subst, ◌∙◌}
 use Rattle.osm_block.specs.Block.{Block}
 use Rattle.osm_block.specs.Phases.{fault}
 use Rattle.osm_store.proofs.MapLemmas.OneElement.{one_element, canon_faultless}
-use Rattle.osm_store.proofs.load.loaded.element_in.Goals as goal
+use Rattle.osm_store.proofs.load.bodies.rows.element_in.Goals as goal
 
 pub returns-in-Ok : goal.returns-in-Ok
 returns-in-Ok c e has few is = c.only_element.ensures e (one_element e _ has few (subst (Block c.in-Ok.elements.items) is c.in-Ok.ensures.1))

@@ -1,16 +1,16 @@
 use Rattle.std.proofs.Common.{◌≡◌, [], ◌∷◌, ◌++◌, ap, sym, ◌∙◌, Vec, Global}
 use Rattle.osm_store.specs.declared.schema.layout.Layout.TheVariants.{Bodies}
-use Rattle.osm_store.specs.Rows.{Placed, IsStored, found_row}
+use Rattle.osm_store.specs.Rows.{Placed, IsStored, body_row}
 use Rattle.osm_store.proofs.LoadLemmas.RowLoops.{row_at}
 use Rattle.osm_store.proofs.LoadLemmas.StoredRows.{some_is, some_or_none, all_taken}
-use Rattle.osm_store.proofs.load.found.FoundBodies.matches.Goals as goal
-use Rattle.osm_store.proofs.load.found.FoundBodies.matches.Goals.{in-Some+in_ok-push, in_default}
+use Rattle.osm_store.proofs.load.bodies.rows.BodyRows.matches.Goals as goal
+use Rattle.osm_store.proofs.load.bodies.rows.BodyRows.matches.Goals.{in-Some+in_ok-push, in_default}
 
 pub loop-row-preserved : goal.loop-row-preserved
 loop-row-preserved c = record {
   rows = c.loop-row.invariant.rows;
   so_far = λ matches h.
-      let it = row_at (λ (p : Placed). IsStored Bodies p.2) found_row matches _ _ _ h.stored (c.loop-row.invariant.rows ∙ h.rows) c.loop-row-test.true c.row-item.is in
+      let it = row_at (λ (p : Placed). IsStored Bodies p.2) body_row matches _ _ _ h.stored (c.loop-row.invariant.rows ∙ h.rows) c.loop-row-test.true c.row-item.is in
       let found = c.in_ok-found.ensures it.item it.fits it.is in
       let before = c.loop-row.invariant.so_far matches h in
       elim c.match-branch-2.branch [
@@ -22,4 +22,4 @@ loop-row-preserved c = record {
 }
 
 pub returns : goal.returns
-returns c matches h = c.loop-row.invariant.so_far matches h ∙ all_taken found_row matches _ _ (c.loop-row.invariant.rows ∙ h.rows) c.loop-row-test.false
+returns c matches h = c.loop-row.invariant.so_far matches h ∙ all_taken body_row matches _ _ (c.loop-row.invariant.rows ∙ h.rows) c.loop-row-test.false
