@@ -275,8 +275,7 @@ pub cause_wider : (f0 f1 f2 t0 t1 t2 : ℕ) (fault : CopyFault) → f0 ≤ f1 �
 cause_wider f0 f1 f2 t0 t1 t2 (Refused conflict) f t cause = tt
 cause_wider f0 f1 f2 t0 t1 t2 (Store fault) f t cause = elim cause [
   | inl from ↦ inl (wider f0 f1 f2 fault f from)
-  | inr (inl to) ↦ inr (inl (wider t0 t1 t2 fault t to))
-  | inr (inr uncounted) ↦ inr (inr uncounted)
+  | inr to ↦ inr (wider t0 t1 t2 fault t to)
 ]
   where
     wider : (a b c : ℕ) (fault : StoreFault) → a ≤ b → HasCause b c fault → HasCause a c fault

@@ -49,7 +49,6 @@ record AtBlob (held : HeldMap) (i : ℕ) (x : Extent) : Type 0 where
   pub found : get held x.off ≡ Some entry.1
   pub taken : take (i + 1) (entries held) ≡ take i (entries held) ++ entry ∷ []
   pub here : entry.1.elements ≡ elements_at (entries held) i
-  pub count : x.n ≡ length entry.1.elements
 
 at-blob : (held : HeldMap) (extents : List Extent) (i : ℕ) (x : Extent) → extents ≡ extents_of held → i < length extents → x ≡ get_or extents i x → AtBlob held i x
 at-blob held extents i x are within is =
@@ -59,7 +58,6 @@ at-blob held extents i x are within is =
       found = ap (λ (y : Extent). get held y.off) it.same ∙ get-entries held it.entry.0 ∙ it.found;
       taken = ap (λ n. take n (entries held)) (add-one i) ∙ it.taken;
       here = sym it.here;
-      count = ap (λ (y : Extent). y.n) it.same;
     }
 
 length-extents : (held : HeldMap) (extents : List Extent) → extents ≡ extents_of held → length extents ≡ length (entries held)
@@ -110,7 +108,7 @@ walk-all Writes held extents i before after are all turns =
 pub write-cause : (before now : ℕ) (failed : Bool) (result : Result (Unit {0}) ExportFault) → WriteHasCause failed result → ExportHasCause before now failed result
 write-cause before now failed (Ok done) h = tt
 write-cause before now failed (Err WriteFailed) h = h
-write-cause before now failed (Err (Store fault)) h = inl (inl h)
+write-cause before now failed (Err (Store fault)) h = inl h
 write-cause before now failed (Err BlockTooLarge) h = tt
 write-cause before now failed (Err (Incomplete from to)) h = tt
 write-cause before now failed (Err (PastEnd fin)) h = tt
@@ -122,11 +120,6 @@ write-own failed (Err (Store fault)) h = λ foreign. subst (λ (f : StoreFault).
 write-own failed (Err BlockTooLarge) h = tt
 write-own failed (Err (Incomplete from to)) h = tt
 write-own failed (Err (PastEnd fin)) h = tt
-
--- at the blob of an extent, which has as many elements as that says
-pub walk-own : (held : HeldMap) (extents : List Extent) (i : ℕ) (x : Extent) (result : Result (Unit {0}) ExportFault) → extents ≡ extents_of held → i < length extents → x ≡ get_or extents i x
-    → ((blob : Blob) → get held x.off ≡ Some blob → x.n ≡ length blob.elements → ExportIsOwn result) → ExportIsOwn result
-walk-own held extents i x result are within is own = let it = at-blob held extents i x are within is in own it.entry.1 it.found it.count
 
 -- nothing was written yet
 pub cause-unwritten : (before now : ℕ) (failed : Bool) (fault : ExportFault) → ExportHasCause before now false (Err fault) → ExportHasCause before now failed (Err fault)

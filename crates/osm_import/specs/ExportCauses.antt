@@ -1,20 +1,15 @@
 -- Why an export fails.
-use Rattle.std.specs.Prelude.{◌≡◌, ◌⊎◌, ℕ, Bool, IsTrue, None, Result, Ok, Err}
+use Rattle.std.specs.Prelude.{◌≡◌, ℕ, Bool, IsTrue, Result, Ok, Err}
 use Rattle.osm_store.specs.Keeping.{IsForeign}
-use Rattle.osm_store.specs.declared.fault.StoreFault.{StoreFault}
 use Rattle.osm_store.specs.declared.fault.StoreFault.TheVariants as store
 use Rattle.osm_import.specs.Step.{HasCause}
 use Rattle.osm_import.specs.declared.export.fault.ExportFault.{ExportFault}
 use Rattle.osm_import.specs.declared.export.fault.ExportFault.TheVariants.{Incomplete, PastEnd, WriteFailed, BlockTooLarge, Store}
 
--- a store fault has a cause, or says that a blob has another number of elements than its extent says
-abbrev pub WalkHasCause : ℕ → ℕ → StoreFault → Type 0
-WalkHasCause before now fault = HasCause before now fault ⊎ (fault ≡ store.NotThisStore None)
-
 -- a write that fails is told only where the sink has failed, and a store fault only where it has a cause
 abbrev pub ExportHasCause : ℕ → ℕ → Bool → Result (Unit {0}) ExportFault → Type 0
 ExportHasCause before now failed (Err WriteFailed) = IsTrue failed
-ExportHasCause before now failed (Err (Store fault)) = WalkHasCause before now fault
+ExportHasCause before now failed (Err (Store fault)) = HasCause before now fault
 ExportHasCause before now failed (Err BlockTooLarge) = Unit {0}
 ExportHasCause before now failed (Err (Incomplete from to)) = Unit {0}
 ExportHasCause before now failed (Err (PastEnd fin)) = Unit {0}

@@ -90,8 +90,7 @@ pub enum BlobCopy {
 }
 
 /// Copies the blob at an extent of the first store, unless the other holds its offset with its digest. The digest comes
-/// first, so that a blob that is held costs no reading of its rows. Where the extent says another number of elements than
-/// the blob has, its rows are those of no map, and nothing is added.
+/// first, so that a blob that is held costs no reading of its rows.
 fn copy_blob<F: Reader, T: Keeper>(
     alloc: Global,
     from: &mut F,
@@ -125,9 +124,6 @@ fn copy_blob<F: Reader, T: Keeper>(
     }
     let loaded = from.load(alloc, extent.off)?;
     let elements = loaded.elements(alloc)?;
-    if elements.len() as u64 != extent.n {
-        return Err(CopyFault::Store(StoreFault::NotThisStore(None)));
-    }
     match to.put(
         alloc,
         extent.off,
@@ -188,8 +184,7 @@ fn copy_blobs<F: Reader, T: Keeper>(
 /// At `Ok` the other store holds what it held and, at each offset that was free, the blob of the first. Else it stopped
 /// at `off`, and holds what it held and, at each free offset below, the blob of the first. `Refused` comes with `Differs`
 /// where `off` is held with another digest, and with `Overlap` where it is free and the blob's extent meets a held one;
-/// `Store` comes where a call of either store has failed or memory was refused, and with `NotThisStore(None)` where the
-/// blob at `off` has another number of elements than its extent says. A crash, and a `Store` after which the
+/// `Store` comes where a call of either store has failed or memory was refused. A crash, and a `Store` after which the
 /// other store has to be opened again, leave what was held with the blobs below some offset; a crash after `Ok` leaves
 /// all of them.
 pub fn copy_held<F: Reader, T: Keeper>(

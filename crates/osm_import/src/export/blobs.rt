@@ -1,6 +1,6 @@
 //! The walk over the held blobs, whatever an export writes of each.
 
-ghost use Rattle.std.specs.Prelude.{◌≡◌, ◌≤◌, false, length, Some, Err, IfOk, IfErr, OnOk};
+ghost use Rattle.std.specs.Prelude.{◌≡◌, ◌≤◌, false, Some, Err, IfOk, IfErr, OnOk};
 ghost use Rattle.std.specs.FinMap.{get, entries};
 ghost use Rattle.osm_store.specs.Held.{Blob, HeldMap};
 ghost use Rattle.osm_store.specs.Keeping.{extents_of};
@@ -12,7 +12,7 @@ ghost use Rattle.osm_import.specs.Stores.{Rereads};
 
 use super::ExportFault;
 use super::refusal::refused;
-use osm_store::{Extent, Reader, StoreFault};
+use osm_store::{Extent, Reader};
 use osm_value::{Element, Sink};
 use std::alloc::Global;
 
@@ -52,28 +52,23 @@ pub(super) fn extents_to_export<K: Reader>(
     Ok(extents)
 }
 
-/// Takes the step at the blob at an extent. Where that says another number of elements than the blob has, its rows are
-/// those of no map, and nothing is written.
+/// Takes the step at the blob at an offset.
 fn write_blob<K: Reader, S: Sink, W: BlobStep<S>>(
     alloc: Global,
     keeper: &mut K,
-    extent: &Extent,
+    off: u64,
     step: &W,
     out: &mut S,
 ) -> Result<(), ExportFault>
-    ensures wrote { (held : HeldMap) (blob : Blob) → K.holds keeper.old held → K.is_honest keeper.new → get held extent.now.off ≡ Some blob
+    ensures wrote { (held : HeldMap) (blob : Blob) → K.holds keeper.old held → K.is_honest keeper.new → get held off ≡ Some blob
         → WritesOne W.writes (S.written out.old) blob.elements (S.written out.new) result }
     ensures rereads { Rereads K.Reader keeper.old result keeper.new }
-    ensures own { (held : HeldMap) (blob : Blob) → K.holds keeper.old held → K.is_honest keeper.new → get held extent.now.off ≡ Some blob
-        → extent.now.n ≡ length blob.elements → ExportIsOwn result }
+    ensures own { (held : HeldMap) → K.holds keeper.old held → K.is_honest keeper.new → ExportIsOwn result }
     ensures cause { ExportHasCause (K.failures keeper.old) (K.failures keeper.new) (S.has_failed out.new) result }
     ensures counted { K.failures keeper.old ≤ K.failures keeper.new }
 {
-    let loaded = keeper.load(alloc, extent.off)?;
+    let loaded = keeper.load(alloc, off)?;
     let elements = loaded.elements(alloc)?;
-    if elements.len() as u64 != extent.n {
-        return Err(ExportFault::Store(StoreFault::NotThisStore(None)));
-    }
     step.write(alloc, &elements, out)
 }
 
@@ -88,12 +83,12 @@ pub(super) fn write_blobs<K: Reader, S: Sink, W: BlobStep<S>>(
     ensures wrote { (held : HeldMap) → K.holds keeper.old held → K.is_honest keeper.new → extents.now ≡ extents_of held
         → Walks W.writes (S.written out.old) (entries held) (S.written out.new) result }
     ensures rereads { Rereads K.Reader keeper.old result keeper.new }
-    ensures own { (held : HeldMap) → K.holds keeper.old held → K.is_honest keeper.new → extents.now ≡ extents_of held → ExportIsOwn result }
+    ensures own { (held : HeldMap) → K.holds keeper.old held → K.is_honest keeper.new → ExportIsOwn result }
     ensures cause { ExportHasCause (K.failures keeper.old) (K.failures keeper.new) (S.has_failed out.new) result }
     ensures counted { K.failures keeper.old ≤ K.failures keeper.new }
 {
     for extent in extents {
-        write_blob(alloc, keeper, extent, step, out)?;
+        write_blob(alloc, keeper, extent.off, step, out)?;
     }
     Ok(())
 }

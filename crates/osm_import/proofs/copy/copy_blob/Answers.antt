@@ -1,4 +1,4 @@
-use Rattle.std.proofs.Common.{arith, ◌≡◌, ◌==◌, ◌∙◌, ◌<◌, ℕ, List, length, Some, refl, sym, subst, ap, inl, inr, rules}
+use Rattle.std.proofs.Common.{◌≡◌, ◌==◌, ◌∙◌, ◌<◌, ℕ, List, length, Some, refl, sym, subst, ap, inl, inr, rules}
 use Rattle.std.specs.Prelude.{find}
 use Rattle.std.specs.FinMap.{insert}
 use Rattle.std.proofs.lemmas.Slice.Eq.{bytes_eq-Decides}
@@ -41,12 +41,6 @@ returns-then-not-is_empty-clause-step g c = λ source held blob from_holds from_
       ),
       c.in_ok-touched.ensures.reads.ok honest held holds,
     )
-
-pub returns-then-len-extent-clause-own : goal.returns-then-len-extent-clause-own
-returns-then-len-extent-clause-own g c = λ source held blob from_holds from_honest holds honest of is foreign.
-    let same : c.in_ok-elements.elements.items ≡ blob.elements = c.in_ok-elements.ensures blob.elements (c.in_ok-loaded.ensures.rows source blob from_holds from_honest of) in
-    let count : c.args.extent.now.n ≡ length blob.elements = ap (λ (e : Extent). e.n) is in
-    omega (arith, count, ap length same, c.len.ensures, c.if-len-extent.true)
 
 pub returns-in-Ok-clause-step : goal.returns-in-Ok-clause-step
 returns-in-Ok-clause-step g c = λ source held blob from_holds from_honest holds honest of is.

@@ -1,4 +1,4 @@
-use Rattle.std.proofs.Common.{arith, ◌≡◌, ◌∙◌, List, length, ap, subst}
+use Rattle.std.proofs.Common.{◌≡◌, ◌∙◌, List, subst}
 use Rattle.osm_value.specs.declared.element.Element.{Element}
 use Rattle.osm_import.proofs.WalkLemmas.{one-of, write-cause, write-own}
 use Rattle.osm_import.proofs.export.blobs.write_blob.Goals as goal
@@ -9,13 +9,8 @@ returns-clause-wrote g c = λ held blob holds honest found.
     one-of g.W.BlobStep.writes (g.S.Sink.written c.args.out.now) blob.elements (g.S.Sink.written c.write.new.out) c.write.result
     (subst (λ (es : List Element). g.W.BlobStep.writes (g.S.Sink.written c.args.out.now) es (g.S.Sink.written c.write.new.out) c.write.result) same c.write.ensures.wrote)
 
-pub returns-then-len-extent-clause-own : goal.returns-then-len-extent-clause-own
-returns-then-len-extent-clause-own g c = λ held blob holds honest found count foreign.
-    let same : c.in_ok-elements.elements.items ≡ blob.elements = c.in_ok-elements.ensures blob.elements (c.in_ok-loaded.ensures.rows held blob holds honest found) in
-    omega (arith, count, ap length same, c.len.ensures, c.if-len-extent.true)
-
 pub returns-clause-own : goal.returns-clause-own
-returns-clause-own g c = λ held blob holds honest found count. write-own (g.S.Sink.has_failed c.write.new.out) c.write.result c.write.ensures.cause
+returns-clause-own g c = λ held holds honest. write-own (g.S.Sink.has_failed c.write.new.out) c.write.result c.write.ensures.cause
 
 pub returns-clause-cause : goal.returns-clause-cause
 returns-clause-cause g c = write-cause _ _ (g.S.Sink.has_failed c.write.new.out) c.write.result c.write.ensures.cause

@@ -1,10 +1,10 @@
-use Rattle.std.proofs.Common.{Result, Err, refl, sym, subst, arith}
+use Rattle.std.proofs.Common.{Result, refl, sym, subst, arith}
 use Rattle.std.specs.FinMap.{entries}
 use Rattle.osm_import.specs.ExportCauses.{ExportIsOwn}
 use Rattle.osm_import.specs.Walks.{Walks}
 use Rattle.osm_import.specs.declared.export.fault.ExportFault.{ExportFault}
 use Rattle.osm_import.proofs.HandedOn.{handed}
-use Rattle.osm_import.proofs.WalkLemmas.{walk-more, walk-stops, walk-all, walk-own, read-is}
+use Rattle.osm_import.proofs.WalkLemmas.{walk-more, walk-stops, walk-all, read-is}
 use Rattle.osm_import.proofs.export.blobs.write_blobs.Goals as goal
 
 pub returns-in_err-write_blob-clause-wrote : goal.returns-in_err-write_blob-clause-wrote
@@ -45,10 +45,9 @@ loop-extent-init g c = record {
 }
 
 pub returns-in_err-write_blob-clause-own : goal.returns-in_err-write_blob-clause-own
-returns-in_err-write_blob-clause-own g c = λ held holds honest are.
+returns-in_err-write_blob-clause-own g c = λ held holds honest.
     subst (λ (r : Result (Unit {0}) ExportFault). ExportIsOwn r) (sym (handed c.from_residual.result _ c.from_residual.ensures.1))
-    (walk-own held c.args.extents.now c.loop-extent.extent-index _ (Err c.in_err-write_blob.field-0.0) are (omega arith) (read-is c.args.extents.now c.loop-extent.extent-index _ _ (omega arith))
-    (λ blob found count. c.in_err-write_blob.ensures.own held blob (c.loop-extent.invariant.kept (c.write_blob.ensures.rereads.stays.honest honest) held holds) honest found count))
+    (c.in_err-write_blob.ensures.own held (c.loop-extent.invariant.kept (c.write_blob.ensures.rereads.stays.honest honest) held holds) honest)
 
 pub returns-clause-wrote : goal.returns-clause-wrote
 returns-clause-wrote g c = λ held holds honest are.
