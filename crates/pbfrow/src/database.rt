@@ -16,7 +16,7 @@ use pbfrow_commands::import::import;
 use pbfrow_commands::report::{put_fault_at, put_store_fault, refuse_memory};
 use pbfrow_commands::status::status;
 use pbfrow_words::Question;
-use sqlite::{Alter, Connection, Error, ErrorCode};
+use sqlite::{Alter, Connection, Error, ErrorCode, File as DatabaseFile, FileStore};
 use std::alloc::Global;
 use std::fs::File;
 use std::io;
@@ -146,7 +146,7 @@ fn asked<S: Alter + Drop, W: Write>(
 }
 
 /// Closes a connection that was written to, and answers the exit status that is given with it.
-pub(crate) fn close<S: Alter + Drop>(ended: (u8, Option<Connection<S>>)) -> u8 {
+pub(crate) fn close(ended: (u8, Option<Connection<FileStore<DatabaseFile>>>)) -> u8 {
     let (status, connection) = ended;
     if let Some(connection) = connection {
         // the log is copied into the database; if that fails it stays, and is read when the database is next opened
