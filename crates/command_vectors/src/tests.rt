@@ -2,6 +2,7 @@ mod ask;
 mod check;
 mod import;
 mod list;
+mod migrate;
 mod progress;
 mod show;
 mod stores;

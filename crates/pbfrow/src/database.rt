@@ -1,4 +1,4 @@
-//! The commands on a database: they open its file and write the answer to standard output.
+//! The commands on one database: they open its file and write the answer to standard output.
 
 ghost use Rattle.std.specs.Prelude.{◌≡◌, ◌≤◌, false};
 ghost use Rattle.sqlite.specs.Held.{state};
@@ -16,14 +16,14 @@ use pbfrow_commands::import::import;
 use pbfrow_commands::report::{put_fault_at, put_store_fault, refuse_memory};
 use pbfrow_commands::status::status;
 use pbfrow_words::Question;
-use sqlite::{Alter, Connection, Error, ErrorCode};
+use sqlite::{Alter, Connection, Error, ErrorCode, File as DatabaseFile, FileStore};
 use std::alloc::Global;
 use std::fs::File;
 use std::io;
 use std::io::{BufWriter, ErrorKind, LineWriter, Read, Write};
 
 /// Why a database isn't opened: memory was refused, or any other cause.
-fn unopened(error: Error) -> StoreFault {
+pub(crate) fn unopened(error: Error) -> StoreFault {
     match error {
         Error::SqliteFailure(ErrorCode::OutOfMemory) => StoreFault::Memory,
         _ => StoreFault::Disk,
@@ -31,7 +31,7 @@ fn unopened(error: Error) -> StoreFault {
 }
 
 /// Writes the line of a fault of a database, and answers the exit status.
-fn refuse<W: Write>(out: &mut Outlet<W>, fault: StoreFault) -> u8 {
+pub(crate) fn refuse<W: Write>(out: &mut Outlet<W>, fault: StoreFault) -> u8 {
     put_store_fault(out, fault);
     FAULTY
 }
@@ -47,7 +47,7 @@ fn adopted<S: Alter + Drop>(connection: Connection<S>) -> Result<TableStore<S>, 
 }
 
 /// The store that a connection has. If it has none, one is made.
-fn adopted_or_created<S: Alter + Drop>(
+pub(crate) fn adopted_or_created<S: Alter + Drop>(
     connection: Connection<S>,
 ) -> Result<TableStore<S>, StoreFault>
     requires { (state S.Store connection).in_transaction ≡ false }
@@ -66,7 +66,7 @@ fn adopted_or_created<S: Alter + Drop>(
 }
 
 /// Whether a file is missing. One that can't be opened for another reason isn't.
-fn is_missing(rt: &HostRuntime, name: &str) -> bool {
+pub(crate) fn is_missing(rt: &HostRuntime, name: &str) -> bool {
     match File::open(rt, name) {
         Ok(_) => false,
         Err(error) => error.kind() == ErrorKind::NotFound,
@@ -145,6 +145,16 @@ fn asked<S: Alter + Drop, W: Write>(
     }
 }
 
+/// Closes a connection that was written to, and answers the exit status that is given with it.
+pub(crate) fn close(ended: (u8, Option<Connection<FileStore<DatabaseFile>>>)) -> u8 {
+    let (status, connection) = ended;
+    if let Some(connection) = connection {
+        // the log is copied into the database; if that fails it stays, and is read when the database is next opened
+        let _closed = connection.close();
+    }
+    status
+}
+
 /// Imports what a reader gives into a database file, and answers the exit status.
 fn fill_from<R: Read + Drop, W: Write>(
     rt: &HostRuntime,
@@ -156,15 +166,11 @@ fn fill_from<R: Read + Drop, W: Write>(
 ) -> u8
     requires { from ≤ MAX_OFFSET }
 {
-    let (status, connection) = match Connection::open(rt, database) {
-        Ok(connection) => filled(rt.alloc(), connection, reader, from, out),
-        Err(error) => return refuse(out, unopened(error)),
+    let status = match Connection::open(rt, database) {
+        Ok(connection) => close(filled(rt.alloc(), connection, reader, from, out)),
+        Err(error) => refuse(out, unopened(error)),
     };
     meter.erase();
-    if let Some(connection) = connection {
-        // the log is copied into the database; if that fails it stays, and is read when the database is next opened
-        let _closed = connection.close();
-    }
     status
 }
 

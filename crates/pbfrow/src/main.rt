@@ -5,11 +5,13 @@
 ghost use Rattle.std.specs.Prelude.{◌≤◌};
 ghost use Rattle.pbfrow_words.specs.Words.{BeginsWithin};
 
+mod copying;
 mod database;
 mod meter;
 mod metered;
 
 use clap::Error;
+use copying::copy;
 use database::{ask, fill};
 use meter::Meter;
 use metered::{MeteredOutput, MeteredReader};
@@ -105,6 +107,7 @@ fn run(rt: HostRuntime, words: Words) -> io::Result<u8>
             database,
             from,
         } => Ok(fill(&rt, file, database, from.unwrap_or(0))),
+        Words::Migrate { old, new } => Ok(copy(&rt, old, new)),
         Words::Ask { database, question } => Ok(ask(&rt, database, question)),
     }
 }

@@ -5,6 +5,8 @@ use Rattle.std.specs.Fmt.{decimal}
 use Rattle.osm_import.specs.declared.stream.summary.Summary.{Summary}
 use Rattle.osm_value.specs.Line.{line}
 use Rattle.osm_value.specs.declared.element.Element.{Element}
+use Rattle.osm_import.specs.declared.copy.CopyCounts.{CopyCounts}
+use Rattle.pbfrow_commands.specs.Copying.{copied_line}
 use Rattle.pbfrow_commands.specs.CommandLines.{kept_text, summary_line, gap_line, counts_line, match_line}
 
 four : (b x y z w : List ℕ) → (((b ++ x) ++ y) ++ z) ++ w ≡ b ++ (((x ++ y) ++ z) ++ w)
@@ -24,6 +26,9 @@ kept_parts before s = four before (codes "blobs stored ") (decimal s.stored) (co
 
 pub summary_parts : (before : List ℕ) (s : Summary) → (((((before ++ kept_text s) ++ codes " bad ") ++ decimal s.bad) ++ codes " refused ") ++ decimal s.refused) ++ codes "\n" ≡ before ++ summary_line s
 summary_parts before s = six before (kept_text s) (codes " bad ") (decimal s.bad) (codes " refused ") (decimal s.refused) (codes "\n")
+
+pub copied_parts : (before : List ℕ) (counts : CopyCounts) → ((((before ++ codes "copied ") ++ decimal counts.copied) ++ codes " held ") ++ decimal counts.held) ++ codes "\n" ≡ before ++ copied_line counts
+copied_parts before counts = five before (codes "copied ") (decimal counts.copied) (codes " held ") (decimal counts.held) (codes "\n")
 
 pub gap_parts : (before : List ℕ) (from to : ℕ) → ((((before ++ codes "gap ") ++ decimal from) ++ codes " ") ++ decimal to) ++ codes "\n" ≡ before ++ gap_line (from, to)
 gap_parts before from to = five before (codes "gap ") (decimal from) (codes " ") (decimal to) (codes "\n")

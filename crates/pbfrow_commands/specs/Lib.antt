@@ -1,4 +1,5 @@
 pub mod CommandLines
+pub mod Copying
 pub mod Exporting
 pub mod Finding
 pub mod Importing

@@ -10,6 +10,7 @@ pub mod import;
 pub mod input;
 pub mod laws;
 pub mod list;
+pub mod migrate;
 pub mod progress;
 pub mod report;
 pub mod show;

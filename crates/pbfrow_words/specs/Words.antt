@@ -23,6 +23,8 @@ Says (command.Read reading file) name rows = Reads reading name × (text_of file
 Says (command.Import file database from) name rows = (name ≡ codes "import")
     × (Some file.now ≡ first_of (codes "FILE") rows)
     × (Some database.now ≡ first_of (codes "DB") rows) × IsNumber from (one_of (codes "from") rows)
+Says (command.Migrate old new) name rows = (name ≡ codes "migrate")
+    × (Some old.now ≡ first_of (codes "OLD") rows) × (Some new.now ≡ first_of (codes "NEW") rows)
 Says (command.Ask database question) name rows = (Some database.now ≡ first_of (codes "DB") rows) × Asks question name rows
 
 -- an import begins at 2^62 at most

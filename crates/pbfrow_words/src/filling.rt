@@ -1,4 +1,4 @@
-//! The command that fills a database: `import`.
+//! The commands that fill a database: `import`, `migrate`.
 
 ghost use Rattle.std.specs.Prelude.{◌≡◌, false, IfOk};
 ghost use Rattle.clap.specs.Words.{app_of};
@@ -28,6 +28,19 @@ Examples:
   pbfrow import berlin.osm.pbf berlin.db
   pbfrow import berlin.osm.pbf berlin.db --from 1048576";
 
+const MIGRATE_HELP: &str =
+    "OLD is a database that an earlier pbfrow made, which this one answers with
+'fault 66 NotThisStore'. Its blobs are copied into NEW, which is made if it is
+missing or empty. What NEW holds already stays, and OLD is only read. Prints
+'copied N held H': how many blobs were added to NEW, and how many it held
+already; or the line of the fault at which the copy stopped. Run the same
+command again to complete a copy that was broken off.
+
+Exit status: 0 if NEW holds all blobs of OLD, else 1.
+
+Example:
+  pbfrow migrate berlin-old.db berlin.db";
+
 fn import_command<'a>(alloc: Global) -> Result<Command<'a>, AllocError>
     ensures shape { IfOk result (λ c. app_of c ≡ definitions.import_command) }
     ensures local { IfOk result (λ c. (fields_of c).has_globals ≡ false) }
@@ -45,6 +58,22 @@ fn import_command<'a>(alloc: Global) -> Result<Command<'a>, AllocError>
     with_argument(command, from)
 }
 
+fn migrate_command<'a>(alloc: Global) -> Result<Command<'a>, AllocError>
+    ensures shape { IfOk result (λ c. app_of c ≡ definitions.migrate_command) }
+    ensures local { IfOk result (λ c. (fields_of c).has_globals ≡ false) }
+{
+    let command = new_command(
+        alloc,
+        "migrate",
+        "Copy the blobs of an older database into a database",
+        MIGRATE_HELP,
+    );
+    let old = required_argument(alloc, "OLD", "Database file of an earlier pbfrow");
+    let command = with_argument(command, old)?;
+    let new = required_argument(alloc, "NEW", "Database file");
+    with_argument(command, new)
+}
+
 pub(crate) fn with_filling_commands<'a>(
     alloc: Global,
     command: Command<'a>,
@@ -54,5 +83,7 @@ pub(crate) fn with_filling_commands<'a>(
     ensures local { IfOk result (λ c. (fields_of c).has_globals ≡ false) }
 {
     let import = import_command(alloc)?;
-    with_command(command, import)
+    let migrate = migrate_command(alloc)?;
+    let command = with_command(command, import)?;
+    with_command(command, migrate)
 }

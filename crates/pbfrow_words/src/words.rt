@@ -17,7 +17,7 @@ use std::alloc::{AllocError, Global};
 const UNREADABLE: &str =
     "ELEMENT must be n, w or r followed by an id, such as w-2, and FORM must be lines or pbf";
 
-/// A command with its arguments. A `file` and a `database` are paths.
+/// A command with its arguments. A `file`, a `database`, and those that are `old` and `new`, are paths.
 #[derive(Clone, Copy, Debug, PartialEq, Eq)]
 pub enum Words<'a> {
     Read {
@@ -30,6 +30,10 @@ pub enum Words<'a> {
         database: &'a str,
         /// The start offset in `file`, at most 2^62.
         from: Option<u64>,
+    },
+    Migrate {
+        old: &'a str,
+        new: &'a str,
     },
     Ask {
         database: &'a str,
@@ -77,12 +81,32 @@ fn import_of<'a>(matches: &ArgMatches<'a>) -> Option<Words<'a>>
     })
 }
 
+fn migrate_of<'a>(matches: &ArgMatches<'a>) -> Option<Words<'a>>
+    ensures { IfSome result (λ w. Says w (codes "migrate") (rows_of (found_of matches.now))) }
+{
+    Some(Words::Migrate {
+        old: text_of(matches, "OLD")?,
+        new: text_of(matches, "NEW")?,
+    })
+}
+
+/// The command of this name, if it fills a database, with its arguments.
+fn filling_of<'a>(name: &str, matches: &ArgMatches<'a>) -> Option<Words<'a>>
+    ensures { IfSome result (λ w. Says w name.now (rows_of (found_of matches.now))) }
+{
+    match name {
+        "import" => import_of(matches),
+        "migrate" => migrate_of(matches),
+        _ => None,
+    }
+}
+
 /// The command of this name with its arguments.
 fn words_of<'a>(name: &str, matches: &ArgMatches<'a>) -> Option<Words<'a>>
     ensures { IfSome result (λ w. Says w name.now (rows_of (found_of matches.now))) }
 {
-    if name == "import" {
-        return import_of(matches);
+    if let Some(words) = filling_of(name, matches) {
+        return Some(words);
     }
     match reading_of(name) {
         Some(reading) => Some(Words::Read {

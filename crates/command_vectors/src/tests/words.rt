@@ -24,6 +24,10 @@ static IMPORT_FARTHEST: [&str; 6] = [
     "4611686018427387904",
 ];
 
+static MIGRATE: [&str; 4] = ["pbfrow", "migrate", "A", "B"];
+
+static MIGRATE_ONE: [&str; 3] = ["pbfrow", "migrate", "A"];
+
 static FIND: [&str; 4] = ["pbfrow", "find", "D", "n2"];
 
 static FIND_NO_ELEMENT: [&str; 4] = ["pbfrow", "find", "D", "x2"];
@@ -82,6 +86,17 @@ fn words_of_import(rt: HostRuntime) {
     );
     assert!(rt; read_words(rt.alloc(), IMPORT_FARTHEST.as_slice()).is_ok());
     assert!(rt; read_words(rt.alloc(), IMPORT_TOO_FAR.as_slice()).is_err());
+}
+
+#[test]
+fn words_of_migrate(rt: HostRuntime) {
+    assert!(rt;
+        matches!(
+            read_words(rt.alloc(), MIGRATE.as_slice()),
+            Ok(Words::Migrate { old: "A", new: "B" })
+        )
+    );
+    assert!(rt; read_words(rt.alloc(), MIGRATE_ONE.as_slice()).is_err());
 }
 
 #[test]

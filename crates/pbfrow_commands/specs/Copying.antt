@@ -1,0 +1,32 @@
+-- What the command `migrate` does: to the store that it copies, to the other, and to its output.
+use Rattle.std.specs.Prelude.{ℕ, ◌++◌, Bool, List, Result, Ok, Err, codes, if◌then◌else◌}
+use Rattle.std.specs.Fmt.{decimal}
+use Rattle.osm_store.specs.Held.{HeldMap}
+use Rattle.osm_store.specs.declared.keeper.Reader.{Ghosts}
+use Rattle.osm_import.specs.Copies.{Copies, CopyHasCause, CrashLeavesSome, IsOwnCopy}
+use Rattle.osm_import.specs.CopyFaults.{copy_number_of, copy_name_of}
+use Rattle.osm_import.specs.Lines.{fault_line}
+use Rattle.osm_import.specs.declared.copy.CopyStop.{CopyStop}
+use Rattle.osm_import.specs.declared.copy.CopyCounts.{CopyCounts}
+
+-- What a copy of what one store holds into another came to: what the other holds, what a crash may leave of it, and
+-- why the copy stopped, if it did.
+pub record CopiesStore {A B : Type 0} (from : Ghosts A) (to : Ghosts B) (from_old from_new : A) (to_old to_new : B) (outcome : Result CopyCounts CopyStop) : Type 0 where
+  pub copies : (source held : HeldMap) → from.holds from_old source → from.is_honest from_new → to.holds to_old held → to.is_honest to_new → Copies (to.is_open to_new) (to.holds to_new) source held outcome
+  pub crash : (source held : HeldMap) → from.holds from_old source → from.is_honest from_new → to.holds to_old held → to.is_honest to_new → CrashLeavesSome (to.leaves to_new) source held outcome
+  pub whole : (source held : HeldMap) → from.holds from_old source → from.is_honest from_new → to.holds to_old held → to.is_honest to_new → to.leaves_a_map to_new
+  pub own : (source held : HeldMap) → from.holds from_old source → from.is_honest from_new → to.holds to_old held → to.is_honest to_new → IsOwnCopy outcome
+  pub cause : CopyHasCause (from.failures from_old) (from.failures from_new) (to.failures to_old) (to.failures to_new) outcome
+
+abbrev pub copied_line : CopyCounts → List ℕ
+copied_line counts = codes "copied " ++ decimal counts.copied ++ codes " held " ++ decimal counts.held ++ codes "\n"
+
+-- the line of the counts, or that of the fault at which it stopped
+abbrev pub outcome_line : Result CopyCounts CopyStop → List ℕ
+outcome_line (Ok counts) = copied_line counts
+outcome_line (Err stop) = fault_line (copy_number_of stop.fault) (copy_name_of stop.fault) stop.off
+
+-- 0 where all was copied, and the output hasn't failed
+abbrev pub copy_status : Result CopyCounts CopyStop → Bool → ℕ
+copy_status (Ok counts) has_failed = if has_failed then 1 else 0
+copy_status (Err stop) has_failed = 1

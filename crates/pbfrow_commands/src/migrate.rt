@@ -1,0 +1,60 @@
+//! The command `migrate`: what one store holds is copied into another.
+
+ghost use Rattle.std.specs.Prelude.{◌≡◌, Result};
+ghost use Rattle.osm_value.specs.Sink.{Writes, Wrote};
+ghost use Rattle.osm_import.specs.Stores.{Stays};
+ghost use Rattle.osm_import.specs.declared.copy.CopyCounts.{CopyCounts as CopyCountsValue};
+ghost use Rattle.osm_import.specs.declared.copy.CopyStop.{CopyStop as CopyStopValue};
+ghost use Rattle.pbfrow_commands.specs.Copying.{CopiesStore, copied_line, outcome_line, copy_status};
+
+use crate::report::put_fault_at;
+use osm_import::{CopyCounts, CopyStop, copy_held};
+use osm_store::{Keeper, Reader};
+use osm_value::{Sink, put, put_digits};
+use std::alloc::Global;
+
+/// Writes `copied COPIED held HELD`.
+fn put_copied<S: Sink>(out: &mut S, counts: CopyCounts)
+    ensures { Writes (S.written out.old) (S.has_failed out.old) (S.written out.new) (S.has_failed out.new) (copied_line counts) }
+{
+    put(out, b"copied ");
+    put_digits(out, counts.copied);
+    put(out, b" held ");
+    put_digits(out, counts.held);
+    put(out, b"\n");
+}
+
+/// Writes the line of what a copy came to, and answers the exit status.
+fn put_outcome<S: Sink>(out: &mut S, outcome: Result<CopyCounts, CopyStop>) -> u8
+    ensures line { Wrote (S.written out.old) (outcome_line outcome) (S.written out.new) (S.has_failed out.new) }
+    ensures status { result ≡ copy_status outcome (S.has_failed out.new) }
+{
+    match outcome {
+        Ok(counts) => {
+            put_copied(out, counts);
+            if out.failed() { 1 } else { 0 }
+        }
+        Err(stop) => {
+            put_fault_at(out, stop.fault.number(), stop.fault.name(), stop.off);
+            1
+        }
+    }
+}
+
+/// Copies the blobs that one store holds into another, by offset, and writes how many were added and how many were held
+/// already, or the line of the fault at which the copy stopped, with the offset of the blob. What the other store held
+/// stays, and what `from` holds. Answers the exit status: 0 if all were copied and the line was written, else 1. A copy
+/// that stopped can be begun again.
+pub fn migrate<F: Reader, T: Keeper, S: Sink>(
+    alloc: Global,
+    from: &mut F,
+    to: &mut T,
+    out: &mut S,
+) -> u8
+    ensures copies { (outcome : Result CopyCountsValue CopyStopValue) × CopiesStore F.Reader T.Reader from.old from.new to.old to.new outcome
+        × Wrote (S.written out.old) (outcome_line outcome) (S.written out.new) (S.has_failed out.new) × (result ≡ copy_status outcome (S.has_failed out.new)) }
+    ensures source { Stays F.Reader from.old from.new }
+{
+    let outcome = copy_held(alloc, from, to);
+    put_outcome(out, outcome)
+}

@@ -1,0 +1,55 @@
+# A database of an earlier pbfrow, in which each element is a block, is copied into one of rows.
+two=$top/data/two-nodes.osm.pbf
+nl='
+'
+nodes="n 1 1000 -100 [] {}${nl}n 2 900 -100 [] {}${nl}"
+
+if has sqlite3; then
+  rm -f old.db new.db none.db other.db
+  header_digest=$(head -c 47 "$two" | sha256sum | cut -c 1-64)
+  nodes_digest=$(tail -c 37 "$two" | sha256sum | cut -c 1-64)
+  # each node in a block of its own, as the format has it: one empty string, and a group with one dense node
+  first=0A020A00120B12090A01024201144A0101
+  second=0A020A00120B12090A01044201124A0101
+  sqlite3 old.db "
+    CREATE TABLE meta (version INTEGER PRIMARY KEY) STRICT;
+    CREATE TABLE blob (off INTEGER PRIMARY KEY, fin INTEGER NOT NULL, digest BLOB NOT NULL, kind INTEGER NOT NULL, n INTEGER NOT NULL) STRICT;
+    CREATE TABLE body (off INTEGER NOT NULL, pos INTEGER NOT NULL, kind INTEGER NOT NULL, id INTEGER NOT NULL, data BLOB NOT NULL, PRIMARY KEY (off, pos)) STRICT;
+    CREATE INDEX body_element ON body (kind, id);
+    INSERT INTO meta VALUES (1);
+    INSERT INTO blob VALUES (0, 47, x'$header_digest', 0, 0), (47, 84, x'$nodes_digest', 1, 2);
+    INSERT INTO body VALUES (47, 0, 0, 1, x'$first'), (47, 1, 0, 2, x'$second')"
+  sqlite3 old.db .dump > old.sql
+
+  expect "an older database is answered by its version" 1 "fault 66 NotThisStore${nl}" status old.db
+  expect "it is copied into a new one" 0 "copied 2 held 0${nl}" migrate old.db new.db
+  expect "whose export is that of the file" 0 "$nodes" export new.db --size 84
+  expect "a second time all of it is held" 0 "copied 0 held 2${nl}" migrate old.db new.db
+  expect "so is what an import of the file finds" 0 "0 held${nl}47 held${nl}blobs stored 0 held 2 bad 0 refused 0${nl}" import "$two" new.db
+  sqlite3 old.db .dump > after.sql
+  same "the older one is as it was" old.sql after.sql
+
+  expect "an older database that isn't there" 1 "fault 66 NotThisStore${nl}" migrate nowhere.db none.db
+  expect "one that isn't older" 1 "fault 66 NotThisStore${nl}" migrate new.db none.db
+  [ ! -e none.db ] && pass "then no database is made" || fail "then no database is made"
+  expect "a database in a folder that isn't there" 1 "fault 65 Disk${nl}" migrate old.db nowhere/new.db
+  ended=$("$pbfrow" migrate old.db old.db 2>/dev/null; echo "status $?")
+  case "$ended" in
+    "fault 6"[56]" "*"status 1") pass "a database into itself" ;;
+    *) fail "a database into itself"; echo "  got $ended" ;;
+  esac
+  sqlite3 old.db .dump > after.sql
+  same "which is as it was" old.sql after.sql
+
+  # the second node a little further east, which is another blob at the same place
+  { head -c 83 "$two"; printf '\002'; } > moved.osm.pbf
+  "$pbfrow" import moved.osm.pbf other.db --from 47 > got.txt
+  expect "another blob in its place" 1 "fault 63 Differs at 47${nl}" migrate old.db other.db
+  expect "the blob before it was copied" 0 "blobs 2 end 84 gaps 0${nl}" status other.db
+  rm -f other.db
+  { head -c 60 "$two"; tail -c 37 "$two"; } > shifted.osm.pbf
+  "$pbfrow" import shifted.osm.pbf other.db --from 60 > got.txt
+  expect "a blob across its place" 1 "fault 64 Overlap at 47${nl}" migrate old.db other.db
+else
+  skip "a database of an earlier pbfrow is copied" "sqlite3 isn't installed"
+fi
