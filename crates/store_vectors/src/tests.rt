@@ -6,6 +6,7 @@ mod faults;
 mod fixtures;
 mod memory;
 mod parts;
+mod refusals;
 mod steps;
 mod stops;
 mod stores;
