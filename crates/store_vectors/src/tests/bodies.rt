@@ -2,9 +2,7 @@
 
 use super::fixtures::{HELD_HEADER, HELD_NODES};
 use super::memory::{BodiesInMemory, CountedRows, NODES_AS_BODIES, expect_rows};
-use super::steps::{
-    PUT_HEADER, PUT_NODES, STORE_EXTRA, STORE_HEADER, STORE_NODES, Step, followed,
-};
+use super::steps::{PUT_HEADER, PUT_NODES, STORE_EXTRA, STORE_HEADER, STORE_NODES, Step, followed};
 use osm_store::{BodyStore, StoreFault};
 use sqlite::{Connection, MemStore};
 use std::alloc::Global;

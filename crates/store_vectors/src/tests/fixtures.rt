@@ -35,8 +35,7 @@ pub(crate) const EXTRA: &[u8] = &EXTRA_FRAME;
 pub(crate) const TAGGED: &[u8] =
     b"\x00\x00\x00\x0B\x0A\x07OSMData\x18\x46\x0A\x44\x0A\x1A\x0A\x00\x0A\x01a\x0A\x01b\x0A\x04name\x0A\x01c\x0A\x05outer\x0A\x00\x12\x0E\x1A\x0C\x08\x07\x12\x01\x01\x1A\x01\x02\x42\x02\x0A\x02\x12\x16\x22\x14\x08\x09\x12\x01\x03\x1A\x01\x04\x42\x02\x05\x06\x4A\x02\x02\x05\x52\x02\x00\x01";
 
-pub(crate) const TAGGED_LINES: &[u8] =
-    b"w 7 (5,6) [] {a=b}\nr 9 (n1@outer,w-2@) [] {name=c}\n";
+pub(crate) const TAGGED_LINES: &[u8] = b"w 7 (5,6) [] {a=b}\nr 9 (n1@outer,w-2@) [] {name=c}\n";
 
 /// A frame of 67 bytes around `RELATION_BLOCK`: relation 9 with a tag and two members.
 pub(crate) const RELATION_FRAME: &[u8] =

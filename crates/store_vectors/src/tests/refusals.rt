@@ -31,11 +31,7 @@ fn changed_frame(at: usize, byte: u8) -> [u8; 37] {
 }
 
 /// Whether a store that held nothing holds what a delivery of 37 bytes at 47 was answered with, and nothing else.
-fn holds_just<K: Reader>(
-    alloc: Global,
-    store: &mut K,
-    answer: Answer,
-) -> Result<bool, StoreFault> {
+fn holds_just<K: Reader>(alloc: Global, store: &mut K, answer: Answer) -> Result<bool, StoreFault> {
     let extents = store.extents(alloc)?;
     match (answer, extents.as_slice()) {
         (Answer::Stored(n), [only]) => Ok(only.off == 47 && only.fin == 84 && only.n == n),
@@ -178,12 +174,18 @@ fn asked_under_limits<K: NewStore, R: Abort + Alloc<A = Global>>(
         let (answer, text) = answer_to(alloc, store, question);
         store.limit_steps(None);
         if answer == Ok(()) {
-            assert!(rt; limit > 1 && text.as_slice() == whole.as_slice(), "{question:?}");
+            assert!(rt;
+                limit > 1 && text.as_slice() == whole.as_slice(),
+                "{question:?}"
+            );
             return Ok(());
         }
         let interrupted = Err(ExportFault::Store(StoreFault::Interrupted));
         assert!(rt; answer == interrupted, "{question:?} {limit}");
-        assert!(rt; store.failures() == failures.saturating_add(1), "{question:?} {limit}");
+        assert!(rt;
+            store.failures() == failures.saturating_add(1),
+            "{question:?} {limit}"
+        );
         assert!(rt; whole.starts_with(&text), "{question:?} {limit}");
     }
     Err("100 steps aren't enough".into())
@@ -213,7 +215,11 @@ fn delivered_under_limits<K: NewStore>(alloc: Global, frame: &[u8]) -> Result<An
         store.limit_steps(Some(limit));
         let answer = deliver(alloc, &mut store, 300, frame);
         if answer != Answer::Fault(StoreFault::Interrupted) {
-            return if limit > 1 { Ok(answer) } else { Err("one step is enough".into()) };
+            return if limit > 1 {
+                Ok(answer)
+            } else {
+                Err("one step is enough".into())
+            };
         }
         if store.failures() != 1 {
             return Err("a failure isn't counted".into());

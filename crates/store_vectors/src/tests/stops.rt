@@ -29,6 +29,12 @@ const OPTIONS: Options = Options {
     seed: 7,
 };
 
+/// One page in memory, so that also what reads makes calls of the database file.
+const ONE_PAGE: Options = Options {
+    cache_pages: 1,
+    ..OPTIONS
+};
+
 /// The file that stops.
 #[derive(Clone, Copy, Debug, PartialEq, Eq)]
 enum Stopped {
@@ -66,10 +72,12 @@ enum Work {
     Import,
     /// The blob behind the file is delivered, by which rows of elements, tags and links are written.
     Deliver,
+    /// The store is adopted, and nothing more.
+    Adopt,
     /// What a store that holds the file holds is read in each way.
     Read,
-    /// All three blobs are delivered, to a new store if there is none, and exported.
-    Complete,
+    /// So many of the three blobs are delivered, to a new store if there is none, and exported.
+    Complete(usize),
 }
 
 /// How far a session has come, by its answers, or what a database holds.
@@ -111,11 +119,11 @@ const UNCHANGED_OR_DONE: [Outcome; 8] = [
     (Reached::HeaderAndNodes, Reached::HeaderAndNodes),
 ];
 
-/// The three blobs, what each is answered with the first time, and its lines.
-const BLOBS: [(Frame, Answer, &[u8]); 3] = [
-    (HEADER_AT_0, Answer::Stored(0), b""),
-    (NODES_AT_47, Answer::Stored(2), LINES),
-    ((84, TAGGED), Answer::Stored(2), TAGGED_LINES),
+/// The three blobs, and what each is answered with the first time.
+const BLOBS: [(Frame, Answer); 3] = [
+    (HEADER_AT_0, Answer::Stored(0)),
+    (NODES_AT_47, Answer::Stored(2)),
+    ((84, TAGGED), Answer::Stored(2)),
 ];
 
 /// What is read of a store that holds the file.
@@ -127,11 +135,11 @@ const READS: [Step; 4] = [
 ];
 
 /// The database in these files; or the files, where one of them stops or can't be used.
-fn opened(alloc: Global, files: Files<Fused>) -> Result<Database, Files<Fused>> {
+fn opened(alloc: Global, files: Files<Fused>, options: Options) -> Result<Database, Files<Fused>> {
     if !files.may_be_used() {
         return Err(files);
     }
-    match Connection::open_files(alloc, files, OPTIONS) {
+    match Connection::open_files(alloc, files, options) {
         Ok(database) => Ok(database),
         Err((_, left)) => Err(left.into_files()),
     }
@@ -272,31 +280,37 @@ fn found<S: Alter + Drop, L: KnownLayout>(
     }
 }
 
-/// Whether the three blobs, delivered again to a store that holds so much of them, are answered and held.
-fn is_completed<K: Keeper>(alloc: Global, store: &mut K, held: Reached) -> bool {
+/// Whether so many of the three blobs, delivered again to a store that holds so much of them, are answered and held.
+fn is_completed<K: Keeper>(alloc: Global, store: &mut K, held: Reached, blobs: usize) -> bool {
     let count = match held {
         Reached::All => 3,
         Reached::HeaderAndNodes => 2,
         Reached::Header => 1,
         _ => 0,
     };
-    for (place, (frame, first_answer, _)) in BLOBS.iter().enumerate() {
-        let wanted = if place < count { Answer::AlreadyHeld } else { *first_answer };
+    for (place, (frame, first_answer)) in BLOBS.iter().enumerate().take(blobs) {
+        let wanted = if place < count {
+            Answer::AlreadyHeld
+        } else {
+            *first_answer
+        };
         if deliver(alloc, store, frame.0, frame.1) != wanted {
             return false;
         }
     }
-    let (result, lines) = exported(alloc, store, Form::Lines, Some(169), false);
-    result == Ok(()) && are_joined(&lines, &[LINES, TAGGED_LINES])
+    let (result, lines) = exported(alloc, store, Form::Lines, None, false);
+    let pieces = [LINES, if blobs == 3 { TAGGED_LINES } else { b"" }];
+    result == Ok(()) && are_joined(&lines, &pieces)
 }
 
-/// What a database holds, which then goes on to hold the three blobs, and the database.
+/// What a database holds, which then goes on to hold so many blobs, and the database.
 fn completed<S: Alter + Drop, L: KnownLayout>(
     alloc: Global,
     database: Connection<S>,
+    blobs: usize,
 ) -> Option<(Reached, Connection<S>)> {
     let (held, mut store) = found::<S, L>(alloc, database)?;
-    if !is_completed(alloc, &mut store, held) {
+    if !is_completed(alloc, &mut store, held, blobs) {
         return None;
     }
     Some((held, store.into_connection()))
@@ -327,7 +341,7 @@ fn delivered<K: Keeper>(alloc: Global, store: &mut K) -> Option<Reached> {
     }
 }
 
-/// Adopts the store in a database, and reads it or delivers to it. How far that was answered, and the database.
+/// Adopts the store in a database, and may read it or deliver to it. How far that was answered, and the database.
 fn used<S: Alter + Drop, L: StoreLayout>(
     alloc: Global,
     database: Connection<S>,
@@ -337,7 +351,8 @@ fn used<S: Alter + Drop, L: StoreLayout>(
         Ok(mut store) => {
             let reached = match work {
                 Work::Read => read(alloc, &mut store)?,
-                _ => delivered(alloc, &mut store)?,
+                Work::Deliver => delivered(alloc, &mut store)?,
+                _ => Reached::Store,
             };
             Some((reached, store.into_connection()))
         }
@@ -354,7 +369,7 @@ fn worked<S: Alter + Drop, L: KnownLayout>(
 ) -> Option<(Reached, S)> {
     let (reached, database) = match work {
         Work::Import => filled::<S, L>(alloc, database)?,
-        Work::Complete => completed::<S, L>(alloc, database)?,
+        Work::Complete(blobs) => completed::<S, L>(alloc, database, blobs)?,
         _ => used::<S, L>(alloc, database, work)?,
     };
     Some((reached, database.into_store()))
@@ -366,7 +381,11 @@ fn session<L: KnownLayout>(
     files: Files<Fused>,
     work: Work,
 ) -> Option<(Reached, Files<Fused>)> {
-    match opened(alloc, files) {
+    let options = match work {
+        Work::Adopt | Work::Read => ONE_PAGE,
+        _ => OPTIONS,
+    };
+    match opened(alloc, files, options) {
         Ok(database) => {
             let (reached, store) = worked::<_, L>(alloc, database, work)?;
             Some((reached, store.close()))
@@ -388,7 +407,7 @@ fn stopped_session<L: KnownLayout>(
     Some((reached, after_stop(alloc, files, stop.1)?))
 }
 
-/// The outcome of such a session, where the next one completes the three blobs.
+/// The outcome of such a session, where the next one completes the file, and but for an import the blob behind it.
 fn outcome<L: KnownLayout>(
     alloc: Global,
     files: &Files<Fused>,
@@ -397,12 +416,24 @@ fn outcome<L: KnownLayout>(
     calls: u64,
 ) -> Option<Outcome> {
     let (reached, files) = stopped_session::<L>(alloc, files, work, stop, calls)?;
-    let (held, _) = session::<L>(alloc, files, Work::Complete)?;
+    let blobs = if work == Work::Import { 2 } else { 3 };
+    let (held, _) = session::<L>(alloc, files, Work::Complete(blobs))?;
     Some((reached, held))
 }
 
+/// How many calls later the next stop is tried. The log of a store that is there is opened by some sixty calls, of which
+/// each seventh is tried.
+fn stride(work: Work, stopped: Stopped, reached: Reached) -> u64 {
+    let is_opening = work != Work::Import && reached == Reached::Nothing;
+    if stopped == Stopped::Log && is_opening {
+        7
+    } else {
+        1
+    }
+}
+
 /// The outcomes, each once, of stops after no call, after one and so on, until a session comes as far as it can.
-/// An error is the number of calls after which a stop has none; 300 where no session comes so far.
+/// An error is the number of calls after which a stop has none, or that of the last stop where no session comes so far.
 fn outcomes<L: KnownLayout>(
     alloc: Global,
     files: &Files<Fused>,
@@ -410,11 +441,13 @@ fn outcomes<L: KnownLayout>(
     stop: Stop,
 ) -> Result<Vec<Outcome>, u64> {
     let end = match work {
+        Work::Adopt => Reached::Store,
         Work::Deliver => Reached::All,
         _ => Reached::HeaderAndNodes,
     };
     let mut outcomes = Vec::new(alloc);
-    for calls in 0u64..300 {
+    let mut calls = 0u64;
+    for _ in 0..300 {
         let outcome = outcome::<L>(alloc, files, work, stop, calls).ok_or(calls)?;
         if !outcomes.contains(&outcome) {
             outcomes.push(outcome).map_err(|_| calls)?;
@@ -422,16 +455,17 @@ fn outcomes<L: KnownLayout>(
         if outcome.0 == end {
             return Ok(outcomes);
         }
+        calls = calls.saturating_add(stride(work, stop.0, outcome.0));
     }
-    Err(300)
+    Err(calls)
 }
 
 /// Whether a session over a store that held `before` may come to this: what it wasn't answered has changed nothing, or is
 /// done where that may be.
-fn is_allowed(before: Reached, stop: Stop, outcome: Outcome) -> bool {
+fn is_allowed(before: Reached, may_be_done: bool, outcome: Outcome) -> bool {
     match outcome {
         (Reached::All, held) => held == Reached::All,
-        (Reached::Store, Reached::All) => before == Reached::All || stop == MAY_BE_DONE,
+        (Reached::Store, Reached::All) => before == Reached::All || may_be_done,
         (_, held) => held == before,
     }
 }
@@ -459,14 +493,23 @@ fn held_files<L: KnownLayout>(alloc: Global) -> Option<Files<Fused>> {
     (reached == Reached::HeaderAndNodes).then_some(files)
 }
 
-/// Whether these are outcomes of sessions over a store that held `before`, and some stopped in the midst of the work.
-fn are_outcomes(before: Reached, stop: Stop, outcomes: &[Outcome]) -> bool {
+/// Whether these are outcomes of sessions over a store that held `before`.
+fn are_allowed(before: Reached, may_be_done: bool, outcomes: &[Outcome]) -> bool {
     for outcome in outcomes {
-        if !is_allowed(before, stop, *outcome) {
+        if !is_allowed(before, may_be_done, *outcome) {
             return false;
         }
     }
-    outcomes.contains(&(Reached::Store, before))
+    true
+}
+
+/// What a session that reads has to stop at too. The page that names the version, by which a store is adopted, lies in the
+/// database file, and those of the blob that was stored last in the log.
+fn stop_in_reads(stopped: Stopped) -> Outcome {
+    match stopped {
+        Stopped::Db => (Reached::Database, Reached::HeaderAndNodes),
+        Stopped::Log => (Reached::Store, Reached::HeaderAndNodes),
+    }
 }
 
 /// Tries each kind of stop of a session over a store that holds `before`.
@@ -477,10 +520,16 @@ fn expect_sessions<L: KnownLayout, R: Abort + Alloc<A = Global>>(
     before: Reached,
 ) {
     for stop in STOPS {
+        let may_be_done = work == Work::Deliver && stop == MAY_BE_DONE;
         let outcomes = outcomes::<L>(rt.alloc(), files, work, stop);
         assert!(rt;
-            matches!(&outcomes, Ok(found) if are_outcomes(before, stop, found)),
+            matches!(&outcomes, Ok(found) if are_allowed(before, may_be_done, found)),
             "{work:?} {stop:?} {outcomes:?}"
+        );
+        let wanted = stop_in_reads(stop.0);
+        assert!(rt;
+            work != Work::Read || matches!(&outcomes, Ok(found) if found.contains(&wanted)),
+            "{stop:?} {outcomes:?}"
         );
     }
 }
@@ -494,11 +543,14 @@ fn expect_second_stops<L: KnownLayout, R: Abort + Alloc<A = Global>>(
 ) -> Result<(), Fail> {
     let alloc = rt.alloc();
     for turn in 0u64..60 {
-        let first = stopped_session::<L>(alloc, files, Work::Deliver, stop, 5 * turn);
+        let first = stopped_session::<L>(alloc, files, Work::Deliver, stop, 7 * turn);
         let (reached, left) = first.ok_or("no answer")?;
+        if reached == Reached::Nothing {
+            continue;
+        }
         let copies = stopping(alloc, &left, Stopped::Log, u64::MAX).ok_or("no copies")?;
-        let (before, _) = session::<L>(alloc, copies, Work::Complete).ok_or("no store")?;
-        expect_sessions::<L, _>(rt, &left, Work::Deliver, before);
+        let (before, _) = session::<L>(alloc, copies, Work::Complete(3)).ok_or("no store")?;
+        expect_sessions::<L, _>(rt, &left, Work::Adopt, before);
         if reached == Reached::All {
             return Ok(());
         }
@@ -506,21 +558,45 @@ fn expect_second_stops<L: KnownLayout, R: Abort + Alloc<A = Global>>(
     Err("no session ends".into())
 }
 
-fn expect_outcomes<L: KnownLayout, R: Abort + Alloc<A = Global>>(rt: &R) -> Result<(), Fail> {
-    expect_imports::<L, _>(rt);
+fn expect_later_stops<L: KnownLayout, R: Abort + Alloc<A = Global>>(rt: &R) -> Result<(), Fail> {
     let files = held_files::<L>(rt.alloc()).ok_or("the file isn't held")?;
-    expect_sessions::<L, _>(rt, &files, Work::Deliver, Reached::HeaderAndNodes);
     expect_sessions::<L, _>(rt, &files, Work::Read, Reached::HeaderAndNodes);
+    expect_sessions::<L, _>(rt, &files, Work::Deliver, Reached::HeaderAndNodes);
+    Ok(())
+}
+
+fn expect_recoveries<L: KnownLayout, R: Abort + Alloc<A = Global>>(rt: &R) -> Result<(), Fail> {
+    let files = held_files::<L>(rt.alloc()).ok_or("the file isn't held")?;
     expect_second_stops::<L, _>(rt, &files, MAY_BE_DONE)?;
     expect_second_stops::<L, _>(rt, &files, (Stopped::Db, Unsynced::Kept))
 }
 
 #[test]
-fn stops_over_bodies(rt: HostRuntime) -> Result<(), Fail> {
-    expect_outcomes::<Bodies, _>(&rt)
+fn imports_over_bodies(rt: HostRuntime) {
+    expect_imports::<Bodies, _>(&rt);
 }
 
 #[test]
-fn stops_over_tables(rt: HostRuntime) -> Result<(), Fail> {
-    expect_outcomes::<Tables, _>(&rt)
+fn imports_over_tables(rt: HostRuntime) {
+    expect_imports::<Tables, _>(&rt);
+}
+
+#[test]
+fn later_sessions_over_bodies(rt: HostRuntime) -> Result<(), Fail> {
+    expect_later_stops::<Bodies, _>(&rt)
+}
+
+#[test]
+fn later_sessions_over_tables(rt: HostRuntime) -> Result<(), Fail> {
+    expect_later_stops::<Tables, _>(&rt)
+}
+
+#[test]
+fn recoveries_over_bodies(rt: HostRuntime) -> Result<(), Fail> {
+    expect_recoveries::<Bodies, _>(&rt)
+}
+
+#[test]
+fn recoveries_over_tables(rt: HostRuntime) -> Result<(), Fail> {
+    expect_recoveries::<Tables, _>(&rt)
 }

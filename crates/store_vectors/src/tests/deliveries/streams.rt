@@ -134,7 +134,10 @@ fn wanted_with_room(room: usize) -> (Result<Summary, StreamFault>, &'static [Ext
     let fault = Stop::WriteFailed;
     match room {
         0..=10 => (Err(StreamFault { fault, at: 0 }), &[HELD_HEADER]),
-        11..=22 => (Err(StreamFault { fault, at: 47 }), &[HELD_HEADER, HELD_NODES]),
+        11..=22 => (
+            Err(StreamFault { fault, at: 47 }),
+            &[HELD_HEADER, HELD_NODES],
+        ),
         _ => (Ok(BOTH_STORED), &[HELD_HEADER, HELD_NODES]),
     }
 }
@@ -150,8 +153,13 @@ fn writers_that_fail_of<K: NewStore, R: Abort + Alloc<A = Global>>(rt: &R) -> Re
         let (wanted, held) = wanted_with_room(room);
         assert_eq!(rt; outcome, wanted, "with room for {room}");
         let lines = out.into_inner().inner;
-        assert!(rt; lines.len() == room.min(23) && b"0 stored 0\n47 stored 2\n".starts_with(&lines));
-        assert!(rt; store.extents(alloc)?.as_slice() == held, "with room for {room}");
+        assert!(rt;
+            lines.len() == room.min(23) && b"0 stored 0\n47 stored 2\n".starts_with(&lines)
+        );
+        assert!(rt;
+            store.extents(alloc)?.as_slice() == held,
+            "with room for {room}"
+        );
     }
     Ok(())
 }
