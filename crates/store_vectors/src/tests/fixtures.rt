@@ -93,21 +93,6 @@ pub(crate) const HELD_EXTRA: Extent = Extent {
     n: 0,
 };
 
-/// The SHA-256 of `TAGGED`, as coreutils' sha256sum prints it for a file of those 85 bytes.
-const TAGGED_DIGEST: [u8; 32] = [
-    0x73, 0x2E, 0xA6, 0x32, 0x94, 0xC3, 0x35, 0x30, 0x8A, 0x05, 0xB9, 0x83, 0x27, 0x9C, 0x3C, 0xDB,
-    0xC6, 0xE2, 0xD0, 0xC3, 0x2B, 0xDD, 0xC5, 0x08, 0x26, 0x8D, 0x9B, 0xE7, 0x13, 0x38, 0xA6, 0xC9,
-];
-
-/// That frame, held behind the file.
-pub(crate) const HELD_TAGGED: Extent = Extent {
-    off: 84,
-    fin: 169,
-    digest: TAGGED_DIGEST,
-    kind: Kind::OsmData,
-    n: 2,
-};
-
 /// The two nodes, held elsewhere.
 pub(crate) const HELD_NODES_AT_100: Extent = Extent {
     off: 100,

@@ -19,25 +19,20 @@ pub(crate) type CountedRows = (&'static str, i64);
 
 /// A layout whose rows are known.
 pub(crate) trait KnownLayout: StoreLayout {
-    /// The queries for the numbers of rows that elements have.
-    const COUNTS: &'static [&'static str];
+    /// The query for the number of rows that elements have.
+    const COUNT: &'static str;
 
     /// What is shown where the elements at 47 are the two nodes of the file.
     const NODES: &'static [CountedRows];
-
-    /// What is shown where the file is held, and behind it the way and the relation of `TAGGED`.
-    const TAGGED: &'static [CountedRows];
 
     /// The queries for all rows of all tables.
     const ALL: &'static [&'static str];
 }
 
 impl KnownLayout for Bodies {
-    const COUNTS: &'static [&'static str] = &["SELECT count(*) FROM body"];
+    const COUNT: &'static str = "SELECT count(*) FROM body";
 
     const NODES: &'static [CountedRows] = NODES_AS_BODIES;
-
-    const TAGGED: &'static [CountedRows] = TAGGED_AS_BODIES;
 
     const ALL: &'static [&'static str] = &[
         "SELECT * FROM meta",
@@ -47,15 +42,9 @@ impl KnownLayout for Bodies {
 }
 
 impl KnownLayout for Tables {
-    const COUNTS: &'static [&'static str] = &[
-        "SELECT count(*) FROM element",
-        "SELECT count(*) FROM tag",
-        "SELECT count(*) FROM link",
-    ];
+    const COUNT: &'static str = "SELECT count(*) FROM element";
 
     const NODES: &'static [CountedRows] = NODES_AS_ROWS;
-
-    const TAGGED: &'static [CountedRows] = TAGGED_AS_ROWS;
 
     const ALL: &'static [&'static str] = &[
         "SELECT * FROM meta",
@@ -86,58 +75,6 @@ pub(crate) const NODES_AS_ROWS: &[CountedRows] = &[
     ),
     (
         "SELECT count(*) FROM element WHERE off = 47 AND pos = 1 AND kind = 0 AND id = 2 AND lat = 900 AND lon = -100",
-        1,
-    ),
-];
-
-/// The way and the relation at 84, each as its block, and the two nodes.
-const TAGGED_AS_BODIES: &[CountedRows] = &[
-    ("SELECT count(*) FROM body", 4),
-    (
-        "SELECT count(*) FROM body WHERE off = 84 AND pos = 0 AND kind = 1 AND id = 7 AND data = x'0A080A000A01610A0162120E1A0C08071201011A010242020A02'",
-        1,
-    ),
-    (
-        "SELECT count(*) FROM body WHERE off = 84 AND pos = 1 AND kind = 2 AND id = 9 AND data = x'0A140A000A046E616D650A01630A056F757465720A001216221408091201011A0102420203044A02020552020001'",
-        1,
-    ),
-];
-
-/// The same as numbers and texts.
-const TAGGED_AS_ROWS: &[CountedRows] = &[
-    ("SELECT count(*) FROM element", 4),
-    (
-        "SELECT count(*) FROM element WHERE off = 84 AND pos = 0 AND kind = 1 AND id = 7 AND lat IS NULL AND lon IS NULL",
-        1,
-    ),
-    (
-        "SELECT count(*) FROM element WHERE off = 84 AND pos = 1 AND kind = 2 AND id = 9 AND lat IS NULL AND lon IS NULL",
-        1,
-    ),
-    ("SELECT count(*) FROM tag", 2),
-    (
-        "SELECT count(*) FROM tag WHERE off = 84 AND pos = 0 AND k = 0 AND key = 'a' AND val = 'b'",
-        1,
-    ),
-    (
-        "SELECT count(*) FROM tag WHERE off = 84 AND pos = 1 AND k = 0 AND key = 'name' AND val = 'c'",
-        1,
-    ),
-    ("SELECT count(*) FROM link", 4),
-    (
-        "SELECT count(*) FROM link WHERE off = 84 AND pos = 0 AND k = 0 AND kind = 0 AND ref = 5 AND role = ''",
-        1,
-    ),
-    (
-        "SELECT count(*) FROM link WHERE off = 84 AND pos = 0 AND k = 1 AND kind = 0 AND ref = 6 AND role = ''",
-        1,
-    ),
-    (
-        "SELECT count(*) FROM link WHERE off = 84 AND pos = 1 AND k = 0 AND kind = 0 AND ref = 1 AND role = 'outer'",
-        1,
-    ),
-    (
-        "SELECT count(*) FROM link WHERE off = 84 AND pos = 1 AND k = 1 AND kind = 1 AND ref = -2 AND role = ''",
         1,
     ),
 ];
