@@ -7,6 +7,7 @@ mod fixtures;
 mod memory;
 mod parts;
 mod spoiled;
+mod refusals;
 mod steps;
 mod stops;
 mod stores;

@@ -2,7 +2,7 @@
 
 use super::fixtures::{HELD_HEADER, HELD_NODES};
 use super::memory::{BodiesInMemory, CountedRows, NODES_AS_BODIES, expect_rows};
-use super::steps::{PUT_EXTRA, PUT_HEADER, PUT_NODES, STORE_HEADER, STORE_NODES, Step, followed};
+use super::steps::{PUT_HEADER, PUT_NODES, STORE_EXTRA, STORE_HEADER, STORE_NODES, Step, followed};
 use osm_store::{BodyStore, StoreFault};
 use sqlite::{Connection, MemStore};
 use std::alloc::Global;
@@ -49,9 +49,13 @@ const DIGESTS: &[CountedRows] = &[
     ),
 ];
 
-/// Of these and a blob of another type.
+/// Of these and a blob of another type; its digest too is as coreutils' sha256sum prints it.
 const THREE_BLOBS: &[CountedRows] = &[
     ("SELECT count(*) FROM blob", 3),
+    (
+        "SELECT count(*) FROM blob WHERE off = 84 AND digest = x'72C0BB206B932BF0862686CD876EF7B5A02FAC8D2785922BC4DA85B62CB2FE7F'",
+        1,
+    ),
     (
         "SELECT count(*) FROM blob WHERE off = 84 AND fin = 100 AND kind = 2 AND n = 0",
         1,
@@ -100,8 +104,8 @@ fn rows_of_a_delivered_file(rt: HostRuntime) -> Result<(), Fail> {
 
 #[test]
 fn rows_of_another_type(rt: HostRuntime) -> Result<(), Fail> {
-    const STEPS: &[Step] = &[PUT_NODES, PUT_HEADER, PUT_EXTRA];
-    expect_rows_after(&rt, STEPS, &[THREE_BLOBS])
+    const STEPS: &[Step] = &[STORE_NODES, STORE_HEADER, STORE_EXTRA];
+    expect_rows_after(&rt, STEPS, &[THREE_BLOBS, DIGESTS])
 }
 
 /// Why the database isn't adopted.

@@ -30,6 +30,21 @@ pub(crate) const CHANGED_LINES: &[u8] = b"n 1 1000 -100 [] {}\nn 2 900 0 [] {}\n
 /// A frame of another type.
 pub(crate) const EXTRA: &[u8] = &EXTRA_FRAME;
 
+/// A frame of 85 bytes with way 7 over the nodes 5 and 6, and relation 9 with node 1 as its outer member and way -2 without
+/// a role. Both have a tag. An export writes the same frame.
+pub(crate) const TAGGED: &[u8] =
+    b"\x00\x00\x00\x0B\x0A\x07OSMData\x18\x46\x0A\x44\x0A\x1A\x0A\x00\x0A\x01a\x0A\x01b\x0A\x04name\x0A\x01c\x0A\x05outer\x0A\x00\x12\x0E\x1A\x0C\x08\x07\x12\x01\x01\x1A\x01\x02\x42\x02\x0A\x02\x12\x16\x22\x14\x08\x09\x12\x01\x03\x1A\x01\x04\x42\x02\x05\x06\x4A\x02\x02\x05\x52\x02\x00\x01";
+
+pub(crate) const TAGGED_LINES: &[u8] = b"w 7 (5,6) [] {a=b}\nr 9 (n1@outer,w-2@) [] {name=c}\n";
+
+/// A frame of 67 bytes around `RELATION_BLOCK`: relation 9 with a tag and two members.
+pub(crate) const RELATION_FRAME: &[u8] =
+    b"\x00\x00\x00\x0B\x0A\x07OSMData\x18\x34\x0A\x32\x0A\x18\x0A\x00\x0A\x04name\x0A\x05a b,c\x0A\x05outer\x0A\x00\x12\x16\x22\x14\x08\x09\x12\x01\x01\x1A\x01\x02\x42\x02\x03\x04\x4A\x02\x02\x05\x52\x02\x00\x01";
+
+/// A frame of 50 bytes around `WAY_IN_PIECES_BLOCK`: way 7 with a tag and four nodes.
+pub(crate) const WAY_FRAME: &[u8] =
+    b"\x00\x00\x00\x0B\x0A\x07OSMData\x18\x23\x0A\x21\x12\x13\x1A\x11\x08\x07\x12\x01\x01\x1A\x01\x02\x42\x01\x0A\x40\x02\x42\x02\x02\x01\x0A\x05\x0A\x00\x0A\x01a\x0A\x03\x0A\x01b";
+
 /// A frame and where it stands.
 pub(crate) type Frame<'a> = (u64, &'a [u8]);
 

@@ -108,7 +108,11 @@ impl Step {
     }
 
     /// The same of the calls that read what is held.
-    fn is_read<K: NewStore>(&self, alloc: Global, store: &mut K) -> Result<bool, StoreFault> {
+    pub(crate) fn is_read<K: Reader>(
+        &self,
+        alloc: Global,
+        store: &mut K,
+    ) -> Result<bool, StoreFault> {
         match *self {
             Step::Failures(count) => Ok(store.failures() == count),
             Step::Extents(extents) => Ok(store.extents(alloc)?.as_slice() == extents),
@@ -231,9 +235,19 @@ fn finds<K: Reader>(
     id: i64,
     lines: &[u8],
 ) -> Result<bool, StoreFault> {
+    Ok(found_lines(alloc, store, kind, id)?.as_slice() == lines)
+}
+
+/// The lines of the elements of this kind and id, each behind its blob's offset and its position.
+pub(crate) fn found_lines<K: Reader>(
+    alloc: Global,
+    store: &mut K,
+    kind: MemberKind,
+    id: i64,
+) -> Result<Vec<u8>, StoreFault> {
     let found = store.find(alloc, kind, id)?;
     let matches = found.matches(alloc)?;
-    Ok(match_lines(alloc, &matches)?.as_slice() == lines)
+    Ok(match_lines(alloc, &matches)?)
 }
 
 /// The lines of these elements, each behind its blob's offset and its position.

@@ -1,9 +1,12 @@
 //! The rows of numbers and texts of stores in memory, by values from outside, and the answers of both layouts for elements
 //! with tags, nodes and members.
 
-use super::fixtures::{LINES, PLACED_EXTRA, PLACED_HEADER, PLACED_NODES, PLACED_WAYS};
+use super::fixtures::{LINES, PLACED_HEADER, PLACED_NODES, RELATION_FRAME, WAY_FRAME};
 use super::memory::{CountedRows, NODES_AS_ROWS, TablesInMemory, expect_rows};
-use super::steps::{PUT_HEADER, PUT_NODES, Step, followed, over_both_layouts};
+use super::steps::{
+    PUT_HEADER, PUT_NODES, STORE_HEADER, STORE_NODES, Step, followed, over_both_layouts,
+};
+use osm_import::Answer;
 use osm_store::{BodyStore, Extent, StoreFault, TableStore};
 use osm_value::MemberKind;
 use pbf_frame::Kind;
@@ -40,14 +43,28 @@ const PUT_RELATION: Step = Step::Put(PLACED_RELATION, RELATION, Ok(()));
 
 const PUT_WAY: Step = Step::Put(PLACED_WAY, WAY, Ok(()));
 
-const FOUR_BLOBS: &[Step] = &[PUT_HEADER, PUT_NODES, PUT_RELATION, PUT_WAY];
+/// The file, and behind it the frames of a relation and of a way, the latter with its fields in pieces.
+const FOUR_BLOBS: &[Step] = &[
+    STORE_HEADER,
+    STORE_NODES,
+    Step::Deliver(84, RELATION_FRAME, Answer::Stored(1)),
+    Step::Deliver(151, WAY_FRAME, Answer::Stored(1)),
+];
 
-/// What is shown of the four blobs, beside the numbers of the nodes.
+/// What is shown of the four blobs, beside the numbers of the nodes. Digests are as coreutils' sha256sum prints them.
 const ROWS: &[CountedRows] = &[
     ("SELECT sum(version) FROM meta", 2),
     ("SELECT count(*) FROM blob", 4),
     (
         "SELECT count(*) FROM blob WHERE off = 47 AND fin = 84 AND kind = 1 AND n = 2",
+        1,
+    ),
+    (
+        "SELECT count(*) FROM blob WHERE off = 84 AND fin = 151 AND digest = x'04508D51E338613C2142CCF784DB0C6C1FB7CF403D278D5F9B071FA508213550' AND kind = 1 AND n = 1",
+        1,
+    ),
+    (
+        "SELECT count(*) FROM blob WHERE off = 151 AND fin = 201 AND digest = x'D81232FE3C6B2628AA6BD286FFBBB6F4E575AE07738E737A4FD4A06AB18D79DE' AND kind = 1 AND n = 1",
         1,
     ),
     // no element says anything of its last change
@@ -78,13 +95,24 @@ const ROWS: &[CountedRows] = &[
     ),
     // the way
     (
-        "SELECT count(*) FROM link WHERE off = 150 AND pos = 0 AND kind = 0 AND role = ''",
+        "SELECT count(*) FROM element WHERE off = 151 AND pos = 0 AND kind = 1 AND id = 7 AND lat IS NULL AND lon IS NULL",
+        1,
+    ),
+    (
+        "SELECT count(*) FROM tag WHERE off = 151 AND pos = 0 AND k = 0 AND key = 'a' AND val = 'b'",
+        1,
+    ),
+    (
+        "SELECT count(*) FROM link WHERE off = 151 AND pos = 0 AND kind = 0 AND role = ''",
         4,
     ),
-    ("SELECT ref FROM link WHERE off = 150 AND k = 0", 5),
-    ("SELECT ref FROM link WHERE off = 150 AND k = 1", 6),
-    ("SELECT ref FROM link WHERE off = 150 AND k = 2", 7),
-    ("SELECT ref FROM link WHERE off = 150 AND k = 3", 6),
+    ("SELECT ref FROM link WHERE off = 151 AND k = 0", 5),
+    ("SELECT ref FROM link WHERE off = 151 AND k = 1", 6),
+    ("SELECT ref FROM link WHERE off = 151 AND k = 2", 7),
+    ("SELECT ref FROM link WHERE off = 151 AND k = 3", 6),
+    ("SELECT count(*) FROM element", 4),
+    ("SELECT count(*) FROM tag", 2),
+    ("SELECT count(*) FROM link", 6),
 ];
 
 /// The tables of the four blobs.

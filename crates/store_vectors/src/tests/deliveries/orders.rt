@@ -1,29 +1,13 @@
 //! Deliveries in any order, again, and in the way of one another.
 
-use super::{answers_to, exported};
 use crate::tests::fixtures::{
-    CHANGED, EXTRA, EXTRA_AT_84, FILE, HEADER, HEADER_AT_0, LINES, NODES, NODES_AT_47,
+    CHANGED, EXTRA, FILE, HEADER, HEADER_AT_0, LINES, NODES, NODES_AT_47,
 };
-use crate::tests::memory::{BodiesInMemory, NewStore, TablesInMemory};
-use crate::tests::steps::{
-    STORE_EXTRA, STORE_HEADER, STORE_NODES, Step, are_joined, over_both_layouts,
-};
-use osm_import::{Answer, Conflict, Fault, deliver, examine};
-use osm_store::{Reader, StoreFault};
-use osm_value::Form;
+use crate::tests::steps::{STORE_EXTRA, STORE_HEADER, STORE_NODES, Step, over_both_layouts};
+use osm_import::{Answer, Conflict, Fault, examine};
+use osm_store::StoreFault;
 use pbf_frame::Kind;
-use std::alloc::Global;
-use std::process::Abort;
 use std::test::*;
-
-/// The nodes 1, 2 and 3 at 0, 0.
-const THREE_NODES: [u8; 40] = [
-    0x00, 0x00, 0x00, 0x0B, 0x0A, 0x07, 0x4F, 0x53, 0x4D, 0x44, 0x61, 0x74, 0x61, 0x18, 0x19, 0x0A,
-    0x17, 0x0A, 0x02, 0x0A, 0x00, 0x12, 0x11, 0x12, 0x0F, 0x0A, 0x03, 0x02, 0x02, 0x02, 0x42, 0x03,
-    0x00, 0x00, 0x00, 0x4A, 0x03, 0x00, 0x00, 0x00,
-];
-
-const THREE_NODES_LINES: &[u8] = b"n 1 0 0 [] {}\nn 2 0 0 [] {}\nn 3 0 0 [] {}\n";
 
 #[test]
 fn frames_in_any_order_and_again(rt: HostRuntime) -> Result<(), Fail> {
@@ -90,37 +74,4 @@ fn what_a_good_delivery_says(rt: HostRuntime) -> Result<(), Fail> {
         assert_eq!(rt; good.elements.len(), elements, "at {off}");
     }
     Ok(())
-}
-
-/// Each delivery that the step limit breaks off has changed nothing; in the end the blob is stored. A step is a row
-/// that a query visits, so something has to be held.
-fn under_each_step_limit_of<K: NewStore, R: Abort + Alloc<A = Global>>(rt: &R) -> Result<(), Fail> {
-    let alloc = rt.alloc();
-    let (_, mut store) = answers_to::<K>(alloc, &[HEADER_AT_0, NODES_AT_47, EXTRA_AT_84])?;
-    let mut interrupted = 0;
-    for limit in 1..100 {
-        store.limit_steps(Some(limit));
-        let answer = deliver(alloc, &mut store, 100, &THREE_NODES);
-        store.limit_steps(None);
-        if answer == Answer::Stored(3) {
-            break;
-        }
-        assert!(rt; answer == Answer::Fault(StoreFault::Interrupted));
-        interrupted = limit;
-        assert!(rt; store.failures() == interrupted);
-        assert!(rt; store.extents(alloc)?.len() == 3);
-        let (_, lines) = exported(alloc, &mut store, Form::Lines, None, false);
-        assert!(rt; lines.as_slice() == LINES);
-    }
-    assert!(rt; interrupted > 0);
-    assert!(rt; deliver(alloc, &mut store, 100, &THREE_NODES) == Answer::AlreadyHeld);
-    let (_, lines) = exported(alloc, &mut store, Form::Lines, Some(140), false);
-    assert!(rt; are_joined(&lines, &[LINES, THREE_NODES_LINES]));
-    Ok(())
-}
-
-#[test]
-fn under_each_step_limit(rt: HostRuntime) -> Result<(), Fail> {
-    under_each_step_limit_of::<BodiesInMemory, _>(&rt)?;
-    under_each_step_limit_of::<TablesInMemory, _>(&rt)
 }

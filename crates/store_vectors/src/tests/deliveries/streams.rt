@@ -1,10 +1,12 @@
 //! Streams of frames.
 
-use crate::tests::fixtures::FILE_BYTES;
+use crate::tests::fixtures::{FILE_BYTES, HELD_HEADER, HELD_NODES};
 use crate::tests::memory::{BodiesInMemory, NewStore, TablesInMemory};
 use crate::tests::steps::{Step, import, over_both_layouts};
-use osm_import::{Stop, StreamFault, Summary, gaps};
-use osm_vectors::FailingReader;
+use osm_import::{Inlet, Stop, StreamFault, Summary, gaps, import_stream};
+use osm_store::Extent;
+use osm_value::Outlet;
+use osm_vectors::{FailingReader, FailingWriter};
 use pbf_frame::FrameFault;
 use std::alloc::Global;
 use std::process::Abort;
@@ -124,4 +126,46 @@ fn readers_that_fail_of<K: NewStore, R: Abort + Alloc<A = Global>>(rt: &R) -> Re
 fn readers_that_fail(rt: HostRuntime) -> Result<(), Fail> {
     readers_that_fail_of::<BodiesInMemory, _>(&rt)?;
     readers_that_fail_of::<TablesInMemory, _>(&rt)
+}
+
+/// What an import of the file comes to over a writer with room for so many bytes, and what is held then: a line of 11
+/// bytes is written, then one of 12, and the blob whose line fails was stored before.
+fn wanted_with_room(room: usize) -> (Result<Summary, StreamFault>, &'static [Extent]) {
+    let fault = Stop::WriteFailed;
+    match room {
+        0..=10 => (Err(StreamFault { fault, at: 0 }), &[HELD_HEADER]),
+        11..=22 => (
+            Err(StreamFault { fault, at: 47 }),
+            &[HELD_HEADER, HELD_NODES],
+        ),
+        _ => (Ok(BOTH_STORED), &[HELD_HEADER, HELD_NODES]),
+    }
+}
+
+fn writers_that_fail_of<K: NewStore, R: Abort + Alloc<A = Global>>(rt: &R) -> Result<(), Fail> {
+    let alloc = rt.alloc();
+    for room in 0..24 {
+        let mut store = K::new_store(alloc)?;
+        let mut source = Inlet::new(FILE_BYTES);
+        let inner = Vec::new(alloc);
+        let mut out = Outlet::new(FailingWriter { inner, room });
+        let outcome = import_stream(alloc, &mut store, &mut source, 0, 9, &mut out);
+        let (wanted, held) = wanted_with_room(room);
+        assert_eq!(rt; outcome, wanted, "with room for {room}");
+        let lines = out.into_inner().inner;
+        assert!(rt;
+            lines.len() == room.min(23) && b"0 stored 0\n47 stored 2\n".starts_with(&lines)
+        );
+        assert!(rt;
+            store.extents(alloc)?.as_slice() == held,
+            "with room for {room}"
+        );
+    }
+    Ok(())
+}
+
+#[test]
+fn writers_that_fail(rt: HostRuntime) -> Result<(), Fail> {
+    writers_that_fail_of::<BodiesInMemory, _>(&rt)?;
+    writers_that_fail_of::<TablesInMemory, _>(&rt)
 }
