@@ -1,3 +1,4 @@
+pub mod Checking
 pub mod CommandLines
 pub mod Exporting
 pub mod Finding
@@ -5,4 +6,7 @@ pub mod Importing
 pub mod Listing
 pub mod Progress
 pub mod Reading
+pub mod Showing
 pub mod Status
+pub mod Verdicts
+pub mod Walks
