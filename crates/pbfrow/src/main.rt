@@ -82,7 +82,7 @@ fn refuse_words(rt: &HostRuntime, error: io::Error) -> io::Result<u8> {
 
 fn answer<'a>(rt: HostRuntime, words: &'a [&'a str]) -> io::Result<u8> {
     match read_words(rt.alloc(), words) {
-        Ok(words) => run(rt, words),
+        Ok(words) => Ok(run(rt, words)),
         Err(error) => refuse(rt, error),
     }
 }
@@ -97,7 +97,7 @@ fn refuse(rt: HostRuntime, error: Error) -> io::Result<u8> {
     Ok(error.exit_code() as u8)
 }
 
-fn run(rt: HostRuntime, words: Words) -> io::Result<u8>
+fn run(rt: HostRuntime, words: Words) -> u8
     requires { BeginsWithin words }
 {
     match words {
@@ -106,19 +106,20 @@ fn run(rt: HostRuntime, words: Words) -> io::Result<u8>
             file,
             database,
             from,
-        } => Ok(fill(&rt, file, database, from.unwrap_or(0))),
-        Words::Migrate { old, new } => Ok(copy(&rt, old, new)),
-        Words::Ask { database, question } => Ok(ask(&rt, database, question)),
+        } => fill(&rt, file, database, from.unwrap_or(0)),
+        Words::Migrate { old, new } => copy(&rt, old, new),
+        Words::Ask { database, question } => ask(&rt, database, question),
     }
 }
 
 /// Runs a command on the file, or where there is none on standard input.
-fn run_on_file(rt: HostRuntime, reading: Reading, file: Option<&str>) -> io::Result<u8> {
+fn run_on_file(rt: HostRuntime, reading: Reading, file: Option<&str>) -> u8 {
     let meter = Meter::new(&rt, reading == Reading::Check);
     let output = MeteredOutput::new(io::writer(&rt), &meter);
-    let Ok(mut out) = BufWriter::new(rt.alloc(), output) else {
-        return Ok(refuse_memory(&mut Outlet::new(io::writer(&rt)), Some(0)));
+    let Ok(output) = BufWriter::new(rt.alloc(), output) else {
+        return refuse_memory(&mut Outlet::new(io::writer(&rt)), Some(0));
     };
+    let mut out = Outlet::new(output);
     let status = match file {
         None => read_with(rt.alloc(), reading, &mut rt.stdin(), &meter, &mut out),
         Some(name) => match File::open(&rt, name) {
@@ -131,8 +132,10 @@ fn run_on_file(rt: HostRuntime, reading: Reading, file: Option<&str>) -> io::Res
     };
     let flushed = out.flush();
     meter.erase();
-    flushed?;
-    Ok(status)
+    match flushed {
+        Ok(()) => status,
+        Err(_) => FAULTY,
+    }
 }
 
 fn read_with<R: Read, W: Write>(
@@ -140,7 +143,7 @@ fn read_with<R: Read, W: Write>(
     reading: Reading,
     input: &mut R,
     meter: &Meter,
-    out: &mut W,
+    out: &mut Outlet<W>,
 ) -> u8 {
     let mut input = MeteredReader::new(input, meter);
     match reading {

@@ -15,7 +15,8 @@ use Rattle.osm_import.specs.declared.stream.fault.Stop.{Stop}
 use Rattle.osm_import.specs.declared.stream.fault.Stop.TheVariants.{Frame, NoHeaderFirst, WriteFailed, Store, ReadFailed, BlobLimit}
 use Rattle.osm_import.specs.declared.stream.fault.StreamFault.{StreamFault}
 use Rattle.osm_value.specs.Sink.{Wrote}
-use Rattle.pbfrow_commands.specs.Importing.{Skips, IsShort, Imports, HoldsFile, EndsStop, import_status, stop_line}
+use Rattle.pbfrow_commands.specs.Importing.{Skips, IsShort, Imports, HoldsFile, EndsStop, import_status}
+use Rattle.pbfrow_commands.specs.CommandLines.{stop_line}
 
 -- ---- skipping
 

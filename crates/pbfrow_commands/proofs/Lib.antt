@@ -1,8 +1,13 @@
+pub mod CheckLemmas
 pub mod CommandTexts
 pub mod ExportLemmas
 pub mod FindLemmas
 pub mod ImportLemmas
-pub mod ListedInput
+pub mod Judging
+pub mod ListLemmas
 pub mod ListingLaws
 pub mod ListingSteps
+pub mod ShowLemmas
 pub mod StatusLemmas
+mod VectorCommands
+pub mod Walking

@@ -10,19 +10,20 @@ use Rattle.pbf_frame.specs.Frame.{FirstFault, Found, found_at, frame_at}
 use Rattle.pbf_frame.proofs.FrameLaws.{frame_again, frame_takes, frame_faults, faults_again, frame_len}
 use Rattle.pbf_frame.specs.Fault.{number_of, name_of}
 use Rattle.osm_import.specs.Lines.{fault_line}
-use Rattle.pbfrow_commands.specs.Listing.{Part, IsPart, joined, lines_from, frame_line, EndsAs, Lists}
+use Rattle.pbfrow_commands.specs.Listing.{Plain, listed_line, frame_line, EndsAs, Lists}
+use Rattle.pbfrow_commands.specs.Walks.{IsPart, joined, lines_from}
 use Rattle.pbfrow_commands.specs.Reading.{Listing, line_and, listing_from, listing}
 use Rattle.pbfrow_commands.proofs.ListingSteps.{listing_step, listing_end}
 
 -- the same of the bytes behind a place
 record ListsFrom (whole : Bool) (at : ℕ) (w text : List ℕ) : Type 0 where
-  frames : List Part
+  frames : List Plain
   rest : List ℕ
   line : List ℕ
   are_frames : AllByRecursion IsPart frames
   tiled : drop at w ≡ joined frames ++ rest
   ends : EndsAs whole (at + length (joined frames)) rest line
-  lines : text ≡ lines_from at frames ++ line
+  lines : text ≡ lines_from listed_line at frames ++ line
 
 abbrev IsListedFrom : ℕ → List ℕ → Listing → Type 0
 IsListedFrom at w l = ListsFrom l.whole at w l.text
@@ -44,7 +45,7 @@ faulted at w fault lt e = record {
   lines = refl;
 }
 
-moved : (whole : Bool) (at more : ℕ) (first : List ℕ) (frames : List Part) (rest line : List ℕ) → length first ≡ more → EndsAs whole (at + more + length (joined frames)) rest line → EndsAs whole (at + length (first ++ joined frames)) rest line
+moved : (whole : Bool) (at more : ℕ) (first : List ℕ) (frames : List Plain) (rest line : List ℕ) → length first ≡ more → EndsAs whole (at + more + length (joined frames)) rest line → EndsAs whole (at + length (first ++ joined frames)) rest line
 moved whole at more first frames rest line e ends =
     let h : at + more + length (joined frames) ≡ at + length (first ++ joined frames) = omega (arith, length-append first (joined frames), e) in
     subst (λ (k : ℕ). EndsAs whole k rest line) h ends
@@ -54,7 +55,7 @@ framed at w f e l =
     let t = frame_takes (drop at w) f e in
     let first = take f.len (drop at w) in
     let len : length first ≡ f.len = omega (arith, length-take f.len (drop at w), t.within) in
-    let p : Part = record { type_name = f.type_name; blob = f.blob; bytes = first } in
+    let p : Plain = record { type_name = f.type_name; blob = f.blob; bytes = first; found = tt } in
     let behind : drop f.len (drop at w) ≡ drop (at + f.len) w = drop-drop f.len at w in
     record {
       frames = p ∷ l.frames;
@@ -63,8 +64,8 @@ framed at w f e l =
       are_frames = (t.spelled, l.are_frames);
       tiled = sym (take-append-drop f.len (drop at w)) ∙ ap (λ (x : List ℕ). first ++ x) (behind ∙ l.tiled) ∙ sym (append_assoc first (joined l.frames) l.rest);
       ends = moved (listing_from (at + f.len) w).whole at f.len first l.frames l.rest l.line len l.ends;
-      lines = ap (λ (x : List ℕ). frame_line at f.type_name f.blob ++ x) (l.lines ∙ ap (λ (k : ℕ). lines_from (at + k) l.frames ++ l.line) (sym len))
-          ∙ sym (append_assoc (frame_line at f.type_name f.blob) (lines_from (at + length first) l.frames) l.line);
+      lines = ap (λ (x : List ℕ). frame_line at f.type_name f.blob ++ x) (l.lines ∙ ap (λ (k : ℕ). lines_from listed_line (at + k) l.frames ++ l.line) (sym len))
+          ∙ sym (append_assoc (frame_line at f.type_name f.blob) (lines_from listed_line (at + length first) l.frames) l.line);
     }
 
 stepped : (at : ℕ) (w : List ℕ) (r : Result Found FrameFault) → at < length w → frame_at (drop at w) ≡ r
@@ -101,8 +102,8 @@ read_ending false at w rest line e (fault, first, some, is_line) =
     let f : frame_at (drop at w) ≡ Err fault = faults_again (drop at w) fault (subst (FirstFault fault) (sym e) first) in
     listing_step at w lt ∙ ap (λ (r : Result Found FrameFault). line_and at r (λ next. listing_from next w)) f ∙ ap (made false) (sym is_line)
 
-read_lists : (frames : List Part) (whole : Bool) (at : ℕ) (w rest line : List ℕ) → AllByRecursion IsPart frames → drop at w ≡ joined frames ++ rest
-    → EndsAs whole (at + length (joined frames)) rest line → listing_from at w ≡ made whole (lines_from at frames ++ line)
+read_lists : (frames : List Plain) (whole : Bool) (at : ℕ) (w rest line : List ℕ) → AllByRecursion IsPart frames → drop at w ≡ joined frames ++ rest
+    → EndsAs whole (at + length (joined frames)) rest line → listing_from at w ≡ made whole (lines_from listed_line at frames ++ line)
 read_lists [] whole at w rest line are e ends = read_ending whole at w rest line e (subst (λ (k : ℕ). EndsAs whole k rest line) (add-zero at) ends)
 read_lists (p ∷ ps) whole at w rest line (is, are) e ends =
     let tail = joined ps ++ rest in
@@ -115,7 +116,7 @@ read_lists (p ∷ ps) whole at w rest line (is, are) e ends =
     let later = read_lists ps whole (at + length p.bytes) w rest line are behind (subst (λ (k : ℕ). EndsAs whole k rest line) sum ends) in
     listing_step at w lt ∙ ap (λ (r : Result Found FrameFault). line_and at r (λ next. listing_from next w)) f
     ∙ ap (λ (l : Listing). let k : Listing = record { text = frame_line at p.type_name p.blob ++ l.text; whole = l.whole } in k) later
-    ∙ ap (made whole) (sym (append_assoc (frame_line at p.type_name p.blob) (lines_from (at + length p.bytes) ps) line))
+    ∙ ap (made whole) (sym (append_assoc (frame_line at p.type_name p.blob) (lines_from listed_line (at + length p.bytes) ps) line))
 
 pub listing_is : (whole : Bool) (w text : List ℕ) → Lists whole w text → listing w ≡ made whole text
 listing_is whole w text l =

@@ -1,5 +1,5 @@
 -- What the reads of a command leave, and what it told.
-use Rattle.std.proofs.Common.{◌≡◌, ℕ, ◌+◌, ◌<◌, ◌≤◌, List, [], ◌++◌, take, get_or, length, Bool, true, false, Option, Result, Ok, Err, refl, sym, ap, ◌∙◌, inl, inr, append-nil}
+use Rattle.std.proofs.Common.{◌≡◌, ℕ, ◌+◌, ◌<◌, ◌≤◌, List, [], ◌++◌, take, get_or, length, Bool, true, false, Option, refl, sym, ap, ◌∙◌, inl, inr, append-nil}
 use Rattle.std.specs.List.{flat_map}
 use Rattle.std.proofs.lemmas.List.{flat_map_more, take_all, take_more}
 use Rattle.osm_value.specs.Sink.{Wrote}

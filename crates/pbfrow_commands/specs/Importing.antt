@@ -7,18 +7,13 @@ use Rattle.osm_import.specs.Deliveries.{DeliveryValue}
 use Rattle.osm_import.specs.Exports.{Known}
 use Rattle.osm_import.specs.Files.{IsFile, IsHeldOfFile}
 use Rattle.osm_import.specs.Flows.{Input, Output}
-use Rattle.osm_import.specs.StopFaults.{stop_number_of, stop_name_of}
 use Rattle.osm_import.specs.Streams.{Streams, TilesFile}
 use Rattle.osm_import.specs.declared.answer.Answer.{Answer}
 use Rattle.osm_import.specs.declared.stream.summary.Summary.{Summary}
 use Rattle.osm_import.specs.declared.stream.fault.Stop.{Stop}
 use Rattle.osm_import.specs.declared.stream.fault.Stop.TheVariants.{Frame, NoHeaderFirst, WriteFailed, Store, ReadFailed, BlobLimit}
 use Rattle.osm_import.specs.declared.stream.fault.StreamFault.{StreamFault}
-use Rattle.pbfrow_commands.specs.CommandLines.{summary_line}
-use Rattle.osm_import.specs.Lines.{fault_line}
-
-abbrev pub stop_line : Stop → ℕ → List ℕ
-stop_line fault at = fault_line (stop_number_of fault) (stop_name_of fault) at
+use Rattle.pbfrow_commands.specs.CommandLines.{summary_line, stop_line}
 
 -- so many bytes were read
 pub record Skips (count : ℕ) (old new : Known) : Type 0 where

@@ -1,3 +1,4 @@
+pub mod Checking
 pub mod CommandLines
 pub mod Copying
 pub mod Exporting
@@ -6,4 +7,7 @@ pub mod Importing
 pub mod Listing
 pub mod Progress
 pub mod Reading
+pub mod Showing
 pub mod Status
+pub mod Verdicts
+pub mod Walks

@@ -4,7 +4,6 @@
 
 pub mod check;
 pub mod export;
-mod fault;
 pub mod find;
 pub mod import;
 pub mod input;

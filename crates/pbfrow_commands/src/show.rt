@@ -1,148 +1,189 @@
 //! The command `show`: each blob, with the lines of its header, its elements or its fault.
 
-ghost use Rattle.std.specs.Prelude.{◌≤◌};
+ghost use Rattle.std.specs.Prelude.{◌≡◌, true, ℕ, List, Option, length, is_ok, IfOk, OnErr};
+ghost use Rattle.std.specs.List.{flat_map};
+ghost use Rattle.std.specs.Option.{option_copied};
+ghost use Rattle.osm_block.specs.HeaderTexts.{texts_left};
+ghost use Rattle.osm_value.specs.Line.{line};
+ghost use Rattle.osm_value.specs.Sink.{Writes};
+ghost use Rattle.osm_import.specs.Good.{IsFrame};
+ghost use Rattle.pbfrow_commands.specs.Listing.{Plain};
+ghost use Rattle.pbfrow_commands.specs.Showing.{ShowsBlobs, ShowsInput, blob_line, box_line, content_lines, header_lines, number_line, of_option, shown_lines, text_line};
+ghost use Rattle.pbfrow_commands.specs.Verdicts.{IsJudged, Judged, all_good};
+ghost use Rattle.pbfrow_commands.specs.Walks.{IsPart};
 
-use crate::fault::{print_finding, print_stop};
-use crate::input::flush_to_wait;
-use crate::list::{frame_of, print_type};
-use osm_block::HeaderBlock;
-use osm_import::{ExamineFault, FrameReader, Good, Inlet, Source, examine_frame};
-use osm_value::{Element, Outlet, Sink, put_escaped, write_line};
+use crate::input::{Ending, finish, flush_to_wait, frame_of};
+use crate::list::put_type;
+use osm_block::{BBox, HeaderBlock, Texts};
+use osm_import::{ExamineFault, FrameReader, Good, Inlet, examine_frame, put_fault_at};
+use osm_value::{Element, Outlet, Sink, put, put_digits, put_escaped, put_number, write_line};
 use pbf_frame::Frame;
-use std::alloc::Global;
-use std::io;
-use std::io::{ErrorKind, Read, Write};
+use std::alloc::{AllocError, Global};
+use std::io::{Read, Write};
 
 /// Writes a line for each blob of the input, followed by those of its header, its elements or its fault, up to a frame
 /// fault's line. Answers the exit status: 0 if there is no fault, and 1 if there is one, or the input or the output
-/// failed. The lines so far are flushed before more of the input is read.
-pub fn show<R: Read, W: Write>(alloc: Global, input: &mut R, out: &mut W) -> u8
-    ensures { result ≤ 1 }
+/// failed. The lines so far are flushed before more of the input is read. Where the output fails, no more is read.
+pub fn show<R: Read, W: Write>(alloc: Global, input: &mut R, out: &mut Outlet<W>) -> u8
+    ensures { ShowsInput (R.remaining input.old) (W.contents out.old.writer) (W.contents out.new.writer) out.new.has_failed result }
 {
-    match print_show(alloc, input, out) {
-        Ok(true) => 0,
-        Ok(false) | Err(_) => 1,
-    }
-}
-
-/// Writes what `show` writes of this input, and answers whether there is no fault.
-fn print_show<R: Read, W: Write>(alloc: Global, input: &mut R, out: &mut W) -> io::Result<bool> {
-    match FrameReader::new(alloc, 0, Inlet::new(input)) {
-        Ok(mut frames) => show_blobs(alloc, &mut frames, out),
-        Err(stop) => {
-            print_stop(stop, out)?;
-            Ok(false)
-        }
-    }
-}
-
-fn show_blobs<R: Source, W: Write>(
-    alloc: Global,
-    frames: &mut FrameReader<R>,
-    out: &mut W,
-) -> io::Result<bool> {
     let mut is_good = true;
+    let ending = show_blobs(alloc, input, &mut is_good, out);
+    finish(out, ending, is_good)
+}
+
+/// Writes the lines of the blobs, and answers how the frames ended. Each bad blob makes `is_good` false.
+fn show_blobs<R: Read, W: Write>(
+    alloc: Global,
+    input: &mut R,
+    is_good: &mut bool,
+    out: &mut Outlet<W>,
+) -> Ending
+    requires { is_good.old ≡ true }
+    ensures { (blobs : List Judged) × (begun : Option Plain) × ShowsBlobs (R.remaining input.old) (W.contents out.old.writer) (W.contents out.new.writer) out.new.has_failed blobs begun result
+        × (is_good.new ≡ all_good blobs) }
+{
+    let mut frames = match FrameReader::new(alloc, 0, Inlet::new(input)) {
+        Ok(frames) => frames,
+        Err(stop) => return Ending::Early(stop),
+    };
     loop {
-        flush_to_wait(frames, out)?;
+        let Ok(()) = flush_to_wait(&mut frames, out) else {
+            return Ending::Unwritten;
+        };
         match frames.next() {
-            Ok(Some((at, bytes))) => match show_blob(alloc, at, bytes, out)? {
-                None => {}
-                Some(ExamineFault::Bad(_)) => is_good = false,
-                Some(ExamineFault::Memory) => return Ok(false),
+            Ok(Some((at, bytes))) => match show_blob(alloc, at, bytes, out) {
+                Ok(is_next_good) => *is_good &= is_next_good,
+                Err(_) => return Ending::refused(at),
             },
-            Ok(None) => return Ok(is_good),
-            Err(stop) => {
-                print_stop(stop, out)?;
-                return Ok(false);
-            }
+            Ok(None) => return Ending::Whole,
+            Err(stop) => return Ending::Early(stop),
         }
     }
 }
 
-/// Writes the line of a blob, followed by those of its header, its elements or its fault, and answers the fault.
-fn show_blob<W: Write>(
-    alloc: Global,
-    at: u64,
-    bytes: &[u8],
-    out: &mut W,
-) -> io::Result<Option<ExamineFault>> {
-    let frame = frame_of(bytes)?;
-    print_blob(at, &frame, out)?;
+/// Writes the line of a blob, followed by those of its header, its elements or its fault, and answers whether it is good.
+/// Where memory is refused, nothing follows the line.
+fn show_blob<S: Sink>(alloc: Global, at: u64, bytes: &[u8], out: &mut S) -> Result<bool, AllocError>
+    requires { IsFrame bytes.now }
+    ensures ok { IfOk result (λ is_good. (p : Judged) × IsJudged at bytes.now p × Writes (S.written out.old) (S.has_failed out.old) (S.written out.new) (S.has_failed out.new) (shown_lines at p) × (is_good ≡ is_ok p.found)) }
+    ensures err { OnErr result ((p : Plain) × (p.bytes ≡ bytes.now) × IsPart p × Writes (S.written out.old) (S.has_failed out.old) (S.written out.new) (S.has_failed out.new) (blob_line at p.type_name (length p.bytes))) }
+{
+    let frame = frame_of(bytes);
+    put_blob(out, at, &frame);
     match examine_frame(alloc, at, &frame) {
         Ok(good) => {
-            print_content(&good, out)?;
-            Ok(None)
+            put_content(out, &good);
+            Ok(true)
         }
-        Err(finding) => {
-            print_finding(finding, at, out)?;
-            Ok(Some(finding))
+        Err(ExamineFault::Bad(fault)) => {
+            put_fault_at(out, fault.number(), fault.name(), at);
+            Ok(false)
         }
+        Err(ExamineFault::Memory) => Err(AllocError),
     }
 }
 
-fn print_blob<W: Write>(at: u64, frame: &Frame, out: &mut W) -> io::Result<()> {
-    let length = frame.length;
-    write!(out, "blob {at} ")?;
-    print_type(frame.type_name, out)?;
-    writeln!(out, " {length}")
+/// Writes `blob OFFSET TYPE LENGTH`.
+fn put_blob<S: Sink>(out: &mut S, at: u64, frame: &Frame)
+    ensures { Writes (S.written out.old) (S.has_failed out.old) (S.written out.new) (S.has_failed out.new) (blob_line at frame.now.type_name.now frame.now.length) }
+{
+    put(out, b"blob ");
+    put_digits(out, at);
+    put(out, b" ");
+    put_type(out, frame.type_name);
+    put(out, b" ");
+    put_digits(out, frame.length);
+    put(out, b"\n");
 }
 
 /// Writes the lines of a good blob.
-fn print_content<W: Write>(good: &Good, out: &mut W) -> io::Result<()> {
+fn put_content<S: Sink>(out: &mut S, good: &Good)
+    ensures { Writes (S.written out.old) (S.has_failed out.old) (S.written out.new) (S.has_failed out.new) (content_lines good.now.header good.now.elements.items) }
+{
     match &good.header {
-        Some(header) => print_header(header, out),
-        None => print_elements(&good.elements, out),
+        Some(header) => put_header(out, header),
+        None => put_elements(out, &good.elements),
     }
 }
 
 /// Writes a header block, a line for each field that is there.
-fn print_header<W: Write>(header: &HeaderBlock, out: &mut W) -> io::Result<()> {
-    if let Some(bbox) = header.bbox() {
-        let (left, right) = (bbox.left, bbox.right);
-        let (top, bottom) = (bbox.top, bbox.bottom);
-        writeln!(out, "bbox {left} {right} {top} {bottom}")?;
-    }
-    for feature in header.required() {
-        print_text("required", feature, out)?;
-    }
-    for feature in header.optional() {
-        print_text("optional", feature, out)?;
-    }
-    print_optional_text("program", header.program(), out)?;
-    print_optional_text("source", header.source(), out)?;
-    if let Some(timestamp) = header.timestamp() {
-        writeln!(out, "replication-timestamp {timestamp}")?;
-    }
-    if let Some(sequence) = header.sequence() {
-        writeln!(out, "replication-sequence {sequence}")?;
-    }
-    print_optional_text("replication-url", header.url(), out)
+fn put_header<S: Sink>(out: &mut S, header: &HeaderBlock)
+    ensures { Writes (S.written out.old) (S.has_failed out.old) (S.written out.new) (S.has_failed out.new) (header_lines header.now) }
+{
+    put_box(out, header.bbox());
+    put_texts(out, b"required ", header.required());
+    put_texts(out, b"optional ", header.optional());
+    put_optional_text(out, b"program ", header.program());
+    put_optional_text(out, b"source ", header.source());
+    put_optional_number(out, b"replication-timestamp ", header.timestamp());
+    put_optional_number(out, b"replication-sequence ", header.sequence());
+    put_optional_text(out, b"replication-url ", header.url());
 }
 
-fn print_optional_text<W: Write>(label: &str, text: Option<&str>, out: &mut W) -> io::Result<()> {
-    match text {
-        Some(text) => print_text(label, text, out),
-        None => Ok(()),
+/// Writes `bbox LEFT RIGHT TOP BOTTOM` of a box that is there.
+fn put_box<S: Sink>(out: &mut S, bbox: Option<BBox>)
+    ensures { Writes (S.written out.old) (S.has_failed out.old) (S.written out.new) (S.has_failed out.new) (of_option box_line bbox) }
+{
+    let Some(bbox) = bbox else {
+        return;
+    };
+    put(out, b"bbox ");
+    put_number(out, bbox.left);
+    put(out, b" ");
+    put_number(out, bbox.right);
+    put(out, b" ");
+    put_number(out, bbox.top);
+    put(out, b" ");
+    put_number(out, bbox.bottom);
+    put(out, b"\n");
+}
+
+/// Writes a line for each text.
+fn put_texts<S: Sink>(out: &mut S, label: &[u8], texts: Texts)
+    ensures { Writes (S.written out.old) (S.has_failed out.old) (S.written out.new) (S.has_failed out.new) (flat_map (text_line label.now) (texts_left texts.entry)) }
+{
+    for text in texts {
+        put_text(out, label, text);
     }
+}
+
+/// Writes the line of a text that is there.
+fn put_optional_text<S: Sink>(out: &mut S, label: &[u8], text: Option<&str>)
+    ensures { Writes (S.written out.old) (S.has_failed out.old) (S.written out.new) (S.has_failed out.new) (of_option (text_line label.now) (option_copied text.entry)) }
+{
+    let Some(text) = text else {
+        return;
+    };
+    put_text(out, label, text);
 }
 
 /// Writes a label and a text, escaped as in the line of an element.
-fn print_text<W: Write>(label: &str, text: &str, out: &mut W) -> io::Result<()> {
-    write!(out, "{label} ")?;
-    let mut sink = Outlet::new(&mut *out);
-    put_escaped(&mut sink, text);
-    if sink.failed() {
-        return Err(io::Error::from(ErrorKind::WriteZero));
-    }
-    writeln!(out)
+fn put_text<S: Sink>(out: &mut S, label: &[u8], text: &str)
+    ensures { Writes (S.written out.old) (S.has_failed out.old) (S.written out.new) (S.has_failed out.new) (text_line label.now text.now) }
+{
+    put(out, label);
+    put_escaped(out, text);
+    put(out, b"\n");
 }
 
-fn print_elements<W: Write>(elements: &[Element], out: &mut W) -> io::Result<()> {
-    let mut sink = Outlet::new(out);
+/// Writes a label and a number that is there.
+fn put_optional_number<S: Sink>(out: &mut S, label: &[u8], number: Option<i64>)
+    ensures { Writes (S.written out.old) (S.has_failed out.old) (S.written out.new) (S.has_failed out.new) (of_option (number_line label.now) number) }
+{
+    let Some(number) = number else {
+        return;
+    };
+    put(out, label);
+    put_number(out, number);
+    put(out, b"\n");
+}
+
+/// Writes a line for each element.
+fn put_elements<S: Sink>(out: &mut S, elements: &[Element])
+    ensures { Writes (S.written out.old) (S.has_failed out.old) (S.written out.new) (S.has_failed out.new) (flat_map line elements.now) }
+{
     for element in elements {
-        if write_line(element, &mut sink).is_err() {
-            return Err(io::Error::from(ErrorKind::WriteZero));
-        }
+        let _written = write_line(element, out);
     }
-    Ok(())
 }

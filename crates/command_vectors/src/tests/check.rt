@@ -1,6 +1,7 @@
 //! Tests of `check`.
 
 use super::support::{Breaking, Closed, Dripping, EXTRA, PLAIN_NODE, TWO_NODES, file_of};
+use osm_value::Outlet;
 use pbfrow_commands::check::check;
 use pbfrow_commands::watcher::Watcher;
 use std::alloc::{AllocError, Global};
@@ -16,9 +17,9 @@ impl Watcher for Unwatched {
 
 /// The status with which a check of these bytes ends, and what it writes.
 fn checked(alloc: Global, input: &[u8]) -> (u8, Vec<u8>) {
-    let mut out = Vec::new(alloc);
+    let mut out = Outlet::new(Vec::new(alloc));
     let status = check(alloc, &mut Cursor::new(input), &Unwatched, &mut out);
-    (status, out)
+    (status, out.into_inner())
 }
 
 fn expect_check(rt: &(impl Abort + Alloc<A = Global>), input: &[u8], status: u8, text: &[u8]) {
@@ -116,23 +117,26 @@ fn counts_a_way(rt: HostRuntime) -> Result<(), AllocError> {
 #[test]
 fn checks_pieces_of_each_length(rt: HostRuntime) {
     for step in 1..85 {
-        let mut out = Vec::new(rt.alloc());
+        let mut out = Outlet::new(Vec::new(rt.alloc()));
         let mut input = Dripping {
             given: &TWO_NODES[..],
             step,
         };
         assert_eq!(rt; check(rt.alloc(), &mut input, &Unwatched, &mut out), 0);
-        assert!(rt; out.as_slice() == b"blobs 2 nodes 2 ways 0 relations 0 faults 0\n".as_slice());
+        assert!(rt;
+            out.into_inner().as_slice()
+                == b"blobs 2 nodes 2 ways 0 relations 0 faults 0\n".as_slice()
+        );
     }
 }
 
 fn expect_broken(rt: &(impl Abort + Alloc<A = Global>), length: usize, text: &[u8]) {
-    let mut out = Vec::new(rt.alloc());
+    let mut out = Outlet::new(Vec::new(rt.alloc()));
     let mut input = Breaking {
         given: TWO_NODES.split_at(length.min(84)).0,
     };
     assert_eq!(rt; check(rt.alloc(), &mut input, &Unwatched, &mut out), 1);
-    assert!(rt; out.as_slice() == text);
+    assert!(rt; out.into_inner().as_slice() == text);
 }
 
 #[test]
@@ -153,7 +157,7 @@ fn reports_a_write_error(rt: HostRuntime) {
             rt.alloc(),
             &mut Cursor::new(&TWO_NODES[..47]),
             &Unwatched,
-            &mut Closed
+            &mut Outlet::new(Closed)
         ),
         1
     );

@@ -1,6 +1,7 @@
 //! Tests of `list`.
 
 use super::support::{Breaking, Closed, Dripping, PLAIN_NODE, TWO_NODES};
+use osm_value::Outlet;
 use pbfrow_commands::list::list;
 use std::alloc::Global;
 use std::io::{Cursor, Read};
@@ -13,9 +14,9 @@ fn expect_list<R: Read>(
     status: u8,
     text: &[u8],
 ) {
-    let mut out = Vec::new(rt.alloc());
+    let mut out = Outlet::new(Vec::new(rt.alloc()));
     assert_eq!(rt; list(rt.alloc(), input, &mut out), status);
-    assert!(rt; out.as_slice() == text);
+    assert!(rt; out.into_inner().as_slice() == text);
 }
 
 #[test]
@@ -134,11 +135,19 @@ fn reports_a_fault_before_it_reads_on(rt: HostRuntime) {
 #[test]
 fn reports_a_write_error(rt: HostRuntime) {
     assert_eq!(rt;
-        list(rt.alloc(), &mut Cursor::new(&TWO_NODES[..]), &mut Closed),
+        list(
+            rt.alloc(),
+            &mut Cursor::new(&TWO_NODES[..]),
+            &mut Outlet::new(Closed)
+        ),
         1
     );
     assert_eq!(rt;
-        list(rt.alloc(), &mut Cursor::new(&TWO_NODES[..0]), &mut Closed),
+        list(
+            rt.alloc(),
+            &mut Cursor::new(&TWO_NODES[..0]),
+            &mut Outlet::new(Closed)
+        ),
         0
     );
 }

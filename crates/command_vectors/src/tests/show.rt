@@ -1,6 +1,7 @@
 //! Tests of `show`.
 
 use super::support::{Breaking, Closed, Dripping, EXTRA, TWO_NODES, file_of};
+use osm_value::Outlet;
 use pbfrow_commands::show::show;
 use std::alloc::{AllocError, Global};
 use std::io::Cursor;
@@ -11,9 +12,9 @@ const HEADER: &str = "blob 0 OSMHeader 47\nrequired OsmSchema-V0.6\nrequired Den
 
 /// Expects these lines behind those of the header.
 fn expect_show(rt: &(impl Abort + Alloc<A = Global>), input: &[u8], status: u8, text: &[u8]) {
-    let mut out = Vec::new(rt.alloc());
+    let mut out = Outlet::new(Vec::new(rt.alloc()));
     assert_eq!(rt; show(rt.alloc(), &mut Cursor::new(input), &mut out), status);
-    assert!(rt; out.as_slice().strip_prefix(HEADER.as_bytes()) == Some(text));
+    assert!(rt; out.into_inner().as_slice().strip_prefix(HEADER.as_bytes()) == Some(text));
 }
 
 #[test]
@@ -29,13 +30,13 @@ fn shows_all_fields_of_a_header(rt: HostRuntime) -> Result<(), AllocError> {
     bytes.extend_from_slice(
         b"\x2A\x03a b\x82\x01\x01p\x8A\x01\x01s\x80\x02\x05\x88\x02\x06\x92\x02\x01u",
     )?;
-    let mut out = Vec::new(rt.alloc());
+    let mut out = Outlet::new(Vec::new(rt.alloc()));
     assert_eq!(rt;
         show(rt.alloc(), &mut Cursor::new(bytes.as_slice()), &mut out),
         0
     );
     assert!(rt;
-        out.as_slice()
+        out.into_inner().as_slice()
             == b"blob 0 OSMHeader 52\nbbox -1 1 2 -2\noptional a%20b\nprogram p\nsource s\nreplication-timestamp 5\nreplication-sequence 6\nreplication-url u\n".as_slice()
     );
     Ok(())
@@ -43,9 +44,9 @@ fn shows_all_fields_of_a_header(rt: HostRuntime) -> Result<(), AllocError> {
 
 #[test]
 fn shows_an_empty_input(rt: HostRuntime) {
-    let mut out = Vec::new(rt.alloc());
+    let mut out = Outlet::new(Vec::new(rt.alloc()));
     assert_eq!(rt; show(rt.alloc(), &mut Cursor::new(&b""[..]), &mut out), 0);
-    assert!(rt; out.is_empty());
+    assert!(rt; out.into_inner().is_empty());
 }
 
 #[test]
@@ -81,14 +82,14 @@ fn shows_faults_and_other_blobs(rt: HostRuntime) -> Result<(), AllocError> {
 #[test]
 fn shows_pieces_of_each_length(rt: HostRuntime) {
     for step in 1..85 {
-        let mut out = Vec::new(rt.alloc());
+        let mut out = Outlet::new(Vec::new(rt.alloc()));
         let mut input = Dripping {
             given: &TWO_NODES[..],
             step,
         };
         assert_eq!(rt; show(rt.alloc(), &mut input, &mut out), 0);
         assert!(rt;
-            out.as_slice().strip_prefix(HEADER.as_bytes())
+            out.into_inner().as_slice().strip_prefix(HEADER.as_bytes())
                 == Some(b"blob 47 OSMData 37\nn 1 1000 -100 [] {}\nn 2 900 -100 [] {}\n".as_slice())
         );
     }
@@ -96,13 +97,13 @@ fn shows_pieces_of_each_length(rt: HostRuntime) {
 
 #[test]
 fn ends_with_a_read_error(rt: HostRuntime) {
-    let mut out = Vec::new(rt.alloc());
+    let mut out = Outlet::new(Vec::new(rt.alloc()));
     let mut input = Breaking {
         given: &TWO_NODES[..47],
     };
     assert_eq!(rt; show(rt.alloc(), &mut input, &mut out), 1);
     assert!(rt;
-        out.as_slice().strip_prefix(HEADER.as_bytes())
+        out.into_inner().as_slice().strip_prefix(HEADER.as_bytes())
             == Some(b"fault 68 ReadFailed at 47\n".as_slice())
     );
 }
@@ -110,7 +111,11 @@ fn ends_with_a_read_error(rt: HostRuntime) {
 #[test]
 fn reports_a_write_error(rt: HostRuntime) {
     assert_eq!(rt;
-        show(rt.alloc(), &mut Cursor::new(&TWO_NODES[..47]), &mut Closed),
+        show(
+            rt.alloc(),
+            &mut Cursor::new(&TWO_NODES[..47]),
+            &mut Outlet::new(Closed)
+        ),
         1
     );
 }

@@ -1,7 +1,11 @@
-use Rattle.pbfrow_commands.proofs.ListedInput.{lists-whole}
+use Rattle.pbfrow_commands.proofs.ListLemmas.{lists-input, lists-whole}
 use Rattle.pbfrow_commands.proofs.list.list.Goals as goal
 
-pub returns-in-Ok-true-clause-whole : goal.returns-in-Ok-true-clause-whole
-returns-in-Ok-true-clause-whole g c = λ ended.
-    let listed = rw c.in-Ok-true.field-0-test at c.in-Ok-true.ensures in
-    lists-whole (g.R.Read.remaining c.args.input.now) (g.W.Write.contents c.args.out.now) (g.W.Write.contents c.print_frames.new.out) listed
+pub returns-clause-listed : goal.returns-clause-listed
+returns-clause-listed g c =
+    lists-input _ _ _ _ _ _ c.list_frames-ending.ensures.0 c.list_frames-ending.result _ c.list_frames-ending.ensures.1 c.finish.ensures.unwritten c.finish.ensures.line c.finish.ensures.status
+
+pub returns-clause-whole : goal.returns-clause-whole
+returns-clause-whole g c = λ zero.
+    lists-whole _ _ _ _ _
+    (lists-input _ _ _ _ _ _ c.list_frames-ending.ensures.0 c.list_frames-ending.result _ c.list_frames-ending.ensures.1 c.finish.ensures.unwritten c.finish.ensures.line c.finish.ensures.status) zero
