@@ -108,6 +108,9 @@ fn read_payloads_of_all<'a>(
 /// plain nodes, dense nodes, ways and relations; changesets are skipped. Coordinates are in nanodegrees, times in
 /// milliseconds since 1970. Texts are slices of `bytes`.
 ///
+/// Ids, references, nanodegrees, milliseconds and changesets are at most 2^62 - 1 away from 0, and no text holds
+/// U+0000.
+///
 /// `Fault` is the first fault of the block, in the order of the block's parts and of the elements; then no element is
 /// given. `Memory` is answered only where memory was refused.
 #[tactic(auto, unfolding(crate::specs::Phases::fault))]

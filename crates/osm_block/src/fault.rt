@@ -44,7 +44,7 @@ pub enum BlockFault {
 }
 
 impl BlockFault {
-    /// The number that this fault has in every message of the program.
+    /// The number that this fault has in every message of the program: 40 to 52, or 54.
     pub fn number(self) -> u8
         ensures { result ≡ number_of self }
     {
@@ -99,7 +99,7 @@ pub enum BlockError {
 }
 
 impl BlockError {
-    /// The number that this error has in every message of the program.
+    /// The number that this error has in every message of the program: 65, or that of the fault.
     pub fn number(self) -> u8
         ensures { result ≡ error_number_of self }
     {

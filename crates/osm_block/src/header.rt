@@ -26,16 +26,22 @@ mod texts;
 pub use fault::HeaderFault;
 pub use texts::Texts;
 
-/// The sides of an area, in nanodegrees.
+/// The sides of an area, in nanodegrees, any numbers of 64 bits: whether they lie on the globe or are in order isn't
+/// tested (osmformat.proto, HeaderBBox).
 #[derive(Clone, Copy, Debug, PartialEq, Eq)]
 pub struct BBox {
+    /// The least longitude.
     pub left: i64,
+    /// The greatest longitude.
     pub right: i64,
+    /// The greatest latitude.
     pub top: i64,
+    /// The least latitude.
     pub bottom: i64,
 }
 
-/// A header block whose features are all known. Its texts are slices of its bytes.
+/// A header block whose required features are all known (osmformat.proto, HeaderBlock). Its texts are UTF-8 and slices
+/// of its bytes. No getter takes memory; what the block doesn't have is None.
 #[derive(Debug, Drop)]
 pub struct HeaderBlock<'a> {
     bytes: &'a [u8],
@@ -67,42 +73,43 @@ impl<'a> Model for HeaderBlock<'a> {
 impl<'a> HeaderBlock<'a> {
     ghost use Rattle.osm_block.specs.HeaderTexts.{texts_left};
 
-    /// The area that the file covers, its sides in nanodegrees, where the header tells it.
+    /// The area that the file covers, its sides in nanodegrees. Where the block has several boxes, they are read as one
+    /// message, each side from the last box that has it.
     pub fn bbox(&self) -> Option<BBox>
         ensures { result ≡ self.now.bbox }
     {
         self.bbox
     }
 
-    /// The features that a reader needs; all of them are known.
+    /// The features that a reader needs, in the order of the block: each is `OsmSchema-V0.6` or `DenseNodes`.
     pub fn required(&self) -> Texts<'a>
         ensures { texts_left result ≡ self.now.required }
     {
         Texts::new(self.bytes, HEADER_REQUIRED_FEATURES)
     }
 
-    /// The features that a reader may use.
+    /// The features that a reader may use, in the order of the block. They are any texts.
     pub fn optional(&self) -> Texts<'a>
         ensures { texts_left result ≡ self.now.optional }
     {
         Texts::new(self.bytes, HEADER_OPTIONAL_FEATURES)
     }
 
-    /// The program that wrote the file.
+    /// The program that wrote the file: the last `writingprogram`.
     pub fn program(&self) -> Option<&'a str>
         ensures { option_copied result ≡ self.now.program }
     {
         self.program
     }
 
-    /// Where the data comes from.
+    /// Where the data comes from: the last `source`.
     pub fn source(&self) -> Option<&'a str>
         ensures { option_copied result ≡ self.now.source }
     {
         self.source
     }
 
-    /// When the database was in the state that the file shows, in seconds since 1970: the last
+    /// When the database was in the state that the file shows, in seconds since 1970, any number of 64 bits: the last
     /// `osmosis_replication_timestamp`.
     pub fn timestamp(&self) -> Option<i64>
         ensures { result ≡ self.now.timestamp }
@@ -110,7 +117,7 @@ impl<'a> HeaderBlock<'a> {
         self.timestamp
     }
 
-    /// The number of that state in the row of replications: the last
+    /// The number of that state in the row of replications, any number of 64 bits: the last
     /// `osmosis_replication_sequence_number`.
     pub fn sequence(&self) -> Option<i64>
         ensures { result ≡ self.now.sequence }
@@ -238,8 +245,9 @@ fn last_int(bytes: &[u8], number: u32) -> Option<i64>
 /// Reads a header block, and refuses one whose required features aren't all known: `OsmSchema-V0.6` and `DenseNodes`
 /// (osmformat.proto, HeaderBlock). Texts are slices of `bytes`, and no memory is taken.
 ///
-/// The fault is the first in the order of the numbers: `HeaderBlockWire`, `BBoxIncomplete`, `HeaderTextNotUtf8`,
-/// `UnknownFeature` with the feature's index among the required ones.
+/// The fault is the first in the order of the numbers: `HeaderBlockWire` where the block or a box is no field list;
+/// `BBoxIncomplete` where there is a box and a side is missing; `HeaderTextNotUtf8` where a feature, the program, the
+/// source or the URL is no UTF-8; `UnknownFeature` with the first such feature's index among the required ones, from 0.
 #[tactic(auto, unfolding(crate::specs::HeaderBlock::header_fault))]
 pub fn read_header_block(bytes: &[u8]) -> Result<HeaderBlock<'_>, HeaderFault>
     // It is refused exactly where a fault applies, with the first.

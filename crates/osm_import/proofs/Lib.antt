@@ -32,3 +32,4 @@ pub mod CopyLemmas
 pub mod MergeLemmas
 pub mod PartsLemmas
 pub mod InTurn
+pub mod TooLargeLemmas

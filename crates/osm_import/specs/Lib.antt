@@ -25,3 +25,4 @@ pub mod Copies
 pub mod CopyFaults
 pub mod Merges
 pub mod Parts
+pub mod TooLarge

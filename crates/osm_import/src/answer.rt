@@ -10,14 +10,16 @@ use thiserror::Error;
 /// Why a good blob is refused.
 #[derive(Clone, Copy, Debug, PartialEq, Eq, Error)]
 pub enum Conflict {
+    /// The offset is held with another SHA-256.
     #[error("another blob is held at this offset")]
     Differs,
+    /// The offset isn't held, but a held blob has a byte of this one's extent.
     #[error("the blob's extent meets that of a held one")]
     Overlap,
 }
 
 impl Conflict {
-    /// The number that this fault has in every message of the program.
+    /// The number that this fault has in every message of the program: 63 or 64.
     pub fn number(self) -> u8
         ensures { result ≡ conflict_number_of self }
     {

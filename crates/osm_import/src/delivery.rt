@@ -67,14 +67,14 @@ fn deliver_good<K: Keeper>(
     }
 }
 
-/// Delivers bytes as the blob at an offset: one step of the held map.
+/// Delivers bytes as the blob at the offset `off`, in bytes, of its file: one step of the held map.
 ///
 /// The first that applies is answered: `Bad` with the first fault of the delivery; `AlreadyHeld` where the offset is
 /// held with the frame's SHA-256; `Refused` with `Differs` where it is held with another, and with `Overlap` where the
 /// frame's extent meets a held one; else `Stored` with the number of its elements, and the blob is held. In place of
 /// any of these `Fault` may stand, where a call of the store has failed or memory was refused. All but `Stored` leave
-/// what is held, a `Fault` where the store can go on. A crash during the call, and a `Fault` after which the store has to
-/// be opened again, leave what was held, or that with this blob whole. A store that has to be opened again already
+/// what is held, a `Fault` where the store can go on. A crash during the call, and a `Fault` after which the store has
+/// to be opened again, leave what was held, or that with this blob whole. A store that has to be opened again already
 /// stores nothing, and a crash leaves what it could leave before. Where the store can go on, each answer but `Stored`
 /// leaves the tables as they were, whatever rows they have.
 pub fn deliver<K: Keeper>(alloc: Global, keeper: &mut K, off: u64, bytes: &[u8]) -> Answer

@@ -35,7 +35,7 @@ impl ExamineFault {
         }
     }
 
-    /// The name that this fault has in every message of the program.
+    /// The name that this fault has in every message of the program: that of the delivery's fault, or `Memory`.
     pub fn name(self) -> &'static str
         ensures { result.now ≡ examine_name_of self }
     {
@@ -51,7 +51,9 @@ impl ExamineFault {
 #[derive(Debug, Drop)]
 pub struct Good<'a> {
     pub kind: Kind,
+    /// In bytes: that of the delivery, at most 33,685,507.
     pub length: u64,
+    /// In the order of the block; none where the blob isn't an OSMData.
     pub elements: Vec<Element<'a>>,
     pub header: Option<HeaderBlock<'a>>,
 }
@@ -134,7 +136,8 @@ fn read_content(alloc: Global, kind: Kind, blob: &[u8]) -> Result<Content<'_>, E
     }
 }
 
-/// What `examine` says of the bytes that are this frame.
+/// What `examine` says of the bytes that are this frame, at the offset `off` in bytes: its kind, length, elements and
+/// header block, or the first fault of its place, of its blob and of the block in it, or `Memory`.
 pub fn examine_frame<'a>(
     alloc: Global,
     off: u64,
@@ -159,7 +162,8 @@ pub fn examine_frame<'a>(
     }
 }
 
-/// The kind, the length, the elements and the header block of a good delivery, or its first fault.
+/// The kind, the length, the elements and the header block of a good delivery at the offset `off`, in bytes, or its
+/// first fault.
 ///
 /// A delivery is good where the bytes are one whole frame that ends at 2^62 at most and stands at offset 0 exactly
 /// where it is an OSMHeader; where an OSMHeader's header block has no fault; and where an OSMData's block says these

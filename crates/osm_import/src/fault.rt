@@ -11,22 +11,28 @@ use thiserror::Error;
 /// above 2^62 is its frame's `OffsetTooLarge`.
 #[derive(Clone, Copy, Debug, PartialEq, Eq, Error)]
 pub enum Fault {
+    /// The bytes are no whole frame, or it would end above 2^62.
     #[error("{0}")]
     Frame(FrameFault),
+    /// The frame at offset 0 isn't an OSMHeader.
     #[error("the first blob is no OSMHeader")]
     NoHeaderFirst,
+    /// The offset isn't 0.
     #[error("an OSMHeader stands behind the first blob")]
     HeaderNotFirst,
+    /// The blob of an OSMHeader or of an OSMData gives no raw payload.
     #[error("{0}")]
     Blob(BlobFault),
+    /// The header block of an OSMHeader is refused.
     #[error("{0}")]
     Header(HeaderFault),
+    /// The block of an OSMData can't be read.
     #[error("{0}")]
     Block(BlockFault),
 }
 
 impl Fault {
-    /// The number that this fault has in every message of the program.
+    /// The number that this fault has in every message of the program: 61, 62, or that of the part at fault.
     pub fn number(self) -> u8
         ensures { result ≡ number_of self }
     {

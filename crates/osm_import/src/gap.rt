@@ -36,7 +36,7 @@ fn gaps_between(alloc: Global, extents: &[Extent], size: u64) -> Result<Vec<(u64
 }
 
 /// The maximal ranges within `0..size` that no held extent covers, ascending, each as its first offset and the offset
-/// behind its last byte. What is held stays, also after an error.
+/// behind its last byte, in bytes. What is held past the size is left aside. What is held stays, also after an error.
 ///
 /// An error is that of a read of the store that has failed, or `Memory` where memory was refused. Over an honest disk,
 /// where the store holds a map, it is never `NotThisStore`.

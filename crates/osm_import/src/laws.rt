@@ -1,10 +1,11 @@
 //! What the definitions imply: theorems, with no code.
 
-ghost use Rattle.std.specs.Prelude.{◌≡◌, ◌⊎◌, ℕ, ◌+◌, ◌<◌, ◌≤◌, List, [], Some, length};
+ghost use Rattle.std.specs.Prelude.{◌≡◌, ◌⊎◌, ℕ, ◌+◌, ◌<◌, ◌≤◌, Bool, List, [], Some, Result, length};
 ghost use Rattle.osm_value.specs.declared.element.Element.{Element};
 ghost use Rattle.pbf_frame.specs.declared.fault.FrameFault.{FrameFault};
 ghost use Rattle.pbf_frame.specs.declared.kind.Kind.{Kind};
 ghost use Rattle.pbf_frame.specs.Framer.{Framing, FaultStands, IsUnfinished};
+ghost use Rattle.osm_write.specs.Cutter.{ComesToOne};
 ghost use Rattle.osm_store.specs.Held.{HeldMap};
 ghost use Rattle.osm_import.specs.Step.{IsStep};
 ghost use Rattle.osm_import.specs.Runs.{IsFault, RepeatsChangeNothing};
@@ -13,6 +14,10 @@ ghost use Rattle.osm_import.specs.Good.{IsGood};
 ghost use Rattle.osm_import.specs.Bad.{IsBad};
 ghost use Rattle.osm_import.specs.Files.{AreFrames, IsFrameAt};
 ghost use Rattle.osm_import.specs.declared.fault.Fault.{Fault};
+ghost use Rattle.osm_import.specs.Exports.{Known};
+ghost use Rattle.osm_import.specs.Pbf.{IsPbfExport};
+ghost use Rattle.osm_import.specs.TooLarge.{IsTooLargeExactly, FirstIsTooLarge};
+ghost use Rattle.osm_import.specs.declared.export.fault.ExportFault.{ExportFault};
 ghost use Rattle.osm_import.specs.FrameReads.{Reading, GivesFrame, Halts};
 ghost use Rattle.osm_import.specs.Histories.{HistoriesRestart};
 ghost use Rattle.osm_import.specs.Merges.{UnionsAreImports, UnionsAreUnrefused, UnionsStay, UnionsAreTakenAgain, PartsAreOneImport};
@@ -90,4 +95,13 @@ pub fn parts_are_read_in_turn()
     ensures gaps { GapsJoin }
     ensures exports { ExportsJoin }
     ensures imports { ImportsAreParts }
+{}
+
+/// An export as PBF answers `BlockTooLarge` exactly where cutting a held blob comes to an element whose own block has
+/// more than 33,554,431 bytes: the answer comes only over such a map, and over such a map no export ends with `Ok`. A
+/// refusal, a failed write or a store's fault may come first.
+pub fn too_large_exactly_where_an_element_is()
+    ensures exactly { (held : HeldMap) (size : ℕ) (partial : Bool) (before after : Known) (result : Result (Unit {0}) ExportFault)
+        → IsPbfExport held size partial before after result → IsTooLargeExactly held result }
+    ensures own { (elements : List Element) → ComesToOne elements → FirstIsTooLarge elements }
 {}

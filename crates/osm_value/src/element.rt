@@ -16,7 +16,7 @@ pub enum MemberKind {
     Relation,
 }
 
-/// Who changed an element, when and for which time; what is absent is None.
+/// Who changed an element last, when, and for which time; what the input doesn't tell is None.
 #[derive(Debug, Drop)]
 pub struct Info<'a> {
     version: Option<i32>,
@@ -36,8 +36,9 @@ impl<'a> Model for Info<'a> {
 }
 
 impl<'a> Info<'a> {
-    /// An info of these parts, inside their ranges. `time` is in milliseconds since 1970;
-    /// `visible` has to be None.
+    /// An info of these parts: a version from 0 to 2,147,483,647, a time in milliseconds since 1970 and a changeset,
+    /// both at most 2^62 - 1 away from 0, a user id from -1 to 2,147,483,646, and a user's name without U+0000.
+    /// `visible` has to be None. No memory is taken.
     pub fn new(
         version: Option<i32>,
         time: Option<i64>,
@@ -177,7 +178,8 @@ impl<'a> Model for Node<'a> {
 }
 
 impl<'a> Node<'a> {
-    /// A node at coordinates in nanodegrees. All numbers are at most 2^62 - 1 away from 0, and no text holds U+0000.
+    /// A node at coordinates in nanodegrees. All numbers are at most 2^62 - 1 away from 0, so that it needn't lie on
+    /// the globe, and no text holds U+0000. No memory is taken.
     pub fn new(id: i64, lat: i64, lon: i64, tags: Vec<(&'a str, &'a str)>, info: Info<'a>) -> Self
         requires in_range { IsNode (record { id = id; lat = lat; lon = lon; tags = map (λ t. (t.0.now, t.1.now)) tags.items; info = info }) }
         ensures { result ≡ record { id = id; lat = lat; lon = lon; tags = map (λ t. (t.0.now, t.1.now)) tags.entry.items; info = info.entry } }
@@ -250,7 +252,8 @@ impl<'a> Model for Way<'a> {
 }
 
 impl<'a> Way<'a> {
-    /// A way through these nodes. All numbers are at most 2^62 - 1 away from 0, and no text holds U+0000.
+    /// A way through the nodes of these ids, none or more. All numbers are at most 2^62 - 1 away from 0, and no text
+    /// holds U+0000. No memory is taken.
     pub fn new(id: i64, refs: Vec<i64>, tags: Vec<(&'a str, &'a str)>, info: Info<'a>) -> Self
         requires in_range { IsWay (record { id = id; refs = refs.items; tags = map (λ t. (t.0.now, t.1.now)) tags.items; info = info }) }
         ensures { result ≡ record { id = id; refs = refs.items; tags = map (λ t. (t.0.now, t.1.now)) tags.entry.items; info = info.entry } }
@@ -271,7 +274,7 @@ impl<'a> Way<'a> {
         self.id
     }
 
-    /// The ids of its nodes, in order.
+    /// The ids of its nodes, in order. Each is at most 2^62 - 1 away from 0.
     pub fn refs(&self) -> &[i64]
         ensures exact { result.now ≡ self.now.refs }
         ensures in_range { IsWay self.now }
@@ -314,7 +317,8 @@ impl<'a> Model for Relation<'a> {
 }
 
 impl<'a> Relation<'a> {
-    /// A relation of these members. Its id is at most 2^62 - 1 away from 0, and no text holds U+0000.
+    /// A relation of these members, none or more. Its id is at most 2^62 - 1 away from 0, and no text holds U+0000. No
+    /// memory is taken.
     pub fn new(
         id: i64,
         members: Vec<Member<'a>>,

@@ -21,7 +21,8 @@ use crate::sink::Sink;
 /// Writes the line of an element, with its line feed. Latitude and longitude are in nanodegrees, the time in
 /// milliseconds since 1970. In texts, each byte that separates or isn't printed is `%` and two hexadecimal digits.
 ///
-/// `WriteFailed` where the sink fails or has failed before; then a front of the line went out.
+/// `WriteFailed` exactly where the sink fails or has failed before; then a front of the line went out, none of it where
+/// the sink had failed before. No memory is taken.
 pub fn write_line<S: Sink>(element: &Element, sink: &mut S) -> Result<(), LineFault>
     ensures line { OnOk result (Appends (S.written sink.old) (S.written sink.new) (line element.now)) }
     // What went out is a front of the line.

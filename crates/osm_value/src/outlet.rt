@@ -23,7 +23,7 @@ impl<W> Model for Outlet<W> {
 }
 
 impl<W: Write> Outlet<W> {
-    /// A sink that hasn't failed.
+    /// A sink of this writer, which hasn't failed. It writes nothing.
     pub fn new(writer: W) -> Outlet<W>
         ensures { result ≡ record { writer = writer; has_failed = false } }
     {
@@ -33,7 +33,8 @@ impl<W: Write> Outlet<W> {
         }
     }
 
-    /// Passes on what the writer holds back. A flush that fails is a write that failed.
+    /// Passes on what the writer holds back. `SinkFailed` where the writer's flush fails, which counts as a write that
+    /// failed. An earlier failure is no error here: `failed` still tells it.
     pub fn flush(&mut self) -> Result<(), SinkFailed>
         ensures kept { Keeps (W.contents self.old.writer) (W.contents self.new.writer) }
         ensures failed { self.new.has_failed ≡ (self.old.has_failed || is_err result) }
@@ -45,7 +46,7 @@ impl<W: Write> Outlet<W> {
         Ok(())
     }
 
-    /// The writer.
+    /// The writer, as it is: nothing is flushed.
     pub fn into_inner(self) -> W
         ensures { result ≡ self.writer }
     {

@@ -8,7 +8,8 @@ ghost use Rattle.osm_value.specs.Escape.{is_escaped, escaped, hex_digit};
 
 use crate::sink::Sink;
 
-/// Writes all of the piece, unless the sink fails or has failed.
+/// Writes all of the piece. Where the sink has failed nothing is written, and where it fails a front of the piece went
+/// out; `failed` tells of both.
 pub fn put<S: Sink>(sink: &mut S, piece: &[u8])
     ensures { Writes (S.written sink.old) (S.has_failed sink.old) (S.written sink.new) (S.has_failed sink.new) piece.now }
 {
@@ -28,7 +29,7 @@ pub fn put<S: Sink>(sink: &mut S, piece: &[u8])
     }
 }
 
-/// Writes a number in decimal.
+/// Writes a number in decimal, with `-` before one below 0. A sink that fails is met as by `put`.
 pub fn put_number<S: Sink>(sink: &mut S, number: i64)
     ensures { Writes (S.written sink.old) (S.has_failed sink.old) (S.written sink.new) (S.has_failed sink.new) (signed_decimal number) }
 {
@@ -40,7 +41,7 @@ pub fn put_number<S: Sink>(sink: &mut S, number: i64)
     }
 }
 
-/// Writes a number that isn't negative in decimal.
+/// Writes a number that isn't negative in decimal, 1 to 20 digits. A sink that fails is met as by `put`.
 pub fn put_digits<S: Sink>(sink: &mut S, number: u64)
     ensures { Writes (S.written sink.old) (S.has_failed sink.old) (S.written sink.new) (S.has_failed sink.new) (decimal number) }
 {
@@ -65,7 +66,8 @@ fn fill_digits(number: u64, digits: &mut [u8; 20]) -> usize
     at
 }
 
-/// Writes a text; each byte that separates or isn't printed is `%` and two upper-case hexadecimal digits.
+/// Writes a text. Each byte that separates or isn't printed is `%` and two upper-case hexadecimal digits: those below
+/// 33, 127, and each of `%=,@[]{}()`; bytes from 128 on stay. A sink that fails is met as by `put`.
 pub fn put_escaped<S: Sink>(sink: &mut S, text: &str)
     ensures { Writes (S.written sink.old) (S.has_failed sink.old) (S.written sink.new) (S.has_failed sink.new) (escaped text.now) }
 {

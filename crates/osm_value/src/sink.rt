@@ -19,7 +19,8 @@ pub trait Sink {
     /// Whether a write so far failed, or took nothing of a piece that isn't empty.
     ghost has_failed: { Self → Bool };
 
-    /// Takes some bytes of the piece's front, and says how many; none where it fails.
+    /// Takes some bytes of the piece's front, and says how many. `SinkFailed` where the write fails, and then it takes
+    /// none. To take none of a piece that isn't empty is a failure, too, which `failed` tells from then on.
     fn write(&mut self, piece: &[u8]) -> Result<usize, SinkFailed>
         ensures taken { WriteAppends (written self.old) (written self.new) result piece.now }
         ensures within { IfOk result (λ n. n ≤ length piece.now) }

@@ -27,3 +27,4 @@ pub mod ScaleNoLonger
 pub mod NumberLengths
 pub mod GroupNoLonger
 pub mod OneNoLonger
+pub mod WrittenRead

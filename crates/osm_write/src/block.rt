@@ -24,7 +24,7 @@ use osm_block::fields::{
 use osm_value::Element;
 use std::alloc::{AllocError, Global};
 
-/// The longest block: the longest raw payload of a blob.
+/// The longest block, in bytes: the longest raw payload of a blob, 32 MiB less one byte (fileformat.proto, Blob).
 pub const MAX_BLOCK_LEN: usize = 33_554_431;
 
 fn append_texts(texts: &[&str], out: &mut Vec<u8>) -> Result<(), AllocError>
@@ -113,7 +113,8 @@ fn bytes_of(alloc: Global, elements: &[Element]) -> Result<Vec<u8>, AllocError>
     Ok(out)
 }
 
-/// The canonical block of the one element, whatever its length.
+/// The canonical block of the one element, whatever its length. What is given says this element to every reader, where
+/// it uses fewer than 2^31 - 1 different texts. The one error is that memory was refused.
 pub fn encode_one(alloc: Global, element: &Element) -> Result<Vec<u8>, AllocError>
     ensures exact { IfOk result (λ v. v.items ≡ canon (element.now ∷ [])) }
     ensures read_back { IfOk result (λ v. FewTexts (element.now ∷ []) → Block (element.now ∷ []) v.items) }
@@ -121,9 +122,14 @@ pub fn encode_one(alloc: Global, element: &Element) -> Result<Vec<u8>, AllocErro
     bytes_of(alloc, std::slice::from_ref(element))
 }
 
-/// The canonical block of the elements, in their order. `BlockTooLarge` exactly where it has more
-/// than 33,554,431 bytes, the most that a raw payload may have. What is given says these elements
-/// to every reader.
+/// The canonical block of the elements, in their order, one for every list: fields ascend, numbers are shortest, arrays
+/// are packed, what is empty is left out (osmformat.proto, PrimitiveBlock). Nodes are dense; neighbours of one kind
+/// share a group, and nodes only where they have the same fields of info. Texts stand in the table once, by first use,
+/// behind the empty one at index 0. Coordinates are in units of 100 nanodegrees and times in seconds where all fit
+/// that, else in nanodegrees and milliseconds. What is given says these elements, and no other list, to every reader.
+///
+/// `BlockTooLarge` exactly where the block has more than 33,554,431 bytes, the most that a raw payload may have, unless
+/// memory ran out first; `Memory` only where memory was refused.
 pub fn encode_block(alloc: Global, elements: &[Element]) -> Result<Vec<u8>, WriteFault>
     ensures exact { MatchResult result (λ v. (v.items ≡ canon elements.now) × (length v.items ≤ MAX_BLOCK_LEN)) (λ e. IsFault (canon elements.now) e) }
     ensures read_back { IfOk result (λ v. Block elements.now v.items) }

@@ -39,9 +39,11 @@ impl<'s, 'a> BlobCutter<'s, 'a> {
     }
 
     /// The block of the next 8,000 elements, or of all that are left; while it has more than
-    /// 33,554,431 bytes, of half as many, rounded down. None exactly where no element is left;
+    /// 33,554,431 bytes, of half as many, rounded down. None exactly where no element is left.
+    ///
     /// `BlockTooLarge` exactly where the block of the next element alone has more than 33,554,431
-    /// bytes, unless memory ran out. An error leaves the cutter as it was.
+    /// bytes, unless memory ran out; `Memory` only where memory was refused. An error leaves the
+    /// cutter as it was, so that the next call answers `BlockTooLarge` again.
     pub fn next(&mut self) -> Result<Option<Vec<u8>>, WriteFault>
         ensures exact { MatchResult result (λ block. NextOk self.old self.new block) (λ e. (self.new ≡ self.old) × StepErr self.old e) }
         ensures first_fits { OnOk result (FirstFits self.old) }

@@ -17,7 +17,7 @@ pub enum WriteFault {
 }
 
 impl WriteFault {
-    /// The number that this fault has in every message of the program.
+    /// The number that this fault has in every message of the program: 53 or 65.
     pub fn number(self) -> u8
         ensures { result ≡ number_of self }
     {

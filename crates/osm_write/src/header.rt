@@ -10,8 +10,11 @@ use osm_block::fields::{HEADER_REQUIRED_FEATURES, HEADER_WRITINGPROGRAM};
 use std::alloc::{AllocError, Global};
 
 /// The header block of a file: the required features `OsmSchema-V0.6` and `DenseNodes` and the
-/// writing program `pbfrow`, and nothing else. A file with `history` would need a feature that
-/// readers of this form refuse.
+/// writing program `pbfrow`, and nothing else (osmformat.proto, HeaderBlock). It is 37 bytes long,
+/// and `read_header_block` finds no fault in it.
+///
+/// `history` has to be false: a file with it would need a feature that readers of this form
+/// refuse. The one error is that memory was refused.
 pub fn encode_header(alloc: Global, history: bool) -> Result<Vec<u8>, AllocError>
     requires no_history { history ≡ false }
     ensures exact { IfOk result (λ v. v.items ≡ header_block history) }

@@ -1,11 +1,13 @@
 //! What the canonical block promises to its readers: theorems, with no code.
 
-ghost use Rattle.std.specs.Prelude.{ℕ, ◌≤◌, List, length};
+ghost use Rattle.std.specs.Prelude.{ℕ, ◌≤◌, List, length, Result};
 ghost use Rattle.osm_value.specs.declared.element.Element.{Element};
+ghost use Rattle.osm_block.specs.declared.fault.BlockError.{BlockError};
 ghost use Rattle.osm_block.specs.Block.{Block};
+ghost use Rattle.osm_block.specs.Phases.{Gives, fault};
 ghost use Rattle.osm_write.specs.declared.block.TheConstants.{MAX_BLOCK_LEN};
 ghost use Rattle.osm_write.specs.Canon.{canon};
-ghost use Rattle.osm_write.specs.Laws.{ReadsBack, IsReadOnly, FewTexts, FirstIsNoLonger};
+ghost use Rattle.osm_write.specs.Laws.{ReadsBack, IsReadOnly, FewTexts, FirstIsNoLonger, IsGiven, SaysAlone, AnswersThem};
 
 /// The canonical block of a list of elements says that list: for elements inside their ranges,
 /// of fewer than 2^31 - 1 different texts, whose canonical block has fewer than 2^64 bytes.
@@ -33,4 +35,12 @@ pub fn list_that_is_read_has_few_texts()
 /// element inside its ranges. So where that one is too large for a file, the list's is, too.
 pub fn first_element_is_no_longer()
     ensures { (e : Element) (es : List Element) → FirstIsNoLonger e es }
+{}
+
+/// What is written is read: the block that `encode_block` gives for a list has no fault, and says that
+/// list and no other. So `read_block` answers the list to it, by its contract, or that memory was refused.
+pub fn what_is_written_is_read()
+    ensures says { (es : List Element) (block : List ℕ) → IsGiven es block → SaysAlone es block }
+    ensures read { (es : List Element) (block : List ℕ) (answer : Result (List Element) BlockError) → IsGiven es block
+        → Gives (λ fs. Block fs block) (fault block) answer → AnswersThem es answer }
 {}

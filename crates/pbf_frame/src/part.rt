@@ -6,7 +6,7 @@ ghost use Rattle.pbf_frame.specs.Parts.{HasBegun, end_after, end_of, part_at};
 use crate::fault::FrameFault;
 use crate::front::{Front, LENGTH_BYTES, read_front};
 
-/// The greatest offset at which a frame ends: 2^62.
+/// The greatest offset at which a frame ends, in bytes: 2^62.
 pub const MAX_OFFSET: u64 = 4_611_686_018_427_387_904;
 
 /// The part of a frame that has begun. The parts before it are whole.

@@ -21,7 +21,7 @@ pub enum HeaderFault {
 }
 
 impl HeaderFault {
-    /// The number that this fault has in every message of the program.
+    /// The number that this fault has in every message of the program, 30 to 33.
     pub fn number(self) -> u8
         ensures { result ≡ number_of self }
     {

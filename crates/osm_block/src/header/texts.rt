@@ -7,7 +7,7 @@ ghost use Rattle.osm_block.specs.HeaderPayloads.{payloads_left};
 
 use super::payloads::Payloads;
 
-/// The texts of one field of a header block, in order.
+/// The texts of one field of a header block, in order, lent from its bytes. It takes no memory.
 #[derive(Debug, Drop)]
 pub struct Texts<'a> {
     payloads: Payloads<'a>,

@@ -18,17 +18,19 @@ pub enum ExportFault {
     /// The greatest end of what is held is past the size.
     #[error("what is held ends at {0}, past the size")]
     PastEnd(u64),
+    /// It comes only where the sink has failed.
     #[error("a write failed")]
     WriteFailed,
     /// An element whose block alone has more than 33,554,431 bytes. It comes from exports as PBF alone.
     #[error("an element is too large for a block")]
     BlockTooLarge,
+    /// A call of the store has failed, or memory was refused.
     #[error("{0}")]
     Store(StoreFault),
 }
 
 impl ExportFault {
-    /// The number that this fault has in every message of the program.
+    /// The number that this fault has in every message of the program: 67, 70, 24, 53, or that of the store's fault.
     pub fn number(self) -> u8
         ensures { result ≡ export_number_of self }
     {

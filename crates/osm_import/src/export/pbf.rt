@@ -91,12 +91,15 @@ impl<S: Sink> BlobStep<S> for Blocks {
 /// Writes all held elements as a PBF file: a header frame, and then, for each held blob by offset, the frames of the
 /// blocks that `BlobCutter` gives for its elements. What is held stays.
 ///
-/// It is refused as `export_lines` is, before any byte; unless `partial`, a map that doesn't tile the size gets no byte before
-/// `Store` either. `BlockTooLarge` comes where halving a blob's elements comes to one whose block alone is too large: the
-/// frames before that element went out. After `WriteFailed` and `Store` a front of what was to be written.
+/// It is refused as `export_lines` is, before any byte; unless `partial`, a map that doesn't tile the size gets no byte
+/// before `Store` either. `BlockTooLarge` comes where halving a blob's elements comes to one whose block alone has more
+/// than 33,554,431 bytes: the frames before that element went out. Over one map this and `Ok` never come both: an
+/// element that is too large alone, but lies in a block that isn't, is no fault. After `WriteFailed` and `Store` a
+/// front of what was to be written.
 ///
 /// Over a map that tiles a file and holds the entries of that file alone it isn't refused, with the file's size or with
-/// none, and at `Ok` it has written a file: one of the same elements, in the same order, where that is 2^62 bytes at most.
+/// none, and at `Ok` it has written a file: one of the same elements, in the same order, where that is 2^62 bytes at
+/// most.
 pub fn export_pbf<K: Reader, S: Sink>(
     alloc: Global,
     keeper: &mut K,

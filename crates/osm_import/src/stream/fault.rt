@@ -13,13 +13,16 @@ pub enum Stop {
     /// The input isn't a sequence of frames.
     #[error("{0}")]
     Frame(FrameFault),
+    /// The input has no byte, and was read from offset 0.
     #[error("the input has no first blob")]
     NoHeaderFirst,
+    /// It comes only where the sink has failed.
     #[error("a write failed")]
     WriteFailed,
     /// A call of the store has failed, or memory was refused.
     #[error("{0}")]
     Store(StoreFault),
+    /// It comes only where the source has failed.
     #[error("a read failed")]
     ReadFailed,
     /// The input has bytes behind the last blob that was asked for.
@@ -28,7 +31,8 @@ pub enum Stop {
 }
 
 impl Stop {
-    /// The number that this fault has in every message of the program.
+    /// The number that this fault has in every message of the program: 24, 61, 68, 69, or that of the frame's or the
+    /// store's fault.
     pub fn number(self) -> u8
         ensures { result ≡ stop_number_of self }
     {
@@ -62,6 +66,7 @@ impl Stop {
 #[error("{fault} (at {at})")]
 pub struct StreamFault {
     pub fault: Stop,
+    /// In bytes, counted as the stream's offset was.
     pub at: u64,
 }
 

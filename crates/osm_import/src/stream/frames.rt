@@ -39,7 +39,8 @@ impl<R: Source> Model for FrameReader<R> {
 impl<R: Source> FrameReader<R> {
     ghost use Rattle.osm_import.specs.contracts.stream.frames.FrameReader.{the_row};
 
-    /// The frames of a reader that stands at the offset `from`. Refused memory is a fault at that offset.
+    /// The frames of a reader that stands at the offset `from`, in bytes, at most 2^62. It reads nothing. Refused
+    /// memory is a fault at that offset, the only one.
     pub fn new(alloc: Global, from: u64, reader: R) -> Result<FrameReader<R>, StreamFault>
     where
         R: Drop,
@@ -61,8 +62,8 @@ impl<R: Source> FrameReader<R> {
         })
     }
 
-    /// Whether a whole frame was read, or bytes at whose fault `next` stops: the next call of `next` then answers without
-    /// a read of the reader. An error where memory was refused; nothing is lost by it.
+    /// Whether a whole frame was read, or bytes at whose fault `next` stops: the next call of `next` then answers
+    /// without a read of the reader. An error where memory was refused; nothing is lost by it.
     pub fn is_ready(&mut self) -> Result<bool, AllocError>
         ensures kept { self.new ≡ self.old }
         ensures ready { IfOk result (λ ready. (ready ≡ true) ↔ IsReady self.new) }

@@ -19,14 +19,15 @@ fn put_fault_and<S: Sink>(out: &mut S, number: u8, name: &str, behind: &[u8])
     put(out, behind);
 }
 
-/// Writes `fault NUMBER NAME`: a fault of a store as a whole.
+/// Writes `fault NUMBER NAME` and a line feed: a fault of a store as a whole. A sink that fails is met as by `put`.
 pub fn put_plain_fault<S: Sink>(out: &mut S, number: u8, name: &str)
     ensures { Writes (S.written out.old) (S.has_failed out.old) (S.written out.new) (S.has_failed out.new) (plain_fault_line number name.now) }
 {
     put_fault_and(out, number, name, b"\n");
 }
 
-/// Writes `fault NUMBER NAME at OFFSET`: a fault at this offset of a file.
+/// Writes `fault NUMBER NAME at OFFSET` and a line feed: a fault at this offset of a file, in bytes. A sink that fails
+/// is met as by `put`.
 pub fn put_fault_at<S: Sink>(out: &mut S, number: u8, name: &str, off: u64)
     ensures { Writes (S.written out.old) (S.has_failed out.old) (S.written out.new) (S.has_failed out.new) (fault_line number name.now off) }
 {

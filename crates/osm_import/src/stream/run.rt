@@ -91,9 +91,9 @@ fn ended(from: u64, summary: Summary) -> Result<Summary, StreamFault>
     Ok(summary)
 }
 
-/// Imports the frames of a reader that stands at the offset `from`, each with one line: `OFFSET stored COUNT`,
-/// `OFFSET held`, or `fault NUMBER NAME at OFFSET` for a blob that is bad or refused, and goes on. At `Ok` nothing is
-/// left in the reader. It stops, with the offset of the frame that was being read or delivered:
+/// Imports the frames of a reader that stands at the offset `from`, in bytes and at most 2^62, each with one line:
+/// `OFFSET stored COUNT`, `OFFSET held`, or `fault NUMBER NAME at OFFSET` for a blob that is bad or refused, and goes
+/// on. At `Ok` nothing is left in the reader. It stops, with the offset of the frame that was being read or delivered:
 ///
 /// - at a fault of a frame, and with `NoHeaderFirst` where the input is empty and `from` is 0;
 /// - with `Store` where a call of the store has failed or memory was refused, and with no line for that frame;
@@ -102,8 +102,8 @@ fn ended(from: u64, summary: Summary) -> Result<Summary, StreamFault>
 ///
 /// The blobs that were answered before a stop stay.
 ///
-/// Over the bytes of a whole reader, from 0, `Ok` says that they are a file; and where the store held nothing but entries
-/// of that file and no blob was bad, what it holds now tiles the file.
+/// Over the bytes of a whole reader, from 0, `Ok` says that they are a file; and where the store held nothing but
+/// entries of that file and no blob was bad, what it holds now tiles the file.
 pub fn import_stream<K: Keeper, R: Source, S: Sink>(
     alloc: Global,
     keeper: &mut K,

@@ -23,7 +23,8 @@ pub trait Source {
     /// Whether a read so far failed. The end of the input is no failure.
     ghost has_failed: { Self → Bool };
 
-    /// Reads some bytes into the buffer, and none only at the end of the input or where the buffer is empty.
+    /// Reads some bytes into the buffer, and says how many; none only at the end of the input or where the buffer is
+    /// empty. `SourceFailed` where the read fails, and then nothing was taken of the input.
     fn read(&mut self, buffer: &mut [u8]) -> Result<usize, SourceFailed>
         ensures within { ReadsAtMost result buffer.new }
         ensures consumed { ReadConsumes (bytes_left self.old) (bytes_left self.new) result buffer.new }
@@ -48,7 +49,7 @@ impl<R> Model for Inlet<R> {
 }
 
 impl<R: Read> Inlet<R> {
-    /// A source that hasn't failed.
+    /// A source of this reader, which hasn't failed. It reads nothing.
     pub fn new(reader: R) -> Inlet<R>
         ensures { result ≡ record { reader = reader; has_failed = false } }
     {

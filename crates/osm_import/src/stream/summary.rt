@@ -5,13 +5,14 @@ ghost use Rattle.osm_import.specs.declared.answer.Answer.{Answer as AnswerValue}
 
 use crate::answer::Answer;
 
-/// How many blobs of a stream were stored, were held already, were bad and were refused, and the offset behind the last.
+/// How many blobs of a stream were stored, were held already, were bad and were refused, and where it came to.
 #[derive(Clone, Copy, Debug, PartialEq, Eq)]
 pub struct Summary {
     pub stored: u64,
     pub held: u64,
     pub bad: u64,
     pub refused: u64,
+    /// The offset behind the last blob, in bytes; that of the stream's start where there was none.
     pub next: u64,
 }
 
