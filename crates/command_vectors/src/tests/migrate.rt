@@ -58,7 +58,10 @@ fn migrates_a_file_and_again(rt: HostRuntime) -> Result<(), Fail> {
     expect_migrate(&rt, &mut old, &mut new, 0, b"copied 2 held 0\n");
     expect_migrate(&rt, &mut old, &mut new, 0, b"copied 0 held 2\n");
     let mut out = Outlet::new(Vec::new(rt.alloc()));
-    assert_eq!(rt; export(rt.alloc(), &mut new, None, false, Form::Lines, &mut out), 0);
+    assert_eq!(rt;
+        export(rt.alloc(), &mut new, None, false, Form::Lines, &mut out),
+        0
+    );
     assert!(rt; out.into_inner().as_slice() == b"n 1 1000 -100 [] {}\nn 2 900 -100 [] {}\n");
     expect_status(&rt, &mut new, b"blobs 2 end 84 gaps 0\n");
     Ok(())
@@ -88,7 +91,10 @@ fn migrates_with_no_output(rt: HostRuntime) -> Result<(), Fail> {
     let mut old = Blocks::new_store(rt.alloc()).ok_or("a store")?;
     import_two_nodes(&rt, &mut old);
     let mut new = Columns::new_store(rt.alloc()).ok_or("a store")?;
-    assert_eq!(rt; migrate(rt.alloc(), &mut old, &mut new, &mut Outlet::new(Closed)), 1);
+    assert_eq!(rt;
+        migrate(rt.alloc(), &mut old, &mut new, &mut Outlet::new(Closed)),
+        1
+    );
     expect_status(&rt, &mut new, b"blobs 2 end 84 gaps 0\n");
     Ok(())
 }
