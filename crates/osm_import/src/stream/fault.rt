@@ -61,12 +61,11 @@ impl Stop {
     }
 }
 
-/// Why a stream ends early, and the offset of the frame that was being read or delivered then.
+/// Why a stream ends early, and the offset, in bytes, of the frame that was being read or delivered then.
 #[derive(Clone, Copy, Debug, PartialEq, Eq, Error)]
 #[error("{fault} (at {at})")]
 pub struct StreamFault {
     pub fault: Stop,
-    /// In bytes, counted as the stream's offset was.
     pub at: u64,
 }
 
