@@ -28,7 +28,8 @@ pub struct Extent {
     pub n: u64,
 }
 
-/// What is read of a store of blobs, which stands for a finite map from offsets.
+/// What is read of a store of blobs, which stands for a finite map from offsets. A read answers `NotThisStore(None)` for
+/// rows that are those of no map, as far as it can tell by the rows that it was asked for.
 pub trait Reader {
     /// The store can go on, and its tables' rows are those of this map.
     ghost holds: { Self → HeldMap → Type 0 };
@@ -75,8 +76,8 @@ pub trait Reader {
         ensures apart { IfOk result (λ extents. AscendApart extents.items) }
         ensures reads { OnlyReads holds leaves leaves_a_map same_tables is_honest is_open failures self.old result self.new };
 
-    /// The rows of the blob that is held at an offset; where none is held there, nothing is said of the answer. What is
-    /// held stays, also after a fault.
+    /// The rows of the blob that is held at an offset. Where none is held there, nothing is said of the answer but that
+    /// its rows, as those of any blob, are at the positions 0, 1, 2, .. What is held stays, also after a fault.
     fn load(&mut self, alloc: Global, off: u64) -> Result<Loaded, StoreFault>
         ensures rows { (held : HeldMap) (blob : Blob) → holds self.old held → is_honest self.new
             → map.get held off ≡ Some blob → IfOk result (λ loaded. HasRowsOf loaded blob.elements) }
