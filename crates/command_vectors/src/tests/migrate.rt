@@ -62,7 +62,8 @@ fn migrates_a_file_and_again(rt: HostRuntime) -> Result<(), Fail> {
         export(rt.alloc(), &mut new, None, false, Form::Lines, &mut out),
         0
     );
-    assert!(rt; out.into_inner().as_slice() == b"n 1 1000 -100 [] {}\nn 2 900 -100 [] {}\n");
+    let lines = b"n 1 1000 -100 [] {}\nn 2 900 -100 [] {}\n";
+    assert!(rt; out.into_inner().as_slice() == lines.as_slice());
     expect_status(&rt, &mut new, b"blobs 2 end 84 gaps 0\n");
     Ok(())
 }
