@@ -38,11 +38,12 @@ fn import_nodes_at<K: Keeper>(
     last: u8,
     text: &[u8],
 ) -> Result<(), AllocError> {
+    let two_nodes = &TWO_NODES[..];
     let mut bytes = Vec::new(rt.alloc());
     for _ in 0..off {
         bytes.push(0)?;
     }
-    bytes.extend_from_slice(&TWO_NODES[47..83])?;
+    bytes.extend_from_slice(&two_nodes[47..83])?;
     bytes.push(last)?;
     expect_import(rt, store, Cursor::new(&bytes[..]), off, 0, text);
     Ok(())
