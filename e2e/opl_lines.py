@@ -2,13 +2,17 @@
 """Reads OPL, as `osmium cat -f opl` writes it, and writes the same elements as the lines of `pbfrow show`.
 
 It shares nothing with the program: it is what the lines are compared with. It wants an input whose objects have all of
-version, time, changeset, uid and user, as osmium writes them.
+version, time, changeset, uid and user, as osmium writes them. With the word `history` it writes the flag of visibility,
+which OPL always has and a file only where it is one with history.
 """
 import re
 import sys
 from datetime import datetime, timezone
 
 SEPARATORS = b"%=,@[]{}()"
+
+# What osmium writes as the latitude and longitude of a node that has none: 2^31 - 1 units of 100 nanodegrees.
+NOWHERE = (2**31 - 1) * 100
 
 
 def text(word):
@@ -23,6 +27,8 @@ def escaped(word):
 
 
 def nanodegrees(word):
+    if not word:
+        return NOWHERE
     sign, rest = (-1, word[1:]) if word.startswith("-") else (1, word)
     whole, _, part = rest.partition(".")
     return sign * (int(whole) * 10**9 + int((part + "0" * 9)[:9]))
@@ -41,11 +47,13 @@ def members(word):
         yield name.encode() + b"@" + escaped(role)
 
 
-def line(words):
+def line(words, has_flags):
     fields = {word[0]: word[1:] for word in words[1:]}
     kind, number = words[0][0], words[0][1:].encode()
     info = "v=%s,t=%d,c=%s,i=%s,u=" % (fields["v"], milliseconds(fields["t"]), fields["c"], fields["i"])
     info = info.encode() + escaped(fields["u"])
+    if has_flags:
+        info += {"V": b",x=1", "D": b",x=0"}[fields["d"]]
     tags = b",".join(
         b"=".join(escaped(part) for part in tag.split("=")) for tag in fields["T"].split(",") if tag
     )
@@ -59,8 +67,9 @@ def line(words):
 
 
 def main():
+    has_flags = sys.argv[1:] == ["history"]
     for row in sys.stdin:
-        sys.stdout.buffer.write(line(row.rstrip("\n").split(" ")))
+        sys.stdout.buffer.write(line(row.rstrip("\n").split(" "), has_flags))
 
 
 main()

@@ -16,21 +16,29 @@ are printed, and what went otherwise; the exit status is 1 if something did.
 import glob
 import os
 import re
+import shutil
 import subprocess
 import sys
+import tempfile
 from collections import Counter
+from concurrent.futures import ThreadPoolExecutor
 
 AS_WITH_MEMORY, ARGUMENTS, FAULT = "as with memory", "with 2 and no output", "with the line of the fault"
 FAULT_LINE = re.compile(rb"fault 65 Memory(?: at (?:0|47))?\n\Z")
 
 SECONDS = 60
 
+# In memory, where there is such a folder: on a disk most of the time would be spent waiting for it.
+FOLDER = "/dev/shm" if os.access("/dev/shm", os.W_OK) else None
+
 
 def run(command, refused=None):
     """The exit status of a command, its output and its errors. Its growths may be counted, and one of them refused."""
     settings = dict(os.environ)
     if refused is not None:
-        settings |= {"LD_PRELOAD": os.path.abspath("refuse.so"), "REFUSED_GROWTH": str(refused), "GROWTHS": "growths.txt"}
+        settings |= {"LD_PRELOAD": os.path.abspath("refuse.so"), "REFUSED_GROWTH": str(refused)}
+    if refused == 0:
+        settings["GROWTHS"] = "growths.txt"
     try:
         done = subprocess.run(command, env=settings, stdin=subprocess.DEVNULL, capture_output=True, timeout=SECONDS)
     except subprocess.TimeoutExpired:
@@ -69,23 +77,51 @@ def way_of(got, wanted, is_text):
     return FAULT if wanted[1].startswith(front) and (ends_line or not is_text) else None
 
 
-def main(every, program, *words):
-    command = [program, *words]
-    database = words[2] if words[0] == "import" else None
-    is_new = database and not os.path.exists(database)
-    wanted, made = counted(command)
-    whole = database and run([program, "export", database])
+def in_folder(words, folder):
+    """The words of a command over a copy in this folder of the database that it names, and that copy."""
+    at = {"import": 2, "status": 1, "export": 1, "find": 1}.get(words[0])
+    if at is None:
+        return list(words), None
+    copy = os.path.join(folder, os.path.basename(words[at]))
+    for path in glob.glob(f"{words[at]}*"):
+        shutil.copy(path, folder)
+    return [*words[:at], copy, *words[at + 1:]], copy
+
+
+def tried(program, words, refusals, wanted, is_new):
+    """Runs a command with each of these growths refused, over a copy of its database: the ways, and what went otherwise."""
     ways, told = Counter(), []
-    for refused in range(1, made + 1, int(every)):
-        if is_new:
-            remove(database)
-        got = run(command, refused)
-        way = way_of(got, wanted, "pbf" not in words)
-        ways[way] += 1
-        if not way:
-            told.append(f"growth {refused}: {got}")
-        if database and (run(command)[0] != 0 or run([program, "export", database]) != whole):
-            told.append(f"growth {refused}: the same again doesn't complete the import")
+    with tempfile.TemporaryDirectory(dir=FOLDER) as folder:
+        words, database = in_folder(words, folder)
+        command, export = [program, *words], [program, "export", database]
+        whole = database and run(export)
+        for refused in refusals:
+            if is_new:
+                remove(database)
+            got = run(command, refused)
+            way = way_of(got, wanted, "pbf" not in words)
+            ways[way] += 1
+            if not way:
+                told.append(f"growth {refused}: {got}")
+            if words[0] == "import" and (run(command)[0] != 0 or run(export) != whole):
+                told.append(f"growth {refused}: the same again doesn't complete the import")
+        if database and run(export) != whole:
+            told.append("the database isn't as it was")
+    return ways, told
+
+
+def main(every, program, *words):
+    is_new = words[0] == "import" and not os.path.exists(words[2])
+    wanted, made = counted([program, *words])
+    refusals = range(1, made + 1, int(every))
+    # each worker has every so many of them, and a database of its own
+    count = os.cpu_count() or 1
+    with ThreadPoolExecutor(count) as pool:
+        shares = list(pool.map(lambda k: tried(program, words, refusals[k::count], wanted, is_new), range(count)))
+    ways, told = Counter(), []
+    for share_ways, share_told in shares:
+        ways += share_ways
+        told += share_told
     if not made:
         told.append(f"no growth was counted: {wanted}")
     print(f"{sum(ways.values())} of {made} growths: " + ", ".join(f"{ways[it]} {it}" for it in (ARGUMENTS, FAULT, AS_WITH_MEMORY)))

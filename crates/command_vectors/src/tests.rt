@@ -2,6 +2,7 @@ mod ask;
 mod check;
 mod import;
 mod list;
+mod merge;
 mod migrate;
 mod progress;
 mod show;

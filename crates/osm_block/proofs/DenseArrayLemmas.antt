@@ -1,5 +1,5 @@
 -- Arrays of dense nodes: one index, one more, and all of them.
-use Rattle.std.proofs.Common.{◌≡◌, ℕ, zero, suc, ◌+◌, ◌-◌, ◌<◌, ◌≤◌, List, [], ◌∷◌, ◌++◌, map, length, drop, get_or, replicate, Bool, true, false, not, ◌&&◌, refl, sym, ap, ◌∙◌, subst, ℤ, pos, ◌+ℤ◌, arith, Option, Some, None, append_assoc, append-nil}
+use Rattle.std.proofs.Common.{◌≡◌, ℕ, zero, suc, ◌+◌, ◌-◌, ◌<◌, ◌≤◌, List, [], ◌∷◌, ◌++◌, map, length, drop, get_or, replicate, Bool, true, not, ◌&&◌, refl, sym, ap, ◌∙◌, subst, ℤ, pos, ◌+ℤ◌, arith, Option, Some, None, append_assoc, append-nil}
 use Rattle.std.specs.Prelude.{option_map, option_and_then, slice_get, ◌||◌, ◌==◌}
 use Rattle.std.specs.List.{list_all}
 use Rattle.std.proofs.lemmas.List.{drop_more, drop_all, map-append, length-map, length-replicate, get_or-map}
@@ -31,14 +31,14 @@ none_at zero k = refl
 none_at (suc n) zero = refl
 none_at {A} (suc n) (suc k) = none_at {A = A} n k
 
-some_at : {A : Type 0} (meaning : ℤ → Option A) (xs : List ℤ) (k : ℕ) → get_or (map meaning xs) k None ≡ option_and_then meaning (slice_get xs k)
+some_at : {A B : Type 0} (meaning : A → Option B) (xs : List A) (k : ℕ) → get_or (map meaning xs) k None ≡ option_and_then meaning (slice_get xs k)
 some_at meaning [] k = refl
 some_at meaning (x ∷ xs) zero = refl
 some_at meaning (x ∷ xs) (suc k) = some_at meaning xs k
 
 -- what stands at an index of an array that may be empty
-pub at_index-is : {A : Type 0} (n : ℕ) (meaning : ℤ → Option A) (xs : List ℤ) (k : ℕ) → at_index n meaning xs k ≡ option_and_then meaning (slice_get xs k)
-at_index-is {A} n meaning [] k = none_at {A = A} n k
+pub at_index-is : {A B : Type 0} (n : ℕ) (meaning : A → Option B) (xs : List A) (k : ℕ) → at_index n meaning xs k ≡ option_and_then meaning (slice_get xs k)
+at_index-is {A} {B} n meaning [] k = none_at {A = B} n k
 at_index-is n meaning (x ∷ xs) k = some_at meaning (x ∷ xs) k
 
 pub mapped_at : {A : Type 0} (n : ℕ) (meaning : ℤ → A) (xs : List ℤ) (k : ℕ) → at_index n (λ v. Some (meaning v)) xs k ≡ option_map meaning (slice_get xs k)
@@ -48,10 +48,10 @@ mapped_at n meaning xs k = at_index-is n (λ v. Some (meaning v)) xs k ∙ as_ma
     as_map None = refl
     as_map (Some v) = refl
 
-pub same_at : (n : ℕ) (xs : List ℤ) (k : ℕ) → at_index n (λ v. Some v) xs k ≡ slice_get xs k
-same_at n xs k = at_index-is n (λ v. Some v) xs k ∙ as_it_is (slice_get xs k)
+pub same_at : {A : Type 0} (n : ℕ) (xs : List A) (k : ℕ) → at_index n (λ v. Some v) xs k ≡ slice_get xs k
+same_at {A} n xs k = at_index-is n (λ v. Some v) xs k ∙ as_it_is (slice_get xs k)
   where
-    as_it_is : (o : Option ℤ) → option_and_then (λ v. Some v) o ≡ o
+    as_it_is : (o : Option A) → option_and_then (λ v. Some v) o ≡ o
     as_it_is None = refl
     as_it_is (Some v) = refl
 
@@ -98,17 +98,17 @@ length-sums (d ∷ ds) = ap suc (length-map (front_sums ds) (λ s. d +ℤ s) ∙
 pub Diff-length : (vs ds : List ℤ) → Diff vs ds → length vs ≡ length ds
 Diff-length vs ds h = ap length (Diff-are_sums vs ds h) ∙ length-sums ds
 
-there_by : (xs ys : List ℤ) → length xs ≡ length ys → is_there xs ≡ is_there ys
+there_by : {A : Type 0} (xs ys : List A) → length xs ≡ length ys → is_there xs ≡ is_there ys
 there_by [] [] e = refl
 there_by [] (y ∷ ys) e = absurd (omega arith)
 there_by (x ∷ xs) [] e = absurd (omega arith)
 there_by (x ∷ xs) (y ∷ ys) e = refl
 
-pub fits_by : (ids is xs ys : List ℤ) → length ids ≡ length is → length xs ≡ length ys → fits_ids ids xs ≡ fits_ids is ys
+pub fits_by : {A : Type 0} (ids is : List ℤ) (xs ys : List A) → length ids ≡ length is → length xs ≡ length ys → fits_ids ids xs ≡ fits_ids is ys
 fits_by ids is xs ys e f =
     ap (λ b. not b || (length xs == length ids)) (there_by xs ys f) ∙ ap (λ n. not (is_there ys) || (n == length ids)) f ∙ ap (λ n. not (is_there ys) || (length ys == n)) e
 
-long_by : {A : Type 0} (ids xs : List ℤ) (meaning : ℤ → Option A) → fits_ids ids xs ≡ true → length (values_for (length ids) (map meaning xs)) ≡ length ids
+long_by : {A B : Type 0} (ids : List ℤ) (xs : List A) (meaning : A → Option B) → fits_ids ids xs ≡ true → length (values_for (length ids) (map meaning xs)) ≡ length ids
 long_by ids [] meaning h = length-replicate (length ids) None
 long_by ids (x ∷ xs) meaning h = length-map (x ∷ xs) meaning ∙ eqb-true (length (x ∷ xs)) (length ids) h
 
@@ -131,6 +131,7 @@ infos_more b c k is i r h so_far here =
       changesets = more (λ i. i.changeset) is i _ _ k None (omega (arith, long_by c.ids.items c.changesets.items (λ v. Some v) r.changesets)) here.changeset so_far.changesets;
       uids = more (λ i. i.uid) is i _ _ k None (omega (arith, long_by c.ids.items c.uids.items (λ v. Some v) r.uids)) here.uid so_far.uids;
       users = more (λ i. option_map Some i.user) is i _ _ k None (omega (arith, long_by c.ids.items c.users.items (λ v. Some (text_at b.table v)) r.users)) here.user so_far.users;
+      visibles = more (λ i. i.visible) is i _ _ k None (omega (arith, long_by c.ids.items c.visible.items (λ v. Some v) r.visible)) here.visible so_far.visibles;
       in_range = AllByRecursion-push IsInfo is i so_far.in_range here.in_range;
     }
 
@@ -162,7 +163,7 @@ none_yet b c = record {
   lats = refl;
   lons = refl;
   tags = ap (λ m. map (texts_at b.table) (node_pairs m c.keys_vals.items)) (omega arith);
-  infos = record { versions = refl; times = refl; changesets = refl; uids = refl; users = refl; in_range = tt };
+  infos = record { versions = refl; times = refl; changesets = refl; uids = refl; users = refl; visibles = refl; in_range = tt };
   in_range = tt;
 }
 
@@ -173,8 +174,8 @@ stand_in : {A : Type 0} (is : List InfoValue) (f : InfoValue → Option A) (mean
 stand_in is f meaning n vs ds len d e = (vs, d, e ∙ ap (λ k. values_for k (map (λ v. Some (meaning v)) vs)) (sym len))
 
 pub all_read : (b : Context) (c : DenseArrays) (m : DenseMessage) (k : ℕ) (left : List ℤ) (ns : List NodeValue) → AreArraysOf c m → AreReady b c → Tags (node_pairs (length c.ids.items) c.keys_vals.items) c.keys_vals.items →
-    m.info.is_visible_there ≡ false → k ≡ length c.ids.items → NodesRead b c k left ns → DenseOf b ns m
-all_read b c m k left ns are r tags unseen end so_far =
+    k ≡ length c.ids.items → NodesRead b c k left ns → DenseOf b ns m
+all_read b c m k left ns are r tags end so_far =
     let is : List InfoValue = map (λ n. n.info) ns in
     let ids : map (λ n. n.id) ns ≡ c.ids.items = all_of (λ n. n.id) ns c.ids.items k (omega arith) so_far.ids in
     let len : length is ≡ length c.ids.items = length-map ns (λ n. n.info) ∙ sym (length-map ns (λ n. n.id)) ∙ ap length ids in
@@ -189,6 +190,7 @@ all_read b c m k left ns are r tags unseen end so_far =
     let changesets = all_of (λ i. i.changeset) is _ k (omega (arith, long_by c.ids.items c.changesets.items (λ v. Some v) r.changesets)) i.changesets in
     let uids = all_of (λ i. i.uid) is _ k (omega (arith, long_by c.ids.items c.uids.items (λ v. Some v) r.uids)) i.uids in
     let users = all_of (λ i. option_map Some i.user) is _ k (omega (arith, long_by c.ids.items c.users.items (λ v. Some (text_at b.table v)) r.users)) i.users in
+    let visibles = all_of (λ i. i.visible) is _ k (omega (arith, long_by c.ids.items c.visible.items (λ v. Some v) r.visible)) i.visibles in
     record {
       ids_are = subst (λ (l : List ℤ). Diff l m.id) (sym ids) are.ids;
       lats_are = (c.lats.items, are.lats, lats);
@@ -200,7 +202,7 @@ all_read b c m k left ns are r tags unseen end so_far =
         changesets_are = stand_in is (λ i. i.changeset) (λ v. v) _ c.changesets.items m.info.changeset len are.changesets changesets;
         uids_are = stand_in is (λ i. i.uid) (λ v. v) _ c.uids.items m.info.uid len are.uids uids;
         users_are = stand_in is (λ i. option_map Some i.user) (text_at b.table) _ c.users.items m.info.user_sid len are.users users;
-        no_visible = unseen;
+        visibles_are = visibles ∙ ap (λ l. values_for (length c.ids.items) (map Some l)) are.visible ∙ ap (λ j. values_for j (map Some m.info.visible)) (sym len);
         in_range = i.in_range;
       };
       in_range = so_far.in_range;
@@ -218,7 +220,9 @@ ready b c m are lengths ranges tags users =
     let two = and_left (same_length m.lat m.id && same_length m.lon m.id) (dense_info_fits m.id m.info) lengths in
     let lats = eqb-true (length m.lat) (length m.id) (and_left (same_length m.lat m.id) (same_length m.lon m.id) two) in
     let lons = eqb-true (length m.lon) (length m.id) (and_right (same_length m.lat m.id) (same_length m.lon m.id) two) in
-    let five = and_right (same_length m.lat m.id && same_length m.lon m.id) (dense_info_fits m.id m.info) lengths in
+    let six = and_right (same_length m.lat m.id && same_length m.lon m.id) (dense_info_fits m.id m.info) lengths in
+    let first_five = fits_ids m.id m.info.version && fits_ids m.id m.info.timestamp && fits_ids m.id m.info.changeset && fits_ids m.id m.info.uid && fits_ids m.id m.info.user_sid in
+    let five = and_left first_five (fits_ids m.id m.info.visible) six in
     let p = four (fits_ids m.id m.info.version && fits_ids m.id m.info.timestamp) (fits_ids m.id m.info.changeset) (fits_ids m.id m.info.uid) (fits_ids m.id m.info.user_sid) five in
     record {
       lats = Diff-length c.lats.items m.lat are.lats ∙ lats ∙ sym ids;
@@ -228,6 +232,7 @@ ready b c m are lengths ranges tags users =
       changesets = fits_by c.ids.items m.id c.changesets.items m.info.changeset ids (Diff-length _ _ are.changesets) ∙ p.1;
       uids = fits_by c.ids.items m.id c.uids.items m.info.uid ids (Diff-length _ _ are.uids) ∙ p.2;
       users = fits_by c.ids.items m.id c.users.items m.info.user_sid ids (Diff-length _ _ are.users) ∙ p.3;
+      visible = fits_by c.ids.items m.id c.visible.items m.info.visible ids (ap length are.visible) ∙ and_right first_five (fits_ids m.id m.info.visible) six;
       in_range = ranges;
       tags_in_table = tags.in_table;
       users_in_table = users;
@@ -247,11 +252,11 @@ time_passes g None = refl
 time_passes g (Some t) = refl
 
 -- the info whose values were taken from the index
-pub info_is_at : (b : Context) (c : DenseArrays) (k : ℕ) (v t s u : Option ℤ) (user : Option Text) → AreReady b c → list_all is_text b.table ≡ true →
+pub info_is_at : (b : Context) (c : DenseArrays) (k : ℕ) (v t s u : Option ℤ) (user : Option Text) (seen : Option Bool) → AreReady b c → list_all is_text b.table ≡ true →
     v ≡ option_and_then version (slice_get c.versions.items k) → t ≡ option_map (time b.date_granularity) (slice_get c.timestamps.items k) → s ≡ slice_get c.changesets.items k →
-    u ≡ slice_get c.uids.items k → option_map Some user ≡ option_map (text_at b.table) (slice_get c.users.items k) →
-    InfoAt b c k (record { version = v; time = t; changeset = s; uid = u; user = user; visible = None })
-info_is_at b c k v t s u user r texts ev et es eu euser =
+    u ≡ slice_get c.uids.items k → option_map Some user ≡ option_map (text_at b.table) (slice_get c.users.items k) → seen ≡ slice_get c.visible.items k →
+    InfoAt b c k (record { version = v; time = t; changeset = s; uid = u; user = user; visible = seen })
+info_is_at b c k v t s u user seen r texts ev et es eu euser eseen =
     let n : ℕ = length c.ids.items in
     let p = in_range_parts b c r.in_range in record {
       version = ev ∙ sym (at_index-is n version c.versions.items k);
@@ -259,13 +264,13 @@ info_is_at b c k v t s u user r texts ev et es eu euser =
       changeset = es ∙ sym (same_at n c.changesets.items k);
       uid = eu ∙ sym (same_at n c.uids.items k);
       user = euser ∙ sym (mapped_at n (text_at b.table) c.users.items k);
+      visible = eseen ∙ sym (same_at n c.visible.items k);
       in_range = record {
         version = ap (passes is_version) ev ∙ sym (version_passes (slice_get c.versions.items k)) ∙ each_passes (λ v. passes is_version (version v)) c.versions.items k p.versions;
         time = ap (passes is_wide) et ∙ sym (time_passes b.date_granularity (slice_get c.timestamps.items k)) ∙ each_passes (λ t. is_wide (time b.date_granularity t)) c.timestamps.items k p.times;
         changeset = ap (passes is_wide) es ∙ each_passes is_wide c.changesets.items k p.changesets;
         uid = ap (passes is_uid) eu ∙ each_passes is_uid c.uids.items k p.uids;
         user = user_in_range b.table user (slice_get c.users.items k) texts euser;
-        visible = refl;
       };
     }
 

@@ -1,5 +1,5 @@
 -- A dense message to which nodes stand has no phase that stands.
-use Rattle.std.proofs.Common.{◌≡◌, ℕ, List, [], ◌∷◌, map, length, Bool, true, false, not, ◌&&◌, refl, sym, ap, ◌∙◌, subst, ℤ, Option, Some, None, inl, inr, eq-eqb}
+use Rattle.std.proofs.Common.{◌≡◌, ℕ, List, [], ◌∷◌, map, length, Bool, true, not, ◌&&◌, refl, sym, ap, ◌∙◌, subst, ℤ, Option, Some, None, inl, inr, eq-eqb}
 use Rattle.std.specs.Prelude.{option_map, unwrap_or, is_none}
 use Rattle.std.specs.List.{AllByRecursion, flat_map, list_all}
 use Rattle.std.proofs.lemmas.List.{length-map}
@@ -48,7 +48,7 @@ infos_pass p f meaning n vs by is h e = values_for_pass p meaning n vs (sym (ap 
 
 -- ---- lengths
 
-values_for_fit : {A : Type 0} (ids xs : List ℤ) (is : List (Option A)) (f : ℤ → Option A) (n : ℕ) → length is ≡ length ids → is ≡ values_for n (map f xs) → fits_ids ids xs ≡ true
+values_for_fit : {A B : Type 0} (ids : List ℤ) (xs : List A) (is : List (Option B)) (f : A → Option B) (n : ℕ) → length is ≡ length ids → is ≡ values_for n (map f xs) → fits_ids ids xs ≡ true
 values_for_fit ids [] is f n len e = refl
 values_for_fit ids (x ∷ xs) is f n len e = eq-eqb _ _ (sym (length-map (x ∷ xs) f) ∙ sym (ap length e) ∙ len)
 
@@ -136,8 +136,9 @@ DenseOf-no_phase b ns m h =
     let changesets : fits_ids m.id m.info.changeset ≡ true = deltas_fit m.id m.info.changeset (map (λ i. i.changeset) is) (λ v. v) (length-map is (λ i. i.changeset) ∙ infos) (resized (map (λ i. i.changeset) is) (length-map is (λ i. i.changeset)) i.changesets_are) in
     let uids : fits_ids m.id m.info.uid ≡ true = deltas_fit m.id m.info.uid (map (λ i. i.uid) is) (λ v. v) (length-map is (λ i. i.uid) ∙ infos) (resized (map (λ i. i.uid) is) (length-map is (λ i. i.uid)) i.uids_are) in
     let users : fits_ids m.id m.info.user_sid ≡ true = deltas_fit m.id m.info.user_sid (map (λ i. option_map Some i.user) is) (text_at b.table) (length-map is (λ i. option_map Some i.user) ∙ infos) (resized (map (λ i. option_map Some i.user) is) (length-map is (λ i. option_map Some i.user)) i.users_are) in
+    let visibles : fits_ids m.id m.info.visible ≡ true = values_for_fit m.id m.info.visible (map (λ i. i.visible) is) Some (length is) (length-map is (λ i. i.visible) ∙ infos) i.visibles_are in
     let even : lengths_are m ≡ true =
-    both _ _ (both _ _ (eq-eqb _ _ lats) (eq-eqb _ _ lons)) (both _ _ (both _ _ (both _ _ (both _ _ versions times) changesets) uids) users) in
+    both _ _ (both _ _ (eq-eqb _ _ lats) (eq-eqb _ _ lons)) (both _ _ (both _ _ (both _ _ (both _ _ (both _ _ versions times) changesets) uids) users) visibles) in
     let sums : list_all (λ ds. list_all fits_i64 (front_sums ds)) (deltas_of m) ≡ true =
     both _ _ (sums_hold _ m.id h.ids_are) (both _ _ (sums_hold _ m.lat h.lats_are.1) (both _ _ (sums_hold _ m.lon h.lons_are.1) (both _ _ (sums_hold _ m.info.timestamp i.times_are.1)
     (both _ _ (sums_hold _ m.info.changeset i.changesets_are.1) (both _ _ (sums_hold _ m.info.uid i.uids_are.1) (both _ _ (sums_hold _ m.info.user_sid i.users_are.1) refl)))))) in
@@ -154,7 +155,7 @@ DenseOf-no_phase b ns m h =
     let pairs : length h.tags_are.0 ≡ length m.id = sym (length-map h.tags_are.0 (texts_at b.table)) ∙ sym (ap length h.tags_are.2) ∙ length-map ns (λ n. all_there n.tags) ∙ ids in
     let tags : first (tags_phases (length m.id) (length b.table) m.keys_vals) ≡ None = tags_hold b.table (length m.id) m.keys_vals ns h.tags_are.0 pairs h.tags_are.1 h.tags_are.2 in
     let people : users_fit b m ≡ true = sym (ap (list_all (is_index (length b.table))) (Diff-are_sums _ m.info.user_sid i.users_are.1)) ∙ users_hold b.table is (length is) i.users_are.0 i.users_are.2 in
-    dense_fault_is b m false true None true None true (sym i.no_visible) (sym even) (sym (ap (λ b. when (not b) faults.SumTooLarge) sums)) (sym ranges) (sym tags) (sym people)
+    dense_fault_is b m true None true None true (sym even) (sym (ap (λ b. when (not b) faults.SumTooLarge) sums)) (sym ranges) (sym tags) (sym people)
   where
     resized : {A : Type 0} (xs : List (Option A)) {k : ℕ} {meaning : ℤ → A} {ds : List ℤ} → length xs ≡ k → StandsOrNone k xs meaning ds → StandsOrNone (length xs) xs meaning ds
     resized xs {k} {meaning} {ds} e s = let P : ℕ → Type 0 = λ j. StandsOrNone j xs meaning ds in subst P (sym e) s

@@ -1,19 +1,18 @@
 -- Reading the arrays of dense nodes: one field, one payload, all of them.
-use Rattle.std.proofs.Common.{◌≡◌, ℕ, ◌+◌, ◌<◌, List, [], ◌∷◌, ◌++◌, map, length, drop, get_or, Bool, true, false, refl, sym, ap, ◌∙◌, Option, Some, None, Result, Ok, Err, append_assoc, append-nil, ◌%◌, ◌^◌}
-use Rattle.std.specs.Prelude.{option_map, cond, ◌==◌, ◌||◌}
+use Rattle.std.proofs.Common.{◌≡◌, ℕ, ◌+◌, ◌<◌, List, [], ◌∷◌, ◌++◌, map, length, drop, get_or, true, false, refl, sym, ap, ◌∙◌, Option, None, Result, Ok, Err, append_assoc, append-nil, ◌%◌, ◌^◌}
+use Rattle.std.specs.Prelude.{option_map, cond, ◌==◌}
 use Rattle.std.specs.List.{flat_map, cons_option}
-use Rattle.std.specs.Option.{option_or, is_some}
+use Rattle.std.specs.Option.{option_or}
 use Rattle.std.proofs.lemmas.List.{map-append, drop_more}
-use Rattle.std.proofs.lemmas.List.Elements.{filter_map-append}
 use Rattle.pbf_wire.specs.declared.fault.WireFault.{WireFault}
 use Rattle.pbf_wire.specs.declared.field.Field.{Field}
 use Rattle.pbf_wire.specs.Field.{Content, Number, Fixed64, Bytes, Fixed32, Entry, content_of}
 use Rattle.pbf_wire.specs.FieldList.{view_item}
-use Rattle.pbf_wire.specs.Readings.{front, fields, wire, packed, fitting, numbers_of, bytes_of, each, nums, sub, is_there, sint64, sint32, int32}
-use Rattle.osm_block.specs.declared.fields.TheConstants.{DENSEINFO_CHANGESET, DENSEINFO_TIMESTAMP, DENSEINFO_UID, DENSEINFO_USER_SID, DENSEINFO_VERSION, DENSE_DENSEINFO, DENSE_ID, DENSE_KEYS_VALS, DENSE_LAT, DENSE_LON}
+use Rattle.pbf_wire.specs.Readings.{front, fields, wire, packed, fitting, numbers_of, bytes_of, each, nums, sub, sint64, sint32, int32}
+use Rattle.osm_block.specs.declared.fields.TheConstants.{DENSEINFO_CHANGESET, DENSEINFO_TIMESTAMP, DENSEINFO_UID, DENSEINFO_USER_SID, DENSEINFO_VERSION, DENSEINFO_VISIBLE, DENSE_DENSEINFO, DENSE_ID, DENSE_KEYS_VALS, DENSE_LAT, DENSE_LON}
 use Rattle.osm_block.specs.declared.fault.BlockFault.TheVariants as faults
 use Rattle.osm_block.specs.declared.dense.fields.DenseFields.{DenseFields}
-use Rattle.osm_block.specs.Message.{Dense, wires, arrays, some_visible, dense_message}
+use Rattle.osm_block.specs.Message.{boolean, Dense, wires, arrays, dense_message}
 use Rattle.osm_block.specs.FieldsLeft.{numbers_in, fault_in, first_there}
 use Rattle.osm_block.specs.Dense.{dense_message_of}
 use Rattle.osm_block.specs.DenseFieldsRead.{ArrayRead, DenseInfoRead}
@@ -44,10 +43,6 @@ faults_any (Number n) rest = refl
 faults_any (Fixed64 bs) rest = refl
 faults_any (Bytes bs) rest = refl
 faults_any (Fixed32 bs) rest = refl
-
-there_any : {A : Type 0} (o : Option A) (rest : List A) → is_there (cons_option o rest) ≡ (is_some o || is_there rest)
-there_any None rest = refl
-there_any (Some x) rest = refl
 
 -- what a field of the array adds
 pub numbers_taken : (old new total : List ℕ) (items rest : List (Result Entry WireFault)) (item : Result Field WireFault) (field : Field) (k : ℕ) → items ≡ view_item item ∷ rest → item ≡ Ok field → (field.number == k) ≡ true →
@@ -81,21 +76,7 @@ faults_end old total items k e so_far = sym (option_or-none old) ∙ sym (ap (λ
 pub front_at_fault : (items rest : List (Result Entry WireFault)) (item : Result Field WireFault) (fault : WireFault) → items ≡ view_item item ∷ rest → item ≡ Err fault → front items ≡ []
 front_at_fault items rest item fault e is = ap front e ∙ ap (λ r. front (view_item r ∷ rest)) is
 
--- a field of the flags
-pub visible_at : (items rest : List (Result Entry WireFault)) (item : Result Field WireFault) (field : Field) (k : ℕ) (flag : Bool) → items ≡ view_item item ∷ rest → item ≡ Ok field → (field.number == k) ≡ true →
-    flag ≡ is_some (some_visible (content_of field.value)) → is_there (fitting some_visible k (front items)) ≡ (flag || is_there (fitting some_visible k (front rest)))
-visible_at items rest item field k flag e is h f =
-    ap is_there (fitting_at some_visible items rest item field k e is h) ∙ there_any (some_visible (content_of field.value)) (fitting some_visible k (front rest)) ∙ ap (λ b. b || is_there (fitting some_visible k (front rest))) (sym f)
-
-pub visible_past : (items rest : List (Result Entry WireFault)) (item : Result Field WireFault) (field : Field) (k : ℕ) → items ≡ view_item item ∷ rest → item ≡ Ok field → (field.number == k) ≡ false →
-    is_there (fitting some_visible k (front items)) ≡ is_there (fitting some_visible k (front rest))
-visible_past items rest item field k e is h = ap is_there (fitting_past some_visible items rest item field k e is h)
-
 -- ---- one payload
-
-there-append : {A : Type 0} (xs ys : List A) → is_there (xs ++ ys) ≡ (is_there xs || is_there ys)
-there-append [] ys = refl
-there-append (x ∷ xs) ys = refl
 
 pub faults_more : {B : Type 0} (now : B → List ℕ) (ps : List B) (i : ℕ) (d : B) (k : ℕ) (old new total : Option WireFault) → i < length ps →
     new ≡ option_or old (first_there (map packed (each (fields (now (get_or ps i d))) k))) →
@@ -107,14 +88,6 @@ faults_more now ps i d k old new total h is so_far =
     ap (λ f. option_or f (first_there (map packed (each rest k)))) is ∙ option_or-assoc old (first_there (map packed (each p k))) (first_there (map packed (each rest k)))
     ∙ sym (ap (option_or old) (ap (λ l. first_there (map packed l)) (each-append k p rest) ∙ ap first_there (map-append packed (each p k) (each rest k)) ∙ first_there-append (map packed (each p k)) (map packed (each rest k))))
     ∙ ap (λ l. option_or old (first_there (map packed (each (flat_map fields (map now l)) k)))) (sym (drop_more ps i d h)) ∙ so_far
-
-pub visible_more : {B : Type 0} (now : B → List ℕ) (ps : List B) (i : ℕ) (d : B) (k : ℕ) (here : Bool) → i < length ps → here ≡ is_there (fitting some_visible k (fields (now (get_or ps i d)))) →
-    is_there (fitting some_visible k (flat_map fields (map now (drop i ps)))) ≡ (here || is_there (fitting some_visible k (flat_map fields (map now (drop (i + 1) ps)))))
-visible_more now ps i d k here h is =
-    let p : List Entry = fields (now (get_or ps i d)) in
-    let rest : List Entry = flat_map fields (map now (drop (i + 1) ps)) in
-    ap (λ l. is_there (fitting some_visible k (flat_map fields (map now l)))) (drop_more ps i d h)
-    ∙ ap is_there (filter_map-append _ p rest) ∙ there-append (fitting some_visible k p) (fitting some_visible k rest) ∙ ap (λ b. b || is_there (fitting some_visible k rest)) (sym is)
 
 pub wire_more : {B : Type 0} (now : B → List ℕ) (ps : List B) (i : ℕ) (d : B) (here : Option WireFault) → i < length ps → here ≡ wire (now (get_or ps i d)) →
     first_there (map wire (map now (drop i ps))) ≡ option_or here (first_there (map wire (map now (drop (i + 1) ps))))
@@ -147,7 +120,8 @@ message_is d fs r =
     let s = ap (map sint64) i.changesets.numbers in
     let u = ap (map sint64) i.uids.numbers ∙ low_are (nums (sub fs DENSE_DENSEINFO) DENSEINFO_UID) in
     let w = ap (map sint64) i.users.numbers ∙ low_are (nums (sub fs DENSE_DENSEINFO) DENSEINFO_USER_SID) in
-    cc (a, b, c, e, v, t, s, u, w, i.visible)
+    let x = ap (map boolean) i.visible.numbers in
+    cc (a, b, c, e, v, t, s, u, w, x)
 
 abbrev array_fault : ℕ → List Entry → Option WireFault
 array_fault k fs = first_there (map packed (each fs k))
@@ -157,17 +131,18 @@ plain_arrays fs =
     first_there-append (map packed (each fs DENSE_ID)) _ ∙ ap (option_or (array_fault DENSE_ID fs)) (first_there-append (map packed (each fs DENSE_LAT)) _ ∙ ap (option_or (array_fault DENSE_LAT fs))
     (first_there-append (map packed (each fs DENSE_LON)) _ ∙ ap (option_or (array_fault DENSE_LON fs)) (first_there-append (map packed (each fs DENSE_KEYS_VALS)) [] ∙ option_or-none (array_fault DENSE_KEYS_VALS fs))))
 
-info_arrays : (fs : List Entry) → first_there (arrays (DENSEINFO_VERSION ∷ DENSEINFO_TIMESTAMP ∷ DENSEINFO_CHANGESET ∷ DENSEINFO_UID ∷ DENSEINFO_USER_SID ∷ []) fs) ≡ option_or (array_fault DENSEINFO_VERSION fs) (option_or (array_fault DENSEINFO_TIMESTAMP fs) (option_or (array_fault DENSEINFO_CHANGESET fs) (option_or (array_fault DENSEINFO_UID fs) (array_fault DENSEINFO_USER_SID fs))))
+info_arrays : (fs : List Entry) → first_there (arrays (DENSEINFO_VERSION ∷ DENSEINFO_TIMESTAMP ∷ DENSEINFO_CHANGESET ∷ DENSEINFO_UID ∷ DENSEINFO_USER_SID ∷ DENSEINFO_VISIBLE ∷ []) fs) ≡ option_or (array_fault DENSEINFO_VERSION fs) (option_or (array_fault DENSEINFO_TIMESTAMP fs) (option_or (array_fault DENSEINFO_CHANGESET fs) (option_or (array_fault DENSEINFO_UID fs) (option_or (array_fault DENSEINFO_USER_SID fs) (array_fault DENSEINFO_VISIBLE fs)))))
 info_arrays fs =
     first_there-append (map packed (each fs DENSEINFO_VERSION)) _ ∙ ap (option_or (array_fault DENSEINFO_VERSION fs)) (first_there-append (map packed (each fs DENSEINFO_TIMESTAMP)) _ ∙ ap (option_or (array_fault DENSEINFO_TIMESTAMP fs))
     (first_there-append (map packed (each fs DENSEINFO_CHANGESET)) _ ∙ ap (option_or (array_fault DENSEINFO_CHANGESET fs)) (first_there-append (map packed (each fs DENSEINFO_UID)) _ ∙ ap (option_or (array_fault DENSEINFO_UID fs))
-    (first_there-append (map packed (each fs DENSEINFO_USER_SID)) [] ∙ option_or-none (array_fault DENSEINFO_USER_SID fs)))))
+    (first_there-append (map packed (each fs DENSEINFO_USER_SID)) _ ∙ ap (option_or (array_fault DENSEINFO_USER_SID fs))
+    (first_there-append (map packed (each fs DENSEINFO_VISIBLE)) [] ∙ option_or-none (array_fault DENSEINFO_VISIBLE fs))))))
 
 -- the faults, as they were read
 pub faults_are : (d : DenseFields) (ps infos : List (List ℕ)) (w i a n : Option WireFault) → DenseRead d (flat_map fields ps) → infos ≡ each (flat_map fields ps) DENSE_DENSEINFO →
     w ≡ first_there (map wire ps) → i ≡ first_there (map wire infos) →
     a ≡ option_or d.ids.fault (option_or d.lats.fault (option_or d.lons.fault d.keys_vals.fault)) →
-    n ≡ option_or d.info.versions.fault (option_or d.info.timestamps.fault (option_or d.info.changesets.fault (option_or d.info.uids.fault d.info.users.fault))) →
+    n ≡ option_or d.info.versions.fault (option_or d.info.timestamps.fault (option_or d.info.changesets.fault (option_or d.info.uids.fault (option_or d.info.users.fault d.info.visible.fault)))) →
     first (wire_phases (wires (Dense ps))) ≡ option_map faults.BlockWire (option_or (option_or (option_or w i) a) n)
 faults_are d ps infos w i a n r are ew ei ea en =
     let fs : List Entry = flat_map fields ps in
@@ -178,28 +153,18 @@ faults_are d ps infos w i a n r are ew ei ea en =
     ∙ ap (λ x. option_or (array_fault DENSE_ID fs) (option_or (array_fault DENSE_LAT fs) (option_or x d.keys_vals.fault))) r.lons.fault
     ∙ ap (λ x. option_or (array_fault DENSE_ID fs) (option_or (array_fault DENSE_LAT fs) (option_or (array_fault DENSE_LON fs) x))) r.keys_vals.fault ∙ sym (plain_arrays fs) in
     let gs : List Entry = sub fs DENSE_DENSEINFO in
-    let info : n ≡ first_there (arrays (DENSEINFO_VERSION ∷ DENSEINFO_TIMESTAMP ∷ DENSEINFO_CHANGESET ∷ DENSEINFO_UID ∷ DENSEINFO_USER_SID ∷ []) gs) =
-    en ∙ ap (λ x. option_or x (option_or d.info.timestamps.fault (option_or d.info.changesets.fault (option_or d.info.uids.fault d.info.users.fault)))) j.versions.fault
-    ∙ ap (λ x. option_or (array_fault DENSEINFO_VERSION gs) (option_or x (option_or d.info.changesets.fault (option_or d.info.uids.fault d.info.users.fault)))) j.timestamps.fault
-    ∙ ap (λ x. option_or (array_fault DENSEINFO_VERSION gs) (option_or (array_fault DENSEINFO_TIMESTAMP gs) (option_or x (option_or d.info.uids.fault d.info.users.fault)))) j.changesets.fault
-    ∙ ap (λ x. option_or (array_fault DENSEINFO_VERSION gs) (option_or (array_fault DENSEINFO_TIMESTAMP gs) (option_or (array_fault DENSEINFO_CHANGESET gs) (option_or x d.info.users.fault)))) j.uids.fault
-    ∙ ap (λ x. option_or (array_fault DENSEINFO_VERSION gs) (option_or (array_fault DENSEINFO_TIMESTAMP gs) (option_or (array_fault DENSEINFO_CHANGESET gs) (option_or (array_fault DENSEINFO_UID gs) x)))) j.users.fault ∙ sym (info_arrays gs) in
+    let info : n ≡ first_there (arrays (DENSEINFO_VERSION ∷ DENSEINFO_TIMESTAMP ∷ DENSEINFO_CHANGESET ∷ DENSEINFO_UID ∷ DENSEINFO_USER_SID ∷ DENSEINFO_VISIBLE ∷ []) gs) =
+    en ∙ ap (λ x. option_or x (option_or d.info.timestamps.fault (option_or d.info.changesets.fault (option_or d.info.uids.fault (option_or d.info.users.fault d.info.visible.fault))))) j.versions.fault
+    ∙ ap (λ x. option_or (array_fault DENSEINFO_VERSION gs) (option_or x (option_or d.info.changesets.fault (option_or d.info.uids.fault (option_or d.info.users.fault d.info.visible.fault))))) j.timestamps.fault
+    ∙ ap (λ x. option_or (array_fault DENSEINFO_VERSION gs) (option_or (array_fault DENSEINFO_TIMESTAMP gs) (option_or x (option_or d.info.uids.fault (option_or d.info.users.fault d.info.visible.fault))))) j.changesets.fault
+    ∙ ap (λ x. option_or (array_fault DENSEINFO_VERSION gs) (option_or (array_fault DENSEINFO_TIMESTAMP gs) (option_or (array_fault DENSEINFO_CHANGESET gs) (option_or x (option_or d.info.users.fault d.info.visible.fault))))) j.uids.fault
+    ∙ ap (λ x. option_or (array_fault DENSEINFO_VERSION gs) (option_or (array_fault DENSEINFO_TIMESTAMP gs) (option_or (array_fault DENSEINFO_CHANGESET gs) (option_or (array_fault DENSEINFO_UID gs) (option_or x d.info.visible.fault))))) j.users.fault
+    ∙ ap (λ x. option_or (array_fault DENSEINFO_VERSION gs) (option_or (array_fault DENSEINFO_TIMESTAMP gs) (option_or (array_fault DENSEINFO_CHANGESET gs) (option_or (array_fault DENSEINFO_UID gs) (option_or (array_fault DENSEINFO_USER_SID gs) x))))) j.visible.fault ∙ sym (info_arrays gs) in
     let first_two : option_or w i ≡ first_there (map wire ps ++ map wire (each fs DENSE_DENSEINFO)) =
     ap (λ x. option_or x i) ew ∙ ap (option_or (first_there (map wire ps))) (ei ∙ ap (λ l. first_there (map wire l)) are) ∙ sym (first_there-append (map wire ps) (map wire (each fs DENSE_DENSEINFO))) in
     let three : option_or (option_or w i) a ≡ first_there (map wire ps ++ map wire (each fs DENSE_DENSEINFO) ++ arrays (DENSE_ID ∷ DENSE_LAT ∷ DENSE_LON ∷ DENSE_KEYS_VALS ∷ []) fs) =
     ap (λ x. option_or x a) first_two ∙ ap (option_or (first_there (map wire ps ++ map wire (each fs DENSE_DENSEINFO)))) plain ∙ sym (first_there-append (map wire ps ++ map wire (each fs DENSE_DENSEINFO)) (arrays (DENSE_ID ∷ DENSE_LAT ∷ DENSE_LON ∷ DENSE_KEYS_VALS ∷ []) fs)) in
     let all : option_or (option_or (option_or w i) a) n ≡ first_there (wires (Dense ps)) =
     ap (λ x. option_or x n) three ∙ ap (option_or (first_there (map wire ps ++ map wire (each fs DENSE_DENSEINFO) ++ arrays (DENSE_ID ∷ DENSE_LAT ∷ DENSE_LON ∷ DENSE_KEYS_VALS ∷ []) fs))) info
-    ∙ sym (first_there-append (map wire ps ++ map wire (each fs DENSE_DENSEINFO) ++ arrays (DENSE_ID ∷ DENSE_LAT ∷ DENSE_LON ∷ DENSE_KEYS_VALS ∷ []) fs) (arrays (DENSEINFO_VERSION ∷ DENSEINFO_TIMESTAMP ∷ DENSEINFO_CHANGESET ∷ DENSEINFO_UID ∷ DENSEINFO_USER_SID ∷ []) gs)) in
+    ∙ sym (first_there-append (map wire ps ++ map wire (each fs DENSE_DENSEINFO) ++ arrays (DENSE_ID ∷ DENSE_LAT ∷ DENSE_LON ∷ DENSE_KEYS_VALS ∷ []) fs) (arrays (DENSEINFO_VERSION ∷ DENSEINFO_TIMESTAMP ∷ DENSEINFO_CHANGESET ∷ DENSEINFO_UID ∷ DENSEINFO_USER_SID ∷ DENSEINFO_VISIBLE ∷ []) gs)) in
     first_of_wire (wires (Dense ps)) ∙ sym (ap (option_map faults.BlockWire) all)
-
--- a payload that has a flag, and one that has none
-pub visible_here : {B : Type 0} (now : B → List ℕ) (ps : List B) (i : ℕ) (d : B) (k : ℕ) (here : Bool) → i < length ps → here ≡ is_there (fitting some_visible k (fields (now (get_or ps i d)))) → here ≡ true →
-    is_there (fitting some_visible k (flat_map fields (map now (drop i ps)))) ≡ true
-visible_here now ps i d k here h is e =
-    visible_more now ps i d k here h is ∙ ap (λ b. b || is_there (fitting some_visible k (flat_map fields (map now (drop (i + 1) ps))))) e
-
-pub visible_not_here : {B : Type 0} (now : B → List ℕ) (ps : List B) (i : ℕ) (d : B) (k : ℕ) (here : Bool) → i < length ps → here ≡ is_there (fitting some_visible k (fields (now (get_or ps i d)))) → here ≡ false →
-    is_there (fitting some_visible k (flat_map fields (map now (drop i ps)))) ≡ is_there (fitting some_visible k (flat_map fields (map now (drop (i + 1) ps))))
-visible_not_here now ps i d k here h is e =
-    visible_more now ps i d k here h is ∙ ap (λ b. b || is_there (fitting some_visible k (flat_map fields (map now (drop (i + 1) ps))))) e

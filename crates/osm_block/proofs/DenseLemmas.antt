@@ -32,7 +32,7 @@ nothing_said b = (
         changesets_are = ([], record { are = refl; fit = tt }, refl);
         uids_are = ([], record { are = refl; fit = tt }, refl);
         users_are = ([], record { are = refl; fit = tt }, refl);
-        no_visible = refl;
+        visibles_are = refl;
         in_range = tt;
       };
       in_range = tt;

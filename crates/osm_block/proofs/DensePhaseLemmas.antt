@@ -21,13 +21,14 @@ use Rattle.osm_block.proofs.DenseArrayLemmas.{Diff-length, lengths_are}
 pub same_lengths : (f g : ℕ → ℤ) (xs ids : List ℕ) (n m : ℕ) → n ≡ length xs → m ≡ length ids → nat_eq n m ≡ same_length (map f xs) (map g ids)
 same_lengths f g xs ids n m e h = ap (λ k. nat_eq k m) (e ∙ sym (length-map xs f)) ∙ ap (λ k. nat_eq (length (map f xs)) k) (h ∙ sym (length-map ids g))
 
-there_along : (f : ℕ → ℤ) (xs : List ℕ) → is_there xs ≡ is_there (map f xs)
+there_along : {A : Type 0} (f : ℕ → A) (xs : List ℕ) → is_there xs ≡ is_there (map f xs)
 there_along f [] = refl
 there_along f (x ∷ xs) = refl
 
-pub fits_lengths : (f g : ℕ → ℤ) (xs ids : List ℕ) (t : Bool) (m : ℕ) → m ≡ length ids → t ≡ (not (is_there xs) || nat_eq (length xs) m) → t ≡ fits_ids (map g ids) (map f xs)
+pub fits_lengths : {A : Type 0} (f : ℕ → A) (g : ℕ → ℤ) (xs ids : List ℕ) (t : Bool) (m : ℕ) → m ≡ length ids → t ≡ (not (is_there xs) || nat_eq (length xs) m) → t ≡ fits_ids (map g ids) (map f xs)
 fits_lengths f g xs ids t m h e =
-    e ∙ ap (λ b. not b || nat_eq (length xs) m) (there_along f xs) ∙ ap (λ b. not (is_there (map f xs)) || b) (same_lengths f g xs ids (length xs) m refl h)
+    e ∙ ap (λ b. not b || nat_eq (length xs) m) (there_along f xs) ∙ ap (λ n. not (is_there (map f xs)) || nat_eq n m) (sym (length-map xs f))
+    ∙ ap (λ n. not (is_there (map f xs)) || nat_eq (length (map f xs)) n) (h ∙ sym (length-map ids g))
 
 -- ---- sums
 
@@ -85,9 +86,9 @@ first-cons : (a : Phase) (xs ys : List Phase) → first xs ≡ first ys → firs
 first-cons None xs ys e = e
 first-cons (Some x) xs ys e = refl
 
-abbrev pub judged : Bool → Bool → Phase → Bool → Phase → Bool → Phase
-judged unknown lengths sums ranges tags users =
-    first (when unknown faults.VisibleNotKnown ∷ when (not lengths) faults.LengthsDiffer ∷ sums ∷ when (not ranges) faults.OutOfRange ∷ tags ∷ when (not users) faults.BadIndex ∷ [])
+abbrev pub judged : Bool → Phase → Bool → Phase → Bool → Phase
+judged lengths sums ranges tags users =
+    first (when (not lengths) faults.LengthsDiffer ∷ sums ∷ when (not ranges) faults.OutOfRange ∷ tags ∷ when (not users) faults.BadIndex ∷ [])
 
 abbrev pub sums_phase : DenseMessage → Phase
 sums_phase m = when (not (list_all (λ ds. list_all fits_i64 (front_sums ds)) (deltas_of m))) faults.SumTooLarge
@@ -99,19 +100,18 @@ abbrev pub users_fit : Context → DenseMessage → Bool
 users_fit b m = all_in b.table (front_sums m.info.user_sid)
 
 -- the fault by its parts, as they were read
-pub dense_fault_is : (b : Context) (m : DenseMessage) (unknown lengths : Bool) (sums : Phase) (ranges : Bool) (tags : Phase) (users : Bool) →
-    unknown ≡ m.info.is_visible_there → lengths ≡ lengths_are m → sums ≡ sums_phase m → ranges ≡ message_in_range b m → tags ≡ tags_phase b m → users ≡ users_fit b m →
-    first (dense_phases b m) ≡ judged unknown lengths sums ranges tags users
-dense_fault_is b m unknown lengths sums ranges tags users ev el es er et eu =
+pub dense_fault_is : (b : Context) (m : DenseMessage) (lengths : Bool) (sums : Phase) (ranges : Bool) (tags : Phase) (users : Bool) →
+    lengths ≡ lengths_are m → sums ≡ sums_phase m → ranges ≡ message_in_range b m → tags ≡ tags_phase b m → users ≡ users_fit b m →
+    first (dense_phases b m) ≡ judged lengths sums ranges tags users
+dense_fault_is b m lengths sums ranges tags users el es er et eu =
     let uneven : Phase = first (tags_phases (length m.id) (length b.table) m.keys_vals) in
-    first-cons (when m.info.is_visible_there faults.VisibleNotKnown) _ _ (first-cons (when (not (lengths_are m)) faults.LengthsDiffer) _ _ (first-cons (sums_phase m) _ _
-    (first-cons (when (not (message_in_range b m)) faults.OutOfRange) _ _ (first-pair _ _ (when (not (users_fit b m)) faults.BadIndex ∷ [])))))
-    ∙ ap (λ x. judged x (lengths_are m) (sums_phase m) (message_in_range b m) uneven (users_fit b m)) (sym ev)
-    ∙ ap (λ x. judged unknown x (sums_phase m) (message_in_range b m) uneven (users_fit b m)) (sym el)
-    ∙ ap (λ x. judged unknown lengths x (message_in_range b m) uneven (users_fit b m)) (sym es)
-    ∙ ap (λ x. judged unknown lengths sums x uneven (users_fit b m)) (sym er)
-    ∙ ap (λ x. judged unknown lengths sums ranges x (users_fit b m)) (sym et)
-    ∙ ap (λ x. judged unknown lengths sums ranges tags x) (sym eu)
+    first-cons (when (not (lengths_are m)) faults.LengthsDiffer) _ _ (first-cons (sums_phase m) _ _
+    (first-cons (when (not (message_in_range b m)) faults.OutOfRange) _ _ (first-pair _ _ (when (not (users_fit b m)) faults.BadIndex ∷ []))))
+    ∙ ap (λ x. judged x (sums_phase m) (message_in_range b m) uneven (users_fit b m)) (sym el)
+    ∙ ap (λ x. judged lengths x (message_in_range b m) uneven (users_fit b m)) (sym es)
+    ∙ ap (λ x. judged lengths sums x uneven (users_fit b m)) (sym er)
+    ∙ ap (λ x. judged lengths sums ranges x (users_fit b m)) (sym et)
+    ∙ ap (λ x. judged lengths sums ranges tags x) (sym eu)
 
 -- the tags and the users of the arrays
 pub tags_are : (b : Context) (c : DenseArrays) (m : DenseMessage) → AreArraysOf c m → first (tags_phases (length c.ids.items) (length b.table) c.keys_vals.items) ≡ tags_phase b m

@@ -83,11 +83,11 @@ user_of table (Some k) h = let t = text_of table k (and_left (is_index (length t
 
 -- ---- an Info
 
-info_of : (b : Context) (m : InfoMessage) → list_all is_text b.table ≡ true → m.is_visible_there ≡ false → info_in_range b m ≡ true → list_all (is_index (length b.table)) (user_indexes m) ≡ true →
+info_of : (b : Context) (m : InfoMessage) → list_all is_text b.table ≡ true → info_in_range b m ≡ true → list_all (is_index (length b.table)) (user_indexes m) ≡ true →
     (i : InfoValue) × InfoOf b i m
-info_of b m texts unseen range users =
+info_of b m texts range users =
     let u = user_of b.table m.user_sid users in
-    let i : InfoValue = record { version = unwrap_or (option_map version m.version) None; time = option_map (time b.date_granularity) m.timestamp; changeset = m.changeset; uid = m.uid; user = u.0; visible = None } in (
+    let i : InfoValue = record { version = unwrap_or (option_map version m.version) None; time = option_map (time b.date_granularity) m.timestamp; changeset = m.changeset; uid = m.uid; user = u.0; visible = m.visible } in (
       i,
       record {
         version_is = refl;
@@ -95,8 +95,8 @@ info_of b m texts unseen range users =
         changeset_is = refl;
         uid_is = refl;
         user_is = u.1;
-        no_visible = unseen;
-        in_range = info_is_in_range b m i range texts refl refl refl refl u.1 refl;
+        visible_is = refl;
+        in_range = info_is_in_range b m i range texts refl refl refl refl u.1;
       },
     )
 
@@ -128,16 +128,16 @@ three_in p ks vs us h =
 pub node_of : (b : Context) (m : NodeMessage) → list_all is_text b.table ≡ true → first (node_phases b m) ≡ None → (n : NodeValue) × NodeOf b n m
 node_of b m texts none =
     let p = none_stands (node_phases b m) none in
-    let missing = is_false (is_none m.id || is_none m.lat || is_none m.lon) faults.Missing p.1.0 in
+    let missing = is_false (is_none m.id || is_none m.lat || is_none m.lon) faults.Missing p.0 in
     let two = or_left (is_none m.id || is_none m.lat) (is_none m.lon) missing in
     let id = there m.id (or_left (is_none m.id) (is_none m.lat) two) in
     let lat = there m.lat (or_right (is_none m.id) (is_none m.lat) two) in
     let lon = there m.lon (or_right (is_none m.id || is_none m.lat) (is_none m.lon) missing) in
-    let even = eqb-true (length m.keys) (length m.vals) (is_true (same_length m.keys m.vals) faults.LengthsDiffer p.1.1.0) in
-    let ranges = four (passes is_wide m.id) (passes (coordinate_in_range b.lat_offset b.granularity) m.lat) (passes (coordinate_in_range b.lon_offset b.granularity) m.lon) (info_in_range b m.info) (is_true (nodes_range b m) faults.OutOfRange p.1.1.1.0) in
-    let all = three_in (is_index (length b.table)) m.keys m.vals (user_indexes m.info) (is_true (all_in b.table (m.keys ++ m.vals ++ user_indexes m.info)) faults.BadIndex p.1.1.1.1.0) in
+    let even = eqb-true (length m.keys) (length m.vals) (is_true (same_length m.keys m.vals) faults.LengthsDiffer p.1.0) in
+    let ranges = four (passes is_wide m.id) (passes (coordinate_in_range b.lat_offset b.granularity) m.lat) (passes (coordinate_in_range b.lon_offset b.granularity) m.lon) (info_in_range b m.info) (is_true (nodes_range b m) faults.OutOfRange p.1.1.0) in
+    let all = three_in (is_index (length b.table)) m.keys m.vals (user_indexes m.info) (is_true (all_in b.table (m.keys ++ m.vals ++ user_indexes m.info)) faults.BadIndex p.1.1.1.0) in
     let tags = tags_of b.table m.keys m.vals even all.0 all.1 in
-    let info = info_of b m.info texts (is_false m.info.is_visible_there faults.VisibleNotKnown p.0) ranges.3 all.2 in (
+    let info = info_of b m.info texts ranges.3 all.2 in (
       record { id = id.0; lat = coordinate b.lat_offset b.granularity lat.0; lon = coordinate b.lon_offset b.granularity lon.0; tags = tags.0; info = info.0 },
       record {
         id_is = sym id.1;
@@ -160,14 +160,14 @@ node_of b m texts none =
 pub way_of : (b : Context) (m : WayMessage) → list_all is_text b.table ≡ true → first (way_phases b m) ≡ None → (w : WayValue) × WayOf b w m
 way_of b m texts none =
     let p = none_stands (way_phases b m) none in
-    let id = there m.id (is_false (is_none m.id) faults.Missing p.1.0) in
-    let even = eqb-true (length m.keys) (length m.vals) (is_true (same_length m.keys m.vals) faults.LengthsDiffer p.1.1.0) in
-    let diff = sums_differ m.refs (is_true (list_all fits_i64 (front_sums m.refs)) faults.SumTooLarge p.1.1.1.0) in
+    let id = there m.id (is_false (is_none m.id) faults.Missing p.0) in
+    let even = eqb-true (length m.keys) (length m.vals) (is_true (same_length m.keys m.vals) faults.LengthsDiffer p.1.0) in
+    let diff = sums_differ m.refs (is_true (list_all fits_i64 (front_sums m.refs)) faults.SumTooLarge p.1.1.0) in
     let ranges = three (passes is_wide m.id) (list_all is_wide (front_sums m.refs)) (info_in_range b m.info)
-    (is_true (passes is_wide m.id && list_all is_wide (front_sums m.refs) && info_in_range b m.info) faults.OutOfRange p.1.1.1.1.0) in
-    let all = three_in (is_index (length b.table)) m.keys m.vals (user_indexes m.info) (is_true (all_in b.table (m.keys ++ m.vals ++ user_indexes m.info)) faults.BadIndex p.1.1.1.1.1.0) in
+    (is_true (passes is_wide m.id && list_all is_wide (front_sums m.refs) && info_in_range b m.info) faults.OutOfRange p.1.1.1.0) in
+    let all = three_in (is_index (length b.table)) m.keys m.vals (user_indexes m.info) (is_true (all_in b.table (m.keys ++ m.vals ++ user_indexes m.info)) faults.BadIndex p.1.1.1.1.0) in
     let tags = tags_of b.table m.keys m.vals even all.0 all.1 in
-    let info = info_of b m.info texts (is_false m.info.is_visible_there faults.VisibleNotKnown p.0) ranges.2 all.2 in (
+    let info = info_of b m.info texts ranges.2 all.2 in (
       record { id = id.0; refs = front_sums m.refs; tags = tags.0; info = info.0 },
       record {
         id_is = sym id.1;
@@ -215,18 +215,18 @@ members_of table (i ∷ ids) (r ∷ roles) (t ∷ types) texts e f wide there kn
 pub relation_of : (b : Context) (m : RelationMessage) → list_all is_text b.table ≡ true → first (relation_phases b m) ≡ None → (r : RelationValue) × RelationOf b r m
 relation_of b m texts none =
     let p = none_stands (relation_phases b m) none in
-    let id = there m.id (is_false (is_none m.id) faults.Missing p.1.0) in
-    let even = three (same_length m.keys m.vals) (same_length m.roles_sid m.memids) (same_length m.types m.memids) (is_true (lengths m) faults.LengthsDiffer p.1.1.0) in
-    let diff = sums_differ m.memids (is_true (list_all fits_i64 (front_sums m.memids)) faults.SumTooLarge p.1.1.1.0) in
-    let ranges = three (passes is_wide m.id) (list_all is_wide (front_sums m.memids)) (info_in_range b m.info) (is_true (relations_range b m) faults.OutOfRange p.1.1.1.1.0) in
-    let all = three_in (is_index (length b.table)) (m.keys ++ m.vals) m.roles_sid (user_indexes m.info) (is_true (all_in b.table (indexes m)) faults.BadIndex p.1.1.1.1.1.0) in
+    let id = there m.id (is_false (is_none m.id) faults.Missing p.0) in
+    let even = three (same_length m.keys m.vals) (same_length m.roles_sid m.memids) (same_length m.types m.memids) (is_true (lengths m) faults.LengthsDiffer p.1.0) in
+    let diff = sums_differ m.memids (is_true (list_all fits_i64 (front_sums m.memids)) faults.SumTooLarge p.1.1.0) in
+    let ranges = three (passes is_wide m.id) (list_all is_wide (front_sums m.memids)) (info_in_range b m.info) (is_true (relations_range b m) faults.OutOfRange p.1.1.1.0) in
+    let all = three_in (is_index (length b.table)) (m.keys ++ m.vals) m.roles_sid (user_indexes m.info) (is_true (all_in b.table (indexes m)) faults.BadIndex p.1.1.1.1.0) in
     let both = sym (list_all-append (is_index (length b.table)) m.keys m.vals) ∙ all.0 in
     let sums = length-sums m.memids in
     let members = members_of b.table (front_sums m.memids) m.roles_sid m.types texts
     (eqb-true (length m.roles_sid) (length m.memids) even.1 ∙ sym sums) (eqb-true (length m.types) (length m.memids) even.2 ∙ sym sums)
-    ranges.1 all.1 (is_true (kinds_known m) faults.BadMemberType p.1.1.1.1.1.1.0) in
+    ranges.1 all.1 (is_true (kinds_known m) faults.BadMemberType p.1.1.1.1.1.0) in
     let tags = tags_of b.table m.keys m.vals (eqb-true (length m.keys) (length m.vals) even.0) (and_left _ _ both) (and_right _ _ both) in
-    let info = info_of b m.info texts (is_false m.info.is_visible_there faults.VisibleNotKnown p.0) ranges.2 all.2 in (
+    let info = info_of b m.info texts ranges.2 all.2 in (
       record { id = id.0; members = members.0; tags = tags.0; info = info.0 },
       record {
         id_is = sym id.1;

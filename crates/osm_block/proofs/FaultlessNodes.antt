@@ -1,5 +1,5 @@
 -- A dense message for which no phase stands has a list of nodes.
-use Rattle.std.proofs.Common.{◌≡◌, ℕ, zero, suc, List, [], ◌∷◌, map, length, replicate, Bool, true, false, not, ◌&&◌, refl, sym, ap, subst, ◌∙◌, ℤ, arith, Option, Some, None, IsTrue, eqb-true}
+use Rattle.std.proofs.Common.{◌≡◌, ℕ, zero, suc, List, [], ◌∷◌, map, length, replicate, Bool, true, not, ◌&&◌, refl, sym, ap, subst, ◌∙◌, ℤ, arith, Option, Some, None, IsTrue, eqb-true}
 use Rattle.std.specs.Prelude.{option_map}
 use Rattle.std.specs.List.{AllByRecursion, list_all}
 use Rattle.std.proofs.lemmas.List.{length-map, length-replicate}
@@ -20,11 +20,11 @@ use Rattle.osm_block.proofs.NodePhases.{four}
 use Rattle.osm_block.proofs.RelationPhases.{three}
 use Rattle.osm_block.proofs.DenseArrayLemmas.{length-sums, fits_by, lengths_are, tags_are_in_range}
 use Rattle.osm_block.proofs.DensePhaseLemmas.{sums_phase, message_in_range, tags_phase, users_fit, judged, dense_fault_is}
-use Rattle.osm_block.proofs.FaultlessElements.{none_stands, is_false, is_true, sums_differ, text_of}
+use Rattle.osm_block.proofs.FaultlessElements.{none_stands, is_true, sums_differ, text_of}
 
 -- ---- arrays of one value or none for each node
 
-values_for_length : {A : Type 0} (ids xs : List ℤ) (meaning : ℤ → Option A) → fits_ids ids xs ≡ true → length (values_for (length ids) (map meaning xs)) ≡ length ids
+values_for_length : {A B : Type 0} (ids : List ℤ) (xs : List A) (meaning : A → Option B) → fits_ids ids xs ≡ true → length (values_for (length ids) (map meaning xs)) ≡ length ids
 values_for_length ids [] meaning h = length-replicate (length ids) None
 values_for_length ids (x ∷ xs) meaning h = length-map (x ∷ xs) meaning ∙ eqb-true (length (x ∷ xs)) (length ids) h
 
@@ -74,57 +74,62 @@ users_of table n (i ∷ indexes) texts h = let s = somebody table (i ∷ indexes
 
 -- ---- infos by their arrays
 
-record Infos (versions times changesets uids : List (Option ℤ)) (names : List (Option Text)) : Type 0 where
+record Infos (versions times changesets uids : List (Option ℤ)) (names : List (Option Text)) (flags : List (Option Bool)) : Type 0 where
   pub list : List InfoValue
   pub versions_are : map (λ i. i.version) list ≡ versions
   pub times_are : map (λ i. i.time) list ≡ times
   pub changesets_are : map (λ i. i.changeset) list ≡ changesets
   pub uids_are : map (λ i. i.uid) list ≡ uids
   pub users_are : map (λ i. option_map Some i.user) list ≡ map (λ u. option_map Some u) names
+  pub visibles_are : map (λ i. i.visible) list ≡ flags
   pub in_range : AllByRecursion IsInfo list
 
-info_more : (v t c u : Option ℤ) (n : Option Text) (vs ts cs us : List (Option ℤ)) (ns : List (Option Text)) → IsInfo (record { version = v; time = t; changeset = c; uid = u; user = n; visible = None }) →
-    Infos vs ts cs us ns → Infos (v ∷ vs) (t ∷ ts) (c ∷ cs) (u ∷ us) (n ∷ ns)
-info_more v t c u n vs ts cs us ns here rest = record {
-  list = record { version = v; time = t; changeset = c; uid = u; user = n; visible = None } ∷ rest.list;
+info_more : (v t c u : Option ℤ) (n : Option Text) (x : Option Bool) (vs ts cs us : List (Option ℤ)) (ns : List (Option Text)) (xs : List (Option Bool)) →
+    IsInfo (record { version = v; time = t; changeset = c; uid = u; user = n; visible = x }) → Infos vs ts cs us ns xs → Infos (v ∷ vs) (t ∷ ts) (c ∷ cs) (u ∷ us) (n ∷ ns) (x ∷ xs)
+info_more v t c u n x vs ts cs us ns xs here rest = record {
+  list = record { version = v; time = t; changeset = c; uid = u; user = n; visible = x } ∷ rest.list;
   versions_are = ap (λ l. v ∷ l) rest.versions_are;
   times_are = ap (λ l. t ∷ l) rest.times_are;
   changesets_are = ap (λ l. c ∷ l) rest.changesets_are;
   uids_are = ap (λ l. u ∷ l) rest.uids_are;
   users_are = ap (λ l. option_map Some n ∷ l) rest.users_are;
+  visibles_are = ap (λ l. x ∷ l) rest.visibles_are;
   in_range = (here, rest.in_range);
 }
 
-infos_of : (vs ts cs us : List (Option ℤ)) (ns : List (Option Text)) → length ts ≡ length vs → length cs ≡ length vs → length us ≡ length vs → length ns ≡ length vs →
+infos_of : (vs ts cs us : List (Option ℤ)) (ns : List (Option Text)) (xs : List (Option Bool)) → length ts ≡ length vs → length cs ≡ length vs → length us ≡ length vs → length ns ≡ length vs → length xs ≡ length vs →
     AllByRecursion (λ o. IsTrue (passes is_version o)) vs → AllByRecursion (λ o. IsTrue (passes is_wide o)) ts → AllByRecursion (λ o. IsTrue (passes is_wide o)) cs →
-    AllByRecursion (λ o. IsTrue (passes is_uid o)) us → AllByRecursion IsTextOrNone ns → Infos vs ts cs us ns
-infos_of [] [] [] [] [] et ec eu en pv pt pc pu pn = record { list = []; versions_are = refl; times_are = refl; changesets_are = refl; uids_are = refl; users_are = refl; in_range = tt }
-infos_of (v ∷ vs) (t ∷ ts) (c ∷ cs) (u ∷ us) (n ∷ ns) et ec eu en pv pt pc pu pn =
-    info_more v t c u n vs ts cs us ns (record { version = pv.0; time = pt.0; changeset = pc.0; uid = pu.0; user = pn.0; visible = refl })
-    (infos_of vs ts cs us ns (omega arith) (omega arith) (omega arith) (omega arith) pv.1 pt.1 pc.1 pu.1 pn.1)
-infos_of vs ts cs us ns et ec eu en pv pt pc pu pn = absurd (omega arith)
+    AllByRecursion (λ o. IsTrue (passes is_uid o)) us → AllByRecursion IsTextOrNone ns → Infos vs ts cs us ns xs
+infos_of [] [] [] [] [] [] et ec eu en ex pv pt pc pu pn = record { list = []; versions_are = refl; times_are = refl; changesets_are = refl; uids_are = refl; users_are = refl; visibles_are = refl; in_range = tt }
+infos_of (v ∷ vs) (t ∷ ts) (c ∷ cs) (u ∷ us) (n ∷ ns) (x ∷ xs) et ec eu en ex pv pt pc pu pn =
+    info_more v t c u n x vs ts cs us ns xs (record { version = pv.0; time = pt.0; changeset = pc.0; uid = pu.0; user = pn.0 })
+    (infos_of vs ts cs us ns xs (omega arith) (omega arith) (omega arith) (omega arith) (omega arith) pv.1 pt.1 pc.1 pu.1 pn.1)
+infos_of vs ts cs us ns xs et ec eu en ex pv pt pc pu pn = absurd (omega arith)
 
 -- the infos of all nodes
-dense_infos : (b : Context) (ids : List ℤ) (m : DenseInfoMessage) → list_all is_text b.table ≡ true → m.is_visible_there ≡ false → dense_info_fits ids m ≡ true → dense_info_in_range b m ≡ true →
+dense_infos : (b : Context) (ids : List ℤ) (m : DenseInfoMessage) → list_all is_text b.table ≡ true → dense_info_fits ids m ≡ true → dense_info_in_range b m ≡ true →
     list_all (is_index (length b.table)) (front_sums m.user_sid) ≡ true → Diff (front_sums m.timestamp) m.timestamp → Diff (front_sums m.changeset) m.changeset →
     Diff (front_sums m.uid) m.uid → Diff (front_sums m.user_sid) m.user_sid → (is : List InfoValue) × DenseInfoOf b is m × (length is ≡ length ids)
-dense_infos b ids m texts unseen fits ranges users dt dc du dn =
+dense_infos b ids m texts fits ranges users dt dc du dn =
     let n : ℕ = length ids in
-    let fit = four (fits_ids ids m.version && fits_ids ids m.timestamp) (fits_ids ids m.changeset) (fits_ids ids m.uid) (fits_ids ids m.user_sid) fits in
+    let first_five = fits_ids ids m.version && fits_ids ids m.timestamp && fits_ids ids m.changeset && fits_ids ids m.uid && fits_ids ids m.user_sid in
+    let fit = four (fits_ids ids m.version && fits_ids ids m.timestamp) (fits_ids ids m.changeset) (fits_ids ids m.uid) (fits_ids ids m.user_sid) (and_left first_five (fits_ids ids m.visible) fits) in
     let wide = four (list_all (λ v. passes is_version (version v)) m.version) (list_all (λ t. is_wide (time b.date_granularity t)) (front_sums m.timestamp))
     (list_all is_wide (front_sums m.changeset)) (list_all is_uid (front_sums m.uid)) ranges in
     let stamp : ℤ → Option ℤ = λ t. Some (time b.date_granularity t) in
     let same : ℤ → Option ℤ = λ v. Some v in
+    let flag : Bool → Option Bool = λ x. Some x in
     let name : ℤ → Option (Option Text) = λ v. Some (text_at b.table v) in
     let long_versions = values_for_length ids m.version version (and_left (fits_ids ids m.version) (fits_ids ids m.timestamp) fit.0) in
     let long_times = sums_length ids m.timestamp stamp (and_right (fits_ids ids m.version) (fits_ids ids m.timestamp) fit.0) in
     let long_changesets = sums_length ids m.changeset same fit.1 in
     let long_uids = sums_length ids m.uid same fit.2 in
     let long_names = sums_length ids m.user_sid name fit.3 in
+    let long_flags = values_for_length ids m.visible flag (and_right first_five (fits_ids ids m.visible) fits) in
     let people = users_of b.table n (front_sums m.user_sid) texts users in
     let long_people = sym (length-map people.names (λ u. option_map Some u)) ∙ ap length people.stand ∙ long_names in
-    let all = infos_of (values_for n (map version m.version)) (values_for n (map stamp (front_sums m.timestamp))) (values_for n (map same (front_sums m.changeset))) (values_for n (map same (front_sums m.uid))) people.names
-    (long_times ∙ sym long_versions) (long_changesets ∙ sym long_versions) (long_uids ∙ sym long_versions) (long_people ∙ sym long_versions)
+    let all = infos_of (values_for n (map version m.version)) (values_for n (map stamp (front_sums m.timestamp))) (values_for n (map same (front_sums m.changeset))) (values_for n (map same (front_sums m.uid))) people.names (values_for n (map flag m.visible))
+    (long_times ∙ sym long_versions) (long_changesets ∙ sym long_versions) (long_uids ∙ sym long_versions) (long_people ∙ sym long_versions) (long_flags ∙ sym long_versions)
     (values_for_pass is_version n version m.version wide.0) (values_for_pass is_wide n stamp (front_sums m.timestamp) wide.1)
     (values_for_pass is_wide n same (front_sums m.changeset) wide.2) (values_for_pass is_uid n same (front_sums m.uid) wide.3) people.in_range in
     let len : length all.list ≡ n = sym (length-map all.list (λ i. i.version)) ∙ ap length all.versions_are ∙ long_versions in (
@@ -135,7 +140,7 @@ dense_infos b ids m texts unseen fits ranges users dt dc du dn =
         changesets_are = (front_sums m.changeset, dc, all.changesets_are ∙ ap (λ k. values_for k (map same (front_sums m.changeset))) (sym len));
         uids_are = (front_sums m.uid, du, all.uids_are ∙ ap (λ k. values_for k (map same (front_sums m.uid))) (sym len));
         users_are = (front_sums m.user_sid, dn, (all.users_are ∙ people.stand) ∙ ap (λ k. values_for k (map name (front_sums m.user_sid))) (sym len));
-        no_visible = unseen;
+        visibles_are = all.visibles_are ∙ ap (λ k. values_for k (map flag m.visible)) (sym len);
         in_range = all.in_range;
       },
       len,
@@ -206,12 +211,12 @@ nodes_of ids lats lons rows infos ea eo et ei pn pa po pt pi = absurd (omega ari
 pub dense_of : (b : Context) (m : DenseMessage) → list_all is_text b.table ≡ true → first (dense_phases b m) ≡ None → (ns : List NodeValue) × DenseOf b ns m
 dense_of b m texts none =
     let n : ℕ = length m.id in
-    let judgement : judged m.info.is_visible_there (lengths_are m) (sums_phase m) (message_in_range b m) (tags_phase b m) (users_fit b m) ≡ None =
-    sym (dense_fault_is b m m.info.is_visible_there (lengths_are m) (sums_phase m) (message_in_range b m) (tags_phase b m) (users_fit b m) refl refl refl refl refl refl) ∙ none in
-    let p = none_stands (when m.info.is_visible_there faults.VisibleNotKnown ∷ when (not (lengths_are m)) faults.LengthsDiffer ∷ sums_phase m
+    let judgement : judged (lengths_are m) (sums_phase m) (message_in_range b m) (tags_phase b m) (users_fit b m) ≡ None =
+    sym (dense_fault_is b m (lengths_are m) (sums_phase m) (message_in_range b m) (tags_phase b m) (users_fit b m) refl refl refl refl refl) ∙ none in
+    let p = none_stands (when (not (lengths_are m)) faults.LengthsDiffer ∷ sums_phase m
     ∷ when (not (message_in_range b m)) faults.OutOfRange ∷ tags_phase b m ∷ when (not (users_fit b m)) faults.BadIndex ∷ []) judgement in
-    let even = three (same_length m.lat m.id) (same_length m.lon m.id) (dense_info_fits m.id m.info) (is_true (lengths_are m) faults.LengthsDiffer p.1.0) in
-    let sums = is_true (list_all (λ ds. list_all fits_i64 (front_sums ds)) (deltas_of m)) faults.SumTooLarge p.1.1.0 in
+    let even = three (same_length m.lat m.id) (same_length m.lon m.id) (dense_info_fits m.id m.info) (is_true (lengths_are m) faults.LengthsDiffer p.0) in
+    let sums = is_true (list_all (λ ds. list_all fits_i64 (front_sums ds)) (deltas_of m)) faults.SumTooLarge p.1.0 in
     let after_ids = and_right _ _ sums in
     let after_lats = and_right _ _ after_ids in
     let after_lons = and_right _ _ after_lats in
@@ -219,10 +224,10 @@ dense_of b m texts none =
     let after_changesets = and_right _ _ after_times in
     let after_uids = and_right _ _ after_changesets in
     let ranges = four (list_all is_wide (front_sums m.id)) (list_all (coordinate_in_range b.lat_offset b.granularity) (front_sums m.lat)) (list_all (coordinate_in_range b.lon_offset b.granularity) (front_sums m.lon))
-    (dense_info_in_range b m.info) (is_true (message_in_range b m) faults.OutOfRange p.1.1.1.0) in
-    let fit = tags_fit n (length b.table) m.keys_vals p.1.1.1.1.0 in
+    (dense_info_in_range b m.info) (is_true (message_in_range b m) faults.OutOfRange p.1.1.0) in
+    let fit = tags_fit n (length b.table) m.keys_vals p.1.1.1.0 in
     let rows = rows_of b.table (node_pairs n m.keys_vals) texts fit.in_table in
-    let infos = dense_infos b m.id m.info texts (is_false m.info.is_visible_there faults.VisibleNotKnown p.0) even.2 ranges.3 (is_true (users_fit b m) faults.BadIndex p.1.1.1.1.1.0)
+    let infos = dense_infos b m.id m.info texts even.2 ranges.3 (is_true (users_fit b m) faults.BadIndex p.1.1.1.1.0)
     (sums_differ m.info.timestamp (and_left _ _ after_lons)) (sums_differ m.info.changeset (and_left _ _ after_times))
     (sums_differ m.info.uid (and_left _ _ after_changesets)) (sums_differ m.info.user_sid (and_left _ _ after_uids)) in
     let lat : ℤ → ℤ = coordinate b.lat_offset b.granularity in

@@ -1,14 +1,14 @@
 -- One more field of a message: what it adds, and what the rest of the fields still add.
-use Rattle.std.proofs.Common.{◌≡◌, ℕ, List, [], ◌∷◌, ◌++◌, map, refl, sym, ap, ◌∙◌, Option, Some, None, Result, Ok, true, append-nil}
+use Rattle.std.proofs.Common.{◌≡◌, ℕ, List, [], ◌∷◌, ◌++◌, map, refl, sym, ap, ◌∙◌, Option, Some, None, Result, Ok, append-nil}
 use Rattle.std.specs.Prelude.{option_map}
 use Rattle.std.specs.List.{flat_map}
-use Rattle.std.specs.Option.{option_or, is_some}
+use Rattle.std.specs.Option.{option_or}
 use Rattle.std.proofs.lemmas.List.Elements.{filter_map-append}
 use Rattle.pbf_wire.specs.declared.fault.WireFault.{WireFault}
 use Rattle.pbf_wire.specs.declared.field.Field.{Field}
 use Rattle.pbf_wire.specs.Field.{Bytes, Entry, content_of}
 use Rattle.pbf_wire.specs.FieldList.{last_or, view_item}
-use Rattle.pbf_wire.specs.Readings.{front, fields, wire, packed, fitting, number_of, last, each, nums, sub, is_there, int32, int64, uint32}
+use Rattle.pbf_wire.specs.Readings.{front, fields, wire, packed, fitting, number_of, last, each, nums, sub}
 use Rattle.osm_block.specs.declared.fields.TheConstants.{ELEMENT_ID, ELEMENT_INFO, ELEMENT_KEYS, ELEMENT_VALS, INFO_CHANGESET, INFO_TIMESTAMP, INFO_UID, INFO_USER_SID, INFO_VERSION, INFO_VISIBLE, NODE_LAT, NODE_LON, RELATION_MEMIDS, RELATION_ROLES_SID, RELATION_TYPES, WAY_REFS}
 use Rattle.osm_block.specs.declared.fault.BlockFault.{BlockFault}
 use Rattle.osm_block.specs.declared.fault.BlockFault.TheVariants as faults
@@ -79,26 +79,8 @@ array_fault array k whole h = sym (option_or-none array.fault) ∙ h.fault
 pub info_fault : (info : InfoFields) (whole : List Entry) → InfoLeft info ELEMENT_INFO [] whole → info.fault ≡ first_there (map wire (each whole ELEMENT_INFO))
 info_fault info whole h = sym (option_or-none info.fault) ∙ h.fault
 
-last_is_some : (x : ℕ) (xs : List ℕ) → is_some (last_or (Some x) xs) ≡ true
-last_is_some x [] = refl
-last_is_some x (y ∷ ys) = last_is_some y ys
-
-last_there : (xs : List ℕ) → is_some (last_or None xs) ≡ is_there xs
-last_there [] = refl
-last_there (x ∷ xs) = last_is_some x xs
-
 pub info_read : (info : InfoFields) (whole : List Entry) → InfoLeft info ELEMENT_INFO [] whole → info_message_of info.numbers ≡ info_message (sub whole ELEMENT_INFO)
-info_read info whole h =
-    let fs : List Entry = sub whole ELEMENT_INFO in
-    ap info_message_of h.numbers
-    ∙ ap (λ v. record {
-      version = option_map int32 (last fs INFO_VERSION);
-      timestamp = option_map int64 (last fs INFO_TIMESTAMP);
-      changeset = option_map int64 (last fs INFO_CHANGESET);
-      uid = option_map int32 (last fs INFO_UID);
-      user_sid = option_map uint32 (last fs INFO_USER_SID);
-      is_visible_there = v;
-    }) (last_there (fitting number_of INFO_VISIBLE fs))
+info_read info whole h = ap info_message_of h.numbers
 
 -- the messages
 

@@ -19,6 +19,7 @@ pub mod RangeLemmas
 pub mod RangeTests
 pub mod CoordinateLemmas
 pub mod MemberLemmas
+pub mod EarlierLemmas
 pub mod Unique
 pub mod UniqueDense
 pub mod VectorBlocks

@@ -50,8 +50,7 @@ NodeOf-no_phase b n m h =
     both (list_all p (m.keys ++ m.vals)) (list_all p (user_indexes m.info))
     (list_all-append p m.keys m.vals ∙ both (list_all p m.keys) (list_all p m.vals) (all_indexes_there (λ t. t.0) b.table n.tags m.keys h.tags_are.keys_are) (all_indexes_there (λ t. t.1) b.table n.tags m.vals h.tags_are.vals_are))
     (user_there b.table n.info.user m.info.user_sid h.info_is.user_is) in
-    skip (when m.info.is_visible_there faults.VisibleNotKnown) _ (ap (λ v. when v faults.VisibleNotKnown) h.info_is.no_visible)
-    ∙ skip (when (is_none m.id || is_none m.lat || is_none m.lon) faults.Missing) _ (ap (λ v. when v faults.Missing) missing)
+    skip (when (is_none m.id || is_none m.lat || is_none m.lon) faults.Missing) _ (ap (λ v. when v faults.Missing) missing)
     ∙ pass (same_length m.keys m.vals) faults.LengthsDiffer _ even
     ∙ pass (nodes_range b m) faults.OutOfRange _ range
     ∙ pass (nodes_index b m) faults.BadIndex [] index

@@ -16,7 +16,6 @@ nodes_index b m = all_in b.table (m.keys ++ m.vals ++ user_indexes m.info)
 
 -- what is known of a node before its ranges are tested
 pub record NodeRead (b : Context) (m : NodeMessage) (id lat lon : ℤ) : Type 0 where
-  pub visible : m.info.is_visible_there ≡ false
   pub there : m.id ≡ Some id
   pub lat_there : m.lat ≡ Some lat
   pub lon_there : m.lon ≡ Some lon
@@ -34,8 +33,7 @@ missing id lat lon i a o e f g = ap (λ x. is_none x || is_none lat || is_none l
 late : (b : Context) (m : NodeMessage) (id lat lon : ℤ) → NodeRead b m id lat lon →
     first (node_phases b m) ≡ first (when (not (nodes_range b m)) faults.OutOfRange ∷ when (not (nodes_index b m)) faults.BadIndex ∷ [])
 late b m id lat lon r =
-    skip (when m.info.is_visible_there faults.VisibleNotKnown) _ (ap (λ v. when v faults.VisibleNotKnown) r.visible)
-    ∙ skip (when (is_none m.id || is_none m.lat || is_none m.lon) faults.Missing) _ (ap (λ v. when v faults.Missing) (missing m.id m.lat m.lon id lat lon r.there r.lat_there r.lon_there))
+    skip (when (is_none m.id || is_none m.lat || is_none m.lon) faults.Missing) _ (ap (λ v. when v faults.Missing) (missing m.id m.lat m.lon id lat lon r.there r.lat_there r.lon_there))
     ∙ pass (same_length m.keys m.vals) faults.LengthsDiffer _ r.even
 
 pub range_is : (b : Context) (m : NodeMessage) (id lat lon i a o : ℤ) (t : Bool) → NodeRead b m id lat lon → i ≡ id → a ≡ lat → o ≡ lon →

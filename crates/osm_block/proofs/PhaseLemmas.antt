@@ -29,11 +29,10 @@ late_way_phases b m =
     when (not (passes is_wide m.id && list_all is_wide (front_sums m.refs) && info_in_range b m.info)) faults.OutOfRange
     ∷ when (not (all_in b.table (m.keys ++ m.vals ++ user_indexes m.info))) faults.BadIndex ∷ []
 
-pub late_way : (b : Context) (m : WayMessage) (id : ℤ) → m.info.is_visible_there ≡ false → m.id ≡ Some id → same_length m.keys m.vals ≡ true →
+pub late_way : (b : Context) (m : WayMessage) (id : ℤ) → m.id ≡ Some id → same_length m.keys m.vals ≡ true →
     when (not (list_all fits_i64 (front_sums m.refs))) faults.SumTooLarge ≡ None → first (way_phases b m) ≡ first (late_way_phases b m)
-late_way b m id visible there even sums =
-    skip (when m.info.is_visible_there faults.VisibleNotKnown) _ (ap (λ v. when v faults.VisibleNotKnown) visible)
-    ∙ skip (when (is_none m.id) faults.Missing) _ (ap (λ o. when (is_none o) faults.Missing) there)
+late_way b m id there even sums =
+    skip (when (is_none m.id) faults.Missing) _ (ap (λ o. when (is_none o) faults.Missing) there)
     ∙ pass (same_length m.keys m.vals) faults.LengthsDiffer _ even
     ∙ skip (when (not (list_all fits_i64 (front_sums m.refs))) faults.SumTooLarge) _ sums
 
@@ -48,7 +47,6 @@ way_range b m id refs w r i there sums is_w is_r is_i =
 
 -- what is known of a way once its references are taken
 pub record WayRead (b : Context) (m : WayMessage) (id : ℤ) (refs : List ℤ) : Type 0 where
-  pub visible : m.info.is_visible_there ≡ false
   pub there : m.id ≡ Some id
   pub even : same_length m.keys m.vals ≡ true
   pub sums : when (not (list_all fits_i64 (front_sums m.refs))) faults.SumTooLarge ≡ None
@@ -65,7 +63,7 @@ range_is b m id refs i rs t r same same_refs is =
     is ∙ ap (λ w. w && list_all is_wide rs && info_in_range b m.info) wide ∙ ap (λ w. passes is_wide m.id && w && info_in_range b m.info) all
 
 late : (b : Context) (m : WayMessage) (id : ℤ) (refs : List ℤ) → WayRead b m id refs → first (way_phases b m) ≡ first (late_way_phases b m)
-late b m id refs r = late_way b m id r.visible r.there r.even r.sums
+late b m id refs r = late_way b m id r.there r.even r.sums
 
 pub fails_range : (b : Context) (m : WayMessage) (id : ℤ) (refs : List ℤ) (t : Bool) → WayRead b m id refs → t ≡ ways_range b m → t ≡ false → first (way_phases b m) ≡ Some faults.OutOfRange
 fails_range b m id refs t r is fails = late b m id refs r ∙ stop (ways_range b m) faults.OutOfRange _ (sym is ∙ fails)

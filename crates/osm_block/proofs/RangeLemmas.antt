@@ -75,8 +75,8 @@ user_in_range table (Some t) (Some k) h e =
 
 pub info_is_in_range : (b : Context) (m : InfoMessage) (i : InfoValue) → info_in_range b m ≡ true → list_all is_text b.table ≡ true →
     i.version ≡ unwrap_or (option_map version m.version) None → i.time ≡ option_map (time b.date_granularity) m.timestamp → i.changeset ≡ m.changeset → i.uid ≡ m.uid →
-    option_map Some i.user ≡ option_map (text_at b.table) m.user_sid → i.visible ≡ None → IsInfo i
-info_is_in_range b m i h texts is_v is_t is_c is_u is_user unseen =
+    option_map Some i.user ≡ option_map (text_at b.table) m.user_sid → IsInfo i
+info_is_in_range b m i h texts is_v is_t is_c is_u is_user =
     let all = info_in_range-is b.date_granularity m.version m.timestamp m.changeset m.uid i.version i.time is_v is_t h in
     let three = and_left (passes is_version i.version && passes is_wide i.time && passes is_wide m.changeset) (passes is_uid m.uid) all in
     let two = and_left (passes is_version i.version && passes is_wide i.time) (passes is_wide m.changeset) three in
@@ -86,7 +86,6 @@ info_is_in_range b m i h texts is_v is_t is_c is_u is_user unseen =
       changeset = ap (passes is_wide) is_c ∙ and_right (passes is_version i.version && passes is_wide i.time) (passes is_wide m.changeset) three;
       uid = ap (passes is_uid) is_u ∙ and_right (passes is_version i.version && passes is_wide i.time && passes is_wide m.changeset) (passes is_uid m.uid) all;
       user = user_in_range b.table i.user m.user_sid texts is_user;
-      visible = unseen;
     }
 
 pub info_time : (b : Context) (m : InfoMessage) → info_in_range b m ≡ true → passes (λ t. is_wide (time b.date_granularity t)) m.timestamp ≡ true

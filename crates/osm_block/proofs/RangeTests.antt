@@ -1,5 +1,5 @@
 -- Tests of elements that are given as literals: where one passes, the element is in its ranges.
-use Rattle.std.proofs.Common.{◌≡◌, List, [], ◌∷◌, Bool, true, false, ◌&&◌, Option, Some, None, refl}
+use Rattle.std.proofs.Common.{◌≡◌, List, [], ◌∷◌, Bool, true, ◌&&◌, Option, Some, None}
 use Rattle.std.specs.List.{list_all, AllByRecursion}
 use Rattle.osm_value.specs.Value.{Text, InfoValue, MemberValue, NodeValue, WayValue, RelationValue}
 use Rattle.osm_value.specs.Ranges.{passes, is_wide, is_version, is_uid, IsText, IsTextOrNone, AreTags, IsInfo, IsMember, IsNode, IsWay, IsRelation}
@@ -17,16 +17,8 @@ are_tags tags = list_all (λ t. is_text t.0 && is_text t.1) tags
 tags_from : (tags : List (Text × Text)) → are_tags tags ≡ true → AreTags tags
 tags_from tags h = each_from (λ t. is_text t.0 && is_text t.1) (λ t. IsText t.0 × IsText t.1) (λ t e. (text_from t.0 (and_left _ _ e), text_from t.1 (and_right _ _ e))) tags h
 
-abbrev pub is_unseen : Option Bool → Bool
-is_unseen None = true
-is_unseen (Some b) = false
-
-unseen_from : (v : Option Bool) → is_unseen v ≡ true → v ≡ None
-unseen_from None h = refl
-unseen_from (Some b) h = cc
-
 abbrev pub is_info : InfoValue → Bool
-is_info i = passes is_version i.version && (passes is_wide i.time && (passes is_wide i.changeset && (passes is_uid i.uid && (passes is_text i.user && is_unseen i.visible))))
+is_info i = passes is_version i.version && (passes is_wide i.time && (passes is_wide i.changeset && (passes is_uid i.uid && passes is_text i.user)))
 
 user_from : (u : Option Text) → passes is_text u ≡ true → IsTextOrNone u
 user_from None h = tt
@@ -34,17 +26,15 @@ user_from (Some t) h = text_from t h
 
 pub info_from : (i : InfoValue) → is_info i ≡ true → IsInfo i
 info_from i h =
-    let a = and_right (passes is_version i.version) (passes is_wide i.time && (passes is_wide i.changeset && (passes is_uid i.uid && (passes is_text i.user && is_unseen i.visible)))) h in
-    let b = and_right (passes is_wide i.time) (passes is_wide i.changeset && (passes is_uid i.uid && (passes is_text i.user && is_unseen i.visible))) a in
-    let c = and_right (passes is_wide i.changeset) (passes is_uid i.uid && (passes is_text i.user && is_unseen i.visible)) b in
-    let d = and_right (passes is_uid i.uid) (passes is_text i.user && is_unseen i.visible) c in
+    let a = and_right (passes is_version i.version) (passes is_wide i.time && (passes is_wide i.changeset && (passes is_uid i.uid && passes is_text i.user))) h in
+    let b = and_right (passes is_wide i.time) (passes is_wide i.changeset && (passes is_uid i.uid && passes is_text i.user)) a in
+    let c = and_right (passes is_wide i.changeset) (passes is_uid i.uid && passes is_text i.user) b in
     record {
       version = and_left (passes is_version i.version) _ h;
       time = and_left (passes is_wide i.time) _ a;
       changeset = and_left (passes is_wide i.changeset) _ b;
       uid = and_left (passes is_uid i.uid) _ c;
-      user = user_from i.user (and_left (passes is_text i.user) _ d);
-      visible = unseen_from i.visible (and_right (passes is_text i.user) _ d);
+      user = user_from i.user (and_right (passes is_uid i.uid) _ c);
     }
 
 abbrev pub is_node : NodeValue → Bool

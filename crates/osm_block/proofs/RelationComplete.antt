@@ -65,8 +65,7 @@ RelationOf-no_phase b r m h =
     (list_all-append p (m.keys ++ m.vals) m.roles_sid ∙ both (list_all p (m.keys ++ m.vals)) (list_all p m.roles_sid)
     (list_all-append p m.keys m.vals ∙ both (list_all p m.keys) (list_all p m.vals) keys_in vals_in) roles_in)
     (user_there b.table r.info.user m.info.user_sid h.info_is.user_is) in
-    skip (when m.info.is_visible_there faults.VisibleNotKnown) _ (ap (λ v. when v faults.VisibleNotKnown) h.info_is.no_visible)
-    ∙ skip (when (is_none m.id) faults.Missing) _ (ap (λ o. when (is_none o) faults.Missing) (sym h.id_is))
+    skip (when (is_none m.id) faults.Missing) _ (ap (λ o. when (is_none o) faults.Missing) (sym h.id_is))
     ∙ pass (lengths m) faults.LengthsDiffer _ even
     ∙ skip (when (not (list_all fits_i64 (front_sums m.memids))) faults.SumTooLarge) _ (gives (map (λ x. x.id) r.members) m.memids sums h.memids_are.fit).0
     ∙ pass (relations_range b m) faults.OutOfRange _ range

@@ -30,7 +30,6 @@ kinds_known m = list_all (λ t. is_some (kind t)) m.types
 
 -- what is known of a relation once the ids of its members are taken
 pub record RelationRead (b : Context) (m : RelationMessage) (id : ℤ) (memids : List ℤ) : Type 0 where
-  pub visible : m.info.is_visible_there ≡ false
   pub there : m.id ≡ Some id
   pub even : lengths m ≡ true
   pub sums : when (not (list_all fits_i64 (front_sums m.memids))) faults.SumTooLarge ≡ None
@@ -66,8 +65,7 @@ as_long xs ms ids e h = eqb-true (length xs) (length ms) e ∙ Diff-length ids m
 late : (b : Context) (m : RelationMessage) (id : ℤ) (memids : List ℤ) → RelationRead b m id memids → first (relation_phases b m) ≡
     first (when (not (relations_range b m)) faults.OutOfRange ∷ when (not (all_in b.table (indexes m))) faults.BadIndex ∷ when (not (kinds_known m)) faults.BadMemberType ∷ [])
 late b m id memids r =
-    skip (when m.info.is_visible_there faults.VisibleNotKnown) _ (ap (λ v. when v faults.VisibleNotKnown) r.visible)
-    ∙ skip (when (is_none m.id) faults.Missing) _ (ap (λ o. when (is_none o) faults.Missing) r.there)
+    skip (when (is_none m.id) faults.Missing) _ (ap (λ o. when (is_none o) faults.Missing) r.there)
     ∙ pass (lengths m) faults.LengthsDiffer _ r.even
     ∙ skip (when (not (list_all fits_i64 (front_sums m.memids))) faults.SumTooLarge) _ r.sums
 

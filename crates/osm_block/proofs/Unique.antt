@@ -38,7 +38,7 @@ InfoOf-unique b i j m g h =
     ∙ ap (λ x. record { version = j.version; time = j.time; changeset = x; uid = i.uid; user = i.user; visible = i.visible }) (g.changeset_is ∙ sym h.changeset_is)
     ∙ ap (λ x. record { version = j.version; time = j.time; changeset = j.changeset; uid = x; user = i.user; visible = i.visible }) (g.uid_is ∙ sym h.uid_is)
     ∙ ap (λ x. record { version = j.version; time = j.time; changeset = j.changeset; uid = j.uid; user = x; visible = i.visible }) (option_one i.user j.user (g.user_is ∙ sym h.user_is))
-    ∙ ap (λ x. record { version = j.version; time = j.time; changeset = j.changeset; uid = j.uid; user = j.user; visible = x }) (g.in_range.visible ∙ sym h.in_range.visible)
+    ∙ ap (λ x. record { version = j.version; time = j.time; changeset = j.changeset; uid = j.uid; user = j.user; visible = x }) (g.visible_is ∙ sym h.visible_is)
 
 pub WayOf-unique : (b : Context) (v w : WayValue) (m : WayMessage) → WayOf b v m → WayOf b w m → v ≡ w
 WayOf-unique b v w m g h =

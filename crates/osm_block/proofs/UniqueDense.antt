@@ -6,7 +6,6 @@ use Rattle.std.proofs.lemmas.List.{length-map}
 use Rattle.osm_value.specs.declared.element.Element.{Element}
 use Rattle.osm_value.specs.declared.element.Element.TheVariants as elements
 use Rattle.osm_value.specs.Value.{Text, InfoValue, NodeValue}
-use Rattle.osm_value.specs.Ranges.{IsInfo}
 use Rattle.pbf_wire.specs.Readings.{fields}
 use Rattle.osm_block.specs.declared.fields.TheConstants.{BLOCK_PRIMITIVEGROUP}
 use Rattle.osm_block.specs.Message.{Context, DenseInfoMessage, DenseMessage, Message, Plain, Dense, Way, Relation, node_message, dense_message, way_message, relation_message, context, messages}
@@ -61,28 +60,30 @@ there_one (u ∷ us) (v ∷ vs) e =
 -- ---- nodes by their arrays
 
 infos_one : (us vs : List InfoValue) → map (λ i. i.version) us ≡ map (λ i. i.version) vs → map (λ i. i.time) us ≡ map (λ i. i.time) vs → map (λ i. i.changeset) us ≡ map (λ i. i.changeset) vs
-    → map (λ i. i.uid) us ≡ map (λ i. i.uid) vs → map (λ i. option_map Some i.user) us ≡ map (λ i. option_map Some i.user) vs → AllByRecursion IsInfo us → AllByRecursion IsInfo vs → us ≡ vs
-infos_one [] [] a b c d e g h = refl
-infos_one [] (v ∷ vs) a b c d e g h = cc
-infos_one (u ∷ us) [] a b c d e g h = cc
-infos_one (u ∷ us) (v ∷ vs) a b c d e g h =
+    → map (λ i. i.uid) us ≡ map (λ i. i.uid) vs → map (λ i. option_map Some i.user) us ≡ map (λ i. option_map Some i.user) vs → map (λ i. i.visible) us ≡ map (λ i. i.visible) vs → us ≡ vs
+infos_one [] [] a b c d e f = refl
+infos_one [] (v ∷ vs) a b c d e f = cc
+infos_one (u ∷ us) [] a b c d e f = cc
+infos_one (u ∷ us) (v ∷ vs) a b c d e f =
     let a0 : u.version ≡ v.version = cc in
     let b0 : u.time ≡ v.time = cc in
     let c0 : u.changeset ≡ v.changeset = cc in
     let d0 : u.uid ≡ v.uid = cc in
     let e0 : option_map Some u.user ≡ option_map Some v.user = cc in
+    let f0 : u.visible ≡ v.visible = cc in
     let a1 : map (λ i. i.version) us ≡ map (λ i. i.version) vs = cc in
     let b1 : map (λ i. i.time) us ≡ map (λ i. i.time) vs = cc in
     let c1 : map (λ i. i.changeset) us ≡ map (λ i. i.changeset) vs = cc in
     let d1 : map (λ i. i.uid) us ≡ map (λ i. i.uid) vs = cc in
     let e1 : map (λ i. option_map Some i.user) us ≡ map (λ i. option_map Some i.user) vs = cc in
+    let f1 : map (λ i. i.visible) us ≡ map (λ i. i.visible) vs = cc in
     ap (λ x. record { version = x; time = u.time; changeset = u.changeset; uid = u.uid; user = u.user; visible = u.visible } ∷ us) a0
     ∙ ap (λ x. record { version = v.version; time = x; changeset = u.changeset; uid = u.uid; user = u.user; visible = u.visible } ∷ us) b0
     ∙ ap (λ x. record { version = v.version; time = v.time; changeset = x; uid = u.uid; user = u.user; visible = u.visible } ∷ us) c0
     ∙ ap (λ x. record { version = v.version; time = v.time; changeset = v.changeset; uid = x; user = u.user; visible = u.visible } ∷ us) d0
     ∙ ap (λ x. record { version = v.version; time = v.time; changeset = v.changeset; uid = v.uid; user = x; visible = u.visible } ∷ us) (option_one u.user v.user e0)
-    ∙ ap (λ x. record { version = v.version; time = v.time; changeset = v.changeset; uid = v.uid; user = v.user; visible = x } ∷ us) (g.0.visible ∙ sym h.0.visible)
-    ∙ ap (λ l. v ∷ l) (infos_one us vs a1 b1 c1 d1 e1 g.1 h.1)
+    ∙ ap (λ x. record { version = v.version; time = v.time; changeset = v.changeset; uid = v.uid; user = v.user; visible = x } ∷ us) f0
+    ∙ ap (λ l. v ∷ l) (infos_one us vs a1 b1 c1 d1 e1 f1)
 
 nodes_one : (us vs : List NodeValue) → map (λ n. n.id) us ≡ map (λ n. n.id) vs → map (λ n. n.lat) us ≡ map (λ n. n.lat) vs → map (λ n. n.lon) us ≡ map (λ n. n.lon) vs
     → map (λ n. all_there n.tags) us ≡ map (λ n. all_there n.tags) vs → map (λ n. n.info) us ≡ map (λ n. n.info) vs → us ≡ vs
@@ -121,7 +122,7 @@ DenseInfoOf-unique b us vs m len g h = infos_one us vs
     (values_for_one _ _ _ _ _ m.changeset len g.changesets_are h.changesets_are)
     (values_for_one _ _ _ _ _ m.uid len g.uids_are h.uids_are)
     (values_for_one _ _ _ _ _ m.user_sid len g.users_are h.users_are)
-    g.in_range h.in_range
+    (g.visibles_are ∙ ap (λ k. values_for k (map Some m.visible)) len ∙ sym h.visibles_are)
 
 pub DenseOf-unique : (b : Context) (us vs : List NodeValue) (m : DenseMessage) → DenseOf b us m → DenseOf b vs m → us ≡ vs
 DenseOf-unique b us vs m g h =

@@ -68,6 +68,6 @@ WayOf-no_phase b w m h =
     both (list_all p (m.keys ++ m.vals)) (list_all p (user_indexes m.info))
     (list_all-append p m.keys m.vals ∙ both (list_all p m.keys) (list_all p m.vals) (all_indexes_there (λ t. t.0) b.table w.tags m.keys h.tags_are.keys_are) (all_indexes_there (λ t. t.1) b.table w.tags m.vals h.tags_are.vals_are))
     (user_there b.table w.info.user m.info.user_sid h.info_is.user_is) in
-    late_way b m w.id h.info_is.no_visible (sym h.id_is) even (gives w.refs m.refs sums h.refs_are.fit).0
+    late_way b m w.id (sym h.id_is) even (gives w.refs m.refs sums h.refs_are.fit).0
     ∙ pass (passes is_wide m.id && list_all is_wide (front_sums m.refs) && info_in_range b m.info) faults.OutOfRange _ range
     ∙ pass (all_in b.table (m.keys ++ m.vals ++ user_indexes m.info)) faults.BadIndex [] index

@@ -1,5 +1,5 @@
 -- What a primitive block says (osmformat.proto, PrimitiveBlock; OpenStreetMap Wiki, "PBF Format", "Definition of OSMData fileblock").
-use Rattle.std.specs.Prelude.{◌≡◌, ℕ, zero, suc, ◌≤◌, List, [], ◌∷◌, ◌++◌, map, length, replicate, ℤ, pos, negsuc, ◌+ℤ◌, ◌*ℤ◌, ◌≤ℤ◌, Option, Some, None, option_map, IsNone, true, false, slice_get, unwrap_or}
+use Rattle.std.specs.Prelude.{◌≡◌, ℕ, zero, suc, ◌≤◌, List, [], ◌∷◌, ◌++◌, map, length, replicate, ℤ, pos, negsuc, ◌+ℤ◌, ◌*ℤ◌, ◌≤ℤ◌, Option, Some, None, option_map, IsNone, true, slice_get, unwrap_or}
 use Rattle.std.specs.List.{AllByRecursion, flat_map, count_by}
 use Rattle.osm_value.specs.declared.element.MemberKind.{MemberKind}
 use Rattle.osm_value.specs.declared.element.MemberKind.TheVariants as kinds
@@ -59,7 +59,7 @@ pub record InfoOf (b : Context) (i : InfoValue) (m : InfoMessage) : Type 0 where
   pub changeset_is : i.changeset ≡ m.changeset
   pub uid_is : i.uid ≡ m.uid
   pub user_is : option_map Some i.user ≡ option_map (text_at b.table) m.user_sid
-  pub no_visible : m.is_visible_there ≡ false
+  pub visible_is : i.visible ≡ m.visible
   pub in_range : IsInfo i
 
 pub record NodeOf (b : Context) (n : NodeValue) (m : NodeMessage) : Type 0 where
@@ -107,7 +107,7 @@ pub record DenseInfoOf (b : Context) (infos : List InfoValue) (m : DenseInfoMess
   pub changesets_are : StandsOrNone (length infos) (map (λ i. i.changeset) infos) (λ v. v) m.changeset
   pub uids_are : StandsOrNone (length infos) (map (λ i. i.uid) infos) (λ v. v) m.uid
   pub users_are : StandsOrNone (length infos) (map (λ i. option_map Some i.user) infos) (text_at b.table) m.user_sid
-  pub no_visible : m.is_visible_there ≡ false
+  pub visibles_are : map (λ i. i.visible) infos ≡ values_for (length infos) (map Some m.visible)
   pub in_range : AllByRecursion IsInfo infos
 
 pub record DenseOf (b : Context) (ns : List NodeValue) (m : DenseMessage) : Type 0 where

@@ -1,12 +1,12 @@
 -- Dense nodes while they are read: their arrays, and what each node takes of them.
-use Rattle.std.specs.Prelude.{◌≡◌, ℕ, List, map, length, ℤ, pos, Bool, true, ◌&&◌, slice_index_or, Option, Some, None, option_map}
+use Rattle.std.specs.Prelude.{◌≡◌, ℕ, List, map, length, pos, Bool, true, ◌&&◌, slice_index_or, Option, Some, None, option_map}
 use Rattle.std.specs.List.{list_all}
 use Rattle.pbf_wire.specs.Readings.{int32, sint64}
 use Rattle.osm_value.specs.Value.{InfoValue, NodeValue}
 use Rattle.osm_value.specs.Ranges.{is_wide, is_version, is_uid, passes, IsInfo, IsNode}
 use Rattle.osm_block.specs.declared.dense.fields.DenseFields.{DenseFields}
 use Rattle.osm_block.specs.declared.dense.arrays.DenseArrays.{DenseArrays}
-use Rattle.osm_block.specs.Message.{Context, DenseMessage}
+use Rattle.osm_block.specs.Message.{boolean, Context, DenseMessage}
 use Rattle.osm_block.specs.Differences.{Diff}
 use Rattle.osm_block.specs.Block.{coordinate, time, version, text_at, values_for}
 use Rattle.osm_block.specs.Phases.{is_index, coordinate_in_range, fits_ids}
@@ -23,7 +23,7 @@ dense_message_of d = record {
     changeset = map sint64 d.info.changesets.numbers.items;
     uid = map sint64 d.info.uids.numbers.items;
     user_sid = map sint64 d.info.users.numbers.items;
-    is_visible_there = d.info.has_visible;
+    visible = map boolean d.info.visible.numbers.items;
   };
   lat = map sint64 d.lats.numbers.items;
   lon = map sint64 d.lons.numbers.items;
@@ -40,6 +40,7 @@ pub record AreArraysOf (c : DenseArrays) (m : DenseMessage) : Type 0 where
   pub uids : Diff c.uids.items m.info.uid
   pub users : Diff c.users.items m.info.user_sid
   pub versions : c.versions.items ≡ m.info.version
+  pub visible : c.visible.items ≡ m.info.visible
   pub keys_vals : c.keys_vals.items ≡ m.keys_vals
 
 abbrev pub arrays_in_range : Context → DenseArrays → Bool
@@ -61,12 +62,13 @@ pub record AreReady (b : Context) (c : DenseArrays) : Type 0 where
   pub changesets : fits_ids c.ids.items c.changesets.items ≡ true
   pub uids : fits_ids c.ids.items c.uids.items ≡ true
   pub users : fits_ids c.ids.items c.users.items ≡ true
+  pub visible : fits_ids c.ids.items c.visible.items ≡ true
   pub in_range : arrays_in_range b c ≡ true
   pub tags_in_table : list_all (is_index (length b.table)) (indexes_of (node_pairs (length c.ids.items) c.keys_vals.items)) ≡ true
   pub users_in_table : list_all (is_index (length b.table)) c.users.items ≡ true
 
 -- what stands at an index of an array that may be empty
-abbrev pub at_index : {A : Type 0} → ℕ → (ℤ → Option A) → List ℤ → ℕ → Option A
+abbrev pub at_index : {A B : Type 0} → ℕ → (A → Option B) → List A → ℕ → Option B
 at_index n meaning xs k = slice_index_or (values_for n (map meaning xs)) k None
 
 -- the info of the node at that index
@@ -76,6 +78,7 @@ pub record InfoAt (b : Context) (c : DenseArrays) (k : ℕ) (i : InfoValue) : Ty
   pub changeset : i.changeset ≡ at_index (length c.ids.items) (λ v. Some v) c.changesets.items k
   pub uid : i.uid ≡ at_index (length c.ids.items) (λ v. Some v) c.uids.items k
   pub user : option_map Some i.user ≡ at_index (length c.ids.items) (λ v. Some (text_at b.table v)) c.users.items k
+  pub visible : i.visible ≡ at_index (length c.ids.items) (λ v. Some v) c.visible.items k
   pub in_range : IsInfo i
 
 -- the node at that index, but for its tags

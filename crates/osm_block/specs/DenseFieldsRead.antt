@@ -1,11 +1,10 @@
 -- What was read of the arrays of dense nodes.
 use Rattle.std.specs.Prelude.{◌≡◌, ℕ, ◌%◌, ◌^◌, List, map}
 use Rattle.pbf_wire.specs.Field.{Entry}
-use Rattle.pbf_wire.specs.Readings.{packed, each, nums, fitting, is_there}
+use Rattle.pbf_wire.specs.Readings.{packed, each, nums}
 use Rattle.osm_block.specs.declared.fields.TheConstants.{DENSEINFO_CHANGESET, DENSEINFO_TIMESTAMP, DENSEINFO_UID, DENSEINFO_USER_SID, DENSEINFO_VERSION, DENSEINFO_VISIBLE}
 use Rattle.osm_block.specs.declared.number_array.NumberArray.{NumberArray}
 use Rattle.osm_block.specs.declared.dense.fields.DenseInfoFields.{DenseInfoFields}
-use Rattle.osm_block.specs.Message.{some_visible}
 use Rattle.osm_block.specs.FieldsLeft.{first_there}
 
 -- the array has the numbers of the fields k, and the first fault of their packed payloads
@@ -24,4 +23,4 @@ pub record DenseInfoRead (info : DenseInfoFields) (fs : List Entry) : Type 0 whe
   pub changesets : ArrayRead info.changesets DENSEINFO_CHANGESET fs
   pub uids : ArrayRead32 info.uids DENSEINFO_UID fs
   pub users : ArrayRead32 info.users DENSEINFO_USER_SID fs
-  pub visible : info.has_visible ≡ is_there (fitting some_visible DENSEINFO_VISIBLE fs)
+  pub visible : ArrayRead info.visible DENSEINFO_VISIBLE fs

@@ -17,6 +17,7 @@ pub record InfosRead (b : Context) (c : DenseArrays) (k : ℕ) (is : List InfoVa
   pub changesets : map (λ i. i.changeset) is ++ drop k (values_for (length c.ids.items) (map (λ v. Some v) c.changesets.items)) ≡ values_for (length c.ids.items) (map (λ v. Some v) c.changesets.items)
   pub uids : map (λ i. i.uid) is ++ drop k (values_for (length c.ids.items) (map (λ v. Some v) c.uids.items)) ≡ values_for (length c.ids.items) (map (λ v. Some v) c.uids.items)
   pub users : map (λ i. option_map Some i.user) is ++ drop k (values_for (length c.ids.items) (map (λ v. Some (text_at b.table v)) c.users.items)) ≡ values_for (length c.ids.items) (map (λ v. Some (text_at b.table v)) c.users.items)
+  pub visibles : map (λ i. i.visible) is ++ drop k (values_for (length c.ids.items) (map (λ v. Some v) c.visible.items)) ≡ values_for (length c.ids.items) (map (λ v. Some v) c.visible.items)
   pub in_range : AllByRecursion IsInfo is
 
 -- the first nodes, where these are the indexes of the tags that are left

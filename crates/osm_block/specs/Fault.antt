@@ -1,7 +1,7 @@
 -- The numbers and names of the faults of a block.
 use Rattle.std.specs.Prelude.{ℕ, List, codes}
 use Rattle.osm_block.specs.declared.fault.BlockFault.{BlockFault}
-use Rattle.osm_block.specs.declared.fault.BlockFault.TheVariants.{BlockWire, NoStringTable, TextNotUtf8, TextHasNul, BadGranularity, MixedGroup, Missing, LengthsDiffer, BadIndex, SumTooLarge, OutOfRange, TagsUneven, BadMemberType, VisibleNotKnown}
+use Rattle.osm_block.specs.declared.fault.BlockFault.TheVariants.{BlockWire, NoStringTable, TextNotUtf8, TextHasNul, BadGranularity, MixedGroup, Missing, LengthsDiffer, BadIndex, SumTooLarge, OutOfRange, TagsUneven, BadMemberType}
 use Rattle.osm_block.specs.declared.fault.BlockError.{BlockError}
 use Rattle.osm_block.specs.declared.fault.BlockError.TheVariants.{Memory, Fault}
 
@@ -19,7 +19,6 @@ number_of SumTooLarge = 49
 number_of OutOfRange = 50
 number_of TagsUneven = 51
 number_of BadMemberType = 52
-number_of VisibleNotKnown = 54
 
 abbrev pub name_of : BlockFault → List ℕ
 name_of (BlockWire fault) = codes "BlockWire"
@@ -35,7 +34,6 @@ name_of SumTooLarge = codes "SumTooLarge"
 name_of OutOfRange = codes "OutOfRange"
 name_of TagsUneven = codes "TagsUneven"
 name_of BadMemberType = codes "BadMemberType"
-name_of VisibleNotKnown = codes "VisibleNotKnown"
 
 abbrev pub error_number_of : BlockError → ℕ
 error_number_of Memory = 65

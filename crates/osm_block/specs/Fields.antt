@@ -1,12 +1,11 @@
 -- What the code keeps of a message while it reads it, as the message.
 use Rattle.std.specs.Prelude.{map, option_map}
-use Rattle.std.specs.Option.{is_some}
 use Rattle.osm_block.specs.declared.scale.Scale.{Scale}
 use Rattle.osm_block.specs.declared.info.InfoNumbers.{InfoNumbers}
 use Rattle.osm_block.specs.declared.node.NodeFields.{NodeFields}
 use Rattle.osm_block.specs.declared.way.WayFields.{WayFields}
 use Rattle.osm_block.specs.declared.relation.RelationFields.{RelationFields}
-use Rattle.osm_block.specs.Message.{Context, InfoMessage, NodeMessage, WayMessage, RelationMessage}
+use Rattle.osm_block.specs.Message.{boolean, Context, InfoMessage, NodeMessage, WayMessage, RelationMessage}
 use Rattle.pbf_wire.specs.Readings.{sint64, int32, int64, uint32}
 
 abbrev pub context_of : Scale → Context
@@ -19,7 +18,7 @@ info_message_of i = record {
   changeset = option_map int64 i.changeset;
   uid = option_map int32 i.uid;
   user_sid = option_map uint32 i.user_sid;
-  is_visible_there = is_some i.visible;
+  visible = option_map boolean i.visible;
 }
 
 abbrev pub node_message_of : NodeFields → NodeMessage

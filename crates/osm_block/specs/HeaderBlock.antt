@@ -91,7 +91,7 @@ are_texts fs = list_all (λ k. list_all is_utf8 (each fs k)) (HEADER_REQUIRED_FE
 
 -- the features that a reader of this form has
 abbrev pub is_known : Text → Bool
-is_known feature = bytes_eq feature (codes "OsmSchema-V0.6") || bytes_eq feature (codes "DenseNodes")
+is_known feature = bytes_eq feature (codes "OsmSchema-V0.6") || bytes_eq feature (codes "DenseNodes") || bytes_eq feature (codes "HistoricalInformation")
 
 -- the first required feature that isn't known, by its index
 abbrev pub unknown_feature : List Text → Option ℕ

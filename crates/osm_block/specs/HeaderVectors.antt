@@ -18,6 +18,10 @@ nothing = record { bbox = None; required = []; optional = []; program = None; so
 abbrev pub two_features : List ℕ
 two_features = 0x22 ∷ 0x0E ∷ 0x4F ∷ 0x73 ∷ 0x6D ∷ 0x53 ∷ 0x63 ∷ 0x68 ∷ 0x65 ∷ 0x6D ∷ 0x61 ∷ 0x2D ∷ 0x56 ∷ 0x30 ∷ 0x2E ∷ 0x36 ∷ 0x22 ∷ 0x0A ∷ 0x44 ∷ 0x65 ∷ 0x6E ∷ 0x73 ∷ 0x65 ∷ 0x4E ∷ 0x6F ∷ 0x64 ∷ 0x65 ∷ 0x73 ∷ []
 
+-- and of one with history
+abbrev pub three_features : List ℕ
+three_features = 0x22 ∷ 0x0E ∷ 0x4F ∷ 0x73 ∷ 0x6D ∷ 0x53 ∷ 0x63 ∷ 0x68 ∷ 0x65 ∷ 0x6D ∷ 0x61 ∷ 0x2D ∷ 0x56 ∷ 0x30 ∷ 0x2E ∷ 0x36 ∷ 0x22 ∷ 0x0A ∷ 0x44 ∷ 0x65 ∷ 0x6E ∷ 0x73 ∷ 0x65 ∷ 0x4E ∷ 0x6F ∷ 0x64 ∷ 0x65 ∷ 0x73 ∷ 0x22 ∷ 0x15 ∷ 0x48 ∷ 0x69 ∷ 0x73 ∷ 0x74 ∷ 0x6F ∷ 0x72 ∷ 0x69 ∷ 0x63 ∷ 0x61 ∷ 0x6C ∷ 0x49 ∷ 0x6E ∷ 0x66 ∷ 0x6F ∷ 0x72 ∷ 0x6D ∷ 0x61 ∷ 0x74 ∷ 0x69 ∷ 0x6F ∷ 0x6E ∷ []
+
 abbrev pub box : List ℕ
 box = 0x0A ∷ 0x08 ∷ 0x08 ∷ 0x01 ∷ 0x10 ∷ 0x02 ∷ 0x18 ∷ 0x04 ∷ 0x20 ∷ 0x03 ∷ []
 
@@ -55,6 +59,14 @@ two_features_fault = refl
 two_features_value : header_value (fields two_features) ≡ record nothing { required = codes "OsmSchema-V0.6" ∷ codes "DenseNodes" ∷ [] }
 unfolding number_within number_at value_at field_at next_at items_within items_from row_within
 two_features_value = refl
+
+three_features_fault : header_fault three_features ≡ None
+unfolding header_fault number_within number_at value_at field_at next_at items_within items_from row_within is_utf8 chars lib.Utf8.encode
+three_features_fault = refl
+
+three_features_value : header_value (fields three_features) ≡ record nothing { required = codes "OsmSchema-V0.6" ∷ codes "DenseNodes" ∷ codes "HistoricalInformation" ∷ [] }
+unfolding number_within number_at value_at field_at next_at items_within items_from row_within
+three_features_value = refl
 
 box_fault : header_fault box ≡ None
 unfolding header_fault number_within number_at value_at field_at next_at items_within items_from row_within is_utf8 chars lib.Utf8.encode

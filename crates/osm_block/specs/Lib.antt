@@ -2,6 +2,7 @@ pub mod Message
 pub mod Differences
 pub mod DenseTags
 pub mod Block
+pub mod EarlierBlock
 pub mod Phases
 pub mod Vectors
 pub mod VectorElements

@@ -1,13 +1,17 @@
 -- The messages of osmformat.proto, as they are read from field lists: nothing is computed from them yet.
-use Rattle.std.specs.Prelude.{ℕ, List, [], ◌∷◌, ◌++◌, map, Option, Some, None, ℤ, pos, Bool, option_map, unwrap_or}
+use Rattle.std.specs.Prelude.{ℕ, List, [], ◌∷◌, ◌++◌, map, Option, ℤ, pos, Bool, not, ◌==◌, option_map, unwrap_or}
 use Rattle.std.specs.List.{flat_map}
 use Rattle.pbf_wire.specs.declared.fault.WireFault.{WireFault}
 use Rattle.osm_block.specs.declared.fields.TheConstants.{BLOCK_DATE_GRANULARITY, BLOCK_GRANULARITY, BLOCK_LAT_OFFSET, BLOCK_LON_OFFSET, BLOCK_STRINGTABLE, DENSEINFO_CHANGESET, DENSEINFO_TIMESTAMP, DENSEINFO_UID, DENSEINFO_USER_SID, DENSEINFO_VERSION, DENSEINFO_VISIBLE, DENSE_DENSEINFO, DENSE_ID, DENSE_KEYS_VALS, DENSE_LAT, DENSE_LON, ELEMENT_ID, ELEMENT_INFO, ELEMENT_KEYS, ELEMENT_VALS, GROUP_DENSE, GROUP_NODES, GROUP_RELATIONS, GROUP_WAYS, INFO_CHANGESET, INFO_TIMESTAMP, INFO_UID, INFO_USER_SID, INFO_VERSION, INFO_VISIBLE, NODE_LAT, NODE_LON, RELATION_MEMIDS, RELATION_ROLES_SID, RELATION_TYPES, STRINGTABLE_S, WAY_REFS}
 use Rattle.osm_value.specs.Value.{Text}
-use Rattle.pbf_wire.specs.Field.{Content, Number, Bytes, Entry}
-use Rattle.pbf_wire.specs.Readings.{fields, wire, packed, int64, int32, uint32, sint64, sint32, number_of, fitting, last, each, nums, sub, is_there}
+use Rattle.pbf_wire.specs.Field.{Entry}
+use Rattle.pbf_wire.specs.Readings.{fields, wire, packed, int64, int32, uint32, sint64, sint32, last, each, nums, sub}
 
 -- ---- the messages (osmformat.proto)
+
+-- a bool is true where its number isn't 0
+abbrev pub boolean : ℕ → Bool
+boolean n = not (n == 0)
 
 pub record InfoMessage : Type 0 where
   pub version : Option ℤ
@@ -15,7 +19,7 @@ pub record InfoMessage : Type 0 where
   pub changeset : Option ℤ
   pub uid : Option ℤ
   pub user_sid : Option ℤ
-  pub is_visible_there : Bool
+  pub visible : Option Bool
 
 abbrev pub info_message : List Entry → InfoMessage
 info_message fs = record {
@@ -24,14 +28,8 @@ info_message fs = record {
   changeset = option_map int64 (last fs INFO_CHANGESET);
   uid = option_map int32 (last fs INFO_UID);
   user_sid = option_map uint32 (last fs INFO_USER_SID);
-  is_visible_there = is_there (fitting number_of INFO_VISIBLE fs);
+  visible = option_map boolean (last fs INFO_VISIBLE);
 }
-
--- a number, or a packed payload that isn't empty
-abbrev pub some_visible : Content → Option Content
-some_visible (Number n) = Some (Number n)
-some_visible (Bytes (b ∷ bs)) = Some (Bytes (b ∷ bs))
-some_visible _ = None
 
 pub record DenseInfoMessage : Type 0 where
   pub version : List ℤ
@@ -39,7 +37,7 @@ pub record DenseInfoMessage : Type 0 where
   pub changeset : List ℤ
   pub uid : List ℤ
   pub user_sid : List ℤ
-  pub is_visible_there : Bool
+  pub visible : List Bool
 
 abbrev pub dense_info_message : List Entry → DenseInfoMessage
 dense_info_message fs = record {
@@ -48,7 +46,7 @@ dense_info_message fs = record {
   changeset = map sint64 (nums fs DENSEINFO_CHANGESET);
   uid = map sint32 (nums fs DENSEINFO_UID);
   user_sid = map sint32 (nums fs DENSEINFO_USER_SID);
-  is_visible_there = is_there (fitting some_visible DENSEINFO_VISIBLE fs);
+  visible = map boolean (nums fs DENSEINFO_VISIBLE);
 }
 
 pub record NodeMessage : Type 0 where
@@ -162,6 +160,6 @@ abbrev pub wires : Message → List (Option WireFault)
 wires (Plain p) = wires_with (ELEMENT_KEYS ∷ ELEMENT_VALS ∷ []) p
 wires (Dense ps) = let fs = flat_map fields ps in
     map wire ps ++ map wire (each fs DENSE_DENSEINFO) ++ arrays (DENSE_ID ∷ DENSE_LAT ∷ DENSE_LON ∷ DENSE_KEYS_VALS ∷ []) fs
-    ++ arrays (DENSEINFO_VERSION ∷ DENSEINFO_TIMESTAMP ∷ DENSEINFO_CHANGESET ∷ DENSEINFO_UID ∷ DENSEINFO_USER_SID ∷ []) (sub fs DENSE_DENSEINFO)
+    ++ arrays (DENSEINFO_VERSION ∷ DENSEINFO_TIMESTAMP ∷ DENSEINFO_CHANGESET ∷ DENSEINFO_UID ∷ DENSEINFO_USER_SID ∷ DENSEINFO_VISIBLE ∷ []) (sub fs DENSE_DENSEINFO)
 wires (Way p) = wires_with (ELEMENT_KEYS ∷ ELEMENT_VALS ∷ WAY_REFS ∷ []) p
 wires (Relation p) = wires_with (ELEMENT_KEYS ∷ ELEMENT_VALS ∷ RELATION_ROLES_SID ∷ RELATION_MEMIDS ∷ RELATION_TYPES ∷ []) p

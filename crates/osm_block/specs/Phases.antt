@@ -67,8 +67,7 @@ coordinate_in_range offset granularity v = is_wide (coordinate offset granularit
 
 abbrev pub node_phases : Context → NodeMessage → List Phase
 node_phases b m =
-    when m.info.is_visible_there faults.VisibleNotKnown
-    ∷ when (is_none m.id || is_none m.lat || is_none m.lon) faults.Missing
+    when (is_none m.id || is_none m.lat || is_none m.lon) faults.Missing
     ∷ when (not (same_length m.keys m.vals)) faults.LengthsDiffer
     ∷ when (not (passes is_wide m.id && passes (coordinate_in_range b.lat_offset b.granularity) m.lat
     && passes (coordinate_in_range b.lon_offset b.granularity) m.lon && info_in_range b m.info)) faults.OutOfRange
@@ -77,8 +76,7 @@ node_phases b m =
 
 abbrev pub way_phases : Context → WayMessage → List Phase
 way_phases b m =
-    when m.info.is_visible_there faults.VisibleNotKnown
-    ∷ when (is_none m.id) faults.Missing
+    when (is_none m.id) faults.Missing
     ∷ when (not (same_length m.keys m.vals)) faults.LengthsDiffer
     ∷ when (not (list_all fits_i64 (front_sums m.refs))) faults.SumTooLarge
     ∷ when (not (passes is_wide m.id && list_all is_wide (front_sums m.refs) && info_in_range b m.info)) faults.OutOfRange
@@ -87,8 +85,7 @@ way_phases b m =
 
 abbrev pub relation_phases : Context → RelationMessage → List Phase
 relation_phases b m =
-    when m.info.is_visible_there faults.VisibleNotKnown
-    ∷ when (is_none m.id) faults.Missing
+    when (is_none m.id) faults.Missing
     ∷ when (not (same_length m.keys m.vals && same_length m.roles_sid m.memids && same_length m.types m.memids)) faults.LengthsDiffer
     ∷ when (not (list_all fits_i64 (front_sums m.memids))) faults.SumTooLarge
     ∷ when (not (passes is_wide m.id && list_all is_wide (front_sums m.memids) && info_in_range b m.info)) faults.OutOfRange
@@ -97,11 +94,11 @@ relation_phases b m =
     ∷ []
 
 -- an array of DenseInfo is empty or as long as the ids
-abbrev pub fits_ids : List ℤ → List ℤ → Bool
-fits_ids ids xs = not (is_there xs) || same_length xs ids
+abbrev pub fits_ids : {A : Type 0} → List ℤ → List A → Bool
+fits_ids ids xs = not (is_there xs) || length xs == length ids
 
 abbrev pub dense_info_fits : List ℤ → DenseInfoMessage → Bool
-dense_info_fits ids m = fits_ids ids m.version && fits_ids ids m.timestamp && fits_ids ids m.changeset && fits_ids ids m.uid && fits_ids ids m.user_sid
+dense_info_fits ids m = fits_ids ids m.version && fits_ids ids m.timestamp && fits_ids ids m.changeset && fits_ids ids m.uid && fits_ids ids m.user_sid && fits_ids ids m.visible
 
 -- the delta coded arrays
 abbrev pub deltas_of : DenseMessage → List (List ℤ)
@@ -121,8 +118,7 @@ tags_phases n texts kv =
 
 abbrev pub dense_phases : Context → DenseMessage → List Phase
 dense_phases b m =
-    when m.info.is_visible_there faults.VisibleNotKnown
-    ∷ when (not (same_length m.lat m.id && same_length m.lon m.id && dense_info_fits m.id m.info)) faults.LengthsDiffer
+    when (not (same_length m.lat m.id && same_length m.lon m.id && dense_info_fits m.id m.info)) faults.LengthsDiffer
     ∷ when (not (list_all (λ ds. list_all fits_i64 (front_sums ds)) (deltas_of m))) faults.SumTooLarge
     ∷ when (not (list_all is_wide (front_sums m.id)
     && list_all (coordinate_in_range b.lat_offset b.granularity) (front_sums m.lat)

@@ -1,5 +1,5 @@
 -- What the vectors' blocks say.
-use Rattle.std.specs.Prelude.{List, [], ◌∷◌, Some, None, pos, negsuc}
+use Rattle.std.specs.Prelude.{List, [], ◌∷◌, Some, None, true, false, pos, negsuc}
 use Rattle.osm_value.specs.declared.element.MemberKind.TheVariants as kinds
 use Rattle.osm_value.specs.declared.element.Element.{Element}
 use Rattle.osm_value.specs.declared.element.Element.TheVariants.{Node, Way, Relation}
@@ -51,3 +51,9 @@ nodes_with_info_elements = ((Node (record { id = pos 1; lat = pos 0; lon = pos 0
 
 abbrev pub plain_node_elements : List Element
 plain_node_elements = ((Node (record { id = pos 1; lat = pos 100; lon = pos 100; tags = ([]); info = record { version = None; time = None; changeset = None; uid = None; user = None; visible = None } })) ∷ [])
+
+abbrev pub visible_node_elements : List Element
+visible_node_elements = ((Node (record { id = pos 1; lat = pos 100; lon = pos 100; tags = ([]); info = record { version = None; time = None; changeset = None; uid = None; user = None; visible = Some true } })) ∷ [])
+
+abbrev pub hidden_way_elements : List Element
+hidden_way_elements = ((Way (record { id = pos 7; refs = ([]); tags = ([]); info = record { version = None; time = None; changeset = None; uid = None; user = None; visible = Some false } })) ∷ [])

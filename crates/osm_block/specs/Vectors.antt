@@ -73,6 +73,12 @@ nodes_with_info = 0x0A ∷ 0x05 ∷ 0x0A ∷ 0x00 ∷ 0x0A ∷ 0x01 ∷ 0x75 ∷
 abbrev pub visible_dense_nodes : List ℕ
 visible_dense_nodes = 0x0A ∷ 0x02 ∷ 0x0A ∷ 0x00 ∷ 0x12 ∷ 0x13 ∷ 0x12 ∷ 0x11 ∷ 0x0A ∷ 0x02 ∷ 0x02 ∷ 0x02 ∷ 0x2A ∷ 0x03 ∷ 0x32 ∷ 0x01 ∷ 0x01 ∷ 0x42 ∷ 0x02 ∷ 0x00 ∷ 0x00 ∷ 0x4A ∷ 0x02 ∷ 0x00 ∷ 0x00 ∷ []
 
+abbrev pub visible_dense_node : List ℕ
+visible_dense_node = 0x0A ∷ 0x02 ∷ 0x0A ∷ 0x00 ∷ 0x12 ∷ 0x10 ∷ 0x12 ∷ 0x0E ∷ 0x0A ∷ 0x01 ∷ 0x02 ∷ 0x2A ∷ 0x03 ∷ 0x32 ∷ 0x01 ∷ 0x01 ∷ 0x42 ∷ 0x01 ∷ 0x02 ∷ 0x4A ∷ 0x01 ∷ 0x02 ∷ []
+
+abbrev pub hidden_way : List ℕ
+hidden_way = 0x0A ∷ 0x02 ∷ 0x0A ∷ 0x00 ∷ 0x12 ∷ 0x08 ∷ 0x1A ∷ 0x06 ∷ 0x08 ∷ 0x07 ∷ 0x22 ∷ 0x02 ∷ 0x30 ∷ 0x00 ∷ []
+
 abbrev pub plain_node : List ℕ
 plain_node = 0x0A ∷ 0x02 ∷ 0x0A ∷ 0x00 ∷ 0x12 ∷ 0x08 ∷ 0x0A ∷ 0x06 ∷ 0x08 ∷ 0x02 ∷ 0x40 ∷ 0x02 ∷ 0x48 ∷ 0x02 ∷ []
 
@@ -155,7 +161,7 @@ way_with_info_fault : fault way_with_info ≡ None
 unfolding fault number_within number_at value_at field_at next_at items_within items_from row_within is_utf8 chars lib.Utf8.encode
 way_with_info_fault = refl
 
-visible_node_fault : fault visible_node ≡ Some faults.VisibleNotKnown
+visible_node_fault : fault visible_node ≡ None
 unfolding fault number_within number_at value_at field_at next_at items_within items_from row_within is_utf8 chars lib.Utf8.encode
 visible_node_fault = refl
 
@@ -171,9 +177,17 @@ nodes_with_info_fault : fault nodes_with_info ≡ None
 unfolding fault number_within number_at value_at field_at next_at items_within items_from row_within is_utf8 chars lib.Utf8.encode
 nodes_with_info_fault = refl
 
-visible_dense_nodes_fault : fault visible_dense_nodes ≡ Some faults.VisibleNotKnown
+visible_dense_nodes_fault : fault visible_dense_nodes ≡ Some faults.LengthsDiffer
 unfolding fault number_within number_at value_at field_at next_at items_within items_from row_within is_utf8 chars lib.Utf8.encode
 visible_dense_nodes_fault = refl
+
+visible_dense_node_fault : fault visible_dense_node ≡ None
+unfolding fault number_within number_at value_at field_at next_at items_within items_from row_within is_utf8 chars lib.Utf8.encode
+visible_dense_node_fault = refl
+
+hidden_way_fault : fault hidden_way ≡ None
+unfolding fault number_within number_at value_at field_at next_at items_within items_from row_within is_utf8 chars lib.Utf8.encode
+hidden_way_fault = refl
 
 plain_node_fault : fault plain_node ≡ None
 unfolding fault number_within number_at value_at field_at next_at items_within items_from row_within is_utf8 chars lib.Utf8.encode

@@ -34,9 +34,6 @@ fn dense_of<'a>(
     ensures phase { Gives (λ _. ⊤) (first (dense_phases (context_of scale.now) (dense_message_of dense.now))) result }
     ensures read { OnOk result ((ns : List NodeValue) × (out.new.items ≡ out.old.items ++ map elements.Node ns) × DenseOf (context_of scale.now) ns (dense_message_of dense.now)) }
 {
-    if dense.info.has_visible {
-        return Err(BlockError::Fault(BlockFault::VisibleNotKnown));
-    }
     if !lengths_fit(dense) {
         return Err(BlockError::Fault(BlockFault::LengthsDiffer));
     }

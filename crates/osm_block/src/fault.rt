@@ -39,12 +39,10 @@ pub enum BlockFault {
     TagsUneven,
     #[error("a member is no node, way or relation")]
     BadMemberType,
-    #[error("an element has a flag of visibility")]
-    VisibleNotKnown,
 }
 
 impl BlockFault {
-    /// The number that this fault has in every message of the program: 40 to 52, or 54.
+    /// The number that this fault has in every message of the program: 40 to 52.
     pub fn number(self) -> u8
         ensures { result ≡ number_of self }
     {
@@ -62,7 +60,6 @@ impl BlockFault {
             BlockFault::OutOfRange => 50,
             BlockFault::TagsUneven => 51,
             BlockFault::BadMemberType => 52,
-            BlockFault::VisibleNotKnown => 54,
         }
     }
 
@@ -84,7 +81,6 @@ impl BlockFault {
             BlockFault::OutOfRange => "OutOfRange",
             BlockFault::TagsUneven => "TagsUneven",
             BlockFault::BadMemberType => "BadMemberType",
-            BlockFault::VisibleNotKnown => "VisibleNotKnown",
         }
     }
 }

@@ -81,7 +81,8 @@ impl<'a> HeaderBlock<'a> {
         self.bbox
     }
 
-    /// The features that a reader needs, in the order of the block: each is `OsmSchema-V0.6` or `DenseNodes`.
+    /// The features that a reader needs, in the order of the block: each is `OsmSchema-V0.6`, `DenseNodes` or
+    /// `HistoricalInformation`.
     pub fn required(&self) -> Texts<'a>
         ensures { texts_left result ≡ self.now.required }
     {
@@ -209,7 +210,7 @@ fn are_texts(bytes: &[u8]) -> bool
 fn is_known(feature: &str) -> bool
     ensures { result ≡ is_known feature.now }
 {
-    feature == "OsmSchema-V0.6" || feature == "DenseNodes"
+    feature == "OsmSchema-V0.6" || feature == "DenseNodes" || feature == "HistoricalInformation"
 }
 
 /// The index of the first required feature that isn't known, among the required ones.
@@ -242,8 +243,8 @@ fn last_int(bytes: &[u8], number: u32) -> Option<i64>
     }
 }
 
-/// Reads a header block, and refuses one whose required features aren't all known: `OsmSchema-V0.6` and `DenseNodes`
-/// (osmformat.proto, HeaderBlock). Texts are slices of `bytes`, and no memory is taken.
+/// Reads a header block, and refuses one whose required features aren't all known: `OsmSchema-V0.6`, `DenseNodes` and
+/// `HistoricalInformation` (osmformat.proto, HeaderBlock). Texts are slices of `bytes`, and no memory is taken.
 ///
 /// The fault is the first in the order of the numbers: `HeaderBlockWire` where the block or a box is no field list;
 /// `BBoxIncomplete` where there is a box and a side is missing; `HeaderTextNotUtf8` where a feature, the program, the

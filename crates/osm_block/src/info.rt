@@ -1,9 +1,10 @@
 //! The Info of an element.
 
-ghost use Rattle.std.specs.Prelude.{◌≡◌, None, Some, map, pos, true, false, option_map, option_copied, unwrap_or, nat_lt, length, ◌%◌, ◌^◌};
-ghost use Rattle.std.specs.Option.{option_or, is_some};
+ghost use Rattle.std.specs.Prelude.{◌≡◌, None, Some, map, pos, true, option_map, option_copied, unwrap_or, nat_lt, length, ◌%◌, ◌^◌};
+ghost use Rattle.std.specs.Option.{option_or};
 ghost use Rattle.pbf_wire.specs.Readings.{fields, wire, int32, int64, uint32};
 ghost use Rattle.osm_value.specs.Ranges.{is_wide, passes, is_version, is_uid};
+ghost use Rattle.osm_block.specs.Message.{boolean};
 ghost use Rattle.osm_block.specs.FieldsLeft.{info_after, no_info};
 ghost use Rattle.osm_block.specs.Block.{text_at, time, version as version_of, InfoOf};
 ghost use Rattle.osm_block.specs.Fields.{context_of, info_message_of};
@@ -106,6 +107,16 @@ pub(crate) fn optional_i32(number: Option<u64>) -> Option<i32>
     }
 }
 
+/// A bool is true where its number isn't 0.
+fn optional_bool(number: Option<u64>) -> Option<bool>
+    ensures { result ≡ option_map boolean number }
+{
+    match number {
+        None => None,
+        Some(number) => Some(number != 0),
+    }
+}
+
 /// Whether the numbers are in their ranges.
 pub(crate) fn info_in_range(scale: &Scale, info: &InfoNumbers) -> bool
     ensures { result ≡ info_in_range (context_of scale.now) (info_message_of info.now) }
@@ -159,7 +170,6 @@ fn user_of<'a>(table: &[&'a str], index: Option<u64>) -> Option<&'a str>
 
 /// What the message says, where its numbers are in their ranges and its user in the table.
 pub(crate) fn info_of<'a>(scale: &Scale<'a>, info: &InfoNumbers) -> Info<'a>
-    requires no_visible { is_some info.now.visible ≡ false }
     requires in_range { info_in_range (context_of scale.now) (info_message_of info.now) ≡ true }
     requires in_table { passes (λ i. nat_lt (i % 2 ^ 32) (length scale.now.table.items)) info.now.user_sid ≡ true }
     ensures { InfoOf (context_of scale.now) result (info_message_of info.now) }
@@ -173,6 +183,6 @@ pub(crate) fn info_of<'a>(scale: &Scale<'a>, info: &InfoNumbers) -> Info<'a>
         optional_i64(info.changeset),
         optional_i32(info.uid),
         user,
-        None,
+        optional_bool(info.visible),
     )
 }

@@ -1,8 +1,11 @@
 //! What holds of the definitions, over all inputs.
 
 ghost use Rattle.std.specs.Prelude.{◌≡◌, ℕ, ℤ, List, None};
+ghost use Rattle.std.specs.List.{AllByRecursion};
 ghost use Rattle.osm_value.specs.declared.element.Element.{Element};
+ghost use Rattle.osm_value.specs.Elements.{info_of_element};
 ghost use Rattle.osm_block.specs.Block.{Block};
+ghost use Rattle.osm_block.specs.EarlierBlock as earlier;
 ghost use Rattle.osm_block.specs.Differences.{Diff};
 ghost use Rattle.osm_block.specs.Faultless.{FaultlessBlocksSay};
 ghost use Rattle.osm_block.specs.Phases.{fault};
@@ -25,4 +28,10 @@ pub fn elements_or_a_fault()
 /// A block that has no fault decodes to some elements.
 pub fn faultless_blocks_say()
     ensures { FaultlessBlocksSay }
+{}
+
+/// A block that was read before flags of visibility were still says the same elements, and none of them has a flag.
+pub fn earlier_blocks_say_the_same()
+    ensures same { (es : List Element) (w : List ℕ) → earlier.Block es w → Block es w }
+    ensures unseen { (es : List Element) (w : List ℕ) → earlier.Block es w → AllByRecursion (λ e. (info_of_element e).visible ≡ None) es }
 {}

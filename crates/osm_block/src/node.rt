@@ -126,9 +126,6 @@ fn node_of<'a>(
     ensures { Gives (λ n. NodeOf (context_of scale.now) n (node_message_of node.now)) (first (node_phases (context_of scale.now) (node_message_of node.now))) result }
 {
     let info = &node.info.numbers;
-    if info.visible.is_some() {
-        return Err(BlockError::Fault(BlockFault::VisibleNotKnown));
-    }
     let Some(id) = optional_unzigzag(node.id) else {
         return Err(BlockError::Fault(BlockFault::Missing));
     };

@@ -205,9 +205,6 @@ fn relation_of<'a>(
     ensures { Gives (λ r. RelationOf (context_of scale.now) r (relation_message_of relation.now)) (first (relation_phases (context_of scale.now) (relation_message_of relation.now))) result }
 {
     let info = &relation.info.numbers;
-    if info.visible.is_some() {
-        return Err(BlockError::Fault(BlockFault::VisibleNotKnown));
-    }
     let Some(id) = optional_i64(relation.id) else {
         return Err(BlockError::Fault(BlockFault::Missing));
     };

@@ -121,9 +121,6 @@ fn way_of<'a>(
     ensures { Gives (λ w. WayOf (context_of scale.now) w (way_message_of way.now)) (first (way_phases (context_of scale.now) (way_message_of way.now))) result }
 {
     let info = &way.info.numbers;
-    if info.visible.is_some() {
-        return Err(BlockError::Fault(BlockFault::VisibleNotKnown));
-    }
     let Some(id) = optional_i64(way.id) else {
         return Err(BlockError::Fault(BlockFault::Missing));
     };

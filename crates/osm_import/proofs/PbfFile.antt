@@ -1,5 +1,5 @@
 -- What an export as PBF writes is a file, with the elements that are held.
-use Rattle.std.proofs.Common.{◌≡◌, ℕ, zero, suc, ◌+◌, ◌^◌, ◌≤◌, Bool, true, false, List, [], ◌∷◌, ◌++◌, map, length, take, drop, codes, Option, Some, Result, Ok, Err, refl, sym, ◌∙◌, ap, subst, arith, append_assoc, length-append}
+use Rattle.std.proofs.Common.{◌≡◌, ℕ, zero, suc, ◌+◌, ◌^◌, ◌≤◌, Bool, true, List, [], ◌∷◌, ◌++◌, map, length, take, drop, codes, Option, Some, Result, Ok, Err, refl, sym, ◌∙◌, ap, subst, arith, append_assoc, length-append}
 use Rattle.std.specs.List.{AllByRecursion}
 use Rattle.std.specs.FinMap as finite
 use Rattle.std.specs.FinMap.{entries, get-entries, entries_sorted, is_sorted}
@@ -18,10 +18,11 @@ use Rattle.pbf_frame.specs.Write.{blob_bytes}
 use Rattle.pbf_frame.proofs.WriteLaws.{written, raw_written}
 use Rattle.osm_block.specs.Message.{Context, Message, Plain, Dense, Way, Relation, context, messages}
 use Rattle.osm_block.specs.Block.{Block, GroupOf, Joins, AllAreWire, MessageOf}
-use Rattle.osm_block.specs.HeaderBlock.{header_fault}
 use Rattle.osm_write.specs.Cutter.{StepOk}
-use Rattle.osm_write.specs.Header.{header_block, plain_header_is, plain_header_fault}
+use Rattle.osm_write.specs.Header.{header_block}
 use Rattle.osm_write.proofs.Bounds.{block_is_read_back}
+use Rattle.osm_write.proofs.HeaderRead.{header_reads}
+use Rattle.osm_store.specs.Flags.{has_flags}
 use Rattle.osm_store.specs.Held.{Blob, HeldMap, IsApart}
 use Rattle.osm_store.specs.Keeping.{extents_of}
 use Rattle.osm_import.specs.Good.{IsGood, HasElements}
@@ -169,46 +170,47 @@ held-ranges held frames of_file =
 
 -- ---- the whole file
 
-header-fits : length (header_block false) ≤ 33554431
-header-fits = header-small (header_block false) refl
+module _ (history : Bool) where
+  header-fits : length (header_block history) ≤ 33554431
+  header-fits = header-small history (header_block history) refl
 
-header-is-frame : Frame (codes "OSMHeader") (blob_bytes (header_block false)) header_frame
-header-is-frame = written (codes "OSMHeader") (header_block false) (omega arith) header-fits
+  header-is-frame : Frame (codes "OSMHeader") (blob_bytes (header_block history)) (header_frame history)
+  header-is-frame = written (codes "OSMHeader") (header_block history) (omega arith) header-fits
 
-header-good : 0 + length header_frame ≤ 2 ^ 62 → IsGood 0 header_frame OsmHeader []
-header-good limit = record {
-  type_name = codes "OSMHeader";
-  blob = blob_bytes (header_block false);
-  placed = record { frame = header-is-frame; limit = limit; header_first = ((λ _. refl), (λ _. refl)) };
-  kind_is = refl;
-  content = (header_block false, raw_written (header_block false) header-fits, ap header_fault plain_header_is ∙ plain_header_fault, refl);
-}
+  header-good : 0 + length (header_frame history) ≤ 2 ^ 62 → IsGood 0 (header_frame history) OsmHeader []
+  header-good limit = record {
+    type_name = codes "OSMHeader";
+    blob = blob_bytes (header_block history);
+    placed = record { frame = header-is-frame; limit = limit; header_first = ((λ _. refl), (λ _. refl)) };
+    kind_is = refl;
+    content = (header_block history, raw_written (header_block history) header-fits, header_reads history (header_block history) refl, refl);
+  }
 
-written-file : (es : List (ℕ × Blob)) (bytes : List ℕ) (it : AreOf es bytes) → IsFile (header_frame ++ bytes) (header_frame ∷ it.frames)
-written-file es bytes it = record {
-  some = λ none. cc;
-  whole = ((codes "OSMHeader", blob_bytes (header_block false), header-is-frame), it.whole);
-  is_joined = ap (λ (l : List ℕ). header_frame ++ l) it.is_joined;
-}
+  written-file : (es : List (ℕ × Blob)) (bytes : List ℕ) (it : AreOf es bytes) → IsFile (header_frame history ++ bytes) (header_frame history ∷ it.frames)
+  written-file es bytes it = record {
+    some = λ none. cc;
+    whole = ((codes "OSMHeader", blob_bytes (header_block history), header-is-frame), it.whole);
+    is_joined = ap (λ (l : List ℕ). header_frame history ++ l) it.is_joined;
+  }
 
-written-elements : (es : List (ℕ × Blob)) (bytes : List ℕ) (it : AreOf es bytes) → length (header_frame ++ bytes) ≤ 2 ^ 62 → AreElements 0 (header_frame ∷ it.frames) (elements_in es)
-written-elements es bytes it limit =
-    let both : length (header_frame ++ bytes) ≡ length header_frame + length bytes = length-append header_frame bytes in
-    let long : 4 ≤ length header_frame = frame-filled (codes "OSMHeader") (blob_bytes (header_block false)) header_frame header-is-frame in
-    (OsmHeader, [], elements_in es, header-good (omega (arith, limit, both)), it.said (0 + length header_frame) (omega (arith, long)) (omega (arith, limit, both)), refl)
+  written-elements : (es : List (ℕ × Blob)) (bytes : List ℕ) (it : AreOf es bytes) → length (header_frame history ++ bytes) ≤ 2 ^ 62 → AreElements 0 (header_frame history ∷ it.frames) (elements_in es)
+  written-elements es bytes it limit =
+      let both : length (header_frame history ++ bytes) ≡ length (header_frame history) + length bytes = length-append (header_frame history) bytes in
+      let long : 4 ≤ length (header_frame history) = frame-filled (codes "OSMHeader") (blob_bytes (header_block history)) (header_frame history) header-is-frame in
+      (OsmHeader, [], elements_in es, header-good (omega (arith, limit, both)), it.said (0 + length (header_frame history)) (omega (arith, long)) (omega (arith, limit, both)), refl)
 
 pub pbf-file : (held : HeldMap) (file : List ℕ) (frames : List (List ℕ)) (asked : Option ℕ) (partial : Bool) (before after : Known) (result : Result (Unit {0}) ExportFault)
     → IsApart held → IsFile file frames → IsHeldOfFile frames held → Tiles held (length file) → IsAskedFor asked (length file)
     → IsPbfExport held (size_of asked (extents_of held)) partial before after result → WritesPbfFile frames before after result
 pbf-file held file frames asked partial before after (Ok _) apart is_file of_file tiles is wrote =
     let it = blobs-frames (entries held) wrote.0 (held-ranges held frames of_file) wrote.1 in (
-      header_frame ++ wrote.0,
-      header_frame ∷ it.frames,
+      header_frame (has_flags held) ++ wrote.0,
+      header_frame (has_flags held) ∷ it.frames,
       elements_in (entries held),
       file-elements held file frames apart is_file of_file tiles,
       wrote.2,
-      written-file (entries held) wrote.0 it,
-      written-elements (entries held) wrote.0 it,
+      written-file (has_flags held) (entries held) wrote.0 it,
+      written-elements (has_flags held) (entries held) wrote.0 it,
     )
 pbf-file held file frames asked partial before after (Err WriteFailed) apart is_file of_file tiles is wrote = tt
 pbf-file held file frames asked partial before after (Err (Store fault)) apart is_file of_file tiles is wrote = tt

@@ -8,6 +8,7 @@ use Rattle.osm_value.specs.declared.element.Element.{Element}
 use Rattle.osm_value.specs.Sink.{AppendsFront}
 use Rattle.osm_write.specs.Cutter.{StepOk, ComesToOne}
 use Rattle.osm_write.specs.Header.{header_block}
+use Rattle.osm_store.specs.Flags.{has_flags}
 use Rattle.osm_store.specs.Held.{Blob, HeldMap}
 use Rattle.osm_import.specs.Exports.{Known, AreElements, IsGuarded, IsRefusal}
 use Rattle.osm_import.specs.Files.{IsFile}
@@ -16,8 +17,9 @@ use Rattle.osm_import.specs.Gaps.{Tiles}
 use Rattle.osm_import.specs.declared.export.fault.ExportFault.{ExportFault}
 use Rattle.osm_import.specs.declared.export.fault.ExportFault.TheVariants.{Incomplete, PastEnd, WriteFailed, BlockTooLarge, Store}
 
-abbrev pub header_frame : List ℕ
-header_frame = frame_bytes (codes "OSMHeader") (header_block false)
+-- whether readers have to know of history: of flags of visibility
+abbrev pub header_frame : Bool → List ℕ
+header_frame history = frame_bytes (codes "OSMHeader") (header_block history)
 
 abbrev pub data_frame : List ℕ → List ℕ
 data_frame block = frame_bytes (codes "OSMData") block
@@ -56,18 +58,18 @@ WritesBlocks before elements after (Err (Store fault)) = (blocks : List (List �
 WritesBlocks before elements after (Err (Incomplete from to)) = ⊥
 WritesBlocks before elements after (Err (PastEnd fin)) = ⊥
 
--- What an export as PBF has done: the header frame and the frames of all held blobs went out; or those up to the place
--- where a cutter came to an element whose block alone is too large; or a front of that where a write failed or at a
--- store fault; nothing where it is refused. Unless partial, what is held tiles the size, or a store fault came before any byte.
+-- What an export as PBF has done: the header frame, with history where an element has a flag, and the frames of all held
+-- blobs went out; or those up to the place where a cutter came to an element whose block alone is too large; or a front
+-- of that where a write failed or at a store fault; nothing where it is refused. Unless partial, what is held tiles the size, or a store fault came before any byte.
 abbrev pub IsPbfExport : HeldMap → ℕ → Bool → Known → Known → Result (Unit {0}) ExportFault → Type 0
 IsPbfExport held size partial before after (Ok _) =
-    (bytes : List ℕ) × AreFramesOf (entries held) bytes × Appends before after (header_frame ++ bytes) × (partial ≡ false → Tiles held size)
+    (bytes : List ℕ) × AreFramesOf (entries held) bytes × Appends before after (header_frame (has_flags held) ++ bytes) × (partial ≡ false → Tiles held size)
 IsPbfExport held size partial before after (Err WriteFailed) =
-    (bytes : List ℕ) × (rest : List Element) × AreFirstFrames (entries held) bytes rest × AppendsFront before after (header_frame ++ bytes) × (partial ≡ false → Tiles held size)
+    (bytes : List ℕ) × (rest : List Element) × AreFirstFrames (entries held) bytes rest × AppendsFront before after (header_frame (has_flags held) ++ bytes) × (partial ≡ false → Tiles held size)
 IsPbfExport held size partial before after (Err BlockTooLarge) =
-    (bytes : List ℕ) × (rest : List Element) × AreFirstFrames (entries held) bytes rest × ComesToOne rest × Appends before after (header_frame ++ bytes) × (partial ≡ false → Tiles held size)
+    (bytes : List ℕ) × (rest : List Element) × AreFirstFrames (entries held) bytes rest × ComesToOne rest × Appends before after (header_frame (has_flags held) ++ bytes) × (partial ≡ false → Tiles held size)
 IsPbfExport held size partial before after (Err (Store fault)) =
-    (bytes : List ℕ) × (rest : List Element) × AreFirstFrames (entries held) bytes rest × AppendsFront before after (header_frame ++ bytes) × IsGuarded held size partial before after
+    (bytes : List ℕ) × (rest : List Element) × AreFirstFrames (entries held) bytes rest × AppendsFront before after (header_frame (has_flags held) ++ bytes) × IsGuarded held size partial before after
 IsPbfExport held size partial before after (Err (Incomplete from to)) = (partial ≡ false) × (after ≡ before) × IsRefusal held size (Incomplete from to)
 IsPbfExport held size partial before after (Err (PastEnd fin)) = (partial ≡ false) × (after ≡ before) × IsRefusal held size (PastEnd fin)
 

@@ -8,6 +8,7 @@ pub mod CauseLemmas
 pub mod ReadLemmas
 pub mod TableTexts
 pub mod TableReads
+pub mod FlagReads
 pub mod StoredRows
 pub mod ReaderPromises
 pub mod TableFinds
@@ -15,4 +16,5 @@ pub mod ElementKinds
 pub mod ElementRows
 pub mod ElementsMade
 pub mod ExtentLaws
+pub mod FlagLaws
 pub mod Numbering

@@ -8,6 +8,7 @@ pub mod Put
 pub mod Rows
 pub mod TableRows
 pub mod RowExamples
+pub mod Flags
 pub mod Faults
 pub mod LayoutHolding
 pub mod Store

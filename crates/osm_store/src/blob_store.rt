@@ -13,7 +13,9 @@ ghost use Rattle.osm_store.specs.Schema.Layouts.{version_of};
 
 use crate::fault::{StoreFault, failures_after};
 use crate::keeper::{Extent, Keeper, Reader};
-use crate::load::{Found, Loaded, all_extents, find_held, load_held, touched_extents};
+use crate::load::{
+    Found, Loaded, all_extents, any_flag_held, find_held, load_held, touched_extents,
+};
 use crate::put::put_rows;
 use crate::schema::{Bodies, StoreLayout, Tables, adopt_store, create_store};
 use osm_value::{Element, MemberKind};
@@ -173,6 +175,12 @@ impl<S: Alter, L: StoreLayout> Reader for BlobStore<S, L> {
 
     fn find(&mut self, alloc: Global, kind: MemberKind, id: i64) -> Result<Found, StoreFault> {
         let answer = find_held(alloc, &mut self.connection, L::LAYOUT, kind, id);
+        self.failures = failures_after(&answer, self.failures);
+        answer
+    }
+
+    fn history(&mut self, alloc: Global) -> Result<bool, StoreFault> {
+        let answer = any_flag_held(alloc, &mut self.connection, L::LAYOUT);
         self.failures = failures_after(&answer, self.failures);
         answer
     }

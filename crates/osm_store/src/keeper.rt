@@ -1,6 +1,7 @@
 //! What is asked of a store.
 ghost use Rattle.std.specs.Prelude.{◌≡◌, ◌⊎◌, ℕ, ◌<◌, ◌≤◌, Some, IfOk, All, filter};
 ghost use Rattle.std.specs.FinMap as map;
+ghost use Rattle.osm_store.specs.Flags.{has_flags};
 ghost use Rattle.osm_store.specs.Held.{Blob, HeldMap, IsApart, HaveFewTexts};
 ghost use Rattle.osm_store.specs.Load.Loading.{HasRowsOf, IsInPlace};
 ghost use Rattle.osm_store.specs.Load.Finding.{AreMatches};
@@ -89,6 +90,12 @@ pub trait Reader {
     fn find(&mut self, alloc: Global, kind: MemberKind, id: i64) -> Result<Found, StoreFault>
         ensures found { (held : HeldMap) → holds self.old held → is_honest self.new
             → IfOk result (λ found. AreMatches found (filter (is_of kind id) (placed_in held))) }
+        ensures reads { OnlyReads holds leaves leaves_a_map same_tables is_honest is_open failures self.old result self.new };
+
+    /// Whether any held element has a flag of visibility, as those of a file with history have. What is held stays, also
+    /// after a fault.
+    fn history(&mut self, alloc: Global) -> Result<bool, StoreFault>
+        ensures flags { (held : HeldMap) → holds self.old held → is_honest self.new → IfOk result (λ found. found ≡ has_flags held) }
         ensures reads { OnlyReads holds leaves leaves_a_map same_tables is_honest is_open failures self.old result self.new };
 
     /// How many calls have answered a fault, up to 2 ^ 64 - 1.

@@ -1,4 +1,5 @@
-//! What is read of the held blobs: their extents, the elements of one, and those of one kind and id.
+//! What is read of the held blobs: their extents, the elements of one, those of one kind and id, and whether any element
+//! has a flag.
 
 mod answer;
 mod bodies;
@@ -13,5 +14,5 @@ mod values;
 pub(crate) use answer::ask;
 pub(crate) use extents::{all_extents, touched_extents};
 pub use found::Found;
-pub(crate) use held::{find_held, load_held};
+pub(crate) use held::{any_flag_held, find_held, load_held};
 pub use loaded::Loaded;

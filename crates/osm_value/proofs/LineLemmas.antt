@@ -1,12 +1,12 @@
 -- The parts of a line, joined by commas.
-use Rattle.std.proofs.Common.{◌≡◌, ℕ, ℤ, zero, suc, ◌+◌, ◌<◌, ◌≤◌, List, [], ◌∷◌, ◌++◌, length, take, get_or, refl, sym, ap, ◌∙◌, arith, append_assoc, Option, Some, None, map, length-append}
+use Rattle.std.proofs.Common.{◌≡◌, ℕ, ℤ, zero, suc, ◌+◌, ◌<◌, ◌≤◌, List, [], ◌∷◌, ◌++◌, length, take, get_or, refl, sym, ap, ◌∙◌, arith, append_assoc, Option, Some, None, Bool, map, length-append}
 use Rattle.std.proofs.lemmas.List.{map-append, take_more, take_all, append-nil}
 use Rattle.std.specs.Prelude.{option_map, option_to_list}
 use Rattle.std.specs.Fmt.{signed_decimal}
 use Rattle.osm_value.specs.declared.element.Element.TheVariants.{Node, Way, Relation}
 use Rattle.osm_value.specs.Value.{InfoValue, MemberValue, NodeValue, WayValue, RelationValue, Text}
 use Rattle.osm_value.specs.Escape.{escaped}
-use Rattle.osm_value.specs.Line.{line, number_info, user_info, info_texts, commas, comma_before, letter_of, member_text, tag_text, tail_text}
+use Rattle.osm_value.specs.Line.{line, number_info, user_info, visible_info, info_texts, commas, comma_before, letter_of, member_text, tag_text, tail_text}
 
 -- ---- pieces joined by commas
 
@@ -82,14 +82,18 @@ field letter z = option_to_list (option_map (number_info letter) z)
 pub one_further : (pieces more : List (List ℕ)) (at next : ℕ) → length pieces ≡ at → next ≡ at + length more → length (pieces ++ more) ≡ next
 one_further pieces more at next h is = length-append pieces more ∙ ap (λ n. n + length more) h ∙ sym is
 
-pub info_texts-is : (i : InfoValue) (v t c u : Option ℤ) (w : Option Text) → v ≡ i.version → t ≡ i.time → c ≡ i.changeset → u ≡ i.uid → w ≡ i.user →
-    (((field 118 v ++ field 116 t) ++ field 99 c) ++ field 105 u) ++ option_to_list (option_map user_info w) ≡ info_texts i
-info_texts-is i v t c u w ev et ec eu ew =
-    ap (λ x. (((field 118 x ++ field 116 t) ++ field 99 c) ++ field 105 u) ++ option_to_list (option_map user_info w)) ev
-    ∙ ap (λ x. (((field 118 i.version ++ field 116 x) ++ field 99 c) ++ field 105 u) ++ option_to_list (option_map user_info w)) et
-    ∙ ap (λ x. (((field 118 i.version ++ field 116 i.time) ++ field 99 x) ++ field 105 u) ++ option_to_list (option_map user_info w)) ec
-    ∙ ap (λ x. (((field 118 i.version ++ field 116 i.time) ++ field 99 i.changeset) ++ field 105 x) ++ option_to_list (option_map user_info w)) eu
-    ∙ ap (λ x. (((field 118 i.version ++ field 116 i.time) ++ field 99 i.changeset) ++ field 105 i.uid) ++ option_to_list (option_map user_info x)) ew
+abbrev fields : Option ℤ → Option ℤ → Option ℤ → Option ℤ → Option Text → Option Bool → List (List ℕ)
+fields v t c u w x = ((((field 118 v ++ field 116 t) ++ field 99 c) ++ field 105 u) ++ option_to_list (option_map user_info w)) ++ option_to_list (option_map visible_info x)
+
+pub info_texts-is : (i : InfoValue) (v t c u : Option ℤ) (w : Option Text) (x : Option Bool) → v ≡ i.version → t ≡ i.time → c ≡ i.changeset → u ≡ i.uid → w ≡ i.user → x ≡ i.visible →
+    ((((field 118 v ++ field 116 t) ++ field 99 c) ++ field 105 u) ++ option_to_list (option_map user_info w)) ++ option_to_list (option_map visible_info x) ≡ info_texts i
+info_texts-is i v t c u w x ev et ec eu ew ex =
+    ap (λ y. fields y t c u w x) ev
+    ∙ ap (λ y. fields i.version y c u w x) et
+    ∙ ap (λ y. fields i.version i.time y u w x) ec
+    ∙ ap (λ y. fields i.version i.time i.changeset y w x) eu
+    ∙ ap (λ y. fields i.version i.time i.changeset i.uid y x) ew
+    ∙ ap (λ y. fields i.version i.time i.changeset i.uid i.user y) ex
 
 -- ---- whole lines. Each literal has a name, since `simp` doesn't regroup what has computed to single cells
 

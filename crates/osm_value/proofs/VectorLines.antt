@@ -1,5 +1,5 @@
 -- The lines of elements, computed.
-use Rattle.std.specs.Prelude.{◌≡◌, [], ◌∷◌, ◌++◌, refl, Some, None, pos, negsuc, codes, map}
+use Rattle.std.specs.Prelude.{◌≡◌, [], ◌∷◌, ◌++◌, refl, Some, None, true, false, pos, negsuc, codes, map}
 use Rattle.std.specs.Fmt.{digits}
 use Rattle.osm_value.specs.declared.element.MemberKind.TheVariants as kinds
 use Rattle.osm_value.specs.declared.element.Element.TheVariants.{Node, Way, Relation}
@@ -36,3 +36,15 @@ info_of_nodes = refl
 escapes : line (Node (record { id = negsuc 2; lat = pos 5; lon = pos 0; tags = (((107 ∷ []), (195 ∷ 169 ∷ 37 ∷ [])) ∷ []); info = record { version = None; time = None; changeset = None; uid = None; user = Some (120 ∷ 32 ∷ 121 ∷ []); visible = None } })) ≡ codes "n -3 5 0 [u=x%20y] {k=" ++ 195 ∷ 169 ∷ codes "%25}\n"
 unfolding digits
 escapes = refl
+
+visible_node : line (Node (record { id = pos 1; lat = pos 100; lon = pos 100; tags = ([]); info = record { version = None; time = None; changeset = None; uid = None; user = None; visible = Some true } })) ≡ codes "n 1 100 100 [x=1] {}\n"
+unfolding digits
+visible_node = refl
+
+hidden_way : line (Way (record { id = pos 7; refs = ([]); tags = ([]); info = record { version = None; time = None; changeset = None; uid = None; user = None; visible = Some false } })) ≡ codes "w 7 () [x=0] {}\n"
+unfolding digits
+hidden_way = refl
+
+flag_behind_the_user : line (Way (record { id = pos 7; refs = ([]); tags = ([]); info = record { version = Some (pos 2); time = None; changeset = None; uid = None; user = Some (117 ∷ []); visible = Some false } })) ≡ codes "w 7 () [v=2,u=u,x=0] {}\n"
+unfolding digits
+flag_behind_the_user = refl

@@ -1,5 +1,5 @@
 -- An element as a line of text.
-use Rattle.std.specs.Prelude.{ℕ, zero, suc, List, [], ◌∷◌, ◌++◌, map, ℤ, option_map, option_to_list, codes}
+use Rattle.std.specs.Prelude.{ℕ, zero, suc, List, [], ◌∷◌, ◌++◌, map, ℤ, Bool, if◌then◌else◌, option_map, option_to_list, codes}
 use Rattle.std.specs.List.{join_with_byte}
 use Rattle.std.specs.Fmt.{signed_decimal}
 use Rattle.osm_value.specs.declared.element.MemberKind.{MemberKind}
@@ -27,13 +27,21 @@ number_info letter z = letter ∷ 61 ∷ signed_decimal z
 abbrev pub user_info : Text → List ℕ
 user_info t = 117 ∷ 61 ∷ escaped t
 
--- what is there: v= t= c= i= u=
+-- 1 is visible, 0 is not
+abbrev pub visible_digit : Bool → ℕ
+visible_digit b = if b then 49 else 48
+
+abbrev pub visible_info : Bool → List ℕ
+visible_info b = 120 ∷ 61 ∷ visible_digit b ∷ []
+
+-- what is there: v= t= c= i= u= x=
 abbrev pub info_texts : InfoValue → List (List ℕ)
 info_texts i = option_to_list (option_map (number_info 118) i.version)
     ++ option_to_list (option_map (number_info 116) i.time)
     ++ option_to_list (option_map (number_info 99) i.changeset)
     ++ option_to_list (option_map (number_info 105) i.uid)
     ++ option_to_list (option_map user_info i.user)
+    ++ option_to_list (option_map visible_info i.visible)
 
 abbrev pub tail_text : InfoValue → List (Text × Text) → List ℕ
 tail_text i tags = codes " [" ++ commas (info_texts i) ++ codes "] {" ++ commas (map tag_text tags) ++ codes "}\n"

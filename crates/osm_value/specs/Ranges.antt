@@ -1,5 +1,5 @@
 -- The ranges of an element's numbers and texts.
-use Rattle.std.specs.Prelude.{◌≡◌, ℤ, pos, negsuc, ◌^◌, ◌-◌, ◌==◌, List, Option, Some, None, Bool, true, ◌&&◌, not, int_le, IsTrue}
+use Rattle.std.specs.Prelude.{ℤ, pos, negsuc, ◌^◌, ◌-◌, ◌==◌, List, Option, Some, None, Bool, true, ◌&&◌, not, int_le, IsTrue}
 use Rattle.std.specs.List.{AllByRecursion, list_all}
 use Rattle.std.specs.Str.{IsUtf8}
 use Rattle.osm_value.specs.Value.{Text, InfoValue, MemberValue, NodeValue, WayValue, RelationValue}
@@ -40,14 +40,13 @@ IsTextOrNone (Some t) = IsText t
 abbrev pub AreTags : List (Text × Text) → Type 0
 AreTags tags = AllByRecursion (λ (t : Text × Text). IsText t.0 × IsText t.1) tags
 
--- an info inside its ranges; no flag of visibility is held yet
+-- an info inside its ranges, whatever its flag of visibility
 pub record IsInfo (i : InfoValue) : Type 0 where
   pub version : IsTrue (passes is_version i.version)
   pub time : IsTrue (passes is_wide i.time)
   pub changeset : IsTrue (passes is_wide i.changeset)
   pub uid : IsTrue (passes is_uid i.uid)
   pub user : IsTextOrNone i.user
-  pub visible : i.visible ≡ None
 
 pub record IsMember (m : MemberValue) : Type 0 where
   pub id : IsWide m.id

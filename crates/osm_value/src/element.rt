@@ -37,8 +37,8 @@ impl<'a> Model for Info<'a> {
 
 impl<'a> Info<'a> {
     /// An info of these parts: a version from 0 to 2,147,483,647, a time in milliseconds since 1970 and a changeset,
-    /// both at most 2^62 - 1 away from 0, a user id from -1 to 2,147,483,646, and a user's name without U+0000.
-    /// `visible` has to be None. No memory is taken.
+    /// both at most 2^62 - 1 away from 0, a user id from -1 to 2,147,483,646, a user's name without U+0000, and whether
+    /// the element is visible. No memory is taken.
     pub fn new(
         version: Option<i32>,
         time: Option<i64>,
@@ -100,7 +100,7 @@ impl<'a> Info<'a> {
         self.user
     }
 
-    /// Whether the element is visible: always None, as the flag isn't held.
+    /// Whether the element is visible, or was deleted with this version; None where the input doesn't say.
     pub fn visible(&self) -> Option<bool>
         ensures exact { result ≡ self.now.visible }
         ensures in_range { IsInfo self.now }

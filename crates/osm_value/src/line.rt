@@ -4,14 +4,15 @@
 //! - `w ID (REF,REF) [INFO] {TAGS}`
 //! - `r ID (nID@ROLE,wID@ROLE) [INFO] {TAGS}`
 //!
-//! INFO is what is there of `v=` version, `t=` time, `c=` changeset, `i=` uid and `u=` user, TAGS are `KEY=VALUE`.
+//! INFO is what is there of `v=` version, `t=` time, `c=` changeset, `i=` uid, `u=` user and `x=` whether it is visible,
+//! 1 or 0. TAGS are `KEY=VALUE`.
 
 ghost use Rattle.std.specs.Prelude.{◌≡◌, ℕ, ◌+◌, ◌<◌, ◌≤◌, List, ◌++◌, length, Option, map, option_map, option_to_list, option_copied, IsTrue, OnOk, OnErr, IsErr, ◌↔◌};
 ghost use Rattle.std.specs.Io.KnownBytes.{Appends};
 ghost use Rattle.std.specs.Fmt.{signed_decimal};
 ghost use Rattle.osm_value.specs.declared.element.Element.TheVariants as elements;
 ghost use Rattle.osm_value.specs.Sink.{AppendsFront, Wrote, Writes};
-ghost use Rattle.osm_value.specs.Line.{commas, comma_before, tag_text, line, tail_text, info_texts, number_info, user_info, letter_of, member_text};
+ghost use Rattle.osm_value.specs.Line.{commas, comma_before, tag_text, line, tail_text, info_texts, number_info, user_info, visible_digit, visible_info, letter_of, member_text};
 
 use crate::element::{Element, Info, Member, MemberKind, Node, Relation, Way};
 use crate::fault::LineFault;
@@ -167,7 +168,8 @@ fn put_info<S: Sink>(sink: &mut S, info: &Info)
     let at = put_info_number(sink, at, b't', info.time());
     let at = put_info_number(sink, at, b'c', info.changeset());
     let at = put_info_number(sink, at, b'i', widened(info.uid()));
-    put_info_user(sink, at, info.user());
+    let at = put_info_user(sink, at, info.user());
+    put_info_visible(sink, at, info.visible());
 }
 
 /// Writes a number of the info, if it is there, as the piece at that index, and says the next index.
@@ -188,18 +190,41 @@ fn put_info_number<S: Sink>(sink: &mut S, at: usize, letter: u8, number: Option<
     at + 1
 }
 
-/// Writes the user, if it is there, as the piece at that index.
-fn put_info_user<S: Sink>(sink: &mut S, at: usize, user: Option<&str>)
-    ensures { (start : Option (List ℕ)) (before : List ℕ) (pieces : List (List ℕ)) → length pieces ≡ at
+/// Writes the user, if it is there, as the piece at that index, and says the next index.
+fn put_info_user<S: Sink>(sink: &mut S, at: usize, user: Option<&str>) -> usize
+    requires { at < 100 }
+    ensures text { (start : Option (List ℕ)) (before : List ℕ) (pieces : List (List ℕ)) → length pieces ≡ at
         → Wrote start (before ++ commas pieces) (S.written sink.old) (S.has_failed sink.old)
         → Wrote start (before ++ commas (pieces ++ option_to_list (option_map user_info (option_copied user.entry)))) (S.written sink.new) (S.has_failed sink.new) }
+    ensures place { result ≡ at + length (option_to_list (option_map user_info (option_copied user.entry))) }
 {
     let Some(user) = user else {
-        return;
+        return at;
     };
     put_comma(sink, at);
     put(sink, b"u=");
     put_escaped(sink, user);
+    at + 1
+}
+
+/// Writes whether it is visible, if that is known, as the piece at that index.
+fn put_info_visible<S: Sink>(sink: &mut S, at: usize, visible: Option<bool>)
+    ensures { (start : Option (List ℕ)) (before : List ℕ) (pieces : List (List ℕ)) → length pieces ≡ at
+        → Wrote start (before ++ commas pieces) (S.written sink.old) (S.has_failed sink.old)
+        → Wrote start (before ++ commas (pieces ++ option_to_list (option_map visible_info visible))) (S.written sink.new) (S.has_failed sink.new) }
+{
+    let Some(visible) = visible else {
+        return;
+    };
+    put_comma(sink, at);
+    put(sink, b"x=");
+    put(sink, &[digit_of(visible)]);
+}
+
+fn digit_of(visible: bool) -> u8
+    ensures { result ≡ visible_digit visible }
+{
+    if visible { b'1' } else { b'0' }
 }
 
 fn widened(number: Option<i32>) -> Option<i64>

@@ -10,7 +10,7 @@ use Rattle.pbf_wire.specs.Readings.{fields, wire, packed, int32, each, sub}
 use Rattle.osm_value.specs.Value.{Text, InfoValue, NodeValue}
 use Rattle.osm_value.specs.Ranges.{IsWide, IsNode}
 use Rattle.osm_value.proofs.Ranges.{all_append}
-use Rattle.osm_block.specs.declared.fields.TheConstants.{DENSEINFO_CHANGESET, DENSEINFO_TIMESTAMP, DENSEINFO_UID, DENSEINFO_USER_SID, DENSEINFO_VERSION, DENSE_DENSEINFO, DENSE_ID, DENSE_KEYS_VALS, DENSE_LAT, DENSE_LON}
+use Rattle.osm_block.specs.declared.fields.TheConstants.{DENSEINFO_CHANGESET, DENSEINFO_TIMESTAMP, DENSEINFO_UID, DENSEINFO_USER_SID, DENSEINFO_VERSION, DENSEINFO_VISIBLE, DENSE_DENSEINFO, DENSE_ID, DENSE_KEYS_VALS, DENSE_LAT, DENSE_LON}
 use Rattle.osm_block.specs.DenseTags.{Pair, Tags, pairs_and_zero, KeysAreNotZero}
 use Rattle.osm_block.specs.Message.{dense_message}
 use Rattle.osm_block.specs.Block.{DenseOf, coordinate, texts_at, all_there}
@@ -205,7 +205,8 @@ pub record IsDense (s : Scale) (ns : List NodeValue) (w : List ℕ) : Type 0 whe
   pub info_sound : AllByRecursion IsNone (map wire (each (fields w) DENSE_DENSEINFO))
   pub arrays : AllByRecursion IsNone (map packed (each (fields w) DENSE_ID) ++ (map packed (each (fields w) DENSE_LAT) ++ (map packed (each (fields w) DENSE_LON) ++ (map packed (each (fields w) DENSE_KEYS_VALS) ++ []))))
   pub info_arrays : AllByRecursion IsNone (map packed (each (sub (fields w) DENSE_DENSEINFO) DENSEINFO_VERSION) ++ (map packed (each (sub (fields w) DENSE_DENSEINFO) DENSEINFO_TIMESTAMP) ++ (map packed (each (sub (fields w) DENSE_DENSEINFO) DENSEINFO_CHANGESET)
-      ++ (map packed (each (sub (fields w) DENSE_DENSEINFO) DENSEINFO_UID) ++ (map packed (each (sub (fields w) DENSE_DENSEINFO) DENSEINFO_USER_SID) ++ [])))))
+      ++ (map packed (each (sub (fields w) DENSE_DENSEINFO) DENSEINFO_UID) ++ (map packed (each (sub (fields w) DENSE_DENSEINFO) DENSEINFO_USER_SID)
+      ++ (map packed (each (sub (fields w) DENSE_DENSEINFO) DENSEINFO_VISIBLE) ++ []))))))
   pub holds : DenseOf (context_of s) ns (dense_message (fields w))
 
 pub dense_read : (s : Scale) (ns : List NodeValue) → IsScale s → AllByRecursion (NodeIsWritten s) ns → IsSame (infos_of ns) → length (dense_bytes s ns) < 2 ^ 64 → IsDense s ns (dense_bytes s ns)
@@ -228,7 +229,7 @@ dense_read s ns sc all same short =
     let P : List Entry → Type 0 = λ fs. DenseOf (context_of s) ns (dense_message fs) in
     let Q : List Entry → Type 0 = λ fs. AllByRecursion (IsNone {T = WireFault}) (map packed (each fs DENSE_ID) ++ (map packed (each fs DENSE_LAT) ++ (map packed (each fs DENSE_LON) ++ (map packed (each fs DENSE_KEYS_VALS) ++ [])))) in
     let R : List Entry → Type 0 = λ fs. AllByRecursion (IsNone {T = WireFault}) (map wire (each fs DENSE_DENSEINFO)) in
-    let S : List Entry → Type 0 = λ gs. AllByRecursion (IsNone {T = WireFault}) (map packed (each gs DENSEINFO_VERSION) ++ (map packed (each gs DENSEINFO_TIMESTAMP) ++ (map packed (each gs DENSEINFO_CHANGESET) ++ (map packed (each gs DENSEINFO_UID) ++ (map packed (each gs DENSEINFO_USER_SID) ++ []))))) in
+    let S : List Entry → Type 0 = λ gs. AllByRecursion (IsNone {T = WireFault}) (map packed (each gs DENSEINFO_VERSION) ++ (map packed (each gs DENSEINFO_TIMESTAMP) ++ (map packed (each gs DENSEINFO_CHANGESET) ++ (map packed (each gs DENSEINFO_UID) ++ (map packed (each gs DENSEINFO_USER_SID) ++ (map packed (each gs DENSEINFO_VISIBLE) ++ [])))))) in
     let T : List Entry → Type 0 = λ fs. S (sub fs DENSE_DENSEINFO) in
     record {
       sound = m.sound;

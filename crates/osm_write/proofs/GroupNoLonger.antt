@@ -9,8 +9,8 @@ use Rattle.osm_value.specs.Value.{Text, InfoValue, MemberValue, NodeValue, WayVa
 use Rattle.osm_value.specs.Elements.{IsElement}
 use Rattle.osm_value.specs.Ranges.{is_wide, passes, IsInfo}
 use Rattle.osm_value.proofs.Ranges.{all_front, all_back}
-use Rattle.osm_block.specs.declared.fields.TheConstants.{DENSEINFO_CHANGESET, DENSEINFO_TIMESTAMP, DENSEINFO_UID, DENSEINFO_USER_SID, DENSEINFO_VERSION, DENSE_DENSEINFO, DENSE_ID, DENSE_KEYS_VALS, DENSE_LAT, DENSE_LON, ELEMENT_ID, ELEMENT_INFO, ELEMENT_KEYS, ELEMENT_VALS, GROUP_DENSE, GROUP_RELATIONS, GROUP_WAYS, INFO_CHANGESET, INFO_TIMESTAMP, INFO_UID, INFO_USER_SID, INFO_VERSION, RELATION_MEMIDS, RELATION_ROLES_SID, RELATION_TYPES, WAY_REFS}
-use Rattle.osm_write.specs.Canon.{Scale, index_of, tag_texts, number, number_field, message_field, packed_field, int_field, delta_field, optional, times_of, info_bytes, head_bytes, way_bytes, number_of_kind, relation_bytes, dense_info_bytes, tag_indexes, has_tags, keys_vals_of, raw_coordinate, dense_bytes, node_of, way_or_relation, group_bytes}
+use Rattle.osm_block.specs.declared.fields.TheConstants.{DENSEINFO_CHANGESET, DENSEINFO_TIMESTAMP, DENSEINFO_UID, DENSEINFO_USER_SID, DENSEINFO_VERSION, DENSEINFO_VISIBLE, DENSE_DENSEINFO, DENSE_ID, DENSE_KEYS_VALS, DENSE_LAT, DENSE_LON, ELEMENT_ID, ELEMENT_INFO, ELEMENT_KEYS, ELEMENT_VALS, GROUP_DENSE, GROUP_RELATIONS, GROUP_WAYS, INFO_CHANGESET, INFO_TIMESTAMP, INFO_UID, INFO_USER_SID, INFO_VERSION, INFO_VISIBLE, RELATION_MEMIDS, RELATION_ROLES_SID, RELATION_TYPES, WAY_REFS}
+use Rattle.osm_write.specs.Canon.{Scale, index_of, tag_texts, number, number_field, flag_number, message_field, packed_field, int_field, delta_field, optional, times_of, info_bytes, head_bytes, way_bytes, number_of_kind, relation_bytes, dense_info_bytes, tag_indexes, has_tags, keys_vals_of, raw_coordinate, dense_bytes, node_of, way_or_relation, group_bytes}
 use Rattle.osm_write.proofs.Coarser.{Coarser}
 use Rattle.osm_write.proofs.NumberLengths.{NoLonger, itself, nothing, joined, Finer, zigzag_finer, number_finer, bytes_field_no_longer, message_field_no_longer, packed_front, delta_first, Below, below_itself, packed_array, delta_array}
 
@@ -60,8 +60,8 @@ user_no_longer one all (Some t) same = let e = same.0 in rw e (itself (number_fi
 info_no_longer : (one all : Scale) (i : InfoValue) → Finer 1000 one.date_granularity all.date_granularity → IsInfo i → SameUser one all i
     → NoLonger (info_bytes one i) (info_bytes all i)
 info_no_longer one all i finer ranges same =
-    joined (joined (joined (joined (itself (optional (int_field INFO_VERSION) i.version)) (time_no_longer one all i.time finer ranges.time)) (itself (optional (int_field INFO_CHANGESET) i.changeset)))
-    (itself (optional (int_field INFO_UID) i.uid))) (user_no_longer one all i.user same)
+    joined (joined (joined (joined (joined (itself (optional (int_field INFO_VERSION) i.version)) (time_no_longer one all i.time finer ranges.time)) (itself (optional (int_field INFO_CHANGESET) i.changeset)))
+    (itself (optional (int_field INFO_UID) i.uid))) (user_no_longer one all i.user same)) (itself (optional (λ b. number_field INFO_VISIBLE (flag_number b)) i.visible))
 
 head_no_longer : (one all : Scale) (id : ℤ) (tags : List (Text × Text)) (i : InfoValue) → Finer 1000 one.date_granularity all.date_granularity → IsInfo i
     → SameTags one all tags → SameUser one all i → NoLonger (head_bytes one id tags i) (head_bytes all id tags i)
@@ -103,12 +103,14 @@ dense_info_no_longer one all i is finer same =
     let version : InfoValue → Option ℕ = λ j. option_map (cast_unsigned w64) j.version in
     let changeset : InfoValue → Option ℤ = λ j. j.changeset in
     let uid : InfoValue → Option ℤ = λ j. j.uid in
+    let flag : InfoValue → Option ℕ = λ j. option_map flag_number j.visible in
     let a = packed_array DENSEINFO_VERSION version version i is (below_itself (λ n. n) (version i)) in
     let b = delta_array DENSEINFO_TIMESTAMP (λ j. times_of one j.time) (λ j. times_of all j.time) i is (below_times one all i.time finer) in
     let c = delta_array DENSEINFO_CHANGESET changeset changeset i is (below_itself zigzag i.changeset) in
     let d = delta_array DENSEINFO_UID uid uid i is (below_itself zigzag i.uid) in
     let e = delta_array DENSEINFO_USER_SID (λ j. option_map (λ t. pos (index_of one t)) j.user) (λ j. option_map (λ t. pos (index_of all t)) j.user) i is (below_users one all i.user same) in
-    joined (joined (joined (joined a b) c) d) e
+    let f = packed_array DENSEINFO_VISIBLE flag flag i is (below_itself (λ n. n) (flag i)) in
+    joined (joined (joined (joined (joined a b) c) d) e) f
 
 keys_vals_no_longer : (one all : Scale) (n : NodeValue) (ns : List NodeValue) → SameTags one all n.tags
     → NoLonger (packed_field DENSE_KEYS_VALS (keys_vals_of one (n ∷ []))) (packed_field DENSE_KEYS_VALS (keys_vals_of all (n ∷ ns)))

@@ -11,7 +11,7 @@ use Rattle.osm_value.specs.declared.element.Element.TheVariants as elements
 use Rattle.osm_value.specs.Value.{Text, NodeValue, MemberValue, WayValue, RelationValue}
 use Rattle.osm_value.specs.Ranges.{IsWay, IsRelation}
 use Rattle.osm_value.proofs.Ranges.{all_append}
-use Rattle.osm_block.specs.declared.fields.TheConstants.{DENSEINFO_CHANGESET, DENSEINFO_TIMESTAMP, DENSEINFO_UID, DENSEINFO_USER_SID, DENSEINFO_VERSION, DENSE_DENSEINFO, DENSE_ID, DENSE_KEYS_VALS, DENSE_LAT, DENSE_LON, GROUP_DENSE, GROUP_NODES, GROUP_RELATIONS, GROUP_WAYS, WAY_REFS}
+use Rattle.osm_block.specs.declared.fields.TheConstants.{DENSEINFO_CHANGESET, DENSEINFO_TIMESTAMP, DENSEINFO_UID, DENSEINFO_USER_SID, DENSEINFO_VERSION, DENSEINFO_VISIBLE, DENSE_DENSEINFO, DENSE_ID, DENSE_KEYS_VALS, DENSE_LAT, DENSE_LON, GROUP_DENSE, GROUP_NODES, GROUP_RELATIONS, GROUP_WAYS, WAY_REFS}
 use Rattle.osm_block.specs.Message.{Context, Message, Dense, Way, Relation, messages, dense_message}
 use Rattle.osm_block.specs.Block.{AllAreWire, MessageOf, Joins, GroupOf, kinds_in, DenseOf}
 use Rattle.osm_write.specs.Canon.{Scale, number, bytes_field, message_field, head_bytes, way_bytes, relation_bytes, members_bytes, delta_field, dense_bytes, node_of, way_or_relation, group_bytes}
@@ -99,7 +99,7 @@ no_dense b = (
         changesets_are = ([], record { are = refl; fit = tt }, refl);
         uids_are = ([], record { are = refl; fit = tt }, refl);
         users_are = ([], record { are = refl; fit = tt }, refl);
-        no_visible = refl;
+        visibles_are = refl;
         in_range = tt;
       };
       in_range = tt;
@@ -148,7 +148,8 @@ dense_says s ns w h =
     let same : flat_map fields (payloads_of w) ≡ fields w = message_sub w in
     let Q : List Entry → Type 0 = λ fs. AllByRecursion (IsNone {T = WireFault})
     (map wire (payloads_of w) ++ map wire (each fs DENSE_DENSEINFO) ++ (map packed (each fs DENSE_ID) ++ (map packed (each fs DENSE_LAT) ++ (map packed (each fs DENSE_LON) ++ (map packed (each fs DENSE_KEYS_VALS) ++ []))))
-    ++ (map packed (each (sub fs DENSE_DENSEINFO) DENSEINFO_VERSION) ++ (map packed (each (sub fs DENSE_DENSEINFO) DENSEINFO_TIMESTAMP) ++ (map packed (each (sub fs DENSE_DENSEINFO) DENSEINFO_CHANGESET) ++ (map packed (each (sub fs DENSE_DENSEINFO) DENSEINFO_UID) ++ (map packed (each (sub fs DENSE_DENSEINFO) DENSEINFO_USER_SID) ++ [])))))) in
+    ++ (map packed (each (sub fs DENSE_DENSEINFO) DENSEINFO_VERSION) ++ (map packed (each (sub fs DENSE_DENSEINFO) DENSEINFO_TIMESTAMP) ++ (map packed (each (sub fs DENSE_DENSEINFO) DENSEINFO_CHANGESET) ++ (map packed (each (sub fs DENSE_DENSEINFO) DENSEINFO_UID) ++ (map packed (each (sub fs DENSE_DENSEINFO) DENSEINFO_USER_SID)
+    ++ (map packed (each (sub fs DENSE_DENSEINFO) DENSEINFO_VISIBLE) ++ []))))))) in
     let P : List Entry → Type 0 = λ fs. DenseOf (context_of s) ns (dense_message fs) in (
       subst Q (sym same) (all_append IsNone _ _ (all_append IsNone _ _ (all_append IsNone _ _ (payloads_sound w h.sound) h.info_sound) h.arrays) h.info_arrays),
       (ns, refl, subst P (sym same) h.holds),

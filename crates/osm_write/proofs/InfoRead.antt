@@ -1,21 +1,21 @@
 -- An info is read back from its message.
-use Rattle.std.proofs.Common.{◌≡◌, ℕ, ◌^◌, ◌<◌, List, [], ◌∷◌, refl, ap, ◌∙◌, sym, arith, ℤ, pos, Option, Some, None, option_map, IsTrue, w64, append-nil, subst}
+use Rattle.std.proofs.Common.{◌≡◌, ℕ, ◌^◌, ◌<◌, List, [], ◌∷◌, refl, ap, ◌∙◌, sym, arith, ℤ, pos, Option, Some, None, option_map, Bool, true, false, IsTrue, w64, append-nil, subst}
 use Rattle.std.specs.Prelude.{option_to_list, int_div, unwrap_or}
 use Rattle.std.specs.List.{AllByRecursion}
 use Rattle.std.specs.Int.{cast_unsigned}
 use Rattle.std.proofs.lemmas.Int.{ints, quot_fits}
 use Rattle.pbf_wire.specs.Field.{Entry}
-use Rattle.pbf_wire.specs.Readings.{fields, wire, int32, int64, uint32, last, fitting, number_of}
+use Rattle.pbf_wire.specs.Readings.{fields, wire, int32, int64, uint32, last}
 use Rattle.osm_value.specs.Value.{Text, InfoValue}
 use Rattle.osm_value.specs.Ranges.{IsInfo, passes, is_wide, is_version, is_uid}
 use Rattle.osm_value.proofs.Ranges.{wide_fits}
 use Rattle.osm_block.specs.declared.fields.TheConstants.{INFO_CHANGESET, INFO_TIMESTAMP, INFO_UID, INFO_USER_SID, INFO_VERSION, INFO_VISIBLE}
-use Rattle.osm_block.specs.Message.{info_message}
+use Rattle.osm_block.specs.Message.{boolean, info_message}
 use Rattle.osm_block.specs.Block.{InfoOf, version, time, text_at}
-use Rattle.osm_write.specs.Canon.{Scale, index_of, number_field, optional, times_of, info_bytes}
+use Rattle.osm_write.specs.Canon.{Scale, index_of, number_field, flag_number, optional, times_of, info_bytes}
 use Rattle.osm_write.proofs.Values.{int64_read, int64_small, uid_read, uid_fits, version_read, version_fits, version_is, Whole}
 use Rattle.osm_write.proofs.Known.{context_of, IsKnown, IsScale, known_uint32}
-use Rattle.osm_write.proofs.Segments.{Segment, IsSegment, IsMessage, optional_segment, optional_entries, is_optional_segment, optional_last, message_read, five_parts, entries_of, bytes_in, last_at, fitting_at}
+use Rattle.osm_write.proofs.Segments.{Segment, IsSegment, IsMessage, optional_segment, optional_entries, is_optional_segment, optional_last, message_read, six_parts, entries_of, bytes_in, last_at}
 
 -- ---- its numbers
 
@@ -24,7 +24,8 @@ bits_of o = option_map (cast_unsigned w64) o
 
 abbrev info_segments : Scale → InfoValue → List Segment
 info_segments s i = optional_segment INFO_VERSION (bits_of i.version) ∷ optional_segment INFO_TIMESTAMP (bits_of (times_of s i.time)) ∷ optional_segment INFO_CHANGESET (bits_of i.changeset)
-    ∷ optional_segment INFO_UID (bits_of i.uid) ∷ optional_segment INFO_USER_SID (option_map (index_of s) i.user) ∷ []
+    ∷ optional_segment INFO_UID (bits_of i.uid) ∷ optional_segment INFO_USER_SID (option_map (index_of s) i.user)
+    ∷ optional_segment INFO_VISIBLE (option_map flag_number i.visible) ∷ []
 
 -- what an info that is written is
 pub record IsWritten (s : Scale) (i : InfoValue) : Type 0 where
@@ -55,6 +56,11 @@ users_fit : (s : Scale) (o : Option Text) → AllByRecursion (IsKnown s) (option
 users_fit s None h = tt
 users_fit s (Some t) h = (let lt = h.0.small in omega arith, tt)
 
+flags_fit : (o : Option Bool) → FitAll (option_map flag_number o)
+flags_fit None = tt
+flags_fit (Some true) = (omega arith, tt)
+flags_fit (Some false) = (omega arith, tt)
+
 all_segments : (s : Scale) (i : InfoValue) → IsScale s → IsWritten s i → AllByRecursion IsSegment (info_segments s i)
 all_segments s i sc w = (
   is_optional_segment INFO_VERSION refl (omega arith) (bits_of i.version) (versions_fit i.version w.in_range.version),
@@ -64,7 +70,10 @@ all_segments s i sc w = (
       is_optional_segment INFO_CHANGESET refl (omega arith) (bits_of i.changeset) (wides_fit i.changeset w.in_range.changeset),
       (
         is_optional_segment INFO_UID refl (omega arith) (bits_of i.uid) (uids_fit i.uid w.in_range.uid),
-        (is_optional_segment INFO_USER_SID refl (omega arith) (option_map (index_of s) i.user) (users_fit s i.user w.user), tt),
+        (
+          is_optional_segment INFO_USER_SID refl (omega arith) (option_map (index_of s) i.user) (users_fit s i.user w.user),
+          (is_optional_segment INFO_VISIBLE refl (omega arith) (option_map flag_number i.visible) (flags_fit i.visible), tt),
+        ),
       ),
     ),
   ),
@@ -81,8 +90,9 @@ bytes_are s i =
     let c = optional_mapped (number_field INFO_CHANGESET) (cast_unsigned w64) i.changeset in
     let d = optional_mapped (number_field INFO_UID) (cast_unsigned w64) i.uid in
     let e = optional_mapped (number_field INFO_USER_SID) (index_of s) i.user in
-    rw (a, b, c, d, e) (five_parts (optional (number_field INFO_VERSION) (bits_of i.version)) (optional (number_field INFO_TIMESTAMP) (bits_of (times_of s i.time))) (optional (number_field INFO_CHANGESET) (bits_of i.changeset))
-    (optional (number_field INFO_UID) (bits_of i.uid)) (optional (number_field INFO_USER_SID) (option_map (index_of s) i.user)))
+    let f = optional_mapped (number_field INFO_VISIBLE) flag_number i.visible in
+    rw (a, b, c, d, e, f) (six_parts (optional (number_field INFO_VERSION) (bits_of i.version)) (optional (number_field INFO_TIMESTAMP) (bits_of (times_of s i.time))) (optional (number_field INFO_CHANGESET) (bits_of i.changeset))
+    (optional (number_field INFO_UID) (bits_of i.uid)) (optional (number_field INFO_USER_SID) (option_map (index_of s) i.user)) (optional (number_field INFO_VISIBLE) (option_map flag_number i.visible)))
 
 pub info_is_message : (s : Scale) (i : InfoValue) → IsScale s → IsWritten s i → IsMessage (entries_of (info_segments s i)) (info_bytes s i)
 info_is_message s i sc w = message_read (info_segments s i) (info_bytes s i) (bytes_are s i) (all_segments s i sc w)
@@ -113,6 +123,11 @@ users_read : (s : Scale) (o : Option Text) → AllByRecursion (IsKnown s) (optio
 users_read s None h = refl
 users_read s (Some t) h = ap Some (sym (known_uint32 s t h.0))
 
+flags_read : (o : Option Bool) → o ≡ option_map boolean (option_map flag_number o)
+flags_read None = refl
+flags_read (Some true) = refl
+flags_read (Some false) = refl
+
 pub info_read : (s : Scale) (i : InfoValue) → IsScale s → IsWritten s i → InfoOf (context_of s) i (info_message (fields (info_bytes s i)))
 info_read s i sc w =
     let ss : List Segment = info_segments s i in
@@ -124,14 +139,14 @@ info_read s i sc w =
     let c : last (entries_of ss) INFO_CHANGESET ≡ bits_of i.changeset = last_at ss all INFO_CHANGESET (optional_entries INFO_CHANGESET (bits_of i.changeset)) (append-nil _) ∙ optional_last INFO_CHANGESET (bits_of i.changeset) in
     let u : last (entries_of ss) INFO_UID ≡ bits_of i.uid = last_at ss all INFO_UID (optional_entries INFO_UID (bits_of i.uid)) (append-nil _) ∙ optional_last INFO_UID (bits_of i.uid) in
     let n : last (entries_of ss) INFO_USER_SID ≡ option_map (index_of s) i.user = last_at ss all INFO_USER_SID (optional_entries INFO_USER_SID (option_map (index_of s) i.user)) (append-nil _) ∙ optional_last INFO_USER_SID (option_map (index_of s) i.user) in
-    let x : fitting number_of INFO_VISIBLE (entries_of ss) ≡ [] = fitting_at ss all INFO_VISIBLE [] refl number_of in
+    let x : last (entries_of ss) INFO_VISIBLE ≡ option_map flag_number i.visible = last_at ss all INFO_VISIBLE (optional_entries INFO_VISIBLE (option_map flag_number i.visible)) (append-nil _) ∙ optional_last INFO_VISIBLE (option_map flag_number i.visible) in
     subst P (sym m.fields_are) (record {
       version_is = rw v (versions_read i.version w.in_range.version);
       time_is = rw t (times_read s sc i.time w.in_range.time w.time);
       changeset_is = rw c (changesets_read i.changeset w.in_range.changeset);
       uid_is = rw u (uids_read i.uid w.in_range.uid);
       user_is = rw n (users_read s i.user w.user);
-      no_visible = rw x refl;
+      visible_is = rw x (flags_read i.visible);
       in_range = w.in_range;
     })
 

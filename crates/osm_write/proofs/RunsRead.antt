@@ -46,6 +46,7 @@ record SamePresent (i j : InfoValue) : Type 0 where
   pub changeset : is_some i.changeset ≡ is_some j.changeset
   pub uid : is_some i.uid ≡ is_some j.uid
   pub user : is_some i.user ≡ is_some j.user
+  pub visible : is_some i.visible ≡ is_some j.visible
 
 present_is : (i j : InfoValue) → same_present i j ≡ true → SamePresent i j
 present_is i j e =
@@ -54,7 +55,9 @@ present_is i j e =
     let c : Bool = same (is_some i.changeset) (is_some j.changeset) in
     let u : Bool = same (is_some i.uid) (is_some j.uid) in
     let n : Bool = same (is_some i.user) (is_some j.user) in
-    let a = and_parts (v && t && c && u) n e in
+    let x : Bool = same (is_some i.visible) (is_some j.visible) in
+    let g = and_parts (v && t && c && u && n) x e in
+    let a = and_parts (v && t && c && u) n g.0 in
     let b = and_parts (v && t && c) u a.0 in
     let d = and_parts (v && t) c b.0 in
     let f = and_parts v t d.0 in
@@ -64,6 +67,7 @@ present_is i j e =
       changeset = same_is _ _ d.1;
       uid = same_is _ _ b.1;
       user = same_is _ _ a.1;
+      visible = same_is _ _ g.1;
     }
 
 uniform : {A : Type 0} (get : InfoValue → Option A) → ((i j : InfoValue) → SamePresent i j → is_some (get i) ≡ is_some (get j)) → (n : NodeValue) (ms : List NodeValue) → Chain n ms
@@ -78,6 +82,7 @@ same_fields n ms chain = record {
   changeset = (is_some n.info.changeset, uniform (λ (i : InfoValue). i.changeset) (λ i j h. h.changeset) n ms chain (is_some n.info.changeset) refl);
   uid = (is_some n.info.uid, uniform (λ (i : InfoValue). i.uid) (λ i j h. h.uid) n ms chain (is_some n.info.uid) refl);
   user = (is_some n.info.user, uniform (λ (i : InfoValue). i.user) (λ i j h. h.user) n ms chain (is_some n.info.user) refl);
+  visible = (is_some n.info.visible, uniform (λ (i : InfoValue). i.visible) (λ i j h. h.visible) n ms chain (is_some n.info.visible) refl);
 }
 
 -- ---- one kind

@@ -186,3 +186,6 @@ packed_at ss all k ns here fit =
 -- parts that are written one after the other
 pub five_parts : (a b c d e : List ℕ) → a ++ b ++ c ++ d ++ e ≡ a ++ (b ++ (c ++ (d ++ (e ++ []))))
 five_parts a b c d e = simp (append_assoc, append-nil)
+
+pub six_parts : (a b c d e f : List ℕ) → a ++ b ++ c ++ d ++ e ++ f ≡ a ++ (b ++ (c ++ (d ++ (e ++ (f ++ [])))))
+six_parts a b c d e f = simp (append_assoc, append-nil)

@@ -8,7 +8,7 @@ use Rattle.osm_value.specs.declared.element.MemberKind.TheVariants as kinds
 use Rattle.osm_value.specs.declared.element.Element.{Element}
 use Rattle.osm_value.specs.declared.element.Element.TheVariants.{Node, Way, Relation}
 use Rattle.osm_value.specs.Value.{Text, InfoValue, MemberValue, NodeValue, WayValue, RelationValue}
-use Rattle.osm_block.specs.declared.fields.TheConstants.{BLOCK_DATE_GRANULARITY, BLOCK_GRANULARITY, BLOCK_PRIMITIVEGROUP, BLOCK_STRINGTABLE, DENSEINFO_CHANGESET, DENSEINFO_TIMESTAMP, DENSEINFO_UID, DENSEINFO_USER_SID, DENSEINFO_VERSION, DENSE_DENSEINFO, DENSE_ID, DENSE_KEYS_VALS, DENSE_LAT, DENSE_LON, ELEMENT_ID, ELEMENT_INFO, ELEMENT_KEYS, ELEMENT_VALS, GROUP_DENSE, GROUP_RELATIONS, GROUP_WAYS, INFO_CHANGESET, INFO_TIMESTAMP, INFO_UID, INFO_USER_SID, INFO_VERSION, RELATION_MEMIDS, RELATION_ROLES_SID, RELATION_TYPES, STRINGTABLE_S, WAY_REFS}
+use Rattle.osm_block.specs.declared.fields.TheConstants.{BLOCK_DATE_GRANULARITY, BLOCK_GRANULARITY, BLOCK_PRIMITIVEGROUP, BLOCK_STRINGTABLE, DENSEINFO_CHANGESET, DENSEINFO_TIMESTAMP, DENSEINFO_UID, DENSEINFO_USER_SID, DENSEINFO_VERSION, DENSEINFO_VISIBLE, DENSE_DENSEINFO, DENSE_ID, DENSE_KEYS_VALS, DENSE_LAT, DENSE_LON, ELEMENT_ID, ELEMENT_INFO, ELEMENT_KEYS, ELEMENT_VALS, GROUP_DENSE, GROUP_RELATIONS, GROUP_WAYS, INFO_CHANGESET, INFO_TIMESTAMP, INFO_UID, INFO_USER_SID, INFO_VERSION, INFO_VISIBLE, RELATION_MEMIDS, RELATION_ROLES_SID, RELATION_TYPES, STRINGTABLE_S, WAY_REFS}
 use Rattle.osm_block.specs.Differences.{differences}
 use Rattle.pbf_wire.specs.Write.{shortest, zigzag}
 
@@ -36,6 +36,10 @@ int_field k z = number_field k (cast_unsigned w64 z)
 
 abbrev pub delta_field : ℕ → List ℤ → List ℕ
 delta_field k vs = packed_field k (map zigzag (differences vs))
+
+-- a bool is 1 where it is true, else 0
+abbrev pub flag_number : Bool → ℕ
+flag_number b = if b then 1 else 0
 
 -- left out where it is absent
 abbrev pub optional : {A : Type 0} → (A → List ℕ) → Option A → List ℕ
@@ -104,6 +108,7 @@ times_of s t = option_map (λ z. int_div z (pos s.date_granularity)) t
 abbrev pub info_bytes : Scale → InfoValue → List ℕ
 info_bytes s i = optional (int_field INFO_VERSION) i.version ++ optional (int_field INFO_TIMESTAMP) (times_of s i.time) ++ optional (int_field INFO_CHANGESET) i.changeset
     ++ optional (int_field INFO_UID) i.uid ++ optional (λ t. number_field INFO_USER_SID (index_of s t)) i.user
+    ++ optional (λ b. number_field INFO_VISIBLE (flag_number b)) i.visible
 
 abbrev pub head_bytes : Scale → ℤ → List (Text × Text) → InfoValue → List ℕ
 head_bytes s id tags i = int_field ELEMENT_ID id ++ packed_field ELEMENT_KEYS (map (λ t. index_of s t.0) tags) ++ packed_field ELEMENT_VALS (map (λ t. index_of s t.1) tags)
@@ -132,6 +137,7 @@ dense_info_bytes s infos = packed_field DENSEINFO_VERSION (filter_map (λ i. opt
     ++ delta_field DENSEINFO_CHANGESET (filter_map (λ i. i.changeset) infos)
     ++ delta_field DENSEINFO_UID (filter_map (λ i. i.uid) infos)
     ++ delta_field DENSEINFO_USER_SID (filter_map (λ i. option_map (λ t. pos (index_of s t)) i.user) infos)
+    ++ packed_field DENSEINFO_VISIBLE (filter_map (λ i. option_map flag_number i.visible) infos)
 
 abbrev pub tag_indexes : Scale → List (Text × Text) → List ℕ
 tag_indexes s tags = flat_map (λ t. index_of s t.0 ∷ index_of s t.1 ∷ []) tags
@@ -160,6 +166,7 @@ same false b = not b
 abbrev pub same_present : InfoValue → InfoValue → Bool
 same_present i j = same (is_some i.version) (is_some j.version) && same (is_some i.time) (is_some j.time)
     && same (is_some i.changeset) (is_some j.changeset) && same (is_some i.uid) (is_some j.uid) && same (is_some i.user) (is_some j.user)
+    && same (is_some i.visible) (is_some j.visible)
 
 -- they may stand in one group: one kind, and for nodes the same fields of info
 abbrev pub fit_together : Element → Element → Bool

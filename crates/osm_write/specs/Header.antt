@@ -1,5 +1,5 @@
 -- The header block that is written (osmformat.proto, HeaderBlock; OpenStreetMap Wiki, "PBF Format", "Definition of the OSMHeader fileblock").
-use Rattle.std.specs.Prelude.{◌≡◌, ℕ, List, [], ◌∷◌, ◌++◌, codes, Bool, false, if◌then◌else◌, None, Some, refl}
+use Rattle.std.specs.Prelude.{◌≡◌, ℕ, List, [], ◌∷◌, ◌++◌, codes, Bool, true, false, if◌then◌else◌, None, Some, refl}
 use Rattle.std.specs.List.{flat_map}
 use Rattle.std.specs.Str.{is_utf8, chars}
 use lib.Utf8
@@ -53,3 +53,21 @@ plain_header_fault = refl
 pub plain_header_value : header_value (fields plain_header) ≡ written_value false
 unfolding number_within number_at value_at field_at next_at items_within items_from
 plain_header_value = refl
+
+-- The bytes of a header block with history, computed.
+abbrev pub historic_header : List ℕ
+historic_header = 0x22 ∷ 0x0E ∷ 0x4F ∷ 0x73 ∷ 0x6D ∷ 0x53 ∷ 0x63 ∷ 0x68 ∷ 0x65 ∷ 0x6D ∷ 0x61 ∷ 0x2D ∷ 0x56 ∷ 0x30 ∷ 0x2E ∷ 0x36 ∷ 0x22 ∷ 0x0A ∷ 0x44 ∷ 0x65 ∷ 0x6E ∷ 0x73 ∷ 0x65 ∷ 0x4E ∷ 0x6F ∷ 0x64 ∷ 0x65 ∷ 0x73
+    ∷ 0x22 ∷ 0x15 ∷ 0x48 ∷ 0x69 ∷ 0x73 ∷ 0x74 ∷ 0x6F ∷ 0x72 ∷ 0x69 ∷ 0x63 ∷ 0x61 ∷ 0x6C ∷ 0x49 ∷ 0x6E ∷ 0x66 ∷ 0x6F ∷ 0x72 ∷ 0x6D ∷ 0x61 ∷ 0x74 ∷ 0x69 ∷ 0x6F ∷ 0x6E
+    ∷ 0x82 ∷ 0x01 ∷ 0x06 ∷ 0x70 ∷ 0x62 ∷ 0x66 ∷ 0x72 ∷ 0x6F ∷ 0x77 ∷ []
+
+pub historic_header_is : header_block true ≡ historic_header
+unfolding header_block shortest_within shortest
+historic_header_is = refl
+
+pub historic_header_fault : header_fault historic_header ≡ None
+unfolding header_fault number_within number_at value_at field_at next_at items_within items_from is_utf8 chars lib.Utf8.encode
+historic_header_fault = refl
+
+pub historic_header_value : header_value (fields historic_header) ≡ written_value true
+unfolding number_within number_at value_at field_at next_at items_within items_from
+historic_header_value = refl

@@ -6,15 +6,15 @@ ghost use Rattle.std.specs.Int.{w64, cast_unsigned};
 ghost use Rattle.osm_value.specs.Value.{NodeValue, InfoValue};
 ghost use Rattle.osm_write.specs.Arrays.{AllWide};
 ghost use Rattle.osm_write.specs.Scale.{view};
-ghost use Rattle.osm_write.specs.Canon.{dense_bytes, dense_info_bytes, raw_coordinate, times_of, index_of, keys_vals_of, has_tags, tag_indexes, packed_field, delta_field, message_field};
+ghost use Rattle.osm_write.specs.Canon.{dense_bytes, dense_info_bytes, flag_number, raw_coordinate, times_of, index_of, keys_vals_of, has_tags, tag_indexes, packed_field, delta_field, message_field};
 
 use crate::append::{append_deltas, append_message, append_packed};
-use crate::info::{uid_of, version_number};
+use crate::info::{flag_number, uid_of, version_number};
 use crate::message::Scratch;
 use crate::scale::Scale;
 use osm_block::fields::{
     DENSE_DENSEINFO, DENSE_ID, DENSE_KEYS_VALS, DENSE_LAT, DENSE_LON, DENSEINFO_CHANGESET,
-    DENSEINFO_TIMESTAMP, DENSEINFO_UID, DENSEINFO_USER_SID, DENSEINFO_VERSION,
+    DENSEINFO_TIMESTAMP, DENSEINFO_UID, DENSEINFO_USER_SID, DENSEINFO_VERSION, DENSEINFO_VISIBLE,
 };
 use osm_value::Node;
 use std::alloc::{AllocError, Global};
@@ -118,6 +118,18 @@ fn collect_versions(nodes: &[&Node], numbers: &mut Vec<u64>) -> Result<(), Alloc
     for node in nodes {
         if let Some(version) = version_number(node.info()) {
             numbers.push(version)?;
+        }
+    }
+    Ok(())
+}
+
+fn collect_flags(nodes: &[&Node], numbers: &mut Vec<u64>) -> Result<(), AllocError>
+    ensures { OnOk result (numbers.new.items ≡ filter_map (λ (i : InfoValue). option_map flag_number i.visible) (map (λ n. n.now.info) nodes.now)) }
+{
+    numbers.clear();
+    for node in nodes {
+        if let Some(flag) = node.info().visible() {
+            numbers.push(flag_number(flag))?;
         }
     }
     Ok(())
@@ -230,6 +242,13 @@ fn append_users(
     append_deltas(DENSEINFO_USER_SID, &scratch.values, &mut scratch.array, out)
 }
 
+fn append_flags(nodes: &[&Node], scratch: &mut Scratch, out: &mut Vec<u8>) -> Result<(), AllocError>
+    ensures { OnOk result (out.new.items ≡ out.old.items ++ packed_field DENSEINFO_VISIBLE (filter_map (λ (i : InfoValue). option_map flag_number i.visible) (map (λ n. n.now.info) nodes.now))) }
+{
+    collect_flags(nodes, &mut scratch.numbers)?;
+    append_packed(DENSEINFO_VISIBLE, &scratch.numbers, &mut scratch.array, out)
+}
+
 fn append_ids(nodes: &[&Node], scratch: &mut Scratch, out: &mut Vec<u8>) -> Result<(), AllocError>
     ensures { OnOk result (out.new.items ≡ out.old.items ++ delta_field DENSE_ID (map (λ (n : NodeValue). n.id) (map (λ n. n.now) nodes.now))) }
 {
@@ -273,7 +292,8 @@ fn append_dense_info(
     append_times(scale, nodes, scratch, out)?;
     append_changesets(nodes, scratch, out)?;
     append_uids(nodes, scratch, out)?;
-    append_users(scale, nodes, scratch, out)
+    append_users(scale, nodes, scratch, out)?;
+    append_flags(nodes, scratch, out)
 }
 
 #[tactic(auto, using(crate::proofs::Joined::infos_of))]

@@ -19,7 +19,8 @@ fn same_present(left: &Info, right: &Info) -> bool
     let changeset = are_same(left.changeset().is_some(), right.changeset().is_some());
     let uid = are_same(left.uid().is_some(), right.uid().is_some());
     let user = are_same(left.user().is_some(), right.user().is_some());
-    version & time & changeset & uid & user
+    let visible = are_same(left.visible().is_some(), right.visible().is_some());
+    version & time & changeset & uid & user & visible
 }
 
 /// They may stand in one group.

@@ -3,6 +3,7 @@
 ghost use Rattle.std.specs.Prelude.{◌≡◌, option_map};
 ghost use Rattle.std.specs.Int.{w64, cast_unsigned};
 ghost use Rattle.osm_write.specs.Arrays.{IsWideOrNone};
+ghost use Rattle.osm_write.specs.Canon.{flag_number};
 
 use osm_value::Info;
 
@@ -28,4 +29,11 @@ pub(crate) fn version_number(info: &Info) -> Option<u64>
         Some(version) => Some(version.cast_unsigned()),
         None => None,
     }
+}
+
+/// A flag as it is written.
+pub(crate) fn flag_number(flag: bool) -> u64
+    ensures { result ≡ flag_number flag }
+{
+    u64::from(flag)
 }

@@ -4,16 +4,17 @@ ghost use Rattle.std.specs.Prelude.{◌≡◌, ◌++◌, OnOk, map, List, length
 ghost use Rattle.osm_value.specs.Value.{Text, MemberValue};
 ghost use Rattle.osm_write.specs.Arrays.{AllWide};
 ghost use Rattle.osm_write.specs.Scale.{view};
-ghost use Rattle.osm_write.specs.Canon.{index_of, info_bytes, head_bytes, way_bytes, tag_texts, packed_field, message_field, members_bytes, relation_bytes, number_of_kind};
+ghost use Rattle.osm_write.specs.Canon.{index_of, flag_number, number_field, optional, info_bytes, head_bytes, way_bytes, tag_texts, packed_field, message_field, members_bytes, relation_bytes, number_of_kind};
 
 use crate::append::{
     append_deltas, append_int, append_message, append_number, append_optional, append_packed,
 };
-use crate::info::{uid_of, version_of};
+use crate::info::{flag_number, uid_of, version_of};
 use crate::scale::Scale;
 use osm_block::fields::{
     ELEMENT_ID, ELEMENT_INFO, ELEMENT_KEYS, ELEMENT_VALS, INFO_CHANGESET, INFO_TIMESTAMP, INFO_UID,
-    INFO_USER_SID, INFO_VERSION, RELATION_MEMIDS, RELATION_ROLES_SID, RELATION_TYPES, WAY_REFS,
+    INFO_USER_SID, INFO_VERSION, INFO_VISIBLE, RELATION_MEMIDS, RELATION_ROLES_SID, RELATION_TYPES,
+    WAY_REFS,
 };
 use osm_value::{Info, Member, MemberKind, Relation, Way};
 use std::alloc::{AllocError, Global};
@@ -38,6 +39,24 @@ impl Scratch {
     }
 }
 
+fn append_user(scale: &Scale, info: &Info, out: &mut Vec<u8>) -> Result<(), AllocError>
+    ensures { OnOk result (out.new.items ≡ out.old.items ++ optional (λ t. number_field INFO_USER_SID (index_of (view scale.now) t)) info.now.user) }
+{
+    match info.user() {
+        Some(user) => append_number(INFO_USER_SID, scale.index_of(user), out),
+        None => Ok(()),
+    }
+}
+
+fn append_visible(info: &Info, out: &mut Vec<u8>) -> Result<(), AllocError>
+    ensures { OnOk result (out.new.items ≡ out.old.items ++ optional (λ b. number_field INFO_VISIBLE (flag_number b)) info.now.visible) }
+{
+    match info.visible() {
+        Some(flag) => append_number(INFO_VISIBLE, flag_number(flag), out),
+        None => Ok(()),
+    }
+}
+
 fn append_info(scale: &Scale, info: &Info, out: &mut Vec<u8>) -> Result<(), AllocError>
     ensures { OnOk result (out.new.items ≡ out.old.items ++ info_bytes (view scale.now) info.now) }
 {
@@ -45,10 +64,8 @@ fn append_info(scale: &Scale, info: &Info, out: &mut Vec<u8>) -> Result<(), Allo
     append_optional(INFO_TIMESTAMP, scale.raw_time(info.time()), out)?;
     append_optional(INFO_CHANGESET, info.changeset(), out)?;
     append_optional(INFO_UID, uid_of(info), out)?;
-    match info.user() {
-        Some(user) => append_number(INFO_USER_SID, scale.index_of(user), out),
-        None => Ok(()),
-    }
+    append_user(scale, info, out)?;
+    append_visible(info, out)
 }
 
 fn index_keys(

@@ -7,12 +7,14 @@ ghost use Rattle.pbfrow_words.specs.Words.{BeginsWithin};
 
 mod copying;
 mod database;
+mod merging;
 mod meter;
 mod metered;
 
 use clap::Error;
 use copying::copy;
 use database::{ask, fill};
+use merging::merge;
 use meter::Meter;
 use metered::{MeteredOutput, MeteredReader};
 use osm_value::Outlet;
@@ -108,6 +110,7 @@ fn run(rt: HostRuntime, words: Words) -> u8
             from,
         } => fill(&rt, file, database, from.unwrap_or(0)),
         Words::Migrate { old, new } => copy(&rt, old, new),
+        Words::Merge { into, from } => merge(&rt, into, from.as_slice()),
         Words::Ask { database, question } => ask(&rt, database, question),
     }
 }

@@ -162,6 +162,10 @@ impl<K: Reader> Reader for MeteredStore<'_, K> {
         self.store.find(alloc, kind, id)
     }
 
+    fn history(&mut self, alloc: Global) -> Result<bool, StoreFault> {
+        self.store.history(alloc)
+    }
+
     fn failures(&self) -> u64 {
         self.store.failures()
     }

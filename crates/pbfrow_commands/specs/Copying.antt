@@ -1,4 +1,4 @@
--- What the command `migrate` does: to the store that it copies, to the other, and to its output.
+-- What the commands `migrate` and `merge` do: to the stores that they copy, to the other, and to their output.
 use Rattle.std.specs.Prelude.{ℕ, ◌++◌, Bool, List, Result, Ok, Err, codes, if◌then◌else◌}
 use Rattle.std.specs.Fmt.{decimal}
 use Rattle.osm_store.specs.Held.{HeldMap}
@@ -20,6 +20,10 @@ pub record CopiesStore {A B : Type 0} (from : Ghosts A) (to : Ghosts B) (from_ol
 
 abbrev pub copied_line : CopyCounts → List ℕ
 copied_line counts = codes "copied " ++ decimal counts.copied ++ codes " held " ++ decimal counts.held ++ codes "\n"
+
+-- the last line of a merge, of all stores together
+abbrev pub total_line : CopyCounts → List ℕ
+total_line counts = codes "blobs " ++ copied_line counts
 
 -- the line of the counts, or that of the fault at which it stopped
 abbrev pub outcome_line : Result CopyCounts CopyStop → List ℕ

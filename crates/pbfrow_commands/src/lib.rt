@@ -9,6 +9,7 @@ pub mod import;
 pub mod input;
 pub mod laws;
 pub mod list;
+pub mod merge;
 pub mod migrate;
 pub mod progress;
 pub mod report;

@@ -14,7 +14,7 @@ use osm_value::{Sink, put, put_digits};
 use std::alloc::Global;
 
 /// Writes `copied COPIED held HELD`.
-fn put_copied<S: Sink>(out: &mut S, counts: CopyCounts)
+pub(crate) fn put_copied<S: Sink>(out: &mut S, counts: CopyCounts)
     ensures { Writes (S.written out.old) (S.has_failed out.old) (S.written out.new) (S.has_failed out.new) (copied_line counts) }
 {
     put(out, b"copied ");
@@ -25,7 +25,7 @@ fn put_copied<S: Sink>(out: &mut S, counts: CopyCounts)
 }
 
 /// Writes the line of what a copy came to, and answers the exit status.
-fn put_outcome<S: Sink>(out: &mut S, outcome: Result<CopyCounts, CopyStop>) -> u8
+pub(crate) fn put_outcome<S: Sink>(out: &mut S, outcome: Result<CopyCounts, CopyStop>) -> u8
     ensures line { Wrote (S.written out.old) (outcome_line outcome) (S.written out.new) (S.has_failed out.new) }
     ensures status { result ≡ copy_status outcome (S.has_failed out.new) }
 {

@@ -15,6 +15,7 @@ begins_within : (w : Words) (name : Text) (rows : List Row) → Says w name rows
 begins_within (command.Import file database from) name rows said = number_within from _ said.3
 begins_within (command.Read reading file) name rows said = tt
 begins_within (command.Migrate old new) name rows said = tt
+begins_within (command.Merge into from) name rows said = tt
 begins_within (command.Ask database question) name rows said = tt
 
 pub said_begins_within : (w : Words) (o : Option (Text × List Row)) → IsSomeAnd o (λ p. Says w p.0 p.1) → BeginsWithin w

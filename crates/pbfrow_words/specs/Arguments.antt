@@ -2,6 +2,7 @@
 use Rattle.std.specs.Prelude.{ℕ, ◌≡◌, ◌≤◌, Option, Some, None, Bool, true, false, codes, option_map}
 use Rattle.std.specs.Borrow.{Bor}
 use Rattle.std.specs.Str.Parse.{IsNumeral, digits_value, without_leading_plus}
+use Rattle.clap.specs.Lexer.{usize_max}
 use Rattle.clap.specs.Words.{Rule, Text, new_rule}
 use Rattle.clap.specs.declared.builder.value_parser.ValueParser.TheVariants.{Unsigned}
 
@@ -10,6 +11,10 @@ optional_argument id = new_rule id
 
 abbrev pub required_argument : Text → Rule
 required_argument id = record (new_rule id) { required = true }
+
+-- one text or more
+abbrev pub required_arguments : Text → Rule
+required_arguments id = record (required_argument id) { range = Some (record { start_inclusive = 1; end_inclusive = usize_max }) }
 
 -- an option with a number from 0 to 2^62
 abbrev pub offset_option : Text → Rule

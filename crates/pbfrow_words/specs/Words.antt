@@ -1,6 +1,6 @@
 -- The program with its commands, as clap's model of a command has it, and what a command says of the matches.
-use Rattle.std.specs.Prelude.{◌≡◌, ◌≤◌, List, Some, IfSome, true, codes}
-use Rattle.clap.specs.Words.{App, Row, Text, first_of, new_app, one_of}
+use Rattle.std.specs.Prelude.{◌≡◌, ◌≤◌, List, Some, IfSome, true, codes, map}
+use Rattle.clap.specs.Words.{App, Row, Text, all_of, first_of, new_app, one_of}
 use Rattle.pbfrow_words.specs.Arguments.{IsNumber, text_of}
 use Rattle.pbfrow_words.specs.Asking.{Asks, with_asking_commands}
 use Rattle.pbfrow_words.specs.Filling.{with_filling_commands}
@@ -25,6 +25,8 @@ Says (command.Import file database from) name rows = (name ≡ codes "import")
     × (Some database.now ≡ first_of (codes "DB") rows) × IsNumber from (one_of (codes "from") rows)
 Says (command.Migrate old new) name rows = (name ≡ codes "migrate")
     × (Some old.now ≡ first_of (codes "OLD") rows) × (Some new.now ≡ first_of (codes "NEW") rows)
+Says (command.Merge into from) name rows = (name ≡ codes "merge")
+    × (Some into.now ≡ first_of (codes "INTO") rows) × (Some (map (λ s. s.now) from.items) ≡ all_of (codes "FROM") rows)
 Says (command.Ask database question) name rows = (Some database.now ≡ first_of (codes "DB") rows) × Asks question name rows
 
 -- an import begins at 2^62 at most

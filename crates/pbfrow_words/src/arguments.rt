@@ -1,7 +1,7 @@
 //! Arguments that several commands have, and how they are read.
 
-ghost use Rattle.std.specs.Prelude.{◌≡◌, false, IfOk, IfSome, codes};
-ghost use Rattle.clap.specs.Words.{app_of, first_of, found_of, new_app, one_of, rows_of, rule_of, with_rule, with_subcommand};
+ghost use Rattle.std.specs.Prelude.{◌≡◌, false, IfOk, IfSome, codes, map, option_map};
+ghost use Rattle.clap.specs.Words.{all_of, app_of, first_of, found_of, new_app, one_of, rows_of, rule_of, with_rule, with_subcommand};
 ghost use Rattle.clap.specs.declared.builder.command.Command.TheViews.{out-Command as fields_of};
 ghost use Rattle.pbfrow_words.specs.Arguments as definitions;
 ghost use Rattle.pbfrow_words.specs.Arguments.{IsFlag, IsNumber, text_of};
@@ -23,6 +23,14 @@ pub(crate) fn required_argument<'a>(alloc: Global, id: &'a str, help: &'a str) -
     ensures local { result.global ≡ false }
 {
     Arg::new(alloc, id).help(help).required(true)
+}
+
+/// An argument that takes one text or more.
+pub(crate) fn required_arguments<'a>(alloc: Global, id: &'a str, help: &'a str) -> Arg<'a>
+    ensures rule { rule_of result ≡ definitions.required_arguments id.entry.now }
+    ensures local { result.global ≡ false }
+{
+    required_argument(alloc, id, help).num_args(1..)
 }
 
 pub(crate) fn offset_option<'a>(alloc: Global, id: &'a str, help: &'a str) -> Arg<'a>
@@ -84,6 +92,13 @@ pub(crate) fn text_of<'a>(matches: &ArgMatches<'a>, id: &str) -> Option<&'a str>
     ensures { text_of result ≡ first_of id.now (rows_of (found_of matches.now)) }
 {
     matches.get_str(id)
+}
+
+/// The texts of an argument that takes several, or none if it isn't given.
+pub(crate) fn texts_of<'m, 'a>(matches: &'m ArgMatches<'a>, id: &str) -> Option<&'m [&'a str]>
+    ensures { option_map (λ s. map (λ v. v.now) s.now) result ≡ all_of id.now (rows_of (found_of matches.now)) }
+{
+    matches.get_strs(id)
 }
 
 pub(crate) fn flag_of(matches: &ArgMatches, id: &str) -> bool

@@ -1,4 +1,4 @@
-//! The commands that fill a database: `import`, `migrate`.
+//! The commands that fill a database: `import`, `migrate`, `merge`.
 
 ghost use Rattle.std.specs.Prelude.{◌≡◌, false, IfOk};
 ghost use Rattle.clap.specs.Words.{app_of};
@@ -6,7 +6,8 @@ ghost use Rattle.clap.specs.declared.builder.command.Command.TheViews.{out-Comma
 ghost use Rattle.pbfrow_words.specs.Filling as definitions;
 
 use crate::arguments::{
-    database, new_command, offset_option, required_argument, with_argument, with_command,
+    database, new_command, offset_option, required_argument, required_arguments, with_argument,
+    with_command,
 };
 use clap::Command;
 use std::alloc::{AllocError, Global};
@@ -41,6 +42,20 @@ Exit status: 0 if NEW holds all blobs of OLD, else 1.
 Example:
   pbfrow migrate berlin-old.db berlin.db";
 
+const MERGE_HELP: &str =
+    "Each FROM is a database that holds blobs of the same file, such as one that
+another machine has filled with a part of it, or one that an earlier pbfrow
+made. The blobs of each are copied into INTO, which is made if it is missing or
+empty. What INTO holds already stays, and each FROM is only read. Prints
+'copied N held H' for each FROM: how many blobs were added to INTO, and how many
+it held already; and last 'blobs copied N held H'. The line of a fault ends the
+merge: run the same command again to complete it.
+
+Exit status: 0 if INTO holds all blobs of each FROM, else 1.
+
+Example:
+  pbfrow merge berlin.db part-1.db part-2.db";
+
 fn import_command<'a>(alloc: Global) -> Result<Command<'a>, AllocError>
     ensures shape { IfOk result (λ c. app_of c ≡ definitions.import_command) }
     ensures local { IfOk result (λ c. (fields_of c).has_globals ≡ false) }
@@ -74,6 +89,22 @@ fn migrate_command<'a>(alloc: Global) -> Result<Command<'a>, AllocError>
     with_argument(command, new)
 }
 
+fn merge_command<'a>(alloc: Global) -> Result<Command<'a>, AllocError>
+    ensures shape { IfOk result (λ c. app_of c ≡ definitions.merge_command) }
+    ensures local { IfOk result (λ c. (fields_of c).has_globals ≡ false) }
+{
+    let command = new_command(
+        alloc,
+        "merge",
+        "Copy the blobs of databases of one file into a database",
+        MERGE_HELP,
+    );
+    let into = required_argument(alloc, "INTO", "Database file");
+    let command = with_argument(command, into)?;
+    let from = required_arguments(alloc, "FROM", "Database files to copy from");
+    with_argument(command, from)
+}
+
 pub(crate) fn with_filling_commands<'a>(
     alloc: Global,
     command: Command<'a>,
@@ -84,6 +115,8 @@ pub(crate) fn with_filling_commands<'a>(
 {
     let import = import_command(alloc)?;
     let migrate = migrate_command(alloc)?;
+    let merge = merge_command(alloc)?;
     let command = with_command(command, import)?;
-    with_command(command, migrate)
+    let command = with_command(command, migrate)?;
+    with_command(command, merge)
 }

@@ -5,7 +5,7 @@ ghost use Rattle.clap.specs.Words.{app_of, found_of, rows_of, subcommand_of, sub
 ghost use Rattle.clap.specs.declared.builder.command.Command.TheViews.{out-Command as fields_of};
 ghost use Rattle.pbfrow_words.specs.Words.{BeginsWithin, Says, program};
 
-use crate::arguments::{number_of, text_of};
+use crate::arguments::{number_of, text_of, texts_of};
 use crate::asking::{Question, question_of, with_asking_commands};
 use crate::filling::with_filling_commands;
 use crate::reading::{Reading, reading_of, with_reading_commands};
@@ -17,8 +17,8 @@ use std::alloc::{AllocError, Global};
 const UNREADABLE: &str =
     "ELEMENT must be n, w or r followed by an id, such as w-2, and FORM must be lines or pbf";
 
-/// A command with its arguments. A `file`, a `database`, and those that are `old` and `new`, are paths.
-#[derive(Clone, Copy, Debug, PartialEq, Eq)]
+/// A command with its arguments. A `file`, a `database`, and those that are `old` and `new`, `into` and `from`, are paths.
+#[derive(Debug, Drop, PartialEq, Eq)]
 pub enum Words<'a> {
     Read {
         reading: Reading,
@@ -34,6 +34,11 @@ pub enum Words<'a> {
     Migrate {
         old: &'a str,
         new: &'a str,
+    },
+    Merge {
+        into: &'a str,
+        /// One at least, in the order that they were given.
+        from: Vec<&'a str>,
     },
     Ask {
         database: &'a str,
@@ -90,42 +95,66 @@ fn migrate_of<'a>(matches: &ArgMatches<'a>) -> Option<Words<'a>>
     })
 }
 
-/// The command of this name, if it fills a database, with its arguments.
-fn filling_of<'a>(name: &str, matches: &ArgMatches<'a>) -> Option<Words<'a>>
+/// The words of a merge. None are given only if clap let through words without them.
+fn merge_of<'a>(
+    alloc: Global,
+    matches: &ArgMatches<'a>,
+) -> Result<Option<Words<'a>>, AllocError>
+    ensures { IfOk result (λ o. IfSome o (λ w. Says w (codes "merge") (rows_of (found_of matches.now)))) }
+{
+    let (Some(into), Some(texts)) = (text_of(matches, "INTO"), texts_of(matches, "FROM")) else {
+        return Ok(None);
+    };
+    let mut from = Vec::new(alloc);
+    from.extend_from_slice(texts)?;
+    Ok(Some(Words::Merge { into, from }))
+}
+
+/// The command of this name, if it reads a file, asks a database, or fills one with what one other holds.
+fn simple_words_of<'a>(name: &str, matches: &ArgMatches<'a>) -> Option<Words<'a>>
     ensures { IfSome result (λ w. Says w name.now (rows_of (found_of matches.now))) }
 {
+    if let Some(reading) = reading_of(name) {
+        return Some(Words::Read {
+            reading,
+            file: text_of(matches, "FILE"),
+        });
+    }
     match name {
         "import" => import_of(matches),
         "migrate" => migrate_of(matches),
-        _ => None,
-    }
-}
-
-/// The command of this name with its arguments.
-fn words_of<'a>(name: &str, matches: &ArgMatches<'a>) -> Option<Words<'a>>
-    ensures { IfSome result (λ w. Says w name.now (rows_of (found_of matches.now))) }
-{
-    if let Some(words) = filling_of(name, matches) {
-        return Some(words);
-    }
-    match reading_of(name) {
-        Some(reading) => Some(Words::Read {
-            reading,
-            file: text_of(matches, "FILE"),
-        }),
-        None => Some(Words::Ask {
+        _ => Some(Words::Ask {
             question: question_of(name, matches)?,
             database: text_of(matches, "DB")?,
         }),
     }
 }
 
-/// The command that the matches name, with its arguments.
-fn entered_words<'a>(matches: &ArgMatches<'a>) -> Option<Words<'a>>
-    ensures { IfSome result (λ w. IsSomeAnd (subcommand_rows_of matches.now) (λ p. Says w p.0 p.1)) }
+/// The command of this name with its arguments.
+fn words_of<'a>(
+    alloc: Global,
+    name: &str,
+    matches: &ArgMatches<'a>,
+) -> Result<Option<Words<'a>>, AllocError>
+    ensures { IfOk result (λ o. IfSome o (λ w. Says w name.now (rows_of (found_of matches.now)))) }
 {
-    let (name, inner) = matches.subcommand()?;
-    words_of(name, inner)
+    match name {
+        "merge" => merge_of(alloc, matches),
+        _ => Ok(simple_words_of(name, matches)),
+    }
+}
+
+/// The command that the matches name, with its arguments.
+fn entered_words<'a>(
+    alloc: Global,
+    matches: &ArgMatches<'a>,
+) -> Result<Option<Words<'a>>, AllocError>
+    ensures { IfOk result (λ o. IfSome o (λ w. IsSomeAnd (subcommand_rows_of matches.now) (λ p. Says w p.0 p.1))) }
+{
+    match matches.subcommand() {
+        Some((name, inner)) => words_of(alloc, name, inner),
+        None => Ok(None),
+    }
 }
 
 /// The command that the words name, with its arguments. The first word is the program's name and is ignored. An error
@@ -137,7 +166,8 @@ pub fn read_words<'a>(alloc: Global, words: &'a [&'a str]) -> Result<Words<'a>, 
 {
     let mut command = program(alloc)?;
     let matches = command.try_get_matches_from_mut(words)?;
-    match entered_words(&matches) {
+    let entered = entered_words(alloc, &matches)?;
+    match entered {
         Some(words) => Ok(words),
         None => Err(command.error(ErrorKind::ValueValidation, UNREADABLE)?),
     }

@@ -4,6 +4,7 @@ mod copies;
 mod deliveries;
 mod faults;
 mod fixtures;
+mod history;
 mod memory;
 mod parts;
 mod refusals;

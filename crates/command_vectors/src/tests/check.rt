@@ -167,7 +167,7 @@ fn reports_a_write_error(rt: HostRuntime) {
 fn fault_in(line: &str) -> Option<u8> {
     let (number, _) = line.strip_prefix("fault ")?.split_once(' ')?;
     match number.parse().ok()? {
-        found @ (10..=14 | 16..=18 | 20..=23 | 30..=33 | 40..=52 | 54 | 61 | 62) => Some(found),
+        found @ (10..=14 | 16..=18 | 20..=23 | 30..=33 | 40..=52 | 61 | 62) => Some(found),
         _ => None,
     }
 }

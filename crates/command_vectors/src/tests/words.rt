@@ -28,6 +28,10 @@ static MIGRATE: [&str; 4] = ["pbfrow", "migrate", "A", "B"];
 
 static MIGRATE_ONE: [&str; 3] = ["pbfrow", "migrate", "A"];
 
+static MERGE: [&str; 5] = ["pbfrow", "merge", "A", "B", "C"];
+
+static MERGE_NOTHING: [&str; 3] = ["pbfrow", "merge", "A"];
+
 static FIND: [&str; 4] = ["pbfrow", "find", "D", "n2"];
 
 static FIND_NO_ELEMENT: [&str; 4] = ["pbfrow", "find", "D", "x2"];
@@ -97,6 +101,15 @@ fn words_of_migrate(rt: HostRuntime) {
         )
     );
     assert!(rt; read_words(rt.alloc(), MIGRATE_ONE.as_slice()).is_err());
+}
+
+#[test]
+fn words_of_merge(rt: HostRuntime) -> Result<(), Fail> {
+    let words = read_words(rt.alloc(), MERGE.as_slice()).ok();
+    let from = vec![in rt.alloc(); "B", "C"]?;
+    assert!(rt; words == Some(Words::Merge { into: "A", from }));
+    assert!(rt; read_words(rt.alloc(), MERGE_NOTHING.as_slice()).is_err());
+    Ok(())
 }
 
 #[test]

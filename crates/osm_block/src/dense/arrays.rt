@@ -5,6 +5,7 @@ ghost use Rattle.std.specs.List.{list_all};
 ghost use Rattle.pbf_wire.specs.Readings.{int32, is_there};
 ghost use Rattle.osm_value.specs.Ranges.{is_wide, is_version, is_uid, passes};
 ghost use Rattle.osm_block.specs.declared.fault.BlockFault.TheVariants as faults;
+ghost use Rattle.osm_block.specs.Message.{boolean};
 ghost use Rattle.osm_block.specs.Block.{time, version as version_of};
 ghost use Rattle.osm_block.specs.Differences.{front_sums, fits_i64};
 ghost use Rattle.osm_block.specs.Dense.{AreArraysOf, dense_message_of, arrays_in_range};
@@ -21,7 +22,8 @@ use osm_value::version_in_range;
 use pbf_wire::to_i32;
 use std::alloc::{AllocError, Global};
 
-/// The absolute numbers of dense nodes, in the units of the block: an array for each field, empty where it says nothing.
+/// The absolute numbers of dense nodes, in the units of the block, and their flags: an array for each field, empty where
+/// it says nothing.
 #[derive(Drop)]
 pub struct DenseArrays {
     pub ids: Vec<i64>,
@@ -32,6 +34,7 @@ pub struct DenseArrays {
     pub changesets: Vec<i64>,
     pub uids: Vec<i64>,
     pub users: Vec<i64>,
+    pub visible: Vec<bool>,
     pub keys_vals: Vec<i32>,
 }
 
@@ -62,7 +65,8 @@ pub(crate) fn lengths_fit(dense: &DenseFields) -> bool
     let changesets = fits_count(&dense.info.changesets, count);
     let uids = fits_count(&dense.info.uids, count);
     let users = fits_count(&dense.info.users, count);
-    lats & lons & (versions & timestamps & changesets & uids & users)
+    let visible = fits_count(&dense.info.visible, count);
+    lats & lons & (versions & timestamps & changesets & uids & users & visible)
 }
 
 /// The numbers of 32 bits that these are.
@@ -70,6 +74,13 @@ fn to_i32s(alloc: Global, numbers: &[u64]) -> Result<Vec<i32>, AllocError>
     ensures { IfOk result (λ v. v.items ≡ map int32 numbers.now) }
 {
     numbers.iter().map(|number| to_i32(*number)).collect(alloc)
+}
+
+/// The flags that these are: one is set where its number isn't 0.
+fn to_bools(alloc: Global, numbers: &[u64]) -> Result<Vec<bool>, AllocError>
+    ensures { IfOk result (λ v. v.items ≡ map boolean numbers.now) }
+{
+    numbers.iter().map(|number| *number != 0).collect(alloc)
 }
 
 /// The absolute numbers of the arrays.
@@ -84,6 +95,7 @@ pub(crate) fn arrays_of(alloc: Global, dense: &DenseFields) -> Result<DenseArray
     let uids = absolute(alloc, &dense.info.uids.numbers)?;
     let users = absolute(alloc, &dense.info.users.numbers)?;
     let versions = to_i32s(alloc, &dense.info.versions.numbers)?;
+    let visible = to_bools(alloc, &dense.info.visible.numbers)?;
     let keys_vals = to_i32s(alloc, &dense.keys_vals.numbers)?;
     Ok(DenseArrays {
         ids,
@@ -94,6 +106,7 @@ pub(crate) fn arrays_of(alloc: Global, dense: &DenseFields) -> Result<DenseArray
         changesets,
         uids,
         users,
+        visible,
         keys_vals,
     })
 }

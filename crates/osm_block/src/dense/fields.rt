@@ -2,10 +2,9 @@
 
 ghost use Rattle.std.specs.Prelude.{◌≡◌, ◌++◌, map, OnOk, ⊤, ◌%◌, ◌^◌};
 ghost use Rattle.std.specs.List.{flat_map};
-ghost use Rattle.std.specs.Option.{option_or, is_some};
-ghost use Rattle.pbf_wire.specs.Field.{content_of};
-ghost use Rattle.pbf_wire.specs.Readings.{fields, wire, packed, each, nums, fitting, is_there};
-ghost use Rattle.osm_block.specs.Message.{Dense, dense_message, some_visible, wires};
+ghost use Rattle.std.specs.Option.{option_or};
+ghost use Rattle.pbf_wire.specs.Readings.{fields, wire, packed, each, nums};
+ghost use Rattle.osm_block.specs.Message.{Dense, dense_message, wires};
 ghost use Rattle.osm_block.specs.FieldsLeft.{first_there};
 ghost use Rattle.osm_block.specs.Dense.{dense_message_of};
 ghost use Rattle.osm_block.specs.DenseFieldsRead.{ArrayRead, ArrayRead32, DenseInfoRead};
@@ -18,7 +17,7 @@ use crate::fields::{
 };
 use crate::number_array::NumberArray;
 use crate::payloads::{each_of_all, first_wire, low_32};
-use pbf_wire::{Fields, Value, WireFault};
+use pbf_wire::{Fields, WireFault};
 use std::alloc::{AllocError, Global};
 
 /// The arrays of a DenseInfo. They are read into again for each message.
@@ -29,7 +28,7 @@ pub struct DenseInfoFields {
     pub changesets: NumberArray,
     pub uids: NumberArray,
     pub users: NumberArray,
-    pub has_visible: bool,
+    pub visible: NumberArray,
 }
 
 /// The arrays of a message of dense nodes. They are read into again for each message.
@@ -50,16 +49,17 @@ impl DenseInfoFields {
             changesets: NumberArray::new(alloc),
             uids: NumberArray::new(alloc),
             users: NumberArray::new(alloc),
-            has_visible: false,
+            visible: NumberArray::new(alloc),
         }
     }
 
     /// The first fault of the arrays, by field number.
     fn fault(&self) -> Option<WireFault>
-        ensures { result ≡ option_or self.now.versions.fault (option_or self.now.timestamps.fault (option_or self.now.changesets.fault (option_or self.now.uids.fault self.now.users.fault))) }
+        ensures { result ≡ option_or self.now.versions.fault (option_or self.now.timestamps.fault (option_or self.now.changesets.fault (option_or self.now.uids.fault (option_or self.now.users.fault self.now.visible.fault)))) }
     {
-        let users = self.uids.fault.or(self.users.fault);
-        let times = self.timestamps.fault.or(self.changesets.fault.or(users));
+        let users = self.users.fault.or(self.visible.fault);
+        let changes = self.changesets.fault.or(self.uids.fault.or(users));
+        let times = self.timestamps.fault.or(changes);
         self.versions.fault.or(times)
     }
 }
@@ -120,44 +120,6 @@ fn read_array_32(payloads: &[&[u8]], number: u32, array: &mut NumberArray) -> Re
     Ok(())
 }
 
-/// Whether a field holds a flag of visibility: a number, or a packed array that isn't empty.
-fn is_flag(value: Value) -> bool
-    ensures { result ≡ is_some (some_visible (content_of value.entry)) }
-{
-    match value {
-        Value::Number(_) => true,
-        Value::Bytes(flags) => !flags.is_empty(),
-        Value::Fixed64(_) | Value::Fixed32(_) => false,
-    }
-}
-
-fn payload_has_visible(payload: &[u8]) -> bool
-    ensures { result ≡ is_there (fitting some_visible DENSEINFO_VISIBLE (fields payload.now)) }
-{
-    for field in Fields::new(payload) {
-        let Ok(field) = field else {
-            return false;
-        };
-        if field.number == DENSEINFO_VISIBLE {
-            if is_flag(field.value) {
-                return true;
-            }
-        }
-    }
-    false
-}
-
-fn has_visible(payloads: &[&[u8]]) -> bool
-    ensures { result ≡ is_there (fitting some_visible DENSEINFO_VISIBLE (flat_map fields (map (λ p. p.now) payloads.now))) }
-{
-    for payload in payloads {
-        if payload_has_visible(payload) {
-            return true;
-        }
-    }
-    false
-}
-
 /// Reads the arrays of the DenseInfo that the payloads are.
 fn read_infos(payloads: &[&[u8]], info: &mut DenseInfoFields) -> Result<(), AllocError>
     ensures { OnOk result (DenseInfoRead info.new (flat_map fields (map (λ p. p.now) payloads.now))) }
@@ -167,7 +129,7 @@ fn read_infos(payloads: &[&[u8]], info: &mut DenseInfoFields) -> Result<(), Allo
     read_array(payloads, DENSEINFO_CHANGESET, &mut info.changesets)?;
     read_array_32(payloads, DENSEINFO_UID, &mut info.uids)?;
     read_array_32(payloads, DENSEINFO_USER_SID, &mut info.users)?;
-    info.has_visible = has_visible(payloads);
+    read_array(payloads, DENSEINFO_VISIBLE, &mut info.visible)?;
     Ok(())
 }
 

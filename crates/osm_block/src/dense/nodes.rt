@@ -31,6 +31,12 @@ fn number_at(numbers: &[i64], index: usize) -> Option<i64>
     numbers.get(index).copied()
 }
 
+fn flag_at(flags: &[bool], index: usize) -> Option<bool>
+    ensures { result ≡ slice_get flags.now index }
+{
+    flags.get(index).copied()
+}
+
 fn time_of(date_granularity: i32, units: Option<i64>) -> Option<i64>
     requires { passes (λ t. is_wide (time date_granularity t)) units ≡ true }
     ensures { result ≡ option_map (time date_granularity) units }
@@ -72,7 +78,8 @@ fn info_at<'a>(scale: &Scale<'a>, arrays: &DenseArrays, index: usize) -> Info<'a
     let changeset = number_at(&arrays.changesets, index);
     let uid = uid_of(number_at(&arrays.uids, index));
     let user = user_of(&scale.table, number_at(&arrays.users, index));
-    Info::new(version, time, changeset, uid, user, None)
+    let visible = flag_at(&arrays.visible, index);
+    Info::new(version, time, changeset, uid, user, visible)
 }
 
 /// The coordinate at the index, in nanodegrees.

@@ -45,11 +45,11 @@ fn write_payload<S: Sink>(
 }
 
 /// Writes the header frame.
-fn write_header<S: Sink>(alloc: Global, out: &mut S) -> Result<(), ExportFault>
-    ensures wrote { WritesBlob (S.written out.old) header_frame (S.written out.new) result }
+fn write_header<S: Sink>(alloc: Global, history: bool, out: &mut S) -> Result<(), ExportFault>
+    ensures wrote { WritesBlob (S.written out.old) (header_frame history) (S.written out.new) result }
     ensures cause { WriteHasCause (S.has_failed out.new) result }
 {
-    match encode_header(alloc, false) {
+    match encode_header(alloc, history) {
         Ok(block) => write_payload(alloc, Kind::OsmHeader, &block, out),
         Err(_) => Err(ExportFault::Store(StoreFault::Memory)),
     }
@@ -89,7 +89,8 @@ impl<S: Sink> BlobStep<S> for Blocks {
 }
 
 /// Writes all held elements as a PBF file: a header frame, and then, for each held blob by offset, the frames of the
-/// blocks that `BlobCutter` gives for its elements. What is held stays.
+/// blocks that `BlobCutter` gives for its elements. Where an element has a flag of visibility, the header has the feature
+/// `HistoricalInformation`. What is held stays.
 ///
 /// It is refused as `export_lines` is, before any byte; unless `partial`, a map that doesn't tile the size gets no byte
 /// before `Store` either. `BlockTooLarge` comes where halving a blob's elements comes to one whose block alone has more
@@ -119,6 +120,7 @@ pub fn export_pbf<K: Reader, S: Sink>(
     ensures cause { ExportHasCause (K.failures keeper.old) (K.failures keeper.new) (S.has_failed out.new) result }
 {
     let extents = extents_to_export(alloc, keeper, size, partial)?;
-    write_header(alloc, out)?;
+    let history = keeper.history(alloc)?;
+    write_header(alloc, history, out)?;
     write_blobs(alloc, keeper, &extents, &Blocks, out)
 }

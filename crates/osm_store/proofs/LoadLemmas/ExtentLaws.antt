@@ -42,7 +42,7 @@ found_each [] up = tt
 found_each (e ∷ es) up =
     (found_first e es, all_both _ _ (λ (x : Entry). find nat_cmp x.0 (e ∷ es) ≡ Some x.1) (λ x low is. found_later e x es low is) es up.0 (found_each es up.1))
 
-held_each : (held : HeldMap) → AllByRecursion (λ (e : Entry). get held e.0 ≡ Some e.1) (entries held)
+pub held_each : (held : HeldMap) → AllByRecursion (λ (e : Entry). get held e.0 ≡ Some e.1) (entries held)
 held_each held = all_weaker _ _ (λ e is. get-entries held e.0 ∙ is) (entries held) (found_each (entries held) (entries_rise held))
 
 -- ---- the extents as a list

@@ -1,5 +1,6 @@
 //! The elements of the held blobs, in the layout of bodies.
 
+mod flags;
 mod rows;
 
 ghost use Rattle.std.specs.Prelude.{◌≡◌, Some, filter, IsTrue, IfOk, MatchResult};
@@ -23,6 +24,7 @@ use crate::load::values::are_numbered;
 use crate::schema::Layout;
 use crate::schema::codes::element_code;
 use crate::schema::sql::{FIND_BODIES, SELECT_BODIES};
+pub(crate) use flags::any_flag_in_bodies;
 use osm_value::MemberKind;
 use pbf_frame::MAX_OFFSET;
 pub(crate) use rows::BodyRows;

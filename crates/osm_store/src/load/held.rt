@@ -6,6 +6,7 @@ ghost use Rattle.sqlite.specs.State.{HasCleanDisk};
 ghost use Rattle.sqlite.specs.Held.{state};
 ghost use Rattle.osm_store.specs.Load.Asking.{JustAsks};
 ghost use Rattle.osm_store.specs.Load.Finding.{AreMatches};
+ghost use Rattle.osm_store.specs.Flags.{has_flags};
 ghost use Rattle.osm_store.specs.Held.{Blob, HeldMap};
 ghost use Rattle.osm_store.specs.LayoutHolding.{Holds};
 ghost use Rattle.osm_store.specs.Keeping.{IsForeign};
@@ -13,10 +14,10 @@ ghost use Rattle.osm_store.specs.Load.Loading.{HasRowsOf, IsInPlace};
 ghost use Rattle.osm_store.specs.Rows.{is_of, placed_in};
 
 use crate::fault::StoreFault;
-use crate::load::bodies::{find_bodies, load_bodies};
+use crate::load::bodies::{any_flag_in_bodies, find_bodies, load_bodies};
 use crate::load::found::Found;
 use crate::load::loaded::Loaded;
-use crate::load::tables::{find_tables, load_tables};
+use crate::load::tables::{any_flag_in_tables, find_tables, load_tables};
 use crate::schema::Layout;
 use osm_value::MemberKind;
 use sqlite::{Alter, Connection};
@@ -55,5 +56,21 @@ pub(crate) fn find_held<S: Alter>(
     match layout {
         Layout::Bodies => find_bodies(alloc, connection, kind, id),
         Layout::Tables => find_tables(alloc, connection, kind, id),
+    }
+}
+
+/// Whether any held element has a flag.
+pub(crate) fn any_flag_held<S: Alter>(
+    alloc: Global,
+    connection: &mut Connection<S>,
+    layout: Layout,
+) -> Result<bool, StoreFault>
+    ensures held { HasCleanDisk (state S.Store connection.new) → (held : HeldMap) → Holds layout (state S.Store connection.old) held
+        → MatchResult result (λ found. (found ≡ has_flags held) × IsTrue (state S.Store connection.new).is_open) (λ fault. ¬ (IsForeign fault)) }
+    ensures asks { JustAsks (state S.Store connection.old) (state S.Store connection.new) }
+{
+    match layout {
+        Layout::Bodies => any_flag_in_bodies(alloc, connection),
+        Layout::Tables => any_flag_in_tables(connection),
     }
 }

@@ -1,6 +1,7 @@
 //! The elements of the held blobs, in the layout of tables.
 
 mod elements;
+mod flags;
 mod parts;
 mod rows;
 mod search;
@@ -23,6 +24,7 @@ use crate::load::loaded::Loaded;
 use crate::load::rows::ElementRows;
 use crate::load::values::are_numbered;
 use crate::schema::Layout;
+pub(crate) use flags::any_flag_in_tables;
 use osm_value::MemberKind;
 use pbf_frame::MAX_OFFSET;
 pub(crate) use rows::TableRows;

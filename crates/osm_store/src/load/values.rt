@@ -1,12 +1,13 @@
 //! Numbers, texts and bytes in the columns of rows. A column that holds none is that of a row of no element.
 
-ghost use Rattle.std.specs.Prelude.{◌≡◌, ◌↔◌, ◌<◌, ℕ, ℤ, pos, List, length, Some, Option, IsTrue, IsSomeAnd, IfSome};
+ghost use Rattle.std.specs.Prelude.{◌≡◌, ◌↔◌, ◌<◌, ℕ, ℤ, pos, Bool, List, length, Some, Option, IsTrue, IsSomeAnd, IfSome};
 ghost use Rattle.std.specs.Option.{option_copied};
 ghost use Rattle.sqlite.specs.declared.types.Value.TheVariants.{Null, Int, Text as Words, Blob as Octets};
 ghost use Rattle.sqlite.specs.Order.{column};
 ghost use Rattle.sqlite.specs.Values.{or_null};
 ghost use Rattle.osm_store.specs.Load.Numbering.{AreNumbered};
 ghost use Rattle.osm_store.specs.Rows.{element_code};
+ghost use Rattle.osm_store.specs.TableRows.{flag};
 ghost use Rattle.osm_value.specs.Ranges.{IsText, IsTextOrNone, IsWide, passes, is_wide, is_version, is_uid};
 
 use osm_value::{MemberKind, text_in_range, uid_in_range, version_in_range, wide_in_range};
@@ -133,6 +134,19 @@ pub(crate) fn free_text_at(row: &Row, at: usize) -> Option<Option<&str>>
             Some(text) => Some(Some(text)),
             None => None,
         },
+        _ => None,
+    }
+}
+
+/// A flag in a column that may be NULL; the outer None is of a row of no element, as that of any number but 0 and 1.
+pub(crate) fn free_flag_at(row: &Row, at: usize) -> Option<Option<bool>>
+    ensures exact { (visible : Option Bool) → at < length row.now → column row.now at ≡ or_null flag visible → result ≡ Some visible }
+    ensures is { IfSome result (λ visible. column row.now at ≡ or_null flag visible) }
+{
+    match row.get_ref(at) {
+        Ok(ValueRef::Null) => Some(None),
+        Ok(ValueRef::Int(0)) => Some(Some(false)),
+        Ok(ValueRef::Int(1)) => Some(Some(true)),
         _ => None,
     }
 }

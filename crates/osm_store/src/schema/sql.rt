@@ -124,6 +124,10 @@ pub(crate) const SELECT_LINKS: &str =
 pub(crate) const FIND_ELEMENTS: &str =
     "SELECT off, pos, kind, id, lat, lon, version, time, changeset, uid, user, visible FROM element WHERE kind = ?1 AND id = ?2 ORDER BY off, pos";
 
+/// The flag of one element that has one: what is absent is NULL, which isn't at least 0. Where no element has one, this
+/// goes through the whole table, once: with an order it would sort all flags of a file with history first.
+pub(crate) const SELECT_FLAG: &str = "SELECT visible FROM element WHERE visible >= 0 LIMIT 1";
+
 /// The tags of one element, in order.
 pub(crate) const SELECT_ITS_TAGS: &str =
     "SELECT off, pos, k, key, val FROM tag WHERE off = ?1 AND pos = ?2 ORDER BY off, pos, k";

@@ -116,6 +116,49 @@ fn numbers_of_nodes(rt: HostRuntime) -> Result<(), Fail> {
     )
 }
 
+#[test]
+fn flags_of_visibility(rt: HostRuntime) -> Result<(), Fail> {
+    let nodes = "n 1 0 0 [x=1] {}\nn 2 0 0 [x=0] {}\n";
+    let visible = "w 7 () [x=1] {}\n";
+    let deleted = "w 7 () [x=0] {}\n";
+    let mut unpacked = DELETED_DENSE_NODE_BLOCK;
+    unpacked[14] = 0x30;
+    unpacked[15] = 0x01;
+    unpacked[16] = 0x30;
+    let mut above_one = DELETED_WAY_BLOCK;
+    above_one[13] = 2;
+    expect_lines(
+        &rt,
+        &[
+            ("a plain node", &VISIBLE_NODE_BLOCK, "n 1 100 100 [x=1] {}\n"),
+            ("a dense node", &VISIBLE_DENSE_NODE_BLOCK, "n 1 100 100 [x=1] {}\n"),
+            ("dense nodes", &DELETED_DENSE_NODE_BLOCK, nodes),
+            ("flags that aren't packed", &unpacked, nodes),
+            ("a way", &DELETED_WAY_BLOCK, deleted),
+            ("a flag above 1", &above_one, visible),
+            // 01, then 00
+            (
+                "two flags",
+                &[
+                    0x0A, 0x02, 0x0A, 0x00, 0x12, 0x0A, 0x1A, 0x08, 0x08, 0x07, 0x22, 0x04, 0x30,
+                    0x01, 0x30, 0x00,
+                ],
+                deleted,
+            ),
+            // a text in place of a number
+            (
+                "another wire type",
+                &[
+                    0x0A, 0x02, 0x0A, 0x00, 0x12, 0x09, 0x1A, 0x07, 0x08, 0x07, 0x22, 0x03, 0x32,
+                    0x01, 0x01,
+                ],
+                "w 7 () [] {}\n",
+            ),
+            ("a relation", &VISIBLE_RELATION_BLOCK, "r 9 () [x=1] {}\n"),
+        ],
+    )
+}
+
 /// Each block is refused with this fault, which has this number.
 fn expect_faults(rt: &(impl Abort + Alloc<A = Global>), rows: &[(&str, &[u8], BlockFault, u8)]) {
     for (name, block, fault, number) in rows {
@@ -208,12 +251,6 @@ fn faults_of_messages(rt: HostRuntime) {
                 BlockFault::BadMemberType,
                 52,
             ),
-            (
-                "a flag of visibility",
-                &VISIBLE_NODE_BLOCK,
-                BlockFault::VisibleNotKnown,
-                54,
-            ),
         ],
     );
 }
@@ -258,10 +295,10 @@ fn faults_of_dense_nodes(rt: HostRuntime) {
                 51,
             ),
             (
-                "a flag of visibility",
-                &VISIBLE_DENSE_NODES_BLOCK,
-                BlockFault::VisibleNotKnown,
-                54,
+                "one flag of two nodes",
+                &ONE_FLAG_OF_TWO_BLOCK,
+                BlockFault::LengthsDiffer,
+                47,
             ),
         ],
     );

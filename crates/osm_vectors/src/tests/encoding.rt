@@ -50,6 +50,9 @@ fn canonical_blocks_stay(rt: HostRuntime) -> Result<(), Fail> {
                 &WAY_WITH_INFO_BLOCK,
             ),
             ("a relation", &RELATION_BLOCK, &RELATION_BLOCK),
+            ("a deleted node", &DELETED_DENSE_NODE_BLOCK, &DELETED_DENSE_NODE_BLOCK),
+            ("a deleted way", &DELETED_WAY_BLOCK, &DELETED_WAY_BLOCK),
+            ("a visible relation", &VISIBLE_RELATION_BLOCK, &VISIBLE_RELATION_BLOCK),
         ],
     )
 }
@@ -75,6 +78,8 @@ const FINE_PLACE_BLOCK: [u8; 28] = [
 /// Groups are joined, arrays packed, and texts that no element uses left out.
 #[test]
 fn other_blocks_become_canonical(rt: HostRuntime) -> Result<(), Fail> {
+    let mut flag_above_one = VISIBLE_RELATION_BLOCK;
+    flag_above_one[13] = 0x7F;
     expect_canonical(
         &rt,
         &[
@@ -92,6 +97,8 @@ fn other_blocks_become_canonical(rt: HostRuntime) -> Result<(), Fail> {
                 &GREATEST_PLACE_BLOCK,
                 &FINE_PLACE_BLOCK,
             ),
+            ("a visible node", &VISIBLE_NODE_BLOCK, &VISIBLE_DENSE_NODE_BLOCK),
+            ("a flag above 1", &flag_above_one, &VISIBLE_RELATION_BLOCK),
         ],
     )
 }
@@ -124,5 +131,16 @@ fn a_written_file(rt: HostRuntime) -> Result<(), Fail> {
     write_frame(Kind::OsmData, &block, &mut file)?;
     assert!(rt; file.len() == 93);
     assert!(rt; &file[56..] == TWO_NODES_FRAME.as_slice());
+    Ok(())
+}
+
+/// The header's frame of a file with history has 79 bytes.
+#[test]
+fn a_header_with_history(rt: HostRuntime) -> Result<(), Fail> {
+    let header = encode_header(rt.alloc(), true)?;
+    assert!(rt; header.len() == 60);
+    let mut frame = Vec::new(rt.alloc());
+    write_frame(Kind::OsmHeader, &header, &mut frame)?;
+    assert!(rt; frame.as_slice() == HISTORIC_HEADER_FRAME.as_slice());
     Ok(())
 }

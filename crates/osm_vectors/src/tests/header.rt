@@ -19,12 +19,13 @@ fn no_byte_has_nothing(rt: HostRuntime) {
 }
 
 #[test]
-fn two_features(rt: HostRuntime) {
-    let bytes = b"\x22\x0EOsmSchema-V0.6\x22\x0ADenseNodes";
-    let header = read_header_block(bytes).expect(&rt, "both features are known");
+fn known_features(rt: HostRuntime) {
+    let bytes = b"\x22\x0EOsmSchema-V0.6\x22\x0ADenseNodes\x22\x15HistoricalInformation";
+    let header = read_header_block(bytes).expect(&rt, "all three are known");
     let mut required = header.required();
     assert!(rt; required.next() == Some("OsmSchema-V0.6"));
     assert!(rt; required.next() == Some("DenseNodes"));
+    assert!(rt; required.next() == Some("HistoricalInformation"));
     assert!(rt; required.next().is_none());
     assert!(rt; header.optional().next().is_none());
 }
@@ -99,9 +100,9 @@ fn faults_of_headers(rt: HostRuntime) {
             HeaderFault::UnknownFeature(1),
         ),
         (
-            "historical information",
-            b"\x22\x0EOsmSchema-V0.6\x22\x0ADenseNodes\x22\x15HistoricalInformation",
-            HeaderFault::UnknownFeature(2),
+            "an unknown feature behind all that are known",
+            b"\x22\x0EOsmSchema-V0.6\x22\x0ADenseNodes\x22\x15HistoricalInformation\x22\x0FLocationsOnWays",
+            HeaderFault::UnknownFeature(3),
         ),
     ];
     for (name, bytes, fault) in rows {

@@ -76,6 +76,19 @@ fn lines_of_ways(rt: HostRuntime) -> Result<(), Fail> {
     Ok(())
 }
 
+/// The flag of visibility stands behind the user.
+#[test]
+fn lines_of_flags(rt: HostRuntime) -> Result<(), Fail> {
+    let alloc = rt.alloc();
+    let visible = Info::new(None, None, None, None, None, Some(true));
+    let node = Node::new(1, 100, 100, vec![in alloc]?, visible);
+    assert!(rt; has_line(&rt, &Element::Node(node), "n 1 100 100 [x=1] {}\n")?);
+    let deleted = Info::new(Some(2), None, None, None, Some("u"), Some(false));
+    let way = Way::new(7, vec![in alloc]?, vec![in alloc]?, deleted);
+    assert!(rt; has_line(&rt, &Element::Way(way), "w 7 () [v=2,u=u,x=0] {}\n")?);
+    Ok(())
+}
+
 #[test]
 fn line_of_a_relation(rt: HostRuntime) -> Result<(), Fail> {
     let first = Member::new(MemberKind::Node, 1, "outer");

@@ -38,6 +38,15 @@ fn parts_of_a_node(rt: HostRuntime) -> Result<(), Fail> {
     Ok(())
 }
 
+/// A flag is told as it was given, or it is absent.
+#[test]
+fn flags_of_visibility(rt: HostRuntime) {
+    for flag in [None, Some(false), Some(true)] {
+        let info = Info::new(Some(2), None, None, None, Some("u"), flag);
+        assert!(rt; info.visible() == flag && info.version() == Some(2) && info.user() == Some("u"));
+    }
+}
+
 #[test]
 fn parts_of_a_way(rt: HostRuntime) -> Result<(), Fail> {
     let info = Info::new(None, None, None, None, Some("me"), None);

@@ -64,6 +64,31 @@ fn nodes_with_different_info(rt: HostRuntime) -> Result<(), Fail> {
     Ok(())
 }
 
+/// Nothing but the flag of visibility.
+fn flagged(flag: bool) -> Info<'static> {
+    Info::new(None, None, None, None, None, Some(flag))
+}
+
+/// Nodes of which one has a flag of visibility stand in groups of their own; nodes with different flags do not.
+#[test]
+fn nodes_with_flags(rt: HostRuntime) -> Result<(), Fail> {
+    let alloc = rt.alloc();
+    let one = Node::new(1, 0, 0, vec![in alloc]?, flagged(true));
+    let two = Node::new(2, 0, 0, vec![in alloc]?, flagged(false));
+    let block = block_of(alloc, one, two)?;
+    assert!(rt; block.as_slice() == DELETED_DENSE_NODE_BLOCK.as_slice());
+    let one = Node::new(1, 0, 0, vec![in alloc]?, flagged(true));
+    let two = Node::new(2, 0, 0, vec![in alloc]?, nothing_known());
+    let block = block_of(alloc, one, two)?;
+    let groups = [
+        0x0A, 0x02, 0x0A, 0x00, 0x12, 0x10, 0x12, 0x0E, 0x0A, 0x01, 0x02, 0x2A, 0x03, 0x32, 0x01,
+        0x01, 0x42, 0x01, 0x00, 0x4A, 0x01, 0x00, 0x12, 0x0B, 0x12, 0x09, 0x0A, 0x01, 0x04, 0x42,
+        0x01, 0x00, 0x4A, 0x01, 0x00,
+    ];
+    assert!(rt; block.as_slice() == groups.as_slice());
+    Ok(())
+}
+
 /// A relation whose second member has an empty role, which stands in the table.
 #[test]
 fn relation_with_an_empty_role(rt: HostRuntime) -> Result<(), Fail> {
@@ -96,6 +121,10 @@ fn way_with_all_of_info(rt: HostRuntime) -> Result<(), Fail> {
 fn header(rt: HostRuntime) -> Result<(), Fail> {
     let block = encode_header(rt.alloc(), false)?;
     let expected = b"\x22\x0EOsmSchema-V0.6\x22\x0ADenseNodes\x82\x01\x06pbfrow";
+    assert!(rt; block.as_slice() == expected.as_slice());
+    let block = encode_header(rt.alloc(), true)?;
+    let expected =
+        b"\x22\x0EOsmSchema-V0.6\x22\x0ADenseNodes\x22\x15HistoricalInformation\x82\x01\x06pbfrow";
     assert!(rt; block.as_slice() == expected.as_slice());
     Ok(())
 }

@@ -91,6 +91,8 @@ enum Question {
     Load,
     /// The relations 9.
     Find,
+    /// Whether an element has a flag.
+    History,
     /// An export as lines.
     Lines,
     /// An export as PBF.
@@ -112,9 +114,19 @@ const QUESTIONS: &[(Question, &[&[u8]])] = &[
             b"169 1 r 9 (n1@outer,w-2@) [] {name=c}\n",
         ],
     ),
+    (Question::History, &[b"false\n"]),
     (Question::Lines, &[LINES, TAGGED_LINES, TAGGED_LINES]),
     (Question::Pbf, &[WRITTEN_HEADER, NODES, TAGGED, TAGGED]),
 ];
+
+/// Whether an element has a flag, as a line.
+fn history_line<K: Reader>(alloc: Global, store: &mut K) -> Result<Vec<u8>, StoreFault> {
+    let found = store.history(alloc)?;
+    let line = format!(in alloc; "{found}\n")?;
+    let mut text = Vec::new(alloc);
+    text.extend_from_slice(line.as_bytes())?;
+    Ok(text)
+}
 
 /// What is told to a question other than for an export. Two offsets stand in a line.
 fn told<K: Reader>(
@@ -126,6 +138,7 @@ fn told<K: Reader>(
     match question {
         Question::Load => return loaded_lines(alloc, store, 84),
         Question::Find => return found_lines(alloc, store, MemberKind::Relation, 9),
+        Question::History => return history_line(alloc, store),
         Question::Gaps => ranges = gaps(alloc, store, 300)?,
         _ => {
             for extent in &store.extents(alloc)? {

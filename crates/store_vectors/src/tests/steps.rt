@@ -46,6 +46,8 @@ pub(crate) enum Step {
     Loads(u64, &'static [u8]),
     /// The lines of the elements of a kind and id, each behind the offset of its blob and its position there.
     Finds(MemberKind, i64, &'static [u8]),
+    /// Whether any held element has a flag of visibility.
+    History(bool),
     /// An export of the file, of this size where one is given, as lines: its pieces.
     Lines(Option<u64>, &'static [&'static [u8]]),
     /// An export as lines of whatever is held.
@@ -123,6 +125,7 @@ impl Step {
             Step::Gaps(size, ranges) => Ok(gaps(alloc, store, size)?.as_slice() == ranges),
             Step::Loads(off, lines) => loads(alloc, store, off, lines),
             Step::Finds(kind, id, lines) => finds(alloc, store, kind, id, lines),
+            Step::History(answer) => Ok(store.history(alloc)? == answer),
             _ => self.is_exported(alloc, store),
         }
     }

@@ -115,15 +115,18 @@ const ROWS: &[CountedRows] = &[
     ("SELECT count(*) FROM link", 6),
 ];
 
-/// The tables of the four blobs.
-fn filled<R: Abort + Alloc<A = Global>>(rt: &R) -> Result<Connection<MemStore>, Fail> {
-    let store: TablesInMemory = followed(rt, "tables", FOUR_BLOBS)?;
+/// The tables once these steps were taken.
+pub(crate) fn filled<R: Abort + Alloc<A = Global>>(
+    rt: &R,
+    steps: &[Step],
+) -> Result<Connection<MemStore>, Fail> {
+    let store: TablesInMemory = followed(rt, "tables", steps)?;
     Ok(store.into_connection())
 }
 
 #[test]
 fn rows_of_four_blobs(rt: HostRuntime) -> Result<(), Fail> {
-    let mut tables = filled(&rt)?;
+    let mut tables = filled(&rt, FOUR_BLOBS)?;
     expect_rows(&rt, &mut tables, ROWS);
     expect_rows(&rt, &mut tables, NODES_AS_ROWS);
     Ok(())
@@ -131,7 +134,7 @@ fn rows_of_four_blobs(rt: HostRuntime) -> Result<(), Fail> {
 
 #[test]
 fn another_layout_is_refused(rt: HostRuntime) -> Result<(), Fail> {
-    let tables = filled(&rt)?;
+    let tables = filled(&rt, FOUR_BLOBS)?;
     assert!(rt; tables.is_autocommit());
     match BodyStore::adopt(tables) {
         Ok(_) => return Err("a store of bodies".into()),

@@ -34,7 +34,7 @@ returns-then-not-arrays_in_range-clause-phase c =
     let m = dense_message_of c.args.dense.now in
     let cols = c.in_ok-arrays.arrays in
     let are = c.in_ok-arrays.ensures.1 in
-    dense_fault_is b m false true None false _ _ (sym c.if-dense.false) (sym c.if-not-lengths_fit.false ∙ c.lengths_fit.ensures) (sym c.in_ok-arrays.ensures.0) (sym c.if-not-arrays_in_range.true ∙ c.arrays_in_range.ensures ∙ ranges_are b cols m are) refl refl
+    dense_fault_is b m true None false _ _ (sym c.if-not-lengths_fit.false ∙ c.lengths_fit.ensures) (sym c.in_ok-arrays.ensures.0) (sym c.if-not-arrays_in_range.true ∙ c.arrays_in_range.ensures ∙ ranges_are b cols m are) refl refl
 
 pub returns-in_err-check_tags-clause-phase : goal.returns-in_err-check_tags-clause-phase
 returns-in_err-check_tags-clause-phase c =
@@ -43,7 +43,7 @@ returns-in_err-check_tags-clause-phase c =
     let cols = c.in_ok-arrays.arrays in
     let are = c.in_ok-arrays.ensures.1 in
     let stands : first (dense_phases b m) ≡ Some c.in_err-check_tags.field-0.0 =
-    dense_fault_is b m false true None true (Some c.in_err-check_tags.field-0.0) _ (sym c.if-dense.false) (sym c.if-not-lengths_fit.false ∙ c.lengths_fit.ensures) (sym c.in_ok-arrays.ensures.0) (sym c.if-not-arrays_in_range.false ∙ c.arrays_in_range.ensures ∙ ranges_are b cols m are)
+    dense_fault_is b m true None true (Some c.in_err-check_tags.field-0.0) _ (sym c.if-not-lengths_fit.false ∙ c.lengths_fit.ensures) (sym c.in_ok-arrays.ensures.0) (sym c.if-not-arrays_in_range.false ∙ c.arrays_in_range.ensures ∙ ranges_are b cols m are)
     (sym c.in_err-check_tags.ensures ∙ tested (goal.at.returns-in_err-check_tags-clause-phase c).After-check_tags ∙ tags_are b cols m are) refl in
     search rules
 
@@ -54,7 +54,7 @@ returns-then-not-all_users-clause-phase c =
     let cols = c.in_ok-arrays.arrays in
     let are = c.in_ok-arrays.ensures.1 in
     let known = goal.at.returns-then-not-all_users-clause-phase c in
-    dense_fault_is b m false true None true None false (sym c.if-dense.false) (sym c.if-not-lengths_fit.false ∙ c.lengths_fit.ensures) (sym c.in_ok-arrays.ensures.0) (sym c.if-not-arrays_in_range.false ∙ c.arrays_in_range.ensures ∙ ranges_are b cols m are)
+    dense_fault_is b m true None true None false (sym c.if-not-lengths_fit.false ∙ c.lengths_fit.ensures) (sym c.in_ok-arrays.ensures.0) (sym c.if-not-arrays_in_range.false ∙ c.arrays_in_range.ensures ∙ ranges_are b cols m are)
     (sym c.in_ok-check_tags.ensures ∙ tested known.After-check_tags ∙ tags_are b cols m are) (sym c.if-not-all_users.true ∙ users known.After-all_users ∙ users_are b cols m are)
 
 pub nodes_of-requires : goal.nodes_of-requires
@@ -77,7 +77,7 @@ returns-clause-phase c =
     let cols = c.in_ok-arrays.arrays in
     let are = c.in_ok-arrays.ensures.1 in
     let known = goal.at.returns-clause-phase c in (
-      dense_fault_is b m false true None true None true (sym c.if-dense.false) (sym c.if-not-lengths_fit.false ∙ c.lengths_fit.ensures) (sym c.in_ok-arrays.ensures.0) (sym c.if-not-arrays_in_range.false ∙ c.arrays_in_range.ensures ∙ ranges_are b cols m are)
+      dense_fault_is b m true None true None true (sym c.if-not-lengths_fit.false ∙ c.lengths_fit.ensures) (sym c.in_ok-arrays.ensures.0) (sym c.if-not-arrays_in_range.false ∙ c.arrays_in_range.ensures ∙ ranges_are b cols m are)
           (sym c.in_ok-check_tags.ensures ∙ tested known.After-check_tags ∙ tags_are b cols m are) (sym c.if-not-all_users.false ∙ users known.After-all_users ∙ users_are b cols m are),
       tt,
     )
@@ -94,4 +94,4 @@ returns-clause-read c =
     let tags : TagsFit (length cols.ids.items) (length b.table) cols.keys_vals.items = tags_fit (length cols.ids.items) (length b.table) cols.keys_vals.items (sym (tested known.After-check_tags) ∙ c.in_ok-check_tags.ensures) in
     let is_ready : AreReady b cols = ready b cols m are lengths ranges tags (sym (users known.After-all_users) ∙ c.if-not-all_users.false) in
     let read = c.in_ok-nodes_of.ensures in
-    (read.0, read.2, all_read b cols m (length cols.ids.items) read.1 read.0 are is_ready tags.are_tags c.if-dense.false refl read.3)
+    (read.0, read.2, all_read b cols m (length cols.ids.items) read.1 read.0 are is_ready tags.are_tags refl read.3)

@@ -1,4 +1,4 @@
-use Rattle.std.proofs.Common.{rules, ◌≡◌, ap, ◌∙◌, refl, map, FitsSigned, to_z, of_z, w32}
+use Rattle.std.proofs.Common.{rules, ◌≡◌, ap, ◌∙◌, map, FitsSigned, to_z, of_z, w32}
 use Rattle.std.proofs.lemmas.Int.{to_z-of_z}
 use Rattle.std.specs.Prelude.{option_map}
 use Rattle.pbf_wire.specs.Readings.{int64, uint32}
@@ -24,7 +24,7 @@ new-requires c =
     let user_is = c.user_of-user.ensures ∙ ap (λ l. option_map (λ i. text_at (map (λ t. t.now) l) (uint32 i)) c.args.info.now.user_sid) c.deref.ensures.value ∙ user_text _ c.args.info.now.user_sid in
     record {
       in_range = info_is_in_range (context_of c.args.scale.now) (info_message_of c.args.info.now) _ c.requires.in_range c.args.scale.now.texts
-          c.version_of-version.ensures time_is c.optional_i64.ensures c.optional_i32.ensures user_is refl;
+          c.version_of-version.ensures time_is c.optional_i64.ensures c.optional_i32.ensures user_is;
     }
 
 pub returns : goal.returns
@@ -40,7 +40,7 @@ returns c =
       changeset_is = c.optional_i64.ensures;
       uid_is = c.optional_i32.ensures;
       user_is = user_is;
-      no_visible = c.requires.no_visible;
+      visible_is = c.optional_bool.ensures;
       in_range = info_is_in_range (context_of c.args.scale.now) (info_message_of c.args.info.now) _ c.requires.in_range c.args.scale.now.texts
-          c.version_of-version.ensures time_is c.optional_i64.ensures c.optional_i32.ensures user_is refl;
+          c.version_of-version.ensures time_is c.optional_i64.ensures c.optional_i32.ensures user_is;
     })

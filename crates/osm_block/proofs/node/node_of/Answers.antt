@@ -30,7 +30,6 @@ module _ (c : After-node_in_range) where
 
   read : NodeRead (context_of c.args.scale.now) (node_message_of c.args.node.now) c.in-Some.id c.in-Some-optional_unzigzag.lat c.in-Some-optional_unzigzag-2.lon
   read = record {
-    visible = sym c.is_some.ensures ∙ c.if-is_some.false;
     there = sym c.optional_unzigzag.ensures ∙ c.in-Some.is;
     lat_there = sym c.optional_unzigzag-2.ensures ∙ c.in-Some-optional_unzigzag.is;
     lon_there = sym c.optional_unzigzag-3.ensures ∙ c.in-Some-optional_unzigzag-2.is;

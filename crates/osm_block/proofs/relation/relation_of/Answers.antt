@@ -32,7 +32,6 @@ module _ (c : After-relation_in_range) where
   read =
       let taken = subst (λ l. (when (not (list_all fits_i64 (front_sums (map sint64 l)))) faults.SumTooLarge ≡ None) × Diff c.in_ok-memids.memids.items (map sint64 l)) c.deref.ensures.value c.in_ok-memids.ensures in
       record {
-        visible = sym c.is_some.ensures ∙ c.if-is_some.false;
         there = sym c.optional_i64.ensures ∙ c.in-Some.is;
         even = sym (lengths_are c.args.relation.now.keys.numbers.items c.args.relation.now.vals.numbers.items c.args.relation.now.roles.numbers.items c.args.relation.now.memids.numbers.items c.args.relation.now.types.numbers.items) ∙ lengths_fit;
         sums = taken.0;

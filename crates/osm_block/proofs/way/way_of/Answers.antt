@@ -25,7 +25,6 @@ module _ (c : After-way_in_range) where
   read =
       let taken = subst (λ l. (when (not (list_all fits_i64 (front_sums (map sint64 l)))) faults.SumTooLarge ≡ None) × Diff c.in_ok-refs.refs.items (map sint64 l)) c.deref.ensures.value c.in_ok-refs.ensures in
       record {
-        visible = sym c.is_some.ensures ∙ c.if-is_some.false;
         there = sym c.optional_i64.ensures ∙ c.in-Some.is;
         even = even_from _ _ (omega arith);
         sums = taken.0;

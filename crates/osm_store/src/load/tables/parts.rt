@@ -8,7 +8,8 @@ ghost use Rattle.osm_store.specs.TableRows.{Part, element_row, tag_row, link_row
 ghost use Rattle.osm_store.specs.Rows.{Placed};
 
 use crate::load::values::{
-    free_text_at, free_uid_at, free_version_at, free_wide_at, is_null_at, kind_at, text_at, wide_at,
+    free_flag_at, free_text_at, free_uid_at, free_version_at, free_wide_at, kind_at, text_at,
+    wide_at,
 };
 use osm_value::{Info, Member};
 use sqlite::Row;
@@ -39,13 +40,11 @@ pub(crate) fn member_of(row: &Row) -> Option<Member<'_>>
 pub(crate) fn info_of(row: &Row) -> Option<Info<'_>>
     ensures { (p : Placed) → IsInfo (info_of_element p.2) → row.now ≡ element_row p → result ≡ Some (info_of_element p.2) }
 {
-    if !is_null_at(row, 11) {
-        return None;
-    }
     let version = free_version_at(row, 6)?;
     let time = free_wide_at(row, 7)?;
     let changeset = free_wide_at(row, 8)?;
     let uid = free_uid_at(row, 9)?;
     let user = free_text_at(row, 10)?;
-    Some(Info::new(version, time, changeset, uid, user, None))
+    let visible = free_flag_at(row, 11)?;
+    Some(Info::new(version, time, changeset, uid, user, visible))
 }

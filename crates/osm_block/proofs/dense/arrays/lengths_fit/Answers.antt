@@ -1,5 +1,6 @@
 use Rattle.std.proofs.Common.{rules, ◌≡◌, ℕ, List, length}
 use Rattle.pbf_wire.specs.Readings.{sint64, int32}
+use Rattle.osm_block.specs.Message.{boolean}
 use Rattle.osm_block.proofs.DensePhaseLemmas.{same_lengths, fits_lengths}
 use Rattle.osm_block.proofs.dense.arrays.lengths_fit.Goals as goal
 
@@ -17,4 +18,5 @@ returns c =
     let changesets = fits_lengths sint64 sint64 d.info.changesets.numbers.items ids _ _ count c.fits_count-changesets.ensures in
     let uids = fits_lengths sint64 sint64 d.info.uids.numbers.items ids _ _ count c.fits_count-uids.ensures in
     let users = fits_lengths sint64 sint64 d.info.users.numbers.items ids _ _ count c.fits_count-users.ensures in
-    cc (lats, lons, versions, timestamps, changesets, uids, users)
+    let visible = fits_lengths boolean sint64 d.info.visible.numbers.items ids _ _ count c.fits_count-visible.ensures in
+    cc (lats, lons, versions, timestamps, changesets, uids, users, visible)

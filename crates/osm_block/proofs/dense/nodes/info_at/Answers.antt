@@ -33,23 +33,25 @@ new-requires c =
     let fits : FitsSigned w32 c.args.scale.now.date_granularity = search rules in
     let same : to_z w32 (of_z w32 c.args.scale.now.date_granularity) ≡ c.args.scale.now.date_granularity = to_z-of_z w32 _ fits in
     record {
-      in_range = (info_is_at (context_of c.args.scale.now) c.args.arrays.now c.args.index _ _ _ _ _ c.requires.ready c.args.scale.now.texts
+      in_range = (info_is_at (context_of c.args.scale.now) c.args.arrays.now c.args.index _ _ _ _ _ _ c.requires.ready c.args.scale.now.texts
           (c.version_at-version.ensures ∙ ap (λ l. option_and_then version (slice_get l c.args.index)) c.deref.ensures.value)
           (c.time_of-time.ensures ∙ ap (λ g. option_map (time g) c.number_at.result) same ∙ ap (option_map (time c.args.scale.now.date_granularity)) (c.number_at.ensures ∙ ap (λ l. slice_get l c.args.index) c.deref-2.ensures.value))
           (c.number_at-changeset.ensures ∙ ap (λ l. slice_get l c.args.index) c.deref-3.ensures.value)
           (c.uid_of-uid.ensures ∙ c.number_at-2.ensures ∙ ap (λ l. slice_get l c.args.index) c.deref-4.ensures.value)
           (c.user_of-user.ensures ∙ ap (λ l. option_map (text_at (map (λ t. t.now) l)) c.number_at-3.result) c.deref-5.ensures.value
-          ∙ ap (option_map (text_at (map (λ t. t.now) c.args.scale.now.table.items))) (c.number_at-3.ensures ∙ ap (λ l. slice_get l c.args.index) c.deref-6.ensures.value))).in_range;
+          ∙ ap (option_map (text_at (map (λ t. t.now) c.args.scale.now.table.items))) (c.number_at-3.ensures ∙ ap (λ l. slice_get l c.args.index) c.deref-6.ensures.value))
+          (c.flag_at-visible.ensures ∙ ap (λ l. slice_get l c.args.index) c.deref-7.ensures.value)).in_range;
     }
 
 pub returns : goal.returns
 returns c =
     let fits : FitsSigned w32 c.args.scale.now.date_granularity = search rules in
     let same : to_z w32 (of_z w32 c.args.scale.now.date_granularity) ≡ c.args.scale.now.date_granularity = to_z-of_z w32 _ fits in
-    rw c.new.ensures (info_is_at (context_of c.args.scale.now) c.args.arrays.now c.args.index _ _ _ _ _ c.requires.ready c.args.scale.now.texts
+    rw c.new.ensures (info_is_at (context_of c.args.scale.now) c.args.arrays.now c.args.index _ _ _ _ _ _ c.requires.ready c.args.scale.now.texts
     (c.version_at-version.ensures ∙ ap (λ l. option_and_then version (slice_get l c.args.index)) c.deref.ensures.value)
     (c.time_of-time.ensures ∙ ap (λ g. option_map (time g) c.number_at.result) same ∙ ap (option_map (time c.args.scale.now.date_granularity)) (c.number_at.ensures ∙ ap (λ l. slice_get l c.args.index) c.deref-2.ensures.value))
     (c.number_at-changeset.ensures ∙ ap (λ l. slice_get l c.args.index) c.deref-3.ensures.value)
     (c.uid_of-uid.ensures ∙ c.number_at-2.ensures ∙ ap (λ l. slice_get l c.args.index) c.deref-4.ensures.value)
     (c.user_of-user.ensures ∙ ap (λ l. option_map (text_at (map (λ t. t.now) l)) c.number_at-3.result) c.deref-5.ensures.value
-    ∙ ap (option_map (text_at (map (λ t. t.now) c.args.scale.now.table.items))) (c.number_at-3.ensures ∙ ap (λ l. slice_get l c.args.index) c.deref-6.ensures.value)))
+    ∙ ap (option_map (text_at (map (λ t. t.now) c.args.scale.now.table.items))) (c.number_at-3.ensures ∙ ap (λ l. slice_get l c.args.index) c.deref-6.ensures.value))
+    (c.flag_at-visible.ensures ∙ ap (λ l. slice_get l c.args.index) c.deref-7.ensures.value))
