@@ -96,10 +96,7 @@ fn migrate_of<'a>(matches: &ArgMatches<'a>) -> Option<Words<'a>>
 }
 
 /// The words of a merge. None are given only if clap let through words without them.
-fn merge_of<'a>(
-    alloc: Global,
-    matches: &ArgMatches<'a>,
-) -> Result<Option<Words<'a>>, AllocError>
+fn merge_of<'a>(alloc: Global, matches: &ArgMatches<'a>) -> Result<Option<Words<'a>>, AllocError>
     ensures { IfOk result (λ o. IfSome o (λ w. Says w (codes "merge") (rows_of (found_of matches.now)))) }
 {
     let (Some(into), Some(texts)) = (text_of(matches, "INTO"), texts_of(matches, "FROM")) else {

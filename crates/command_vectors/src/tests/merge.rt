@@ -2,7 +2,7 @@
 
 use super::stores::{Blocks, Columns, NewStore, expect_import, import_two_nodes};
 use super::support::{Closed, TWO_NODES};
-use osm_import::{CopyCounts, CopyFault, CopyStop, Conflict};
+use osm_import::{Conflict, CopyCounts, CopyFault, CopyStop};
 use osm_store::{Keeper, Reader};
 use osm_value::{Form, Outlet};
 use pbfrow_commands::export::export;
@@ -51,11 +51,32 @@ fn merges_parts_of_a_file(rt: HostRuntime) -> Result<(), Fail> {
     let mut whole = Columns::new_store(alloc).ok_or("a store")?;
     import_two_nodes(&rt, &mut whole);
     let mut into = Columns::new_store(alloc).ok_or("a store")?;
-    expect_merge(&rt, &mut nodes, &mut into, counts(1, 0), b"copied 1 held 0\n");
-    expect_merge(&rt, &mut header, &mut into, counts(1, 0), b"copied 1 held 0\n");
-    expect_merge(&rt, &mut whole, &mut into, counts(0, 2), b"copied 0 held 2\n");
+    expect_merge(
+        &rt,
+        &mut nodes,
+        &mut into,
+        counts(1, 0),
+        b"copied 1 held 0\n",
+    );
+    expect_merge(
+        &rt,
+        &mut header,
+        &mut into,
+        counts(1, 0),
+        b"copied 1 held 0\n",
+    );
+    expect_merge(
+        &rt,
+        &mut whole,
+        &mut into,
+        counts(0, 2),
+        b"copied 0 held 2\n",
+    );
     let mut out = Outlet::new(Vec::new(alloc));
-    assert_eq!(rt; export(alloc, &mut into, Some(84), false, Form::Lines, &mut out), 0);
+    assert_eq!(rt;
+        export(alloc, &mut into, Some(84), false, Form::Lines, &mut out),
+        0
+    );
     let lines = b"n 1 1000 -100 [] {}\nn 2 900 -100 [] {}\n";
     assert!(rt; out.into_inner().as_slice() == lines.as_slice());
     Ok(())
@@ -75,14 +96,23 @@ fn merges_up_to_another_file(rt: HostRuntime) -> Result<(), Fail> {
         fault: CopyFault::Refused(Conflict::Differs),
         off: 47,
     };
-    expect_merge(&rt, &mut other, &mut into, Err(differs), b"fault 63 Differs at 47\n");
+    expect_merge(
+        &rt,
+        &mut other,
+        &mut into,
+        Err(differs),
+        b"fault 63 Differs at 47\n",
+    );
     Ok(())
 }
 
 #[test]
 fn ends_with_the_counts(rt: HostRuntime) {
     let mut out = Outlet::new(Vec::new(rt.alloc()));
-    let total = CopyCounts { copied: 12, held: 3 };
+    let total = CopyCounts {
+        copied: 12,
+        held: 3,
+    };
     assert_eq!(rt; end_merge(&mut out, total), 0);
     assert!(rt; out.into_inner().as_slice() == b"blobs copied 12 held 3\n".as_slice());
     assert_eq!(rt; end_merge(&mut Outlet::new(Closed), total), 1);

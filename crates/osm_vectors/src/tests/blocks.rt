@@ -130,8 +130,16 @@ fn flags_of_visibility(rt: HostRuntime) -> Result<(), Fail> {
     expect_lines(
         &rt,
         &[
-            ("a plain node", &VISIBLE_NODE_BLOCK, "n 1 100 100 [x=1] {}\n"),
-            ("a dense node", &VISIBLE_DENSE_NODE_BLOCK, "n 1 100 100 [x=1] {}\n"),
+            (
+                "a plain node",
+                &VISIBLE_NODE_BLOCK,
+                "n 1 100 100 [x=1] {}\n",
+            ),
+            (
+                "a dense node",
+                &VISIBLE_DENSE_NODE_BLOCK,
+                "n 1 100 100 [x=1] {}\n",
+            ),
             ("dense nodes", &DELETED_DENSE_NODE_BLOCK, nodes),
             ("flags that aren't packed", &unpacked, nodes),
             ("a way", &DELETED_WAY_BLOCK, deleted),

@@ -50,9 +50,17 @@ fn canonical_blocks_stay(rt: HostRuntime) -> Result<(), Fail> {
                 &WAY_WITH_INFO_BLOCK,
             ),
             ("a relation", &RELATION_BLOCK, &RELATION_BLOCK),
-            ("a deleted node", &DELETED_DENSE_NODE_BLOCK, &DELETED_DENSE_NODE_BLOCK),
+            (
+                "a deleted node",
+                &DELETED_DENSE_NODE_BLOCK,
+                &DELETED_DENSE_NODE_BLOCK,
+            ),
             ("a deleted way", &DELETED_WAY_BLOCK, &DELETED_WAY_BLOCK),
-            ("a visible relation", &VISIBLE_RELATION_BLOCK, &VISIBLE_RELATION_BLOCK),
+            (
+                "a visible relation",
+                &VISIBLE_RELATION_BLOCK,
+                &VISIBLE_RELATION_BLOCK,
+            ),
         ],
     )
 }
@@ -97,7 +105,11 @@ fn other_blocks_become_canonical(rt: HostRuntime) -> Result<(), Fail> {
                 &GREATEST_PLACE_BLOCK,
                 &FINE_PLACE_BLOCK,
             ),
-            ("a visible node", &VISIBLE_NODE_BLOCK, &VISIBLE_DENSE_NODE_BLOCK),
+            (
+                "a visible node",
+                &VISIBLE_NODE_BLOCK,
+                &VISIBLE_DENSE_NODE_BLOCK,
+            ),
             ("a flag above 1", &flag_above_one, &VISIBLE_RELATION_BLOCK),
         ],
     )

@@ -43,7 +43,9 @@ fn parts_of_a_node(rt: HostRuntime) -> Result<(), Fail> {
 fn flags_of_visibility(rt: HostRuntime) {
     for flag in [None, Some(false), Some(true)] {
         let info = Info::new(Some(2), None, None, None, Some("u"), flag);
-        assert!(rt; info.visible() == flag && info.version() == Some(2) && info.user() == Some("u"));
+        assert!(rt;
+            info.visible() == flag && info.version() == Some(2) && info.user() == Some("u")
+        );
     }
 }
 

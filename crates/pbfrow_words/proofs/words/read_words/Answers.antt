@@ -15,12 +15,12 @@ returns-in-Some-clause-named c =
     let simple : is_simple (app_of c.in_ok-command.command) ≡ true = ap is_simple shape ∙ program_is_simple in
     let exact = (c.in_ok-matches.ensures.ok.2 simple).1 in
     let said : IsSomeAnd (subcommand_rows_of c.in_ok-matches.matches) (λ p. Says c.in-Some.words p.0 p.1)
-        = subst (λ (o : Option Words). IfSome o (λ w. IsSomeAnd (subcommand_rows_of c.in_ok-matches.matches) (λ p. Says w p.0 p.1))) c.in-Some.is c.in_ok-entered.ensures in
+    = subst (λ (o : Option Words). IfSome o (λ w. IsSomeAnd (subcommand_rows_of c.in_ok-matches.matches) (λ p. Says w p.0 p.1))) c.in-Some.is c.in_ok-entered.ensures in
     subst (λ (o : Option (Text × List Row)). IsSomeAnd o (λ p. Says c.in-Some.words p.0 p.1))
     (exact ∙ ap (λ a. subcommand_of a (map (λ s. s.now) c.args.words.now)) shape) said
 
 pub returns-in-Some-clause-within : goal.returns-in-Some-clause-within
 returns-in-Some-clause-within c =
     let said : IsSomeAnd (subcommand_rows_of c.in_ok-matches.matches) (λ p. Says c.in-Some.words p.0 p.1)
-        = subst (λ (o : Option Words). IfSome o (λ w. IsSomeAnd (subcommand_rows_of c.in_ok-matches.matches) (λ p. Says w p.0 p.1))) c.in-Some.is c.in_ok-entered.ensures in
+    = subst (λ (o : Option Words). IfSome o (λ w. IsSomeAnd (subcommand_rows_of c.in_ok-matches.matches) (λ p. Says w p.0 p.1))) c.in-Some.is c.in_ok-entered.ensures in
     said_begins_within c.in-Some.words _ said
