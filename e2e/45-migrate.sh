@@ -50,6 +50,21 @@ if has sqlite3; then
   { head -c 60 "$two"; tail -c 37 "$two"; } > shifted.osm.pbf
   "$pbfrow" import shifted.osm.pbf other.db --from 60 > got.txt
   expect "a blob across its place" 1 "fault 64 Overlap at 47${nl}" migrate old.db other.db
+
+  if has python3; then
+    country=$top/data/liechtenstein-raw.osm.pbf
+    rm -f country.db older.db new.db
+    "$pbfrow" import "$country" country.db > got.txt
+    "$pbfrow" export country.db > want.txt
+    python3 "$top/bench/older.py" country.db older.db
+    blobs=$(grep -c stored got.txt)
+    expect "an older database of a real extract is copied" 0 "copied $((blobs - 1)) held 0${nl}" migrate older.db new.db
+    "$pbfrow" export new.db > got.txt
+    same "its export is that of an import" want.txt got.txt
+    rm -f country.db older.db
+  else
+    skip "an older database of a real extract is copied" "python3 isn't installed"
+  fi
 else
   skip "a database of an earlier pbfrow is copied" "sqlite3 isn't installed"
 fi
