@@ -60,8 +60,8 @@ that of the frame.
 Blobs have to be stored raw; osmium rewrites an extract:
   osmium cat FILE -f pbf,pbf_compression=none -o RAW
 
-Exit status: 0 if all went well, 1 if a fault was printed or the output couldn't
-be written, 2 for invalid arguments.
+Exit status: 0 if all went well, 1 if a fault was printed, verify found a
+difference or the output couldn't be written, 2 for invalid arguments.
 
 Examples:
   pbfrow check berlin.osm.pbf
