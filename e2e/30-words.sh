@@ -3,7 +3,7 @@ two=$top/data/two-nodes.osm.pbf
 nl='
 '
 expect "the version" 0 "pbfrow 0.1.0${nl}" --version
-for command in list check show import migrate merge status export find; do
+for command in list check show import migrate merge verify status export find; do
   "$pbfrow" "$command" --help > help.txt
   if [ $? = 0 ] && grep -q "^Exit status: 0" help.txt && grep -q "^  pbfrow $command " help.txt; then
     pass "help of $command"
@@ -15,6 +15,7 @@ expect "an offset above 2^62" 2 "" import "$two" words.db --from 461168601842738
 expect "an element that can't be read" 2 "" find words.db x2
 expect "a database to migrate, and none to fill" 2 "" migrate words.db
 expect "a database to merge into, and none to merge" 2 "" merge words.db
+expect "a file to verify, and no database" 2 "" verify "$two"
 expect "a form that isn't there" 2 "" export words.db --form xml
 expect "words of two commands" 2 "" status words.db --partial
 [ -e words.db ] && fail "words that can't be read touch no file" || pass "words that can't be read touch no file"

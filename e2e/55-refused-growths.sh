@@ -29,6 +29,8 @@ else
   refused "export with every seventh growth refused" 7 export "$database"
   refused "export as PBF with every seventh growth refused" 7 export "$database" --form pbf
   refused "find with every seventh growth refused" 7 find "$database" n2
+  refused "verify with every seventh growth refused" 7 verify "$two" "$database"
+  refused "verify --elements with every seventh growth refused" 7 verify "$two" "$database" --elements
   "$program" export "$database" > got.txt
   same "the database that was asked so stays as it was" got.txt want.txt
   rm -rf "$folder"

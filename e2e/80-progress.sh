@@ -54,6 +54,13 @@ if has python3 && python3 -c 'import pty; pty.openpty()' 2>/dev/null; then
   same "the line of import is erased at the end" shown.txt nothing.txt
   same "import writes the same as without a terminal" got.txt want.txt
 
+  "$pbfrow" verify "$country" plain.db > verified.txt
+  slowly "$country" | python3 "$terminal" "$pbfrow" verify /dev/stdin plain.db > got.txt
+  ends_well "verify of a slow pipe on a terminal ends with 0" "${PIPESTATUS[1]}"
+  told "verify tells how far it is" "[0-9]+\.[0-9] MB, [0-9]+ blobs, $rate"
+  same "the line of verify is erased at the end" shown.txt nothing.txt
+  same "verify writes the same as without a terminal" got.txt verified.txt
+
   rm -f slow.db
   slowly "$country" | python3 "$terminal" --all "$pbfrow" import /dev/stdin slow.db
   told "import tells how far it is on the terminal that has its output" "[0-9]+\.[0-9] MB, [0-9]+ blobs, $rate"

@@ -24,7 +24,7 @@ from collections import Counter
 from concurrent.futures import ThreadPoolExecutor
 
 AS_WITH_MEMORY, ARGUMENTS, FAULT = "as with memory", "with 2 and no output", "with the line of the fault"
-FAULT_LINE = re.compile(rb"fault 65 Memory(?: at (?:0|47))?\n\Z")
+FAULT_LINE = re.compile(rb"fault 65 Memory(?: at (?:0|47|84))?\n\Z")
 
 SECONDS = 60
 
@@ -79,7 +79,7 @@ def way_of(got, wanted, is_text):
 
 def in_folder(words, folder):
     """The words of a command over a copy in this folder of the database that it names, and that copy."""
-    at = {"import": 2, "status": 1, "export": 1, "find": 1}.get(words[0])
+    at = {"import": 2, "verify": 2, "status": 1, "export": 1, "find": 1}.get(words[0])
     if at is None:
         return list(words), None
     copy = os.path.join(folder, os.path.basename(words[at]))

@@ -16,6 +16,7 @@ begins_within (command.Import file database from) name rows said = number_within
 begins_within (command.Read reading file) name rows said = tt
 begins_within (command.Migrate old new) name rows said = tt
 begins_within (command.Merge into from) name rows said = tt
+begins_within (command.Verify file database elements) name rows said = tt
 begins_within (command.Ask database question) name rows said = tt
 
 pub said_begins_within : (w : Words) (o : Option (Text × List Row)) → IsSomeAnd o (λ p. Says w p.0 p.1) → BeginsWithin w

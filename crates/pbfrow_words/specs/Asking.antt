@@ -1,19 +1,12 @@
 -- The commands that ask a database, as clap's model of a command has them, and what a question says of their matches.
 use Rattle.std.specs.Prelude.{◌≡◌, List, Option, Some, [], ◌∷◌, codes}
 use Rattle.clap.specs.Words.{App, Row, Rule, Text, first_of, new_app, new_rule, one_of, with_rule, with_subcommand}
-use Rattle.clap.specs.declared.builder.action.ArgAction.TheVariants.{SetTrue}
 use Rattle.osm_value.specs.declared.form.Form.{Form}
 use Rattle.osm_value.specs.declared.form.Form.TheVariants as form
-use Rattle.pbfrow_words.specs.Arguments.{IsFlag, IsNumber, offset_option, required_argument}
+use Rattle.pbfrow_words.specs.Arguments.{IsFlag, IsNumber, flag, offset_option, required_argument}
 use Rattle.pbfrow_words.specs.Element.{element_at}
 use Rattle.pbfrow_words.specs.declared.asking.Question.{Question}
 use Rattle.pbfrow_words.specs.declared.asking.Question.TheVariants.{Status, Export, Find}
-
-abbrev pub partial_flag : Rule
-partial_flag = record (new_rule (codes "partial")) {
-  long = Some (codes "partial");
-  action = Some SetTrue;
-}
 
 abbrev pub form_option : Rule
 form_option = record (new_rule (codes "form")) {
@@ -27,7 +20,7 @@ status_command = with_rule (with_rule (new_app (codes "status"))
     (required_argument (codes "DB"))) (offset_option (codes "size"))
 
 abbrev pub with_export_choices : App → App
-with_export_choices command = with_rule (with_rule command partial_flag) form_option
+with_export_choices command = with_rule (with_rule command (flag (codes "partial"))) form_option
 
 abbrev pub export_command : App
 export_command = with_export_choices (with_rule (with_rule (new_app (codes "export"))

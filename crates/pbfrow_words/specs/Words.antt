@@ -1,10 +1,11 @@
 -- The program with its commands, as clap's model of a command has it, and what a command says of the matches.
 use Rattle.std.specs.Prelude.{◌≡◌, ◌≤◌, List, Some, IfSome, true, codes, map}
 use Rattle.clap.specs.Words.{App, Row, Text, all_of, first_of, new_app, one_of}
-use Rattle.pbfrow_words.specs.Arguments.{IsNumber, text_of}
+use Rattle.pbfrow_words.specs.Arguments.{IsFlag, IsNumber, text_of}
 use Rattle.pbfrow_words.specs.Asking.{Asks, with_asking_commands}
 use Rattle.pbfrow_words.specs.Filling.{with_filling_commands}
 use Rattle.pbfrow_words.specs.Reading.{Reads, with_reading_commands}
+use Rattle.pbfrow_words.specs.Verifying.{with_verify}
 use Rattle.pbfrow_words.specs.declared.words.Words.{Words}
 use Rattle.pbfrow_words.specs.declared.words.Words.TheVariants as command
 
@@ -15,7 +16,7 @@ plain_program = record (new_app (codes "pbfrow")) {
 }
 
 abbrev pub program : App
-program = with_asking_commands (with_filling_commands (with_reading_commands plain_program))
+program = with_asking_commands (with_verify (with_filling_commands (with_reading_commands plain_program)))
 
 -- the command and its arguments are those of a subcommand of this name with these matches
 abbrev pub Says : Words → Text → List Row → Type 0
@@ -27,6 +28,9 @@ Says (command.Migrate old new) name rows = (name ≡ codes "migrate")
     × (Some old.now ≡ first_of (codes "OLD") rows) × (Some new.now ≡ first_of (codes "NEW") rows)
 Says (command.Merge into from) name rows = (name ≡ codes "merge")
     × (Some into.now ≡ first_of (codes "INTO") rows) × (Some (map (λ s. s.now) from.items) ≡ all_of (codes "FROM") rows)
+Says (command.Verify file database elements) name rows = (name ≡ codes "verify")
+    × (Some file.now ≡ first_of (codes "FILE") rows)
+    × (Some database.now ≡ first_of (codes "DB") rows) × IsFlag elements (one_of (codes "elements") rows)
 Says (command.Ask database question) name rows = (Some database.now ≡ first_of (codes "DB") rows) × Asks question name rows
 
 -- an import begins at 2^62 at most

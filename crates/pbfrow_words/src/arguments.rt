@@ -7,7 +7,7 @@ ghost use Rattle.pbfrow_words.specs.Arguments as definitions;
 ghost use Rattle.pbfrow_words.specs.Arguments.{IsFlag, IsNumber, text_of};
 
 use clap::builder::ValueParser;
-use clap::{Arg, ArgMatches, Command};
+use clap::{Arg, ArgAction, ArgMatches, Command};
 use pbf_frame::MAX_OFFSET;
 use std::alloc::{AllocError, Global};
 
@@ -42,6 +42,25 @@ pub(crate) fn offset_option<'a>(alloc: Global, id: &'a str, help: &'a str) -> Ar
         .value_name("N")
         .value_parser(ValueParser::unsigned(0, MAX_OFFSET))
         .help(help)
+}
+
+/// An option without a value.
+pub(crate) fn flag<'a>(alloc: Global, id: &'a str, help: &'a str) -> Arg<'a>
+    ensures rule { rule_of result ≡ definitions.flag id.entry.now }
+    ensures local { result.global ≡ false }
+{
+    Arg::new(alloc, id)
+        .long(id)
+        .action(ArgAction::SetTrue)
+        .help(help)
+}
+
+/// A PBF file that has to be named.
+pub(crate) fn file<'a>(alloc: Global) -> Arg<'a>
+    ensures rule { rule_of result ≡ definitions.required_argument (codes "FILE") }
+    ensures local { result.global ≡ false }
+{
+    required_argument(alloc, "FILE", "PBF file")
 }
 
 pub(crate) fn database<'a>(alloc: Global) -> Arg<'a>

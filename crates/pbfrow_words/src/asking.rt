@@ -8,11 +8,11 @@ ghost use Rattle.pbfrow_words.specs.Asking as definitions;
 ghost use Rattle.pbfrow_words.specs.Asking.{Asks, IsForm};
 
 use crate::arguments::{
-    database, flag_of, new_command, number_of, offset_option, required_argument, text_of,
+    database, flag, flag_of, new_command, number_of, offset_option, required_argument, text_of,
     with_argument, with_command,
 };
 use crate::element::read_element;
-use clap::{Arg, ArgAction, ArgMatches, Command};
+use clap::{Arg, ArgMatches, Command};
 use osm_value::{Form, MemberKind};
 use std::alloc::{AllocError, Global};
 
@@ -78,16 +78,6 @@ fn form_option<'a>(alloc: Global) -> Arg<'a>
         .help("Output format: lines or pbf")
 }
 
-fn partial_flag<'a>(alloc: Global) -> Arg<'a>
-    ensures rule { rule_of result ≡ definitions.partial_flag }
-    ensures local { result.global ≡ false }
-{
-    Arg::new(alloc, "partial")
-        .long("partial")
-        .action(ArgAction::SetTrue)
-        .help("Export what is held even if blobs are missing")
-}
-
 fn size_option<'a>(alloc: Global) -> Arg<'a>
     ensures rule { rule_of result ≡ offset_option (codes "size") }
     ensures local { result.global ≡ false }
@@ -114,7 +104,12 @@ fn with_export_choices<'a>(alloc: Global, command: Command<'a>) -> Result<Comman
     ensures shape { IfOk result (λ c. app_of c ≡ definitions.with_export_choices (app_of command.entry)) }
     ensures local { IfOk result (λ c. (fields_of c).has_globals ≡ false) }
 {
-    let command = with_argument(command, partial_flag(alloc))?;
+    let partial = flag(
+        alloc,
+        "partial",
+        "Export what is held even if blobs are missing",
+    );
+    let command = with_argument(command, partial)?;
     with_argument(command, form_option(alloc))
 }
 

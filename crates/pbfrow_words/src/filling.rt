@@ -6,8 +6,8 @@ ghost use Rattle.clap.specs.declared.builder.command.Command.TheViews.{out-Comma
 ghost use Rattle.pbfrow_words.specs.Filling as definitions;
 
 use crate::arguments::{
-    database, new_command, offset_option, required_argument, required_arguments, with_argument,
-    with_command,
+    database, file, new_command, offset_option, required_argument, required_arguments,
+    with_argument, with_command,
 };
 use clap::Command;
 use std::alloc::{AllocError, Global};
@@ -67,8 +67,7 @@ fn import_command<'a>(alloc: Global) -> Result<Command<'a>, AllocError>
         "Import the blobs of a PBF file into a database",
         IMPORT_HELP,
     );
-    let file = required_argument(alloc, "FILE", "PBF file");
-    let command = with_argument(command, file)?;
+    let command = with_argument(command, file(alloc))?;
     let command = with_argument(command, database(alloc))?;
     with_argument(command, from)
 }

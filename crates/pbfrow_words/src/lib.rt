@@ -8,6 +8,7 @@ mod element;
 mod filling;
 pub mod laws;
 mod reading;
+mod verifying;
 mod words;
 
 pub use asking::Question;

@@ -5,10 +5,11 @@ ghost use Rattle.clap.specs.Words.{app_of, found_of, rows_of, subcommand_of, sub
 ghost use Rattle.clap.specs.declared.builder.command.Command.TheViews.{out-Command as fields_of};
 ghost use Rattle.pbfrow_words.specs.Words.{BeginsWithin, Says, program};
 
-use crate::arguments::{number_of, text_of, texts_of};
+use crate::arguments::{flag_of, number_of, text_of, texts_of};
 use crate::asking::{Question, question_of, with_asking_commands};
 use crate::filling::with_filling_commands;
 use crate::reading::{Reading, reading_of, with_reading_commands};
+use crate::verifying::with_verify;
 use clap::error::ErrorKind;
 use clap::{ArgMatches, Command, Error};
 use std::alloc::{AllocError, Global};
@@ -40,6 +41,12 @@ pub enum Words<'a> {
         /// One at least, in the order that they were given.
         from: Vec<&'a str>,
     },
+    Verify {
+        file: &'a str,
+        database: &'a str,
+        /// Whether the elements of each blob are compared, too.
+        elements: bool,
+    },
     Ask {
         database: &'a str,
         question: Question,
@@ -53,8 +60,8 @@ that of the frame.
 Blobs have to be stored raw; osmium rewrites an extract:
   osmium cat FILE -f pbf,pbf_compression=none -o RAW
 
-Exit status: 0 if all went well, 1 if a fault was printed or the output couldn't
-be written, 2 for invalid arguments.
+Exit status: 0 if all went well, 1 if a fault was printed, verify found a
+difference or the output couldn't be written, 2 for invalid arguments.
 
 Examples:
   pbfrow check berlin.osm.pbf
@@ -73,6 +80,7 @@ fn program<'a>(alloc: Global) -> Result<Command<'a>, AllocError>
         .subcommand_required(true);
     let program = with_reading_commands(alloc, program)?;
     let program = with_filling_commands(alloc, program)?;
+    let program = with_verify(alloc, program)?;
     with_asking_commands(alloc, program)
 }
 
@@ -95,6 +103,16 @@ fn migrate_of<'a>(matches: &ArgMatches<'a>) -> Option<Words<'a>>
     })
 }
 
+fn verify_of<'a>(matches: &ArgMatches<'a>) -> Option<Words<'a>>
+    ensures { IfSome result (λ w. Says w (codes "verify") (rows_of (found_of matches.now))) }
+{
+    Some(Words::Verify {
+        file: text_of(matches, "FILE")?,
+        database: text_of(matches, "DB")?,
+        elements: flag_of(matches, "elements"),
+    })
+}
+
 /// The words of a merge. None are given only if clap let through words without them.
 fn merge_of<'a>(alloc: Global, matches: &ArgMatches<'a>) -> Result<Option<Words<'a>>, AllocError>
     ensures { IfOk result (λ o. IfSome o (λ w. Says w (codes "merge") (rows_of (found_of matches.now)))) }
@@ -107,7 +125,7 @@ fn merge_of<'a>(alloc: Global, matches: &ArgMatches<'a>) -> Result<Option<Words<
     Ok(Some(Words::Merge { into, from }))
 }
 
-/// The command of this name, if it reads a file, asks a database, or fills one with what one other holds.
+/// The command of this name, if it isn't `merge`.
 fn simple_words_of<'a>(name: &str, matches: &ArgMatches<'a>) -> Option<Words<'a>>
     ensures { IfSome result (λ w. Says w name.now (rows_of (found_of matches.now))) }
 {
@@ -120,6 +138,7 @@ fn simple_words_of<'a>(name: &str, matches: &ArgMatches<'a>) -> Option<Words<'a>
     match name {
         "import" => import_of(matches),
         "migrate" => migrate_of(matches),
+        "verify" => verify_of(matches),
         _ => Some(Words::Ask {
             question: question_of(name, matches)?,
             database: text_of(matches, "DB")?,

@@ -32,6 +32,12 @@ static MERGE: [&str; 5] = ["pbfrow", "merge", "A", "B", "C"];
 
 static MERGE_NOTHING: [&str; 3] = ["pbfrow", "merge", "A"];
 
+static VERIFY: [&str; 4] = ["pbfrow", "verify", "F", "D"];
+
+static VERIFY_ELEMENTS: [&str; 5] = ["pbfrow", "verify", "F", "D", "--elements"];
+
+static VERIFY_NO_DATABASE: [&str; 4] = ["pbfrow", "verify", "F", "--elements"];
+
 static FIND: [&str; 4] = ["pbfrow", "find", "D", "n2"];
 
 static FIND_NO_ELEMENT: [&str; 4] = ["pbfrow", "find", "D", "x2"];
@@ -110,6 +116,31 @@ fn words_of_merge(rt: HostRuntime) -> Result<(), Fail> {
     assert!(rt; words == Some(Words::Merge { into: "A", from }));
     assert!(rt; read_words(rt.alloc(), MERGE_NOTHING.as_slice()).is_err());
     Ok(())
+}
+
+#[test]
+fn words_of_verify(rt: HostRuntime) {
+    assert!(rt;
+        matches!(
+            read_words(rt.alloc(), VERIFY.as_slice()),
+            Ok(Words::Verify {
+                file: "F",
+                database: "D",
+                elements: false
+            })
+        )
+    );
+    assert!(rt;
+        matches!(
+            read_words(rt.alloc(), VERIFY_ELEMENTS.as_slice()),
+            Ok(Words::Verify {
+                file: "F",
+                database: "D",
+                elements: true
+            })
+        )
+    );
+    assert!(rt; read_words(rt.alloc(), VERIFY_NO_DATABASE.as_slice()).is_err());
 }
 
 #[test]

@@ -5,4 +5,4 @@ use Rattle.pbfrow_words.proofs.asking.with_export_choices.Goals as goal
 pub returns-clause-shape : goal.returns-clause-shape
 returns-clause-shape c =
     made _ c.with_argument-2.ensures.shape
-    (ruled (c.in_ok-command.ensures.shape ∙ ruled refl c.partial_flag.ensures.rule) c.form_option.ensures.rule)
+    (ruled (c.in_ok-command.ensures.shape ∙ ruled refl c.flag-partial.ensures.rule) c.form_option.ensures.rule)
