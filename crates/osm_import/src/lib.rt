@@ -11,6 +11,7 @@ mod export;
 mod fault;
 mod gap;
 pub mod laws;
+mod migration;
 mod parts;
 mod stream;
 
@@ -22,6 +23,7 @@ pub use examination::{ExamineFault, Good, examine, examine_frame};
 pub use export::{ExportFault, export_lines, export_pbf, greatest_end};
 pub use fault::Fault;
 pub use gap::gaps;
+pub use migration::{MigrateFault, migrate};
 pub use parts::{Openings, PartsFault, export_in_turn, extents_in_turn};
 pub use stream::{
     FrameReader, Inlet, Source, SourceFailed, Stop, StreamFault, Summary, import_stream,

@@ -6,7 +6,9 @@ use super::fixtures::{
 };
 use super::memory::{BodiesInMemory, NewStore, TablesInMemory};
 use super::steps::{STORE_EXTRA, STORE_HEADER, STORE_NODES, Step, holds_the_file};
-use osm_import::{Answer, Conflict, CopyCounts, CopyFault, CopyStop, copy_held};
+use osm_import::{
+    Answer, Conflict, CopyCounts, CopyFault, CopyStop, MigrateFault, copy_held, deliver, migrate,
+};
 use osm_store::{Reader, StoreFault};
 use std::alloc::Global;
 use std::process::Abort;
@@ -133,34 +135,86 @@ fn beside_other_blobs(rt: HostRuntime) -> Result<(), Fail> {
     over_any_layouts(&rt, STEPS)
 }
 
-/// A copy that the step limit of its source breaks off has taken nothing, or the blobs below; the next goes on.
+/// Which of the two stores of a copy may take few steps.
+#[derive(Clone, Copy)]
+enum Limited {
+    Source,
+    Target,
+}
+
+fn limit_steps<F: NewStore, T: NewStore>(
+    from: &mut F,
+    to: &mut T,
+    limited: Limited,
+    limit: Option<u64>,
+) {
+    match limited {
+        Limited::Source => from.limit_steps(limit),
+        Limited::Target => to.limit_steps(limit),
+    }
+}
+
+/// A copy that the step limit of either store breaks off has taken nothing, or the blobs below; the next goes on. The
+/// target holds a blob behind the file, since a step is a row that a query visits.
 fn under_step_limits_of<F: NewStore, T: NewStore, R: Abort + Alloc<A = Global>>(
     rt: &R,
+    limited: Limited,
 ) -> Result<(), Fail> {
     let alloc = rt.alloc();
     let mut from = file_store::<F>(alloc)?;
     let mut to = T::new_store(alloc)?;
+    assert!(rt; deliver(alloc, &mut to, 200, NODES) == Answer::Stored(2));
     let mut interrupted = 0;
     for limit in 1..100 {
-        from.limit_steps(Some(limit));
-        let Err(CopyStop { fault, off }) = copy_held(alloc, &mut from, &mut to) else {
+        limit_steps(&mut from, &mut to, limited, Some(limit));
+        let outcome = copy_held(alloc, &mut from, &mut to);
+        limit_steps(&mut from, &mut to, limited, None);
+        let Err(CopyStop { fault, off }) = outcome else {
             break;
         };
         assert!(rt; fault == CopyFault::Store(StoreFault::Interrupted));
         let below = if off == 47 { 1 } else { 0 };
-        assert!(rt; to.extents(alloc)?.len() == below);
+        assert!(rt; to.extents(alloc)?.len() == below + 1);
         interrupted = limit;
     }
     assert!(rt; interrupted > 0);
-    from.limit_steps(None);
     let both_held = CopyCounts { copied: 0, held: 2 };
     assert!(rt; copy_held(alloc, &mut from, &mut to) == Ok(both_held));
-    assert!(rt; holds_the_file(alloc, &mut to)?);
+    assert!(rt; holds_the_file(alloc, &mut from)?);
+    assert!(rt; Step::PartialLines(&[LINES, LINES]).is_met(alloc, &mut to)?);
     Ok(())
 }
 
 #[test]
 fn under_step_limits(rt: HostRuntime) -> Result<(), Fail> {
-    under_step_limits_of::<BodiesInMemory, TablesInMemory, _>(&rt)?;
-    under_step_limits_of::<TablesInMemory, BodiesInMemory, _>(&rt)
+    for limited in [Limited::Source, Limited::Target] {
+        under_step_limits_of::<BodiesInMemory, TablesInMemory, _>(&rt, limited)?;
+        under_step_limits_of::<TablesInMemory, BodiesInMemory, _>(&rt, limited)?;
+    }
+    Ok(())
+}
+
+/// The copy of a store of the first layout into one of the second, and again; and what is in its way.
+#[test]
+fn migrates_an_older_store(rt: HostRuntime) -> Result<(), Fail> {
+    let alloc = rt.alloc();
+    let mut older: BodiesInMemory = file_store(alloc)?;
+    let mut newer: TablesInMemory = NewStore::new_store(alloc)?;
+    let (copied, held) = (2, 2);
+    assert!(rt; migrate(alloc, &mut older, &mut newer) == Ok(CopyCounts { copied, held: 0 }));
+    assert!(rt; holds_the_file(alloc, &mut newer)?);
+    assert!(rt; migrate(alloc, &mut older, &mut newer) == Ok(CopyCounts { copied: 0, held }));
+    assert!(rt; holds_the_file(alloc, &mut older)?);
+    let mut other: TablesInMemory = NewStore::new_store(alloc)?;
+    assert!(rt; deliver(alloc, &mut other, 47, CHANGED) == Answer::Stored(2));
+    let differs = CopyFault::Refused(Conflict::Differs);
+    assert!(rt;
+        migrate(alloc, &mut older, &mut other)
+            == Err(MigrateFault {
+                fault: differs,
+                off: 47
+            })
+    );
+    assert!(rt; other.extents(alloc)?.len() == 2);
+    Ok(())
 }
