@@ -1,0 +1,4 @@
+//! Whether a store holds exactly what an import of a file gives.
+#![tactic(auto)]
+
+mod same;
