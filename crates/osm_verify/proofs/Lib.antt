@@ -1,0 +1,4 @@
+pub mod HeldThere
+pub mod Beginning
+pub mod LawLemmas
+pub mod SameLemmas

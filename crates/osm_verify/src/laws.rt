@@ -1,0 +1,11 @@
+//! What the definitions imply: theorems, with no code.
+
+ghost use Rattle.osm_verify.specs.Laws.{VerifiedIsExact, ExactIsOne};
+
+/// Where each frame of a file is good and held alike, and no held extent begins inside a frame or behind the last, the
+/// store holds what an import of the file to a new store comes to: by elements it is that map, and by extents its extents
+/// are those of that map.
+pub fn a_verified_store_is_an_import()
+    ensures exact { VerifiedIsExact }
+    ensures one { ExactIsOne }
+{}

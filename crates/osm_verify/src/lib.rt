@@ -1,0 +1,8 @@
+//! Whether a store holds exactly what an import of a file gives.
+#![tactic(auto)]
+
+mod comparing;
+pub mod laws;
+mod same;
+
+pub use comparing::{Agreement, Depth, compare, extents_beginning};
