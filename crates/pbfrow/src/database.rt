@@ -36,8 +36,20 @@ pub(crate) fn refuse<W: Write>(out: &mut Outlet<W>, fault: StoreFault) -> u8 {
     FAULTY
 }
 
+/// Flushes the output and erases the progress line. Answers the exit status that is given, unless the flush fails.
+pub(crate) fn end<W: Write>(out: &mut Outlet<W>, meter: &Meter, status: u8) -> u8 {
+    let flushed = out.flush();
+    meter.erase();
+    match flushed {
+        Ok(()) => status,
+        Err(_) => FAULTY,
+    }
+}
+
 /// The store that a connection has.
-fn adopted<S: Alter + Drop>(connection: Connection<S>) -> Result<TableStore<S>, StoreFault>
+pub(crate) fn adopted<S: Alter + Drop>(
+    connection: Connection<S>,
+) -> Result<TableStore<S>, StoreFault>
     requires { (state S.Store connection).in_transaction ≡ false }
 {
     match TableStore::adopt(connection) {
@@ -222,10 +234,5 @@ pub(crate) fn ask(rt: &HostRuntime, database: &str, question: Question) -> u8 {
     };
     let mut out = Outlet::new(output);
     let status = ask_in(rt, database, question, &meter, &mut out);
-    let flushed = out.flush();
-    meter.erase();
-    match flushed {
-        Ok(()) => status,
-        Err(_) => FAULTY,
-    }
+    end(&mut out, &meter, status)
 }

@@ -2,7 +2,7 @@
 //! finds what that holds.
 #![tactic(auto)]
 
-ghost use Rattle.std.specs.Prelude.{◌≤◌};
+ghost use Rattle.std.specs.Prelude.{◌≡◌, ◌≤◌, if◌then◌else◌};
 ghost use Rattle.pbfrow_words.specs.Words.{BeginsWithin};
 
 mod copying;
@@ -10,14 +10,16 @@ mod database;
 mod merging;
 mod meter;
 mod metered;
+mod verifying;
 
 use clap::Error;
 use copying::copy;
-use database::{ask, fill};
+use database::{ask, end, fill};
 use merging::merge;
 use meter::Meter;
 use metered::{MeteredOutput, MeteredReader};
 use osm_value::Outlet;
+use osm_verify::Depth;
 use pbfrow_commands::check::check;
 use pbfrow_commands::input::refuse_input;
 use pbfrow_commands::list::list;
@@ -29,6 +31,7 @@ use std::fs::File;
 use std::io::{BufWriter, ErrorKind, Read, Write};
 use std::process::ExitCode;
 use std::{env, io};
+use verifying::compare;
 
 /// The exit status if a fault was printed or the output couldn't be written.
 const FAULTY: u8 = 1;
@@ -111,7 +114,23 @@ fn run(rt: HostRuntime, words: Words) -> u8
         } => fill(&rt, file, database, from.unwrap_or(0)),
         Words::Migrate { old, new } => copy(&rt, old, new),
         Words::Merge { into, from } => merge(&rt, into, from.as_slice()),
+        Words::Verify {
+            file,
+            database,
+            elements,
+        } => compare(&rt, file, database, depth_of(elements)),
         Words::Ask { database, question } => ask(&rt, database, question),
+    }
+}
+
+/// How much of each blob is compared.
+fn depth_of(elements: bool) -> Depth
+    ensures { result ≡ (if elements then Depth.Elements else Depth.Extents) }
+{
+    if elements {
+        Depth::Elements
+    } else {
+        Depth::Extents
     }
 }
 
@@ -133,12 +152,7 @@ fn run_on_file(rt: HostRuntime, reading: Reading, file: Option<&str>) -> u8 {
             Err(_) => refuse_input(&mut out),
         },
     };
-    let flushed = out.flush();
-    meter.erase();
-    match flushed {
-        Ok(()) => status,
-        Err(_) => FAULTY,
-    }
+    end(&mut out, &meter, status)
 }
 
 fn read_with<R: Read, W: Write>(
