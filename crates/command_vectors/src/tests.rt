@@ -8,4 +8,5 @@ mod progress;
 mod show;
 mod stores;
 mod support;
+mod verify;
 mod words;

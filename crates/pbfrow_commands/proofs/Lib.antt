@@ -9,5 +9,6 @@ pub mod ListingLaws
 pub mod ListingSteps
 pub mod ShowLemmas
 pub mod StatusLemmas
+pub mod VerifyLemmas
 mod VectorCommands
 pub mod Walking

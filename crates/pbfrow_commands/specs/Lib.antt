@@ -11,3 +11,4 @@ pub mod Showing
 pub mod Status
 pub mod Verdicts
 pub mod Walks
+pub mod Verifying

@@ -209,7 +209,7 @@ fn put_totals<S: Sink>(out: &mut S, counts: &Counts)
 }
 
 /// Writes a label and a count.
-fn put_total<S: Sink>(out: &mut S, label: &[u8], count: u64)
+pub(crate) fn put_total<S: Sink>(out: &mut S, label: &[u8], count: u64)
     ensures { Writes (S.written out.old) (S.has_failed out.old) (S.written out.new) (S.has_failed out.new) (label.now ++ decimal count) }
 {
     put(out, label);

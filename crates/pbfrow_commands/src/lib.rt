@@ -15,4 +15,5 @@ pub mod progress;
 pub mod report;
 pub mod show;
 pub mod status;
+pub mod verify;
 pub mod watcher;

@@ -1,0 +1,291 @@
+-- Counting compared blobs one by one, and what `verify` has done.
+use Rattle.std.proofs.Common.{◌≡◌, ◌≢◌, ℕ, ◌+◌, ◌<◌, ◌≤◌, ◌==◌, ◌&&◌, nat_lt, cond, Bool, true, List, [], ◌∷◌, ◌++◌, filter, length, Ok, Err, refl, sym, ap, subst, ◌∙◌, arith, inl, inr, append-nil, append_assoc, add-zero, zero-add, length-append}
+use Rattle.std.specs.Prelude.{IfSome, is_err, codes}
+use Rattle.std.specs.Fmt.{decimal}
+use Rattle.std.specs.List.{count_by, sum_by}
+use Rattle.std.specs.Io.KnownBytes.{IsAtEnd, Keeps}
+use Rattle.std.proofs.KnownBytes.{Consumes-whole}
+use Rattle.std.proofs.lemmas.Bool.{false≢true, and_parts}
+use Rattle.std.proofs.lemmas.Bool.Decides.{nat_tests}
+use Rattle.std.proofs.lemmas.List.Sums.{sum_by-cons}
+use Rattle.std.proofs.lemmas.List.{nil_from_length}
+use Rattle.pbf_frame.specs.declared.fault.FrameFault.{FrameFault}
+use Rattle.pbf_frame.specs.declared.part.TheConstants.{MAX_OFFSET}
+use Rattle.osm_value.specs.Sink.{Writes}
+use Rattle.osm_store.specs.Held.{HeldMap, IsApart}
+use Rattle.osm_store.specs.Keeping.{extents_of}
+use Rattle.osm_store.specs.declared.fault.StoreFault.{StoreFault}
+use Rattle.osm_store.specs.declared.keeper.Extent.{Extent}
+use Rattle.osm_import.specs.Exports.{Known}
+use Rattle.osm_import.specs.Files.{AreFrames, IsFile}
+use Rattle.osm_import.specs.Files as files
+use Rattle.osm_import.specs.Faults.{number_of, name_of}
+use Rattle.osm_import.specs.Lines.{fault_line}
+use Rattle.osm_import.specs.FrameReads.{Reading, Halts}
+use Rattle.osm_import.specs.Step.{HasCause}
+use Rattle.osm_import.specs.declared.fault.Fault.{Fault}
+use Rattle.osm_import.specs.declared.stream.fault.Stop.{Stop}
+use Rattle.osm_import.specs.declared.stream.fault.Stop.TheVariants.{Frame, NoHeaderFirst, WriteFailed, Store, ReadFailed, BlobLimit}
+use Rattle.osm_import.specs.declared.stream.fault.StreamFault.{StreamFault}
+use Rattle.osm_verify.specs.Agreements.{begins}
+use Rattle.osm_verify.specs.Laws.{AreSame, AreAlone, IsExact}
+use Rattle.osm_verify.specs.declared.comparing.Depth.{Depth}
+use Rattle.osm_verify.specs.declared.comparing.Agreement.{Agreement}
+use Rattle.osm_verify.specs.declared.comparing.Agreement.TheVariants.{Same, Missing, Differs}
+use Rattle.osm_verify.proofs.LawLemmas.{verified-is-exact}
+use Rattle.pbfrow_commands.specs.Checking.{capped}
+use Rattle.pbfrow_commands.specs.CommandLines.{stop_line}
+use Rattle.pbfrow_commands.specs.Walks.{Part, joined, lines_from, AreFound, status_of}
+use Rattle.pbfrow_commands.specs.Verifying.{Comparison, Compared, IsComparison, HasCompared, first_extra, is_missing, is_other, counts_of, agreement_line, comparison_line, IsBroken, IsClosing, HasClosed, close_text, counts_behind, counts_line, header_line, extra_lines, compared_lines, is_agreed, ComparesBlobs, VerifiesInput}
+use Rattle.pbfrow_commands.specs.declared.verify.Close.{Close}
+use Rattle.pbfrow_commands.specs.declared.verify.Close.TheVariants.{Whole, Early, Unwritten}
+use Rattle.pbfrow_commands.specs.declared.verify.Counts.{Counts}
+use Rattle.pbfrow_commands.proofs.Walking.{Going, refused, tells-early, tells-nothing, lines-unwritten, status-zero}
+
+-- ---- pieces of lines, joined
+
+pub at_parts : (before label : List ℕ) (off : ℕ) → ((before ++ label) ++ decimal off) ++ codes "\n" ≡ before ++ (label ++ decimal off ++ codes "\n")
+at_parts before label off = three before label (decimal off) (codes "\n")
+  where
+    three : (b p q r : List ℕ) → ((b ++ p) ++ q) ++ r ≡ b ++ (p ++ q ++ r)
+    three b p q r = simp append_assoc
+
+nine : (t p b q m r d s e n : List ℕ) → ((((t ++ (p ++ b)) ++ (q ++ m)) ++ (r ++ d)) ++ (s ++ e)) ++ n ≡ t ++ (p ++ b ++ q ++ m ++ r ++ d ++ s ++ e ++ n)
+nine t p b q m r d s e n = simp append_assoc
+
+pub counts_parts : (before : List ℕ) (c : Counts)
+    → ((((before ++ (codes "blobs " ++ decimal c.blobs)) ++ (codes " missing " ++ decimal c.missing)) ++ (codes " differs " ++ decimal c.differs)) ++ (codes " extra " ++ decimal c.extra)) ++ codes "\n" ≡ before ++ counts_line c
+counts_parts before c = nine before (codes "blobs ") (decimal c.blobs) (codes " missing ") (decimal c.missing) (codes " differs ") (decimal c.differs) (codes " extra ") (decimal c.extra) (codes "\n")
+
+pub fault_parts : (before : List ℕ) (at number : ℕ) (name : List ℕ) (fault : Fault) (verdict : Comparison) → verdict ≡ Err fault → number ≡ number_of fault → name ≡ name_of fault
+    → before ++ fault_line number name at ≡ before ++ comparison_line at verdict
+fault_parts before at number name fault verdict is numbered named =
+    ap (λ n. before ++ fault_line n name at) numbered ∙ ap (λ (m : List ℕ). before ++ fault_line (number_of fault) m at) named ∙ ap (λ (v : Comparison). before ++ comparison_line at v) (sym is)
+
+pub agreement_parts : (before : List ℕ) (at : ℕ) (agreement : Agreement) (verdict : Comparison) → verdict ≡ Ok agreement → before ++ agreement_line at agreement ≡ before ++ comparison_line at verdict
+agreement_parts before at agreement verdict is = ap (λ (v : Comparison). before ++ comparison_line at v) (sym is)
+
+-- ---- what stands behind the blobs
+
+none-there : (blobs : List (Part Compared)) (c : Counts) → c ≡ counts_of blobs 0 → c.blobs ≡ 0 → blobs ≡ []
+none-there blobs c is none =
+    let capped_is : c.blobs ≡ capped (length blobs) = ap (λ (x : Counts). x.blobs) is in
+    nil_from_length blobs (omega (arith, capped_is, none))
+
+pub lack-parts : (before : List ℕ) (blobs : List (Part Compared)) (c : Counts) → c ≡ counts_of blobs 0 → c.blobs ≡ 0 → before ++ stop_line NoHeaderFirst 0 ≡ before ++ header_line blobs
+lack-parts before blobs c is none = ap (λ (bs : List (Part Compared)). before ++ header_line bs) (sym (none-there blobs c is none))
+
+pub no-lack : (before : List ℕ) (blobs : List (Part Compared)) (c : Counts) → c ≡ counts_of blobs 0 → (c.blobs ≡ 0 → ⊥) → before ≡ before ++ header_line blobs
+no-lack before [] c is some = absurd (some (ap (λ (x : Counts). x.blobs) is))
+no-lack before (p ∷ blobs) c is some = sym (append-nil before)
+
+pub whole-parts : (before : List ℕ) (blobs : List (Part Compared)) (extras : List Extent) (c : Counts) → c ≡ counts_of blobs (length extras)
+    → ((before ++ header_line blobs) ++ extra_lines extras) ++ counts_line c ≡ before ++ (header_line blobs ++ extra_lines extras ++ counts_line (counts_of blobs (length extras)))
+whole-parts before blobs extras c is = joined-three before (header_line blobs) (extra_lines extras) (counts_line c) ∙ ap (λ (x : Counts). before ++ (header_line blobs ++ extra_lines extras ++ counts_line x)) is
+  where
+    joined-three : (b p q r : List ℕ) → ((b ++ p) ++ q) ++ r ≡ b ++ (p ++ q ++ r)
+    joined-three b p q r = simp append_assoc
+
+no-counts : (blobs : List (Part Compared)) (stop : Stop) → ((fault : FrameFault) → stop ≢ Frame fault) → counts_behind blobs stop ≡ []
+no-counts blobs (Frame fault) other = absurd (other fault refl)
+no-counts blobs NoHeaderFirst other = refl
+no-counts blobs WriteFailed other = refl
+no-counts blobs (Store fault) other = refl
+no-counts blobs ReadFailed other = refl
+no-counts blobs BlobLimit other = refl
+
+pub frame-end : (before : List ℕ) (blobs : List (Part Compared)) (stop : StreamFault) (fault : FrameFault) (c : Counts) → stop.fault ≡ Frame fault → c ≡ counts_of blobs 0
+    → (before ++ stop_line stop.fault stop.at) ++ counts_line c ≡ before ++ close_text (Early stop) blobs
+frame-end before blobs stop fault c of is =
+    append_assoc before (stop_line stop.fault stop.at) (counts_line c) ∙ ap (λ (t : List ℕ). before ++ (stop_line stop.fault stop.at ++ t)) (ap counts_line is ∙ sym (ap (counts_behind blobs) of))
+
+pub other-end : (before : List ℕ) (blobs : List (Part Compared)) (stop : StreamFault) → ((fault : FrameFault) → stop.fault ≢ Frame fault) → before ++ stop_line stop.fault stop.at ≡ before ++ close_text (Early stop) blobs
+other-end before blobs stop other =
+    let line = stop_line stop.fault stop.at in
+    ap (λ (t : List ℕ). before ++ t) (sym (append-nil line) ∙ ap (λ (t : List ℕ). line ++ t) (sym (no-counts blobs stop.fault other)))
+
+-- ---- how they end
+
+-- memory was refused before a byte was read
+pub closes-nothing : (depth : Depth) (held : HeldMap) (left written : Known) (failed : Bool) (before after : ℕ) (stop : StreamFault) → stop ≡ refused 0 → ComparesBlobs depth held left written written failed before after [] (Early stop)
+closes-nothing depth held left written failed before after stop is =
+    let told = tells-nothing (HasCompared depth held) compared_lines left written failed stop is in
+    record { found = tt; behind = told.walked.behind; read = told.walked.read; closed = inl told.walked.ended; lines = told.lines }
+
+pub closes-early : (depth : Depth) (held : HeldMap) (left : Known) (was now : Reading) (old mid : Known) (failed : Bool) (before after : ℕ) (blobs : List (Part Compared)) (stop : StreamFault)
+    → Going (HasCompared depth held) compared_lines left was old mid failed blobs → Halts was now stop → ComparesBlobs depth held left old mid failed before after blobs (Early stop)
+closes-early depth held left was now old mid failed before after blobs stop so_far halts =
+    let told = tells-early (HasCompared depth held) compared_lines left was now old mid failed blobs stop so_far halts in
+    record { found = told.walked.found; behind = told.walked.behind; read = told.walked.read; closed = inl told.walked.ended; lines = told.lines }
+
+pub closes-broken : (depth : Depth) (held : HeldMap) (left : Known) (now : Reading) (old mid : Known) (failed : Bool) (before after : ℕ) (blobs : List (Part Compared)) (stop : StreamFault) (at : ℕ)
+    → Going (HasCompared depth held) compared_lines left now old mid failed blobs → at ≡ now.offset → IsBroken at before after stop → ComparesBlobs depth held left old mid failed before after blobs (Early stop)
+closes-broken depth held left now old mid failed before after blobs stop at so_far here broken = record {
+  found = so_far.found;
+  behind = now.left;
+  read = so_far.read;
+  closed = inr (subst (λ n. IsBroken n before after stop) (here ∙ so_far.stands) broken);
+  lines = so_far.lines;
+}
+
+pub closes-unwritten : (depth : Depth) (held : HeldMap) (left : Known) (now : Reading) (old mid written : Known) (was failed : Bool) (before after : ℕ) (blobs : List (Part Compared))
+    → failed ≡ true → Keeps mid written → Going (HasCompared depth held) compared_lines left now old mid was blobs → ComparesBlobs depth held left old written failed before after blobs Unwritten
+closes-unwritten depth held left now old mid written was failed before after blobs is kept so_far = record {
+  found = so_far.found;
+  behind = now.left;
+  read = so_far.read;
+  closed = is;
+  lines = lines-unwritten (HasCompared depth held) compared_lines left now old mid written was failed blobs is kept so_far;
+}
+
+-- at the end of the input, whatever the store answers there
+pub closes-whole : (depth : Depth) (held : HeldMap) (left : Known) (now : Reading) (old mid : Known) (failed : Bool) (before after : ℕ) (blobs : List (Part Compared)) (end : ℕ) (close : Close)
+    → Going (HasCompared depth held) compared_lines left now old mid failed blobs → IsAtEnd now.left → end ≡ now.offset → IsClosing held end before after close
+    → ComparesBlobs depth held left old mid failed before after blobs close
+closes-whole depth held left now old mid failed before after blobs end close so_far ended here closing =
+    record { found = so_far.found; behind = now.left; read = so_far.read; closed = of-close close closing; lines = so_far.lines }
+  where
+    there : end ≡ length (joined blobs)
+    there = here ∙ so_far.stands
+
+    of-close : (close : Close) → IsClosing held end before after close → HasClosed held (length (joined blobs)) now.left failed before after close
+    of-close (Whole extras) is = (ended, is ∙ ap (λ n. filter (begins n MAX_OFFSET) (extents_of held)) there)
+    of-close (Early stop) broken = inr (subst (λ n. IsBroken n before after stop) there broken)
+    of-close Unwritten none = absurd none
+
+-- a fault's cause lasts
+pub cause-later : (before mid now : ℕ) (fault : StoreFault) → before ≤ mid → HasCause mid now fault → HasCause before now fault
+cause-later before mid now fault le (inl memory) = inl memory
+cause-later before mid now fault le (inr (inl less)) = inr (inl (omega arith))
+cause-later before mid now fault le (inr (inr full)) = inr (inr full)
+
+pub broken-later : (at before mid now : ℕ) (stop : StreamFault) → before ≤ mid → IsBroken at mid now stop → IsBroken at before now stop
+broken-later at before mid now stop le b = record { here = b.here; fault = b.fault; is = b.is; cause = cause-later before mid now b.fault le b.cause; own = b.own }
+
+pub closing-later : (held : HeldMap) (at before mid now : ℕ) (close : Close) → before ≤ mid → IsClosing held at mid now close → IsClosing held at before now close
+closing-later held at before mid now (Whole extras) le is = is
+closing-later held at before mid now (Early stop) le b = broken-later at before mid now stop le b
+closing-later held at before mid now Unwritten le none = absurd none
+
+-- ---- the whole
+
+closed-on : (held : HeldMap) (at : ℕ) (left : Known) (was failed : Bool) (before now : ℕ) (close : Close) → (close ≡ Unwritten → failed ≡ was) → HasClosed held at left was before now close → HasClosed held at left failed before now close
+closed-on held at left was failed before now (Whole extras) same h = h
+closed-on held at left was failed before now (Early stop) same h = h
+closed-on held at left was failed before now Unwritten same h = same refl ∙ h
+
+pub verifies-input : (depth : Depth) (held : HeldMap) (left old mid written : Known) (was failed : Bool) (before now : ℕ) (blobs : List (Part Compared)) (close : Close) (status : ℕ)
+    → ComparesBlobs depth held left old mid was before now blobs close → (close ≡ Unwritten → failed ≡ was) → Writes mid was written failed (close_text close blobs)
+    → status ≡ status_of (is_agreed close blobs) failed → VerifiesInput depth held left old written failed before now status
+verifies-input depth held left old mid written was failed before now blobs close status told same line is = record {
+  blobs = blobs;
+  close = close;
+  found = told.found;
+  behind = told.behind;
+  read = told.read;
+  closed = closed-on held (length (joined blobs)) told.behind was failed before now close same told.closed;
+  text = line old (lines_from compared_lines 0 blobs) told.lines;
+  status_is = is;
+}
+
+-- ---- at 0
+
+-- the frames of blobs
+frames_of : List (Part Compared) → List (List ℕ)
+frames_of [] = []
+frames_of (p ∷ ps) = p.bytes ∷ frames_of ps
+
+frames-joined : (ps : List (Part Compared)) → joined ps ≡ files.joined (frames_of ps)
+unfolding frames_of
+frames-joined [] = refl
+frames-joined (p ∷ ps) = ap (λ (v : List ℕ). p.bytes ++ v) (frames-joined ps)
+
+frames-whole : (depth : Depth) (held : HeldMap) (at : ℕ) (ps : List (Part Compared)) → AreFound (HasCompared depth held) at ps → AreFrames (frames_of ps)
+unfolding frames_of
+frames-whole depth held at [] found = tt
+frames-whole depth held at (p ∷ ps) found = ((p.type_name, p.blob, found.0), frames-whole depth held (at + length p.bytes) ps found.2)
+
+record AllZero (ps : List (Part Compared)) : Type 0 where
+  bad : count_by (λ (q : Part Compared). is_err q.found.verdict) ps ≡ 0
+  missing : count_by (λ (q : Part Compared). is_missing q.found.verdict) ps ≡ 0
+  differs : count_by (λ (q : Part Compared). is_other q.found.verdict) ps ≡ 0
+  extra : sum_by (λ (q : Part Compared). length q.found.extras) ps ≡ 0
+
+zero-sum : (n m k : ℕ) → n ≡ 0 → n ≡ m + k → (m ≡ 0) × (k ≡ 0)
+zero-sum n m k zero sum = (omega (arith, zero, sum), omega (arith, zero, sum))
+
+abbrev one_if : Bool → ℕ
+one_if b = cond b 1 0
+
+verdict-same : (v : Comparison) → one_if (is_err v) ≡ 0 → one_if (is_missing v) ≡ 0 → one_if (is_other v) ≡ 0 → v ≡ Ok Same
+verdict-same (Ok Same) bad missing differs = refl
+verdict-same (Ok Missing) bad missing differs = absurd (omega (arith, missing))
+verdict-same (Ok Differs) bad missing differs = absurd (omega (arith, differs))
+verdict-same (Err fault) bad missing differs = absurd (omega (arith, bad))
+
+all-same : (depth : Depth) (held : HeldMap) (at : ℕ) (ps : List (Part Compared)) → AreFound (HasCompared depth held) at ps → AllZero ps → filter (begins (at + length (joined ps)) MAX_OFFSET) (extents_of held) ≡ []
+    → AreSame depth held at (frames_of ps) × AreAlone held at (frames_of ps)
+unfolding frames_of
+all-same depth held at [] found zero none = (tt, ap (λ n. filter (begins n MAX_OFFSET) (extents_of held)) (sym (add-zero at)) ∙ none)
+all-same depth held at (p ∷ ps) found zero none =
+    let bad = zero-sum _ _ _ zero.bad (sum_by-cons (λ (q : Part Compared). cond (is_err q.found.verdict) 1 0) p ps) in
+    let missing = zero-sum _ _ _ zero.missing (sum_by-cons (λ (q : Part Compared). cond (is_missing q.found.verdict) 1 0) p ps) in
+    let differs = zero-sum _ _ _ zero.differs (sum_by-cons (λ (q : Part Compared). cond (is_other q.found.verdict) 1 0) p ps) in
+    let extra = zero-sum _ _ _ zero.extra (sum_by-cons (λ (q : Part Compared). length q.found.extras) p ps) in
+    let same : p.found.verdict ≡ Ok Same = verdict-same p.found.verdict bad.0 missing.0 differs.0 in
+    let own : IsComparison depth held at p.bytes (Ok Same) = subst (λ (v : Comparison). IsComparison depth held at p.bytes v) same found.1.judged in
+    let inside : p.found.extras ≡ filter (begins (at + 1) (at + length p.bytes)) (extents_of held)
+    = found.1.extras ∙ ap (λ (v : Comparison). filter (begins (first_extra at v) (at + length p.bytes)) (extents_of held)) same in
+    let there : at + length p.bytes + length (joined ps) ≡ at + length (joined (p ∷ ps)) = omega (arith, length-append p.bytes (joined ps)) in
+    let rest = all-same depth held (at + length p.bytes) ps found.2 (record { bad = bad.1; missing = missing.1; differs = differs.1; extra = extra.1 })
+    (ap (λ n. filter (begins n MAX_OFFSET) (extents_of held)) there ∙ none) in (
+      (own, rest.0),
+      (sym inside ∙ nil_from_length p.found.extras extra.0, rest.1),
+    )
+
+capped-zero : (c n : ℕ) → c ≡ capped n → c ≡ 0 → n ≡ 0
+capped-zero c n is zero = omega (arith, is, zero)
+
+eq-zero : (n : ℕ) → (n == 0) ≡ true → n ≡ 0
+eq-zero n is = grind (arith, nat_tests)
+
+lt-zero : (n : ℕ) → nat_lt 0 n ≡ true → 0 < n
+lt-zero n is = grind (arith, nat_tests)
+
+some-frames : (ps : List (Part Compared)) → 0 < capped (length ps) → frames_of ps ≢ []
+unfolding frames_of
+some-frames [] some none = omega arith
+some-frames (p ∷ ps) some none = (let bad : p.bytes ∷ frames_of ps ≡ [] = none in cc)
+
+pub exact-at-zero : (depth : Depth) (held : HeldMap) (left old written : Known) (failed : Bool) (before now status : ℕ) → IsApart held → VerifiesInput depth held left old written failed before now status → status ≡ 0
+    → IfSome left (λ bytes. (frames : List (List ℕ)) × IsFile bytes frames × IsExact depth held frames)
+exact-at-zero depth held left old written failed before now status apart h zero =
+    let well = status-zero (is_agreed h.close h.blobs) failed status h.status_is zero in
+    of-close h.close refl well.0
+  where
+    of-close : (close : Close) → h.close ≡ close → is_agreed close h.blobs ≡ true → IfSome left (λ bytes. (frames : List (List ℕ)) × IsFile bytes frames × IsExact depth held frames)
+    of-close (Early stop) is agreed = absurd (false≢true agreed)
+    of-close Unwritten is agreed = absurd (false≢true agreed)
+    of-close (Whole extras) is agreed =
+        let c = counts_of h.blobs (length extras.items) in
+        let closed : IsAtEnd h.behind × (extras.items ≡ filter (begins (length (joined h.blobs)) MAX_OFFSET) (extents_of held))
+        = subst (λ (close : Close). HasClosed held (length (joined h.blobs)) h.behind failed before now close) is h.closed in
+        let one = and_parts (nat_lt 0 c.blobs) ((c.bad == 0 && c.missing == 0) && (c.differs == 0 && c.extra == 0)) agreed in
+        let two = and_parts (c.bad == 0 && c.missing == 0) (c.differs == 0 && c.extra == 0) one.1 in
+        let left_two = and_parts (c.bad == 0) (c.missing == 0) two.0 in
+        let right_two = and_parts (c.differs == 0) (c.extra == 0) two.1 in
+        let sums = zero-sum _ (sum_by (λ (q : Part Compared). length q.found.extras) h.blobs) (length extras.items) (capped-zero c.extra _ refl (eq-zero c.extra right_two.1)) refl in
+        let zeros : AllZero h.blobs = record {
+          bad = capped-zero c.bad _ refl (eq-zero c.bad left_two.0);
+          missing = capped-zero c.missing _ refl (eq-zero c.missing left_two.1);
+          differs = capped-zero c.differs _ refl (eq-zero c.differs right_two.0);
+          extra = sums.0;
+        } in
+        let none : filter (begins (0 + length (joined h.blobs)) MAX_OFFSET) (extents_of held) ≡ []
+        = ap (λ n. filter (begins n MAX_OFFSET) (extents_of held)) (zero-add (length (joined h.blobs))) ∙ sym closed.1 ∙ nil_from_length extras.items sums.1 in
+        let all = all-same depth held 0 h.blobs h.found zeros none in
+        Consumes-whole left h.behind (joined h.blobs) (λ bytes. (frames : List (List ℕ)) × IsFile bytes frames × IsExact depth held frames) h.read closed.0 (
+          frames_of h.blobs,
+          record { some = some-frames h.blobs (lt-zero c.blobs one.0); whole = frames-whole depth held 0 h.blobs h.found; is_joined = frames-joined h.blobs },
+          verified-is-exact depth held (frames_of h.blobs) apart (record { same = all.0; alone = all.1 }),
+        )

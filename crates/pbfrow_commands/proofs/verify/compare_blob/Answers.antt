@@ -1,0 +1,23 @@
+use Rattle.std.proofs.Common.{◌++◌, ◌∙◌, List, refl, ap, append_assoc}
+use Rattle.osm_store.specs.declared.keeper.Extent.{Extent}
+use Rattle.osm_value.proofs.SinkLemmas.{Wrote-text}
+use Rattle.pbfrow_commands.specs.Verifying.{Compared, comparison_line, extra_lines}
+use Rattle.pbfrow_commands.specs.Walks.{Part}
+use Rattle.pbfrow_commands.proofs.verify.compare_blob.Goals as goal
+
+pub returns-clause-told : goal.returns-clause-told
+returns-clause-told g c = λ held holds honest.
+    let finding = c.in-Ok.finding in
+    let p : Part Compared =
+    record { type_name = c.requires.frame.0; blob = c.requires.frame.1; bytes = c.args.bytes.now; found = record { verdict = finding.verdict; extras = finding.extras.items } } in (
+      p,
+      refl,
+      c.requires.frame.2,
+      c.in-Ok.ensures.found held holds honest,
+      (λ start before h.
+          Wrote-text start _ _ _ _
+          (append_assoc before (comparison_line c.args.at finding.verdict) (extra_lines c.deref.result.now)
+          ∙ ap (λ (es : List Extent). before ++ (comparison_line c.args.at finding.verdict ++ extra_lines es)) c.deref.ensures.value)
+          (c.put_extras.ensures start _ (c.put_verdict.ensures start before h))),
+      (λ blobs is. c.add.ensures blobs p refl is),
+    )

@@ -1,0 +1,11 @@
+use Rattle.pbfrow_commands.proofs.VerifyLemmas.{verifies-input, exact-at-zero}
+use Rattle.pbfrow_commands.proofs.verify.verify.Goals as goal
+
+pub returns-clause-verified : goal.returns-clause-verified
+returns-clause-verified g c = λ held holds honest.
+    let told = c.compare_blobs-close.ensures.told held holds honest in
+    verifies-input c.args.depth held _ _ _ _ _ _ _ _ told.0 c.compare_blobs-close.result _ told.1 c.finish.ensures.unwritten (c.finish.ensures.line told.0 told.2) (c.finish.ensures.status told.0 told.2)
+
+pub returns-clause-exact : goal.returns-clause-exact
+returns-clause-exact g c = λ held holds honest zero.
+    exact-at-zero c.args.depth held _ _ _ _ _ _ _ (g.met.K.Reader.is_apart _ held holds) (returns-clause-verified g c held holds honest) zero

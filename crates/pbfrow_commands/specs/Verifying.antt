@@ -1,0 +1,174 @@
+-- What the command `verify` prints: a line for each bad blob and each that isn't held alike, one for each extra extent, one
+-- for what ended the frames early, and the counts.
+use Rattle.std.specs.Prelude.{◌≡◌, ◌⊎◌, ℕ, ◌+◌, ◌==◌, nat_lt, Bool, true, false, ◌&&◌, List, [], ◌∷◌, ◌++◌, length, filter, codes, Result, Ok, Err, is_err}
+use Rattle.std.specs.List.{count_by, flat_map, sum_by}
+use Rattle.std.specs.Fmt.{decimal}
+use Rattle.std.specs.Io.KnownBytes.{Consumes, IsAtEnd}
+use Rattle.pbf_frame.specs.declared.part.TheConstants.{MAX_OFFSET}
+use Rattle.osm_value.specs.Sink.{Wrote}
+use Rattle.osm_store.specs.Held.{HeldMap}
+use Rattle.osm_store.specs.Keeping.{IsForeign, extents_of}
+use Rattle.osm_store.specs.declared.fault.StoreFault.{StoreFault}
+use Rattle.osm_store.specs.declared.keeper.Extent.{Extent}
+use Rattle.osm_import.specs.Bad.{IsBad}
+use Rattle.osm_import.specs.Exports.{Known}
+use Rattle.osm_import.specs.Faults.{number_of, name_of}
+use Rattle.osm_import.specs.Lines.{fault_line}
+use Rattle.osm_import.specs.Step.{HasCause}
+use Rattle.osm_import.specs.declared.fault.Fault.{Fault}
+use Rattle.osm_import.specs.declared.stream.fault.Stop.{Stop}
+use Rattle.osm_import.specs.declared.stream.fault.Stop.TheVariants.{Frame, NoHeaderFirst, Store}
+use Rattle.osm_import.specs.declared.stream.fault.StreamFault.{StreamFault}
+use Rattle.osm_verify.specs.Agreements.{IsAgreement, begins}
+use Rattle.osm_verify.specs.declared.comparing.Depth.{Depth}
+use Rattle.osm_verify.specs.declared.comparing.Agreement.{Agreement}
+use Rattle.osm_verify.specs.declared.comparing.Agreement.TheVariants.{Same, Missing, Differs}
+use Rattle.pbfrow_commands.specs.Checking.{capped}
+use Rattle.pbfrow_commands.specs.CommandLines.{stop_line}
+use Rattle.pbfrow_commands.specs.Walks.{Part, joined, lines_from, AreFound, HasEnded, status_of}
+use Rattle.pbfrow_commands.specs.declared.input.Ending.TheVariants as ending
+use Rattle.pbfrow_commands.specs.declared.verify.Close.{Close}
+use Rattle.pbfrow_commands.specs.declared.verify.Close.TheVariants.{Whole, Early, Unwritten}
+use Rattle.pbfrow_commands.specs.declared.verify.Counts.{Counts}
+
+-- ---- one frame
+
+-- how what is held at a frame's offset compares with it, or the frame's fault
+abbrev pub Comparison : Type 0
+Comparison = Result Agreement Fault
+
+-- that, and the held extents that begin in the frame and aren't its own
+pub record Compared : Type 0 where
+  pub verdict : Comparison
+  pub extras : List Extent
+
+abbrev pub IsComparison : Depth → HeldMap → ℕ → List ℕ → Comparison → Type 0
+IsComparison depth held at w (Ok agreement) = IsAgreement depth held at w agreement
+IsComparison depth held at w (Err fault) = IsBad at w fault
+
+-- where an extent begins that isn't the frame's own: behind its offset, or at it where the frame is bad
+abbrev pub first_extra : ℕ → Comparison → ℕ
+first_extra at (Ok agreement) = at + 1
+first_extra at (Err fault) = at
+
+pub record IsCompared (depth : Depth) (held : HeldMap) (at : ℕ) (w : List ℕ) (found : Compared) : Type 0 where
+  pub judged : IsComparison depth held at w found.verdict
+  pub extras : found.extras ≡ filter (begins (first_extra at found.verdict) (at + length w)) (extents_of held)
+
+abbrev pub HasCompared : Depth → HeldMap → ℕ → Part Compared → Type 0
+HasCompared depth held at p = IsCompared depth held at p.bytes p.found
+
+-- ---- its lines
+
+abbrev pub agreement_line : ℕ → Agreement → List ℕ
+agreement_line at Same = []
+agreement_line at Missing = codes "missing " ++ decimal at ++ codes "\n"
+agreement_line at Differs = codes "differs " ++ decimal at ++ codes "\n"
+
+abbrev pub comparison_line : ℕ → Comparison → List ℕ
+comparison_line at (Ok agreement) = agreement_line at agreement
+comparison_line at (Err fault) = fault_line (number_of fault) (name_of fault) at
+
+abbrev pub extra_line : Extent → List ℕ
+extra_line extent = codes "extra " ++ decimal extent.off ++ codes "\n"
+
+abbrev pub extra_lines : List Extent → List ℕ
+extra_lines extents = flat_map extra_line extents
+
+abbrev pub compared_lines : ℕ → Part Compared → List ℕ
+compared_lines at p = comparison_line at p.found.verdict ++ extra_lines p.found.extras
+
+-- ---- the counts
+
+abbrev pub is_missing : Comparison → Bool
+is_missing (Ok Missing) = true
+is_missing (Ok Same) = false
+is_missing (Ok Differs) = false
+is_missing (Err fault) = false
+
+abbrev pub is_other : Comparison → Bool
+is_other (Ok Differs) = true
+is_other (Ok Same) = false
+is_other (Ok Missing) = false
+is_other (Err fault) = false
+
+-- those of blobs, behind which so many more extents are extra; a count stops at 2^64 - 1
+abbrev pub counts_of : List (Part Compared) → ℕ → Counts
+counts_of blobs behind = record {
+  blobs = capped (length blobs);
+  bad = capped (count_by (λ p. is_err p.found.verdict) blobs);
+  missing = capped (count_by (λ p. is_missing p.found.verdict) blobs);
+  differs = capped (count_by (λ p. is_other p.found.verdict) blobs);
+  extra = capped (sum_by (λ p. length p.found.extras) blobs + behind);
+}
+
+abbrev pub counts_line : Counts → List ℕ
+counts_line c = codes "blobs " ++ decimal c.blobs ++ codes " missing " ++ decimal c.missing ++ codes " differs " ++ decimal c.differs ++ codes " extra " ++ decimal c.extra ++ codes "\n"
+
+-- there is a blob, and none is bad, missing or different, and no extent is extra
+abbrev pub agree : Counts → Bool
+agree c = nat_lt 0 c.blobs && ((c.bad == 0 && c.missing == 0) && (c.differs == 0 && c.extra == 0))
+
+-- ---- the whole
+
+-- the store answered a fault at this offset, and why
+pub record IsBroken (at before now : ℕ) (stop : StreamFault) : Type 0 where
+  pub here : stop.at ≡ at
+  pub fault : StoreFault
+  pub is : stop.fault ≡ Store fault
+  pub cause : HasCause before now fault
+  pub own : ¬ (IsForeign fault)
+
+-- the end of the input at this offset, with the extents that begin there or behind, or a fault of the store
+abbrev pub IsClosing : HeldMap → ℕ → ℕ → ℕ → Close → Type 0
+IsClosing held at before now (Whole extras) = extras.items ≡ filter (begins at MAX_OFFSET) (extents_of held)
+IsClosing held at before now (Early stop) = IsBroken at before now stop
+IsClosing held at before now Unwritten = ⊥
+
+-- How frames were compared behind which the next would stand at this offset, up to the end of the input, with the extents
+-- that begin there or behind; or early, since the next frame can't be read or the store answered a fault at it or at the
+-- end; or where the output has failed, and no more was read.
+abbrev pub HasClosed : HeldMap → ℕ → Known → Bool → ℕ → ℕ → Close → Type 0
+HasClosed held at left sink_failed before now (Whole extras) = IsAtEnd left × (extras.items ≡ filter (begins at MAX_OFFSET) (extents_of held))
+HasClosed held at left sink_failed before now (Early stop) = HasEnded at left sink_failed (ending.Early stop) ⊎ IsBroken at before now stop
+HasClosed held at left sink_failed before now Unwritten = sink_failed ≡ true
+
+-- the line of a file that has no blob and so no header
+abbrev pub header_line : List (Part Compared) → List ℕ
+header_line [] = stop_line NoHeaderFirst 0
+header_line (p ∷ blobs) = []
+
+-- the counts where a frame can't be read; none where a read failed, the store answered a fault or memory was refused
+abbrev pub counts_behind : List (Part Compared) → Stop → List ℕ
+counts_behind blobs (Frame fault) = counts_line (counts_of blobs 0)
+counts_behind blobs _ = []
+
+abbrev pub close_text : Close → List (Part Compared) → List ℕ
+close_text (Whole extras) blobs = header_line blobs ++ extra_lines extras.items ++ counts_line (counts_of blobs (length extras.items))
+close_text (Early stop) blobs = stop_line stop.fault stop.at ++ counts_behind blobs stop.fault
+close_text Unwritten blobs = []
+
+abbrev pub is_agreed : Close → List (Part Compared) → Bool
+is_agreed (Whole extras) blobs = agree (counts_of blobs (length extras.items))
+is_agreed (Early stop) blobs = false
+is_agreed Unwritten blobs = false
+
+-- The input begins with these frames, each compared with what is held, and they ended so; each has its lines.
+pub record ComparesBlobs (depth : Depth) (held : HeldMap) (left written_old written_new : Known) (sink_failed : Bool) (before now : ℕ) (blobs : List (Part Compared)) (close : Close) : Type 0 where
+  pub found : AreFound (HasCompared depth held) 0 blobs
+  pub behind : Known
+  pub read : Consumes left behind (joined blobs)
+  pub closed : HasClosed held (length (joined blobs)) behind sink_failed before now close
+  pub lines : Wrote written_old (lines_from compared_lines 0 blobs) written_new sink_failed
+
+-- What `verify` has done: the same, and behind the lines of the blobs stands what ended them, the extents behind and the
+-- counts. The exit status is 0 exactly where the whole input was compared, it agrees, and the output hasn't failed.
+pub record VerifiesInput (depth : Depth) (held : HeldMap) (left written_old written_new : Known) (sink_failed : Bool) (before now : ℕ) (status : ℕ) : Type 0 where
+  pub blobs : List (Part Compared)
+  pub close : Close
+  pub found : AreFound (HasCompared depth held) 0 blobs
+  pub behind : Known
+  pub read : Consumes left behind (joined blobs)
+  pub closed : HasClosed held (length (joined blobs)) behind sink_failed before now close
+  pub text : Wrote written_old (lines_from compared_lines 0 blobs ++ close_text close blobs) written_new sink_failed
+  pub status_is : status ≡ status_of (is_agreed close blobs) sink_failed

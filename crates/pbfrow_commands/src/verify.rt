@@ -1,0 +1,424 @@
+//! The command `verify`: whether a store holds exactly what an import of a file gives.
+
+ghost use Rattle.std.specs.Prelude.{◌≡◌, ◌+◌, ◌-◌, ◌^◌, ◌<◌, ◌≤◌, ◌++◌, ◌∷◌, [], length, cond, codes, ℕ, List, is_err, IfOk, IfErr, IfSome, OnOk, OnErr};
+ghost use Rattle.std.specs.Fmt.{decimal};
+ghost use Rattle.pbf_frame.specs.declared.part.TheConstants.{MAX_OFFSET as LAST};
+ghost use Rattle.osm_value.specs.Sink.{Writes};
+ghost use Rattle.osm_store.specs.Held.{HeldMap};
+ghost use Rattle.osm_store.specs.Keeping.{IsForeign, extents_of};
+ghost use Rattle.osm_import.specs.Files.{IsFile};
+ghost use Rattle.osm_import.specs.Good.{IsFrame};
+ghost use Rattle.osm_import.specs.Step.{HasCause};
+ghost use Rattle.osm_import.specs.Stores.{Rereads, Stays};
+ghost use Rattle.osm_verify.specs.Agreements.{begins};
+ghost use Rattle.osm_verify.specs.Laws.{IsExact};
+ghost use Rattle.pbfrow_commands.specs.Verifying.{Compared, HasCompared, IsClosing, IsComparison, IsCompared, ComparesBlobs, VerifiesInput, agree, agreement_line, close_text, compared_lines, comparison_line, counts_line, counts_of, extra_line, extra_lines, first_extra, header_line, is_agreed, is_missing, is_other};
+ghost use Rattle.pbfrow_commands.specs.Walks.{IsPart, Part, status_of};
+
+use crate::check::put_total;
+use crate::input::{flush_to_wait, frame_of, put_stop, status};
+use crate::watcher::Watcher;
+use osm_import::{
+    ExamineFault, Fault, FrameReader, Inlet, Stop, StreamFault, examine_frame, put_fault_at,
+};
+use osm_store::{Extent, Reader, StoreFault};
+use osm_value::{Outlet, Sink, put, put_digits};
+use osm_verify::{Agreement, Depth, compare, extents_beginning};
+use pbf_frame::MAX_OFFSET;
+use std::alloc::Global;
+use std::io::{Read, Write};
+
+/// What was found at a frame of the input.
+#[derive(Debug, Drop)]
+struct Finding {
+    /// How what is held at its offset compares with it, or its fault.
+    verdict: Result<Agreement, Fault>,
+    /// The held extents that begin in it and aren't its own.
+    extras: Vec<Extent>,
+}
+
+/// How the frames of an input were compared.
+#[derive(Debug, Drop)]
+enum Close {
+    /// All of them; these held extents begin at the end of the input or behind.
+    Whole(Vec<Extent>),
+    /// Up to a frame that can't be read, or at which the store answered a fault.
+    Early(StreamFault),
+    /// The output has failed, so that no more was read.
+    Unwritten,
+}
+
+impl Close {
+    /// The store answered a fault at this offset.
+    fn broken(fault: StoreFault, at: u64) -> Close
+        ensures { result ≡ Close.Early (record { fault = Stop.Store fault; at = at }) }
+    {
+        Close::Early(StreamFault {
+            fault: Stop::Store(fault),
+            at,
+        })
+    }
+}
+
+/// How many whole frames an input has, how many of them are bad, missing or different, and how many extents are extra. A
+/// count stops at 2^64 - 1.
+#[derive(Clone, Copy, Debug, PartialEq, Eq)]
+struct Counts {
+    blobs: u64,
+    bad: u64,
+    missing: u64,
+    differs: u64,
+    extra: u64,
+}
+
+impl Counts {
+    const NONE: Counts = Counts {
+        blobs: 0,
+        bad: 0,
+        missing: 0,
+        differs: 0,
+        extra: 0,
+    };
+
+    /// Counts one frame more.
+    fn add(&mut self, finding: &Finding)
+        ensures { (blobs : List (Part Compared)) (p : Part Compared) → p.found ≡ record { verdict = finding.now.verdict; extras = finding.now.extras.items } → self.old ≡ counts_of blobs 0
+            → self.new ≡ counts_of (blobs ++ p ∷ []) 0 }
+    {
+        self.blobs = self.blobs.saturating_add(1);
+        self.bad = self.bad.saturating_add(bad_in(&finding.verdict));
+        self.missing = self.missing.saturating_add(missing_in(&finding.verdict));
+        self.differs = self.differs.saturating_add(other_in(&finding.verdict));
+        self.extra = self.extra.saturating_add(finding.extras.len() as u64);
+    }
+
+    /// Counts extents that are extra behind all frames.
+    fn add_extras(&mut self, count: u64)
+        ensures { (blobs : List (Part Compared)) → self.old ≡ counts_of blobs 0 → self.new ≡ counts_of blobs count }
+    {
+        self.extra = self.extra.saturating_add(count);
+    }
+
+    /// Whether there is a frame, none is bad, missing or different, and no extent is extra.
+    fn agree(&self) -> bool
+        ensures { result ≡ agree self.now }
+    {
+        let sound = self.bad == 0 && self.missing == 0;
+        let exact = self.differs == 0 && self.extra == 0;
+        self.blobs > 0 && (sound && exact)
+    }
+}
+
+/// 1 where the frame is bad, else 0.
+fn bad_in(verdict: &Result<Agreement, Fault>) -> u64
+    ensures { result ≡ cond (is_err verdict.now) 1 0 }
+{
+    match verdict {
+        Ok(_) => 0,
+        Err(_) => 1,
+    }
+}
+
+/// 1 where nothing is held at the frame's offset, else 0.
+fn missing_in(verdict: &Result<Agreement, Fault>) -> u64
+    ensures { result ≡ cond (is_missing verdict.now) 1 0 }
+{
+    match verdict {
+        Ok(Agreement::Missing) => 1,
+        _ => 0,
+    }
+}
+
+/// 1 where something else is held at the frame's offset, else 0.
+fn other_in(verdict: &Result<Agreement, Fault>) -> u64
+    ensures { result ≡ cond (is_other verdict.now) 1 0 }
+{
+    match verdict {
+        Ok(Agreement::Differs) => 1,
+        _ => 0,
+    }
+}
+
+/// Compares what a store holds with what an import of the input gives: at each frame what is held at its offset, by its
+/// extent or by its elements too, and which other extents begin in the frame, and at last which begin behind the end.
+/// Writes `missing OFFSET`, `differs OFFSET` or `extra OFFSET` for each that doesn't agree and a fault's line for each bad
+/// blob, ascending by offset, and finally the counts; nothing follows the line of a read that failed, of a fault of the
+/// store or of refused memory. The lines so far are flushed before more of the input is read. Where the output fails, no
+/// more is read. What is held stays. The watcher is called for each blob that was compared.
+///
+/// Answers the exit status: 0 where the store holds exactly what an import of the input gives, at least one blob, and all
+/// was written; else 1.
+pub fn verify<K: Reader, R: Read, P: Watcher, W: Write>(
+    alloc: Global,
+    store: &mut K,
+    input: &mut R,
+    depth: Depth,
+    watcher: &P,
+    out: &mut Outlet<W>,
+) -> u8
+    ensures verified { (held : HeldMap) → K.holds store.old held → K.is_honest store.new
+        → VerifiesInput depth held (R.remaining input.old) (W.contents out.old.writer) (W.contents out.new.writer) out.new.has_failed (K.failures store.old) (K.failures store.new) result }
+    // At 0 the input is a file of good blobs, and the store holds what an import of it comes to.
+    ensures exact { (held : HeldMap) → K.holds store.old held → K.is_honest store.new → result ≡ 0
+        → IfSome (R.remaining input.old) (λ bytes. (frames : List (List ℕ)) × IsFile bytes frames × IsExact depth held frames) }
+    ensures stays { Stays K.Reader store.old store.new }
+{
+    let mut counts = Counts::NONE;
+    let close = compare_blobs(alloc, store, input, depth, watcher, &mut counts, out);
+    finish(out, &mut counts, &close)
+}
+
+/// Compares the blobs, counts them and writes their lines, and answers how the frames ended.
+fn compare_blobs<K: Reader, R: Read, P: Watcher, W: Write>(
+    alloc: Global,
+    store: &mut K,
+    input: &mut R,
+    depth: Depth,
+    watcher: &P,
+    counts: &mut Counts,
+    out: &mut Outlet<W>,
+) -> Close
+    requires { counts.old ≡ counts_of [] 0 }
+    ensures told { (held : HeldMap) → K.holds store.old held → K.is_honest store.new
+        → (blobs : List (Part Compared)) × ComparesBlobs depth held (R.remaining input.old) (W.contents out.old.writer) (W.contents out.new.writer) out.new.has_failed (K.failures store.old) (K.failures store.new) blobs result
+        × (counts.new ≡ counts_of blobs 0) }
+    ensures stays { Stays K.Reader store.old store.new }
+{
+    let mut frames = match FrameReader::new(alloc, 0, Inlet::new(input)) {
+        Ok(frames) => frames,
+        Err(stop) => return Close::Early(stop),
+    };
+    let mut end = 0;
+    loop {
+        let Ok(()) = flush_to_wait(&mut frames, out) else {
+            return Close::Unwritten;
+        };
+        match frames.next() {
+            Ok(Some((at, bytes))) => {
+                match compare_blob(alloc, store, at, bytes, depth, counts, out) {
+                    Ok(next) => {
+                        end = next;
+                        watcher.see_blob();
+                    }
+                    Err(fault) => return Close::broken(fault, at),
+                }
+            }
+            Ok(None) => return close_whole(alloc, store, end),
+            Err(stop) => return Close::Early(stop),
+        }
+    }
+}
+
+/// The end of an input, with the held extents that begin there or behind.
+fn close_whole<K: Reader>(alloc: Global, store: &mut K, end: u64) -> Close
+    requires { end ≤ LAST }
+    ensures extras { (held : HeldMap) → K.holds store.old held → K.is_honest store.new → IsClosing held end (K.failures store.old) (K.failures store.new) result }
+    ensures stays { Stays K.Reader store.old store.new }
+    ensures counted { K.failures store.old ≤ K.failures store.new }
+{
+    match extents_beginning(alloc, store, end, MAX_OFFSET) {
+        Ok(extras) => Close::Whole(extras),
+        Err(fault) => Close::broken(fault, end),
+    }
+}
+
+/// Compares a blob, counts it and writes its lines, and answers the offset behind it. At an error nothing is counted or
+/// written.
+fn compare_blob<K: Reader, S: Sink>(
+    alloc: Global,
+    store: &mut K,
+    at: u64,
+    bytes: &[u8],
+    depth: Depth,
+    counts: &mut Counts,
+    out: &mut S,
+) -> Result<u64, StoreFault>
+    requires frame { IsFrame bytes.now }
+    requires limit { at + length bytes.now ≤ LAST }
+    ensures told { (held : HeldMap) → K.holds store.old held → K.is_honest store.new
+        → OnOk result ((p : Part Compared) × (p.bytes ≡ bytes.now) × IsPart p × HasCompared depth held at p
+        × Writes (S.written out.old) (S.has_failed out.old) (S.written out.new) (S.has_failed out.new) (compared_lines at p)
+        × ((blobs : List (Part Compared)) → counts.old ≡ counts_of blobs 0 → counts.new ≡ counts_of (blobs ++ p ∷ []) 0)) }
+    ensures end { IfOk result (λ end. end ≡ at + length bytes.now) }
+    ensures err { OnErr result ((out.new ≡ out.old) × (counts.new ≡ counts.old)) }
+    ensures rereads { Rereads K.Reader store.old result store.new }
+    ensures own { (held : HeldMap) → K.holds store.old held → K.is_honest store.new → IfErr result (λ fault. ¬ (IsForeign fault)) }
+    ensures cause { IfErr result (HasCause (K.failures store.old) (K.failures store.new)) }
+    ensures counted { K.failures store.old ≤ K.failures store.new }
+{
+    let finding = match inspect(alloc, store, at, bytes, depth) {
+        Ok(finding) => finding,
+        Err(fault) => return Err(fault),
+    };
+    counts.add(&finding);
+    put_verdict(out, at, finding.verdict);
+    put_extras(out, &finding.extras);
+    Ok(at + bytes.len() as u64)
+}
+
+/// Compares a blob with what is held at its offset and in it.
+fn inspect<K: Reader>(
+    alloc: Global,
+    store: &mut K,
+    at: u64,
+    bytes: &[u8],
+    depth: Depth,
+) -> Result<Finding, StoreFault>
+    requires frame { IsFrame bytes.now }
+    requires limit { at + length bytes.now ≤ LAST }
+    ensures found { (held : HeldMap) → K.holds store.old held → K.is_honest store.new
+        → IfOk result (λ finding. IsCompared depth held at bytes.now (record { verdict = finding.verdict; extras = finding.extras.items })) }
+    ensures rereads { Rereads K.Reader store.old result store.new }
+    ensures own { (held : HeldMap) → K.holds store.old held → K.is_honest store.new → IfErr result (λ fault. ¬ (IsForeign fault)) }
+    ensures cause { IfErr result (HasCause (K.failures store.old) (K.failures store.new)) }
+    ensures counted { K.failures store.old ≤ K.failures store.new }
+{
+    let verdict = match judge(alloc, store, at, bytes, depth) {
+        Ok(verdict) => verdict,
+        Err(fault) => return Err(fault),
+    };
+    let from = first_extra(at, verdict);
+    match extents_beginning(alloc, store, from, at + bytes.len() as u64) {
+        Ok(extras) => Ok(Finding { verdict, extras }),
+        Err(fault) => Err(fault),
+    }
+}
+
+/// Where an extent begins that isn't the frame's own: behind its offset, or at it where the frame is bad.
+fn first_extra(at: u64, verdict: Result<Agreement, Fault>) -> u64
+    requires { at < LAST }
+    ensures { result ≡ first_extra at verdict }
+{
+    match verdict {
+        Ok(_) => at + 1,
+        Err(_) => at,
+    }
+}
+
+/// Compares a blob with what is held at its offset, or finds its fault.
+fn judge<K: Reader>(
+    alloc: Global,
+    store: &mut K,
+    at: u64,
+    bytes: &[u8],
+    depth: Depth,
+) -> Result<Result<Agreement, Fault>, StoreFault>
+    requires { IsFrame bytes.now }
+    ensures judged { (held : HeldMap) → K.holds store.old held → K.is_honest store.new → IfOk result (IsComparison depth held at bytes.now) }
+    ensures rereads { Rereads K.Reader store.old result store.new }
+    ensures own { (held : HeldMap) → K.holds store.old held → K.is_honest store.new → IfErr result (λ fault. ¬ (IsForeign fault)) }
+    ensures cause { IfErr result (HasCause (K.failures store.old) (K.failures store.new)) }
+    ensures counted { K.failures store.old ≤ K.failures store.new }
+{
+    match examine_frame(alloc, at, &frame_of(bytes)) {
+        Ok(good) => match compare(alloc, store, at, bytes, &good, depth) {
+            Ok(agreement) => Ok(Ok(agreement)),
+            Err(fault) => Err(fault),
+        },
+        Err(ExamineFault::Bad(fault)) => Ok(Err(fault)),
+        Err(ExamineFault::Memory) => Err(StoreFault::Memory),
+    }
+}
+
+/// Writes the line of a frame that doesn't agree, or that is bad.
+fn put_verdict<S: Sink>(out: &mut S, at: u64, verdict: Result<Agreement, Fault>)
+    ensures { Writes (S.written out.old) (S.has_failed out.old) (S.written out.new) (S.has_failed out.new) (comparison_line at verdict) }
+{
+    match verdict {
+        Ok(agreement) => put_agreement(out, at, agreement),
+        Err(fault) => put_fault_at(out, fault.number(), fault.name(), at),
+    }
+}
+
+/// Writes the line of a good frame that doesn't agree.
+fn put_agreement<S: Sink>(out: &mut S, at: u64, agreement: Agreement)
+    ensures { Writes (S.written out.old) (S.has_failed out.old) (S.written out.new) (S.has_failed out.new) (agreement_line at agreement) }
+{
+    match agreement {
+        Agreement::Same => {}
+        Agreement::Missing => put_at(out, b"missing ", at),
+        Agreement::Differs => put_at(out, b"differs ", at),
+    }
+}
+
+/// Writes `LABEL OFFSET`.
+fn put_at<S: Sink>(out: &mut S, label: &[u8], off: u64)
+    ensures { Writes (S.written out.old) (S.has_failed out.old) (S.written out.new) (S.has_failed out.new) (label.now ++ decimal off ++ codes "\n") }
+{
+    put(out, label);
+    put_digits(out, off);
+    put(out, b"\n");
+}
+
+/// Writes `extra OFFSET` for each extent.
+fn put_extras<S: Sink>(out: &mut S, extras: &[Extent])
+    ensures { Writes (S.written out.old) (S.has_failed out.old) (S.written out.new) (S.has_failed out.new) (extra_lines extras.now) }
+{
+    for extent in extras {
+        put_at(out, b"extra ", extent.off);
+    }
+}
+
+/// Writes what stands behind the lines of the blobs, and answers the exit status.
+fn finish<S: Sink>(out: &mut S, counts: &mut Counts, close: &Close) -> u8
+    ensures line { (blobs : List (Part Compared)) → counts.old ≡ counts_of blobs 0
+        → Writes (S.written out.old) (S.has_failed out.old) (S.written out.new) (S.has_failed out.new) (close_text close.now blobs) }
+    ensures status { (blobs : List (Part Compared)) → counts.old ≡ counts_of blobs 0 → result ≡ status_of (is_agreed close.now blobs) (S.has_failed out.new) }
+    ensures unwritten { close.now ≡ Close.Unwritten → S.has_failed out.new ≡ S.has_failed out.old }
+{
+    match close {
+        Close::Whole(extras) => finish_whole(out, counts, extras),
+        Close::Early(stop) => {
+            finish_early(out, counts, *stop);
+            1
+        }
+        Close::Unwritten => 1,
+    }
+}
+
+/// Writes the lines of the extents that begin behind an input that has ended, and the counts; an input with no blob lacks
+/// its header, which is a fault. Answers the exit status.
+fn finish_whole<S: Sink>(out: &mut S, counts: &mut Counts, extras: &[Extent]) -> u8
+    ensures line { (blobs : List (Part Compared)) → counts.old ≡ counts_of blobs 0
+        → Writes (S.written out.old) (S.has_failed out.old) (S.written out.new) (S.has_failed out.new) (header_line blobs ++ extra_lines extras.now ++ counts_line (counts_of blobs (length extras.now))) }
+    ensures status { (blobs : List (Part Compared)) → counts.old ≡ counts_of blobs 0 → result ≡ status_of (agree (counts_of blobs (length extras.now))) (S.has_failed out.new) }
+{
+    put_lack(out, counts);
+    put_extras(out, extras);
+    counts.add_extras(extras.len() as u64);
+    put_counts(out, counts);
+    status(out, counts.agree())
+}
+
+/// Writes the line of an input with no blob, which lacks its header.
+fn put_lack<S: Sink>(out: &mut S, counts: &Counts)
+    ensures { (blobs : List (Part Compared)) → counts.now ≡ counts_of blobs 0
+        → Writes (S.written out.old) (S.has_failed out.old) (S.written out.new) (S.has_failed out.new) (header_line blobs) }
+{
+    if counts.blobs == 0 {
+        let fault = Stop::NoHeaderFirst;
+        put_stop(out, StreamFault { fault, at: 0 });
+    }
+}
+
+/// Writes the line of what ended the frames early and, where that is a fault of a frame, the counts.
+fn finish_early<S: Sink>(out: &mut S, counts: &Counts, stop: StreamFault)
+    ensures { (blobs : List (Part Compared)) → counts.now ≡ counts_of blobs 0
+        → Writes (S.written out.old) (S.has_failed out.old) (S.written out.new) (S.has_failed out.new) (close_text (Close.Early stop) blobs) }
+{
+    put_stop(out, stop);
+    if let Stop::Frame(_) = stop.fault {
+        put_counts(out, counts);
+    }
+}
+
+/// Writes `blobs BLOBS missing MISSING differs DIFFERS extra EXTRA`.
+fn put_counts<S: Sink>(out: &mut S, counts: &Counts)
+    ensures { Writes (S.written out.old) (S.has_failed out.old) (S.written out.new) (S.has_failed out.new) (counts_line counts.now) }
+{
+    put_total(out, b"blobs ", counts.blobs);
+    put_total(out, b" missing ", counts.missing);
+    put_total(out, b" differs ", counts.differs);
+    put_total(out, b" extra ", counts.extra);
+    put(out, b"\n");
+}
