@@ -165,6 +165,7 @@ fn under_step_limits_of<F: NewStore, T: NewStore, R: Abort + Alloc<A = Global>>(
     let mut to = T::new_store(alloc)?;
     assert!(rt; deliver(alloc, &mut to, 200, NODES) == Answer::Stored(2));
     let mut interrupted = 0;
+    let mut copied = 0;
     for limit in 1..100 {
         limit_steps(&mut from, &mut to, limited, Some(limit));
         let outcome = copy_held(alloc, &mut from, &mut to);
@@ -173,8 +174,10 @@ fn under_step_limits_of<F: NewStore, T: NewStore, R: Abort + Alloc<A = Global>>(
             break;
         };
         assert!(rt; fault == CopyFault::Store(StoreFault::Interrupted));
-        let below = if off == 47 { 1 } else { 0 };
-        assert!(rt; to.extents(alloc)?.len() == below + 1);
+        if off == 47 {
+            copied = 1;
+        }
+        assert!(rt; to.extents(alloc)?.len() == copied + 1);
         interrupted = limit;
     }
     assert!(rt; interrupted > 0);
