@@ -145,10 +145,11 @@ fn tells_what_stands_inside(rt: HostRuntime) -> Result<(), Fail> {
 fn goes_on_after_a_bad_blob(rt: HostRuntime) -> Result<(), Fail> {
     let mut store = Columns::new_store(rt.alloc()).ok_or("a store")?;
     import_two_nodes(&rt, &mut store);
+    let file = &TWO_NODES[..];
     let mut bytes = Vec::new(rt.alloc());
-    bytes.extend_from_slice(&TWO_NODES[..47])?;
-    bytes.extend_from_slice(&TWO_NODES[..47])?;
-    bytes.extend_from_slice(&TWO_NODES[47..])?;
+    bytes.extend_from_slice(&file[..47])?;
+    bytes.extend_from_slice(&file[..47])?;
+    bytes.extend_from_slice(&file[47..])?;
     let text =
         b"fault 62 HeaderNotFirst at 47\nextra 47\nmissing 94\nblobs 3 missing 1 differs 0 extra 1\n";
     expect_both(&rt, &mut store, &bytes, 1, text);
