@@ -1,10 +1,10 @@
 #!/usr/bin/env python3
 """Runs a scenario of the program of e2e/calls once for each growth of memory that it makes, with that growth refused.
 
-    refused_calls.py EVERY PROGRAM WORD..
+    refused_calls.py PROGRAM WORD..
 
-EVERY is 1, or by how many growths to go on. The library refuse.so stands in the working folder. The program makes a call
-that is refused memory once more, and looks at what it is answered then. A run has to end with 0 and one of these words:
+The library refuse.so stands in the working folder. The program makes a call that is refused memory once more, and looks at
+what it is answered then. A run has to end with 0 and one of these words:
 
 - `refused`: a call has said that memory was refused, and then it gave the right answer;
 - `right`: the answer was right at once;
@@ -29,10 +29,10 @@ def way_of(got):
     return word if status == 0 and not errors and word in WAYS else None
 
 
-def main(every, program, *words):
+def main(program, *words):
     command = [program, *words]
     wanted, made = counted(command)
-    refusals = range(1, made + 1, int(every))
+    refusals = range(1, made + 1)
     with ThreadPoolExecutor(os.cpu_count() or 1) as pool:
         ended = list(pool.map(lambda refused: run(command, refused), refusals))
     ways = Counter(way_of(got) for got in ended)
@@ -41,7 +41,7 @@ def main(every, program, *words):
         told.append(f"with memory: {wanted}")
     if not ways["refused"]:
         told.append("no call was refused memory")
-    print(f"{len(ended)} of {made} growths: " + ", ".join(f"{ways[way]} {way}" for way in WAYS))
+    print(f"{made} growths: " + ", ".join(f"{ways[way]} {way}" for way in WAYS))
     for line in told[:10]:
         print(line)
     return 1 if told else 0
