@@ -1,8 +1,8 @@
 # make: proves and builds the program. make test: all that CI runs. make quick: what one runs while working.
 # make gate-time: what the last run of the gate here took, by crate, and what passes the budget. make edits: tries each edit
-# by itself. make bench: measures the program, and draws
-# the tables as bars (out/bars-*.svg). make install: the program and its manual page under PREFIX.
-.PHONY: all test gate gate-time quick e2e edits bench install clean
+# by itself. make refused-growths: public calls with each growth of memory refused in turn. make bench: measures the program,
+# and draws the tables as bars (out/bars-*.svg). make install: the program and its manual page under PREFIX.
+.PHONY: all test gate gate-time quick e2e edits refused-growths bench install clean
 
 PREFIX ?= /usr/local
 SHELL := bash
@@ -26,6 +26,9 @@ e2e: all
 
 edits:
 	edits/run
+
+refused-growths:
+	e2e/calls/run
 
 bench: all
 	mkdir -p out

@@ -54,10 +54,15 @@ pub(crate) const NODES_AT_47: Frame = (47, NODES);
 
 pub(crate) const EXTRA_AT_84: Frame = (84, EXTRA);
 
+pub(crate) const TAGGED_AT_84: Frame = (84, TAGGED);
+
 pub(crate) const NODES_AT_100: Frame = (100, NODES);
 
 /// The file of two frames, of 84 bytes.
 pub(crate) const FILE: &[Frame] = &[HEADER_AT_0, NODES_AT_47];
+
+/// The same with the tagged way and relation behind it: a file of 169 bytes.
+pub(crate) const TAGGED_FILE: &[Frame] = &[HEADER_AT_0, NODES_AT_47, TAGGED_AT_84];
 
 pub(crate) const FILE_BYTES: &[u8] = &TWO_NODES_FILE;
 
@@ -91,6 +96,21 @@ pub(crate) const HELD_EXTRA: Extent = Extent {
     digest: EXTRA_FRAME_DIGEST,
     kind: Kind::Other,
     n: 0,
+};
+
+/// The SHA-256 of `TAGGED`, as coreutils' sha256sum prints it for a file of those 85 bytes.
+const TAGGED_DIGEST: [u8; 32] = [
+    0x73, 0x2E, 0xA6, 0x32, 0x94, 0xC3, 0x35, 0x30, 0x8A, 0x05, 0xB9, 0x83, 0x27, 0x9C, 0x3C, 0xDB,
+    0xC6, 0xE2, 0xD0, 0xC3, 0x2B, 0xDD, 0xC5, 0x08, 0x26, 0x8D, 0x9B, 0xE7, 0x13, 0x38, 0xA6, 0xC9,
+];
+
+/// The tagged way and relation, held behind the file.
+pub(crate) const HELD_TAGGED: Extent = Extent {
+    off: 84,
+    fin: 169,
+    digest: TAGGED_DIGEST,
+    kind: Kind::OsmData,
+    n: 2,
 };
 
 /// The two nodes, held elsewhere.

@@ -19,20 +19,25 @@ pub(crate) type CountedRows = (&'static str, i64);
 
 /// A layout whose rows are known.
 pub(crate) trait KnownLayout: StoreLayout {
-    /// The query for the number of rows that elements have.
-    const COUNT: &'static str;
+    /// The queries for the numbers of rows that elements have, by tables.
+    const COUNTS: &'static [&'static str];
 
     /// What is shown where the elements at 47 are the two nodes of the file.
     const NODES: &'static [CountedRows];
+
+    /// What is shown where the file is held, and behind it the tagged way and relation.
+    const TAGGED: &'static [CountedRows];
 
     /// The queries for all rows of all tables.
     const ALL: &'static [&'static str];
 }
 
 impl KnownLayout for Bodies {
-    const COUNT: &'static str = "SELECT count(*) FROM body";
+    const COUNTS: &'static [&'static str] = &["SELECT count(*) FROM body"];
 
     const NODES: &'static [CountedRows] = NODES_AS_BODIES;
+
+    const TAGGED: &'static [CountedRows] = &[("SELECT count(*) FROM body", 4)];
 
     const ALL: &'static [&'static str] = &[
         "SELECT * FROM meta",
@@ -42,9 +47,19 @@ impl KnownLayout for Bodies {
 }
 
 impl KnownLayout for Tables {
-    const COUNT: &'static str = "SELECT count(*) FROM element";
+    const COUNTS: &'static [&'static str] = &[
+        "SELECT count(*) FROM element",
+        "SELECT count(*) FROM tag",
+        "SELECT count(*) FROM link",
+    ];
 
     const NODES: &'static [CountedRows] = NODES_AS_ROWS;
+
+    const TAGGED: &'static [CountedRows] = &[
+        ("SELECT count(*) FROM element", 4),
+        ("SELECT count(*) FROM tag", 2),
+        ("SELECT count(*) FROM link", 4),
+    ];
 
     const ALL: &'static [&'static str] = &[
         "SELECT * FROM meta",

@@ -1,14 +1,14 @@
 //! What a store holds after a delivery that isn't stored, and what a read that is broken off has told.
 
-use super::deliveries::{answers_to, exported};
+use super::deliveries::answers_to;
 use super::fixtures::{
     FILE, LINES, NODES, RELATION_FRAME, TAGGED, TAGGED_LINES, WAY_FRAME, WRITTEN_HEADER,
 };
 use super::memory::{BodiesInMemory, NewStore, TablesInMemory};
-use super::steps::{are_joined, found_lines, loaded_lines};
-use osm_import::{Answer, ExportFault, deliver, gaps};
+use super::questions::{Question, answer_to};
+use super::steps::are_joined;
+use osm_import::{Answer, ExportFault, deliver};
 use osm_store::{Reader, StoreFault};
-use osm_value::{Form, MemberKind};
 use osm_vectors::vectors::TWO_NODES_FRAME;
 use std::alloc::Global;
 use std::process::Abort;
@@ -80,25 +80,6 @@ fn four_blobs<K: NewStore>(alloc: Global) -> Result<K, Fail> {
     Ok(store)
 }
 
-/// What is asked of a store.
-#[derive(Clone, Copy, Debug)]
-enum Question {
-    /// Where each blob begins and ends.
-    Extents,
-    /// What isn't held of 300 bytes.
-    Gaps,
-    /// The elements of the blob at 84.
-    Load,
-    /// The relations 9.
-    Find,
-    /// Whether an element has a flag.
-    History,
-    /// An export as lines.
-    Lines,
-    /// An export as PBF.
-    Pbf,
-}
-
 /// The questions, and the pieces of what is told of the four blobs.
 const QUESTIONS: &[(Question, &[&[u8]])] = &[
     (
@@ -118,57 +99,6 @@ const QUESTIONS: &[(Question, &[&[u8]])] = &[
     (Question::Lines, &[LINES, TAGGED_LINES, TAGGED_LINES]),
     (Question::Pbf, &[WRITTEN_HEADER, NODES, TAGGED, TAGGED]),
 ];
-
-/// Whether an element has a flag, as a line.
-fn history_line<K: Reader>(alloc: Global, store: &mut K) -> Result<Vec<u8>, StoreFault> {
-    let found = store.history(alloc)?;
-    let line = format!(in alloc; "{found}\n")?;
-    let mut text = Vec::new(alloc);
-    text.extend_from_slice(line.as_bytes())?;
-    Ok(text)
-}
-
-/// What is told to a question other than for an export. Two offsets stand in a line.
-fn told<K: Reader>(
-    alloc: Global,
-    store: &mut K,
-    question: Question,
-) -> Result<Vec<u8>, StoreFault> {
-    let mut ranges = Vec::new(alloc);
-    match question {
-        Question::Load => return loaded_lines(alloc, store, 84),
-        Question::Find => return found_lines(alloc, store, MemberKind::Relation, 9),
-        Question::History => return history_line(alloc, store),
-        Question::Gaps => ranges = gaps(alloc, store, 300)?,
-        _ => {
-            for extent in &store.extents(alloc)? {
-                ranges.push((extent.off, extent.fin))?;
-            }
-        }
-    }
-    let mut text = Vec::new(alloc);
-    for range in &ranges {
-        let line = format!(in alloc; "{} {}\n", range.0, range.1)?;
-        text.extend_from_slice(line.as_bytes())?;
-    }
-    Ok(text)
-}
-
-/// The answer to a question, and what was told.
-fn answer_to<K: Reader>(
-    alloc: Global,
-    store: &mut K,
-    question: Question,
-) -> (Result<(), ExportFault>, Vec<u8>) {
-    match question {
-        Question::Lines => exported(alloc, store, Form::Lines, None, false),
-        Question::Pbf => exported(alloc, store, Form::Pbf, None, false),
-        _ => match told(alloc, store, question) {
-            Ok(text) => (Ok(()), text),
-            Err(fault) => (Err(ExportFault::Store(fault)), Vec::new(alloc)),
-        },
-    }
-}
 
 /// Asks under limits of 1, 2, .. steps, until all is told. Each time before, one more call has failed, and what was told is
 /// a front.

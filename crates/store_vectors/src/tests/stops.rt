@@ -1,16 +1,20 @@
-//! An import that stops at a call of either file of a database, what the next opening finds, and how it goes on.
+//! Databases one of whose files stops at a call, what the next opening finds, and how it goes on.
+
+mod imports;
+mod openings;
+mod reads;
 
 use super::deliveries::{deliveries_of, exported};
-use super::fixtures::{FILE, HELD_HEADER, HELD_NODES, LINES};
+use super::fixtures::{HELD_HEADER, HELD_NODES, HELD_TAGGED, LINES, TAGGED_FILE, TAGGED_LINES};
 use super::memory::{KnownLayout, has_rows, number};
-use osm_import::{Answer, deliver_all};
-use osm_store::{BlobStore, Bodies, Extent, Keeper, Reader, StoreFault, StoreLayout, Tables};
+use super::questions::{Question, answer_to};
+use super::steps::are_joined;
+use osm_import::{Answer, ExportFault, deliver_all};
+use osm_store::{BlobStore, Extent, Keeper, Reader, StoreFault, StoreLayout};
 use osm_value::Form;
 use sqlite::{Alter, Connection, FileStore, Files, Options};
 use sqlite_disk::{Crash, Disk, Fuse, Memory};
 use std::alloc::Global;
-use std::process::Abort;
-use std::test::*;
 
 type Fused = Fuse<Memory>;
 
@@ -41,98 +45,118 @@ enum Unsynced {
     Kept,
 }
 
-/// How far an import of the file of two nodes has come: by its answers, or by what the database holds.
+/// Each kind of stop.
+const STOPS: [(Stopped, Unsynced); 4] = [
+    (Stopped::Log, Unsynced::Lost),
+    (Stopped::Log, Unsynced::Kept),
+    (Stopped::Db, Unsynced::Lost),
+    (Stopped::Db, Unsynced::Kept),
+];
+
+/// How far the work on a database has come, by its answers, or what a database holds of the file of three frames.
 #[derive(Clone, Copy, Debug, PartialEq, Eq)]
 enum Reached {
     /// No database was opened.
     Nothing,
-    /// A database without tables.
+    /// A database without tables, or none that was opened as a store.
     Database,
-    /// A store that holds nothing.
+    /// A store that holds nothing, or tells a front of what it is asked.
     Store,
     Header,
     HeaderAndNodes,
+    /// The whole file, or all that is asked; or the opening is done.
+    All,
 }
 
-/// What an import was answered, and what the next opening found.
+/// How far the work had come where a file stopped, and what the next opening found.
 type Outcome = (Reached, Reached);
 
-/// A call that wasn't answered has changed nothing.
-const UNCHANGED: [Outcome; 5] = [
-    (Reached::Nothing, Reached::Database),
-    (Reached::Database, Reached::Database),
-    (Reached::Store, Reached::Store),
-    (Reached::Header, Reached::Header),
-    (Reached::HeaderAndNodes, Reached::HeaderAndNodes),
-];
-
-/// A call that wasn't answered has changed nothing or is done.
-const UNCHANGED_OR_DONE: [Outcome; 8] = [
-    (Reached::Nothing, Reached::Database),
-    (Reached::Database, Reached::Database),
-    (Reached::Database, Reached::Store),
-    (Reached::Store, Reached::Store),
-    (Reached::Store, Reached::Header),
-    (Reached::Header, Reached::Header),
-    (Reached::Header, Reached::HeaderAndNodes),
-    (Reached::HeaderAndNodes, Reached::HeaderAndNodes),
-];
+/// What is done in a database.
+#[derive(Clone, Copy)]
+enum Work<'a> {
+    /// A new store is made, and the file delivered.
+    Import,
+    /// The store is opened, where there is one.
+    Adopt,
+    /// The store is opened and asked; these are the pieces of all that it tells.
+    Ask(Question, &'a [&'a [u8]]),
+    /// It is seen what is held, and the file is delivered again.
+    GoOn,
+}
 
 /// The database in these files; or the files, where one of them stops or can't be used.
-fn opened(alloc: Global, files: Files<Fused>) -> Result<Database, Files<Fused>> {
+fn opened(
+    alloc: Global,
+    files: Files<Fused>,
+    cache_pages: usize,
+) -> Result<Database, Files<Fused>> {
     if !files.may_be_used() {
         return Err(files);
     }
-    match Connection::open_files(alloc, files, OPTIONS) {
+    let options = Options {
+        cache_pages,
+        ..OPTIONS
+    };
+    match Connection::open_files(alloc, files, options) {
         Ok(database) => Ok(database),
         Err((_, left)) => Err(left.into_files()),
     }
 }
 
-/// Two new files, one of which stops after so many calls.
-fn fused(alloc: Global, stopped: Stopped, calls: u64) -> Files<Fused> {
-    let (log_calls, db_calls) = match stopped {
+/// After how many calls each file stops.
+fn fuses(stopped: Stopped, calls: u64) -> (u64, u64) {
+    match stopped {
         Stopped::Log => (calls, u64::MAX),
         Stopped::Db => (u64::MAX, calls),
-    };
+    }
+}
+
+/// Two new files, one of which stops after so many calls.
+fn new_files(alloc: Global, stopped: Stopped, calls: u64) -> Files<Fused> {
+    let (log_calls, db_calls) = fuses(stopped, calls);
     Files {
         log: Fuse::new(Memory::new(alloc), log_calls),
         db: Fuse::new(Memory::new(alloc), db_calls),
     }
 }
 
-/// A file with the same bytes, which doesn't stop.
-fn copy(alloc: Global, file: &Fused) -> Option<Fused> {
+/// A file with the same bytes, all of them synced, which stops after so many calls.
+fn copy(alloc: Global, file: &Fused, calls: u64) -> Option<Fused> {
     let mut memory = Memory::new(alloc);
     memory.write_at(0, file.inner().bytes()).ok()?;
-    Some(Fuse::new(memory, u64::MAX))
+    memory.sync().ok()?;
+    Some(Fuse::new(memory, calls))
 }
 
-fn kept(alloc: Global, files: Files<Fused>) -> Option<Files<Fused>> {
-    let (log, db) = (copy(alloc, &files.log)?, copy(alloc, &files.db)?);
+/// Copies of both files, one of which stops after so many calls.
+fn copies(
+    alloc: Global,
+    files: &Files<Fused>,
+    stopped: Stopped,
+    calls: u64,
+) -> Option<Files<Fused>> {
+    let (log_calls, db_calls) = fuses(stopped, calls);
+    let log = copy(alloc, &files.log, log_calls)?;
+    let db = copy(alloc, &files.db, db_calls)?;
     Some(Files { log, db })
 }
 
-fn lost(mut files: Files<Fused>) -> Files<Fused> {
-    files.log.crash();
-    files.db.crash();
-    files
-}
-
 /// The files as the next opening finds them after a stop. They don't stop again.
-fn after_stop(alloc: Global, files: Files<Fused>, unsynced: Unsynced) -> Option<Files<Fused>> {
-    match unsynced {
-        Unsynced::Lost => Some(lost(files)),
-        Unsynced::Kept => kept(alloc, files),
+fn after_stop(alloc: Global, mut files: Files<Fused>, unsynced: Unsynced) -> Option<Files<Fused>> {
+    if unsynced == Unsynced::Lost {
+        files.log.crash();
+        files.db.crash();
     }
+    copies(alloc, &files, Stopped::Log, u64::MAX)
 }
 
 /// How far deliveries were answered before a file stopped; behind that each is a fault.
 fn answered(answers: &[Answer]) -> Option<Reached> {
     match answers {
-        [Answer::Fault(_), Answer::Fault(_)] => Some(Reached::Store),
-        [Answer::Stored(0), Answer::Fault(_)] => Some(Reached::Header),
-        [Answer::Stored(0), Answer::Stored(2)] => Some(Reached::HeaderAndNodes),
+        [Answer::Fault(_), Answer::Fault(_), Answer::Fault(_)] => Some(Reached::Store),
+        [Answer::Stored(0), Answer::Fault(_), Answer::Fault(_)] => Some(Reached::Header),
+        [Answer::Stored(0), Answer::Stored(2), Answer::Fault(_)] => Some(Reached::HeaderAndNodes),
+        [Answer::Stored(0), Answer::Stored(2), Answer::Stored(2)] => Some(Reached::All),
         _ => None,
     }
 }
@@ -147,7 +171,7 @@ fn filled<S: Alter + Drop, L: StoreLayout>(
     }
     match BlobStore::<S, L>::create(database) {
         Ok(mut store) => {
-            let deliveries = deliveries_of(alloc, FILE).ok()?;
+            let deliveries = deliveries_of(alloc, TAGGED_FILE).ok()?;
             let answers = deliver_all(alloc, &mut store, &deliveries).ok()?;
             Some((answered(&answers), store.into_connection()))
         }
@@ -155,39 +179,101 @@ fn filled<S: Alter + Drop, L: StoreLayout>(
     }
 }
 
-/// How far that came, and what the database lies in.
-fn import<S: Alter + Drop, L: StoreLayout>(
-    alloc: Global,
+/// The store in a database; or the database, and why it isn't opened as a store.
+fn adopted<S: Alter + Drop, L: StoreLayout>(
     database: Connection<S>,
-) -> Option<(Reached, S)> {
-    let (reached, database) = filled::<S, L>(alloc, database)?;
-    Some((reached?, database.into_store()))
+) -> Option<Result<BlobStore<S, L>, (StoreFault, Connection<S>)>> {
+    if !database.is_autocommit() {
+        return None;
+    }
+    Some(BlobStore::adopt(database))
 }
 
-/// The same in new files, one of which stops after so many calls.
-fn stopped_import<L: StoreLayout>(
+/// How far a question is answered, if what is told is a front of these pieces.
+fn told<K: Reader>(
     alloc: Global,
-    stopped: Stopped,
-    calls: u64,
-) -> Option<(Reached, Files<Fused>)> {
-    match opened(alloc, fused(alloc, stopped, calls)) {
-        Ok(database) => {
-            let (reached, store) = import::<_, L>(alloc, database)?;
-            Some((reached, store.close()))
+    store: &mut K,
+    question: Question,
+    pieces: &[&[u8]],
+) -> Option<Reached> {
+    let (answer, text) = answer_to(alloc, store, question);
+    match answer {
+        Ok(()) if are_joined(&text, pieces) => Some(Reached::All),
+        Err(ExportFault::Store(StoreFault::Disk)) if is_front(&text, pieces) => {
+            Some(Reached::Store)
         }
-        Err(files) => Some((Reached::Nothing, files)),
+        _ => None,
     }
 }
 
-/// What is held, where each extent and each row is of the file.
-fn held_by(extents: &[Extent], rows: i64, has_nodes: bool) -> Option<Reached> {
-    match (extents, rows) {
-        ([], 0) => Some(Reached::Store),
-        ([only], 0) if only == &HELD_HEADER => Some(Reached::Header),
-        ([first, last], 2) if first == &HELD_HEADER && last == &HELD_NODES && has_nodes => {
-            Some(Reached::HeaderAndNodes)
+/// Whether the bytes are a front of these pieces, one behind the other.
+fn is_front(bytes: &[u8], pieces: &[&[u8]]) -> bool {
+    let mut rest = bytes;
+    for piece in pieces {
+        match rest.strip_prefix(*piece) {
+            Some(left) => rest = left,
+            None => return piece.starts_with(rest),
         }
-        _ => None,
+    }
+    rest.is_empty()
+}
+
+/// Opens a store, if there is one. How far that came, and the database.
+fn entered<S: Alter + Drop, L: StoreLayout>(
+    database: Connection<S>,
+) -> Option<(Option<Reached>, Connection<S>)> {
+    match adopted::<S, L>(database)? {
+        Ok(store) => Some((Some(Reached::All), store.into_connection())),
+        Err((StoreFault::NotThisStore(None), database)) => Some((Some(Reached::All), database)),
+        Err((StoreFault::Disk, database)) => Some((Some(Reached::Database), database)),
+        Err(_) => None,
+    }
+}
+
+/// Opens a store and asks it. How far that came, and the database.
+fn asked<S: Alter + Drop, L: StoreLayout>(
+    alloc: Global,
+    database: Connection<S>,
+    question: Question,
+    pieces: &[&[u8]],
+) -> Option<(Option<Reached>, Connection<S>)> {
+    match adopted::<S, L>(database)? {
+        Ok(mut store) => {
+            let reached = told(alloc, &mut store, question, pieces);
+            Some((reached, store.into_connection()))
+        }
+        Err((StoreFault::Disk, database)) => Some((Some(Reached::Database), database)),
+        Err(_) => None,
+    }
+}
+
+/// The sum of the numbers that these queries show.
+fn sum<S: Alter>(database: &mut Connection<S>, queries: &[&str]) -> Option<i64> {
+    let mut sum = 0i64;
+    for sql in queries {
+        sum = sum.checked_add(number(database, sql)?)?;
+    }
+    Some(sum)
+}
+
+/// What is held, where each extent and each row is of the file.
+fn held_by<S: Alter, L: KnownLayout>(
+    extents: &[Extent],
+    database: &mut Connection<S>,
+) -> Option<Reached> {
+    let rows = sum(database, L::COUNTS)?;
+    let has_nodes = has_rows(database, L::NODES);
+    let has_all = has_nodes && has_rows(database, L::TAGGED);
+    if extents.is_empty() && rows == 0 {
+        Some(Reached::Store)
+    } else if extents == [HELD_HEADER].as_slice() && rows == 0 {
+        Some(Reached::Header)
+    } else if extents == [HELD_HEADER, HELD_NODES].as_slice() && rows == 2 && has_nodes {
+        Some(Reached::HeaderAndNodes)
+    } else if extents == [HELD_HEADER, HELD_NODES, HELD_TAGGED].as_slice() && has_all {
+        Some(Reached::All)
+    } else {
+        None
     }
 }
 
@@ -198,23 +284,8 @@ fn map<S: Alter + Drop, L: KnownLayout>(
 ) -> Option<(Reached, Connection<S>)> {
     let extents = store.extents(alloc).ok()?;
     let mut database = store.into_connection();
-    let rows = number(&mut database, L::COUNT)?;
-    let has_nodes = has_rows(&mut database, L::NODES);
-    Some((held_by(&extents, rows, has_nodes)?, database))
-}
-
-/// The store in a database; or the database, where it is no store of any version.
-fn adopted<S: Alter + Drop, L: StoreLayout>(
-    database: Connection<S>,
-) -> Option<Result<BlobStore<S, L>, Connection<S>>> {
-    if !database.is_autocommit() {
-        return None;
-    }
-    match BlobStore::adopt(database) {
-        Ok(store) => Some(Ok(store)),
-        Err((StoreFault::NotThisStore(None), database)) => Some(Err(database)),
-        Err(_) => None,
-    }
+    let held = held_by::<S, L>(&extents, &mut database)?;
+    Some((held, database))
 }
 
 /// What a database holds, and the store in it, which is made where there is none.
@@ -227,105 +298,93 @@ fn found<S: Alter + Drop, L: KnownLayout>(
             let (held, database) = map(alloc, store)?;
             Some((held, adopted(database)?.ok()?))
         }
-        Err(database) => {
+        Err((StoreFault::NotThisStore(None), database)) => {
             if !database.is_autocommit() {
                 return None;
             }
             Some((Reached::Database, BlobStore::create(database).ok()?))
         }
-    }
-}
-
-/// Whether the whole file, delivered again to a store that holds so much of it, is answered and held.
-fn goes_on<K: Keeper>(alloc: Global, store: &mut K, held: Reached) -> Option<bool> {
-    let wanted = match held {
-        Reached::HeaderAndNodes => [Answer::AlreadyHeld, Answer::AlreadyHeld],
-        Reached::Header => [Answer::AlreadyHeld, Answer::Stored(2)],
-        _ => [Answer::Stored(0), Answer::Stored(2)],
-    };
-    let deliveries = deliveries_of(alloc, FILE).ok()?;
-    let answers = deliver_all(alloc, store, &deliveries).ok()?;
-    let (result, lines) = exported(alloc, store, Form::Lines, None, false);
-    Some(answers.as_slice() == wanted.as_slice() && result == Ok(()) && lines.as_slice() == LINES)
-}
-
-/// What a database holds, and whether it goes on to hold the whole file.
-fn continued<S: Alter + Drop, L: KnownLayout>(
-    alloc: Global,
-    database: Connection<S>,
-) -> Option<(Reached, bool)> {
-    let (held, mut store) = found::<S, L>(alloc, database)?;
-    let is_whole = goes_on(alloc, &mut store, held)?;
-    Some((held, is_whole))
-}
-
-/// The same of the database in these files.
-fn reopened<L: KnownLayout>(alloc: Global, files: Files<Fused>) -> Option<(Reached, bool)> {
-    match opened(alloc, files) {
-        Ok(database) => continued::<_, L>(alloc, database),
         Err(_) => None,
     }
 }
 
-/// The outcome of a stop after so many calls, where the next opening goes on.
-fn outcome<L: KnownLayout>(
-    alloc: Global,
-    stopped: Stopped,
-    unsynced: Unsynced,
-    calls: u64,
-) -> Option<Outcome> {
-    let (answered, files) = stopped_import::<L>(alloc, stopped, calls)?;
-    let (held, is_whole) = reopened::<L>(alloc, after_stop(alloc, files, unsynced)?)?;
-    is_whole.then_some((answered, held))
-}
-
-/// The outcomes, each once, of stops after no call, after one and so on, until an import is answered to its end.
-/// An error is the number of calls after which a stop has none; 300 where no import ends.
-fn outcomes<L: KnownLayout>(
-    alloc: Global,
-    stopped: Stopped,
-    unsynced: Unsynced,
-) -> Result<Vec<Outcome>, u64> {
-    let mut outcomes = Vec::new(alloc);
-    for calls in 0u64..300 {
-        let outcome = outcome::<L>(alloc, stopped, unsynced, calls).ok_or(calls)?;
-        if !outcomes.contains(&outcome) {
-            outcomes.push(outcome).map_err(|_| calls)?;
-        }
-        if outcome.0 == Reached::HeaderAndNodes {
-            return Ok(outcomes);
-        }
-    }
-    Err(300)
-}
-
-/// Tries each kind of stop. One alone leaves a call done that wasn't answered: where the commit was written and stays,
-/// and the sync after it failed.
-fn expect_outcomes<L: KnownLayout, R: Abort + Alloc<A = Global>>(rt: &R) {
-    for (stopped, unsynced) in [
-        (Stopped::Log, Unsynced::Lost),
-        (Stopped::Log, Unsynced::Kept),
-        (Stopped::Db, Unsynced::Lost),
-        (Stopped::Db, Unsynced::Kept),
-    ] {
-        let wanted = match (stopped, unsynced) {
-            (Stopped::Log, Unsynced::Kept) => UNCHANGED_OR_DONE.as_slice(),
-            _ => UNCHANGED.as_slice(),
-        };
-        let outcomes = outcomes::<L>(rt.alloc(), stopped, unsynced);
-        assert!(rt;
-            matches!(&outcomes, Ok(found) if found.as_slice() == wanted),
-            "{stopped:?} {unsynced:?} {outcomes:?}"
-        );
+/// The answers to the file, delivered to a store that holds so much of it.
+fn wanted(held: Reached) -> [Answer; 3] {
+    match held {
+        Reached::All => [Answer::AlreadyHeld; 3],
+        Reached::HeaderAndNodes => { [Answer::AlreadyHeld, Answer::AlreadyHeld, Answer::Stored(2)] }
+        Reached::Header => [Answer::AlreadyHeld, Answer::Stored(2), Answer::Stored(2)],
+        _ => [Answer::Stored(0), Answer::Stored(2), Answer::Stored(2)],
     }
 }
 
-#[test]
-fn stops_over_bodies(rt: HostRuntime) {
-    expect_outcomes::<Bodies, _>(&rt);
+/// Whether the file, delivered again to a store that holds so much of it, is answered and held.
+fn goes_on<K: Keeper>(alloc: Global, store: &mut K, held: Reached) -> Option<bool> {
+    let deliveries = deliveries_of(alloc, TAGGED_FILE).ok()?;
+    let answers = deliver_all(alloc, store, &deliveries).ok()?;
+    let (result, lines) = exported(alloc, store, Form::Lines, None, false);
+    Some(
+        answers.as_slice() == wanted(held).as_slice()
+            && result == Ok(())
+            && are_joined(&lines, &[LINES, TAGGED_LINES]),
+    )
 }
 
-#[test]
-fn stops_over_tables(rt: HostRuntime) {
-    expect_outcomes::<Tables, _>(&rt);
+/// What a database held, if it goes on to hold the whole file; and the database.
+fn continued<S: Alter + Drop, L: KnownLayout>(
+    alloc: Global,
+    database: Connection<S>,
+) -> Option<(Option<Reached>, Connection<S>)> {
+    let (held, mut store) = found::<S, L>(alloc, database)?;
+    let is_whole = goes_on(alloc, &mut store, held)?;
+    Some((is_whole.then_some(held), store.into_connection()))
+}
+
+/// Does the work. How far that came, and what the database lies in; None where something else was answered than a stop
+/// explains.
+fn worked<S: Alter + Drop, L: KnownLayout>(
+    alloc: Global,
+    database: Connection<S>,
+    work: Work<'_>,
+) -> Option<(Reached, S)> {
+    let (reached, database) = match work {
+        Work::Import => filled::<S, L>(alloc, database)?,
+        Work::Adopt => entered::<S, L>(database)?,
+        Work::Ask(question, pieces) => asked::<S, L>(alloc, database, question, pieces)?,
+
+        Work::GoOn => continued::<S, L>(alloc, database)?,
+    };
+    Some((reached?, database.into_store()))
+}
+
+/// The same in the database in these files, which are closed behind it. Each kind of work goes through here, since one
+/// function alone may hold the database itself: it takes long to prove. What only reads has one page in memory, so that it
+/// reads the files.
+fn session<L: KnownLayout>(
+    alloc: Global,
+    files: Files<Fused>,
+    work: Work<'_>,
+) -> Option<(Reached, Files<Fused>)> {
+    let cache_pages = match work {
+        Work::Import | Work::GoOn => 8,
+        Work::Adopt | Work::Ask(..) => 1,
+    };
+    match opened(alloc, files, cache_pages) {
+        Ok(database) => {
+            let (reached, store) = worked::<_, L>(alloc, database, work)?;
+            Some((reached, store.close()))
+        }
+        Err(files) => Some((Reached::Nothing, files)),
+    }
+}
+
+/// What the next opening finds in files after a stop, if it goes on to hold the whole file.
+fn found_after<L: KnownLayout>(
+    alloc: Global,
+    files: Files<Fused>,
+    unsynced: Unsynced,
+) -> Option<Reached> {
+    let files = after_stop(alloc, files, unsynced)?;
+    let (held, _) = session::<L>(alloc, files, Work::GoOn)?;
+    Some(held)
 }
