@@ -10,7 +10,7 @@ SHELL := bash
 all:
 	./pbfrow --build-only
 
-test: gate e2e
+test: gate gate-time e2e
 
 gate:
 	gate/run
