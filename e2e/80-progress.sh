@@ -30,14 +30,22 @@ told() {
 # ends_well NAME STATUS: the status of a command is 0.
 ends_well() { [ "$2" = 0 ] && pass "$1" || fail "$1 ($2)"; }
 
+# shows FILE COMMAND WORD..: over a slow pipe, with a terminal at standard error, this command ends with 0, tells how far it is, erases
+# that line, and writes what the file has.
+shows() {
+  local wanted=$1 command=$2
+  shift 2
+  slowly "$country" | python3 "$terminal" "$pbfrow" "$command" "$@" > got.txt
+  ends_well "$command of a slow pipe on a terminal ends with 0" "${PIPESTATUS[1]}"
+  told "$command tells how far it is" "[0-9]+\.[0-9] MB, [0-9]+ blobs, $rate"
+  same "the line of $command is erased at the end" shown.txt nothing.txt
+  same "$command writes the same as without a terminal" got.txt "$wanted"
+}
+
 if has python3 && python3 -c 'import pty; pty.openpty()' 2>/dev/null; then
   : > nothing.txt
   "$pbfrow" check "$country" > want.txt
-  slowly "$country" | python3 "$terminal" "$pbfrow" check > got.txt
-  ends_well "check of a slow pipe on a terminal ends with 0" "${PIPESTATUS[1]}"
-  told "check tells how far it is" "[0-9]+\.[0-9] MB, [0-9]+ blobs, $rate"
-  same "the line of check is erased at the end" shown.txt nothing.txt
-  same "check writes the same as without a terminal" got.txt want.txt
+  shows want.txt check
 
   slowly "$country" | "$pbfrow" check 2> sent.txt > got.txt
   same "nothing is told where standard error is no terminal" sent.txt nothing.txt
@@ -48,18 +56,10 @@ if has python3 && python3 -c 'import pty; pty.openpty()' 2>/dev/null; then
 
   rm -f plain.db slow.db
   "$pbfrow" import "$country" plain.db > want.txt
-  slowly "$country" | python3 "$terminal" "$pbfrow" import /dev/stdin slow.db > got.txt
-  ends_well "import of a slow pipe on a terminal ends with 0" "${PIPESTATUS[1]}"
-  told "import tells how far it is" "[0-9]+\.[0-9] MB, [0-9]+ blobs, $rate"
-  same "the line of import is erased at the end" shown.txt nothing.txt
-  same "import writes the same as without a terminal" got.txt want.txt
+  shows want.txt import /dev/stdin slow.db
 
   "$pbfrow" verify "$country" plain.db > verified.txt
-  slowly "$country" | python3 "$terminal" "$pbfrow" verify /dev/stdin plain.db > got.txt
-  ends_well "verify of a slow pipe on a terminal ends with 0" "${PIPESTATUS[1]}"
-  told "verify tells how far it is" "[0-9]+\.[0-9] MB, [0-9]+ blobs, $rate"
-  same "the line of verify is erased at the end" shown.txt nothing.txt
-  same "verify writes the same as without a terminal" got.txt verified.txt
+  shows verified.txt verify /dev/stdin plain.db
 
   rm -f slow.db
   slowly "$country" | python3 "$terminal" --all "$pbfrow" import /dev/stdin slow.db
