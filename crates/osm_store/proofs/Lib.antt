@@ -4,3 +4,4 @@ pub mod PutLemmas
 pub mod LoadLemmas
 pub mod ListLemmas
 pub mod MapLemmas
+pub mod AuditLemmas

@@ -13,3 +13,4 @@ pub mod Faults
 pub mod LayoutHolding
 pub mod Store
 pub mod StoreLaws
+pub mod Audit

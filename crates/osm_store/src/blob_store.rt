@@ -11,6 +11,7 @@ ghost use Rattle.osm_store.specs.LayoutHolding.{Holds, TablesHold};
 ghost use Rattle.osm_store.specs.Keeping.{IsForeign};
 ghost use Rattle.osm_store.specs.Schema.Layouts.{version_of};
 
+use crate::audit::{Audited, Counts, has_counts_of, has_rows_of};
 use crate::fault::{StoreFault, failures_after};
 use crate::keeper::{Extent, Keeper, Reader};
 use crate::load::{
@@ -225,4 +226,41 @@ impl<S: Alter, L: StoreLayout> Keeper for BlobStore<S, L> {
         self.failures = failures_after(&answer, self.failures);
         answer
     }
+}
+
+impl<S: Alter, L: StoreLayout> Audited for BlobStore<S, L> {
+    ghost use Rattle.sqlite.specs.Held.{state};
+
+    ghost layout = { L.LAYOUT };
+
+    ghost database = { λ s. (state S.Store s.connection).committed };
+
+    fn has_blob(
+        &mut self,
+        alloc: Global,
+        off: u64,
+        fin: u64,
+        digest: &[u8; 32],
+        kind: Kind,
+        elements: &[Element],
+    ) -> Result<bool, StoreFault> {
+        let extent = Extent {
+            off,
+            fin,
+            digest: *digest,
+            kind,
+            n: elements.len() as u64,
+        };
+        let answer = has_rows_of(alloc, &mut self.connection, L::LAYOUT, &extent, elements);
+        self.failures = failures_after(&answer, self.failures);
+        answer
+    }
+
+    fn has_counts(&mut self, counts: &Counts) -> Result<bool, StoreFault> {
+        let answer = has_counts_of(&mut self.connection, L::LAYOUT, counts);
+        self.failures = failures_after(&answer, self.failures);
+        answer
+    }
+
+    ghost same_database = { λ one other same. same };
 }

@@ -1,6 +1,7 @@
 //! A store of blobs: a finite map from offsets, kept in the tables of a database.
 #![tactic(auto)]
 
+mod audit;
 mod blob_store;
 mod fault;
 mod keeper;
@@ -9,6 +10,7 @@ mod load;
 mod put;
 mod schema;
 
+pub use audit::{Audited, Counts};
 pub use blob_store::{BlobStore, BodyStore, TableStore};
 pub use fault::StoreFault;
 pub use keeper::{Extent, Keeper, Reader};

@@ -11,8 +11,9 @@ mod rows;
 mod tables;
 mod values;
 
-pub(crate) use answer::ask;
+pub(crate) use answer::{answer, ask, number};
 pub(crate) use extents::{all_extents, touched_extents};
 pub use found::Found;
 pub(crate) use held::{any_flag_held, find_held, load_held};
 pub use loaded::Loaded;
+pub(crate) use values::number_at;

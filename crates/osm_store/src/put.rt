@@ -5,4 +5,6 @@ mod table_row;
 mod tables;
 mod transaction;
 
+pub(crate) use table_row::TableRow;
+pub(crate) use tables::{element_rows, link_rows, tag_rows};
 pub(crate) use transaction::put_rows;

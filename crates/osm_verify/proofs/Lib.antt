@@ -1,4 +1,5 @@
 pub mod HeldThere
 pub mod Beginning
 pub mod LawLemmas
+pub mod AuditLemmas
 pub mod SameLemmas

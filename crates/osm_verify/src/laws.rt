@@ -1,5 +1,6 @@
 //! What the definitions imply: theorems, with no code.
 
+ghost use Rattle.osm_verify.specs.Audits.{AuditedShowsImport};
 ghost use Rattle.osm_verify.specs.Laws.{VerifiedIsExact, ExactIsOne};
 
 /// Where each frame of a file is good and held alike, and no held extent begins inside a frame or behind the last, the
@@ -8,4 +9,11 @@ ghost use Rattle.osm_verify.specs.Laws.{VerifiedIsExact, ExactIsOne};
 pub fn a_verified_store_is_an_import()
     ensures exact { VerifiedIsExact }
     ensures one { ExactIsOne }
+{}
+
+/// Where the rows at the offset of each good frame of a file are those of its blob, and the tables of a database have no
+/// more rows than these, queries see there the rows of what an import of the file to a new store comes to, and no others,
+/// whatever rows the tables had.
+pub fn an_audited_store_shows_an_import()
+    ensures { AuditedShowsImport }
 {}

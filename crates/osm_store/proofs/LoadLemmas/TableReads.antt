@@ -51,7 +51,7 @@ abbrev pub is_part_in : {A : Type 0} → ℕ → Part A → Bool
 is_part_in off x = x.off == off
 
 -- parts in the order of a query
-parts_in_order : {A : Type 0} (x y : Part A) → IsPartBefore x y
+pub parts_in_order : {A : Type 0} (x y : Part A) → IsPartBefore x y
     → ordering_then (value_cmp (Int (pos x.off)) (Int (pos y.off))) (ordering_then (value_cmp (Int (pos x.position)) (Int (pos y.position))) (ordering_then (value_cmp (Int (pos x.number)) (Int (pos y.number))) Equal)) ≡ Less
 parts_in_order x y (inl low) =
     ap (λ o. ordering_then o (ordering_then (value_cmp (Int (pos x.position)) (Int (pos y.position))) (ordering_then (value_cmp (Int (pos x.number)) (Int (pos y.number))) Equal))) (numbers_below x.off y.off low)

@@ -69,7 +69,7 @@ fn element_row<'a>(off: u64, position: u64, element: &Element<'a>) -> ElementRow
 }
 
 /// The rows of the table `element`.
-fn element_rows<'a>(
+pub(crate) fn element_rows<'a>(
     alloc: Global,
     off: u64,
     elements: &[Element<'a>],
@@ -127,7 +127,7 @@ fn push_tags<'a>(
 }
 
 /// The rows of the table `tag`.
-fn tag_rows<'a>(
+pub(crate) fn tag_rows<'a>(
     alloc: Global,
     off: u64,
     elements: &[Element<'a>],
@@ -220,7 +220,7 @@ fn push_links<'a>(
 }
 
 /// The rows of the table `link`.
-fn link_rows<'a>(
+pub(crate) fn link_rows<'a>(
     alloc: Global,
     off: u64,
     elements: &[Element<'a>],

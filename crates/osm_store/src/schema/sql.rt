@@ -92,6 +92,10 @@ pub(crate) const SELECT_VERSION: &str = "SELECT version FROM meta";
 /// All extents, ascending.
 pub(crate) const SELECT_EXTENTS: &str = "SELECT off, fin, digest, kind, n FROM blob ORDER BY off";
 
+/// The extent that starts at one offset.
+pub(crate) const SELECT_EXTENT: &str =
+    "SELECT off, fin, digest, kind, n FROM blob WHERE off = ?1 ORDER BY off";
+
 /// Where the last blob starts that starts at an offset or before.
 pub(crate) const SELECT_LAST_START: &str =
     "SELECT off FROM blob WHERE off <= ?1 ORDER BY off DESC LIMIT 1";
@@ -135,3 +139,18 @@ pub(crate) const SELECT_ITS_TAGS: &str =
 /// The nodes or members of one element, in order.
 pub(crate) const SELECT_ITS_LINKS: &str =
     "SELECT off, pos, k, kind, ref, role FROM link WHERE off = ?1 AND pos = ?2 ORDER BY off, pos, k";
+
+/// How many blobs there are.
+pub(crate) const COUNT_BLOBS: &str = "SELECT count(*) FROM blob";
+
+/// How many elements there are, in the layout of bodies.
+pub(crate) const COUNT_BODIES: &str = "SELECT count(*) FROM body";
+
+/// How many elements there are, in the layout of tables.
+pub(crate) const COUNT_ELEMENTS: &str = "SELECT count(*) FROM element";
+
+/// How many tags there are.
+pub(crate) const COUNT_TAGS: &str = "SELECT count(*) FROM tag";
+
+/// How many nodes and members there are.
+pub(crate) const COUNT_LINKS: &str = "SELECT count(*) FROM link";

@@ -1,0 +1,63 @@
+//! Whether the rows of a store's tables are those of certain blobs, whatever rows the tables have.
+
+mod bodies;
+mod counts;
+mod extent;
+mod same;
+mod tables;
+
+ghost use Rattle.std.specs.Prelude.{◌≡◌, ◌↔◌, ◌<◌, ◌≤◌, IsTrue, IfOk};
+ghost use Rattle.sqlite.specs.Effect.{Database};
+ghost use Rattle.osm_store.specs.declared.schema.layout.Layout.{Layout as HowKept};
+ghost use Rattle.osm_store.specs.Audit.{ShowsBlob, ShowsCounts};
+ghost use Rattle.osm_store.specs.Keeping.{OnlyReads};
+ghost use Rattle.osm_store.specs.Schema.Layouts.{schema_of};
+
+use crate::fault::StoreFault;
+use crate::keeper::Reader;
+pub use counts::Counts;
+pub(crate) use counts::has_counts_of;
+pub(crate) use extent::has_rows_of;
+use osm_value::Element;
+use pbf_frame::{Kind, MAX_OFFSET};
+use std::alloc::Global;
+
+/// A store whose tables may have any rows, as those of a database that other programs have written to. What is said here
+/// needs the tables of a store, and of their rows nothing.
+pub trait Audited: Reader {
+    /// How the store keeps elements.
+    ghost layout: { HowKept };
+
+    /// The last commit: tables, and their rows.
+    ghost database: { Self → Database };
+
+    /// Whether the rows at an offset, in all tables, are those that `put` writes for this blob, and no others: its bytes
+    /// are those from `off` to `fin`, at most `MAX_OFFSET`, and `digest` is the SHA-256 of its frame (FIPS 180-4). What is
+    /// held stays, also after a fault, which is that of a read that has failed, or `Memory`.
+    fn has_blob(
+        &mut self,
+        alloc: Global,
+        off: u64,
+        fin: u64,
+        digest: &[u8; 32],
+        kind: Kind,
+        elements: &[Element],
+    ) -> Result<bool, StoreFault>
+        requires order { off < fin }
+        requires limit { fin ≤ MAX_OFFSET }
+        ensures told { Self.is_honest self.new → (database self.old).schema ≡ schema_of layout
+            → IfOk result (λ told. IsTrue told ↔ ShowsBlob layout (database self.old).trees off (record { fin = fin; digest = digest.now; kind = kind; elements = elements.now })) }
+        ensures opened { Self.is_honest self.new → IfOk result (λ _. Self.is_open self.new) }
+        ensures reads { OnlyReads Self.holds Self.leaves Self.leaves_a_map Self.same_tables Self.is_honest Self.is_open Self.failures self.old result self.new };
+
+    /// Whether each table has exactly so many rows. What is held stays, also after a fault, which is that of a read that
+    /// has failed, or `Memory`.
+    fn has_counts(&mut self, counts: &Counts) -> Result<bool, StoreFault>
+        ensures told { Self.is_honest self.new → (database self.old).schema ≡ schema_of layout
+            → IfOk result (λ told. IsTrue told ↔ ShowsCounts layout (database self.old).trees counts.now) }
+        ensures opened { Self.is_honest self.new → IfOk result (λ _. Self.is_open self.new) }
+        ensures reads { OnlyReads Self.holds Self.leaves Self.leaves_a_map Self.same_tables Self.is_honest Self.is_open Self.failures self.old result self.new };
+
+    /// A store with the same tables has the same last commit.
+    ghost same_database: { (one other : Self) → Self.same_tables one other → database other ≡ database one };
+}

@@ -1,0 +1,125 @@
+-- Where a database has the rows of each frame, and no others, these are the rows of what an import of the frames comes to.
+use Rattle.std.proofs.Common.{◌≡◌, ℕ, ◌+◌, ◌<◌, ◌≤◌, ◌&&◌, Bool, true, false, T, cond, eqb, List, [], ◌∷◌, map, length, Some, refl, sym, ◌∙◌, ap, ap₂, subst, inl, inr, arith}
+use Rattle.std.specs.Prelude.{◌↔◌}
+use Rattle.std.specs.Ordering.{nat_cmp, is_lt}
+use Rattle.std.specs.Cmp.{unsigned_tied}
+use Rattle.std.specs.List.{AllByRecursion}
+use Rattle.std.specs.FinMap.{get, entries, find, is_sorted, from_sorted, entries-from_sorted, get-entries}
+use Rattle.std.specs.FinMap.Entries.{below_all}
+use Rattle.std.proofs.lemmas.Bool.Decides.{eqb_tells, nat_tests}
+use Rattle.sqlite.specs.Tree.{Trees}
+use Rattle.osm_value.specs.declared.element.Element.{Element}
+use Rattle.osm_store.specs.declared.schema.layout.Layout.{Layout}
+use Rattle.osm_store.specs.Audit.{ShowsBlob, ShowsCounts, ShowsMap, counts_of}
+use Rattle.osm_store.specs.Held.{Blob, HeldMap}
+use Rattle.osm_store.proofs.AuditLemmas.AllRows.{shows_map}
+use Rattle.osm_import.specs.Merges.{IsImported, placed_from}
+use Rattle.osm_import.specs.Runs.{IsGoodIn}
+use Rattle.osm_import.specs.Step.{IsEntry}
+use Rattle.osm_import.proofs.FilesLemmas.{entry-same}
+use Rattle.osm_import.proofs.GoodLaws.{frame-filled}
+use Rattle.osm_verify.specs.Audits.{IsShown, AreShown, IsAudited, ShowsImport, AuditedShowsImport}
+
+frame-long : (off : ℕ) (frame : List ℕ) (blob : Blob) → IsEntry off frame blob → 4 ≤ length frame
+frame-long off frame blob entry = frame-filled entry.good.type_name entry.good.blob frame entry.good.placed.frame
+
+true-and : (a b : Bool) → T a → T b → T (a && b)
+true-and true b p q = q
+true-and false b p q = absurd p
+
+module _ (layout : Layout) (db : Trees) where
+  -- the blobs of the frames, by their offsets
+  all : (start : ℕ) (frames : List (List ℕ)) (blobs : List (List Element)) → AreShown layout db start frames blobs → List (ℕ × Blob)
+  all start [] [] shown = []
+  all start [] (elements ∷ blobs) shown = absurd shown
+  all start (frame ∷ frames) [] shown = absurd shown
+  all start (frame ∷ frames) (elements ∷ blobs) shown = (start, shown.0.entry) ∷ all (start + length frame) frames blobs shown.1
+
+  elements-all : (start : ℕ) (frames : List (List ℕ)) (blobs : List (List Element)) (shown : AreShown layout db start frames blobs) → map (λ (e : ℕ × Blob). e.1.elements) (all start frames blobs shown) ≡ blobs
+  unfolding all
+  elements-all start [] [] shown = refl
+  elements-all start [] (elements ∷ blobs) shown = absurd shown
+  elements-all start (frame ∷ frames) [] shown = absurd shown
+  elements-all start (frame ∷ frames) (elements ∷ blobs) shown = ap₂ ◌∷◌ shown.0.elements_are (elements-all (start + length frame) frames blobs shown.1)
+
+  shown-all : (start : ℕ) (frames : List (List ℕ)) (blobs : List (List Element)) (shown : AreShown layout db start frames blobs) → AllByRecursion (λ (e : ℕ × Blob). ShowsBlob layout db e.0 e.1) (all start frames blobs shown)
+  unfolding all
+  shown-all start [] [] shown = tt
+  shown-all start [] (elements ∷ blobs) shown = absurd shown
+  shown-all start (frame ∷ frames) [] shown = absurd shown
+  shown-all start (frame ∷ frames) (elements ∷ blobs) shown = (shown.0.shown, shown-all (start + length frame) frames blobs shown.1)
+
+  less : (m n : ℕ) → m < n → T (is_lt (nat_cmp m n))
+  less m n low = grind (arith, nat_tests)
+
+  below : (low start : ℕ) (frames : List (List ℕ)) (blobs : List (List Element)) (shown : AreShown layout db start frames blobs) → low < start → T (below_all nat_cmp low (all start frames blobs shown))
+  unfolding all
+  below low start [] [] shown h = tt
+  below low start [] (elements ∷ blobs) shown h = absurd shown
+  below low start (frame ∷ frames) [] shown h = absurd shown
+  below low start (frame ∷ frames) (elements ∷ blobs) shown h = true-and _ _ (less low start h) (below low (start + length frame) frames blobs shown.1 (omega (arith, h)))
+
+  sorted : (start : ℕ) (frames : List (List ℕ)) (blobs : List (List Element)) (shown : AreShown layout db start frames blobs) → T (is_sorted nat_cmp (all start frames blobs shown))
+  unfolding all
+  sorted start [] [] shown = tt
+  sorted start [] (elements ∷ blobs) shown = absurd shown
+  sorted start (frame ∷ frames) [] shown = absurd shown
+  sorted start (frame ∷ frames) (elements ∷ blobs) shown =
+      let long = frame-long start frame shown.0.entry shown.0.is_entry in
+      true-and _ _ (below start (start + length frame) frames blobs shown.1 (omega (arith, long))) (sorted (start + length frame) frames blobs shown.1)
+
+  later : (start : ℕ) (frames : List (List ℕ)) (off : ℕ) (blob : Blob) → IsGoodIn (placed_from start frames) off blob → start ≤ off
+  later start [] off blob good = absurd good
+  later start (frame ∷ frames) off blob good = elim good [
+    | inl (here, _) ↦ omega (arith, here)
+    | inr more ↦ (let low = later (start + length frame) frames off blob more in omega (arith, low))
+  ]
+
+  found : (off start : ℕ) (entry : Blob) (es : List (ℕ × Blob)) → find nat_cmp off ((start, entry) ∷ es) ≡ cond (eqb off start) (Some entry) (find nat_cmp off es)
+  found off start entry es = ap (λ b. cond b (Some entry) (find nat_cmp off es)) (unsigned_tied off start)
+
+  exactly : (start : ℕ) (frames : List (List ℕ)) (blobs : List (List Element)) (shown : AreShown layout db start frames blobs) (off : ℕ) (blob : Blob)
+      → (find nat_cmp off (all start frames blobs shown) ≡ Some blob) ↔ IsGoodIn (placed_from start frames) off blob
+  unfolding all
+  exactly start [] [] shown off blob = ((λ is. absurd (cc)), λ good. absurd good)
+  exactly start [] (elements ∷ blobs) shown off blob = absurd shown
+  exactly start (frame ∷ frames) [] shown off blob = absurd shown
+  exactly start (frame ∷ frames) (elements ∷ blobs) shown off blob =
+      let entry = shown.0.entry in
+      let rest = all (start + length frame) frames blobs shown.1 in
+      let more = exactly (start + length frame) frames blobs shown.1 off blob in
+      let known = found off start entry rest in
+      elim (eqb_tells off start) [
+        | inl (test, same) ↦
+            let there : find nat_cmp off ((start, entry) ∷ rest) ≡ Some entry = known ∙ ap (λ b. cond b (Some entry) (find nat_cmp off rest)) test in (
+              (λ is. (let both : Some entry ≡ Some blob = sym there ∙ is in let one : entry ≡ blob = cc in inl (same, subst (λ (b : Blob). IsEntry start frame b) one shown.0.is_entry))),
+              (λ good. elim good [
+                | inl (_, other) ↦ there ∙ ap Some (entry-same start frame entry blob shown.0.is_entry other)
+                | inr behind ↦ (let low = later (start + length frame) frames off blob behind in let long = frame-long start frame entry shown.0.is_entry in absurd (omega (arith, low, long, same)))
+              ]),
+            )
+        | inr (test, apart) ↦
+            let there : find nat_cmp off ((start, entry) ∷ rest) ≡ find nat_cmp off rest = known ∙ ap (λ b. cond b (Some entry) (find nat_cmp off rest)) test in (
+              (λ is. inr (more.0 (sym there ∙ is))),
+              (λ good. elim good [
+                | inl (here, _) ↦ absurd (apart here)
+                | inr behind ↦ there ∙ more.1 behind
+              ]),
+            )
+      ]
+
+pub audited-shows-import : AuditedShowsImport
+audited-shows-import layout db frames audited =
+    let es = all layout db 0 frames audited.blobs audited.shown in
+    let held : HeldMap = from_sorted es in
+    let are : entries held ≡ es = entries-from_sorted nat_cmp es (sorted layout db 0 frames audited.blobs audited.shown) in
+    let elements : map (λ (e : ℕ × Blob). e.1.elements) (entries held) ≡ audited.blobs = ap (map (λ (e : ℕ × Blob). e.1.elements)) are ∙ elements-all layout db 0 frames audited.blobs audited.shown in
+    record {
+      held = held;
+      imported = λ off blob.
+          let all_told = exactly layout db 0 frames audited.blobs audited.shown off blob in
+          let known : get held off ≡ find nat_cmp off es = get-entries held off ∙ ap (find nat_cmp off) are in
+          ((λ is. all_told.0 (sym known ∙ is)), λ good. known ∙ all_told.1 good);
+      shown = shows_map layout db held (subst (AllByRecursion (λ (e : ℕ × Blob). ShowsBlob layout db e.0 e.1)) (sym are) (shown-all layout db 0 frames audited.blobs audited.shown))
+          (subst (λ (blobs : List (List Element)). ShowsCounts layout db (counts_of blobs)) (sym elements) audited.counted);
+    }
