@@ -1,6 +1,8 @@
 //! What holds of the definitions, over all maps and tables.
 
-ghost use Rattle.std.specs.Prelude.{◌≡◌, ℕ, pos, negsuc, false, [], ◌∷◌, codes, IsTrue, MatchResult};
+ghost use Rattle.std.specs.Prelude.{◌≡◌, ℕ, pos, negsuc, false, [], ◌∷◌, map, codes, IsTrue, MatchResult};
+ghost use Rattle.std.specs.FinMap.{entries};
+ghost use Rattle.std.specs.List.{AllByRecursion};
 ghost use Rattle.sqlite.specs.declared.types.Value.TheVariants.{Null, Int, Text as Words};
 ghost use Rattle.sqlite.specs.Held.{state};
 ghost use Rattle.sqlite.specs.State.{HasCleanDisk, IsLive, Opens};
@@ -8,7 +10,8 @@ ghost use Rattle.sqlite.specs.Steps.{over_memory};
 ghost use Rattle.sqlite.specs.Tree.{Trees};
 ghost use Rattle.osm_store.specs.RowExamples.{a_node, a_way, a_relation, eight_nulls};
 ghost use Rattle.osm_store.specs.TableRows.{element_rows, tag_rows, link_rows};
-ghost use Rattle.osm_store.specs.Held.{HeldMap};
+ghost use Rattle.osm_store.specs.Audit.{ShowsBlob, ShowsCounts, ShowsMap, counts_of};
+ghost use Rattle.osm_store.specs.Held.{Blob, HeldMap};
 ghost use Rattle.osm_store.specs.Keeping.{IsForeign};
 ghost use Rattle.osm_store.specs.LayoutHolding.{Holds, IsKept, LeavesAMap, MayLeave, TablesHold};
 
@@ -20,6 +23,13 @@ use sqlite::{Alter, Connection, MemStore};
 /// The rows of a map are those of no other map.
 pub fn rows_of_one_map()
     ensures { (layout : Layout) (one other : HeldMap) (db : Trees) → IsKept layout one → IsKept layout other → TablesHold layout one db → TablesHold layout other db → one ≡ other }
+{}
+
+/// Where the rows at each offset of a map are those of its blob there, and no table has more rows than all these, queries
+/// see the rows of the map and no others, whatever rows the tables had.
+pub fn rows_of_all_blobs()
+    ensures { (layout : Layout) (db : Trees) (held : HeldMap) → AllByRecursion (λ (entry : ℕ × Blob). ShowsBlob layout db entry.0 entry.1) (entries held)
+        → ShowsCounts layout db (counts_of (map (λ (entry : ℕ × Blob). entry.1.elements) (entries held))) → ShowsMap layout db held }
 {}
 
 /// The rows of two nodes: their places, and nothing else.

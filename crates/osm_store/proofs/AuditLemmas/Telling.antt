@@ -20,3 +20,6 @@ rests a told = ((λ t. (a, told.0 t)), λ both. told.1 both.1)
 pub ok_told : {E : Type 0} {A B : Bool → Type 0} (r : Result Bool E) → ((b : Bool) → A b → B b) → IfOk r A → IfOk r B
 ok_told (Ok b) f h = f b h
 ok_told (Err e) f h = tt
+
+pub meant : {X : Type 0} {T : Type 0} (xs ys zs : List X) → ys ≡ zs → T ↔ (xs ≡ ys) → T ↔ (xs ≡ zs)
+meant {X} {T} xs ys zs is told = subst (λ (l : List X). T ↔ (xs ≡ l)) is told

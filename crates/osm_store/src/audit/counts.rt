@@ -101,6 +101,16 @@ fn number_in(rows: &[Row]) -> Option<u64>
     }
 }
 
+/// Whether rows are the one that shows this count, which is less than SQL counts at most.
+fn is_count(rows: &[Row], expected: u64) -> bool
+    ensures { (n : ℕ) → rows.now ≡ (Int (pos (min n 9223372036854775807)) ∷ []) ∷ [] → IsTrue result ↔ ((n ≡ expected) × (expected < 2 ^ 63 - 1)) }
+{
+    match number_in(rows) {
+        Some(count) => count == expected && expected < MOST_ROWS,
+        None => false,
+    }
+}
+
 /// Whether a query answers with this number, which is less than SQL counts at most.
 fn has_count<S: Alter>(
     connection: &mut Connection<S>,
@@ -115,7 +125,7 @@ fn has_count<S: Alter>(
     ensures asks { JustAsks (state S.Store connection.old) (state S.Store connection.new) }
 {
     let rows = answer(connection, sql, &[])?;
-    Ok(expected < MOST_ROWS && number_in(&rows) == Some(expected))
+    Ok(is_count(&rows, expected))
 }
 
 /// Whether the table `blob` has so many rows.

@@ -1,7 +1,7 @@
 //! Stores in memory, of both layouts, and the rows of their tables.
 
 use osm_store::{
-    BlobStore, Bodies, BodyStore, Keeper, StoreFault, StoreLayout, TableStore, Tables,
+    Audited, BlobStore, Bodies, BodyStore, Keeper, StoreFault, StoreLayout, TableStore, Tables,
 };
 use sqlite::{Alter, Connection, MemStore};
 use std::alloc::Global;
@@ -95,7 +95,7 @@ pub(crate) const NODES_AS_ROWS: &[CountedRows] = &[
 ];
 
 /// A store in memory, which holds nothing at first.
-pub(crate) trait NewStore: Keeper + Drop {
+pub(crate) trait NewStore: Keeper + Audited + Drop {
     fn new_store(alloc: Global) -> Result<Self, StoreFault>;
 
     /// How many steps each later statement may take; None is no limit.

@@ -19,19 +19,19 @@ use std::test::*;
 type Spoiled = (&'static str, Step);
 
 /// Relation 9, and way 7 over four nodes, behind the three ways.
-const RELATION_AT_137: Extent = Extent {
+pub(crate) const RELATION_AT_137: Extent = Extent {
     off: 137,
     fin: 203,
     ..PLACED_RELATION
 };
 
-const WAY_AT_203: Extent = Extent {
+pub(crate) const WAY_AT_203: Extent = Extent {
     off: 203,
     fin: 252,
     ..PLACED_WAY
 };
 
-const FIVE_BLOBS: &[Step] = &[
+pub(crate) const FIVE_BLOBS: &[Step] = &[
     PUT_HEADER,
     PUT_NODES,
     Step::Put(PLACED_WAYS, THREE_WAYS, Ok(())),

@@ -1,7 +1,8 @@
-use Rattle.std.proofs.Common.{refl}
+use Rattle.std.proofs.Common.{refl, map, ap, ◌∙◌}
 use Rattle.sqlite.specs.Held.{state}
 use Rattle.sqlite_tied.specs.Compute.{everything}
-use Rattle.osm_store.proofs.AuditLemmas.Telling.{iff_then, asked, ok_told}
+use Rattle.osm_store.specs.Put.WrittenRows.{element_columns}
+use Rattle.osm_store.proofs.AuditLemmas.Telling.{iff_then, meant, ok_told}
 use Rattle.osm_store.proofs.AuditLemmas.BlobReads.{elements_told}
 use Rattle.osm_store.proofs.audit.tables.shows_element_rows.Goals as goal
 
@@ -10,7 +11,10 @@ unfolding everything
 answers-requires-clause-selects g c = refl
 
 pub returns-clause-told : goal.returns-clause-told
-returns-clause-told g c clean schema = ?
+returns-clause-told g c clean schema =
+    let old = state g.S.Store c.args.connection.now in
+    let new = state g.S.Store c.answers.new.connection in
+    ok_told c.answers.result (λ b told. iff_then (meant _ _ _ (ap (map element_columns) c.deref.ensures.value ∙ c.in_ok-expected.ensures) told.2) (elements_told old new told.0 c.args.off c.args.elements.now schema told.1)) (c.answers.ensures.told clean)
 
 pub returns-clause-opened : goal.returns-clause-opened
 returns-clause-opened g c clean = ok_told c.answers.result (λ b told. told.1.is_open) (c.answers.ensures.told clean)

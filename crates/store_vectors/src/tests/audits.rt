@@ -1,0 +1,243 @@
+//! Whether a store has the rows of blobs and no others, over rows as they were put and over rows that statements over its
+//! connection have changed.
+
+use super::fixtures::{NOTHING, PLACED_HEADER, PLACED_NODES, PLACED_WAYS, THREE_WAYS, TWO_NODES};
+use super::memory::{BodiesInMemory, NewStore, TablesInMemory};
+use super::spoiled::{FIVE_BLOBS, RELATION_AT_137, WAY_AT_203};
+use super::steps::followed;
+use super::tables::{RELATION, WAY};
+use osm_block::read_block;
+use osm_store::{Audited, Counts, Extent, StoreFault};
+use osm_value::Element;
+use std::alloc::Global;
+use std::process::Abort;
+use std::test::*;
+
+/// What a store is asked for.
+enum Asked {
+    /// The rows of the blob at the extent's offset, with the elements of a block.
+    Blob(Extent, &'static [u8]),
+    /// So many rows.
+    Rows(Counts),
+}
+
+/// A statement that changes rows of the five blobs, and what isn't there afterwards.
+type Changed = (&'static str, Asked);
+
+const NODES_AT_47: Asked = Asked::Blob(PLACED_NODES, TWO_NODES);
+
+const WAY_AT_THE_END: Asked = Asked::Blob(WAY_AT_203, WAY);
+
+/// Those of the five blobs: two nodes, three ways with neither tags nor nodes, a relation with a tag and two members, and a
+/// way with a tag over four nodes.
+const ALL_COUNTS: Counts = Counts {
+    blobs: 5,
+    elements: 7,
+    tags: 2,
+    links: 6,
+};
+
+const ALL_ROWS: Asked = Asked::Rows(ALL_COUNTS);
+
+const ALL_ASKED: &[Asked] = &[
+    Asked::Blob(PLACED_HEADER, NOTHING),
+    NODES_AT_47,
+    Asked::Blob(PLACED_WAYS, THREE_WAYS),
+    Asked::Blob(RELATION_AT_137, RELATION),
+    WAY_AT_THE_END,
+    ALL_ROWS,
+];
+
+/// Blobs that the store doesn't hold, and counts of other rows.
+const OTHERS: &[Asked] = &[
+    Asked::Blob(
+        Extent {
+            digest: [9; 32],
+            ..PLACED_NODES
+        },
+        TWO_NODES,
+    ),
+    Asked::Blob(
+        Extent {
+            fin: 85,
+            ..PLACED_NODES
+        },
+        TWO_NODES,
+    ),
+    Asked::Blob(PLACED_NODES, NOTHING),
+    Asked::Blob(PLACED_NODES, THREE_WAYS),
+    Asked::Blob(
+        Extent {
+            off: 48,
+            ..PLACED_NODES
+        },
+        TWO_NODES,
+    ),
+    Asked::Rows(Counts {
+        blobs: 4,
+        ..ALL_COUNTS
+    }),
+    Asked::Rows(Counts {
+        elements: 8,
+        ..ALL_COUNTS
+    }),
+    Asked::Rows(Counts::NONE),
+];
+
+impl Asked {
+    /// Whether the store has it. `NotThisStore(None)` where the block or the extent is none.
+    fn is_there<K: Audited>(&self, alloc: Global, store: &mut K) -> Result<bool, StoreFault> {
+        match self {
+            Asked::Blob(extent, block) => has_block(alloc, store, extent, block),
+            Asked::Rows(counts) => store.has_counts(counts),
+        }
+    }
+}
+
+fn has_block<K: Audited>(
+    alloc: Global,
+    store: &mut K,
+    extent: &Extent,
+    block: &[u8],
+) -> Result<bool, StoreFault> {
+    let Ok(elements) = read_block(alloc, block) else {
+        return Err(StoreFault::NotThisStore(None));
+    };
+    let (off, fin) = (extent.off, extent.fin);
+    if off >= fin || fin > 1 << 62 {
+        return Err(StoreFault::NotThisStore(None));
+    }
+    store.has_blob(alloc, off, fin, &extent.digest, extent.kind, &elements)
+}
+
+/// Expects the five blobs as they were put, and no others.
+fn expect_all<K: NewStore, R: Abort + Alloc<A = Global>>(rt: &R, layout: &str) -> Result<(), Fail> {
+    let mut store: K = followed(rt, layout, FIVE_BLOBS)?;
+    for (number, asked) in ALL_ASKED.iter().enumerate() {
+        let answer = asked.is_there(rt.alloc(), &mut store);
+        assert_eq!(rt; answer, Ok(true), "{number} over {layout}");
+    }
+    for (number, asked) in OTHERS.iter().enumerate() {
+        let answer = asked.is_there(rt.alloc(), &mut store);
+        assert_eq!(rt; answer, Ok(false), "other {number} over {layout}");
+    }
+    Ok(())
+}
+
+/// Expects that each is there as it was put, and isn't once the rows are changed.
+fn expect_changes<K: NewStore, R: Abort + Alloc<A = Global>>(
+    rt: &R,
+    layout: &str,
+    table: &[Changed],
+) -> Result<(), Fail> {
+    for (sql, asked) in table {
+        let mut store: K = followed(rt, layout, FIVE_BLOBS)?;
+        let before = asked.is_there(rt.alloc(), &mut store);
+        assert_eq!(rt; before, Ok(true), "before {sql} over {layout}");
+        let mut store = store.changed(sql).ok_or("a store")?;
+        let after = asked.is_there(rt.alloc(), &mut store);
+        assert_eq!(rt; after, Ok(false), "{sql} over {layout}");
+    }
+    Ok(())
+}
+
+#[test]
+fn rows_as_they_were_put(rt: HostRuntime) -> Result<(), Fail> {
+    expect_all::<BodiesInMemory, _>(&rt, "bodies")?;
+    expect_all::<TablesInMemory, _>(&rt, "tables")
+}
+
+/// A changed digest, an end or a kind, and a blob more.
+#[test]
+fn changed_extents(rt: HostRuntime) -> Result<(), Fail> {
+    const TABLE: &[Changed] = &[
+        (
+            "UPDATE blob SET digest = x'0202020202020202020202020202020202020202020202020202020202020203' WHERE off = 47",
+            NODES_AT_47,
+        ),
+        ("UPDATE blob SET fin = 83 WHERE off = 47", NODES_AT_47),
+        ("UPDATE blob SET kind = 2 WHERE off = 47", NODES_AT_47),
+        ("UPDATE blob SET n = 3 WHERE off = 47", NODES_AT_47),
+        ("DELETE FROM blob WHERE off = 47", NODES_AT_47),
+        (
+            "INSERT INTO blob (off, fin, digest, kind, n) VALUES (1000, 1001, x'01', 1, 0)",
+            ALL_ROWS,
+        ),
+    ];
+    expect_changes::<BodiesInMemory, _>(&rt, "bodies", TABLE)?;
+    expect_changes::<TablesInMemory, _>(&rt, "tables", TABLE)
+}
+
+/// Bodies more, fewer and others, at a held blob and at an offset of none.
+#[test]
+fn changed_bodies(rt: HostRuntime) -> Result<(), Fail> {
+    const TABLE: &[Changed] = &[
+        (
+            "INSERT INTO body (off, pos, kind, id, data) VALUES (47, 2, 0, 3, x'00')",
+            NODES_AT_47,
+        ),
+        ("DELETE FROM body WHERE off = 47 AND pos = 1", NODES_AT_47),
+        ("UPDATE body SET id = 5 WHERE off = 47 AND pos = 0", NODES_AT_47),
+        ("UPDATE body SET data = x'00' WHERE off = 47 AND pos = 0", NODES_AT_47),
+        ("UPDATE body SET pos = 2 WHERE off = 47 AND pos = 0", NODES_AT_47),
+        (
+            "INSERT INTO body (off, pos, kind, id, data) VALUES (1000, 0, 0, 3, x'00')",
+            ALL_ROWS,
+        ),
+        (
+            "INSERT INTO body (off, pos, kind, id, data) VALUES (-1, 0, 0, 3, x'00')",
+            ALL_ROWS,
+        ),
+    ];
+    expect_changes::<BodiesInMemory, _>(&rt, "bodies", TABLE)
+}
+
+/// Rows of elements, tags and links more, fewer and others, at a held blob and at an offset of none.
+#[test]
+fn changed_tables(rt: HostRuntime) -> Result<(), Fail> {
+    const TABLE: &[Changed] = &[
+        (
+            "INSERT INTO tag (off, pos, k, key, val) VALUES (47, 0, 0, 'a', 'b')",
+            NODES_AT_47,
+        ),
+        (
+            "INSERT INTO link (off, pos, k, kind, ref, role) VALUES (47, 0, 0, 0, 1, '')",
+            NODES_AT_47,
+        ),
+        (
+            "INSERT INTO element (off, pos, kind, id) VALUES (47, 2, 1, 3)",
+            NODES_AT_47,
+        ),
+        ("UPDATE element SET version = 1 WHERE off = 47 AND pos = 1", NODES_AT_47),
+        ("UPDATE element SET lat = NULL WHERE off = 47 AND pos = 1", NODES_AT_47),
+        ("DELETE FROM tag WHERE off = 203", WAY_AT_THE_END),
+        ("UPDATE tag SET val = 'c' WHERE off = 203", WAY_AT_THE_END),
+        ("DELETE FROM link WHERE off = 203 AND k = 3", WAY_AT_THE_END),
+        ("UPDATE link SET k = 4 WHERE off = 203 AND k = 3", WAY_AT_THE_END),
+        (
+            "INSERT INTO element (off, pos, kind, id) VALUES (1000, 0, 1, 3)",
+            ALL_ROWS,
+        ),
+        (
+            "INSERT INTO tag (off, pos, k, key, val) VALUES (1000, 0, 0, 'a', 'b')",
+            ALL_ROWS,
+        ),
+        (
+            "INSERT INTO link (off, pos, k, kind, ref, role) VALUES (-1, 0, 0, 0, 1, '')",
+            ALL_ROWS,
+        ),
+    ];
+    expect_changes::<TablesInMemory, _>(&rt, "tables", TABLE)
+}
+
+/// The counts of blobs are those of their elements, one blob after the other.
+#[test]
+fn counts_of_blobs(rt: HostRuntime) -> Result<(), Fail> {
+    let mut counts = Counts::NONE;
+    for block in [NOTHING, TWO_NODES, THREE_WAYS, RELATION, WAY] {
+        let elements: Vec<Element> = read_block(rt.alloc(), block).map_err(|_| "elements")?;
+        counts.add(&elements);
+    }
+    assert_eq!(rt; counts, ALL_COUNTS);
+    Ok(())
+}
