@@ -14,5 +14,5 @@ pub use audit::{Audited, Counts};
 pub use blob_store::{BlobStore, BodyStore, TableStore};
 pub use fault::StoreFault;
 pub use keeper::{Extent, Keeper, Reader};
-pub use load::{Found, Loaded};
+pub use load::{Found, Loaded, are_apart};
 pub use schema::{Bodies, StoreLayout, Tables};
