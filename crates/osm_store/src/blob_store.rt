@@ -244,14 +244,14 @@ impl<S: Alter, L: StoreLayout> Audited for BlobStore<S, L> {
         kind: Kind,
         elements: &[Element],
     ) -> Result<bool, StoreFault> {
-        let extent = Extent {
+        let wanted = Extent {
             off,
             fin,
             digest: *digest,
             kind,
             n: elements.len() as u64,
         };
-        let answer = has_rows_of(alloc, &mut self.connection, L::LAYOUT, &extent, elements);
+        let answer = has_rows_of(alloc, &mut self.connection, L::LAYOUT, &wanted, elements);
         self.failures = failures_after(&answer, self.failures);
         answer
     }

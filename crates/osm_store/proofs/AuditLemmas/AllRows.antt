@@ -7,6 +7,7 @@ use Rattle.std.proofs.lemmas.Bool.{cases_Bool}
 use Rattle.std.proofs.lemmas.Bool.Decides.{nat_tests}
 use Rattle.std.proofs.lemmas.List.{map-append, length-map}
 use Rattle.std.proofs.lemmas.List.Concat.{flat_map-append}
+use Rattle.std.proofs.lemmas.List.Sums.{sum_by-cons}
 use Rattle.std.proofs.lemmas.List.Filters.{length-filter_both}
 use Rattle.std.proofs.lemmas.List.Sorted.{IsPermutation-sym, IsPermutation-trans, IsPermutation-append, IsPermutation-filter_both, length_permutation}
 use Rattle.sqlite.specs.declared.types.Value.TheVariants.{Int}
@@ -47,12 +48,12 @@ elsewhere off at row low is = ap (λ v. is_true (binary (Compare Eq Binary) v (I
 filter_within : (p q : Row → Bool) (xs : List Row) → AllByRecursion (λ x. q x ≡ false) (filter p xs) → filter p (filter (λ x. not (q x)) xs) ≡ filter p xs
 filter_within p q [] h = refl
 filter_within p q (x ∷ xs) h = elim (cases_Bool (p x)) [
-  | inl yes ↦ (let k = rw yes at h in rw (k.0, yes) (ap (λ l. x ∷ l) (filter_within p q xs k.1)))
-  | inr no ↦
-      let k = rw no at h in
+  | inl passes ↦ (let k = rw passes at h in rw (k.0, passes) (ap (λ l. x ∷ l) (filter_within p q xs k.1)))
+  | inr fails ↦
+      let k = rw fails at h in
       elim (cases_Bool (q x)) [
-        | inl dropped ↦ rw (dropped, no) (filter_within p q xs k)
-        | inr kept ↦ rw (kept, no) (filter_within p q xs k)
+        | inl dropped ↦ rw (dropped, fails) (filter_within p q xs k)
+        | inr kept ↦ rw (kept, fails) (filter_within p q xs k)
       ]
 ]
 
@@ -119,12 +120,12 @@ parts_length off position number (x ∷ xs) = ap suc (parts_length off position 
 
 count_elements : (es : List Entry) → length (elements_in es) ≡ sum_by length (map elements_of es)
 count_elements [] = refl
-count_elements (e ∷ es) = length-append (within e) (elements_in es) ∙ ap₂ (λ m n. m + n) (placed_length e.0 0 e.1.elements) (count_elements es)
+count_elements (e ∷ es) = length-append (within e) (elements_in es) ∙ ap₂ (λ m n. m + n) (placed_length e.0 0 e.1.elements) (count_elements es) ∙ sym (sum_by-cons length e.1.elements (map elements_of es))
 
 count_parts_at : {A : Type 0} (items : Element → List A) (off position : ℕ) (es : List Element) → length (flat_map (λ (p : Placed). parts p.0 p.1 0 (items p.2)) (placed off position es)) ≡ sum_by (λ e. length (items e)) es
 count_parts_at items off position [] = refl
 count_parts_at items off position (e ∷ es) =
-    length-append (parts off position 0 (items e)) _ ∙ ap₂ (λ m n. m + n) (parts_length off position 0 (items e)) (count_parts_at items off (position + 1) es)
+    length-append (parts off position 0 (items e)) _ ∙ ap₂ (λ m n. m + n) (parts_length off position 0 (items e)) (count_parts_at items off (position + 1) es) ∙ sym (sum_by-cons (λ e. length (items e)) e es)
 
 count_parts : {A : Type 0} (items : Element → List A) (es : List Entry) → length (flat_map (λ (p : Placed). parts p.0 p.1 0 (items p.2)) (elements_in es)) ≡ sum_by (λ elements. sum_by (λ e. length (items e)) elements) (map elements_of es)
 count_parts items [] = refl
@@ -132,6 +133,7 @@ count_parts items (e ∷ es) =
     ap length (flat_map-append (λ (p : Placed). parts p.0 p.1 0 (items p.2)) (within e) (elements_in es))
     ∙ length-append (flat_map (λ (p : Placed). parts p.0 p.1 0 (items p.2)) (within e)) _
     ∙ ap₂ (λ m n. m + n) (count_parts_at items e.0 0 e.1.elements) (count_parts items es)
+    ∙ sym (sum_by-cons (λ elements. sum_by (λ e. length (items e)) elements) e.1.elements (map elements_of es))
 
 -- a count below the most that SQL counts has not stopped
 exact : (n many : ℕ) → (many ≡ min n (2 ^ 64 - 1)) × (min n (2 ^ 64 - 1) < 2 ^ 63 - 1) → many ≡ n
@@ -149,7 +151,7 @@ module _ (layout : Layout) (db : Trees) (held : HeldMap) where
   extents_shown : AllByRecursion (λ (e : Entry). HasAt e.0 (extent_columns (extent_of e) ∷ []) (seen_extents db)) es → HasCount (db 1) (capped (length (map elements_of es))) → IsPermutation (map extent_columns (map extent_of es)) (seen_extents db)
   extents_shown at count =
       covers (λ (e : Entry). extent_columns (extent_of e) ∷ []) (λ e. (refl, tt)) (λ es. map extent_columns (map extent_of es)) refl (λ e es. refl) es (seen_extents db) (entries_rise held) at
-      (seen_length _ (db 1) (map extent_columns (map extent_of es)) _ count (length-map (map extent_of es) extent_columns ∙ length-map es extent_of ∙ sym (length-map es elements_of)))
+      (seen_length (0 ∷ 2 ∷ 3 ∷ 4 ∷ 5 ∷ []) (db 1) (map extent_columns (map extent_of es)) _ count (length-map (map extent_of es) extent_columns ∙ length-map es extent_of ∙ sym (length-map es elements_of)))
 
   module _ (row : Placed → Row) (first : (p : Placed) → column (row p) 0 ≡ Int (pos p.0)) (places : List ℕ) (table : List Row) where
     placed_shown : AllByRecursion (λ (e : Entry). HasAt e.0 (map row (within e)) (seen places table)) es → HasCount table (capped (sum_by length (map elements_of es))) → IsPermutation (map row (elements_in es)) (seen places table)
@@ -170,13 +172,13 @@ module _ (layout : Layout) (db : Trees) (held : HeldMap) where
 pub shows_map : (layout : Layout) (db : Trees) (held : HeldMap) → AllByRecursion (λ (e : Entry). ShowsBlob layout db e.0 e.1) (entries held) → ShowsCounts layout db (counts_of (map elements_of (entries held))) → ShowsMap layout db held
 shows_map Bodies db held at counts = record {
   extents = extents_shown Bodies db held (all_weaker _ _ (λ (e : Entry) shown. shown.extent) (entries held) at) counts.0;
-  elements = placed_shown Bodies db held body_row (λ p. refl) _ (db 2) (all_weaker _ _ (λ (e : Entry) shown. shown.elements) (entries held) at) counts.1;
+  elements = placed_shown Bodies db held body_row (λ p. refl) (1 ∷ 2 ∷ 3 ∷ 4 ∷ 5 ∷ []) (db 2) (all_weaker _ _ (λ (e : Entry) shown. shown.elements) (entries held) at) counts.1;
 }
 shows_map Tables db held at counts = record {
   extents = extents_shown Tables db held (all_weaker _ _ (λ (e : Entry) shown. shown.extent) (entries held) at) counts.0;
   elements = (
-    placed_shown Tables db held element_row (λ p. refl) _ (db 2) (all_weaker _ _ (λ (e : Entry) shown. shown.elements.0) (entries held) at) counts.1,
-    parts_shown Tables db held tag_row (λ x. refl) tags_of_element _ (db 4) (all_weaker _ _ (λ (e : Entry) shown. shown.elements.1) (entries held) at) counts.2,
-    parts_shown Tables db held link_row (λ x. refl) links_of _ (db 6) (all_weaker _ _ (λ (e : Entry) shown. shown.elements.2) (entries held) at) counts.3,
+    placed_shown Tables db held element_row (λ p. refl) (1 ∷ 2 ∷ 3 ∷ 4 ∷ 5 ∷ 6 ∷ 7 ∷ 8 ∷ 9 ∷ 10 ∷ 11 ∷ 12 ∷ []) (db 2) (all_weaker _ _ (λ (e : Entry) shown. shown.elements.0) (entries held) at) counts.1,
+    parts_shown Tables db held tag_row (λ x. refl) tags_of_element (1 ∷ 2 ∷ 3 ∷ 4 ∷ 5 ∷ []) (db 4) (all_weaker _ _ (λ (e : Entry) shown. shown.elements.1) (entries held) at) counts.2,
+    parts_shown Tables db held link_row (λ x. refl) links_of (1 ∷ 2 ∷ 3 ∷ 4 ∷ 5 ∷ 6 ∷ []) (db 6) (all_weaker _ _ (λ (e : Entry) shown. shown.elements.2) (entries held) at) counts.3,
   );
 }

@@ -1,0 +1,39 @@
+use Rattle.std.proofs.Common.{◌≡◌, ℕ, [], ◌∷◌, length, sym, subst}
+use Rattle.std.specs.Prelude.{◌↔◌, IfOk, IsTrue}
+use Rattle.sqlite.specs.Held.{state}
+use Rattle.osm_store.specs.Audit.{HasAt, ShowElementsAt, ShowsBlob, seen_extents}
+use Rattle.osm_store.specs.declared.schema.layout.Layout.{Layout}
+use Rattle.osm_store.specs.Held.{Blob}
+use Rattle.osm_store.specs.Keeping.{extent_of}
+use Rattle.osm_store.specs.Rows.{extent_columns, placed}
+use Rattle.osm_store.specs.Schema.Layouts.{schema_of}
+use Rattle.osm_store.specs.Store.{Store, JustReads}
+use Rattle.sqlite.specs.Tree.{Trees}
+use Rattle.osm_store.proofs.AuditLemmas.Telling.{iff_then, ok_told, both_told}
+use Rattle.osm_store.proofs.LoadLemmas.ReaderPromises.{just_reads}
+use Rattle.osm_store.proofs.blob_store.BlobStoreAudited.has_blob.Goals as goal
+
+whole : (layout : Layout) (db : Trees) (off : ℕ) (blob : Blob) → (HasAt off (extent_columns (extent_of (off, blob)) ∷ []) (seen_extents db) × ShowElementsAt layout off (placed off 0 blob.elements) db) ↔ ShowsBlob layout db off blob
+whole layout db off blob = ((λ parts. record { extent = parts.0; elements = parts.1 }), λ shown. (shown.extent, shown.elements))
+
+pub returns-clause-told : goal.returns-clause-told
+returns-clause-told g c clean schema =
+    let layout = g.L.StoreLayout.LAYOUT in
+    let blob : Blob = record { fin = c.args.fin; digest = c.args.digest.now; kind = c.args.kind; elements = c.args.elements.now } in
+    let was = sym c.self.view_is in
+    let inside = state g.S.Store c.self.inside.connection in
+    let here : inside.committed.schema ≡ schema_of c.LAYOUT.result =
+    subst (λ (l : Layout). inside.committed.schema ≡ schema_of l) (sym c.LAYOUT.ensures) (subst (λ (s : Store _). (state g.S.Store s.connection).committed.schema ≡ schema_of layout) was schema) in
+    subst (λ (s : Store _). IfOk c.has_rows_of-answer.result (λ told. IsTrue told ↔ ShowsBlob layout (state g.S.Store s.connection).committed.trees c.args.off blob)) c.self.view_is
+    (subst (λ (l : Layout). IfOk c.has_rows_of-answer.result (λ told. IsTrue told ↔ ShowsBlob l inside.committed.trees c.args.off blob)) c.LAYOUT.ensures
+    (ok_told c.has_rows_of-answer.result (λ b told. iff_then told (whole c.LAYOUT.result inside.committed.trees c.args.off blob)) (c.has_rows_of-answer.ensures.told clean here)))
+
+pub returns-clause-opened : goal.returns-clause-opened
+returns-clause-opened g c clean = ok_told c.has_rows_of-answer.result (λ b up. (clean, up)) (c.has_rows_of-answer.ensures.opened clean)
+
+pub returns-clause-reads : goal.returns-clause-reads
+returns-clause-reads g c =
+    let inside : Store _ = record { connection = c.self.inside.connection; failures = c.self.inside.failures } in
+    let new : Store _ = record { connection = c.has_rows_of-answer.new.connection; failures = c.failures_after-self-inside.result } in
+    let reads = just_reads c.LAYOUT.result g.S.Store inside new c.has_rows_of-answer.ensures.asks c.has_rows_of-answer.result (λ clean held holds. both_told _ _ c.has_rows_of-answer.result (c.has_rows_of-answer.ensures.opened clean) c.has_rows_of-answer.ensures.ours) c.failures_after-self-inside.ensures in
+    subst (λ old. JustReads g.L.StoreLayout.LAYOUT g.S.Store old c.has_rows_of-answer.result new) c.self.view_is (subst (λ layout. JustReads layout g.S.Store inside c.has_rows_of-answer.result new) c.LAYOUT.ensures reads)

@@ -1,0 +1,29 @@
+use Rattle.std.proofs.Common.{◌≡◌, sym, subst}
+use Rattle.std.specs.Prelude.{◌↔◌, IfOk, IsTrue}
+use Rattle.sqlite.specs.Held.{state}
+use Rattle.osm_store.specs.Audit.{ShowsCounts}
+use Rattle.osm_store.specs.declared.schema.layout.Layout.{Layout}
+use Rattle.osm_store.specs.Schema.Layouts.{schema_of}
+use Rattle.osm_store.specs.Store.{Store, JustReads}
+use Rattle.osm_store.proofs.AuditLemmas.Telling.{ok_told, both_told}
+use Rattle.osm_store.proofs.LoadLemmas.ReaderPromises.{just_reads}
+use Rattle.osm_store.proofs.blob_store.BlobStoreAudited.has_counts.Goals as goal
+
+pub returns-clause-told : goal.returns-clause-told
+returns-clause-told g c clean schema =
+    let layout = g.L.StoreLayout.LAYOUT in
+    let inside = state g.S.Store c.self.inside.connection in
+    let here : inside.committed.schema ≡ schema_of c.LAYOUT.result =
+    subst (λ (l : Layout). inside.committed.schema ≡ schema_of l) (sym c.LAYOUT.ensures) (subst (λ (s : Store _). (state g.S.Store s.connection).committed.schema ≡ schema_of layout) (sym c.self.view_is) schema) in
+    subst (λ (s : Store _). IfOk c.has_counts_of-answer.result (λ told. IsTrue told ↔ ShowsCounts layout (state g.S.Store s.connection).committed.trees c.args.counts.now)) c.self.view_is
+    (subst (λ (l : Layout). IfOk c.has_counts_of-answer.result (λ told. IsTrue told ↔ ShowsCounts l inside.committed.trees c.args.counts.now)) c.LAYOUT.ensures (c.has_counts_of-answer.ensures.told clean here))
+
+pub returns-clause-opened : goal.returns-clause-opened
+returns-clause-opened g c clean = ok_told c.has_counts_of-answer.result (λ b up. (clean, up)) (c.has_counts_of-answer.ensures.opened clean)
+
+pub returns-clause-reads : goal.returns-clause-reads
+returns-clause-reads g c =
+    let inside : Store _ = record { connection = c.self.inside.connection; failures = c.self.inside.failures } in
+    let new : Store _ = record { connection = c.has_counts_of-answer.new.connection; failures = c.failures_after-self-inside.result } in
+    let reads = just_reads c.LAYOUT.result g.S.Store inside new c.has_counts_of-answer.ensures.asks c.has_counts_of-answer.result (λ clean held holds. both_told _ _ c.has_counts_of-answer.result (c.has_counts_of-answer.ensures.opened clean) c.has_counts_of-answer.ensures.ours) c.failures_after-self-inside.ensures in
+    subst (λ old. JustReads g.L.StoreLayout.LAYOUT g.S.Store old c.has_counts_of-answer.result new) c.self.view_is (subst (λ layout. JustReads layout g.S.Store inside c.has_counts_of-answer.result new) c.LAYOUT.ensures reads)
