@@ -4,7 +4,7 @@ use Rattle.std.specs.Ordering.{ordering_then, int_eq}
 use Rattle.std.proofs.lemmas.Bool.Decides.{nat_tests}
 use Rattle.sqlite_value.specs.declared.value.Value.{Value}
 use Rattle.sqlite_value.specs.declared.value.Value.TheVariants.{Int}
-use Rattle.sqlite_value.specs.Order.{Row, column, value_cmp}
+use Rattle.sqlite_value.specs.Order.{Row, column, value_cmp, row_cmp}
 use Rattle.sqlite_value.specs.Keys.{plain, first_key, by_key, later, entry_cmp, prefix_cmp}
 use Rattle.sqlite_value.proofs.KeyLemmas.{entry_cmp-plain, first_key-plain}
 use Rattle.sqlite_value.proofs.OrderLemmas.{value_cmp-Int, then-Equal}
@@ -47,10 +47,10 @@ two_naturals m n i j e = ap is_eq (prefix_cmp-two (Int (pos m)) (Int (pos i)) e 
 
 pub elements_rise : (a b : Placed) (e f : Row) → IsBefore a b → entry_cmp plain (Int (pos a.0) ∷ Int (pos a.1) ∷ e) (Int (pos b.0) ∷ Int (pos b.1) ∷ f) ≡ Less
 elements_rise a b e f (inl low) =
-    entry_cmp-plain (Int (pos a.0) ∷ Int (pos a.1) ∷ e) (Int (pos b.0) ∷ Int (pos b.1) ∷ f) ∙ ap (λ o. ordering_then o _) (numbers_below a.0 b.0 low)
+    entry_cmp-plain (Int (pos a.0) ∷ Int (pos a.1) ∷ e) (Int (pos b.0) ∷ Int (pos b.1) ∷ f) ∙ ap (λ o. ordering_then o (ordering_then (value_cmp (Int (pos a.1)) (Int (pos b.1))) (row_cmp e f))) (numbers_below a.0 b.0 low)
 elements_rise a b e f (inr at) =
     entry_cmp-plain (Int (pos a.0) ∷ Int (pos a.1) ∷ e) (Int (pos b.0) ∷ Int (pos b.1) ∷ f)
-    ∙ ap₂ (λ o p. ordering_then o (ordering_then p _)) (numbers_tied a.0 b.0 at.0) (numbers_below a.1 b.1 at.1)
+    ∙ ap₂ (λ o p. ordering_then o (ordering_then p (row_cmp e f))) (numbers_tied a.0 b.0 at.0) (numbers_below a.1 b.1 at.1)
 
 pub parts_rise : {A : Type 0} (x y : Part A) → IsPartBefore x y → entry_cmp plain (Int (pos x.off) ∷ Int (pos x.position) ∷ Int (pos x.number) ∷ []) (Int (pos y.off) ∷ Int (pos y.position) ∷ Int (pos y.number) ∷ []) ≡ Less
 parts_rise x y (inl low) =

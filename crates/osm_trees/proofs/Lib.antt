@@ -6,3 +6,4 @@ pub mod Keys
 pub mod Looking
 pub mod Answers
 pub mod TreeReads
+pub mod Bridge

@@ -4,6 +4,7 @@
 mod extents;
 mod history;
 mod keyed;
+pub mod laws;
 mod load;
 mod parts;
 mod reader;

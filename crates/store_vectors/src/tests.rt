@@ -15,3 +15,4 @@ mod steps;
 mod stops;
 mod stores;
 mod tables;
+mod trees;

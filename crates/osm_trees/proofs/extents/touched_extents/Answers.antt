@@ -1,4 +1,4 @@
-use Rattle.std.proofs.Common.{◌∙◌, ap, rules, tests}
+use Rattle.std.proofs.Common.{◌≤◌, ◌∙◌, ap, rules, tests}
 use Rattle.std.specs.Prelude.{filter}
 use Rattle.std.proofs.lemmas.Fn.{filter_same}
 use Rattle.std.proofs.lemmas.List.Kept.{AllPairs-filter}
@@ -14,4 +14,4 @@ returns-clause-held g c clean layout held holds =
 pub returns-clause-apart : goal.returns-clause-apart
 returns-clause-apart g c =
     let is = filter_same _ (touches c.args.from c.args.to) _ (λ x b f' k. search (rules, tests)) _ _ c.retain.ensures.filtered in
-    rw is (AllPairs-filter (λ (a b : Held). _) (touches c.args.from c.args.to) _ c.in_ok-extents.ensures.apart)
+    rw is (AllPairs-filter (λ (a b : Held). a.fin ≤ b.off) (touches c.args.from c.args.to) _ c.in_ok-extents.ensures.apart)

@@ -1,5 +1,6 @@
 use Rattle.std.proofs.Common.{rules, arith, ◌≡◌, ◌∙◌, refl, sym, ap}
 use Rattle.std.specs.List.{list_any}
+use Rattle.sqlite_exec.specs.Loops.{left_of}
 use Rattle.sqlite_exec.proofs.CheckLemmas.{from_no_key, stepped, ended}
 use Rattle.osm_trees.specs.Below.{is_flagged}
 use Rattle.osm_trees.proofs.TreeReads.{flag_met, flag_missed}
@@ -23,7 +24,7 @@ pub returns-then-is_flagged-clause-found : goal.returns-then-is_flagged-clause-f
 returns-then-is_flagged-clause-found g c clean =
     let before = c.rows.invariant.3 (omega (arith, clean, c.next.ensures.quiet.clean)) in
     let step = stepped _ _ 0 c.next.new.row (rw c.in-Ok-true.field-0-test at (c.in-Ok-true.ensures.ok clean)) in
-    flag_met c.next.new.row _ _ (sym c.is_flagged.ensures ∙ c.if-is_flagged.true) (rw step at before)
+    flag_met c.next.new.row (left_of (g.S.Store.view c.next.new.self) 0) _ (sym c.is_flagged.ensures ∙ c.if-is_flagged.true) (rw step at before)
 
 pub rows-preserved : goal.rows-preserved
 rows-preserved g c = (
@@ -33,5 +34,5 @@ rows-preserved g c = (
   λ clean.
       let before = c.rows.invariant.3 (omega (arith, clean, c.next.ensures.quiet.clean)) in
       let step = stepped _ _ 0 c.next.new.row (rw c.in-Ok-true.field-0-test at (c.in-Ok-true.ensures.ok clean)) in
-      flag_missed c.next.new.row _ _ (sym c.is_flagged.ensures ∙ c.if-is_flagged.false) (rw step at before),
+      flag_missed c.next.new.row (left_of (g.S.Store.view c.next.new.self) 0) _ (sym c.is_flagged.ensures ∙ c.if-is_flagged.false) (rw step at before),
 )

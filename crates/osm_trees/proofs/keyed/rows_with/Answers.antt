@@ -4,6 +4,7 @@ use Rattle.sqlite_trees.specs.Tree.{order_of}
 use Rattle.sqlite_trees.specs.View.{View, IsClean, IsShaped}
 use Rattle.sqlite_trees.proofs.TreeLemmas.{sorted_shape, IsSortedTree}
 use Rattle.sqlite_value.specs.Keys.{plain}
+use Rattle.sqlite_exec.specs.Plan.{resolved}
 use Rattle.sqlite_exec.proofs.CheckLemmas.{stepped, ended}
 use Rattle.osm_trees.proofs.Looking.{up_before}
 use Rattle.osm_trees.proofs.Prefix.{from_starts, sorted_from, passed, picked, done_above, done_all}
@@ -23,10 +24,48 @@ rows-init g c = (
 )
 
 pub returns-in-Greater-clause-rows : goal.returns-in-Greater-clause-rows
-returns-in-Greater-clause-rows g c clean = ?
+returns-in-Greater-clause-rows g c clean =
+    let old = g.S.Store.view c.args.store.now in
+    let table : old.shape c.args.table ≡ Table = search rules in
+    let order : old.shape c.args.index ≡ Index plain = search rules in
+    let clean_rows : IsClean (g.S.Store.view c.rows.store) = omega (arith, clean, c.next.ensures.quiet.clean) in
+    let kept = c.rows.invariant.1 clean_rows in
+    let sorted = g.met.S.Store.ordered c.args.store.now (up_before old (g.S.Store.view c.rows.store) kept.0 kept.1) in
+    let step = stepped _ _ 0 c.next.new.row (rw c.in-Ok-true.field-0-test at (c.in-Ok-true.ensures.ok clean)) in
+    let here = rw step at (c.rows.invariant.3 clean_rows) in
+    record {
+      shaped = subst (λ s. IsShaped s (old.trees c.args.table)) table (sorted c.args.table);
+      ordered = subst (λ s. IsShaped s (old.trees c.args.index)) order (sorted c.args.index);
+      are = done_above g.R.FromRow.from_row_gives _ c.args.key.now _ _ _ _ here.0 (sym c.cmp_prefix.ensures ∙ c.in-Greater.is) here.1;
+    }
 
 pub returns-in-Ok-false-clause-rows : goal.returns-in-Ok-false-clause-rows
-returns-in-Ok-false-clause-rows g c clean = ?
+returns-in-Ok-false-clause-rows g c clean =
+    let old = g.S.Store.view c.args.store.now in
+    let table : old.shape c.args.table ≡ Table = search rules in
+    let order : old.shape c.args.index ≡ Index plain = search rules in
+    let clean_rows : IsClean (g.S.Store.view c.rows.store) = omega (arith, clean, c.next.ensures.quiet.clean) in
+    let kept = c.rows.invariant.1 clean_rows in
+    let sorted = g.met.S.Store.ordered c.args.store.now (up_before old (g.S.Store.view c.rows.store) kept.0 kept.1) in
+    let none = ended _ _ 0 c.next.new.row (rw c.in-Ok-false.field-0-test at (c.in-Ok-false.ensures.ok clean)) in
+    let here = rw none at (c.rows.invariant.3 clean_rows) in
+    record {
+      shaped = subst (λ s. IsShaped s (old.trees c.args.table)) table (sorted c.args.table);
+      ordered = subst (λ s. IsShaped s (old.trees c.args.index)) order (sorted c.args.index);
+      are = done_all g.R.FromRow.from_row_gives (resolved (old.trees c.args.table) c.args.width) c.args.key.now _ _ here.1;
+    }
+
+pub returns-in_err-row_of-in-Equal-clause-quiet : goal.returns-in_err-row_of-in-Equal-clause-quiet
+returns-in_err-row_of-in-Equal-clause-quiet g c = search rules
+
+pub returns-in_err-copy_columns-in-Equal-clause-quiet : goal.returns-in_err-copy_columns-in-Equal-clause-quiet
+returns-in_err-copy_columns-in-Equal-clause-quiet g c = search rules
+
+pub returns-in_err-from_row-in-Equal-clause-quiet : goal.returns-in_err-from_row-in-Equal-clause-quiet
+returns-in_err-from_row-in-Equal-clause-quiet g c = search rules
+
+pub returns-in_err-push-in-Equal-clause-quiet : goal.returns-in_err-push-in-Equal-clause-quiet
+returns-in_err-push-in-Equal-clause-quiet g c = search rules
 
 pub rows-preserved : goal.rows-preserved
 rows-preserved g c = elim c.match-cmp_prefix.branch [

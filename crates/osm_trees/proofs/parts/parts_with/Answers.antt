@@ -12,7 +12,7 @@ returns-clause-found g c clean =
     let one = g.S.Store.view c.rows_with.new.store in
     let clean_one : IsClean one = omega (arith, clean, c.rows_with-2.ensures.quiet.clean) in
     let reads = c.rows_with.ensures.reads clean_one (c.in_ok-tags.ensures.sound clean_one) in
-    (c.in_ok-tags.ensures.rows clean_one, subst (λ (trees : Trees). Finds (λ (r : Row). r) trees 7 6 3 c.args.key.now _) (same_trees old one reads) (c.in_ok-links.ensures.rows clean))
+    (c.in_ok-tags.ensures.rows clean_one, subst (λ (trees : Trees). Finds (λ (r : Row). r) trees 7 6 3 c.args.key.now c.in_ok-links.links.items) (same_trees old one reads) (c.in_ok-links.ensures.rows clean))
 
 pub returns-clause-looks : goal.returns-clause-looks
 returns-clause-looks g c =
