@@ -92,9 +92,9 @@ module _ (layout : Layout) (db : Trees) where
       elim (eqb_tells off start) [
         | inl (test, same) ↦
             let there : find nat_cmp off ((start, entry) ∷ rest) ≡ Some entry = known ∙ ap (λ b. cond b (Some entry) (find nat_cmp off rest)) test in (
-              (λ is. (let both : Some entry ≡ Some blob = sym there ∙ is in let one : entry ≡ blob = cc in inl (same, subst (λ (b : Blob). IsEntry start frame b) one shown.0.is_entry))),
+              (λ is. (let both : Some entry ≡ Some blob = sym there ∙ is in let one : entry ≡ blob = cc in inl (same, subst (λ n. IsEntry n frame blob) (sym same) (subst (λ (b : Blob). IsEntry start frame b) one shown.0.is_entry)))),
               (λ good. elim good [
-                | inl (_, other) ↦ there ∙ ap Some (entry-same start frame entry blob shown.0.is_entry other)
+                | inl (_, other) ↦ there ∙ ap Some (entry-same start frame entry blob shown.0.is_entry (subst (λ n. IsEntry n frame blob) same other))
                 | inr behind ↦ (let low = later (start + length frame) frames off blob behind in let long = frame-long start frame entry shown.0.is_entry in absurd (omega (arith, low, long, same)))
               ]),
             )

@@ -41,8 +41,6 @@ use Rattle.pbf_frame.specs.declared.kind.Kind.TheVariants.{Other}
 
 -- the elements of one blob ascend
 
-
-
 placed_ascend : (off : ℕ) (es : List Element) → IsAscending IsBefore (placed off 0 es)
 placed_ascend off es =
     let entry : Entry = (off, record { fin = 0; digest = []; kind = Other; elements = es }) in

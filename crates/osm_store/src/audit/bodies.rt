@@ -22,14 +22,7 @@ use sqlite::{Alter, Connection, Row, params};
 use std::alloc::Global;
 
 /// Whether a row is that of a body.
-fn has_body(
-    row: &Row,
-    off: u64,
-    position: u64,
-    kind: MemberKind,
-    id: i64,
-    block: &[u8],
-) -> bool
+fn has_body(row: &Row, off: u64, position: u64, kind: MemberKind, id: i64, block: &[u8]) -> bool
     requires bounds { (off ≤ MAX_OFFSET) × (position < 2 ^ 63) }
     ensures { IsTrue result ↔ (row.now ≡ body_columns off position kind id block.now) }
 {
