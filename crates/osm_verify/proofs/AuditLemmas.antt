@@ -27,6 +27,14 @@ true-and : (a b : Bool) → T a → T b → T (a && b)
 true-and true b p q = q
 true-and false b p q = absurd p
 
+-- what is told of the rows of a frame's entry is told of the frame
+pub shown-told : (layout : Layout) (db : Trees) (off : ℕ) (frame : List ℕ) (blob : Blob) (elements : List Element) (T : Type 0) → IsEntry off frame blob → blob.elements ≡ elements → T ↔ ShowsBlob layout db off blob
+    → T ↔ IsShown layout db off frame elements
+shown-told layout db off frame blob elements T entry are told = (
+  (λ t. record { entry = blob; is_entry = entry; elements_are = are; shown = told.0 t }),
+  (λ s. told.1 (subst (λ (b : Blob). ShowsBlob layout db off b) (entry-same off frame s.entry blob s.is_entry entry) s.shown)),
+)
+
 module _ (layout : Layout) (db : Trees) where
   -- the blobs of the frames, by their offsets
   all : (start : ℕ) (frames : List (List ℕ)) (blobs : List (List Element)) → AreShown layout db start frames blobs → List (ℕ × Blob)
@@ -92,9 +100,9 @@ module _ (layout : Layout) (db : Trees) where
       elim (eqb_tells off start) [
         | inl (test, same) ↦
             let there : find nat_cmp off ((start, entry) ∷ rest) ≡ Some entry = known ∙ ap (λ b. cond b (Some entry) (find nat_cmp off rest)) test in (
-              (λ is. (let both : Some entry ≡ Some blob = sym there ∙ is in let one : entry ≡ blob = cc in inl (same, subst (λ (b : Blob). IsEntry start frame b) one shown.0.is_entry))),
+              (λ is. (let both : Some entry ≡ Some blob = sym there ∙ is in let one : entry ≡ blob = cc in inl (same, subst (λ n. IsEntry n frame blob) (sym same) (subst (λ (b : Blob). IsEntry start frame b) one shown.0.is_entry)))),
               (λ good. elim good [
-                | inl (_, other) ↦ there ∙ ap Some (entry-same start frame entry blob shown.0.is_entry other)
+                | inl (_, other) ↦ there ∙ ap Some (entry-same start frame entry blob shown.0.is_entry (subst (λ n. IsEntry n frame blob) same other))
                 | inr behind ↦ (let low = later (start + length frame) frames off blob behind in let long = frame-long start frame entry shown.0.is_entry in absurd (omega (arith, low, long, same)))
               ]),
             )

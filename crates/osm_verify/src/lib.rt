@@ -1,8 +1,10 @@
 //! Whether a store holds exactly what an import of a file gives.
 #![tactic(auto)]
 
+mod auditing;
 mod comparing;
 pub mod laws;
 mod same;
 
+pub use auditing::has_frame;
 pub use comparing::{Agreement, Depth, compare, extents_beginning};

@@ -177,9 +177,18 @@ fn changed_bodies(rt: HostRuntime) -> Result<(), Fail> {
             NODES_AT_47,
         ),
         ("DELETE FROM body WHERE off = 47 AND pos = 1", NODES_AT_47),
-        ("UPDATE body SET id = 5 WHERE off = 47 AND pos = 0", NODES_AT_47),
-        ("UPDATE body SET data = x'00' WHERE off = 47 AND pos = 0", NODES_AT_47),
-        ("UPDATE body SET pos = 2 WHERE off = 47 AND pos = 0", NODES_AT_47),
+        (
+            "UPDATE body SET id = 5 WHERE off = 47 AND pos = 0",
+            NODES_AT_47,
+        ),
+        (
+            "UPDATE body SET data = x'00' WHERE off = 47 AND pos = 0",
+            NODES_AT_47,
+        ),
+        (
+            "UPDATE body SET pos = 2 WHERE off = 47 AND pos = 0",
+            NODES_AT_47,
+        ),
         (
             "INSERT INTO body (off, pos, kind, id, data) VALUES (1000, 0, 0, 3, x'00')",
             ALL_ROWS,
@@ -208,12 +217,21 @@ fn changed_tables(rt: HostRuntime) -> Result<(), Fail> {
             "INSERT INTO element (off, pos, kind, id) VALUES (47, 2, 1, 3)",
             NODES_AT_47,
         ),
-        ("UPDATE element SET version = 1 WHERE off = 47 AND pos = 1", NODES_AT_47),
-        ("UPDATE element SET lat = NULL WHERE off = 47 AND pos = 1", NODES_AT_47),
+        (
+            "UPDATE element SET version = 1 WHERE off = 47 AND pos = 1",
+            NODES_AT_47,
+        ),
+        (
+            "UPDATE element SET lat = NULL WHERE off = 47 AND pos = 1",
+            NODES_AT_47,
+        ),
         ("DELETE FROM tag WHERE off = 203", WAY_AT_THE_END),
         ("UPDATE tag SET val = 'c' WHERE off = 203", WAY_AT_THE_END),
         ("DELETE FROM link WHERE off = 203 AND k = 3", WAY_AT_THE_END),
-        ("UPDATE link SET k = 4 WHERE off = 203 AND k = 3", WAY_AT_THE_END),
+        (
+            "UPDATE link SET k = 4 WHERE off = 203 AND k = 3",
+            WAY_AT_THE_END,
+        ),
         (
             "INSERT INTO element (off, pos, kind, id) VALUES (1000, 0, 1, 3)",
             ALL_ROWS,

@@ -1,0 +1,41 @@
+//! One frame of a file and the rows that a store's tables have at its offset, whatever rows these are.
+
+ghost use Rattle.std.specs.Prelude.{◌≡◌, ◌↔◌, ◌≤◌, IsTrue, IfOk, IfErr};
+ghost use Rattle.osm_store.specs.Held.{HeldMap};
+ghost use Rattle.osm_store.specs.Keeping.{IsForeign};
+ghost use Rattle.osm_store.specs.Schema.Layouts.{schema_of};
+ghost use Rattle.osm_import.specs.Good.{IsGood};
+ghost use Rattle.osm_import.specs.Step.{HasCause};
+ghost use Rattle.osm_import.specs.Stores.{Rereads};
+ghost use Rattle.osm_verify.specs.Audits.{IsShown};
+
+use osm_import::Good;
+use osm_store::{Audited, StoreFault};
+use sha2::{Digest, Sha256};
+use std::alloc::Global;
+
+/// Whether the rows that a store's tables have at the offset `off`, in bytes, of a file are those that an import of the good
+/// frame there, of these bytes, writes, and no others. What is held stays.
+///
+/// Of the rows nothing has to be known, but the tables have to be those of a store. An error is that of a read of the store
+/// that has failed, or `Memory` where memory was refused. Over an honest disk, where the store holds a map, it is never
+/// `NotThisStore`.
+pub fn has_frame<K: Audited>(
+    alloc: Global,
+    store: &mut K,
+    off: u64,
+    bytes: &[u8],
+    good: &Good<'_>,
+) -> Result<bool, StoreFault>
+    requires { IsGood off bytes.now good.now.kind good.now.elements.items }
+    ensures told { K.is_honest store.new → (K.database store.old).schema ≡ schema_of K.layout
+        → IfOk result (λ told. IsTrue told ↔ IsShown K.layout (K.database store.old).trees off bytes.now good.now.elements.items) }
+    ensures rereads { Rereads K.Reader store.old result store.new }
+    ensures own { (held : HeldMap) → K.holds store.old held → K.is_honest store.new → IfErr result (λ fault. ¬ (IsForeign fault)) }
+    ensures cause { IfErr result (HasCause (K.failures store.old) (K.failures store.new)) }
+    ensures counted { K.failures store.old ≤ K.failures store.new }
+{
+    let fin = off + bytes.len() as u64;
+    let digest = Sha256::digest(bytes);
+    store.has_blob(alloc, off, fin, &digest, good.kind, &good.elements)
+}
