@@ -63,10 +63,7 @@ fn read_extents<S: Store>(alloc: Global, store: &mut S) -> Result<Vec<Extent>, S
 }
 
 /// All extents, ascending by their offsets.
-pub(crate) fn all_extents<S: Store>(
-    alloc: Global,
-    store: &mut S,
-) -> Result<Vec<Extent>, StoreFault>
+pub(crate) fn all_extents<S: Store>(alloc: Global, store: &mut S) -> Result<Vec<Extent>, StoreFault>
     ensures held { IsClean (S.Store.view store.new) → (layout : Layout) (held : HeldMap) → HoldsBelow layout (S.Store.view store.old) held
         → MatchResult result (λ extents. (extents.items ≡ extents_of held) × ((S.Store.view store.new).is_broken ≡ false)) (λ fault. ¬ (IsForeign fault)) }
     ensures ranges { IfOk result (λ extents. All IsRange extents.items) }

@@ -23,10 +23,15 @@ use std::alloc::{AllocError, Global};
 
 /// The trees of the tables of elements, of tags and of links, and those of the indexes of their primary keys.
 pub(crate) const ELEMENTS: u32 = 2;
+
 const ELEMENT_KEY: u32 = 3;
+
 const TAGS: u32 = 4;
+
 const TAG_KEY: u32 = 5;
+
 const LINKS: u32 = 6;
+
 const LINK_KEY: u32 = 7;
 
 /// The key of all rows at an offset.

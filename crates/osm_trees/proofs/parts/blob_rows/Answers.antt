@@ -16,9 +16,10 @@ returns-clause-held g c clean held holds =
     let up = c.in_ok-elements.ensures.sound clean_one in
     let still = holds_after Tables old one held (c.rows_with.ensures.reads clean_one up) clean_one up holds in
     let elements = rw c.in_ok-key.ensures at (c.in_ok-elements.ensures.rows clean_one) in
-    let parts = rw c.in_ok-key.ensures at (c.in_ok-tags.ensures.found clean) in
-    (rows_of_some held (is_in c.args.off) _ holds.kept (elements_at old.trees held holds.tables c.args.off _ elements) (tags_in one.trees held still.tables c.args.off _ parts.0) (links_in one.trees held still.tables c.args.off _ parts.1),
-    c.in_ok-tags.ensures.sound clean)
+    let parts = rw c.in_ok-key.ensures at (c.in_ok-tags.ensures.found clean) in (
+      rows_of_some held (is_in c.args.off) _ holds.kept (elements_at old.trees held holds.tables c.args.off _ elements) (tags_in one.trees held still.tables c.args.off _ parts.0) (links_in one.trees held still.tables c.args.off _ parts.1),
+      c.in_ok-tags.ensures.sound clean,
+    )
 
 pub returns-clause-looks : goal.returns-clause-looks
 returns-clause-looks g c =

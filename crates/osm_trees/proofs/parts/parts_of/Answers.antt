@@ -12,6 +12,6 @@ returns-clause-held g c clean held p holds is alone =
     let key : c.in_ok-key.key ≡ Int (pos p.0) ∷ Int (pos p.1) ∷ [] = c.in_ok-key.ensures ∙ ap (λ (r : Row). column r 0 ∷ column r 1 ∷ []) is in
     MatchResult-weaker c.parts_with.result (joined c.parts_with.result _ _ _ c.parts_with.ensures.found c.parts_with.ensures.sound c.parts_with.ensures.ours)
     (λ parts h.
-        let found = rw key at (h.0 clean) in
-        (its_tags trees held holds.tables p alone _ found.0, its_links trees held holds.tables p alone _ found.1, h.1 clean))
+    let found = rw key at (h.0 clean) in
+    (its_tags trees held holds.tables p alone _ found.0, its_links trees held holds.tables p alone _ found.1, h.1 clean))
     (λ fault h. h)

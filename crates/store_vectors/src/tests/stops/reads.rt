@@ -2,13 +2,15 @@
 
 use super::super::fixtures::{LINES, NODES, TAGGED, TAGGED_LINES, WRITTEN_HEADER};
 use super::super::memory::KnownLayout;
-use super::super::questions::Question;
+use super::super::questions::{Question, answer_to};
+use super::super::steps::are_joined;
 use super::{
     Fused, Outcome, Reached, STOPS, Stopped, Unsynced, Work, copies, found_after, new_files,
-    session,
+    opened, session,
 };
 use osm_store::{Bodies, Tables};
-use sqlite::Files;
+use osm_trees::TreeReader;
+use sqlite::{Alter, Connection, Files};
 use std::alloc::Global;
 use std::process::Abort;
 use std::test::*;
@@ -106,4 +108,24 @@ fn reads_over_bodies(rt: HostRuntime) -> Result<(), Fail> {
 #[test]
 fn reads_over_tables(rt: HostRuntime) -> Result<(), Fail> {
     expect_reads::<Tables, _>(&rt)
+}
+
+/// Whether all questions are answered below SQL, over the trees of a connection.
+fn is_told_below<S: Alter + Drop>(alloc: Global, connection: Connection<S>) -> bool {
+    let mut reader = TreeReader::new(connection.into_store());
+    for (question, pieces) in QUESTIONS {
+        let (answer, text) = answer_to(alloc, &mut reader, *question);
+        if answer != Ok(()) || !are_joined(&text, pieces) {
+            return false;
+        }
+    }
+    true
+}
+
+#[test]
+fn reads_below_sql(rt: HostRuntime) -> Result<(), Fail> {
+    let files = whole_files::<Tables>(rt.alloc()).ok_or("no whole file")?;
+    let database = opened(rt.alloc(), files, 8).ok().ok_or("no database")?;
+    assert!(rt; is_told_below(rt.alloc(), database));
+    Ok(())
 }
