@@ -3,7 +3,7 @@
 #![tactic(auto)]
 
 ghost use Rattle.std.specs.Prelude.{◌≡◌, ◌<◌, ◌≤◌, if◌then◌else◌};
-ghost use Rattle.pbfrow_words.specs.Filling.{begins_at};
+ghost use Rattle.pbfrow_words.specs.Filling.{begins_at, drops};
 ghost use Rattle.pbfrow_words.specs.Words.{BeginsWithin, CutsSome};
 
 mod copying;
@@ -130,7 +130,8 @@ fn run(rt: HostRuntime, words: Words) -> u8
 
 /// What an import drops of its input, and where what comes behind that stands in the file.
 fn start_of(start: pbfrow_words::Start) -> Start
-    ensures { result.at ≡ begins_at start }
+    ensures dropped { result.dropped ≡ drops start }
+    ensures at { result.at ≡ begins_at start }
 {
     match start {
         pbfrow_words::Start::Skip(count) => Start {

@@ -55,6 +55,9 @@ skips-nothing file old (Some ys) is h =
     let whole : file ≡ h.bytes ++ ys = subst (λ (k : Known). Consumes k (Some ys) h.bytes) is h.read in
     ap (λ (v : List ℕ). Some v) (sym (whole ∙ ap (λ (v : List ℕ). v ++ ys) none))
 
+pub skips-none : (file : List ℕ) (dropped : ℕ) (old new : Known) → old ≡ Some file → dropped ≡ 0 → Skips dropped old new → new ≡ Some file
+skips-none file dropped old new is none h = skips-nothing file old new is (subst (λ n. Skips n old new) none h)
+
 -- ---- the output goes on after a stop, but for a failed write
 
 stop-on : (from limit : ℕ) (input : Input) (output : Output) (failed : Bool) (replies last : List Reply) (rest : List ℕ) (fault : Stop) → (fault ≡ WriteFailed → failed ≡ output.has_failed)

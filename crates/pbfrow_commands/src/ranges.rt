@@ -38,7 +38,7 @@ fn ends_of<R: Read>(alloc: Global, input: &mut R) -> Result<Vec<u64>, StreamFaul
         Err(stop) => return Err(stop),
     };
     let mut ends = Vec::new(alloc);
-    loop {
+    'each: loop {
         match frames.next() {
             Ok(Some((at, bytes))) => {
                 let end = at + bytes.len() as u64;

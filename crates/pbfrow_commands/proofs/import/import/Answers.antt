@@ -9,6 +9,9 @@ returns-in-Ok-clause-one_file g c = λ file held is none zero holds honest ended
     file-held (g.K.Reader.holds c.import_from.new.store) file held c.in-Ok.summary (none-bad c.in-Ok.summary _ _ c.finish.ensures.status ended)
     (c.in-Ok.ensures.one_file file held is none zero holds honest)
 
+pub returns-in-Ok-clause-part : goal.returns-in-Ok-clause-part
+returns-in-Ok-clause-part g c = λ piece is none holds honest ended. c.in-Ok.ensures.part piece is none holds honest
+
 pub returns-in-Ok-clause-imports : goal.returns-in-Ok-clause-imports
 returns-in-Ok-clause-imports g c = (
   Ok c.in-Ok.summary,
