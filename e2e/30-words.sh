@@ -3,7 +3,7 @@ two=$top/data/two-nodes.osm.pbf
 nl='
 '
 expect "the version" 0 "pbfrow 0.1.0${nl}" --version
-for command in list check show import migrate merge verify status export find; do
+for command in list check show ranges import migrate merge verify status export find; do
   "$pbfrow" "$command" --help > help.txt
   if [ $? = 0 ] && grep -q "^Exit status: 0" help.txt && grep -q "^  pbfrow $command " help.txt; then
     pass "help of $command"

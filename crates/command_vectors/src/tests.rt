@@ -5,6 +5,7 @@ mod list;
 mod merge;
 mod migrate;
 mod progress;
+mod ranges;
 mod show;
 mod stores;
 mod support;

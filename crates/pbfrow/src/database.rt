@@ -12,7 +12,7 @@ use osm_value::Outlet;
 use pbf_frame::MAX_OFFSET;
 use pbfrow_commands::export::export;
 use pbfrow_commands::find::find;
-use pbfrow_commands::import::import;
+use pbfrow_commands::import::{Start, import};
 use pbfrow_commands::report::{put_fault_at, put_store_fault, refuse_memory};
 use pbfrow_commands::status::status;
 use pbfrow_words::Question;
@@ -90,12 +90,12 @@ fn imported<R: Read + Drop, K: Keeper, W: Write>(
     alloc: Global,
     reader: R,
     store: &mut K,
-    from: u64,
+    start: Start,
     out: &mut Outlet<W>,
 ) -> u8
-    requires { from ≤ MAX_OFFSET }
+    requires { start.at ≤ MAX_OFFSET }
 {
-    import(alloc, &mut Inlet::new(reader), store, from, out)
+    import(alloc, &mut Inlet::new(reader), store, start, out)
 }
 
 /// Imports what a reader gives into the store of a connection, which is made if it has none. Answers the exit status,
@@ -104,15 +104,15 @@ fn filled<S: Alter + Drop, R: Read + Drop, W: Write>(
     alloc: Global,
     connection: Connection<S>,
     reader: R,
-    from: u64,
+    start: Start,
     out: &mut Outlet<W>,
 ) -> (u8, Option<Connection<S>>)
-    requires within { from ≤ MAX_OFFSET }
+    requires within { start.at ≤ MAX_OFFSET }
     requires settled { (state S.Store connection).in_transaction ≡ false }
 {
     match adopted_or_created(connection) {
         Ok(mut store) => {
-            let status = imported(alloc, reader, &mut store, from, out);
+            let status = imported(alloc, reader, &mut store, start, out);
             (status, Some(store.into_connection()))
         }
         Err(fault) => (refuse(out, fault), None),
@@ -172,40 +172,40 @@ fn fill_from<R: Read + Drop, W: Write>(
     rt: &HostRuntime,
     reader: R,
     database: &str,
-    from: u64,
+    start: Start,
     meter: &Meter,
     out: &mut Outlet<W>,
 ) -> u8
-    requires { from ≤ MAX_OFFSET }
+    requires { start.at ≤ MAX_OFFSET }
 {
     let status = match Connection::open(rt, database) {
-        Ok(connection) => close(filled(rt.alloc(), connection, reader, from, out)),
+        Ok(connection) => close(filled(rt.alloc(), connection, reader, start, out)),
         Err(error) => refuse(out, unopened(error)),
     };
     meter.erase();
     status
 }
 
-/// Imports a file into a database, starting at the offset `from`, and answers the exit status. If the file can't be
+/// Imports a file, or a part of one, into a database, and answers the exit status. If the file can't be
 /// opened, no database is made.
-pub(crate) fn fill(rt: &HostRuntime, file: &str, database: &str, from: u64) -> u8
-    requires { from ≤ MAX_OFFSET }
+pub(crate) fn fill(rt: &HostRuntime, file: &str, database: &str, start: Start) -> u8
+    requires { start.at ≤ MAX_OFFSET }
 {
     let meter = Meter::new(rt, true);
     let lines = BlobLines::new(MeteredOutput::new(io::writer(rt), &meter), &meter);
     // each line goes out before more is read
     let Ok(lines) = LineWriter::new(rt.alloc(), lines) else {
-        return refuse_memory(&mut Outlet::new(io::writer(rt)), Some(from));
+        return refuse_memory(&mut Outlet::new(io::writer(rt)), Some(start.at));
     };
     let mut out = Outlet::new(lines);
     let Ok(input) = File::open(rt, file) else {
         let fault = Stop::ReadFailed;
-        put_fault_at(&mut out, fault.number(), fault.name(), from);
+        put_fault_at(&mut out, fault.number(), fault.name(), start.at);
         return FAULTY;
     };
     meter.measure(&input);
     let reader = MeteredReader::new(input, &meter);
-    fill_from(rt, reader, database, from, &meter, &mut out)
+    fill_from(rt, reader, database, start, &meter, &mut out)
 }
 
 /// Asks a question of a database file, and answers the exit status.

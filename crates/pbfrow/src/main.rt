@@ -2,8 +2,9 @@
 //! finds what that holds.
 #![tactic(auto)]
 
-ghost use Rattle.std.specs.Prelude.{◌≡◌, ◌≤◌, if◌then◌else◌};
-ghost use Rattle.pbfrow_words.specs.Words.{BeginsWithin};
+ghost use Rattle.std.specs.Prelude.{◌≡◌, ◌<◌, ◌≤◌, if◌then◌else◌};
+ghost use Rattle.pbfrow_words.specs.Filling.{begins_at, drops};
+ghost use Rattle.pbfrow_words.specs.Words.{BeginsWithin, CutsSome};
 
 mod copying;
 mod database;
@@ -21,8 +22,10 @@ use metered::{MeteredOutput, MeteredReader};
 use osm_value::Outlet;
 use osm_verify::Depth;
 use pbfrow_commands::check::check;
+use pbfrow_commands::import::Start;
 use pbfrow_commands::input::refuse_input;
 use pbfrow_commands::list::list;
+use pbfrow_commands::ranges::ranges;
 use pbfrow_commands::report::refuse_memory;
 use pbfrow_commands::show::show;
 use pbfrow_words::{Reading, Words, read_words};
@@ -103,15 +106,17 @@ fn refuse(rt: HostRuntime, error: Error) -> io::Result<u8> {
 }
 
 fn run(rt: HostRuntime, words: Words) -> u8
-    requires { BeginsWithin words }
+    requires begins { BeginsWithin words }
+    requires cuts { CutsSome words }
 {
     match words {
         Words::Read { reading, file } => run_on_file(rt, reading, file),
+        Words::Ranges { file, count } => cut_file(&rt, file, count),
         Words::Import {
             file,
             database,
-            from,
-        } => fill(&rt, file, database, from.unwrap_or(0)),
+            start,
+        } => fill(&rt, file, database, start_of(start)),
         Words::Migrate { old, new } => copy(&rt, old, new),
         Words::Merge { into, from } => merge(&rt, into, from.as_slice()),
         Words::Verify {
@@ -120,6 +125,20 @@ fn run(rt: HostRuntime, words: Words) -> u8
             elements,
         } => compare(&rt, file, database, depth_of(elements)),
         Words::Ask { database, question } => ask(&rt, database, question),
+    }
+}
+
+/// What an import drops of its input, and where what comes behind that stands in the file.
+fn start_of(start: pbfrow_words::Start) -> Start
+    ensures dropped { result.dropped ≡ drops start }
+    ensures at { result.at ≡ begins_at start }
+{
+    match start {
+        pbfrow_words::Start::Skip(count) => Start {
+            dropped: count,
+            at: count,
+        },
+        pbfrow_words::Start::At(at) => Start { dropped: 0, at },
     }
 }
 
@@ -132,6 +151,27 @@ fn depth_of(elements: bool) -> Depth
     } else {
         Depth::Extents
     }
+}
+
+/// Cuts a file into ranges, at most so many, and answers the exit status.
+fn cut_file(rt: &HostRuntime, file: &str, count: u64) -> u8
+    requires { 0 < count }
+{
+    let meter = Meter::new(rt, true);
+    let output = MeteredOutput::new(io::writer(rt), &meter);
+    let Ok(output) = BufWriter::new(rt.alloc(), output) else {
+        return refuse_memory(&mut Outlet::new(io::writer(rt)), Some(0));
+    };
+    let mut out = Outlet::new(output);
+    let status = match File::open(rt, file) {
+        Ok(input) => {
+            meter.measure(&input);
+            let mut input = MeteredReader::new(input, &meter);
+            ranges(rt.alloc(), &mut input, count, &mut out)
+        }
+        Err(_) => refuse_input(&mut out),
+    };
+    end(&mut out, &meter, status)
 }
 
 /// Runs a command on the file, or where there is none on standard input.

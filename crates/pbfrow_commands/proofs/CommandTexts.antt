@@ -16,6 +16,8 @@ use Rattle.pbfrow_commands.specs.Checking.{totals_line}
 use Rattle.pbfrow_commands.specs.CommandLines.{kept_text, summary_line, gap_line, counts_line, match_line}
 use Rattle.osm_value.specs.Escape.{hex_digit}
 use Rattle.pbfrow_commands.specs.Listing.{byte_text, frame_line}
+use Rattle.pbf_ranges.specs.declared.Range.{Range}
+use Rattle.pbfrow_commands.specs.Ranging.{range_line}
 use Rattle.pbfrow_commands.specs.Showing.{blob_line, box_line, number_line, text_line}
 use Rattle.pbfrow_commands.specs.declared.check.Counts.{Counts}
 
@@ -39,6 +41,9 @@ summary_parts before s = six before (kept_text s) (codes " bad ") (decimal s.bad
 
 pub copied_parts : (before : List ℕ) (counts : CopyCounts) → ((((before ++ codes "copied ") ++ decimal counts.copied) ++ codes " held ") ++ decimal counts.held) ++ codes "\n" ≡ before ++ copied_line counts
 copied_parts before counts = five before (codes "copied ") (decimal counts.copied) (codes " held ") (decimal counts.held) (codes "\n")
+
+pub range_parts : (before : List ℕ) (range : Range) → (((before ++ decimal range.from) ++ codes " ") ++ decimal range.to) ++ codes "\n" ≡ before ++ range_line range
+range_parts before range = four before (decimal range.from) (codes " ") (decimal range.to) (codes "\n")
 
 pub gap_parts : (before : List ℕ) (from to : ℕ) → ((((before ++ codes "gap ") ++ decimal from) ++ codes " ") ++ decimal to) ++ codes "\n" ≡ before ++ gap_line (from, to)
 gap_parts before from to = five before (codes "gap ") (decimal from) (codes " ") (decimal to) (codes "\n")

@@ -55,6 +55,9 @@ skips-nothing file old (Some ys) is h =
     let whole : file ≡ h.bytes ++ ys = subst (λ (k : Known). Consumes k (Some ys) h.bytes) is h.read in
     ap (λ (v : List ℕ). Some v) (sym (whole ∙ ap (λ (v : List ℕ). v ++ ys) none))
 
+pub skips-none : (file : List ℕ) (dropped : ℕ) (old new : Known) → old ≡ Some file → dropped ≡ 0 → Skips dropped old new → new ≡ Some file
+skips-none file dropped old new is none h = skips-nothing file old new is (subst (λ n. Skips n old new) none h)
+
 -- ---- the output goes on after a stop, but for a failed write
 
 stop-on : (from limit : ℕ) (input : Input) (output : Output) (failed : Bool) (replies last : List Reply) (rest : List ℕ) (fault : Stop) → (fault ≡ WriteFailed → failed ≡ output.has_failed)
@@ -96,15 +99,15 @@ ends-on from limit input output failed Took summary h = record {
   some = h.some;
 }
 
-pub imports-stop : (from : ℕ) (input : Input) (output : Output) (failed : Bool) (Same : Type 0) (Took : List DeliveryValue → List Answer → Type 0) (stop : StreamFault) → (stop.fault ≡ WriteFailed → failed ≡ output.has_failed)
-    → Imports from input output Same Took (Err stop) → Imports from input (record output { has_failed = failed }) Same Took (Err stop)
-imports-stop from input output failed Same Took stop same (inl h) = inl (h.0, h.1, stops-on from 4294967295 (record input { before = h.0 }) output failed Took stop same h.2)
-imports-stop from input output failed Same Took stop same (inr h) = inr h
+pub imports-stop : (dropped from : ℕ) (input : Input) (output : Output) (failed : Bool) (Same : Type 0) (Took : List DeliveryValue → List Answer → Type 0) (stop : StreamFault) → (stop.fault ≡ WriteFailed → failed ≡ output.has_failed)
+    → Imports dropped from input output Same Took (Err stop) → Imports dropped from input (record output { has_failed = failed }) Same Took (Err stop)
+imports-stop dropped from input output failed Same Took stop same (inl h) = inl (h.0, h.1, stops-on from 4294967295 (record input { before = h.0 }) output failed Took stop same h.2)
+imports-stop dropped from input output failed Same Took stop same (inr h) = inr h
 
-pub imports-end : (from : ℕ) (input : Input) (output : Output) (failed : Bool) (Same : Type 0) (Took : List DeliveryValue → List Answer → Type 0) (summary : Summary)
-    → Imports from input output Same Took (Ok summary) → Imports from input (record output { has_failed = failed }) Same Took (Ok summary)
-imports-end from input output failed Same Took summary (inl h) = inl (h.0, h.1, ends-on from 4294967295 (record input { before = h.0 }) output failed Took summary h.2)
-imports-end from input output failed Same Took summary (inr h) = inr h
+pub imports-end : (dropped from : ℕ) (input : Input) (output : Output) (failed : Bool) (Same : Type 0) (Took : List DeliveryValue → List Answer → Type 0) (summary : Summary)
+    → Imports dropped from input output Same Took (Ok summary) → Imports dropped from input (record output { has_failed = failed }) Same Took (Ok summary)
+imports-end dropped from input output failed Same Took summary (inl h) = inl (h.0, h.1, ends-on from 4294967295 (record input { before = h.0 }) output failed Took summary h.2)
+imports-end dropped from input output failed Same Took summary (inr h) = inr h
 
 zero-first : (b c d : Bool) (n : ℕ) → n ≡ cond ((b && c) && d) 0 1 → n ≡ 0 → b ≡ true
 zero-first true c d n is zero = refl

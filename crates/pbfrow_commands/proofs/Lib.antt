@@ -7,6 +7,7 @@ pub mod Judging
 pub mod ListLemmas
 pub mod ListingLaws
 pub mod ListingSteps
+pub mod RangesLemmas
 pub mod ShowLemmas
 pub mod StatusLemmas
 pub mod VerifyLemmas

@@ -23,7 +23,7 @@ lists-input left old mid written before failed frames ending status told same li
   status_is = is ∙ ap (λ b. status_of b failed) (and-true (is_whole ending));
 }
 
-are-parts : {A : Type 0} (Has : ℕ → Part A → Type 0) (at : ℕ) (ps : List (Part A)) → AreFound Has at ps → AllByRecursion IsPart ps
+pub are-parts : {A : Type 0} (Has : ℕ → Part A → Type 0) (at : ℕ) (ps : List (Part A)) → AreFound Has at ps → AllByRecursion IsPart ps
 are-parts Has at [] h = tt
 are-parts Has at (p ∷ ps) h = (h.0, are-parts Has (at + length p.bytes) ps h.2)
 

@@ -20,7 +20,7 @@ pub joined-push : {A : Type 0} (ps : List (Part A)) (p : Part A) → joined (ps 
 joined-push [] p = append-nil p.bytes
 joined-push (q ∷ ps) p = ap (λ (v : List ℕ). q.bytes ++ v) (joined-push ps p) ∙ sym (append_assoc q.bytes (joined ps) p.bytes)
 
-place : {A : Type 0} (at : ℕ) (q : Part A) (ps : List (Part A)) → at + length q.bytes + length (joined ps) ≡ at + length (joined (q ∷ ps))
+pub place : {A : Type 0} (at : ℕ) (q : Part A) (ps : List (Part A)) → at + length q.bytes + length (joined ps) ≡ at + length (joined (q ∷ ps))
 place at q ps = omega (arith, length-append q.bytes (joined ps))
 
 lines-push : {A : Type 0} (line : ℕ → Part A → List ℕ) (at : ℕ) (ps : List (Part A)) (p : Part A) → lines_from line at (ps ++ p ∷ []) ≡ lines_from line at ps ++ line (at + length (joined ps)) p
@@ -29,7 +29,7 @@ lines-push line at (q ∷ ps) p =
     ap (λ (v : List ℕ). line at q ++ v) (lines-push line (at + length q.bytes) ps p ∙ ap (λ k. lines_from line (at + length q.bytes) ps ++ line k p) (place at q ps))
     ∙ sym (append_assoc (line at q) (lines_from line (at + length q.bytes) ps) (line (at + length (joined (q ∷ ps))) p))
 
-found-push : {A : Type 0} (Has : ℕ → Part A → Type 0) (at : ℕ) (ps : List (Part A)) (p : Part A) → AreFound Has at ps → IsPart p → Has (at + length (joined ps)) p → AreFound Has at (ps ++ p ∷ [])
+pub found-push : {A : Type 0} (Has : ℕ → Part A → Type 0) (at : ℕ) (ps : List (Part A)) (p : Part A) → AreFound Has at ps → IsPart p → Has (at + length (joined ps)) p → AreFound Has at (ps ++ p ∷ [])
 found-push Has at [] p all is has = (is, subst (λ k. Has k p) (add-zero at) has, tt)
 found-push Has at (q ∷ ps) p all is has = (all.0, all.1, found-push Has (at + length q.bytes) ps p all.2 is (subst (λ k. Has k p) (sym (place at q ps)) has))
 

@@ -26,12 +26,12 @@ abbrev pub IsShort : ℕ → Known → Known → Bool → Type 0
 IsShort count old new source_failed = (source_failed ≡ true)
     ⊎ ((bytes : List ℕ) × (length bytes < count) × Consumes old new bytes × IsAtEnd new)
 
--- Before the last line: the bytes before the offset were dropped and the stream from there on was imported; or they
--- couldn't be read, which is told at the offset, and nothing else was done.
-abbrev pub Imports : ℕ → Input → Output → Type 0 → (List DeliveryValue → List Answer → Type 0) → Result Summary StreamFault → Type 0
-Imports from input output Same Took outcome =
-    ((skipped : Known) × Skips from input.before skipped × Streams from 4294967295 (record input { before = skipped }) output Took outcome)
-    ⊎ (IsShort from input.before input.after input.has_failed × (outcome ≡ Err (record { fault = ReadFailed; at = from })) × (output.after ≡ output.before) × Same)
+-- Before the last line: so many bytes were dropped, and the stream behind them was imported, which stands at an offset; or
+-- they couldn't be read, which is told at the offset, and nothing else was done.
+abbrev pub Imports : ℕ → ℕ → Input → Output → Type 0 → (List DeliveryValue → List Answer → Type 0) → Result Summary StreamFault → Type 0
+Imports dropped at input output Same Took outcome =
+    ((skipped : Known) × Skips dropped input.before skipped × Streams at 4294967295 (record input { before = skipped }) output Took outcome)
+    ⊎ (IsShort dropped input.before input.after input.has_failed × (outcome ≡ Err (record { fault = ReadFailed; at = at })) × (output.after ≡ output.before) × Same)
 
 -- the line of the fault at which an import stopped; none where the output has failed
 abbrev pub EndsStop : Known → Known → Bool → ℕ → Stop → Type 0

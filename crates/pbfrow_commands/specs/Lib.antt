@@ -6,6 +6,7 @@ pub mod Finding
 pub mod Importing
 pub mod Listing
 pub mod Progress
+pub mod Ranging
 pub mod Reading
 pub mod Showing
 pub mod Status

@@ -1,10 +1,12 @@
 //! The command `import`: the blobs of a file go into a store.
 
 ghost use Rattle.std.specs.Prelude.{◌≡◌, ◌≤◌, List, ℕ, Some, Ok, Result, OnOk, OnErr, IfOk};
+ghost use Rattle.std.specs.FinMap.{empty};
 ghost use Rattle.osm_store.specs.Held.{HeldMap};
 ghost use Rattle.osm_import.specs.Exports.{Known};
 ghost use Rattle.osm_import.specs.Flows.{input, output};
 ghost use Rattle.osm_import.specs.Stores.{Takes};
+ghost use Rattle.osm_import.specs.Merges.{ImportsPart};
 ghost use Rattle.osm_import.specs.Streams.{ImportsFile};
 ghost use Rattle.osm_import.specs.declared.stream.summary.Summary.{Summary as SummaryValue};
 ghost use Rattle.osm_import.specs.declared.stream.fault.StreamFault.{StreamFault as StreamFaultValue};
@@ -22,6 +24,15 @@ const MAX_BLOBS: u32 = 4_294_967_295;
 
 /// How many bytes are requested from a reader at a time.
 const PIECE: usize = 65_536;
+
+/// Where an import begins.
+#[derive(Clone, Copy)]
+pub struct Start {
+    /// How many bytes of the input are read and dropped.
+    pub dropped: u64,
+    /// The offset in the file of the next byte of the input, at most 2^62.
+    pub at: u64,
+}
 
 /// A read that failed, or an input that ended early.
 #[derive(Drop)]
@@ -47,24 +58,26 @@ fn skip<R: Source>(reader: &mut R, count: u64) -> Result<(), Short>
     Ok(())
 }
 
-/// Reads and drops the bytes before the offset, and imports the blobs from there on.
+/// Reads and drops the bytes before the start, and imports the blobs from there on.
 fn import_from<R: Source, K: Keeper, S: Sink>(
     alloc: Global,
     reader: &mut R,
     store: &mut K,
-    from: u64,
+    start: Start,
     out: &mut S,
 ) -> Result<Summary, StreamFault>
-    requires { from ≤ MAX_OFFSET }
-    ensures imports { Imports from (input R.Source reader.old reader.new) (output S.Sink out.old out.new) (store.new ≡ store.old) (Takes K.Reader store.old store.new) result }
-    ensures one_file { (file : List ℕ) (held : HeldMap) → R.bytes_left reader.old ≡ Some file → from ≡ 0 → K.holds store.old held → K.is_honest store.new
+    requires { start.at ≤ MAX_OFFSET }
+    ensures imports { Imports start.dropped start.at (input R.Source reader.old reader.new) (output S.Sink out.old out.new) (store.new ≡ store.old) (Takes K.Reader store.old store.new) result }
+    ensures one_file { (file : List ℕ) (held : HeldMap) → R.bytes_left reader.old ≡ Some file → start.dropped ≡ 0 → start.at ≡ 0 → K.holds store.old held → K.is_honest store.new
         → IfOk result (λ summary. ImportsFile (K.holds store.new) file held summary) }
+    ensures part { (piece : List ℕ) → R.bytes_left reader.old ≡ Some piece → start.dropped ≡ 0 → K.holds store.old empty → K.is_honest store.new
+        → IfOk result (λ _. ImportsPart (K.holds store.new) start.at piece) }
 {
-    match skip(reader, from) {
-        Ok(()) => import_stream(alloc, store, reader, from, MAX_BLOBS, out),
+    match skip(reader, start.dropped) {
+        Ok(()) => import_stream(alloc, store, reader, start.at, MAX_BLOBS, out),
         Err(_) => Err(StreamFault {
             fault: Stop::ReadFailed,
-            at: from,
+            at: start.at,
         }),
     }
 }
@@ -93,28 +106,31 @@ fn put_stop<S: Sink>(out: &mut S, stop: StreamFault)
     }
 }
 
-/// Imports the blobs of a reader into a store, starting at the offset `from`, which is at most 2^62; the bytes before it
-/// are read and dropped. Writes a line for each blob, and finally the counts or the line of the fault at which it
-/// stopped. Answers the exit status: 0 if all blobs are held, and 1 if a blob was bad or refused, the import stopped, or
-/// the output failed.
+/// Imports the blobs of a reader into a store. The first `dropped` bytes are read and dropped; what comes behind them
+/// stands at the offset `at` of the file, and a blob has to begin there. Writes a line for each blob, and finally the
+/// counts or the line of the fault at which it stopped. Answers the exit status: 0 if all blobs are held, and 1 if a blob
+/// was bad or refused, the import stopped, or the output failed.
 ///
-/// If it answers 0 from the offset 0 over a reader whose bytes are known, these are a file; and if the store held
-/// nothing but blobs of that file, what it holds now tiles the file.
+/// If it answers 0 at the offset 0 over a reader whose bytes are known, none of them dropped, these are a file; and if the
+/// store held nothing but blobs of that file, what it holds now tiles the file. At any offset, they are frames one behind
+/// the other; and if the store held nothing, what it holds now is what a run of these at their offsets leaves.
 pub fn import<R: Source, K: Keeper, S: Sink>(
     alloc: Global,
     reader: &mut R,
     store: &mut K,
-    from: u64,
+    start: Start,
     out: &mut S,
 ) -> u8
-    requires { from ≤ MAX_OFFSET }
-    ensures imports { (outcome : Result SummaryValue StreamFaultValue) × (listed : Known) × Imports from (input R.Source reader.old reader.new) (record (output S.Sink out.old out.new) { after = listed })
+    requires { start.at ≤ MAX_OFFSET }
+    ensures imports { (outcome : Result SummaryValue StreamFaultValue) × (listed : Known) × Imports start.dropped start.at (input R.Source reader.old reader.new) (record (output S.Sink out.old out.new) { after = listed })
         (store.new ≡ store.old) (Takes K.Reader store.old store.new) outcome
         × EndsLine listed (S.written out.new) (S.has_failed out.new) outcome × (result ≡ import_status outcome (S.has_failed out.new)) }
-    ensures one_file { (file : List ℕ) (held : HeldMap) → R.bytes_left reader.old ≡ Some file → from ≡ 0 → K.holds store.old held → K.is_honest store.new
+    ensures one_file { (file : List ℕ) (held : HeldMap) → R.bytes_left reader.old ≡ Some file → start.dropped ≡ 0 → start.at ≡ 0 → K.holds store.old held → K.is_honest store.new
         → result ≡ 0 → HoldsFile (K.holds store.new) file held }
+    ensures part { (piece : List ℕ) → R.bytes_left reader.old ≡ Some piece → start.dropped ≡ 0 → K.holds store.old empty → K.is_honest store.new
+        → result ≡ 0 → ImportsPart (K.holds store.new) start.at piece }
 {
-    match import_from(alloc, reader, store, from, out) {
+    match import_from(alloc, reader, store, start, out) {
         Ok(summary) => finish(out, &summary),
         Err(stop) => {
             put_stop(out, stop);

@@ -12,6 +12,7 @@ pub mod list;
 pub mod merge;
 pub mod migrate;
 pub mod progress;
+pub mod ranges;
 pub mod report;
 pub mod show;
 pub mod status;

@@ -1,9 +1,10 @@
 -- The program with its commands, as clap's model of a command has it, and what a command says of the matches.
-use Rattle.std.specs.Prelude.{◌≡◌, ◌≤◌, List, Some, IfSome, true, codes, map}
+use Rattle.std.specs.Prelude.{◌≡◌, ◌<◌, ◌≤◌, List, Some, true, codes, map}
 use Rattle.clap.specs.Words.{App, Row, Text, all_of, first_of, new_app, one_of}
-use Rattle.pbfrow_words.specs.Arguments.{IsFlag, IsNumber, text_of}
+use Rattle.pbfrow_words.specs.Arguments.{IsFlag, text_of}
 use Rattle.pbfrow_words.specs.Asking.{Asks, with_asking_commands}
-use Rattle.pbfrow_words.specs.Filling.{with_filling_commands}
+use Rattle.pbfrow_words.specs.Filling.{IsStart, begins_at, with_filling_commands}
+use Rattle.pbfrow_words.specs.Ranges.{IsCount, with_ranges}
 use Rattle.pbfrow_words.specs.Reading.{Reads, with_reading_commands}
 use Rattle.pbfrow_words.specs.Verifying.{with_verify}
 use Rattle.pbfrow_words.specs.declared.words.Words.{Words}
@@ -16,14 +17,16 @@ plain_program = record (new_app (codes "pbfrow")) {
 }
 
 abbrev pub program : App
-program = with_asking_commands (with_verify (with_filling_commands (with_reading_commands plain_program)))
+program = with_asking_commands (with_verify (with_filling_commands (with_ranges (with_reading_commands plain_program))))
 
 -- the command and its arguments are those of a subcommand of this name with these matches
 abbrev pub Says : Words → Text → List Row → Type 0
 Says (command.Read reading file) name rows = Reads reading name × (text_of file ≡ first_of (codes "FILE") rows)
-Says (command.Import file database from) name rows = (name ≡ codes "import")
+Says (command.Ranges file count) name rows = (name ≡ codes "ranges")
+    × (Some file.now ≡ first_of (codes "FILE") rows) × IsCount count (one_of (codes "N") rows)
+Says (command.Import file database start) name rows = (name ≡ codes "import")
     × (Some file.now ≡ first_of (codes "FILE") rows)
-    × (Some database.now ≡ first_of (codes "DB") rows) × IsNumber from (one_of (codes "from") rows)
+    × (Some database.now ≡ first_of (codes "DB") rows) × IsStart start (one_of (codes "from") rows) (one_of (codes "at") rows)
 Says (command.Migrate old new) name rows = (name ≡ codes "migrate")
     × (Some old.now ≡ first_of (codes "OLD") rows) × (Some new.now ≡ first_of (codes "NEW") rows)
 Says (command.Merge into from) name rows = (name ≡ codes "merge")
@@ -35,5 +38,10 @@ Says (command.Ask database question) name rows = (Some database.now ≡ first_of
 
 -- an import begins at 2^62 at most
 abbrev pub BeginsWithin : Words → Type 0
-BeginsWithin (command.Import file database from) = IfSome from (λ n. n ≤ 4611686018427387904)
+BeginsWithin (command.Import file database start) = begins_at start ≤ 4611686018427387904
 BeginsWithin _ = Unit {0}
+
+-- a file is cut into one range or more
+abbrev pub CutsSome : Words → Type 0
+CutsSome (command.Ranges file count) = 0 < count
+CutsSome _ = Unit {0}

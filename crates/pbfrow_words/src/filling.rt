@@ -1,16 +1,26 @@
 //! The commands that fill a database: `import`, `migrate`, `merge`.
 
-ghost use Rattle.std.specs.Prelude.{◌≡◌, false, IfOk};
-ghost use Rattle.clap.specs.Words.{app_of};
+ghost use Rattle.std.specs.Prelude.{◌≡◌, false, IfOk, IfSome, codes};
+ghost use Rattle.clap.specs.Words.{app_of, found_of, one_of, rows_of, rule_of};
 ghost use Rattle.clap.specs.declared.builder.command.Command.TheViews.{out-Command as fields_of};
 ghost use Rattle.pbfrow_words.specs.Filling as definitions;
+ghost use Rattle.pbfrow_words.specs.Filling.{IsStart};
 
 use crate::arguments::{
-    database, file, new_command, offset_option, required_argument, required_arguments,
+    database, file, new_command, number_of, offset_option, required_argument, required_arguments,
     with_argument, with_command,
 };
-use clap::Command;
+use clap::{Arg, ArgMatches, Command};
 use std::alloc::{AllocError, Global};
+
+/// Where an import begins, in bytes, at most 2^62.
+#[derive(Clone, Copy, Debug, PartialEq, Eq)]
+pub enum Start {
+    /// The input is the whole file, and so many bytes at its front are read and dropped.
+    Skip(u64),
+    /// The input begins at this offset of the file, and nothing of it is dropped.
+    At(u64),
+}
 
 const IMPORT_HELP: &str =
     "The database is made if it is missing or empty. Prints 'OFFSET stored COUNT' for
@@ -21,13 +31,16 @@ its end, it prints 'blobs stored S held H bad B refused R'.
 A blob is stored whole or not at all, even if the run is killed or the machine
 stops: run the same import again to complete it. Blobs may come in any order,
 over any number of runs. With --from the first N bytes of FILE are read and
-dropped, and a blob has to begin there.
+dropped, and a blob has to begin there. With --at nothing is dropped: FILE is a
+part that begins with a blob, at offset N of the whole. 'pbfrow ranges' cuts a
+file into such parts.
 
 Exit status: 0 if all blobs are held, else 1.
 
 Examples:
   pbfrow import berlin.osm.pbf berlin.db
-  pbfrow import berlin.osm.pbf berlin.db --from 1048576";
+  pbfrow import berlin.osm.pbf berlin.db --from 1048576
+  tail -c +1048577 berlin.osm.pbf | pbfrow import /dev/stdin part.db --at 1048576";
 
 const MIGRATE_HELP: &str =
     "OLD is a database that an earlier pbfrow made, which this one answers with
@@ -56,6 +69,14 @@ Exit status: 0 if INTO holds all blobs of each FROM, else 1.
 Example:
   pbfrow merge berlin.db part-1.db part-2.db";
 
+/// The option `--at`, which can't be used with `--from`.
+fn at_option<'a>(alloc: Global) -> Result<Arg<'a>, AllocError>
+    ensures rule { IfOk result (λ a. rule_of a ≡ definitions.at_option) }
+    ensures local { IfOk result (λ a. a.global ≡ false) }
+{
+    offset_option(alloc, "at", "Offset at which FILE begins, in bytes").conflicts_with("from")
+}
+
 fn import_command<'a>(alloc: Global) -> Result<Command<'a>, AllocError>
     ensures shape { IfOk result (λ c. app_of c ≡ definitions.import_command) }
     ensures local { IfOk result (λ c. (fields_of c).has_globals ≡ false) }
@@ -69,7 +90,21 @@ fn import_command<'a>(alloc: Global) -> Result<Command<'a>, AllocError>
     );
     let command = with_argument(command, file(alloc))?;
     let command = with_argument(command, database(alloc))?;
-    with_argument(command, from)
+    let command = with_argument(command, from)?;
+    let at = at_option(alloc)?;
+    with_argument(command, at)
+}
+
+/// Where an import begins by its options. None if a number is above 2^62, or if clap let through both options.
+pub(crate) fn start_of(matches: &ArgMatches) -> Option<Start>
+    ensures { IfSome result (λ start. IsStart start (one_of (codes "from") (rows_of (found_of matches.now))) (one_of (codes "at") (rows_of (found_of matches.now)))) }
+{
+    match (number_of(matches, "from")?, number_of(matches, "at")?) {
+        (None, None) => Some(Start::Skip(0)),
+        (Some(from), None) => Some(Start::Skip(from)),
+        (None, Some(at)) => Some(Start::At(at)),
+        (Some(_), Some(_)) => None,
+    }
 }
 
 fn migrate_command<'a>(alloc: Global) -> Result<Command<'a>, AllocError>

@@ -7,11 +7,13 @@ mod asking;
 mod element;
 mod filling;
 pub mod laws;
+mod ranges;
 mod reading;
 mod verifying;
 mod words;
 
 pub use asking::Question;
 pub use element::read_element;
+pub use filling::Start;
 pub use reading::Reading;
 pub use words::{Words, read_words};

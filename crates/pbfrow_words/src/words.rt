@@ -3,11 +3,12 @@
 ghost use Rattle.std.specs.Prelude.{◌≡◌, false, IfOk, IfSome, IsSomeAnd, map, codes};
 ghost use Rattle.clap.specs.Words.{app_of, found_of, rows_of, subcommand_of, subcommand_rows_of};
 ghost use Rattle.clap.specs.declared.builder.command.Command.TheViews.{out-Command as fields_of};
-ghost use Rattle.pbfrow_words.specs.Words.{BeginsWithin, Says, program};
+ghost use Rattle.pbfrow_words.specs.Words.{BeginsWithin, CutsSome, Says, program};
 
-use crate::arguments::{flag_of, number_of, text_of, texts_of};
+use crate::arguments::{flag_of, text_of, texts_of};
 use crate::asking::{Question, question_of, with_asking_commands};
-use crate::filling::with_filling_commands;
+use crate::filling::{Start, start_of, with_filling_commands};
+use crate::ranges::{count_of, with_ranges};
 use crate::reading::{Reading, reading_of, with_reading_commands};
 use crate::verifying::with_verify;
 use clap::error::ErrorKind;
@@ -26,11 +27,16 @@ pub enum Words<'a> {
         /// Without one, standard input is read.
         file: Option<&'a str>,
     },
+    /// `file` is to be cut into ranges.
+    Ranges {
+        file: &'a str,
+        /// How many at most: 1 to 4,294,967,295.
+        count: u64,
+    },
     Import {
         file: &'a str,
         database: &'a str,
-        /// The start offset in `file`, at most 2^62.
-        from: Option<u64>,
+        start: Start,
     },
     Migrate {
         old: &'a str,
@@ -79,9 +85,19 @@ fn program<'a>(alloc: Global) -> Result<Command<'a>, AllocError>
         .after_help(PROGRAM_HELP)
         .subcommand_required(true);
     let program = with_reading_commands(alloc, program)?;
+    let program = with_ranges(alloc, program)?;
     let program = with_filling_commands(alloc, program)?;
     let program = with_verify(alloc, program)?;
     with_asking_commands(alloc, program)
+}
+
+fn ranges_of<'a>(matches: &ArgMatches<'a>) -> Option<Words<'a>>
+    ensures { IfSome result (λ w. Says w (codes "ranges") (rows_of (found_of matches.now))) }
+{
+    Some(Words::Ranges {
+        file: text_of(matches, "FILE")?,
+        count: count_of(matches)?,
+    })
 }
 
 fn import_of<'a>(matches: &ArgMatches<'a>) -> Option<Words<'a>>
@@ -90,7 +106,7 @@ fn import_of<'a>(matches: &ArgMatches<'a>) -> Option<Words<'a>>
     Some(Words::Import {
         file: text_of(matches, "FILE")?,
         database: text_of(matches, "DB")?,
-        from: number_of(matches, "from")?,
+        start: start_of(matches)?,
     })
 }
 
@@ -136,6 +152,7 @@ fn simple_words_of<'a>(name: &str, matches: &ArgMatches<'a>) -> Option<Words<'a>
         });
     }
     match name {
+        "ranges" => ranges_of(matches),
         "import" => import_of(matches),
         "migrate" => migrate_of(matches),
         "verify" => verify_of(matches),
@@ -179,6 +196,7 @@ fn entered_words<'a>(
 pub fn read_words<'a>(alloc: Global, words: &'a [&'a str]) -> Result<Words<'a>, Error>
     ensures named { IfOk result (λ w. IsSomeAnd (subcommand_of program (map (λ s. s.now) words.entry.now)) (λ p. Says w p.0 p.1)) }
     ensures within { IfOk result BeginsWithin }
+    ensures some { IfOk result CutsSome }
 {
     let mut command = program(alloc)?;
     let matches = command.try_get_matches_from_mut(words)?;

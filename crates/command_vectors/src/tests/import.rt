@@ -6,11 +6,14 @@ use super::stores::{
 use super::support::{Breaking, Closed, TWO_NODES};
 use osm_import::Inlet;
 use osm_value::Outlet;
-use pbfrow_commands::import::import;
+use pbfrow_commands::import::{Start, import};
 use std::alloc::Global;
 use std::io::Cursor;
 use std::process::Abort;
 use std::test::*;
+
+/// The first byte of a whole file.
+const START: Start = Start { dropped: 0, at: 0 };
 
 fn imports_twice_of<K: NewStore, R: Abort + Alloc<A = Global>>(rt: &R) -> Result<(), Fail> {
     let mut store = K::new_store(rt.alloc()).ok_or("a store")?;
@@ -108,6 +111,29 @@ fn begins_at_an_offset_of<K: NewStore, R: Abort + Alloc<A = Global>>(rt: &R) -> 
 fn begins_at_an_offset(rt: HostRuntime) -> Result<(), Fail> {
     begins_at_an_offset_of::<Blocks, _>(&rt)?;
     begins_at_an_offset_of::<Columns, _>(&rt)
+}
+
+fn imports_a_part_of<K: NewStore, R: Abort + Alloc<A = Global>>(rt: &R) -> Result<(), Fail> {
+    let mut store = K::new_store(rt.alloc()).ok_or("a store")?;
+    for (part, at, status, text) in [
+        (&TWO_NODES[47..], 47, 0, &b"47 stored 2\nblobs stored 1 held 0 bad 0 refused 0\n"[..]),
+        (&TWO_NODES[..47], 0, 0, &b"0 stored 0\nblobs stored 1 held 0 bad 0 refused 0\n"[..]),
+        (&TWO_NODES[..], 0, 0, &b"0 held\n47 held\nblobs stored 0 held 2 bad 0 refused 0\n"[..]),
+        (&TWO_NODES[48..], 48, 1, &b"fault 12 HeaderCut at 48\n"[..]),
+    ] {
+        let mut out = Outlet::new(Vec::new(rt.alloc()));
+        let start = Start { dropped: 0, at };
+        let mut input = Inlet::new(Cursor::new(part));
+        assert_eq!(rt; import(rt.alloc(), &mut input, &mut store, start, &mut out), status);
+        assert!(rt; out.into_inner().as_slice() == text);
+    }
+    Ok(())
+}
+
+#[test]
+fn imports_a_part(rt: HostRuntime) -> Result<(), Fail> {
+    imports_a_part_of::<Blocks, _>(&rt)?;
+    imports_a_part_of::<Columns, _>(&rt)
 }
 
 fn wants_a_header_first_and_only_there_of<K: NewStore, R: Abort + Alloc<A = Global>>(
@@ -225,7 +251,7 @@ fn stops_where_a_write_fails_of<K: NewStore, R: Abort + Alloc<A = Global>>(
     let mut store = K::new_store(rt.alloc()).ok_or("a store")?;
     let mut input = Inlet::new(Cursor::new(&TWO_NODES[..]));
     let mut out = Outlet::new(Closed);
-    assert_eq!(rt; import(rt.alloc(), &mut input, &mut store, 0, &mut out), 1);
+    assert_eq!(rt; import(rt.alloc(), &mut input, &mut store, START, &mut out), 1);
     expect_import(
         rt,
         &mut store,

@@ -4,7 +4,7 @@ use super::support::{EXTRA, TWO_NODES};
 use osm_import::Inlet;
 use osm_store::{BlobStore, BodyStore, Keeper, StoreLayout, TableStore};
 use osm_value::Outlet;
-use pbfrow_commands::import::import;
+use pbfrow_commands::import::{Start, import};
 use sqlite::{Connection, MemStore};
 use std::alloc::{AllocError, Global};
 use std::io::{Cursor, Read};
@@ -39,8 +39,11 @@ pub fn expect_import<K: Keeper, R: Read + Drop>(
     text: &[u8],
 ) {
     let mut out = Outlet::new(Vec::new(rt.alloc()));
-    let from = u64::from(from);
-    let ended = import(rt.alloc(), &mut Inlet::new(input), store, from, &mut out);
+    let start = Start {
+        dropped: u64::from(from),
+        at: u64::from(from),
+    };
+    let ended = import(rt.alloc(), &mut Inlet::new(input), store, start, &mut out);
     assert_eq!(rt; ended, status);
     assert!(rt; out.into_inner().as_slice() == text);
 }

@@ -1,7 +1,7 @@
 //! Tests of the words that name a command.
 
 use osm_value::{Form, MemberKind};
-use pbfrow_words::{Question, Reading, Words, read_element, read_words};
+use pbfrow_words::{Question, Reading, Start, Words, read_element, read_words};
 use std::test::*;
 
 static IMPORT: [&str; 6] = ["pbfrow", "import", "F", "D", "--from", "47"];
@@ -23,6 +23,31 @@ static IMPORT_FARTHEST: [&str; 6] = [
     "--from",
     "4611686018427387904",
 ];
+
+static IMPORT_ALL: [&str; 4] = ["pbfrow", "import", "F", "D"];
+
+static IMPORT_AT: [&str; 6] = ["pbfrow", "import", "F", "D", "--at", "47"];
+
+static IMPORT_AT_TOO_FAR: [&str; 6] = [
+    "pbfrow",
+    "import",
+    "F",
+    "D",
+    "--at",
+    "4611686018427387905",
+];
+
+static IMPORT_FROM_AND_AT: [&str; 8] = [
+    "pbfrow", "import", "F", "D", "--from", "47", "--at", "47",
+];
+
+static RANGES: [&str; 4] = ["pbfrow", "ranges", "F", "4294967295"];
+
+static RANGES_NONE: [&str; 4] = ["pbfrow", "ranges", "F", "0"];
+
+static RANGES_TOO_MANY: [&str; 4] = ["pbfrow", "ranges", "F", "4294967296"];
+
+static RANGES_NO_COUNT: [&str; 3] = ["pbfrow", "ranges", "F"];
 
 static MIGRATE: [&str; 4] = ["pbfrow", "migrate", "A", "B"];
 
@@ -90,12 +115,54 @@ fn words_of_import(rt: HostRuntime) {
             Ok(Words::Import {
                 file: "F",
                 database: "D",
-                from: Some(47)
+                start: Start::Skip(47)
+            })
+        )
+    );
+    assert!(rt;
+        matches!(
+            read_words(rt.alloc(), IMPORT_ALL.as_slice()),
+            Ok(Words::Import {
+                file: "F",
+                database: "D",
+                start: Start::Skip(0)
             })
         )
     );
     assert!(rt; read_words(rt.alloc(), IMPORT_FARTHEST.as_slice()).is_ok());
     assert!(rt; read_words(rt.alloc(), IMPORT_TOO_FAR.as_slice()).is_err());
+}
+
+#[test]
+fn words_of_import_of_a_part(rt: HostRuntime) {
+    assert!(rt;
+        matches!(
+            read_words(rt.alloc(), IMPORT_AT.as_slice()),
+            Ok(Words::Import {
+                file: "F",
+                database: "D",
+                start: Start::At(47)
+            })
+        )
+    );
+    assert!(rt; read_words(rt.alloc(), IMPORT_AT_TOO_FAR.as_slice()).is_err());
+    assert!(rt; read_words(rt.alloc(), IMPORT_FROM_AND_AT.as_slice()).is_err());
+}
+
+#[test]
+fn words_of_ranges(rt: HostRuntime) {
+    assert!(rt;
+        matches!(
+            read_words(rt.alloc(), RANGES.as_slice()),
+            Ok(Words::Ranges {
+                file: "F",
+                count: 4294967295
+            })
+        )
+    );
+    assert!(rt; read_words(rt.alloc(), RANGES_NONE.as_slice()).is_err());
+    assert!(rt; read_words(rt.alloc(), RANGES_TOO_MANY.as_slice()).is_err());
+    assert!(rt; read_words(rt.alloc(), RANGES_NO_COUNT.as_slice()).is_err());
 }
 
 #[test]

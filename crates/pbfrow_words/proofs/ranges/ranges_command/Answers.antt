@@ -1,0 +1,8 @@
+use Rattle.std.proofs.Common.{◌∙◌}
+use Rattle.pbfrow_words.proofs.ArgumentLemmas.{made, ruled}
+use Rattle.pbfrow_words.proofs.ranges.ranges_command.Goals as goal
+
+pub returns-clause-shape : goal.returns-clause-shape
+returns-clause-shape c =
+    made _ c.with_argument-2.ensures.shape
+    (ruled (c.in_ok-command.ensures.shape ∙ ruled c.new_command-command.ensures.shape c.file.ensures.rule) c.count_argument-count.ensures.rule)
