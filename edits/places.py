@@ -100,10 +100,10 @@ def edited(crate, edit):
     return texts
 
 
-def places(edit, files):
+def places(replacements, files):
     """The places of the code that an edit changes: where, the functions there, and the words by which others name it."""
     made = {}
-    for path, old, new in pairs(edit):
+    for path, old, new in replacements:
         if path not in files or new.startswith("*/") or old.startswith("use "):
             continue
         text = made.get(path, files[path])
@@ -115,6 +115,15 @@ def places(edit, files):
         here += [it for it in functions_of(path, files[path]) if here and it.name in begun and it.owner == here[0].owner and it.name != here[0].name]
         item = next((ITEM.match(it).group(1) for it in reversed(text.split("\n")[: number + 1]) if ITEM.match(it)), "")
         yield f"{path}: {new.strip()[:60]}", here, [it.name for it in here] or [item]
+
+
+def with_items(words, files):
+    """These words, and the names of the constants and macros that stand on them."""
+    words = set(words)
+    items = [(name, it) for text in files.values() for it in text.split("\n\n") for name in re.findall(f"(?m){ITEM.pattern}", it)]
+    for _ in items:
+        words |= {name for name, text in items if name not in words and re.search(r"\b(?:" + "|".join(words) + r")\b", text)}
+    return sorted(words)
 
 
 def callers(words, functions):
@@ -188,12 +197,21 @@ def ended(said):
 
 
 def copied():
-    """A copy of the repository, with the libraries and the proofs that are kept here."""
-    copy = tempfile.mkdtemp(prefix="pbfrow-edits-")
+    """A copy of the repository, with the libraries and the proofs that are kept here: a new one, or that in $PBFROW_EDITS."""
+    copy = os.environ.get("PBFROW_EDITS") or tempfile.mkdtemp(prefix="pbfrow-edits-")
     tracked = subprocess.run(["git", "ls-files", "-z"], cwd=TOP, check=True, stdout=subprocess.PIPE).stdout.decode().split("\0")
     for path in filter(None, tracked):
         os.makedirs(os.path.dirname(f"{copy}/{path}"), exist_ok=True)
         shutil.copy(f"{TOP}/{path}", f"{copy}/{path}")
-    for kept in glob.glob(f"{TOP}/crates/*/out/rlib") + glob.glob(f"{TOP}/crates/*/out/incremental"):
-        shutil.copytree(kept, f"{copy}/{os.path.relpath(kept, TOP)}", symlinks=True)
+    for built in glob.glob(f"{TOP}/crates/*/out/rlib"):
+        shutil.rmtree(f"{copy}/{os.path.relpath(built, TOP)}", ignore_errors=True)
+        shutil.copytree(built, f"{copy}/{os.path.relpath(built, TOP)}", symlinks=True)
+    for kept in glob.glob(f"{TOP}/crates/*/out/incremental"):
+        if not os.path.exists(f"{copy}/{os.path.relpath(kept, TOP)}"):
+            shutil.copytree(kept, f"{copy}/{os.path.relpath(kept, TOP)}", symlinks=True)
     return copy
+
+
+def let_go(copy):
+    if copy != os.environ.get("PBFROW_EDITS"):
+        shutil.rmtree(copy, ignore_errors=True)
