@@ -1,4 +1,6 @@
+#!/usr/bin/env bash
 # The command list on files, on standard input and on what can't be read.
+. "$(dirname -- "${BASH_SOURCE[0]}")/begin.sh"
 two=$top/data/two-nodes.osm.pbf
 country=$top/data/liechtenstein-raw.osm.pbf
 
@@ -25,8 +27,8 @@ tail -n 1 country.txt | { read -r at _ size; echo $((at + 17 + size)); } > end.t
 stat -c %s "$country" > size.txt
 same "the frames of a real extract reach its end" end.txt size.txt
 
-(cd / && "$pbfrow" list "$two") > elsewhere.txt
-"$pbfrow" list "$two" > here.txt
+(cd / && "$top/pbfrow" list "$two") > elsewhere.txt
+"$top/pbfrow" list "$two" > here.txt
 same "the launcher runs from any folder" elsewhere.txt here.txt
 
 "$pbfrow" list "$country" > /dev/full
@@ -34,3 +36,4 @@ same "the launcher runs from any folder" elsewhere.txt here.txt
 "$pbfrow" list "$country" | head -n 1 > one.txt
 head -n 1 country.txt > want.txt
 same "standard output closed early" one.txt want.txt
+counted

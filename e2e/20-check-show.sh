@@ -1,4 +1,6 @@
+#!/usr/bin/env bash
 # The commands check and show: a real extract, and what osmium reads from it.
+. "$(dirname -- "${BASH_SOURCE[0]}")/begin.sh"
 two=$top/data/two-nodes.osm.pbf
 country=$top/data/liechtenstein-raw.osm.pbf
 nl='
@@ -28,3 +30,4 @@ if has osmium python3; then
 else
   skip "show of a real extract, element by element" "osmium or python3 isn't there"
 fi
+counted

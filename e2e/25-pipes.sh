@@ -1,4 +1,6 @@
+#!/usr/bin/env bash
 # Input that comes in pieces: pipes, a slow writer, and files larger than the memory that is used.
+. "$(dirname -- "${BASH_SOURCE[0]}")/begin.sh"
 two=$top/data/two-nodes.osm.pbf
 country=$top/data/liechtenstein-raw.osm.pbf
 
@@ -73,3 +75,4 @@ if has python3 && [ -x /usr/bin/time ] && /usr/bin/time -v true 2>/dev/null; the
 else
   skip "the memory that list, check and import take" "python3 or /usr/bin/time isn't there"
 fi
+counted

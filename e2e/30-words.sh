@@ -1,4 +1,6 @@
+#!/usr/bin/env bash
 # Words that the program can't read, help, and the version.
+. "$(dirname -- "${BASH_SOURCE[0]}")/begin.sh"
 two=$top/data/two-nodes.osm.pbf
 nl='
 '
@@ -32,3 +34,4 @@ same "standard error says that a word isn't UTF-8" stderr.txt want.txt
 [ $? = 2 ] && pass "unknown words, and standard error full" || fail "unknown words, and standard error full"
 "$pbfrow" --help > /dev/full
 [ $? = 1 ] && pass "help to a full disk" || fail "help to a full disk"
+counted

@@ -1,4 +1,6 @@
+#!/usr/bin/env bash
 # The commands import, status, export and find on the two-node file and on broken copies of it.
+. "$(dirname -- "${BASH_SOURCE[0]}")/begin.sh"
 two=$top/data/two-nodes.osm.pbf
 nl='
 '
@@ -49,3 +51,4 @@ expect "an export of nothing" 1 "fault 67 Incomplete${nl}" export empty.db
 stat -c %s header-only.osm.pbf > size.txt
 echo 56 > want.txt
 same "a partial file of nothing is a header frame of 56 bytes" size.txt want.txt
+counted

@@ -1,4 +1,6 @@
+#!/usr/bin/env bash
 # A database of an earlier pbfrow, in which each element is a block, is copied into one of rows.
+. "$(dirname -- "${BASH_SOURCE[0]}")/begin.sh"
 two=$top/data/two-nodes.osm.pbf
 nl='
 '
@@ -6,19 +8,8 @@ nodes="n 1 1000 -100 [] {}${nl}n 2 900 -100 [] {}${nl}"
 
 if has sqlite3; then
   rm -f old.db new.db none.db other.db
-  header_digest=$(head -c 47 "$two" | sha256sum | cut -c 1-64)
-  nodes_digest=$(tail -c 37 "$two" | sha256sum | cut -c 1-64)
-  # each node in a block of its own, as the format has it: one empty string, and a group with one dense node
-  first=0A020A00120B12090A01024201144A0101
-  second=0A020A00120B12090A01044201124A0101
-  sqlite3 old.db "
-    CREATE TABLE meta (version INTEGER PRIMARY KEY) STRICT;
-    CREATE TABLE blob (off INTEGER PRIMARY KEY, fin INTEGER NOT NULL, digest BLOB NOT NULL, kind INTEGER NOT NULL, n INTEGER NOT NULL) STRICT;
-    CREATE TABLE body (off INTEGER NOT NULL, pos INTEGER NOT NULL, kind INTEGER NOT NULL, id INTEGER NOT NULL, data BLOB NOT NULL, PRIMARY KEY (off, pos)) STRICT;
-    CREATE INDEX body_element ON body (kind, id);
-    INSERT INTO meta VALUES (1);
-    INSERT INTO blob VALUES (0, 47, x'$header_digest', 0, 0), (47, 84, x'$nodes_digest', 1, 2);
-    INSERT INTO body VALUES (47, 0, 0, 1, x'$first'), (47, 1, 0, 2, x'$second')"
+  . "$top/e2e/older.sh"
+  older_two_nodes old.db
   sqlite3 old.db .dump > old.sql
 
   expect "an older database is answered by its version" 1 "fault 66 NotThisStore${nl}" status old.db
@@ -68,3 +59,4 @@ if has sqlite3; then
 else
   skip "a database of an earlier pbfrow is copied" "sqlite3 isn't installed"
 fi
+counted

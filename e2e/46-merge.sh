@@ -1,4 +1,6 @@
+#!/usr/bin/env bash
 # Databases of parts of one file become one, as one import of the whole makes it.
+. "$(dirname -- "${BASH_SOURCE[0]}")/begin.sh"
 two=$top/data/two-nodes.osm.pbf
 country=$top/data/liechtenstein-raw.osm.pbf
 nl='
@@ -56,9 +58,12 @@ expect "a database that isn't there" 1 "copied 0 held 2${nl}fault 66 NotThisStor
 expect "into a folder that isn't there" 1 "fault 65 Disk${nl}" merge nowhere/into.db two.db
 "$pbfrow" merge two.db two.db > got.txt
 expect "a database into itself leaves it as it was" 0 "$nodes" export two.db --size 84
-if [ -e old.db ]; then
+if has sqlite3; then
   rm -f into.db into.db-wal
+  . "$top/e2e/older.sh"
+  older_two_nodes old.db
   expect "a database of an earlier version and one of this" 0 "copied 2 held 0${nl}copied 0 held 2${nl}blobs copied 2 held 2${nl}" merge into.db old.db two.db
 else
-  skip "a merge of a database of an earlier version" "there is none"
+  skip "a merge of a database of an earlier version" "sqlite3 isn't installed"
 fi
+counted

@@ -1,4 +1,6 @@
+#!/usr/bin/env bash
 # Files with history: elements keep their flags of visibility, from the file to the database and back.
+. "$(dirname -- "${BASH_SOURCE[0]}")/begin.sh"
 two=$top/data/two-nodes.osm.pbf
 nl='
 '
@@ -74,3 +76,4 @@ if has osmium python3 sqlite3; then
 else
   skip "files with history as osmium writes them" "osmium, python3 or sqlite3 isn't installed"
 fi
+counted

@@ -1,7 +1,8 @@
+#!/usr/bin/env bash
 # Whether a database is exactly what an import of a file makes, and where they differ.
+. "$(dirname -- "${BASH_SOURCE[0]}")/begin.sh"
 two=$top/data/two-nodes.osm.pbf
 country=$top/data/liechtenstein-raw.osm.pbf
-program=$top/crates/pbfrow/out/pbfrow
 nl='
 '
 alike="blobs 2 missing 0 differs 0 extra 0${nl}"
@@ -136,7 +137,7 @@ expect "verify --elements of a merge of four parts" 0 "$whole" verify "$country"
 # an import that is killed inside the fourth frame, and done again
 rm -f killed.db killed.db-wal slow.fifo
 mkfifo slow.fifo
-"$program" import slow.fifo killed.db > killed.txt 2> /dev/null &
+"$pbfrow" import slow.fifo killed.db > killed.txt 2> /dev/null &
 killed=$!
 exec 7> slow.fifo
 head -c 300000 "$country" >&7
@@ -153,3 +154,4 @@ same "and has a line for each blob that is missing" got.txt want.txt
 "$pbfrow" import "$country" killed.db > got.txt
 expect "verify after it was imported again" 0 "$whole" verify "$country" killed.db
 expect "verify --elements after it was imported again" 0 "$whole" verify "$country" killed.db --elements
+counted

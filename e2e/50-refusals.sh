@@ -1,4 +1,6 @@
+#!/usr/bin/env bash
 # What a user may get wrong, and disks that fill up: each run ends with a status and one line, and a later run completes the import.
+. "$(dirname -- "${BASH_SOURCE[0]}")/begin.sh"
 two=$top/data/two-nodes.osm.pbf
 country=$top/data/liechtenstein-raw.osm.pbf
 nl='
@@ -69,16 +71,16 @@ if [ "$(id -u)" = 0 ] && has setpriv; then
   chmod 000 unreadable.osm.pbf
   mkdir -p locked
   chmod 755 locked "$work"
-  "$pbfrow" --build-only
-  as_nobody() { setpriv --reuid 65534 --regid 65534 --clear-groups "$top/crates/pbfrow/out/pbfrow" "$@"; }
+  as_nobody() { setpriv --reuid 65534 --regid 65534 --clear-groups "$pbfrow" "$@"; }
+  nobodys=$(mktemp -u -p /dev/shm)
   if as_nobody --version > version.txt 2>&1; then
-    as_nobody import unreadable.osm.pbf /dev/shm/pbfrow-nobody.db > got.txt
+    as_nobody import unreadable.osm.pbf "$nobodys" > got.txt
     echo "fault 68 ReadFailed at 0" > want.txt
     same "an input that may not be read" got.txt want.txt
     as_nobody import "$two" locked/any.db > got.txt
     echo "fault 65 Disk" > want.txt
     same "a database that may not be written" got.txt want.txt
-    rm -f /dev/shm/pbfrow-nobody.db
+    rm -f "$nobodys"
   else
     skip "inputs and databases without permission" "the program can't be run as another user here"
   fi
@@ -107,3 +109,4 @@ head -n 1 whole-export.txt > want.txt
 same "an export whose reader goes away" one.txt want.txt
 "$pbfrow" export whole.db > /dev/full 2>/dev/null
 [ $? = 1 ] && pass "an export to a full disk ends with 1" || fail "an export to a full disk ends with 1"
+counted

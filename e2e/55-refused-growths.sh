@@ -1,13 +1,15 @@
+#!/usr/bin/env bash
 # Growths of memory refused, one in each run: a command ends with the line of the fault behind a front of its output, with 2
 # where its arguments weren't read, or as with memory; and the same import again completes one that ended so.
+# alone: it takes all processors itself
+. "$(dirname -- "${BASH_SOURCE[0]}")/begin.sh"
 two=$top/data/two-nodes.osm.pbf
-program=$top/crates/pbfrow/out/pbfrow
 
 # refused NAME EVERY WORD..: so it is with the command's first growth, and with each that stands EVERY behind such a one.
 refused() {
   local name=$1 every=$2
   shift 2
-  if python3 "$top/e2e/refused_growths.py" "$every" "$program" "$@" > told.txt 2>&1; then pass "$name"; else fail "$name"; fi
+  if python3 "$top/e2e/refused_growths.py" "$every" "$pbfrow" "$@" > told.txt 2>&1; then pass "$name"; else fail "$name"; fi
   sed 's/^/  /' told.txt
 }
 
@@ -24,14 +26,15 @@ else
   refused "show with each growth refused" 1 show "$two"
   refused "import into a new database with every seventh growth refused" 7 import "$two" "$database"
   refused "import of what is held with every seventh growth refused" 7 import "$two" "$database"
-  "$program" export "$database" > want.txt
+  "$pbfrow" export "$database" > want.txt
   refused "status with every seventh growth refused" 7 status "$database"
   refused "export with every seventh growth refused" 7 export "$database"
   refused "export as PBF with every seventh growth refused" 7 export "$database" --form pbf
   refused "find with every seventh growth refused" 7 find "$database" n2
   refused "verify with every seventh growth refused" 7 verify "$two" "$database"
   refused "verify --elements with every seventh growth refused" 7 verify "$two" "$database" --elements
-  "$program" export "$database" > got.txt
+  "$pbfrow" export "$database" > got.txt
   same "the database that was asked so stays as it was" got.txt want.txt
   rm -rf "$folder"
 fi
+counted

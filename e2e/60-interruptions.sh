@@ -1,11 +1,13 @@
+#!/usr/bin/env bash
 # An import of a real extract that is killed at any moment: what is held is whole blobs, and the next run completes it.
+# alone: it takes all processors itself, and kills at moments
+. "$(dirname -- "${BASH_SOURCE[0]}")/begin.sh"
 country=$top/data/liechtenstein-raw.osm.pbf
-program=$top/crates/pbfrow/out/pbfrow
 rm -f unbroken.db
 started=$(date +%s%N)
-"$program" import "$country" unbroken.db > unbroken.txt
+"$pbfrow" import "$country" unbroken.db > unbroken.txt
 taken=$((($(date +%s%N) - started) / 1000))
-"$program" export unbroken.db > unbroken-export.txt
+"$pbfrow" export unbroken.db > unbroken-export.txt
 blobs=$(grep -c . unbroken.txt)
 workers=$(nproc)
 
@@ -13,14 +15,14 @@ workers=$(nproc)
 # came before the end, and whether the export is that of the unbroken import.
 killed_import() {
   local name=killed-$1 wait_us=$2 pid end=late came=equal
-  "$program" import "$country" "$name.db" > "$name.txt" 2>/dev/null &
+  "$pbfrow" import "$country" "$name.db" > "$name.txt" 2>/dev/null &
   pid=$!
   sleep "$(printf '%d.%06d' $((wait_us / 1000000)) $((wait_us % 1000000)))"
   kill -9 "$pid" 2>/dev/null
   wait "$pid" 2>/dev/null
   [ "$(grep -c . "$name.txt")" -lt "$blobs" ] && end=broken
-  "$program" import "$country" "$name.db" > "$name-resumed.txt" || came=different
-  "$program" export "$name.db" > "$name-export.txt"
+  "$pbfrow" import "$country" "$name.db" > "$name-resumed.txt" || came=different
+  "$pbfrow" export "$name.db" > "$name-export.txt"
   cmp -s unbroken-export.txt "$name-export.txt" || came=different
   echo "$end $came" > "$name.verdict"
   rm -f "$name.db"* "$name-export.txt"
@@ -41,3 +43,4 @@ equal=$(cat killed-*.verdict | grep -c ' equal$')
 echo "  $broken of 50 imports were killed before their end"
 [ "$equal" = 50 ] && pass "50 killed imports, each completed by a second run" || fail "50 killed imports, each completed by a second run ($((50 - equal)) differ)"
 [ "$broken" -ge 10 ] && pass "at least 10 of them were killed in mid-import" || fail "at least 10 of them were killed in mid-import ($broken)"
+counted

@@ -1,4 +1,6 @@
+#!/usr/bin/env bash
 # The database and the exports, read by sqlite3 and osmium.
+. "$(dirname -- "${BASH_SOURCE[0]}")/begin.sh"
 country=$top/data/liechtenstein-raw.osm.pbf
 rm -f country.db
 "$pbfrow" import "$country" country.db > imported.txt
@@ -59,3 +61,4 @@ if has osmium; then
 else
   skip "the exported file under osmium" "osmium isn't installed"
 fi
+counted

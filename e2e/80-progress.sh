@@ -1,4 +1,7 @@
+#!/usr/bin/env bash
 # The progress line: on a terminal at standard error while a command works for more than a second, and nowhere else.
+# alone: what a terminal is sent depends on how long a command works
+. "$(dirname -- "${BASH_SOURCE[0]}")/begin.sh"
 country=$top/data/liechtenstein-raw.osm.pbf
 terminal=$top/e2e/on_terminal.py
 rate='[0-9]+\.[0-9] MB/s'
@@ -82,3 +85,4 @@ if has python3 && python3 -c 'import pty; pty.openpty()' 2>/dev/null; then
 else
   skip "the progress line" "python3 or a pseudo terminal isn't there"
 fi
+counted

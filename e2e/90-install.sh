@@ -1,4 +1,6 @@
+#!/usr/bin/env bash
 # make install, the program where it was installed, and the guide's one line from a compressed extract to a database.
+. "$(dirname -- "${BASH_SOURCE[0]}")/begin.sh"
 if has make install; then
   if make -s -C "$top" install PREFIX=/usr DESTDIR="$PWD/image" > made.txt 2>&1; then
     (cd image && find . -type f -printf '%m %P\n' | sort) > installed.txt
@@ -33,3 +35,4 @@ if has osmium; then
 else
   skip "a compressed extract through a pipe" "osmium isn't installed"
 fi
+counted

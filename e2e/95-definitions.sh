@@ -1,4 +1,6 @@
+#!/usr/bin/env bash
 # The definitions: each that a clause of a public function cites is explained in docs/DEFINITIONS.md.
+. "$(dirname -- "${BASH_SOURCE[0]}")/begin.sh"
 if has python3; then
   if "$top/docs/definitions_check" > missing.txt; then
     pass "each cited definition has a row"
@@ -9,3 +11,4 @@ if has python3; then
 else
   skip "each cited definition has a row" "python3 isn't installed"
 fi
+counted

@@ -6,6 +6,12 @@ pass() { passed=$((passed + 1)); echo "ok      $1"; }
 fail() { failed=$((failed + 1)); echo "FAILED  $1"; }
 skip() { echo "skipped $1: $2"; }
 
+# counted: the counts, as the last line, and whether none failed.
+counted() {
+  echo "$passed passed, $failed failed"
+  [ "$failed" = 0 ]
+}
+
 # expect NAME STATUS TEXT WORD..: the program with these words ends with this status and writes exactly this text.
 # Its standard input is this shell's.
 expect() {
