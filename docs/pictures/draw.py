@@ -167,6 +167,7 @@ SAYS = {
     "osm_store": "blobs in a database",
     "osm_trees": "reads below SQL",
     "osm_import": "imports, gaps, exports",
+    "osm_parts": "parts of one file",
     "osm_verify": "a database against a file",
     "osm_vectors": "tests of reading and writing",
     "store_vectors": "tests of store and import",

@@ -30,6 +30,4 @@ pub mod StreamLemmas
 pub mod StreamFiles
 pub mod CopyLemmas
 pub mod MergeLemmas
-pub mod PartsLemmas
-pub mod InTurn
 pub mod TooLargeLemmas

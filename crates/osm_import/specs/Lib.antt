@@ -24,5 +24,4 @@ pub mod FrameReads
 pub mod Copies
 pub mod CopyFaults
 pub mod Merges
-pub mod Parts
 pub mod TooLarge

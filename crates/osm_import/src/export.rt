@@ -6,7 +6,8 @@ mod lines;
 mod pbf;
 mod refusal;
 
+pub use blobs::{BlobStep, write_blobs};
 pub use fault::ExportFault;
-pub use lines::export_lines;
-pub use pbf::export_pbf;
-pub use refusal::greatest_end;
+pub use lines::{Lines, export_lines};
+pub use pbf::{Blocks, export_pbf, write_header};
+pub use refusal::{greatest_end, refused};

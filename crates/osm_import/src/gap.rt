@@ -18,7 +18,13 @@ pub(crate) fn gap_before(end: u64, next: u64, size: u64) -> Option<(u64, u64)>
     if end < to { Some((end, to)) } else { None }
 }
 
-fn gaps_between(alloc: Global, extents: &[Extent], size: u64) -> Result<Vec<(u64, u64)>, AllocError>
+/// The ranges within `0..size` between extents, which ascend, each as its first offset and the offset behind its last byte,
+/// in bytes.
+pub fn gaps_between(
+    alloc: Global,
+    extents: &[Extent],
+    size: u64,
+) -> Result<Vec<(u64, u64)>, AllocError>
     ensures { IfOk result (λ gaps. gaps.items ≡ ranges_between 0 size extents.now) }
 {
     let mut gaps = Vec::new(alloc);

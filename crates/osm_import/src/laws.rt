@@ -21,7 +21,6 @@ ghost use Rattle.osm_import.specs.declared.export.fault.ExportFault.{ExportFault
 ghost use Rattle.osm_import.specs.FrameReads.{Reading, GivesFrame, Halts};
 ghost use Rattle.osm_import.specs.Histories.{HistoriesRestart};
 ghost use Rattle.osm_import.specs.Merges.{UnionsAreImports, UnionsAreUnrefused, UnionsStay, UnionsAreTakenAgain, PartsAreOneImport};
-ghost use Rattle.osm_import.specs.Parts.{PartsJoin, ExtentsJoin, LinesJoin, FramesJoin, GapsJoin, ExportsJoin, ImportsAreParts};
 ghost use Rattle.osm_import.specs.declared.stream.fault.Stop.TheVariants.{Frame};
 ghost use Rattle.osm_import.specs.declared.stream.fault.StreamFault.{StreamFault};
 
@@ -83,18 +82,6 @@ pub fn union_is_one_import()
 /// The parts of a file, each imported into a store of its own and then united, are what one import of the file comes to.
 pub fn parts_are_one_import()
     ensures { PartsAreOneImport }
-{}
-
-/// Where a map's parts follow one another, what is read of them in turn is what is read of the map: its entries, its
-/// extents and so its gaps, its lines, and its frames behind one header.
-pub fn parts_are_read_in_turn()
-    ensures entries { PartsJoin }
-    ensures extents { ExtentsJoin }
-    ensures lines { LinesJoin }
-    ensures frames { FramesJoin }
-    ensures gaps { GapsJoin }
-    ensures exports { ExportsJoin }
-    ensures imports { ImportsAreParts }
 {}
 
 /// An export as PBF answers `BlockTooLarge` exactly where cutting a held blob comes to an element whose own block has

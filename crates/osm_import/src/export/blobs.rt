@@ -17,7 +17,7 @@ use osm_value::{Element, Sink};
 use std::alloc::Global;
 
 /// What an export writes of a blob.
-pub(super) trait BlobStep<S: Sink> {
+pub trait BlobStep<S: Sink> {
     /// What the step does, at a blob with these elements, to what was written before.
     ghost writes: { Writing };
 
@@ -72,8 +72,9 @@ fn write_blob<K: Reader, S: Sink, W: BlobStep<S>>(
     step.write(alloc, &elements, out)
 }
 
-/// Takes the step at each of the blobs at these extents, in their order, up to the first fault.
-pub(super) fn write_blobs<K: Reader, S: Sink, W: BlobStep<S>>(
+/// Takes the step at each of the blobs at these extents, in their order, up to the first fault. Where they are all that a
+/// store holds, it is taken once at each held blob, by offset. What is held stays.
+pub fn write_blobs<K: Reader, S: Sink, W: BlobStep<S>>(
     alloc: Global,
     keeper: &mut K,
     extents: &[Extent],

@@ -28,9 +28,9 @@ fn write_lines<S: Sink>(elements: &[Element], out: &mut S) -> Result<(), LineFau
     Ok(())
 }
 
-/// Writes each blob as the lines of its elements.
+/// Writes each blob as the lines of its elements: a line for each, in order.
 #[derive(Clone, Copy)]
-struct Lines;
+pub struct Lines;
 
 impl<S: Sink> BlobStep<S> for Lines {
     ghost writes = { WritesLines };

@@ -44,8 +44,9 @@ fn write_payload<S: Sink>(
     Ok(())
 }
 
-/// Writes the header frame.
-fn write_header<S: Sink>(alloc: Global, history: bool, out: &mut S) -> Result<(), ExportFault>
+/// Writes the frame of a header, with the feature `HistoricalInformation` where there is history. A front of it went out
+/// after `WriteFailed`, and nothing after `Store`, which is `Memory`.
+pub fn write_header<S: Sink>(alloc: Global, history: bool, out: &mut S) -> Result<(), ExportFault>
     ensures wrote { WritesBlob (S.written out.old) (header_frame history) (S.written out.new) result }
     ensures cause { WriteHasCause (S.has_failed out.new) result }
 {
@@ -76,9 +77,9 @@ fn write_blocks<S: Sink>(
     }
 }
 
-/// Writes each blob as the frames of its elements' blocks.
+/// Writes each blob as the frames of the blocks that `BlobCutter` gives for its elements.
 #[derive(Clone, Copy)]
-struct Blocks;
+pub struct Blocks;
 
 impl<S: Sink> BlobStep<S> for Blocks {
     ghost writes = { WritesBlocks };

@@ -33,8 +33,9 @@ pub fn greatest_end(extents: &[Extent]) -> u64
     end
 }
 
-/// Why these extents don't tile the size, or else the greatest end.
-pub(super) fn refused(extents: &[Extent], size: Option<u64>) -> Option<ExportFault>
+/// Why extents, which ascend, don't tile the size in bytes, which is their greatest end where none is given: `Incomplete`
+/// with the first gap, or (0, 0) where there are none and the size is 0; else `PastEnd`.
+pub fn refused(extents: &[Extent], size: Option<u64>) -> Option<ExportFault>
     ensures { MatchOption result (AreTiling extents.now (size_of size extents.now)) (IsRefusalOf extents.now (size_of size extents.now)) }
 {
     let greatest = greatest_end(extents);

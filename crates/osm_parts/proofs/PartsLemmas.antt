@@ -6,14 +6,12 @@ use Rattle.std.specs.FinMap.{get, entries, find, is_sorted, get-entries, entries
 use Rattle.std.specs.FinMap.Entries.{same_entries, below_all}
 use Rattle.std.proofs.lemmas.Bool.Decides.{eqb_tells}
 use Rattle.std.proofs.lemmas.List.{map-append}
-use Rattle.std.specs.Io.KnownBytes.{Appends}
-use Rattle.std.proofs.KnownBytes.{Appends-trans, Appends-nil}
 use Rattle.osm_store.specs.Held.{Blob, HeldMap, IsApart}
 use Rattle.osm_store.specs.Keeping.{extents_of, extent_of}
-use Rattle.osm_import.specs.Exports.{Known, lines_of, blob_lines, map_lines}
+use Rattle.osm_import.specs.Exports.{lines_of, blob_lines, map_lines}
 use Rattle.osm_import.specs.Gaps.{AreGaps, ranges_between}
 use Rattle.osm_import.specs.Pbf.{data_frames, AreFramesOf}
-use Rattle.osm_import.specs.Parts.{LiesIn, FollowFrom, IsInPart, AreParts, AreApart, entries_in, extents_in, lines_in, AreFramesIn, ExportsInTurn, PartsJoin, ExtentsJoin, LinesJoin, FramesJoin, GapsJoin, ExportsJoin, ImportsAreParts}
+use Rattle.osm_parts.specs.Parts.{LiesIn, FollowFrom, IsInPart, AreParts, AreApart, entries_in, extents_in, lines_in, AreFramesIn, PartsJoin, ExtentsJoin, LinesJoin, FramesJoin, GapsJoin, ImportsAreParts}
 use Rattle.std.specs.Prelude.{◌↔◌}
 use Rattle.osm_import.specs.Deliveries.{DeliveryValue}
 use Rattle.osm_import.specs.Runs.{IsGoodIn}
@@ -22,7 +20,6 @@ use Rattle.osm_import.proofs.MergeLemmas.{good_both}
 use Rattle.osm_import.proofs.Touching.{find-cons, find-head, find-tail, sorted-tail}
 use Rattle.osm_import.proofs.Delivering.{true-of}
 use Rattle.osm_import.proofs.GapsLemmas.{gaps-between}
-use Rattle.osm_import.proofs.ExportLemmas.{tiles-held}
 
 -- ---- ascending entries
 
@@ -96,14 +93,14 @@ found-second at (e ∷ es) fs none = elim (eqb_tells at e.0) [
 ]
 
 -- what is in a part lies behind the start, and has bytes
-in_part-lies : (from : ℕ) (parts : List HeldMap) (off : ℕ) (blob : Blob) → FollowFrom from parts → IsInPart parts off blob → (from ≤ off) × (off < blob.fin)
+pub in_part-lies : (from : ℕ) (parts : List HeldMap) (off : ℕ) (blob : Blob) → FollowFrom from parts → IsInPart parts off blob → (from ≤ off) × (off < blob.fin)
 in_part-lies from [] off blob follow held = absurd held
 in_part-lies from (part ∷ parts) off blob (to, le, lies, rest) held = elim held [
   | inl here ↦ (let it = lies off blob here in (it.0, it.1))
   | inr later ↦ (let it = in_part-lies to parts off blob rest later in let h : to ≤ off = it.0 in (omega arith, it.1))
 ]
 
-in_part-found : (from : ℕ) (parts : List HeldMap) (off : ℕ) (blob : Blob) → FollowFrom from parts → IsInPart parts off blob → find nat_cmp off (entries_in parts) ≡ Some blob
+pub in_part-found : (from : ℕ) (parts : List HeldMap) (off : ℕ) (blob : Blob) → FollowFrom from parts → IsInPart parts off blob → find nat_cmp off (entries_in parts) ≡ Some blob
 in_part-found from [] off blob follow held = absurd held
 in_part-found from (part ∷ parts) off blob (to, le, lies, rest) held = elim held [
   | inl here ↦ found-first off blob (entries part) (entries_in parts) (sym (get-entries part off) ∙ here)
@@ -116,7 +113,7 @@ in_part-found from (part ∷ parts) off blob (to, le, lies, rest) held = elim he
         let it = lies off other is in let h1 : off < other.fin = it.1 in let h2 : other.fin ≤ to = it.2 in
         let h3 : to ≤ off = (in_part-lies to parts off blob rest later).0 in absurd (omega arith)
 
-found-in_part : (parts : List HeldMap) (off : ℕ) (blob : Blob) → find nat_cmp off (entries_in parts) ≡ Some blob → IsInPart parts off blob
+pub found-in_part : (parts : List HeldMap) (off : ℕ) (blob : Blob) → find nat_cmp off (entries_in parts) ≡ Some blob → IsInPart parts off blob
 found-in_part [] off blob found = absurd (cc)
 found-in_part (part ∷ parts) off blob found = at (λ later. found-in_part parts off blob later) (find nat_cmp off (entries part)) refl
   where
@@ -124,7 +121,7 @@ found-in_part (part ∷ parts) off blob found = at (λ later. found-in_part part
     at behind None is = inr (behind (sym (found-second off (entries part) (entries_in parts) is) ∙ found))
     at behind (Some other) is = inl (get-entries part off ∙ is ∙ sym (found-first off other (entries part) (entries_in parts) is) ∙ found)
 
-same-found : (a b : Option Blob) → ((blob : Blob) → a ≡ Some blob → b ≡ Some blob) → ((blob : Blob) → b ≡ Some blob → a ≡ Some blob) → a ≡ b
+pub same-found : (a b : Option Blob) → ((blob : Blob) → a ≡ Some blob → b ≡ Some blob) → ((blob : Blob) → b ≡ Some blob → a ≡ Some blob) → a ≡ b
 same-found None None to from = refl
 same-found (Some x) b to from = sym (to x refl)
 same-found None (Some y) to from = from y refl
@@ -170,7 +167,7 @@ pub frames-join : FramesJoin
 frames-join parts whole from bytes follow are frames =
     subst (λ (es : List (ℕ × Blob)). AreFramesOf es bytes) (sym (parts-join parts whole from follow are)) (frames-of-parts parts bytes frames)
 
--- ---- gaps and exports
+-- ---- gaps
 
 in_part-limit : (parts : List HeldMap) (off : ℕ) (blob : Blob) → AreApart parts → IsInPart parts off blob → blob.fin ≤ 2 ^ 62
 in_part-limit [] off blob apart held = absurd held
@@ -189,7 +186,7 @@ in_part-apart from (part ∷ parts) at next blob other (to, le, lies, rest) apar
   ]
 ]
 
-whole-apart : (from : ℕ) (parts : List HeldMap) (whole : HeldMap) → FollowFrom from parts → AreApart parts → AreParts parts whole → IsApart whole
+pub whole-apart : (from : ℕ) (parts : List HeldMap) (whole : HeldMap) → FollowFrom from parts → AreApart parts → AreParts parts whole → IsApart whole
 whole-apart from parts whole follow apart are = record {
   filled = λ at blob found. (in_part-lies from parts at blob follow (are.only at blob found)).1;
   limit = λ at blob found. in_part-limit parts at blob apart (are.only at blob found);
@@ -199,16 +196,6 @@ whole-apart from parts whole follow apart are = record {
 pub gaps-join : GapsJoin
 gaps-join parts whole from size follow apart are =
     subst (λ es. AreGaps whole size (ranges_between 0 size es)) (extents-join parts whole from follow are) (gaps-between whole size (whole-apart from parts whole follow apart are))
-
-turns : (parts : List HeldMap) (before after : Known) → ExportsInTurn parts before after → Appends before after (lines_in parts)
-turns [] before after same = subst (λ (k : Known). Appends before k []) (sym same) (Appends-nil before)
-turns (part ∷ parts) before after (size, middle, first, rest) = Appends-trans before middle after (map_lines part) (lines_in parts) first.0 (turns parts middle after rest)
-
-pub exports-join : ExportsJoin
-exports-join parts whole from size before after follow apart are tiling wrote = (
-  subst (λ (l : List ℕ). Appends before after l) (sym (lines-join parts whole from follow are)) (turns parts before after wrote),
-  (λ _. tiles-held whole (extents_in parts) (Some size) (whole-apart from parts whole follow apart are) (sym (extents-join parts whole from follow are)) tiling),
-)
 
 -- ---- imports
 

@@ -1,10 +1,10 @@
--- One map in several parts that follow one another.
-use Rattle.std.specs.Prelude.{◌≡◌, ◌⊎◌, ℕ, ◌<◌, ◌≤◌, true, false, List, [], ◌∷◌, ◌++◌, Some, Ok}
+-- One map in several parts.
+use Rattle.std.specs.Prelude.{◌≡◌, ◌⊎◌, ℕ, ◌<◌, ◌≤◌, List, [], ◌∷◌, ◌++◌, Some}
 use Rattle.std.specs.FinMap.{get, entries}
 use Rattle.osm_store.specs.Held.{Blob, HeldMap, IsApart}
 use Rattle.osm_store.specs.Keeping.{extents_of}
 use Rattle.osm_store.specs.declared.keeper.Extent.{Extent}
-use Rattle.osm_import.specs.Exports.{Known, IsExport, AreTiling, map_lines, greatest_end}
+use Rattle.osm_import.specs.Exports.{map_lines}
 use Rattle.osm_import.specs.Gaps.{AreGaps, ranges_between}
 use Rattle.osm_import.specs.Pbf.{AreFramesOf}
 use Rattle.osm_import.specs.Deliveries.{DeliveryValue}
@@ -18,16 +18,6 @@ LiesIn from to held = (at : ℕ) (blob : Blob) → get held at ≡ Some blob →
 abbrev pub FollowFrom : ℕ → List HeldMap → Type 0
 FollowFrom from [] = Unit {0}
 FollowFrom from (part ∷ parts) = (to : ℕ) × (from ≤ to) × LiesIn from to part × FollowFrom to parts
-
--- extents begin there or behind, and reach to the end of the farthest of them
-abbrev pub Reaches : ℕ → List Extent → ℕ → Type 0
-Reaches from [] to = to ≡ from
-Reaches from (extent ∷ extents) to = (from ≤ extent.off) × (from ≤ to) × (greatest_end (extent ∷ extents) ≤ to)
-
--- the same up to an end
-abbrev pub FollowTo : ℕ → List HeldMap → ℕ → Type 0
-FollowTo from [] end = from ≡ end
-FollowTo from (part ∷ parts) end = (to : ℕ) × (from ≤ to) × LiesIn from to part × FollowTo to parts end
 
 -- one of the parts holds this blob there
 abbrev pub IsInPart : List HeldMap → ℕ → Blob → Type 0
@@ -62,11 +52,6 @@ abbrev pub AreApart : List HeldMap → Type 0
 AreApart [] = Unit {0}
 AreApart (part ∷ parts) = IsApart part × AreApart parts
 
--- each part was exported, whatever of it is there, and all of it was written, one part after the other
-abbrev pub ExportsInTurn : List HeldMap → Known → Known → Type 0
-ExportsInTurn [] before after = after ≡ before
-ExportsInTurn (part ∷ parts) before after = (size : ℕ) × (middle : Known) × IsExport part size true before middle (Ok tt) × ExportsInTurn parts middle after
-
 -- ---- the laws
 
 -- the entries of the whole are those of its parts in turn
@@ -88,12 +73,6 @@ FramesJoin = (parts : List HeldMap) (whole : HeldMap) (from : ℕ) (bytes : List
 -- the gaps of the whole are the ranges between the extents of its parts
 abbrev pub GapsJoin : Type 0
 GapsJoin = (parts : List HeldMap) (whole : HeldMap) (from size : ℕ) → FollowFrom from parts → AreApart parts → AreParts parts whole → AreGaps whole size (ranges_between 0 size (extents_in parts))
-
--- Where the extents of the parts tile the size, exports of the parts, one after the other, are an export of the whole
--- that isn't partial.
-abbrev pub ExportsJoin : Type 0
-ExportsJoin = (parts : List HeldMap) (whole : HeldMap) (from size : ℕ) (before after : Known) → FollowFrom from parts → AreApart parts → AreParts parts whole
-    → AreTiling (extents_in parts) size → ExportsInTurn parts before after → IsExport whole size false before after (Ok tt)
 
 -- what imports of the parts of a delivery list come to are the parts of what an import of all of it comes to
 abbrev pub ImportsAreParts : Type 0

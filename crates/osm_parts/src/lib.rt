@@ -1,0 +1,14 @@
+//! One map in several stores, of which one at a time is open: what they hold together, and exports of it.
+#![tactic(auto)]
+
+mod exporting;
+mod fault;
+pub mod laws;
+mod openings;
+mod placing;
+mod reading;
+
+pub use exporting::{export_parts_as_lines, export_parts_as_pbf};
+pub use fault::PartsFault;
+pub use openings::Openings;
+pub use reading::{Part, extents_of_parts, gaps_of_parts, read_parts};
