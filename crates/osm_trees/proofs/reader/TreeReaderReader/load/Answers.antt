@@ -1,9 +1,7 @@
-use Rattle.std.proofs.Common.{subst, sym}
+use Rattle.std.proofs.Common.{subst}
 use Rattle.std.proofs.lemmas.Result.{MatchResult-weaker}
-use Rattle.osm_store.specs.declared.schema.layout.Layout.TheVariants.{Tables}
-use Rattle.osm_trees.specs.Below.{HoldsBelow}
 use Rattle.osm_trees.specs.Reading.{Reading, JustReads}
-use Rattle.osm_trees.proofs.Answers.{just_reads, ok_of}
+use Rattle.osm_trees.proofs.Answers.{just_reads}
 use Rattle.osm_trees.proofs.reader.TreeReaderReader.load.Goals as goal
 
 pub returns-clause-reads : goal.returns-clause-reads
