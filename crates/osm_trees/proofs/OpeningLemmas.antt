@@ -1,0 +1,43 @@
+-- The list of a file's trees, as the store that is opened shows it.
+use Rattle.std.proofs.Common.{◌≡◌, ◌<◌, ℕ, zero, suc, pos, List, [], ◌∷◌, ◌++◌, length, refl, ap₂, sym}
+use Rattle.std.specs.Prelude.{Bool, true, false, slice_get, Option, Some, None, Result, Ok, Err, IsTrue, IfSome, IfOk, MatchBool}
+use Rattle.std.proofs.lemmas.Option.{slice_get_within, none-some, same_Some}
+use Rattle.sqlite_value.specs.declared.value.Value.TheVariants.{Int}
+use Rattle.sqlite_value.specs.Order.{Row}
+use Rattle.sqlite_trees.specs.declared.schema.Object.{Object}
+use Rattle.sqlite_trees.specs.declared.store.Shape.{Shape}
+use Rattle.sqlite_trees.specs.Objects.{catalog_tree, shape_code, object_row}
+use Rattle.sqlite_pages.specs.PageMap.{PageMap}
+use Rattle.sqlite_store.specs.declared.catalog.Wanted.{Wanted}
+use Rattle.sqlite_store.specs.Joined.{joined}
+use Rattle.sqlite_store.specs.Listing.{listed_from, all_trees, file_trees}
+use Rattle.osm_trees.specs.Catalog.{entry, ListsFirst}
+
+pub if_none : {X : Type 0} (P : X → Type 0) (o : Option X) → o ≡ None → IfSome o P
+if_none P None e = tt
+if_none P (Some x) e = absurd (none-some x (sym e))
+
+pub if_listed : {E : Type 0} (r : Result Bool E) (P Q R : Type 0) → IfOk r (λ done. MatchBool done P Q) → (P → R) → IfOk r (λ done. IsTrue done → R)
+if_listed (Ok true) P Q R h f = λ _. f h
+if_listed (Ok false) P Q R h f = λ e. absurd (cc)
+if_listed (Err e) P Q R h f = tt
+
+-- a row of the list, once its shape and its REAL columns are known
+joined_at : (rows : List Row) (layouts : List (Shape × ℕ)) (at : ℕ) (row : Row) (layout : Shape × ℕ) → slice_get rows at ≡ Some row → slice_get layouts at ≡ Some layout
+    → slice_get (joined rows layouts) at ≡ Some (row ++ Int (pos (shape_code layout.0)) ∷ Int (pos layout.1) ∷ [])
+joined_at [] layouts at row layout e f = absurd (none-some _ e)
+joined_at (r ∷ rows) [] at row layout e f = absurd (none-some _ f)
+joined_at (r ∷ rows) (l ∷ layouts) zero row layout e f =
+    ap₂ (λ (x : Row) (y : Shape × ℕ). Some (x ++ Int (pos (shape_code y.0)) ∷ Int (pos y.1) ∷ [])) (same_Some r row e) (same_Some l layout f)
+joined_at (r ∷ rows) (l ∷ layouts) (suc at) row layout e f = joined_at rows layouts at row layout e f
+
+pub lists_first : (objects : List Object) (rows : List Row) (layouts : List (Shape × ℕ)) → ListsFirst entry objects rows
+    → ((tree : ℕ) (o : Object) → tree < length rows → slice_get objects tree ≡ Some o → slice_get layouts tree ≡ Some (o.shape, o.reals))
+    → ListsFirst object_row objects (joined rows layouts)
+lists_first objects rows layouts first laid tree o is =
+    joined_at rows layouts tree (entry tree o) (o.shape, o.reals) (first tree o is) (laid tree o (slice_get_within rows tree (entry tree o) (first tree o is)) is)
+
+-- what a file reads as has the list of its trees
+pub listed_in : (size : ℕ) (schema : List Wanted) (pages : PageMap) → file_trees size schema pages catalog_tree ≡ listed_from 0 schema
+unfolding all_trees
+listed_in size schema pages = refl

@@ -1,0 +1,7 @@
+//! A store of blobs below SQL: the trees of a database file, and what they hold.
+#![tactic(auto)]
+
+mod catalog;
+mod opening;
+
+pub use opening::open_listed;
