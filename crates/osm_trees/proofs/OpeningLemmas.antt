@@ -1,5 +1,5 @@
 -- The list of a file's trees, as the store that is opened shows it.
-use Rattle.std.proofs.Common.{◌≡◌, ◌<◌, ℕ, zero, suc, pos, List, [], ◌∷◌, ◌++◌, length, refl, ap₂, sym}
+use Rattle.std.proofs.Common.{◌≡◌, ◌∙◌, ◌<◌, ◌+◌, ℕ, zero, suc, pos, List, [], ◌∷◌, ◌++◌, length, take, refl, ap, ap₂, sym, arith}
 use Rattle.std.specs.Prelude.{Bool, true, false, slice_get, Option, Some, None, Result, Ok, Err, IsTrue, IfSome, IfOk, MatchBool}
 use Rattle.std.proofs.lemmas.Option.{slice_get_within, none-some, same_Some}
 use Rattle.sqlite_value.specs.declared.value.Value.TheVariants.{Int}
@@ -11,7 +11,7 @@ use Rattle.sqlite_pages.specs.PageMap.{PageMap}
 use Rattle.sqlite_store.specs.declared.catalog.Wanted.{Wanted}
 use Rattle.sqlite_store.specs.Joined.{joined}
 use Rattle.sqlite_store.specs.Listing.{listed_from, all_trees, file_trees}
-use Rattle.osm_trees.specs.Catalog.{entry, ListsFirst}
+use Rattle.osm_trees.specs.Catalog.{entry, listings, ListsFirst}
 
 pub if_none : {X : Type 0} (P : X → Type 0) (o : Option X) → o ≡ None → IfSome o P
 if_none P None e = tt
@@ -41,3 +41,31 @@ lists_first objects rows layouts first laid tree o is =
 pub listed_in : (size : ℕ) (schema : List Wanted) (pages : PageMap) → file_trees size schema pages catalog_tree ≡ listed_from 0 schema
 unfolding all_trees
 listed_in size schema pages = refl
+
+pub same_rows : {x y : Row} {xs ys : List Row} → x ≡ y → xs ≡ ys → x ∷ xs ≡ y ∷ ys
+same_rows e f = ap₂ (λ (x : Row) (xs : List Row). x ∷ xs) e f
+
+length-listings : (tree : ℕ) (objects : List Object) → length (listings tree objects) ≡ length objects
+length-listings tree [] = refl
+length-listings tree (o ∷ objects) = ap suc (length-listings (tree + 1) objects)
+
+first_from : (tree : ℕ) (objects : List Object) (rows : List Row) → ((k : ℕ) (o : Object) → slice_get objects k ≡ Some o → slice_get rows k ≡ Some (object_row (tree + k) o))
+    → take (length objects) rows ≡ listings tree objects
+first_from tree [] rows lists = refl
+first_from tree (o ∷ objects) [] lists = absurd (none-some _ (lists 0 o refl))
+first_from tree (o ∷ objects) (r ∷ rows) lists =
+    let here : tree + 0 ≡ tree = omega arith in
+    same_rows (same_Some r (object_row tree o) (lists 0 o refl ∙ ap (λ n. Some (object_row n o)) here))
+    (first_from (tree + 1) objects rows (λ k p is. lists (suc k) p is ∙ ap (λ n. Some (object_row n p)) (next k)))
+  where
+    next : (k : ℕ) → tree + suc k ≡ tree + 1 + k
+    next k = omega arith
+
+-- what is listed first is the whole list of these rows
+pub first_listings : (objects : List Object) (rows expected : List Row) → listings 0 objects ≡ expected → ListsFirst object_row objects rows → take (length expected) rows ≡ expected
+first_listings objects rows expected is lists =
+    ap (λ n. take n rows) (sym (ap (λ (xs : List Row). length xs) is) ∙ length-listings 0 objects)
+    ∙ first_from 0 objects rows (λ k o at. lists k o at ∙ ap (λ n. Some (object_row n o)) (at_zero k)) ∙ is
+  where
+    at_zero : (k : ℕ) → k ≡ 0 + k
+    at_zero k = omega arith

@@ -3,5 +3,7 @@
 
 mod catalog;
 mod opening;
+mod tables;
+mod version;
 
-pub use opening::open_listed;
+pub use tables::open_tables;

@@ -91,7 +91,7 @@ fn list<D: Disk>(
 
 /// The trees of the files, if they are a sound database that lists these objects first, so that each has its place among
 /// them as its number. If they aren't, the files are closed.
-pub fn open_listed<D: Disk + Drop>(
+pub(crate) fn open_listed<D: Disk + Drop>(
     alloc: Global,
     mut files: Files<D>,
     options: Options,
