@@ -165,6 +165,7 @@ SAYS = {
     "osm_block": "reading blocks",
     "osm_write": "writing blocks",
     "osm_store": "blobs in a database",
+    "osm_trees": "reads below SQL",
     "osm_import": "imports, gaps, exports",
     "osm_verify": "a database against a file",
     "osm_vectors": "tests of reading and writing",

@@ -12,6 +12,7 @@ mod tables;
 mod values;
 
 pub(crate) use answer::ask;
+pub use extents::are_apart;
 pub(crate) use extents::{all_extents, touched_extents};
 pub use found::Found;
 pub(crate) use held::{any_flag_held, find_held, load_held};

@@ -14,3 +14,4 @@ mod steps;
 mod stops;
 mod stores;
 mod tables;
+mod trees;

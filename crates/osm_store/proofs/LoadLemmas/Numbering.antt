@@ -42,8 +42,12 @@ module _ (row : Placed → Row) (shows : (p : Placed) → column (row p) 1 ≡ I
   positions off n (e ∷ es) zero low = shows _ ∙ ap (λ m. Int (pos m)) (first n)
   positions off n (e ∷ es) (suc k) low = positions off (n + 1) es k (omega (arith, low)) ∙ ap (λ m. Int (pos m)) (next n k)
 
+  -- the rows of one blob
+  pub placed_numbered : (off : ℕ) (es : List Element) (rows : List Row) → rows ≡ map row (placed off 0 es) → AreNumbered 1 rows
+  placed_numbered off es rows is = subst (AreNumbered 1) (sym is) (λ k low. positions off 0 es k low ∙ ap (λ m. Int (pos m)) (from_0 k))
+
   -- the rows of what is held at an offset
   pub held_numbered : (held : HeldMap) (off : ℕ) (rows : List Row) → rows ≡ map row (filter (is_in off) (placed_in held)) → AreNumbered 1 rows
   held_numbered held off rows is =
       let it = counted_at held off in
-      subst (AreNumbered 1) (sym (is ∙ ap (map row) it.1)) (λ k low. positions off 0 it.0 k low ∙ ap (λ m. Int (pos m)) (from_0 k))
+      placed_numbered off it.0 rows (is ∙ ap (map row) it.1)

@@ -60,7 +60,7 @@ fn read_extents(alloc: Global, rows: &[Row]) -> Result<Vec<Extent>, StoreFault>
 }
 
 /// Whether each extent ends where the next one begins, or before.
-fn are_apart(extents: &[Extent]) -> bool
+pub fn are_apart(extents: &[Extent]) -> bool
     requires { All IsRange extents.now }
     ensures { IsTrue result ↔ (AscendApart extents.now) }
 {

@@ -1,11 +1,15 @@
 //! The rows of the elements of one kind and id.
 
-ghost use Rattle.std.specs.Prelude.{◌≡◌, List, IfOk};
+ghost use Rattle.std.specs.Prelude.{◌≡◌, List, IfOk, MatchResult};
 ghost use Rattle.osm_store.specs.Load.Finding.{AreMatches};
+ghost use Rattle.osm_store.specs.Load.TableAnswers.{AreRowsOf};
 ghost use Rattle.osm_store.specs.Rows.{Placed};
 
+use crate::fault::StoreFault;
 use crate::load::rows::ElementRows;
+use crate::load::tables::TableRows;
 use osm_value::Element;
+use sqlite::Row;
 use std::alloc::{AllocError, Global};
 
 /// The rows of the elements of one kind and id.
@@ -15,6 +19,30 @@ pub struct Found {
 }
 
 impl Found {
+    /// The rows of these elements, read from the tables `element`, `tag` and `link`, each by offset, position and number,
+    /// and without their rowids. A fault is `Memory`, or `NotThisStore(None)` for rows that are those of no elements.
+    pub fn from_tables(
+        alloc: Global,
+        elements: Vec<Row>,
+        tags: Vec<Row>,
+        links: Vec<Row>,
+    ) -> Result<Found, StoreFault>
+        ensures { (matches : List Placed) → AreRowsOf (record { elements = elements; tags = tags; links = links }) matches
+            → MatchResult result (λ found. AreMatches found matches) (λ fault. fault ≡ StoreFault.Memory) }
+    {
+        let rows = TableRows {
+            elements,
+            tags,
+            links,
+        };
+        match rows.check(alloc) {
+            Ok(()) => Ok(Found {
+                rows: ElementRows::Tables(rows),
+            }),
+            Err(fault) => Err(fault),
+        }
+    }
+
     /// The elements, each after the offset of its blob and its position there, ascending by both.
     /// Their texts lie in the rows. An error where memory is refused.
     pub fn matches(&self, alloc: Global) -> Result<Vec<(u64, u64, Element<'_>)>, AllocError>

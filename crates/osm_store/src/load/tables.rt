@@ -22,7 +22,6 @@ use crate::fault::StoreFault;
 use crate::load::found::Found;
 use crate::load::loaded::Loaded;
 use crate::load::rows::ElementRows;
-use crate::load::values::are_numbered;
 use crate::schema::Layout;
 pub(crate) use flags::any_flag_in_tables;
 use osm_value::MemberKind;
@@ -55,16 +54,12 @@ pub(crate) fn load_tables<S: Alter>(
             rows: ElementRows::Tables(rows),
         });
     }
-    let rows = load_table_rows(connection, off)?;
-    if !are_numbered(&rows.elements, 1) {
-        return Err(StoreFault::NotThisStore(None));
-    }
-    match rows.check(alloc) {
-        Ok(()) => Ok(Loaded {
-            rows: ElementRows::Tables(rows),
-        }),
-        Err(fault) => Err(fault),
-    }
+    let TableRows {
+        elements,
+        tags,
+        links,
+    } = load_table_rows(connection, off)?;
+    Loaded::from_tables(alloc, elements, tags, links)
 }
 
 /// The rows of all held elements of this kind and id, by offset and position.
@@ -78,11 +73,10 @@ pub(crate) fn find_tables<S: Alter>(
         → MatchResult result (λ found. AreMatches found (filter (is_of kind id) (placed_in held)) × IsTrue (state S.Store connection.new).is_open) (λ fault. ¬ (IsForeign fault)) }
     ensures asks { JustAsks (state S.Store connection.old) (state S.Store connection.new) }
 {
-    let rows = find_table_rows(alloc, connection, kind, id)?;
-    match rows.check(alloc) {
-        Ok(()) => Ok(Found {
-            rows: ElementRows::Tables(rows),
-        }),
-        Err(fault) => Err(fault),
-    }
+    let TableRows {
+        elements,
+        tags,
+        links,
+    } = find_table_rows(alloc, connection, kind, id)?;
+    Found::from_tables(alloc, elements, tags, links)
 }

@@ -30,7 +30,7 @@ const _: () = prove!(HISTORIC_HEADER.len() + VISIBLE_NODE.len() == 118);
 /// The blocks of the ways 7, which was deleted, and 7 and 8, of which the last was.
 const DELETED_WAY: &[u8] = b"\x0A\x02\x0A\x00\x12\x08\x1A\x06\x08\x07\x22\x02\x30\x00";
 
-const SECOND_WAY_DELETED: &[u8] =
+pub(crate) const SECOND_WAY_DELETED: &[u8] =
     b"\x0A\x02\x0A\x00\x12\x0C\x1A\x02\x08\x07\x1A\x06\x08\x08\x22\x02\x30\x00";
 
 /// The block of relation 3, which is visible.
@@ -58,7 +58,7 @@ const LAST: Extent = Extent {
     n: 1,
 };
 
-const TWO_LAST: Extent = Extent { n: 2, ..LAST };
+pub(crate) const TWO_LAST: Extent = Extent { n: 2, ..LAST };
 
 const STORE_VISIBLE_NODE: Step = Step::Deliver(47, VISIBLE_NODE, Answer::Stored(1));
 

@@ -1,0 +1,53 @@
+-- Results that are said clause by clause, and reads as the reader promises them.
+use Rattle.std.proofs.Common.{◌≡◌, false, Result, Ok, Err, sym, subst, List, [], ◌∷◌, map, ap}
+use Rattle.std.specs.Prelude.{MatchResult, IfOk, IfErr, OnOk}
+use Rattle.sqlite_trees.specs.declared.store.Store.{Ghosts}
+use Rattle.sqlite_trees.specs.View.{IsClean}
+use Rattle.osm_store.specs.declared.fault.StoreFault.{StoreFault}
+use Rattle.osm_store.specs.declared.schema.layout.Layout.TheVariants.{Tables}
+use Rattle.osm_store.specs.Held.{HeldMap}
+use Rattle.osm_store.specs.Keeping.{IsForeign, failures_after}
+use Rattle.osm_trees.specs.Below.{HoldsBelow, Looks}
+use Rattle.osm_trees.specs.Reading.{Reading, JustReads}
+use Rattle.osm_trees.proofs.Looking.{clean_before, up_before, same_commit, holds_after}
+
+pub joined : {T E : Type 0} (r : Result T E) (P : T → Type 0) (Q : Type 0) (F : E → Type 0) → IfOk r P → OnOk r Q → IfErr r F → MatchResult r (λ x. P x × Q) F
+joined (Ok x) P Q F p q f = (p, q)
+joined (Err e) P Q F p q f = f
+
+pub ok_of : {T E : Type 0} (P : T → Type 0) (Q : Type 0) (F : E → Type 0) (r : Result T E) → MatchResult r (λ x. P x × Q) F → IfOk r P
+ok_of P Q F (Ok x) h = h.0
+ok_of P Q F (Err e) h = tt
+
+pub if_ok : {T E : Type 0} (P : T → Type 0) (Q : E → Type 0) (r : Result T E) → MatchResult r P Q → IfOk r P
+if_ok P Q (Ok x) h = h
+if_ok P Q (Err e) h = tt
+
+module _ {S T : Type 0} (g : Ghosts S) (old new : Reading S) (looks : Looks g old.store new.store) where
+  -- what each call of the reader says of its answer and of the trees
+  abbrev pub Answers : Result T StoreFault → Type 0
+  Answers r = IsClean (g.view new.store) → (held : HeldMap) → HoldsBelow Tables (g.view old.store) held → MatchResult r (λ _. (g.view new.store).is_broken ≡ false) (λ fault. ¬ (IsForeign fault))
+
+  pub just_reads : (r : Result T StoreFault) → Answers r → new.failures ≡ failures_after r old.failures → JustReads g old r new
+  just_reads (Ok x) answers counted = record {
+    honest = clean_before g old.store new.store looks;
+    open_if = λ up. (clean_before g old.store new.store looks up.0, up_before (g.view old.store) (g.view new.store) (looks.reads up.0 up.1) up.1);
+    ok = λ clean held holds. let up = answers clean held holds in holds_after Tables (g.view old.store) (g.view new.store) held (looks.reads clean up) clean up holds;
+    err = tt;
+    same = λ clean up. same_commit (g.view old.store) (g.view new.store) (looks.reads clean up.1);
+    crash = λ clean held may. record { kept = may.kept; trees = may.trees; left = looks.quiet.outcomes may.trees may.left; tables = may.tables };
+    whole = λ clean all db left. all db (looks.quiet.outcomes db left);
+    own = λ held holds clean. tt;
+    counted = counted;
+  }
+  just_reads (Err fault) answers counted = record {
+    honest = clean_before g old.store new.store looks;
+    open_if = λ up. (clean_before g old.store new.store looks up.0, up_before (g.view old.store) (g.view new.store) (looks.reads up.0 up.1) up.1);
+    ok = tt;
+    err = λ clean up held holds. holds_after Tables (g.view old.store) (g.view new.store) held (looks.reads clean up.1) clean up.1 holds;
+    same = λ clean up. same_commit (g.view old.store) (g.view new.store) (looks.reads clean up.1);
+    crash = λ clean held may. record { kept = may.kept; trees = may.trees; left = looks.quiet.outcomes may.trees may.left; tables = may.tables };
+    whole = λ clean all db left. all db (looks.quiet.outcomes db left);
+    own = λ held holds clean. answers clean held holds;
+    counted = counted;
+  }

@@ -1,0 +1,19 @@
+-- What a connection holds, its store's trees hold.
+use Rattle.std.proofs.Common.{◌≡◌, false, ap}
+use Rattle.sqlite_trees.specs.declared.store.Store.{Ghosts}
+use Rattle.sqlite.specs.Effect.{Database}
+use Rattle.sqlite.specs.Held.{Held, state}
+use Rattle.osm_store.specs.declared.schema.layout.Layout.{Layout}
+use Rattle.osm_store.specs.Held.{HeldMap}
+use Rattle.osm_store.specs.LayoutHolding.{Holds}
+use Rattle.osm_trees.specs.Below.{HoldsBelow}
+
+pub holds_below : {S : Type 0} (g : Ghosts S) (h : Held S) (layout : Layout) (held : HeldMap) → Holds layout (state g h) held → (g.view h.store).is_broken ≡ false → HoldsBelow layout (g.view h.store) held
+holds_below g h layout held holds unbroken = record {
+  clean = holds.clean;
+  unbroken = unbroken;
+  settled = ap (λ (db : Database). db.trees) holds.settled;
+  kept = holds.kept;
+  tables = holds.tables;
+  only = holds.only;
+}

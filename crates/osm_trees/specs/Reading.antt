@@ -1,0 +1,46 @@
+-- What callers see of a reader of trees, and what a crash leaves of one that can go on.
+use Rattle.std.specs.Prelude.{◌≡◌, ◌⊎◌, ℕ, Bool, true, false, IsTrue, refl, Result}
+use Rattle.std.proofs.Common.{sym, subst, inl, inr, ◌∙◌}
+use Rattle.std.specs.Coded.{Coded, code_by, coded×, coded_ℕ}
+use Rattle.sqlite_trees.specs.declared.store.Store.{Ghosts}
+use Rattle.sqlite_trees.specs.Tree.{Trees}
+use Rattle.sqlite_trees.specs.View.{IsClean}
+use Rattle.osm_store.specs.declared.fault.StoreFault.{StoreFault}
+use Rattle.osm_store.specs.declared.schema.layout.Layout.TheVariants.{Tables}
+use Rattle.osm_store.specs.Held.{HeldMap}
+use Rattle.osm_store.specs.Keeping.{OnlyReads}
+use Rattle.osm_store.specs.LayoutHolding.{TablesHold}
+use Rattle.osm_trees.specs.Below.{HoldsBelow, IsUsable, MayLeave, LeavesAMap, SameTrees}
+
+pub record Reading (S : Type 0) : Type 0 where
+  pub store : S
+  -- how many calls answered a fault
+  pub failures : ℕ
+
+abbrev pub reading_code : {S : Type 0} → Coded S → Coded (Reading S)
+reading_code {S} code = code_by (S × ℕ) (coded× code coded_ℕ) (λ r. (r.store, r.failures)) (λ p. record { store = p.0; failures = p.1 }) (λ _. refl)
+
+-- the call has left the trees, and has counted its failure
+abbrev pub JustReads : {S T : Type 0} → Ghosts S → Reading S → Result T StoreFault → Reading S → Type 0
+JustReads g old result new = OnlyReads (λ r held. HoldsBelow Tables (g.view r.store) held) (λ r left. MayLeave g r.store left) (λ r. LeavesAMap g r.store) (λ r s. SameTrees (g.view r.store) (g.view s.store))
+    (λ r. IsClean (g.view r.store)) (λ r. IsUsable (g.view r.store)) (λ r. r.failures) old result new
+
+open_of : (is_open is_broken : Bool) → (is_open ≡ false → IsTrue is_broken) → is_broken ≡ false → IsTrue is_open
+open_of true is_broken shuts up = refl
+open_of false is_broken shuts up = sym up ∙ shuts refl
+
+module _ {S : Type 0} (g : Ghosts S) (store : S) (held : HeldMap) (holds : HoldsBelow Tables (g.view store) held)
+    (settles : (db : Trees) → IsTrue (g.view store).is_open → g.recovers store db → db ≡ (g.view store).committed) (shuts : (g.view store).is_open ≡ false → IsTrue (g.view store).is_broken) where
+  left_is : (db : Trees) → g.recovers store db → db ≡ (g.view store).trees
+  left_is db left = settles db (open_of _ _ shuts holds.unbroken) left ∙ sym holds.settled
+
+  pub leaves_held_alone : (left : HeldMap) → MayLeave g store left → left ≡ held
+  leaves_held_alone left may = holds.only left may.kept (subst (TablesHold Tables left) (left_is may.trees may.left) may.tables)
+
+  pub leaves_held : LeavesAMap g store
+  leaves_held db left = (held, holds.kept, subst (TablesHold Tables held) (sym (left_is db left)) holds.tables)
+
+-- the store can go on or can't
+pub usable_or_not : (is_broken : Bool) {IsHonest : Type 0} → IsHonest → (IsHonest × (is_broken ≡ false)) ⊎ ¬ (IsHonest × (is_broken ≡ false))
+usable_or_not false honest = inl (honest, refl)
+usable_or_not true honest = inr (λ both. let is : true ≡ false = both.1 in cc)

@@ -1,0 +1,54 @@
+//! What the rows of a blob, or of the elements of one kind and id, stand for.
+
+ghost use Rattle.std.specs.Prelude.{◌≡◌, Some, false, filter, IfOk, MatchResult};
+ghost use Rattle.std.specs.FinMap as map;
+ghost use Rattle.sqlite_trees.specs.View.{IsClean};
+ghost use Rattle.osm_store.specs.declared.schema.layout.Layout.TheVariants.{Tables};
+ghost use Rattle.osm_store.specs.Held.{Blob, HeldMap};
+ghost use Rattle.osm_store.specs.Keeping.{IsForeign};
+ghost use Rattle.osm_store.specs.Load.Finding.{AreMatches};
+ghost use Rattle.osm_store.specs.Load.Loading.{HasRowsOf, IsInPlace};
+ghost use Rattle.osm_store.specs.Rows.{is_of, placed_in};
+ghost use Rattle.osm_trees.specs.Below.{HoldsBelow, Looks};
+
+use crate::parts::blob_rows;
+use crate::search::found_rows;
+use osm_store::{Found, Loaded, StoreFault};
+use osm_value::MemberKind;
+use pbf_frame::MAX_OFFSET;
+use sqlite_trees::store::Store;
+use std::alloc::Global;
+
+/// The rows of the blob at this offset, at the positions 0, 1, 2, ..; none where no blob is held there.
+pub(crate) fn load_blob<S: Store>(
+    alloc: Global,
+    store: &mut S,
+    off: u64,
+) -> Result<Loaded, StoreFault>
+    ensures held { IsClean (S.Store.view store.new) → (held : HeldMap) → HoldsBelow Tables (S.Store.view store.old) held
+        → MatchResult result (λ loaded. ((blob : Blob) → map.get held off ≡ Some blob → HasRowsOf loaded blob.elements) × ((S.Store.view store.new).is_broken ≡ false)) (λ fault. ¬ (IsForeign fault)) }
+    ensures positions { IfOk result IsInPlace }
+    ensures looks { Looks S.Store store.old store.new }
+{
+    // A held blob has bytes, and ends at `MAX_OFFSET` at most.
+    if off >= MAX_OFFSET {
+        return Loaded::from_tables(alloc, Vec::new(alloc), Vec::new(alloc), Vec::new(alloc));
+    }
+    let (elements, tags, links) = blob_rows(alloc, store, off)?;
+    Loaded::from_tables(alloc, elements, tags, links)
+}
+
+/// The rows of all held elements of this kind and id, by offset and position.
+pub(crate) fn find_elements<S: Store>(
+    alloc: Global,
+    store: &mut S,
+    kind: MemberKind,
+    id: i64,
+) -> Result<Found, StoreFault>
+    ensures held { IsClean (S.Store.view store.new) → (held : HeldMap) → HoldsBelow Tables (S.Store.view store.old) held
+        → MatchResult result (λ found. AreMatches found (filter (is_of kind id) (placed_in held)) × ((S.Store.view store.new).is_broken ≡ false)) (λ fault. ¬ (IsForeign fault)) }
+    ensures looks { Looks S.Store store.old store.new }
+{
+    let (elements, tags, links) = found_rows(alloc, store, kind, id)?;
+    Found::from_tables(alloc, elements, tags, links)
+}

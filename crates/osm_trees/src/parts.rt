@@ -1,0 +1,98 @@
+//! The rows of tags and links, and those of a whole blob.
+
+ghost use Rattle.std.specs.Prelude.{◌≡◌, ◌<◌, ◌^◌, [], ◌∷◌, pos, false, map, filter, IfOk, IfErr, OnOk, MatchResult};
+ghost use Rattle.sqlite_value.specs.declared.value.Value.TheVariants.{Int};
+ghost use Rattle.sqlite_value.specs.Order.{column};
+ghost use Rattle.sqlite_trees.specs.View.{IsClean};
+ghost use Rattle.osm_store.specs.declared.schema.layout.Layout.TheVariants.{Tables};
+ghost use Rattle.osm_store.specs.Held.{HeldMap};
+ghost use Rattle.osm_store.specs.Keeping.{IsForeign};
+ghost use Rattle.osm_store.specs.Load.TableAnswers.{AreRowsOf};
+ghost use Rattle.osm_store.specs.Load.TableParts.{IsAlone};
+ghost use Rattle.osm_store.specs.Rows.{Placed, is_in, placed_in};
+ghost use Rattle.osm_store.specs.TableRows.{element_row, tags_at, tag_row, links_at, link_row};
+ghost use Rattle.osm_trees.specs.Below.{HoldsBelow, Looks, Finds};
+
+use crate::keyed::rows_with;
+use osm_store::StoreFault;
+use sqlite::Row;
+use sqlite_trees::store::Store;
+use sqlite_value::row;
+use sqlite_value::value::ValueRef;
+use std::alloc::{AllocError, Global};
+
+/// The trees of the tables of elements, of tags and of links, and those of the indexes of their primary keys.
+pub(crate) const ELEMENTS: u32 = 2;
+const ELEMENT_KEY: u32 = 3;
+const TAGS: u32 = 4;
+const TAG_KEY: u32 = 5;
+const LINKS: u32 = 6;
+const LINK_KEY: u32 = 7;
+
+/// The key of all rows at an offset.
+fn offset_key(alloc: Global, off: u64) -> Result<row::Row, AllocError>
+    requires { off < 2 ^ 63 }
+    ensures { IfOk result (λ key. key ≡ Int (pos off) ∷ []) }
+{
+    let mut key = row::Row::new(alloc);
+    key.push(ValueRef::Int(off as i64))?;
+    Ok(key)
+}
+
+/// The key of the tags, and of the links, of the element that a row stands for.
+fn place_key(alloc: Global, element: &row::Row) -> Result<row::Row, AllocError>
+    ensures { IfOk result (λ key. key ≡ column element.now 0 ∷ column element.now 1 ∷ []) }
+{
+    let mut key = row::Row::new(alloc);
+    key.push(element.get(0))?;
+    key.push(element.get(1))?;
+    Ok(key)
+}
+
+/// The rows of the tags and those of the links whose keys begin with this one.
+fn parts_with<S: Store>(
+    alloc: Global,
+    store: &mut S,
+    key: &row::Row,
+) -> Result<(Vec<Row>, Vec<Row>), StoreFault>
+    ensures found { IfOk result (λ parts. IsClean (S.Store.view store.new)
+        → Finds (λ r. r) (S.Store.view store.old).trees 5 4 3 key.now parts.0.items × Finds (λ r. r) (S.Store.view store.old).trees 7 6 3 key.now parts.1.items) }
+    ensures sound { OnOk result (IsClean (S.Store.view store.new) → (S.Store.view store.new).is_broken ≡ false) }
+    ensures ours { IfErr result (λ fault. ¬ (IsForeign fault)) }
+    ensures looks { Looks S.Store store.old store.new }
+{
+    let tags: Vec<Row> = rows_with(alloc, store, TAG_KEY, TAGS, 3, key)?;
+    let links: Vec<Row> = rows_with(alloc, store, LINK_KEY, LINKS, 3, key)?;
+    Ok((tags, links))
+}
+
+/// The rows of the tags and those of the links of the element that a row stands for.
+pub(crate) fn parts_of<S: Store>(
+    alloc: Global,
+    store: &mut S,
+    element: &row::Row,
+) -> Result<(Vec<Row>, Vec<Row>), StoreFault>
+    ensures held { IsClean (S.Store.view store.new) → (held : HeldMap) (p : Placed) → HoldsBelow Tables (S.Store.view store.old) held → element.now ≡ element_row p → IsAlone (placed_in held) p
+        → MatchResult result (λ parts. (parts.0.items ≡ map tag_row (tags_at p)) × (parts.1.items ≡ map link_row (links_at p)) × ((S.Store.view store.new).is_broken ≡ false)) (λ fault. ¬ (IsForeign fault)) }
+    ensures looks { Looks S.Store store.old store.new }
+{
+    let key = place_key(alloc, element)?;
+    parts_with(alloc, store, &key)
+}
+
+/// The rows of the elements, of the tags and of the links of the blob at this offset, by position and number.
+pub(crate) fn blob_rows<S: Store>(
+    alloc: Global,
+    store: &mut S,
+    off: u64,
+) -> Result<(Vec<Row>, Vec<Row>, Vec<Row>), StoreFault>
+    requires { off < 2 ^ 63 }
+    ensures held { IsClean (S.Store.view store.new) → (held : HeldMap) → HoldsBelow Tables (S.Store.view store.old) held
+        → MatchResult result (λ rows. AreRowsOf (record { elements = rows.0; tags = rows.1; links = rows.2 }) (filter (is_in off) (placed_in held)) × ((S.Store.view store.new).is_broken ≡ false)) (λ fault. ¬ (IsForeign fault)) }
+    ensures looks { Looks S.Store store.old store.new }
+{
+    let key = offset_key(alloc, off)?;
+    let elements: Vec<Row> = rows_with(alloc, store, ELEMENT_KEY, ELEMENTS, 2, &key)?;
+    let (tags, links) = parts_with(alloc, store, &key)?;
+    Ok((elements, tags, links))
+}

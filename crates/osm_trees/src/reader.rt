@@ -1,0 +1,143 @@
+//! A reader of a store of blobs in the layout of tables, over trees.
+
+ghost use Rattle.std.specs.Prelude.{◌≡◌};
+ghost use Rattle.osm_store.specs.Keeping.{failures_after};
+
+use crate::extents::{all_extents, touched_extents};
+use crate::history::any_flag;
+use crate::load::{find_elements, load_blob};
+use osm_store::{Extent, Found, Loaded, Reader, StoreFault};
+use osm_value::MemberKind;
+use sqlite_trees::store::Store;
+use std::alloc::Global;
+use std::marker::Model;
+
+/// A reader of a store of blobs over the trees of its database, numbered as this program makes them: it begins at once,
+/// and reads no more rows than a call needs.
+pub struct TreeReader<S: Store> {
+    store: S,
+    failures: u64,
+}
+
+impl<S: Store> Model for TreeReader<S> {
+    ghost use Rattle.osm_trees.specs.Reading.{Reading, reading_code};
+
+    ghost Value = { Reading S };
+
+    ghost coded = { reading_code S.code };
+
+    ghost view = { λ r. record { store = r.store; failures = r.failures } };
+}
+
+impl<S: Store + Drop> Drop for TreeReader<S> {
+    fn drop(self) {
+        let TreeReader {
+            store: _,
+            failures: _,
+        } = self;
+    }
+}
+
+impl<S: Store> TreeReader<S> {
+    /// A reader of these trees.
+    pub fn new(store: S) -> TreeReader<S>
+        ensures { result ≡ record { store = store; failures = 0 } }
+    {
+        TreeReader { store, failures: 0 }
+    }
+
+    /// The trees, as the reads left them.
+    pub fn into_store(self) -> S
+        ensures { result ≡ self.store }
+    {
+        let TreeReader { store, failures: _ } = self;
+        store
+    }
+}
+
+/// The count of failures after a call with this answer; it stays at the greatest number.
+fn failures_after<T>(answer: &Result<T, StoreFault>, failures: u64) -> u64
+    ensures { result ≡ failures_after answer.now failures }
+{
+    if answer.is_err() {
+        failures.saturating_add(1)
+    } else {
+        failures
+    }
+}
+
+impl<S: Store> Reader for TreeReader<S> {
+    ghost use Rattle.std.specs.Prelude.{refl};
+    ghost use Rattle.sqlite_trees.specs.View.{IsClean};
+    ghost use Rattle.osm_store.specs.declared.schema.layout.Layout.TheVariants.{Tables};
+    ghost use Rattle.osm_store.specs.StoreLaws.{few_texts_of, same_then};
+    ghost use Rattle.osm_trees.specs.Below.{HoldsBelow, IsUsable, MayLeave, LeavesAMap, SameTrees};
+    ghost use Rattle.osm_trees.specs.Reading.{leaves_held_alone, leaves_held, usable_or_not};
+
+    ghost holds = { λ r held. HoldsBelow Tables (S.Store.view r.store) held };
+
+    ghost leaves = { λ r left. MayLeave S.Store r.store left };
+
+    ghost leaves_a_map = { λ r. LeavesAMap S.Store r.store };
+
+    ghost same_tables = { λ r s. SameTrees (S.Store.view r.store) (S.Store.view s.store) };
+
+    ghost is_honest = { λ r. IsClean (S.Store.view r.store) };
+
+    ghost is_open = { λ r. IsUsable (S.Store.view r.store) };
+
+    ghost failures = { λ r. r.failures };
+
+    fn extents(&mut self, alloc: Global) -> Result<Vec<Extent>, StoreFault> {
+        let answer = all_extents(alloc, &mut self.store);
+        self.failures = failures_after(&answer, self.failures);
+        answer
+    }
+
+    fn extents_touching(
+        &mut self,
+        alloc: Global,
+        from: u64,
+        to: u64,
+    ) -> Result<Vec<Extent>, StoreFault> {
+        let answer = touched_extents(alloc, &mut self.store, from, to);
+        self.failures = failures_after(&answer, self.failures);
+        answer
+    }
+
+    fn load(&mut self, alloc: Global, off: u64) -> Result<Loaded, StoreFault> {
+        let answer = load_blob(alloc, &mut self.store, off);
+        self.failures = failures_after(&answer, self.failures);
+        answer
+    }
+
+    fn find(&mut self, alloc: Global, kind: MemberKind, id: i64) -> Result<Found, StoreFault> {
+        let answer = find_elements(alloc, &mut self.store, kind, id);
+        self.failures = failures_after(&answer, self.failures);
+        answer
+    }
+
+    fn history(&mut self, alloc: Global) -> Result<bool, StoreFault> {
+        let answer = any_flag(alloc, &mut self.store);
+        self.failures = failures_after(&answer, self.failures);
+        answer
+    }
+
+    fn failures(&self) -> u64 {
+        self.failures
+    }
+
+    ghost settled = { λ r held left holds may. leaves_held_alone S.Store r.store held holds (λ db up there. S.settled r.store db up there) (S.broken_if_shut r.store) left may };
+
+    ghost open_or_shut = { λ r clean. usable_or_not _ clean };
+
+    ghost same_tables_self = { λ r. refl };
+
+    ghost same_tables_then = { λ first next last one two. same_then _ _ _ one two };
+
+    ghost leaves_held = { λ r held holds. leaves_held S.Store r.store held holds (λ db up there. S.settled r.store db up there) (S.broken_if_shut r.store) };
+
+    ghost is_apart = { λ r held holds. holds.kept.apart };
+
+    ghost has_few_texts = { λ r held holds. few_texts_of Tables held holds.kept };
+}
