@@ -17,6 +17,16 @@ pub if_none : {X : Type 0} (P : X → Type 0) (o : Option X) → o ≡ None → 
 if_none P None e = tt
 if_none P (Some x) e = absurd (none-some x (sym e))
 
+pub from_end : {E : Type 0} (r : Result Bool E) (Clean : Type 0) (left : List Row) (R : Type 0) → IfOk r (λ found. IsTrue found → Clean → left ≡ []) → (Clean → left ≡ [] → R)
+    → IfOk r (λ found. IsTrue found → Clean → R)
+from_end (Ok x) Clean left R h f = λ is clean. f clean (h is clean)
+from_end (Err e) Clean left R h f = tt
+
+pub if_kept : {X E : Type 0} (r : Result (Option X) E) (Clean R P : X → Type 0) → IfOk r (λ o. IfSome o P) → ((x : X) → Clean x → P x → R x) → IfOk r (λ o. IfSome o (λ x. Clean x → R x))
+if_kept (Ok None) Clean R P h f = tt
+if_kept (Ok (Some x)) Clean R P h f = λ clean. f x clean h
+if_kept (Err e) Clean R P h f = tt
+
 pub if_listed : {E : Type 0} (r : Result Bool E) (P Q R : Type 0) → IfOk r (λ done. MatchBool done P Q) → (P → R) → IfOk r (λ done. IsTrue done → R)
 if_listed (Ok true) P Q R h f = λ _. f h
 if_listed (Ok false) P Q R h f = λ e. absurd (cc)

@@ -2,6 +2,8 @@
 
 ghost use Rattle.std.specs.Prelude.{◌≡◌, ◌∷◌, [], ℕ, take, false, IsTrue, IfOk, IfSome};
 ghost use Rattle.sqlite_trees.specs.Objects.{catalog_tree, object_row, text_or_null};
+ghost use Rattle.sqlite_trees.specs.View.{IsClean, IsQuiet};
+ghost use Rattle.sqlite_exec.specs.Calls.{OnlyReads};
 ghost use Rattle.sqlite_store.specs.FileStore.{view, is_shielded};
 ghost use Rattle.osm_store.specs.declared.schema.layout.Layout.{Layout};
 ghost use Rattle.osm_store.specs.Rows.{version_row};
@@ -17,7 +19,7 @@ use sqlite_disk::{Disk, Files};
 use sqlite_pager::Options;
 use sqlite_store::FileStore;
 use sqlite_trees::schema::Object;
-use sqlite_trees::store::Shape;
+use sqlite_trees::store::{Shape, Store};
 use sqlite_value::keys::Order;
 use sqlite_value::row::Row;
 use sqlite_value::value::ValueRef;
@@ -45,7 +47,7 @@ fn table(name: &'static str, sql: &'static str) -> Object<'static>
 
 /// An index, as a statement makes it, or a primary key.
 fn index(name: &'static str, table: &'static str, sql: Option<&'static str>) -> Object<'static>
-    ensures { (tree : ℕ) → object_row tree result ≡ index_listing tree name.now table.now (text_or_null sql) }
+    ensures { (tree : ℕ) → object_row tree result ≡ index_listing tree name.now table.now (text_or_null sql.entry) }
 {
     Object {
         shape: Shape::Index(Order::PLAIN),
@@ -84,6 +86,19 @@ fn version_row(alloc: Global) -> Result<Row, AllocError>
     Ok(row)
 }
 
+/// The store, if the table that names the version names this one alone; it is dropped if not.
+fn of_version<S: Store + Drop>(alloc: Global, mut store: S) -> Result<Option<S>, AllocError>
+    ensures { IfOk result (λ found. IfSome found (λ kept. IsQuiet S.Store.view S.Store.faults S.Store.recovers S.Store.is_shielded store kept
+        × (IsClean (S.Store.view kept) → OnlyReads (S.Store.view store) (S.Store.view kept) × ((S.Store.view kept).is_broken ≡ false) × ((S.Store.view store).trees 0 ≡ version_row Layout.Tables ∷ [])))) }
+{
+    let row = version_row(alloc)?;
+    if has_only(alloc, &mut store, META, &row)? {
+        Ok(Some(store))
+    } else {
+        Ok(None)
+    }
+}
+
 /// The trees of the files, if they are a sound database of a store that keeps elements in tables, of this version. Pages
 /// and trees are checked, and no row but the version's is read. If the files are anything else, or can't be read, they are
 /// closed.
@@ -101,12 +116,8 @@ pub fn open_tables<D: Disk + Drop>(
     ensures listed { IfOk result (λ found. IfSome found (λ store. IsTrue (view store).is_clean → take 9 ((view store).trees catalog_tree) ≡ table_listings)) }
     ensures version { IfOk result (λ found. IfSome found (λ store. IsTrue (view store).is_clean → (view store).trees 0 ≡ version_row Layout.Tables ∷ [])) }
 {
-    let Some(mut store) = open_listed(alloc, files, options, &trees())? else {
+    let Some(store) = open_listed(alloc, files, options, &trees())? else {
         return Ok(None);
     };
-    if has_only(alloc, &mut store, META, &version_row(alloc)?)? {
-        Ok(Some(store))
-    } else {
-        Ok(None)
-    }
+    of_version(alloc, store)
 }
