@@ -15,4 +15,7 @@ pub use blob_store::{BlobStore, BodyStore, TableStore};
 pub use fault::StoreFault;
 pub use keeper::{Extent, Keeper, Reader};
 pub use load::{Found, Loaded, are_apart};
+pub use schema::sql::{
+    CREATE_BLOB, CREATE_ELEMENT, CREATE_ELEMENT_INDEX, CREATE_LINK, CREATE_META, CREATE_TAG,
+};
 pub use schema::{Bodies, StoreLayout, Tables};

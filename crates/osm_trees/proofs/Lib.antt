@@ -1,3 +1,4 @@
+pub mod OpeningLemmas
 pub mod Columns
 pub mod Rest
 pub mod Prefix

@@ -1,2 +1,4 @@
+pub mod Catalog
+pub mod Tables
 pub mod Below
 pub mod Reading

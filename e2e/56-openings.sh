@@ -1,0 +1,237 @@
+# Files that are opened as a database and aren't a sound one of ours: status and find answer one line of a fault, or what
+# is right, and leave the file so that the next program can open it.
+two=$top/data/two-nodes.osm.pbf
+country=$top/data/liechtenstein-raw.osm.pbf
+nl='
+'
+held="blobs 2 end 84 gaps 0${nl}"
+node="47 0 n 1 1000 -100 [] {}${nl}"
+page=4096
+
+rm -f sound.db* damaged.db* mine.db*
+"$pbfrow" import "$two" sound.db > got.txt
+expect "status of a sound database" 0 "$held" status sound.db
+expect "find in it" 0 "$node" find sound.db n1
+
+# answers NAME WORD..: the program with these words ends with one of the answers that the file `may` has: a status and a text.
+answers() {
+  local name=$1 got
+  shift
+  got=$("$pbfrow" "$@" 2>/dev/null; echo "status $?")
+  if grep -qxF "$(printf '%s' "$got" | tr '\n' ' ')" may; then
+    pass "$name"
+  else
+    fail "$name"; echo "  got $got"
+  fi
+}
+
+# faulty NAME DATABASE: both commands end with 1 and one line of fault 65 or 66.
+faulty() {
+  printf '%s\n' "fault 65 Disk status 1" "fault 66 NotThisStore status 1" > may
+  answers "$1: status" status "$2"
+  answers "$1: find" find "$2" n1
+}
+
+# right NAME DATABASE: both commands answer what the sound database holds.
+right() {
+  expect "$1: status" 0 "$held" status "$2"
+  expect "$1: find" 0 "$node" find "$2" n1
+}
+
+# overwritten BYTES NUMBER: a copy of the sound database, of which one page, counted from 0, has other bytes.
+overwritten() {
+  cp sound.db damaged.db
+  dd if="$1" of=damaged.db bs=$page seek="$2" count=1 conv=notrunc 2>/dev/null
+}
+
+pages=$(($(stat -c %s sound.db) / page))
+[ "$pages" -ge 10 ] && pass "a database has a page for each of its trees" || fail "a database has a page for each of its trees ($pages)"
+for number in $(seq 0 $((pages - 1))); do
+  overwritten /dev/zero "$number"
+  faulty "page $number of zeros" damaged.db
+  # the same bytes in each run
+  awk -v seed="$number" 'BEGIN { srand(seed); for (i = 0; i < 4096; i++) printf "%c", 1 + int(rand() * 126) }' > noise
+  overwritten noise "$number"
+  faulty "page $number of noise" damaged.db
+  overwritten sound.db "$number"
+  [ "$number" = 0 ] || faulty "page $number like page 0" damaged.db
+done
+
+for bytes in 2 100 $page $((page + 1)) $(((pages - 1) * page)) $((pages * page - 1)); do
+  rm -f damaged.db*
+  head -c "$bytes" sound.db > damaged.db
+  faulty "a database cut to $bytes bytes" damaged.db
+done
+{ cat sound.db; head -c $page /dev/zero; } > damaged.db
+faulty "a database with a page more in its file" damaged.db
+{ cat sound.db sound.db; } > damaged.db
+faulty "a database twice in one file" damaged.db
+cp sound.db damaged.db
+printf 'X' | dd of=damaged.db conv=notrunc 2>/dev/null
+faulty "another first byte" damaged.db
+rm -f damaged.db*
+
+mkdir -p folder.db
+faulty "a folder" folder.db
+ln -sf nowhere.db dangling.db
+printf '%s\n' "fault 65 Disk status 1" "fault 66 NotThisStore status 1" > may
+answers "a link that leads nowhere" status dangling.db
+[ ! -e nowhere.db ] && pass "and no database is made" || fail "and no database is made"
+ln -sf sound.db linked.db
+right "a link to a sound database" linked.db
+ln sound.db second.db
+faulty "a file of two names" second.db
+rm -rf second.db dangling.db linked.db folder.db
+head -c 5000 "$top/README.md" > damaged.db
+faulty "a text" damaged.db
+head -c 100000 "$country" > damaged.db
+faulty "an extract" damaged.db
+rm -f damaged.db*
+
+# an import that is killed leaves a log: what was stored is there, and nothing that isn't whole
+"$pbfrow" --build-only
+rm -f broken.db* whole.db*
+"$top/crates/pbfrow/out/pbfrow" import "$country" broken.db > broken.txt 2>/dev/null &
+pid=$!
+for _ in $(seq 600); do
+  [ "$(grep -c stored broken.txt)" -ge 3 ] && break
+  sleep 0.05
+done
+kill -9 "$pid" 2>/dev/null
+wait "$pid" 2>/dev/null
+if [ -s broken.db-wal ]; then
+  cp broken.db again.db
+  cp broken.db-wal again.db-wal
+  "$pbfrow" status broken.db > status.txt && pass "status beside a log that a kill left" || fail "status beside a log that a kill left"
+  stored=$(grep -c 'stored' broken.txt)
+  seen=$(sed -n 's/^blobs \([0-9]*\) .*/\1/p' status.txt)
+  { [ "${seen:-0}" = "$stored" ] || [ "${seen:-0}" = $((stored + 1)) ]; } && pass "it counts the blobs of the log" \
+    || fail "it counts the blobs of the log ($seen of $stored)"
+  "$pbfrow" status again.db > again.txt
+  same "a copy of both files is answered alike" status.txt again.txt
+  "$pbfrow" import "$country" broken.db > /dev/null && pass "the import goes on" || fail "the import goes on"
+  "$pbfrow" import "$country" whole.db > /dev/null
+  "$pbfrow" export broken.db > got.txt
+  "$pbfrow" export whole.db > want.txt
+  same "to the export of an unbroken one" got.txt want.txt
+else
+  skip "a log that a kill left" "the import ended before it"
+fi
+rm -f broken.db* again.db* whole.db*
+cp sound.db damaged.db
+head -c 1000 /dev/urandom > damaged.db-wal
+right "a log of noise, which is none" damaged.db
+rm -f damaged.db*
+
+if has python3; then
+  # holds DATABASE: keeps SQLite's locks on it, until its standard input ends.
+  holds() {
+    python3 -c '
+import fcntl, sys
+file = open(sys.argv[1], "r+b")
+fcntl.lockf(file, fcntl.LOCK_EX, 512, 1 << 30)
+print("locked", flush=True)
+sys.stdin.read()' "$1"
+  }
+  rm -f keeper told
+  mkfifo keeper
+  holds sound.db < keeper > told &
+  pid=$!
+  exec 7> keeper
+  for _ in $(seq 100); do [ -s told ] && break; sleep 0.05; done
+  expect "a database that another program has locked: status" 1 "fault 65 Disk${nl}" status sound.db
+  expect "a database that another program has locked: find" 1 "fault 65 Disk${nl}" find sound.db n1
+  exec 7>&-
+  wait "$pid"
+  right "the same when it is free again" sound.db
+  rm -f keeper told
+else
+  skip "a database that is locked" "python3 isn't installed"
+fi
+
+if [ "$(id -u)" = 0 ] && has setpriv; then
+  chmod 755 "$work"
+  rm -rf kept
+  mkdir kept
+  cp sound.db kept/sound.db
+  chmod 755 kept
+  as_nobody() { setpriv --reuid 65534 --regid 65534 --clear-groups "$top/crates/pbfrow/out/pbfrow" "$@"; }
+  if as_nobody --version > version.txt 2>&1; then
+    echo "fault 65 Disk" > want.txt
+    chmod 444 kept/sound.db
+    as_nobody status kept/sound.db > got.txt
+    same "a database that may not be written: status" got.txt want.txt
+    as_nobody find kept/sound.db n1 > got.txt
+    same "a database that may not be written: find" got.txt want.txt
+    chmod 666 kept/sound.db
+    as_nobody status kept/sound.db > got.txt
+    same "a database in a folder that may not be written" got.txt want.txt
+    chmod 000 kept/sound.db
+    as_nobody status kept/sound.db > got.txt
+    same "a database that may not be read" got.txt want.txt
+    chmod 644 kept/sound.db
+    right "the same, with the rights to it" kept/sound.db
+  else
+    skip "databases without permission" "the program can't be run as another user here"
+  fi
+else
+  skip "databases without permission" "this shell isn't root, or setpriv isn't installed"
+fi
+
+if has sqlite3; then
+  cp sound.db mine.db
+  sqlite3 mine.db "CREATE TABLE mine (name TEXT, price REAL); INSERT INTO mine VALUES ('a', 1.5); CREATE INDEX mine_by_name ON mine (name DESC);
+    CREATE INDEX tag_by_key ON tag (key, val); CREATE VIEW node AS SELECT * FROM element WHERE kind = 0"
+  right "a table, indexes and a view of one's own" mine.db
+  sqlite3 mine.db "DROP INDEX tag_by_key; CREATE INDEX link_by_ref ON link (ref)"
+  right "an index dropped, and another made" mine.db
+  sqlite3 mine.db "VACUUM"
+  right "the same after VACUUM" mine.db
+  sqlite3 mine.db "PRAGMA journal_mode = DELETE" > got.txt
+  right "the same with a rollback journal" mine.db
+  sqlite3 mine.db "CREATE TABLE strange (a TEXT PRIMARY KEY, b) WITHOUT ROWID; INSERT INTO strange VALUES ('x', 1)"
+  right "a table of one's own that has no rowid" mine.db
+  sqlite3 mine.db "CREATE TRIGGER told AFTER INSERT ON element BEGIN DELETE FROM mine; END"
+  printf '%s\n' "fault 65 Disk status 1" > may
+  answers "a trigger on the table of elements: find" find mine.db n1
+
+  rm -f other.db*
+  sqlite3 other.db "CREATE TABLE place (name TEXT); INSERT INTO place VALUES ('Vaduz')"
+  expect "a database of another program: status" 1 "fault 66 NotThisStore${nl}" status other.db
+  expect "a database of another program: find" 1 "fault 66 NotThisStore${nl}" find other.db n1
+  sqlite3 other.db "SELECT name FROM place" > got.txt
+  echo Vaduz > want.txt
+  same "whose row is still there" got.txt want.txt
+  rm -f other.db*
+  sqlite3 other.db "$(sqlite3 sound.db .schema | tr '\n' ' ')"
+  expect "our tables without a version: status" 1 "fault 66 NotThisStore${nl}" status other.db
+  sqlite3 other.db "INSERT INTO meta VALUES (3)"
+  expect "our tables under another version: status" 1 "fault 66 NotThisStore${nl}" status other.db
+  sqlite3 other.db "INSERT INTO meta VALUES (2)"
+  expect "our tables under two versions: status" 1 "fault 66 NotThisStore${nl}" status other.db
+  sqlite3 other.db "DELETE FROM meta WHERE version = 3"
+  expect "our tables, made by sqlite3, with no blob: status" 0 "blobs 0 end 0 gaps 0${nl}" status other.db
+  sqlite3 other.db "DROP INDEX element_by_id"
+  expect "without an index: status" 0 "blobs 0 end 0 gaps 0${nl}" status other.db
+  rm -f other.db*
+  sqlite3 other.db "CREATE TABLE meta (version INTEGER PRIMARY KEY) STRICT; INSERT INTO meta VALUES (1);
+    CREATE TABLE blob (off INTEGER PRIMARY KEY, fin INTEGER NOT NULL, digest BLOB NOT NULL, kind INTEGER NOT NULL, n INTEGER NOT NULL) STRICT;
+    CREATE TABLE body (off INTEGER NOT NULL, pos INTEGER NOT NULL, kind INTEGER NOT NULL, id INTEGER NOT NULL, data BLOB NOT NULL, PRIMARY KEY (off, pos)) STRICT;
+    CREATE INDEX body_element ON body (kind, id)"
+  expect "a database of an earlier pbfrow: status" 1 "fault 66 NotThisStore${nl}" status other.db
+  expect "a database of an earlier pbfrow: find" 1 "fault 66 NotThisStore${nl}" find other.db n1
+  rm -f other.db* mine.db*
+else
+  skip "databases that sqlite3 changed" "sqlite3 isn't installed"
+fi
+
+rm -f blank.db*
+: > blank.db
+expect "an empty file: status" 1 "fault 66 NotThisStore${nl}" status blank.db
+rm -f blank.db*
+: > blank.db
+expect "an empty file: find" 1 "fault 66 NotThisStore${nl}" find blank.db n1
+expect "no file: status" 1 "fault 66 NotThisStore${nl}" status nowhere.db
+expect "no file: find" 1 "fault 66 NotThisStore${nl}" find nowhere.db n1
+[ ! -e nowhere.db ] && [ ! -e nowhere.db-wal ] && pass "and no file is made" || fail "and no file is made"
+rm -f blank.db* sound.db* noise may
