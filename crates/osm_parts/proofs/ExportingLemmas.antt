@@ -35,7 +35,7 @@ unopened Writes before maps asked part held fault is =
 
 -- ---- part after part
 
-record AtPart (maps : List HeldMap) (asked : Bool) (ordered : List HeldMap) (i : ℕ) (part : Part) : Type 0 where
+pub record AtPart (maps : List HeldMap) (asked : Bool) (ordered : List HeldMap) (i : ℕ) (part : Part) : Type 0 where
   pub held : HeldMap
   pub is : IsPart maps asked part held
   pub taken : entries_in (take (suc i) ordered) ≡ entries_in (take i ordered) ++ entries held

@@ -1,6 +1,6 @@
 -- A store that is opened, read and closed.
-use Rattle.std.proofs.Common.{◌≡◌, ◌⊎◌, ℕ, ◌+◌, ◌<◌, ◌≤◌, ◌^◌, ◌-◌, List, slice_get, Some, Result, Ok, Err, sym, ◌∙◌, inl, inr, arith}
-use Rattle.std.specs.Prelude.{OnOk}
+use Rattle.std.proofs.Common.{◌≡◌, ◌⊎◌, ℕ, ◌+◌, ◌<◌, ◌≤◌, ◌^◌, ◌-◌, List, slice_get, Some, Result, Ok, Err, sym, ◌∙◌, subst, inl, inr, arith}
+use Rattle.std.specs.Prelude.{OnOk, IfErr, IsErrAnd}
 use Rattle.osm_store.specs.Held.{HeldMap}
 use Rattle.osm_store.specs.Keeping.{failures_after}
 use Rattle.osm_store.specs.declared.fault.StoreFault.{StoreFault}
@@ -8,6 +8,11 @@ use Rattle.osm_store.specs.declared.keeper.Reader.{Ghosts}
 use Rattle.osm_import.specs.Step.{HasCause}
 use Rattle.osm_import.specs.Stores.{Rereads}
 use Rattle.osm_parts.specs.Opening.{IsLent, KeepsMaps, OnlyOpens, AddsUp}
+
+-- what `?` has handed on
+pub if-err : {T E : Type 0} (r : Result T E) (e : E) (P : E → Type 0) → IsErrAnd r (λ y. y ≡ e) → P e → IfErr r P
+if-err (Ok x) e P h p = absurd h
+if-err (Err y) e P h p = subst P (sym h) p
 
 -- the one at this place
 pub same-held : (maps : List HeldMap) (place : ℕ) (one held : HeldMap) → slice_get maps place ≡ Some one → slice_get maps place ≡ Some held → one ≡ held

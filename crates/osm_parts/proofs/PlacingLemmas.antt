@@ -11,7 +11,7 @@ IsChain from (part ∷ parts) = (from ≤ part.from) × (part.from < part.to) ×
 
 pub chain-insert : (low : ℕ) (parts : List Part) (index : ℕ) (part : Part) → IsChain low parts → low ≤ part.from → part.from < part.to → Fits part.from part.to index parts → IsChain low (insert parts index part)
 chain-insert low [] zero part chain le lt fits = (le, lt, tt)
-chain-insert low (first ∷ parts) zero part chain le lt fits = (le, lt, fits, chain.1, chain.2)
+chain-insert low (first ∷ parts) zero part chain le lt fits = (le, lt, (fits, chain.1, chain.2))
 chain-insert low [] (suc index) part chain le lt fits = absurd fits
 chain-insert low (first ∷ parts) (suc index) part chain le lt fits = (chain.0, chain.1, chain-insert first.to parts index part chain.2 fits.0 lt fits.1)
 

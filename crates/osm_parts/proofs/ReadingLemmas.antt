@@ -8,7 +8,8 @@ use Rattle.std.proofs.lemmas.List.{take_all}
 use Rattle.std.proofs.lemmas.List.Folds.{list_any-append}
 use Rattle.osm_store.specs.Flags.{has_flags}
 use Rattle.osm_store.specs.Held.{Blob, HeldMap, IsApart}
-use Rattle.osm_store.specs.Keeping.{extents_of, extent_of}
+use Rattle.osm_store.specs.Keeping.{extents_of, extent_of, IsForeign}
+use Rattle.osm_store.specs.declared.fault.StoreFault.{StoreFault}
 use Rattle.osm_store.specs.declared.keeper.Extent.{Extent}
 use Rattle.osm_store.proofs.LoadLemmas.FlagLaws.{blob_has_flag, flags_by_blob}
 use Rattle.osm_import.specs.Exports.{greatest_end}
@@ -20,7 +21,9 @@ use Rattle.osm_parts.specs.Interleaved.{AreInterleaved}
 use Rattle.osm_parts.specs.Placing.{first_offset, Fits, Meets, MeetsOne, IsPut, KeepsOut}
 use Rattle.osm_parts.specs.Reading.{IsReadOf, IsPart, AreEach, AreRead, joined_extents}
 use Rattle.osm_parts.specs.declared.reading.Part.{Part}
-use Rattle.osm_parts.specs.declared.fault.PartsFault.TheVariants.{Interleaved}
+use Rattle.osm_parts.specs.PartsFaults.{IsOfMaps}
+use Rattle.osm_parts.specs.declared.fault.PartsFault.{PartsFault}
+use Rattle.osm_parts.specs.declared.fault.PartsFault.TheVariants.{Interleaved, Store}
 use Rattle.osm_parts.proofs.PartsLemmas.{extents-join, parts-join, whole-apart}
 use Rattle.osm_parts.proofs.PlacingLemmas.{IsChain, chain-insert}
 use Rattle.osm_parts.proofs.Orders.{in-at}
@@ -93,7 +96,7 @@ below-later place (part ∷ parts) below = (let h : part.place < place = below.0
 
 below-insert : (place : ℕ) (parts : List Part) (index : ℕ) (part : Part) → AreBelow place parts → part.place < place → AreBelow place (insert parts index part)
 below-insert place [] zero part below low = (low, tt)
-below-insert place (first ∷ parts) zero part below low = (low, below.0, below.1)
+below-insert place (first ∷ parts) zero part below low = (low, below)
 below-insert place [] (suc index) part below low = (low, tt)
 below-insert place (first ∷ parts) (suc index) part below low = (below.0, below-insert place parts index part below.1 low)
 
@@ -103,12 +106,12 @@ each-insert maps asked from to [] [] zero part held each is fits = (is, tt)
 each-insert maps asked from to [] [] (suc index) part held each is fits = absurd fits
 each-insert maps asked from to [] (first ∷ ordered) index part held each is fits = absurd each
 each-insert maps asked from to (first ∷ parts) [] index part held each is fits = absurd each
-each-insert maps asked from to (first ∷ parts) (one ∷ ordered) zero part held each is fits = (is, each.0, each.1)
+each-insert maps asked from to (first ∷ parts) (one ∷ ordered) zero part held each is fits = (is, each)
 each-insert maps asked from to (first ∷ parts) (one ∷ ordered) (suc index) part held each is fits = (each.0, each-insert maps asked from to parts ordered index part held each.1 is fits.1)
 
 in-insert : (ordered : List HeldMap) (index : ℕ) (held : HeldMap) (off : ℕ) (blob : Blob) → IsInPart ordered off blob ⊎ (get held off ≡ Some blob) → IsInPart (insert ordered index held) off blob
-in-insert [] zero held off blob found = elim found [ inl no ↦ absurd no | inr here ↦ inl here ]
-in-insert [] (suc index) held off blob found = elim found [ inl no ↦ absurd no | inr here ↦ inl here ]
+in-insert [] zero held off blob found = elim found [ inl bad ↦ absurd bad | inr here ↦ inl here ]
+in-insert [] (suc index) held off blob found = elim found [ inl bad ↦ absurd bad | inr here ↦ inl here ]
 in-insert (one ∷ ordered) zero held off blob found = elim found [ inl there ↦ inr there | inr here ↦ inl here ]
 in-insert (one ∷ ordered) (suc index) held off blob found = elim found [
   | inl there ↦ elim there [ inl first ↦ inl first | inr later ↦ inr (in-insert ordered index held off blob (inl later)) ]
@@ -116,7 +119,7 @@ in-insert (one ∷ ordered) (suc index) held off blob found = elim found [
 ]
 
 in-both : (maps : List HeldMap) (held : HeldMap) (off : ℕ) (blob : Blob) → IsInPart (maps ++ held ∷ []) off blob → IsInPart maps off blob ⊎ (get held off ≡ Some blob)
-in-both [] held off blob found = elim found [ inl here ↦ inr here | inr no ↦ absurd no ]
+in-both [] held off blob found = elim found [ inl here ↦ inr here | inr bad ↦ absurd bad ]
 in-both (first ∷ maps) held off blob found = elim found [
   | inl here ↦ inl (inl here)
   | inr later ↦ elim (in-both maps held off blob later) [ inl there ↦ inl (inr there) | inr last ↦ inr last ]
@@ -228,7 +231,16 @@ module _ (maps : List HeldMap) (asked : Bool) (place : ℕ) (held : HeldMap) (pa
         | inr later ↦ met parts ordered each.1 below.1 later
       ]
 
+  pub kept-out : (fault : PartsFault) → KeepsOut part old fault → IsOfMaps maps fault
+  kept-out (Interleaved off) refused = interleaved off refused
+  kept-out (Store fault) memory = λ foreign. subst (λ (f : StoreFault). IsForeign f) memory foreign
+
 -- ---- all of them
+
+pub held-at : (maps : List HeldMap) (place : ℕ) → place < length maps → (held : HeldMap) × (slice_get maps place ≡ Some held)
+held-at [] place low = absurd (omega arith)
+held-at (held ∷ maps) zero low = (held, refl)
+held-at (held ∷ maps) (suc place) low = held-at maps place (omega arith)
 
 chain-follows : (maps : List HeldMap) (asked : Bool) (from : ℕ) (parts : List Part) (ordered : List HeldMap) → IsChain from parts → AreEach maps asked parts ordered → FollowFrom from ordered
 chain-follows maps asked from [] [] chain each = tt

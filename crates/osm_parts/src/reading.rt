@@ -152,5 +152,6 @@ pub fn gaps_of_parts(
         → IfOk result (λ gaps. AreGaps whole size gaps.items) }
 {
     let extents = extents_of_parts(alloc, parts)?;
-    gaps_between(alloc, &extents, size)
+    let gaps = gaps_between(alloc, &extents, size)?;
+    Ok(gaps)
 }
