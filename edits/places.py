@@ -186,6 +186,8 @@ def check(crate, copy, texts, functions):
     only = [word for it in sorted({it.asked() for it in functions}) for word in ("--only", it)]
     how = {"cwd": folder, "stdout": subprocess.PIPE, "stderr": subprocess.STDOUT, "text": True, "errors": "replace"}
     said = subprocess.run(["nice", "-n", "10", "rt", "check", "--jobs", os.environ.get("JOBS", "2"), *only], **how).stdout
+    with open(f"{copy}/{crate}.said", "a", encoding="utf-8") as kept:
+        kept.write(f"== rt check {' '.join(only)}\n{said}")
     for path in texts:
         shutil.copyfile(f"{TOP}/crates/{crate}/{path}", f"{folder}/{path}")
     return said
