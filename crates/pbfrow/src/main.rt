@@ -10,6 +10,7 @@ mod database;
 mod merging;
 mod meter;
 mod metered;
+mod trees;
 mod verifying;
 
 use clap::Error;
