@@ -6,8 +6,10 @@ ghost use Rattle.sqlite.specs.Held.{state};
 use crate::FAULTY;
 use crate::meter::Meter;
 use crate::metered::{BlobLines, MeteredOutput, MeteredReader, MeteredStore};
+use crate::trees::open_trees;
 use osm_import::{Inlet, Stop};
 use osm_store::{Keeper, Reader, StoreFault, TableStore};
+use osm_trees::TreeReader;
 use osm_value::{MemberKind, Outlet};
 use pbf_frame::MAX_OFFSET;
 use pbfrow_commands::export::export;
@@ -17,6 +19,7 @@ use pbfrow_commands::report::{put_fault_at, put_store_fault, refuse_memory};
 use pbfrow_commands::status::status;
 use pbfrow_words::Question;
 use sqlite::{Alter, Connection, Error, ErrorCode, File as DatabaseFile, FileStore};
+use sqlite_trees::store::Store;
 use std::alloc::Global;
 use std::fs::File;
 use std::io;
@@ -218,7 +221,33 @@ pub(crate) fn fill(rt: &HostRuntime, file: &str, database: &str, start: Start) -
     fill_from(rt, reader, database, start, &meter, &mut out)
 }
 
-/// Asks a question of a database file, and answers the exit status.
+/// Asks a question of the trees of a database, and answers the exit status.
+fn answer_of_trees<S: Store + Drop, W: Write>(
+    alloc: Global,
+    trees: S,
+    asked: Asked,
+    meter: &Meter,
+    out: &mut Outlet<W>,
+) -> u8 {
+    answer(alloc, TreeReader::new(trees), asked, meter, out)
+}
+
+/// Asks a question of a database file that is opened by SQL, and answers the exit status.
+fn ask_by_sql<W: Write>(
+    rt: &HostRuntime,
+    database: &str,
+    asked: Asked,
+    meter: &Meter,
+    out: &mut Outlet<W>,
+) -> u8 {
+    match Connection::open(rt, database) {
+        Ok(connection) => asked_of(rt.alloc(), connection, asked, meter, out),
+        Err(error) => refuse(out, unopened(error)),
+    }
+}
+
+/// Asks a question of a database file, and answers the exit status. A sound database of this version is read by its trees,
+/// and any other is opened by SQL, which says what it is.
 fn ask_in<W: Write>(
     rt: &HostRuntime,
     database: &str,
@@ -229,9 +258,10 @@ fn ask_in<W: Write>(
     if is_missing(rt, database) {
         return refuse(out, StoreFault::NotThisStore(None));
     }
-    match Connection::open(rt, database) {
-        Ok(connection) => asked_of(rt.alloc(), connection, asked, meter, out),
-        Err(error) => refuse(out, unopened(error)),
+    match open_trees(rt, database) {
+        Ok(Some(trees)) => answer_of_trees(rt.alloc(), trees, asked, meter, out),
+        Ok(None) => ask_by_sql(rt, database, asked, meter, out),
+        Err(refused) => refuse(out, refused.into()),
     }
 }
 

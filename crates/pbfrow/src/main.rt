@@ -12,6 +12,7 @@ mod merging;
 mod meter;
 mod metered;
 mod parts;
+mod trees;
 mod verifying;
 
 use clap::Error;
