@@ -4,12 +4,12 @@ use Rattle.std.proofs.Common.{sym, subst, inl, inr, ◌∙◌}
 use Rattle.std.specs.Coded.{Coded, code_by, coded×, coded_ℕ}
 use Rattle.sqlite_trees.specs.declared.store.Store.{Ghosts}
 use Rattle.sqlite_trees.specs.Tree.{Trees}
-use Rattle.sqlite_trees.specs.View.{IsClean}
+use Rattle.sqlite_trees.specs.View.{View, IsClean}
 use Rattle.osm_store.specs.declared.fault.StoreFault.{StoreFault}
 use Rattle.osm_store.specs.declared.schema.layout.Layout.TheVariants.{Tables}
 use Rattle.osm_store.specs.Held.{HeldMap}
 use Rattle.osm_store.specs.Keeping.{OnlyReads}
-use Rattle.osm_store.specs.LayoutHolding.{TablesHold}
+use Rattle.osm_store.specs.LayoutHolding.{IsKept, TablesHold}
 use Rattle.osm_trees.specs.Below.{HoldsBelow, IsUsable, MayLeave, LeavesAMap, SameTrees}
 
 pub record Reading (S : Type 0) : Type 0 where
@@ -29,16 +29,16 @@ open_of : (is_open is_broken : Bool) → (is_open ≡ false → IsTrue is_broken
 open_of true is_broken shuts up = refl
 open_of false is_broken shuts up = sym up ∙ shuts refl
 
-module _ {S : Type 0} (g : Ghosts S) (store : S) (held : HeldMap) (holds : HoldsBelow Tables (g.view store) held)
-    (settles : (db : Trees) → IsTrue (g.view store).is_open → g.recovers store db → db ≡ (g.view store).committed) (shuts : (g.view store).is_open ≡ false → IsTrue (g.view store).is_broken) where
-  left_is : (db : Trees) → g.recovers store db → db ≡ (g.view store).trees
+module _ (v : View) (recovers : Trees → Type 0) (held : HeldMap) (holds : HoldsBelow Tables v held)
+    (settles : (db : Trees) → IsTrue v.is_open → recovers db → db ≡ v.committed) (shuts : v.is_open ≡ false → IsTrue v.is_broken) where
+  left_is : (db : Trees) → recovers db → db ≡ v.trees
   left_is db left = settles db (open_of _ _ shuts holds.unbroken) left ∙ sym holds.settled
 
-  pub leaves_held_alone : (left : HeldMap) → MayLeave g store left → left ≡ held
-  leaves_held_alone left may = holds.only left may.kept (subst (TablesHold Tables left) (left_is may.trees may.left) may.tables)
+  pub leaves_held_alone : (left : HeldMap) → IsKept Tables left → (db : Trees) → recovers db → TablesHold Tables left db → left ≡ held
+  leaves_held_alone left kept db may tables = holds.only left kept (subst (TablesHold Tables left) (left_is db may) tables)
 
-  pub leaves_held : LeavesAMap g store
-  leaves_held db left = (held, holds.kept, subst (TablesHold Tables held) (sym (left_is db left)) holds.tables)
+  pub leaves_held : (db : Trees) → recovers db → (left : HeldMap) × IsKept Tables left × TablesHold Tables left db
+  leaves_held db may = (held, holds.kept, subst (TablesHold Tables held) (sym (left_is db may)) holds.tables)
 
 -- the store can go on or can't
 pub usable_or_not : (is_broken : Bool) {IsHonest : Type 0} → IsHonest → (IsHonest × (is_broken ≡ false)) ⊎ ¬ (IsHonest × (is_broken ≡ false))

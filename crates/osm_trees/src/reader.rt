@@ -127,7 +127,7 @@ impl<S: Store> Reader for TreeReader<S> {
         self.failures
     }
 
-    ghost settled = { λ r held left holds may. leaves_held_alone S.Store r.store held holds (λ db up there. S.settled r.store db up there) (S.broken_if_shut r.store) left may };
+    ghost settled = { λ r held left holds may. leaves_held_alone _ _ held holds (λ db up there. S.settled r.store db up there) (S.broken_if_shut r.store) left may.kept may.trees may.left may.tables };
 
     ghost open_or_shut = { λ r clean. usable_or_not _ clean };
 
@@ -135,7 +135,7 @@ impl<S: Store> Reader for TreeReader<S> {
 
     ghost same_tables_then = { λ first next last one two. same_then _ _ _ one two };
 
-    ghost leaves_held = { λ r held holds. leaves_held S.Store r.store held holds (λ db up there. S.settled r.store db up there) (S.broken_if_shut r.store) };
+    ghost leaves_held = { λ r held holds. leaves_held _ _ held holds (λ db up there. S.settled r.store db up there) (S.broken_if_shut r.store) };
 
     ghost is_apart = { λ r held holds. holds.kept.apart };
 

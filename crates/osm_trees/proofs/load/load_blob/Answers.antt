@@ -11,8 +11,7 @@ use Rattle.osm_trees.proofs.load.load_blob.Goals as goal
 
 pub returns-then-off-ge-MAX_OFFSET-clause-held : goal.returns-then-off-ge-MAX_OFFSET-clause-held
 returns-then-off-ge-MAX_OFFSET-clause-held g c clean held holds =
-    let none = record { elements = c.new.ensures.items; tags = c.new-then-off-ge-MAX_OFFSET.ensures.items; links = c.new-then-off-ge-MAX_OFFSET-2.ensures.items; ascending = tt; stored = All-from_recursion _ [] tt } in
-    MatchResult-weaker c.from_tables.result (c.from_tables.ensures.rows 0 [] none)
+    MatchResult-weaker c.from_tables.result (c.from_tables.ensures.rows 0 [] (record { elements = c.new.ensures.items; tags = c.new-then-off-ge-MAX_OFFSET.ensures.items; links = c.new-then-off-ge-MAX_OFFSET-2.ensures.items; ascending = tt; stored = All-from_recursion _ [] tt }))
     (λ loaded h. (
       λ blob is.
           let below : c.args.off < blob.fin = holds.kept.apart.filled c.args.off blob is in
