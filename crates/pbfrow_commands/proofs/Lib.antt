@@ -8,6 +8,7 @@ pub mod ListLemmas
 pub mod ListingLaws
 pub mod ListingSteps
 pub mod ShowLemmas
+pub mod PartsLines
 pub mod StatusLemmas
 pub mod VerifyLemmas
 mod VectorCommands
