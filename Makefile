@@ -1,7 +1,8 @@
 # make: proves and builds the program. make test: all that CI runs. make quick: what one runs while working.
-# make gate-time: what the last run of the gate here took, by crate, and what passes the budget. make edits: tries each edit
-# by itself. make refused-growths: public calls with each growth of memory refused in turn. make bench: measures the program,
-# and draws the tables as bars (out/bars-*.svg). make install: the program and its manual page under PREFIX.
+# make gate-time: what the last run of the gate here took, by crate, and what passes the budget. make e2e: the built program
+# on files. make edits: says which goal refuses each must-fail edit. make refused-growths: public calls with each growth of
+# memory refused in turn. make bench: measures the program, and draws the tables as bars (out/bars-*.svg). make install: the
+# program and its manual page under PREFIX.
 .PHONY: all test gate gate-time quick e2e edits refused-growths bench install clean
 
 PREFIX ?= /usr/local
@@ -25,7 +26,7 @@ e2e: all
 	e2e/run
 
 edits:
-	edits/run
+	edits/single
 
 refused-growths:
 	e2e/calls/run
