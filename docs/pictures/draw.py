@@ -161,6 +161,7 @@ def draw_data():
 SAYS = {
     "pbf_wire": "numbers and fields",
     "osm_value": "elements and their lines",
+    "pbf_ranges": "ranges of a file",
     "pbf_frame": "frames and raw blobs",
     "osm_block": "reading blocks",
     "osm_write": "writing blocks",
