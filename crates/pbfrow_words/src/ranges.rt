@@ -35,8 +35,9 @@ fn count_argument<'a>(alloc: Global) -> Arg<'a>
     ensures rule { rule_of result ≡ definitions.count_argument }
     ensures local { result.global ≡ false }
 {
-    required_argument(alloc, "N", "How many ranges at most")
-        .value_parser(ValueParser::unsigned(1, MAX_RANGES))
+    required_argument(alloc, "N", "How many ranges at most").value_parser(ValueParser::unsigned(
+        1, MAX_RANGES,
+    ))
 }
 
 fn ranges_command<'a>(alloc: Global) -> Result<Command<'a>, AllocError>
