@@ -107,6 +107,12 @@ last-or-none (end ∷ ends) = ap (λ (o : Option ℕ). unwrap_or o 0) (last_end-
 
 -- ---- what was written
 
+whole-written : Whole ≡ Unwritten → ⊥
+whole-written same = cc
+
+early-written : (stop : StreamFault) → Early stop ≡ Unwritten → ⊥
+early-written stop same = cc
+
 -- the lines of all ranges
 pub cuts-whole : (count : ℕ) (left old mid written : Known) (before between failed : Bool) (frames : List Plain) (ranges : List Range) (status : ℕ) → WalksTo left frames Whole → AreRanges (ends_from 0 frames) count ranges
     → Writes old before mid between (range_lines ranges) → Writes mid between written failed (ending_line Whole) → status ≡ status_of (is_whole Whole && true) failed → CutsInput count left old written failed status
@@ -119,9 +125,6 @@ cuts-whole count left old mid written before between failed frames ranges status
   text = line old (range_lines ranges) (lines old [] (started old before));
   status_is = is;
 }
-where
-  whole-written : Whole ≡ Unwritten → ⊥
-  whole-written same = cc
 
 -- the line of what ended the frames
 pub cuts-early : (count : ℕ) (left old written : Known) (before failed : Bool) (frames : List Plain) (stop : StreamFault) (status : ℕ) → WalksTo left frames (Early stop)
@@ -130,14 +133,11 @@ cuts-early count left old written before failed frames stop status walked line i
   frames = frames;
   ending = Early stop;
   ranges = [];
-  walked = walks-on HasAny left false failed frames (Early stop) (λ same. absurd (early-written same)) walked;
+  walked = walks-on HasAny left false failed frames (Early stop) (λ same. absurd (early-written stop same)) walked;
   cut = refl;
   text = line old [] (started old before);
   status_is = is;
 }
-where
-  early-written : Early stop ≡ Unwritten → ⊥
-  early-written same = cc
 
 -- the ranges of an input of which all bytes are known
 pub cuts-known : (count : ℕ) (left old written : Known) (failed : Bool) (status : ℕ) → CutsInput count left old written failed status → status ≡ 0

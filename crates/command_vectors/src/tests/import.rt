@@ -116,15 +116,33 @@ fn begins_at_an_offset(rt: HostRuntime) -> Result<(), Fail> {
 fn imports_a_part_of<K: NewStore, R: Abort + Alloc<A = Global>>(rt: &R) -> Result<(), Fail> {
     let mut store = K::new_store(rt.alloc()).ok_or("a store")?;
     for (part, at, status, text) in [
-        (&TWO_NODES[47..], 47, 0, &b"47 stored 2\nblobs stored 1 held 0 bad 0 refused 0\n"[..]),
-        (&TWO_NODES[..47], 0, 0, &b"0 stored 0\nblobs stored 1 held 0 bad 0 refused 0\n"[..]),
-        (&TWO_NODES[..], 0, 0, &b"0 held\n47 held\nblobs stored 0 held 2 bad 0 refused 0\n"[..]),
+        (
+            &TWO_NODES[47..],
+            47,
+            0,
+            &b"47 stored 2\nblobs stored 1 held 0 bad 0 refused 0\n"[..],
+        ),
+        (
+            &TWO_NODES[..47],
+            0,
+            0,
+            &b"0 stored 0\nblobs stored 1 held 0 bad 0 refused 0\n"[..],
+        ),
+        (
+            &TWO_NODES[..],
+            0,
+            0,
+            &b"0 held\n47 held\nblobs stored 0 held 2 bad 0 refused 0\n"[..],
+        ),
         (&TWO_NODES[48..], 48, 1, &b"fault 12 HeaderCut at 48\n"[..]),
     ] {
         let mut out = Outlet::new(Vec::new(rt.alloc()));
         let start = Start { dropped: 0, at };
         let mut input = Inlet::new(Cursor::new(part));
-        assert_eq!(rt; import(rt.alloc(), &mut input, &mut store, start, &mut out), status);
+        assert_eq!(rt;
+            import(rt.alloc(), &mut input, &mut store, start, &mut out),
+            status
+        );
         assert!(rt; out.into_inner().as_slice() == text);
     }
     Ok(())
@@ -251,7 +269,10 @@ fn stops_where_a_write_fails_of<K: NewStore, R: Abort + Alloc<A = Global>>(
     let mut store = K::new_store(rt.alloc()).ok_or("a store")?;
     let mut input = Inlet::new(Cursor::new(&TWO_NODES[..]));
     let mut out = Outlet::new(Closed);
-    assert_eq!(rt; import(rt.alloc(), &mut input, &mut store, START, &mut out), 1);
+    assert_eq!(rt;
+        import(rt.alloc(), &mut input, &mut store, START, &mut out),
+        1
+    );
     expect_import(
         rt,
         &mut store,

@@ -82,7 +82,10 @@ fn ranges_of_seven_frames(rt: HostRuntime) -> Result<(), Fail> {
 #[test]
 fn ranges_that_cannot_be_written(rt: HostRuntime) {
     let mut out = Outlet::new(Closed);
-    assert_eq!(rt; ranges(rt.alloc(), &mut Cursor::new(&TWO_NODES[..]), 2, &mut out), 1);
+    assert_eq!(rt;
+        ranges(rt.alloc(), &mut Cursor::new(&TWO_NODES[..]), 2, &mut out),
+        1
+    );
 }
 
 #[test]

@@ -30,18 +30,9 @@ static IMPORT_ALL: [&str; 4] = ["pbfrow", "import", "F", "D"];
 
 static IMPORT_AT: [&str; 6] = ["pbfrow", "import", "F", "D", "--at", "47"];
 
-static IMPORT_AT_TOO_FAR: [&str; 6] = [
-    "pbfrow",
-    "import",
-    "F",
-    "D",
-    "--at",
-    "4611686018427387905",
-];
+static IMPORT_AT_TOO_FAR: [&str; 6] = ["pbfrow", "import", "F", "D", "--at", "4611686018427387905"];
 
-static IMPORT_FROM_AND_AT: [&str; 8] = [
-    "pbfrow", "import", "F", "D", "--from", "47", "--at", "47",
-];
+static IMPORT_FROM_AND_AT: [&str; 8] = ["pbfrow", "import", "F", "D", "--from", "47", "--at", "47"];
 
 static RANGES: [&str; 4] = ["pbfrow", "ranges", "F", "4294967295"];
 
