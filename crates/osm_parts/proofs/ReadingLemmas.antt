@@ -171,18 +171,18 @@ module _ (maps : List HeldMap) (asked : Bool) (place : ℕ) (held : HeldMap) (pa
       ];
     })
     | inr (some, index, fits, same) ↦ (
-      let is = is-part maps asked place held part at apart read some in
-      subst (λ (parts : List Part). SoFar maps asked (place + 1) parts) (sym same) (record {
-        ordered = insert so_far.ordered index held;
-        each = each-insert maps asked part.from part.to old so_far.ordered index part held so_far.each is fits;
-        chain = chain-insert 0 old index part so_far.chain (omega arith) (filled-part maps asked part held is) fits;
-        below = below-insert (place + 1) old index part (below-later place old so_far.below) (omega (arith, read.placed));
-        all = λ off blob found. in-insert so_far.ordered index held off blob (elim (in-place maps place held off blob at found) [
-          | inl there ↦ inl (so_far.all off blob there)
-          | inr here ↦ inr here
-        ]);
-      })
-    )
+        let is = is-part maps asked place held part at apart read some in
+        subst (λ (parts : List Part). SoFar maps asked (place + 1) parts) (sym same) (record {
+          ordered = insert so_far.ordered index held;
+          each = each-insert maps asked part.from part.to old so_far.ordered index part held so_far.each is fits;
+          chain = chain-insert 0 old index part so_far.chain (omega arith) (filled-part maps asked part held is) fits;
+          below = below-insert (place + 1) old index part (below-later place old so_far.below) (omega (arith, read.placed));
+          all = λ off blob found. in-insert so_far.ordered index held off blob (elim (in-place maps place held off blob at found) [
+            | inl there ↦ inl (so_far.all off blob there)
+            | inr here ↦ inr here
+          ]);
+        })
+        )
   ]
 
   pub interleaved : (off : ℕ) → KeepsOut part old (Interleaved off) → AreInterleaved maps off

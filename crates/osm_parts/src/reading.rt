@@ -53,7 +53,11 @@ fn history_of<K: Reader>(alloc: Global, store: &mut K, asked: bool) -> Result<bo
     ensures cause { IfErr result (HasCause (K.failures store.old) (K.failures store.new)) }
     ensures counted { K.failures store.old ≤ K.failures store.new }
 {
-    if asked { store.history(alloc) } else { Ok(false) }
+    if asked {
+        store.history(alloc)
+    } else {
+        Ok(false)
+    }
 }
 
 /// What is read of the store at a place.

@@ -1,4 +1,4 @@
-use Rattle.std.proofs.Common.{◌∙◌, false, Result, sym, subst}
+use Rattle.std.proofs.Common.{false, Result, Err, sym, subst}
 use Rattle.osm_store.specs.Keeping.{extents_of}
 use Rattle.osm_import.specs.Exports.{size_of, IsExport, WritesLines}
 use Rattle.osm_import.specs.ExportCauses.{ExportHasCause, ExportIsOwn}
@@ -17,12 +17,13 @@ returns-in_err-refuse_untiled-clause-export g c = λ maps asked whole holds hone
 pub returns-in_err-refuse_untiled-clause-own : goal.returns-in_err-refuse_untiled-clause-own
 returns-in_err-refuse_untiled-clause-own g c = λ maps holds honest.
     subst (λ (r : Result (Unit {0}) ExportFault). ExportIsOwn r) (sym (handed c.from_residual.result _ c.from_residual.ensures.1))
-    (write-own false _ c.in_err-refuse_untiled.ensures.cause)
+    (write-own false (Err c.in_err-refuse_untiled.field-0.0) c.in_err-refuse_untiled.ensures.cause)
 
 pub returns-in_err-refuse_untiled-clause-cause : goal.returns-in_err-refuse_untiled-clause-cause
 returns-in_err-refuse_untiled-clause-cause g c =
     subst (λ (r : Result (Unit {0}) ExportFault). ExportHasCause (g.O.Openings.failures c.args.openings.now) (g.O.Openings.failures c.args.openings.now) (g.S.Sink.has_failed c.args.out.now) r) (sym (handed c.from_residual.result _ c.from_residual.ensures.1))
-    (cause-unwritten _ _ (g.S.Sink.has_failed c.args.out.now) c.in_err-refuse_untiled.field-0.0 (write-cause _ _ false _ c.in_err-refuse_untiled.ensures.cause))
+    (cause-unwritten (g.O.Openings.failures c.args.openings.now) (g.O.Openings.failures c.args.openings.now) (g.S.Sink.has_failed c.args.out.now) c.in_err-refuse_untiled.field-0.0
+    (write-cause (g.O.Openings.failures c.args.openings.now) (g.O.Openings.failures c.args.openings.now) false (Err c.in_err-refuse_untiled.field-0.0) c.in_err-refuse_untiled.ensures.cause))
 
 pub returns-clause-export : goal.returns-clause-export
 returns-clause-export g c = λ maps asked whole holds honest read are.

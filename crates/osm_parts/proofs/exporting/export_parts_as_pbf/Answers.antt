@@ -20,12 +20,13 @@ returns-in_err-refuse_untiled-clause-export g c = λ maps whole holds honest rea
 pub returns-in_err-refuse_untiled-clause-own : goal.returns-in_err-refuse_untiled-clause-own
 returns-in_err-refuse_untiled-clause-own g c = λ maps holds honest.
     subst (λ (r : Result (Unit {0}) ExportFault). ExportIsOwn r) (sym (handed c.from_residual.result _ c.from_residual.ensures.1))
-    (write-own false _ c.in_err-refuse_untiled.ensures.cause)
+    (write-own false (Err c.in_err-refuse_untiled.field-0.0) c.in_err-refuse_untiled.ensures.cause)
 
 pub returns-in_err-refuse_untiled-clause-cause : goal.returns-in_err-refuse_untiled-clause-cause
 returns-in_err-refuse_untiled-clause-cause g c =
     subst (λ (r : Result (Unit {0}) ExportFault). ExportHasCause (g.O.Openings.failures c.args.openings.now) (g.O.Openings.failures c.args.openings.now) (g.S.Sink.has_failed c.args.out.now) r) (sym (handed c.from_residual.result _ c.from_residual.ensures.1))
-    (cause-unwritten _ _ (g.S.Sink.has_failed c.args.out.now) c.in_err-refuse_untiled.field-0.0 (write-cause _ _ false _ c.in_err-refuse_untiled.ensures.cause))
+    (cause-unwritten (g.O.Openings.failures c.args.openings.now) (g.O.Openings.failures c.args.openings.now) (g.S.Sink.has_failed c.args.out.now) c.in_err-refuse_untiled.field-0.0
+    (write-cause (g.O.Openings.failures c.args.openings.now) (g.O.Openings.failures c.args.openings.now) false (Err c.in_err-refuse_untiled.field-0.0) c.in_err-refuse_untiled.ensures.cause))
 
 pub returns-in_err-write_header-clause-export : goal.returns-in_err-write_header-clause-export
 returns-in_err-write_header-clause-export g c = λ maps whole holds honest read are.

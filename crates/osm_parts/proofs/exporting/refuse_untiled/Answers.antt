@@ -10,6 +10,6 @@ returns-in-Some-clause-refused c = λ maps asked whole read are.
     unbegun whole (size_of c.args.size (extents_of whole)) c.args.partial c.in-Some.fault c.if-partial.false
     (refusal-held whole c.deref.result.now c.args.size c.in-Some.fault (read-apart maps asked c.args.parts.now whole read are) (c.deref.ensures.value ∙ c.in_ok-extents.ensures.whole maps asked whole read are) c.in-Some.ensures)
 
-pub returns-in-None-clause-tiled : goal.returns-in-None-clause-tiled
-returns-in-None-clause-tiled c = λ maps asked whole read are full.
+pub returns-clause-tiled : goal.returns-clause-tiled
+returns-clause-tiled c = λ maps asked whole read are full.
     tiles-held whole c.deref.result.now c.args.size (read-apart maps asked c.args.parts.now whole read are) (c.deref.ensures.value ∙ c.in_ok-extents.ensures.whole maps asked whole read are) c.in-None.ensures
