@@ -1,6 +1,6 @@
 //! The commands on one database: they open its file and write the answer to standard output.
 
-ghost use Rattle.std.specs.Prelude.{◌≡◌, ◌≤◌, false, IfOk};
+ghost use Rattle.std.specs.Prelude.{◌≡◌, ◌≤◌, false};
 ghost use Rattle.sqlite.specs.Held.{state};
 
 use crate::FAULTY;
@@ -10,7 +10,7 @@ use crate::trees::open_trees;
 use osm_import::{Inlet, Stop};
 use osm_store::{Keeper, Reader, StoreFault, TableStore};
 use osm_trees::TreeReader;
-use osm_value::{MemberKind, Outlet};
+use osm_value::Outlet;
 use pbf_frame::MAX_OFFSET;
 use pbfrow_commands::export::export;
 use pbfrow_commands::find::find;
@@ -54,7 +54,6 @@ pub(crate) fn adopted<S: Alter + Drop>(
     connection: Connection<S>,
 ) -> Result<TableStore<S>, StoreFault>
     requires { (state S.Store connection).in_transaction ≡ false }
-    ensures { IfOk result (λ store. store.failures ≡ 0) }
 {
     match TableStore::adopt(connection) {
         Ok(store) => Ok(store),
@@ -123,49 +122,40 @@ fn filled<S: Alter + Drop, R: Read + Drop, W: Write>(
     }
 }
 
-/// What is asked of one database.
-#[derive(Clone, Copy)]
-pub(crate) enum Asked {
-    Question(Question),
-    Find { kind: MemberKind, id: i64 },
-}
-
 /// Asks a question of a store, and answers the exit status.
 fn answer<K: Reader + Drop, W: Write>(
     alloc: Global,
     mut store: K,
-    asked: Asked,
+    question: Question,
     meter: &Meter,
     out: &mut Outlet<W>,
 ) -> u8 {
-    match asked {
-        Asked::Question(Question::Status { size }) => status(alloc, &mut store, size, out),
-        Asked::Question(
-            Question::Export {
-                size,
-                partial,
-                form,
-            },
-        ) => {
+    match question {
+        Question::Status { size } => status(alloc, &mut store, size, out),
+        Question::Export {
+            size,
+            partial,
+            form,
+        } => {
             let mut store = MeteredStore::new(store, meter);
             export(alloc, &mut store, size, partial, form, out)
         }
-        Asked::Find { kind, id } => find(alloc, &mut store, kind, id, out),
+        Question::Find { kind, id } => find(alloc, &mut store, kind, id, out),
     }
 }
 
 /// Asks a question of the store of a connection, and answers the exit status.
-fn asked_of<S: Alter + Drop, W: Write>(
+fn asked<S: Alter + Drop, W: Write>(
     alloc: Global,
     connection: Connection<S>,
-    asked: Asked,
+    question: Question,
     meter: &Meter,
     out: &mut Outlet<W>,
 ) -> u8
     requires { (state S.Store connection).in_transaction ≡ false }
 {
     match adopted(connection) {
-        Ok(store) => answer(alloc, store, asked, meter, out),
+        Ok(store) => answer(alloc, store, question, meter, out),
         Err(fault) => refuse(out, fault),
     }
 }
@@ -225,23 +215,23 @@ pub(crate) fn fill(rt: &HostRuntime, file: &str, database: &str, start: Start) -
 fn answer_of_trees<S: Store + Drop, W: Write>(
     alloc: Global,
     trees: S,
-    asked: Asked,
+    question: Question,
     meter: &Meter,
     out: &mut Outlet<W>,
 ) -> u8 {
-    answer(alloc, TreeReader::new(trees), asked, meter, out)
+    answer(alloc, TreeReader::new(trees), question, meter, out)
 }
 
 /// Asks a question of a database file that is opened by SQL, and answers the exit status.
 fn ask_by_sql<W: Write>(
     rt: &HostRuntime,
     database: &str,
-    asked: Asked,
+    question: Question,
     meter: &Meter,
     out: &mut Outlet<W>,
 ) -> u8 {
     match Connection::open(rt, database) {
-        Ok(connection) => asked_of(rt.alloc(), connection, asked, meter, out),
+        Ok(connection) => asked(rt.alloc(), connection, question, meter, out),
         Err(error) => refuse(out, unopened(error)),
     }
 }
@@ -251,7 +241,7 @@ fn ask_by_sql<W: Write>(
 fn ask_in<W: Write>(
     rt: &HostRuntime,
     database: &str,
-    asked: Asked,
+    question: Question,
     meter: &Meter,
     out: &mut Outlet<W>,
 ) -> u8 {
@@ -259,23 +249,20 @@ fn ask_in<W: Write>(
         return refuse(out, StoreFault::NotThisStore(None));
     }
     match open_trees(rt, database) {
-        Ok(Some(trees)) => answer_of_trees(rt.alloc(), trees, asked, meter, out),
-        Ok(None) => ask_by_sql(rt, database, asked, meter, out),
+        Ok(Some(trees)) => answer_of_trees(rt.alloc(), trees, question, meter, out),
+        Ok(None) => ask_by_sql(rt, database, question, meter, out),
         Err(refused) => refuse(out, refused.into()),
     }
 }
 
 /// Asks a question of a database, and answers the exit status. If there is no database, none is made.
-pub(crate) fn ask(rt: &HostRuntime, database: &str, asked: Asked) -> u8 {
-    let meter = Meter::new(
-        rt,
-        matches!(asked, Asked::Question(Question::Export { .. })),
-    );
+pub(crate) fn ask(rt: &HostRuntime, database: &str, question: Question) -> u8 {
+    let meter = Meter::new(rt, matches!(question, Question::Export { .. }));
     let output = MeteredOutput::new(io::writer(rt), &meter);
     let Ok(output) = BufWriter::new(rt.alloc(), output) else {
         return refuse_memory(&mut Outlet::new(io::writer(rt)), None);
     };
     let mut out = Outlet::new(output);
-    let status = ask_in(rt, database, asked, &meter, &mut out);
+    let status = ask_in(rt, database, question, &meter, &mut out);
     end(&mut out, &meter, status)
 }

@@ -11,19 +11,17 @@ mod database;
 mod merging;
 mod meter;
 mod metered;
-mod parts;
 mod trees;
 mod verifying;
 
 use clap::Error;
 use copying::copy;
-use database::{Asked, ask, end, fill};
+use database::{ask, end, fill};
 use merging::merge;
 use meter::Meter;
 use metered::{MeteredOutput, MeteredReader};
 use osm_value::Outlet;
 use osm_verify::Depth;
-use parts::ask_parts;
 use pbfrow_commands::check::check;
 use pbfrow_commands::import::Start;
 use pbfrow_commands::input::refuse_input;
@@ -31,7 +29,7 @@ use pbfrow_commands::list::list;
 use pbfrow_commands::ranges::ranges;
 use pbfrow_commands::report::refuse_memory;
 use pbfrow_commands::show::show;
-use pbfrow_words::{Question, Reading, Words, read_words};
+use pbfrow_words::{Reading, Words, read_words};
 use std::alloc::{AllocError, Global};
 use std::fs::File;
 use std::io::{BufWriter, ErrorKind, Read, Write};
@@ -127,19 +125,7 @@ fn run(rt: HostRuntime, words: Words) -> u8
             database,
             elements,
         } => compare(&rt, file, database, depth_of(elements)),
-        Words::Ask {
-            databases,
-            question,
-        } => ask_all(&rt, databases.as_slice(), question),
-        Words::Find { database, kind, id } => ask(&rt, database, Asked::Find { kind, id }),
-    }
-}
-
-/// Asks a question of a database, or of several that hold parts of one file, and answers the exit status.
-fn ask_all(rt: &HostRuntime, databases: &[&str], question: Question) -> u8 {
-    match databases.first() {
-        Some(database) if databases.len() == 1 => ask(rt, database, Asked::Question(question)),
-        _ => ask_parts(rt, databases, question),
+        Words::Ask { database, question } => ask(&rt, database, question),
     }
 }
 

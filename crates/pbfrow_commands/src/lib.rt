@@ -11,7 +11,6 @@ pub mod laws;
 pub mod list;
 pub mod merge;
 pub mod migrate;
-pub mod parts;
 pub mod progress;
 pub mod ranges;
 pub mod report;
