@@ -7,8 +7,8 @@ ghost use Rattle.osm_store.specs.declared.fault.StoreFault.TheVariants.{Disk};
 use super::deliveries::answers_to;
 use super::fixtures::{
     EXTRA_AT_84, FILE, Frame, HEADER_AT_0, HELD_EXTRA, HELD_HEADER, HELD_NODES, HELD_NODES_AT_100,
-    HELD_TAGGED,
-    LINES, NODES, NODES_AT_47, NODES_AT_100, TAGGED_AT_84, TAGGED_LINES, WRITTEN_HEADER,
+    HELD_TAGGED, LINES, NODES, NODES_AT_47, NODES_AT_100, TAGGED_AT_84, TAGGED_LINES,
+    WRITTEN_HEADER,
 };
 use super::memory::{BodiesInMemory, NewStore, TablesInMemory};
 use super::steps::are_joined;
@@ -191,7 +191,10 @@ fn expect_interleaved<K: NewStore, R: Abort + Alloc<A = Global>>(
         matches!(found, Err(PartsFault::Interleaved(at)) if at == off),
         "at {off}"
     );
-    assert!(rt; read_parts(alloc, &mut stores, 1, false)?.len() == 1, "at {off}");
+    assert!(rt;
+        read_parts(alloc, &mut stores, 1, false)?.len() == 1,
+        "at {off}"
+    );
     Ok(())
 }
 
@@ -297,7 +300,11 @@ fn faults_of_parts(rt: HostRuntime) {
     let faults = [
         (PartsFault::Interleaved(47), 71, "Interleaved"),
         (PartsFault::Store(StoreFault::Memory), 65, "Memory"),
-        (PartsFault::Store(StoreFault::NotThisStore(None)), 66, "NotThisStore"),
+        (
+            PartsFault::Store(StoreFault::NotThisStore(None)),
+            66,
+            "NotThisStore",
+        ),
     ];
     for (fault, number, name) in faults {
         assert!(rt; fault.number() == number);
