@@ -42,9 +42,9 @@ fn ends_of<R: Read>(alloc: Global, input: &mut R) -> Result<Vec<u64>, StreamFaul
         match frames.next() {
             Ok(Some((at, bytes))) => {
                 let end = at + bytes.len() as u64;
-                if ends.push(end).is_err() {
+                let Ok(()) = ends.push(end) else {
                     return Err(refused(at));
-                }
+                };
             }
             Ok(None) => return Ok(ends),
             Err(stop) => return Err(stop),
