@@ -1,7 +1,8 @@
 //! The numbers, names and texts of faults, as the program prints them.
 
 use super::fixtures::HEADER;
-use osm_import::{Conflict, CopyFault, CopyStop, ExamineFault, Fault, PartsFault, Stop, examine};
+use osm_import::{Conflict, CopyFault, CopyStop, ExamineFault, Fault, Stop, examine};
+use osm_parts::PartsFault;
 use osm_store::StoreFault;
 use pbf_frame::FrameFault;
 use std::test::*;

@@ -28,7 +28,7 @@ use std::test::*;
 const NODES_AT_83: Frame = (83, NODES);
 
 /// The store that is there, if no call of it has failed.
-fn lend<K: Reader>(slot: &mut Option<K>) -> Result<K, StoreFault>
+fn lend<K: Reader + Drop>(slot: &mut Option<K>) -> Result<K, StoreFault>
     ensures lent { IfOk result (λ store. (slot.old ≡ Some store) × (slot.new ≡ None) × (K.failures store ≡ 0)) }
     ensures kept { OnErr result (slot.new ≡ slot.old) }
     ensures own { IfErr result (λ fault. fault ≡ Disk) }
