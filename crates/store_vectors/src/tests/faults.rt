@@ -84,7 +84,7 @@ fn texts(rt: HostRuntime) -> Result<(), Fail> {
     let expected = "another blob is held at this offset (at 47)";
     assert_eq!(rt; text.as_str(), expected);
     let text = format!(in rt.alloc(); "{}", PartsFault::Interleaved(47))?;
-    let expected = "the store of the blob at 47 doesn't follow the one before it";
+    let expected = "the blob at 47 lies between those of another store";
     assert_eq!(rt; text.as_str(), expected);
     Ok(())
 }

@@ -94,7 +94,7 @@ impl<K: Reader + Drop> Openings<K> for Pair<K> {
 }
 
 /// Two new stores, to each of which these frames were delivered.
-fn pair<K: NewStore>(alloc: Global, lists: [&[Frame<'_>]; 2]) -> Result<Pair<K>, Fail> {
+fn two_stores<K: NewStore>(alloc: Global, lists: [&[Frame<'_>]; 2]) -> Result<Pair<K>, Fail> {
     let [one, other] = lists;
     let (_, first) = answers_to::<K>(alloc, one)?;
     let (_, second) = answers_to::<K>(alloc, other)?;
@@ -129,7 +129,7 @@ struct Turn {
 
 fn expect_turn<K: NewStore, R: Abort + Alloc<A = Global>>(rt: &R, turn: &Turn) -> Result<(), Fail> {
     let alloc = rt.alloc();
-    let mut stores = pair::<K>(alloc, turn.lists)?;
+    let mut stores = two_stores::<K>(alloc, turn.lists)?;
     for _ in 0..2 {
         let parts = read_parts(alloc, &mut stores, 2, false)?;
         assert!(rt; extents_of_parts(alloc, &parts)?.as_slice() == turn.extents);
@@ -185,7 +185,7 @@ fn expect_interleaved<K: NewStore, R: Abort + Alloc<A = Global>>(
     off: u64,
 ) -> Result<(), Fail> {
     let alloc = rt.alloc();
-    let mut stores = pair::<K>(alloc, lists)?;
+    let mut stores = two_stores::<K>(alloc, lists)?;
     let found = read_parts(alloc, &mut stores, 2, false);
     assert!(rt;
         matches!(found, Err(PartsFault::Interleaved(at)) if at == off),
@@ -220,7 +220,7 @@ fn stores_that_do_not_follow(rt: HostRuntime) -> Result<(), Fail> {
 /// A refused export writes nothing, and each store goes on.
 fn refusals_of<K: NewStore, R: Abort + Alloc<A = Global>>(rt: &R) -> Result<(), Fail> {
     let alloc = rt.alloc();
-    let mut stores = pair::<K>(alloc, [&[NODES_AT_100], FILE])?;
+    let mut stores = two_stores::<K>(alloc, [&[NODES_AT_100], FILE])?;
     let parts = read_parts(alloc, &mut stores, 2, false)?;
     let refusals = [
         (None, ExportFault::Incomplete(84, 100)),
@@ -247,7 +247,7 @@ fn refusals_of_parts(rt: HostRuntime) -> Result<(), Fail> {
 /// The file in two stores as a PBF file: the header that an export writes, and the nodes as they came.
 fn pbf_of<K: NewStore, R: Abort + Alloc<A = Global>>(rt: &R) -> Result<(), Fail> {
     let alloc = rt.alloc();
-    let mut stores = pair::<K>(alloc, [&[NODES_AT_47], &[HEADER_AT_0]])?;
+    let mut stores = two_stores::<K>(alloc, [&[NODES_AT_47], &[HEADER_AT_0]])?;
     let parts = read_parts(alloc, &mut stores, 2, true)?;
     let mut out = Outlet::new(Vec::new(alloc));
     let result = export_parts_as_pbf(alloc, &mut stores, &parts, Some(84), false, &mut out);
@@ -265,7 +265,7 @@ fn pbf_of_parts(rt: HostRuntime) -> Result<(), Fail> {
 /// After each failure no store is open, and the lines before it were written.
 fn failures_of<K: NewStore, R: Abort + Alloc<A = Global>>(rt: &R) -> Result<(), Fail> {
     let alloc = rt.alloc();
-    let mut stores = pair::<K>(alloc, [&[NODES_AT_47], &[HEADER_AT_0]])?;
+    let mut stores = two_stores::<K>(alloc, [&[NODES_AT_47], &[HEADER_AT_0]])?;
     let found = read_parts(alloc, &mut stores, 3, false);
     assert!(rt; matches!(found, Err(PartsFault::Store(StoreFault::Disk))));
     let parts = read_parts(alloc, &mut stores, 2, false)?;
