@@ -7,7 +7,6 @@ mod faults;
 mod fixtures;
 mod history;
 mod memory;
-mod parts;
 mod questions;
 mod refusals;
 mod spoiled;
