@@ -38,7 +38,11 @@ expect "a second merge finds all of it" 0 "copied 0 held 12${nl}blobs copied 0 h
 
 # killed, and run again
 rm -f into.db into.db-wal
-timeout -s KILL 0.3 "$pbfrow" merge into.db part-1.db part-2.db part-3.db part-4.db > got.txt 2> stderr.txt
+"$pbfrow" merge into.db part-1.db part-2.db part-3.db part-4.db > got.txt 2> stderr.txt &
+sleep 0.3
+kill -9 $!
+# until it is gone it has the lock
+wait $! 2>/dev/null
 "$pbfrow" merge into.db part-1.db part-2.db part-3.db part-4.db > got.txt
 [ $? = 0 ] && pass "a merge after one that was killed" || fail "a merge after one that was killed"
 "$pbfrow" export into.db --size "$size" > got.txt

@@ -61,16 +61,28 @@ import_part=$top/examples/import_part
 "$pbfrow" ranges "$country" 4 > ranges.txt
 rm -f part-* whole.* plan plan.mk*
 
+# what was killed leaves imports that still have their databases for a while, as another machine's would
+again() {
+  local _
+  for _ in 1 2 3 4 5; do
+    "$@" > got.txt 2> stderr.txt && return 0
+    sleep 1
+  done
+  return 1
+}
+by_xargs() { xargs -P 4 -L 1 "$import_part" "$country" < ranges.txt; }
+by_make() { make -j 4 -f "$top/examples/parts.mk" FILE="$country" N=4 PBFROW="$program"; }
+
 timeout -s KILL 0.3 xargs -P 4 -L 1 "$import_part" "$country" < ranges.txt > got.txt 2> stderr.txt
-xargs -P 4 -L 1 "$import_part" "$country" < ranges.txt > got.txt 2> stderr.txt
+again by_xargs
 [ $? = 0 ] && pass "xargs ends with 0 after one that was killed" || fail "xargs ends with 0 after one that was killed"
 scheduled "parts imported by xargs"
 
 if has make; then
   timeout -s KILL 0.5 make -j 4 -f "$top/examples/parts.mk" FILE="$country" N=4 PBFROW="$program" > got.txt 2> stderr.txt
-  make -j 4 -f "$top/examples/parts.mk" FILE="$country" N=4 PBFROW="$program" > got.txt 2> stderr.txt
+  again by_make
   [ $? = 0 ] && pass "make ends with 0 after one that was killed" || fail "make ends with 0 after one that was killed"
-  make -j 4 -f "$top/examples/parts.mk" FILE="$country" N=4 PBFROW="$program" > got.txt 2> stderr.txt
+  by_make > got.txt 2> stderr.txt
   grep -q import_part got.txt && fail "a third make imports nothing" || pass "a third make imports nothing"
   expect "parts imported and merged by make" 0 "$whole" verify "$country" whole.db --elements
   rm -f part-* whole.* plan plan.mk*
