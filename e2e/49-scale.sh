@@ -1,4 +1,6 @@
+#!/usr/bin/env bash
 # A file imported in parts, side by side: cut by `ranges`, imported by several schedulers, each of which is killed and goes on.
+. "$(dirname -- "${BASH_SOURCE[0]}")/begin.sh"
 two=$top/data/two-nodes.osm.pbf
 country=$top/data/liechtenstein-raw.osm.pbf
 program=$top/crates/pbfrow/out/pbfrow
@@ -135,3 +137,4 @@ else
   skip "parts imported by Slurm" "no controller of Slurm answers"
 fi
 unset PBFROW
+counted

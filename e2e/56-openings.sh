@@ -1,5 +1,7 @@
+#!/usr/bin/env bash
 # Files that are opened as a database and aren't a sound one of ours: status and find answer one line of a fault, or what
 # is right, and leave the file so that the next program can open it.
+. "$(dirname -- "${BASH_SOURCE[0]}")/begin.sh"
 two=$top/data/two-nodes.osm.pbf
 country=$top/data/liechtenstein-raw.osm.pbf
 nl='
@@ -235,3 +237,4 @@ expect "no file: status" 1 "fault 66 NotThisStore${nl}" status nowhere.db
 expect "no file: find" 1 "fault 66 NotThisStore${nl}" find nowhere.db n1
 [ ! -e nowhere.db ] && [ ! -e nowhere.db-wal ] && pass "and no file is made" || fail "and no file is made"
 rm -f blank.db* sound.db* noise may
+counted
