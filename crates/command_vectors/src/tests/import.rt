@@ -117,7 +117,7 @@ fn imports_a_part_of<K: NewStore, R: Abort + Alloc<A = Global>>(rt: &R) -> Resul
     let mut store = K::new_store(rt.alloc()).ok_or("a store")?;
     for (part, at, status, text) in [
         (
-            &TWO_NODES[47..],
+            TWO_NODES.split_at(47).1,
             47,
             0,
             &b"47 stored 2\nblobs stored 1 held 0 bad 0 refused 0\n"[..],
@@ -134,7 +134,12 @@ fn imports_a_part_of<K: NewStore, R: Abort + Alloc<A = Global>>(rt: &R) -> Resul
             0,
             &b"0 held\n47 held\nblobs stored 0 held 2 bad 0 refused 0\n"[..],
         ),
-        (&TWO_NODES[48..], 48, 1, &b"fault 12 HeaderCut at 48\n"[..]),
+        (
+            TWO_NODES.split_at(48).1,
+            48,
+            1,
+            &b"fault 12 HeaderCut at 48\n"[..],
+        ),
     ] {
         let mut out = Outlet::new(Vec::new(rt.alloc()));
         let start = Start { dropped: 0, at };
