@@ -149,7 +149,8 @@ class Goal:
 def goals_in(said):
     """The goals that a check refused, by the path of their function."""
     found, searched = {}, []
-    for line in said.split("\n"):
+    # a message goes on in lines that begin with two spaces
+    for line in re.sub(r"\n  (?=\S)", " ", said).split("\n"):
         written = re.match(r"\./proofs/(.+)/\w+\.antt:\d+:\d+: error: `([^`]+)`: (.*)", line)
         if written and not re.search(r"was not admitted", written.group(3)):
             is_gone = re.search(r"has no field|is not in scope|has no `", written.group(3))
