@@ -3,6 +3,7 @@ mod check;
 mod import;
 mod list;
 mod merge;
+mod metered;
 mod migrate;
 mod progress;
 mod ranges;

@@ -5,9 +5,9 @@ ghost use Rattle.sqlite.specs.Held.{state};
 
 use crate::database::{adopted_or_created, close, is_missing, refuse, unopened};
 use crate::meter::Meter;
-use crate::metered::{MeteredOutput, MeteredStore};
 use osm_store::{BodyStore, Keeper, Reader, StoreFault};
 use osm_value::Outlet;
+use pbfrow_commands::metered::{MeteredOutput, MeteredStore};
 use pbfrow_commands::migrate::migrate;
 use sqlite::{Alter, Connection};
 use std::alloc::Global;
@@ -22,7 +22,15 @@ fn copied<F: Reader + Drop, T: Keeper, W: Write>(
     meter: &Meter,
     out: &mut Outlet<W>,
 ) -> u8 {
-    migrate(alloc, &mut MeteredStore::new(from, meter), to, out)
+    migrate(
+        alloc,
+        &mut MeteredStore {
+            store: from,
+            watcher: meter,
+        },
+        to,
+        out,
+    )
 }
 
 /// Copies what a store holds into the store of a connection, which is made if it has none. Answers the exit status, and
@@ -79,7 +87,10 @@ fn copy_out_of<S: Alter + Drop, W: Write>(
 /// status. Unless the first has a store of blocks, the other isn't touched.
 pub(crate) fn copy(rt: &HostRuntime, old: &str, new: &str) -> u8 {
     let meter = Meter::new(rt, true);
-    let mut out = Outlet::new(MeteredOutput::new(io::writer(rt), &meter));
+    let mut out = Outlet::new(MeteredOutput {
+        writer: io::writer(rt),
+        watcher: &meter,
+    });
     if is_missing(rt, old) {
         return refuse(&mut out, StoreFault::NotThisStore(None));
     }

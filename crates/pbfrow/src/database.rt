@@ -5,7 +5,6 @@ ghost use Rattle.sqlite.specs.Held.{state};
 
 use crate::FAULTY;
 use crate::meter::Meter;
-use crate::metered::{BlobLines, MeteredOutput, MeteredReader, MeteredStore};
 use crate::trees::open_trees;
 use osm_import::{Inlet, Stop};
 use osm_store::{Keeper, Reader, StoreFault, TableStore};
@@ -15,6 +14,7 @@ use pbf_frame::MAX_OFFSET;
 use pbfrow_commands::export::export;
 use pbfrow_commands::find::find;
 use pbfrow_commands::import::{Start, import};
+use pbfrow_commands::metered::{BlobLines, MeteredOutput, MeteredReader, MeteredStore};
 use pbfrow_commands::report::{put_fault_at, put_store_fault, refuse_memory};
 use pbfrow_commands::status::status;
 use pbfrow_words::Question;
@@ -137,7 +137,10 @@ fn answer<K: Reader + Drop, W: Write>(
             partial,
             form,
         } => {
-            let mut store = MeteredStore::new(store, meter);
+            let mut store = MeteredStore {
+                store,
+                watcher: meter,
+            };
             export(alloc, &mut store, size, partial, form, out)
         }
         Question::Find { kind, id } => find(alloc, &mut store, kind, id, out),
@@ -195,7 +198,13 @@ pub(crate) fn fill(rt: &HostRuntime, file: &str, database: &str, start: Start) -
     requires { start.at ≤ MAX_OFFSET }
 {
     let meter = Meter::new(rt, true);
-    let lines = BlobLines::new(MeteredOutput::new(io::writer(rt), &meter), &meter);
+    let lines = BlobLines {
+        writer: MeteredOutput {
+            writer: io::writer(rt),
+            watcher: &meter,
+        },
+        watcher: &meter,
+    };
     // each line goes out before more is read
     let Ok(lines) = LineWriter::new(rt.alloc(), lines) else {
         return refuse_memory(&mut Outlet::new(io::writer(rt)), Some(start.at));
@@ -207,7 +216,10 @@ pub(crate) fn fill(rt: &HostRuntime, file: &str, database: &str, start: Start) -
         return FAULTY;
     };
     meter.measure(&input);
-    let reader = MeteredReader::new(input, &meter);
+    let reader = MeteredReader {
+        reader: input,
+        watcher: &meter,
+    };
     fill_from(rt, reader, database, start, &meter, &mut out)
 }
 
@@ -258,7 +270,10 @@ fn ask_in<W: Write>(
 /// Asks a question of a database, and answers the exit status. If there is no database, none is made.
 pub(crate) fn ask(rt: &HostRuntime, database: &str, question: Question) -> u8 {
     let meter = Meter::new(rt, matches!(question, Question::Export { .. }));
-    let output = MeteredOutput::new(io::writer(rt), &meter);
+    let output = MeteredOutput {
+        writer: io::writer(rt),
+        watcher: &meter,
+    };
     let Ok(output) = BufWriter::new(rt.alloc(), output) else {
         return refuse_memory(&mut Outlet::new(io::writer(rt)), None);
     };

@@ -10,7 +10,6 @@ mod copying;
 mod database;
 mod merging;
 mod meter;
-mod metered;
 mod trees;
 mod verifying;
 
@@ -19,13 +18,13 @@ use copying::copy;
 use database::{ask, end, fill};
 use merging::merge;
 use meter::Meter;
-use metered::{MeteredOutput, MeteredReader};
 use osm_value::Outlet;
 use osm_verify::Depth;
 use pbfrow_commands::check::check;
 use pbfrow_commands::import::Start;
 use pbfrow_commands::input::refuse_input;
 use pbfrow_commands::list::list;
+use pbfrow_commands::metered::{MeteredOutput, MeteredReader};
 use pbfrow_commands::ranges::ranges;
 use pbfrow_commands::report::refuse_memory;
 use pbfrow_commands::show::show;
@@ -159,7 +158,10 @@ fn cut_file(rt: &HostRuntime, file: &str, count: u64) -> u8
     requires { 0 < count }
 {
     let meter = Meter::new(rt, true);
-    let output = MeteredOutput::new(io::writer(rt), &meter);
+    let output = MeteredOutput {
+        writer: io::writer(rt),
+        watcher: &meter,
+    };
     let Ok(output) = BufWriter::new(rt.alloc(), output) else {
         return refuse_memory(&mut Outlet::new(io::writer(rt)), Some(0));
     };
@@ -167,7 +169,10 @@ fn cut_file(rt: &HostRuntime, file: &str, count: u64) -> u8
     let status = match File::open(rt, file) {
         Ok(input) => {
             meter.measure(&input);
-            let mut input = MeteredReader::new(input, &meter);
+            let mut input = MeteredReader {
+                reader: input,
+                watcher: &meter,
+            };
             ranges(rt.alloc(), &mut input, count, &mut out)
         }
         Err(_) => refuse_input(&mut out),
@@ -178,7 +183,10 @@ fn cut_file(rt: &HostRuntime, file: &str, count: u64) -> u8
 /// Runs a command on the file, or where there is none on standard input.
 fn run_on_file(rt: HostRuntime, reading: Reading, file: Option<&str>) -> u8 {
     let meter = Meter::new(&rt, reading == Reading::Check);
-    let output = MeteredOutput::new(io::writer(&rt), &meter);
+    let output = MeteredOutput {
+        writer: io::writer(&rt),
+        watcher: &meter,
+    };
     let Ok(output) = BufWriter::new(rt.alloc(), output) else {
         return refuse_memory(&mut Outlet::new(io::writer(&rt)), Some(0));
     };
@@ -203,7 +211,10 @@ fn read_with<R: Read, W: Write>(
     meter: &Meter,
     out: &mut Outlet<W>,
 ) -> u8 {
-    let mut input = MeteredReader::new(input, meter);
+    let mut input = MeteredReader {
+        reader: input,
+        watcher: meter,
+    };
     match reading {
         Reading::List => list(alloc, &mut input, out),
         Reading::Check => check(alloc, &mut input, meter, out),

@@ -6,11 +6,11 @@ ghost use Rattle.sqlite.specs.Held.{state};
 use crate::FAULTY;
 use crate::database::{adopted_or_created, close, is_missing, refuse, unopened};
 use crate::meter::Meter;
-use crate::metered::{MeteredOutput, MeteredStore};
 use osm_import::CopyCounts;
 use osm_store::{BodyStore, Keeper, Reader, StoreFault, TableStore};
 use osm_value::Outlet;
 use pbfrow_commands::merge::{end_merge, merge_one};
+use pbfrow_commands::metered::{MeteredOutput, MeteredStore};
 use sqlite::{Alter, Connection};
 use std::alloc::Global;
 use std::io;
@@ -24,7 +24,16 @@ fn merged<F: Reader + Drop, T: Keeper, W: Write>(
     meter: &Meter,
     out: &mut Outlet<W>,
 ) -> Option<CopyCounts> {
-    merge_one(alloc, &mut MeteredStore::new(from, meter), into, out).ok()
+    merge_one(
+        alloc,
+        &mut MeteredStore {
+            store: from,
+            watcher: meter,
+        },
+        into,
+        out,
+    )
+    .ok()
 }
 
 /// Writes the line of a fault of a database that is to be copied.
@@ -118,7 +127,10 @@ fn merged_into<S: Alter + Drop, W: Write>(
 /// Copies what databases hold into one, which is made if it is missing, and answers the exit status.
 pub(crate) fn merge(rt: &HostRuntime, into: &str, from: &[&str]) -> u8 {
     let meter = Meter::new(rt, true);
-    let mut out = Outlet::new(MeteredOutput::new(io::writer(rt), &meter));
+    let mut out = Outlet::new(MeteredOutput {
+        writer: io::writer(rt),
+        watcher: &meter,
+    });
     let status = match Connection::open(rt, into) {
         Ok(connection) => close(merged_into(rt, from, connection, &meter, &mut out)),
         Err(error) => refuse(&mut out, unopened(error)),

@@ -59,34 +59,13 @@ impl<'a> Meter<'a> {
         }
     }
 
-    /// Sets how many bytes there are in all.
-    pub(crate) fn set_size(&self, size: u64) {
-        self.size.set(Some(size));
-    }
-
     /// Takes the size from a regular file. A pipe has none.
     pub(crate) fn measure(&self, file: &File) {
         if let Ok(metadata) = file.metadata() {
             if metadata.is_file() {
-                self.set_size(metadata.len());
+                self.see_size(metadata.len());
             }
         }
-    }
-
-    /// Sets how many of the bytes are done.
-    pub(crate) fn set_bytes(&self, count: u64) {
-        self.bytes.set(count);
-        self.update();
-    }
-
-    pub(crate) fn add_bytes(&self, count: u64) {
-        self.bytes.set(self.bytes.get().saturating_add(count));
-        self.update();
-    }
-
-    pub(crate) fn add_blobs(&self, count: u64) {
-        self.blobs.set(self.blobs.get().saturating_add(count));
-        self.update();
     }
 
     /// Draws the line if it is due.
@@ -123,21 +102,6 @@ impl<'a> Meter<'a> {
         self.is_drawn.set(true);
     }
 
-    /// Makes room for what goes to standard output.
-    pub(crate) fn give_way(&self) {
-        if self.shares_terminal {
-            self.erase();
-        }
-    }
-
-    /// Notes what went to standard output.
-    pub(crate) fn see_output(&self, taken: &[u8]) {
-        if let Some(last) = taken.last() {
-            self.is_inside_line
-                .set(self.shares_terminal && *last != b'\n');
-        }
-    }
-
     /// Erases the line.
     pub(crate) fn erase(&self) {
         if self.is_drawn.get() {
@@ -149,7 +113,36 @@ impl<'a> Meter<'a> {
 
 impl Watcher for Meter<'_> {
     fn see_blob(&self) {
-        self.add_blobs(1);
+        self.blobs.set(self.blobs.get().saturating_add(1));
+        self.update();
+    }
+
+    fn see_bytes(&self, count: u64) {
+        self.bytes.set(self.bytes.get().saturating_add(count));
+        self.update();
+    }
+
+    fn see_offset(&self, off: u64) {
+        self.bytes.set(off);
+        self.update();
+    }
+
+    fn see_size(&self, size: u64) {
+        self.size.set(Some(size));
+    }
+
+    /// Makes room for what goes to standard output.
+    fn give_way(&self) {
+        if self.shares_terminal {
+            self.erase();
+        }
+    }
+
+    fn see_output(&self, taken: &[u8]) {
+        if let Some(last) = taken.last() {
+            self.is_inside_line
+                .set(self.shares_terminal && *last != b'\n');
+        }
     }
 }
 

@@ -5,11 +5,11 @@ ghost use Rattle.sqlite.specs.Held.{state};
 
 use crate::database::{adopted, end, is_missing, refuse, unopened};
 use crate::meter::Meter;
-use crate::metered::{MeteredOutput, MeteredReader};
 use osm_store::StoreFault;
 use osm_value::Outlet;
 use osm_verify::Depth;
 use pbfrow_commands::input::refuse_input;
+use pbfrow_commands::metered::{MeteredOutput, MeteredReader};
 use pbfrow_commands::report::refuse_memory;
 use pbfrow_commands::verify::verify;
 use sqlite::{Alter, Connection};
@@ -56,7 +56,10 @@ fn compare_in<R: Read, W: Write>(
 /// Compares a file with a database, and answers the exit status. If there is no database, none is made.
 pub(crate) fn compare(rt: &HostRuntime, file: &str, database: &str, depth: Depth) -> u8 {
     let meter = Meter::new(rt, true);
-    let output = MeteredOutput::new(io::writer(rt), &meter);
+    let output = MeteredOutput {
+        writer: io::writer(rt),
+        watcher: &meter,
+    };
     let Ok(output) = BufWriter::new(rt.alloc(), output) else {
         return refuse_memory(&mut Outlet::new(io::writer(rt)), Some(0));
     };
@@ -64,7 +67,10 @@ pub(crate) fn compare(rt: &HostRuntime, file: &str, database: &str, depth: Depth
     let status = match File::open(rt, file) {
         Ok(input) => {
             meter.measure(&input);
-            let mut input = MeteredReader::new(input, &meter);
+            let mut input = MeteredReader {
+                reader: input,
+                watcher: &meter,
+            };
             compare_in(rt, &mut input, database, depth, &meter, &mut out)
         }
         Err(_) => refuse_input(&mut out),

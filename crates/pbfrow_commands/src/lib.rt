@@ -10,6 +10,7 @@ pub mod input;
 pub mod laws;
 pub mod list;
 pub mod merge;
+pub mod metered;
 pub mod migrate;
 pub mod progress;
 pub mod ranges;

@@ -1,19 +1,14 @@
 //! Tests of `check`.
 
-use super::support::{Breaking, Closed, Dripping, EXTRA, PLAIN_NODE, TWO_NODES, file_of};
+use super::support::{
+    Breaking, Closed, Dripping, EXTRA, PLAIN_NODE, TWO_NODES, Unwatched, file_of,
+};
 use osm_value::Outlet;
 use pbfrow_commands::check::check;
-use pbfrow_commands::watcher::Watcher;
 use std::alloc::{AllocError, Global};
 use std::io::Cursor;
 use std::process::Abort;
 use std::test::*;
-
-struct Unwatched;
-
-impl Watcher for Unwatched {
-    fn see_blob(&self) {}
-}
 
 /// The status with which a check of these bytes ends, and what it writes.
 fn checked(alloc: Global, input: &[u8]) -> (u8, Vec<u8>) {

@@ -1,6 +1,7 @@
 //! What the tests of several commands share.
 
 use pbf_frame::{Kind, write_frame};
+use pbfrow_commands::watcher::Watcher;
 use std::alloc::{AllocError, Global};
 use std::io;
 use std::io::{Read, Write};
@@ -71,4 +72,21 @@ impl Write for Closed {
     fn flush(&mut self) -> io::Result<()> {
         Ok(())
     }
+}
+
+/// A watcher that keeps nothing of what it is told.
+pub struct Unwatched;
+
+impl Watcher for Unwatched {
+    fn see_blob(&self) {}
+
+    fn see_bytes(&self, _count: u64) {}
+
+    fn see_offset(&self, _off: u64) {}
+
+    fn see_size(&self, _size: u64) {}
+
+    fn give_way(&self) {}
+
+    fn see_output(&self, _taken: &[u8]) {}
 }

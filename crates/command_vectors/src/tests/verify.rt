@@ -1,23 +1,16 @@
 //! Tests of `verify`.
 
 use super::stores::{Blocks, Columns, NewStore, import_four_blobs, import_two_nodes};
-use super::support::{Breaking, Closed, TWO_NODES};
+use super::support::{Breaking, Closed, TWO_NODES, Unwatched};
 use osm_store::{Keeper, Reader};
 use osm_value::Outlet;
 use osm_verify::Depth;
 use pbf_frame::Kind;
 use pbfrow_commands::verify::verify;
-use pbfrow_commands::watcher::Watcher;
 use std::alloc::Global;
 use std::io::{Cursor, Read};
 use std::process::Abort;
 use std::test::*;
-
-struct Unwatched;
-
-impl Watcher for Unwatched {
-    fn see_blob(&self) {}
-}
 
 /// Verifies an input against a store, and expects this exit status and exactly this text.
 fn expect_verify<K: Reader, R: Read + Drop>(

@@ -1,65 +1,48 @@
-//! Readers, writers and stores that a meter watches. Each does what the one inside it does.
+//! Readers, writers and stores that tell a watcher what they do. Each does what the one inside it does.
 
-ghost use Rattle.std.specs.Prelude.{◌≡◌};
 ghost use Rattle.osm_store.specs.Held.{HeldMap};
 
-use crate::meter::Meter;
+use crate::watcher::Watcher;
 use osm_store::{Extent, Found, Loaded, Reader, StoreFault};
 use osm_value::MemberKind;
 use std::alloc::Global;
 use std::io;
 use std::io::{Read, Write};
 
-/// A reader whose bytes are counted.
+/// A reader that tells how many bytes it gave.
 #[derive(Drop)]
-pub(crate) struct MeteredReader<'a, R> {
-    reader: R,
-    meter: &'a Meter<'a>,
+pub struct MeteredReader<'a, R, P> {
+    pub reader: R,
+    pub watcher: &'a P,
 }
 
-impl<'a, R: Read> MeteredReader<'a, R> {
-    pub(crate) fn new(reader: R, meter: &'a Meter<'a>) -> MeteredReader<'a, R>
-        ensures { result.reader ≡ reader }
-    {
-        MeteredReader { reader, meter }
-    }
-}
-
-impl<R: Read> Read for MeteredReader<'_, R> {
+impl<R: Read, P: Watcher> Read for MeteredReader<'_, R, P> {
     ghost remaining = { λ m. R.remaining m.reader };
 
     fn read(&mut self, buf: &mut [u8]) -> io::Result<usize> {
         let result = self.reader.read(buf);
         if let Ok(count) = &result {
-            self.meter.add_bytes(*count as u64);
+            self.watcher.see_bytes(*count as u64);
         }
         result
     }
 }
 
-/// A writer to standard output, for which the meter's line makes room.
+/// A writer to standard output, for which the progress line makes room.
 #[derive(Drop)]
-pub(crate) struct MeteredOutput<'a, W> {
-    writer: W,
-    meter: &'a Meter<'a>,
+pub struct MeteredOutput<'a, W, P> {
+    pub writer: W,
+    pub watcher: &'a P,
 }
 
-impl<'a, W: Write> MeteredOutput<'a, W> {
-    pub(crate) fn new(writer: W, meter: &'a Meter<'a>) -> MeteredOutput<'a, W>
-        ensures { result.writer ≡ writer }
-    {
-        MeteredOutput { writer, meter }
-    }
-}
-
-impl<W: Write> Write for MeteredOutput<'_, W> {
+impl<W: Write, P: Watcher> Write for MeteredOutput<'_, W, P> {
     ghost contents = { λ m. W.contents m.writer };
 
     fn write(&mut self, buf: &[u8]) -> io::Result<usize> {
-        self.meter.give_way();
+        self.watcher.give_way();
         let result = self.writer.write(buf);
         if let Ok(count) = &result {
-            self.meter.see_output(&buf[..*count]);
+            self.watcher.see_output(&buf[..*count]);
         }
         result
     }
@@ -69,29 +52,24 @@ impl<W: Write> Write for MeteredOutput<'_, W> {
     }
 }
 
-/// A writer of lines, each of which is counted as a blob.
+/// A writer of lines, each of which is told as a blob.
 #[derive(Drop)]
-pub(crate) struct BlobLines<'a, W> {
-    writer: W,
-    meter: &'a Meter<'a>,
+pub struct BlobLines<'a, W, P> {
+    pub writer: W,
+    pub watcher: &'a P,
 }
 
-impl<'a, W: Write> BlobLines<'a, W> {
-    pub(crate) fn new(writer: W, meter: &'a Meter<'a>) -> BlobLines<'a, W>
-        ensures { result.writer ≡ writer }
-    {
-        BlobLines { writer, meter }
-    }
-}
-
-impl<W: Write> Write for BlobLines<'_, W> {
+impl<W: Write, P: Watcher> Write for BlobLines<'_, W, P> {
     ghost contents = { λ b. W.contents b.writer };
 
     fn write(&mut self, buf: &[u8]) -> io::Result<usize> {
         let result = self.writer.write(buf);
         if let Ok(count) = &result {
-            let lines = buf[..*count].iter().filter(|byte| **byte == b'\n').count();
-            self.meter.add_blobs(lines as u64);
+            for byte in &buf[..*count] {
+                if *byte == b'\n' {
+                    self.watcher.see_blob();
+                }
+            }
         }
         result
     }
@@ -101,23 +79,15 @@ impl<W: Write> Write for BlobLines<'_, W> {
     }
 }
 
-/// A store that counts its blobs as they are loaded, in the order of their offsets, and takes these offsets as the bytes
-/// done, up to the greatest end of a blob.
+/// A store that tells of its blobs as they are loaded, in the order of their offsets: these are the bytes that are done,
+/// up to the greatest end of a blob.
 #[derive(Drop)]
-pub(crate) struct MeteredStore<'a, K> {
-    store: K,
-    meter: &'a Meter<'a>,
+pub struct MeteredStore<'a, K, P> {
+    pub store: K,
+    pub watcher: &'a P,
 }
 
-impl<'a, K: Reader> MeteredStore<'a, K> {
-    pub(crate) fn new(store: K, meter: &'a Meter<'a>) -> MeteredStore<'a, K>
-        ensures { result.store ≡ store }
-    {
-        MeteredStore { store, meter }
-    }
-}
-
-impl<K: Reader> Reader for MeteredStore<'_, K> {
+impl<K: Reader, P: Watcher> Reader for MeteredStore<'_, K, P> {
     ghost holds = { λ m held. K.holds m.store held };
 
     ghost leaves = { λ m left. K.leaves m.store left };
@@ -136,7 +106,7 @@ impl<K: Reader> Reader for MeteredStore<'_, K> {
         let answer = self.store.extents(alloc);
         if let Ok(extents) = &answer {
             if let Some(last) = extents.last() {
-                self.meter.set_size(last.fin);
+                self.watcher.see_size(last.fin);
             }
         }
         answer
@@ -152,9 +122,9 @@ impl<K: Reader> Reader for MeteredStore<'_, K> {
     }
 
     fn load(&mut self, alloc: Global, off: u64) -> Result<Loaded, StoreFault> {
-        self.meter.set_bytes(off);
+        self.watcher.see_offset(off);
         let answer = self.store.load(alloc, off);
-        self.meter.add_blobs(1);
+        self.watcher.see_blob();
         answer
     }
 
