@@ -24,12 +24,17 @@ class Function:
         return self.path, self.owner, self.name
 
     def asked(self):
-        """The path by which a check is asked for it: for a method of a trait's impl that of its module."""
-        return "::".join(self.module if self.by_trait else [*self.module, *filter(None, [self.owner]), self.name])
+        """The path by which a check is asked for it: for a method of a trait's impl that of its module, for another method the
+        end of it, since a type may stand in another module than its impl."""
+        if self.owner and not self.by_trait:
+            return f"{self.owner}::{self.name}"
+        return "::".join(self.module if self.by_trait else [*self.module, self.name])
 
     def is_called(self, path):
         """Whether this is the function of that path, where an impl has the names of its type and its trait together."""
         words = path.split("::")
+        if self.owner and not self.by_trait and words[-2:] == [self.owner, self.name]:
+            return words[:1] == self.module[:1]
         middle = words[len(self.module) : -1]
         return words[: len(self.module)] == self.module and words[-1] == self.name and (middle[0].startswith(self.owner) if middle else not self.owner)
 
