@@ -11,6 +11,7 @@ pub mod laws;
 pub mod list;
 pub mod merge;
 pub mod migrate;
+pub mod parts;
 pub mod progress;
 pub mod ranges;
 pub mod report;
