@@ -4,6 +4,7 @@ mod import;
 mod list;
 mod merge;
 mod migrate;
+mod parts;
 mod progress;
 mod ranges;
 mod show;

@@ -64,6 +64,11 @@ impl<'a> Meter<'a> {
         self.size.set(Some(size));
     }
 
+    /// Sets that there are so many bytes at least.
+    pub(crate) fn reach_size(&self, size: u64) {
+        self.set_size(size.max(self.size.get().unwrap_or(0)));
+    }
+
     /// Takes the size from a regular file. A pipe has none.
     pub(crate) fn measure(&self, file: &File) {
         if let Ok(metadata) = file.metadata() {

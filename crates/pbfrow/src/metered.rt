@@ -102,7 +102,7 @@ impl<W: Write> Write for BlobLines<'_, W> {
 }
 
 /// A store that counts its blobs as they are loaded, in the order of their offsets, and takes these offsets as the bytes
-/// done, up to the greatest end of a blob.
+/// done, up to the greatest end of a blob that it or another store of the meter has.
 #[derive(Drop)]
 pub(crate) struct MeteredStore<'a, K> {
     store: K,
@@ -136,7 +136,7 @@ impl<K: Reader> Reader for MeteredStore<'_, K> {
         let answer = self.store.extents(alloc);
         if let Ok(extents) = &answer {
             if let Some(last) = extents.last() {
-                self.meter.set_size(last.fin);
+                self.meter.reach_size(last.fin);
             }
         }
         answer
