@@ -1,0 +1,130 @@
+//! The commands on several databases that hold parts of one file: `status` and `export`.
+
+ghost use Rattle.std.specs.Prelude.{◌≡◌, IfOk};
+ghost use Rattle.osm_trees.specs.Ways.{counted};
+
+use crate::database::{adopted, end, is_missing, unopened};
+use crate::meter::Meter;
+use crate::trees::open_trees;
+use osm_parts::Openings;
+use osm_store::{Reader, StoreFault, TableStore};
+use osm_trees::{Opened, TreeReader};
+use osm_value::Outlet;
+use pbfrow_commands::metered::{MeteredOutput, MeteredStore};
+use pbfrow_commands::parts::{export_parts, status_parts};
+use pbfrow_commands::report::refuse_memory;
+use pbfrow_words::Question;
+use sqlite::{Connection, File as DatabaseFile, FileStore};
+use std::io;
+use std::io::{BufWriter, Write};
+
+/// The store of a database file that is opened by SQL, if it has one.
+fn opened_by_sql(
+    rt: &HostRuntime,
+    name: &str,
+) -> Result<TableStore<FileStore<DatabaseFile>>, StoreFault>
+    ensures { IfOk result (λ store. store.failures ≡ 0) }
+{
+    match Connection::open(rt, name) {
+        Ok(connection) => adopted(connection),
+        Err(error) => Err(unopened(error)),
+    }
+}
+
+/// The store of a database file, as a single one is read.
+type FileReader = Opened<TreeReader<FileStore<DatabaseFile>>, TableStore<FileStore<DatabaseFile>>>;
+
+/// The store of a database file, if it has one. A sound database of this version is read by its trees, and any other is
+/// opened by SQL, which says what it is.
+fn opened(rt: &HostRuntime, name: &str) -> Result<FileReader, StoreFault>
+    ensures { IfOk result (λ reader. counted (λ trees. trees.failures) (λ store. store.failures) reader ≡ 0) }
+{
+    if is_missing(rt, name) {
+        return Err(StoreFault::NotThisStore(None));
+    }
+    match open_trees(rt, name) {
+        Ok(Some(trees)) => Ok(Opened::ByTrees(TreeReader::new(trees))),
+        Ok(None) => Ok(Opened::BySql(opened_by_sql(rt, name)?)),
+        Err(refused) => Err(refused.into()),
+    }
+}
+
+/// Such a store, which tells the meter of its blobs.
+type Metered<'a> = MeteredStore<'a, FileReader, Meter<'a>>;
+
+/// Database files by their places. What they hold is said nowhere: no contract can tell what a file gives.
+#[derive(Drop)]
+struct Databases<'a> {
+    rt: &'a HostRuntime,
+    names: &'a [&'a str],
+    meter: &'a Meter<'a>,
+    failures: u64,
+}
+
+impl<'a> Openings<Metered<'a>> for Databases<'a> {
+    ghost holds = { λ databases parts. ⊥ };
+
+    ghost lends = { λ databases parts held. ⊥ };
+
+    ghost is_honest = { λ databases. ⊥ };
+
+    ghost is_open = { λ databases. ⊥ };
+
+    ghost failures = { λ databases. databases.failures };
+
+    fn open(&mut self, place: u64) -> Result<Metered<'a>, StoreFault> {
+        let answer = match self.names.get(place as usize) {
+            Some(name) => opened(self.rt, name),
+            None => Err(StoreFault::Disk),
+        };
+        match answer {
+            Ok(store) => Ok(MeteredStore {
+                store,
+                watcher: self.meter,
+            }),
+            Err(fault) => {
+                self.failures = self.failures.saturating_add(1);
+                Err(fault)
+            }
+        }
+    }
+
+    fn close(&mut self, store: Metered<'a>) {
+        self.failures = self.failures.saturating_add(store.failures());
+    }
+}
+
+/// Asks a question of several databases, and answers the exit status.
+fn ask_in_turn<W: Write>(databases: &mut Databases, question: Question, out: &mut Outlet<W>) -> u8 {
+    let alloc = databases.rt.alloc();
+    let count = databases.names.len() as u64;
+    match question {
+        Question::Status { size } => status_parts(alloc, databases, count, size, out),
+        Question::Export {
+            size,
+            partial,
+            form,
+        } => export_parts(alloc, databases, count, size, partial, form, out),
+    }
+}
+
+/// Asks a question of several databases that hold parts of one file, and answers the exit status. None is made.
+pub(crate) fn ask_parts(rt: &HostRuntime, names: &[&str], question: Question) -> u8 {
+    let meter = Meter::new(rt, matches!(question, Question::Export { .. }));
+    let output = MeteredOutput {
+        writer: io::writer(rt),
+        watcher: &meter,
+    };
+    let Ok(output) = BufWriter::new(rt.alloc(), output) else {
+        return refuse_memory(&mut Outlet::new(io::writer(rt)), None);
+    };
+    let mut out = Outlet::new(output);
+    let mut databases = Databases {
+        rt,
+        names,
+        meter: &meter,
+        failures: 0,
+    };
+    let status = ask_in_turn(&mut databases, question, &mut out);
+    end(&mut out, &meter, status)
+}
