@@ -1,15 +1,20 @@
 -- What the command `verify` prints: a line for each bad blob and each that isn't held alike, one for each extra extent, one
 -- for what ended the frames early, and the counts.
-use Rattle.std.specs.Prelude.{◌≡◌, ◌⊎◌, ℕ, ◌+◌, ◌==◌, nat_lt, Bool, true, false, ◌&&◌, List, [], ◌∷◌, ◌++◌, length, filter, codes, Result, Ok, Err, is_err}
+use Rattle.std.specs.Prelude.{◌≡◌, ◌⊎◌, ℕ, ◌+◌, ◌==◌, nat_lt, Bool, true, false, ◌&&◌, List, [], ◌∷◌, ◌++◌, length, map, filter, codes, Result, Ok, Err, is_err}
 use Rattle.std.specs.List.{count_by, flat_map, sum_by}
 use Rattle.std.specs.Fmt.{decimal}
 use Rattle.std.specs.Io.KnownBytes.{Consumes, IsAtEnd}
 use Rattle.pbf_frame.specs.declared.part.TheConstants.{MAX_OFFSET}
+use Rattle.sqlite.specs.Tree.{Trees}
 use Rattle.osm_value.specs.Sink.{Wrote}
+use Rattle.osm_value.specs.declared.element.Element.{Element}
+use Rattle.osm_store.specs.Audit.{AreCountable, counts_of as counts_of_rows}
 use Rattle.osm_store.specs.Held.{HeldMap}
 use Rattle.osm_store.specs.Keeping.{IsForeign, extents_of}
+use Rattle.osm_store.specs.declared.audit.counts.Counts.{Counts as Rows}
 use Rattle.osm_store.specs.declared.fault.StoreFault.{StoreFault}
 use Rattle.osm_store.specs.declared.keeper.Extent.{Extent}
+use Rattle.osm_store.specs.declared.schema.layout.Layout.{Layout}
 use Rattle.osm_import.specs.Bad.{IsBad}
 use Rattle.osm_import.specs.Exports.{Known}
 use Rattle.osm_import.specs.Faults.{number_of, name_of}
@@ -20,7 +25,9 @@ use Rattle.osm_import.specs.declared.stream.fault.Stop.{Stop}
 use Rattle.osm_import.specs.declared.stream.fault.Stop.TheVariants.{Frame, NoHeaderFirst, Store}
 use Rattle.osm_import.specs.declared.stream.fault.StreamFault.{StreamFault}
 use Rattle.osm_verify.specs.Agreements.{IsAgreement, begins}
+use Rattle.osm_verify.specs.Audits.{IsEntryOf, IsShown, AreShown, ShowsImport}
 use Rattle.osm_verify.specs.declared.comparing.Depth.{Depth}
+use Rattle.osm_verify.specs.declared.comparing.Depth.TheVariants.{Elements}
 use Rattle.osm_verify.specs.declared.comparing.Agreement.{Agreement}
 use Rattle.osm_verify.specs.declared.comparing.Agreement.TheVariants.{Same, Missing, Differs}
 use Rattle.pbfrow_commands.specs.Checking.{capped}
@@ -37,10 +44,11 @@ use Rattle.pbfrow_commands.specs.declared.verify.Counts.{Counts}
 abbrev pub Comparison : Type 0
 Comparison = Result Agreement Fault
 
--- that, and the held extents that begin in the frame and aren't its own
+-- that, the held extents that begin in the frame and aren't its own, and the frame's elements, none where it is bad
 pub record Compared : Type 0 where
   pub verdict : Comparison
   pub extras : List Extent
+  pub elements : List Element
 
 abbrev pub IsComparison : Depth → HeldMap → ℕ → List ℕ → Comparison → Type 0
 IsComparison depth held at w (Ok agreement) = IsAgreement depth held at w agreement
@@ -51,12 +59,24 @@ abbrev pub first_extra : ℕ → Comparison → ℕ
 first_extra at (Ok agreement) = at + 1
 first_extra at (Err fault) = at
 
+abbrev pub HasElements : ℕ → List ℕ → Comparison → List Element → Type 0
+HasElements at w (Ok agreement) elements = IsEntryOf (λ entry. Unit {0}) at w elements
+HasElements at w (Err fault) elements = elements ≡ []
+
 pub record IsCompared (depth : Depth) (held : HeldMap) (at : ℕ) (w : List ℕ) (found : Compared) : Type 0 where
   pub judged : IsComparison depth held at w found.verdict
   pub extras : found.extras ≡ filter (begins (first_extra at found.verdict) (at + length w)) (extents_of held)
+  pub elements_are : HasElements at w found.verdict found.elements
 
 abbrev pub HasCompared : Depth → HeldMap → ℕ → Part Compared → Type 0
 HasCompared depth held at p = IsCompared depth held at p.bytes p.found
+
+-- whatever rows the tables have: by elements a frame is found alike only where the rows at its offset are its blob's
+pub record IsSeen (layout : Layout) (db : Trees) (depth : Depth) (at : ℕ) (w : List ℕ) (found : Compared) : Type 0 where
+  pub shown : depth ≡ Elements → found.verdict ≡ Ok Same → IsShown layout db at w found.elements
+
+abbrev pub HasSeen : Layout → Trees → Depth → ℕ → Part Compared → Type 0
+HasSeen layout db depth at p = IsSeen layout db depth at p.bytes p.found
 
 -- ---- its lines
 
@@ -108,6 +128,14 @@ counts_line c = codes "blobs " ++ decimal c.blobs ++ codes " missing " ++ decima
 -- there is a blob, and none is bad, missing or different, and no extent is extra
 abbrev pub agree : Counts → Bool
 agree c = nat_lt 0 c.blobs && ((c.bad == 0 && c.missing == 0) && (c.differs == 0 && c.extra == 0))
+
+-- the counts of the rows of a blob more
+abbrev pub CountsMore : Rows → List Element → Rows → Type 0
+CountsMore old elements new = (before : List (List Element)) → old ≡ counts_of_rows before → new ≡ counts_of_rows (before ++ elements ∷ [])
+
+-- the counts of the rows of these blobs
+abbrev pub rows_of : List (Part Compared) → Rows
+rows_of blobs = counts_of_rows (map (λ (p : Part Compared). p.found.elements) blobs)
 
 -- ---- the whole
 
@@ -172,3 +200,10 @@ pub record VerifiesInput (depth : Depth) (held : HeldMap) (left written_old writ
   pub closed : HasClosed held (length (joined blobs)) behind sink_failed before now close
   pub text : Wrote written_old (lines_from compared_lines 0 blobs ++ close_text close blobs) written_new sink_failed
   pub status_is : status ≡ status_of (is_agreed close blobs) sink_failed
+
+-- The rows at the offset of each of the frames are those of its blob; and where SQL can count the rows of them all, queries
+-- see in the tables the rows of what an import of the frames to a new store comes to, and no others.
+pub record ShowsFile (layout : Layout) (db : Trees) (frames : List (List ℕ)) : Type 0 where
+  pub blobs : List (List Element)
+  pub shown : AreShown layout db 0 frames blobs
+  pub imported : AreCountable (counts_of_rows blobs) → ShowsImport layout db frames

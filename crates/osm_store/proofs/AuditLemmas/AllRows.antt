@@ -95,7 +95,7 @@ stand_parts row items first e =
     all-map (Stands e.0) row _ (all-flat_map _ (λ (p : Placed). parts p.0 p.1 0 (items p)) (within e)
     (all_weaker _ _ (λ (p : Placed) at. all_weaker _ _ (λ x own. first x ∙ ap (λ n. Int (pos n)) (own.0 ∙ at)) _ (parts_own p 0 (items p))) (within e) (here e)))
 
-abbrev elements_in : List Entry → List Placed
+abbrev pub elements_in : List Entry → List Placed
 elements_in es = flat_map within es
 
 placed_more : (row : Placed → Row) (e : Entry) (es : List Entry) → map row (elements_in (e ∷ es)) ≡ map row (within e) ++ map row (elements_in es)
@@ -107,7 +107,7 @@ parts_more row inner e es = ap (map row) (flat_map-append inner (within e) (elem
 
 -- ---- how many they are
 
-abbrev elements_of : Entry → List Element
+abbrev pub elements_of : Entry → List Element
 elements_of e = e.1.elements
 
 placed_length : (off position : ℕ) (es : List Element) → length (placed off position es) ≡ length es
@@ -118,7 +118,7 @@ parts_length : {A : Type 0} (off position number : ℕ) (xs : List A) → length
 parts_length off position number [] = refl
 parts_length off position number (x ∷ xs) = ap suc (parts_length off position (number + 1) xs)
 
-count_elements : (es : List Entry) → length (elements_in es) ≡ sum_by length (map elements_of es)
+pub count_elements : (es : List Entry) → length (elements_in es) ≡ sum_by length (map elements_of es)
 count_elements [] = refl
 count_elements (e ∷ es) = length-append (within e) (elements_in es) ∙ ap₂ (λ m n. m + n) (placed_length e.0 0 e.1.elements) (count_elements es) ∙ sym (sum_by-cons length e.1.elements (map elements_of es))
 
@@ -127,7 +127,7 @@ count_parts_at items off position [] = refl
 count_parts_at items off position (e ∷ es) =
     length-append (parts off position 0 (items e)) _ ∙ ap₂ (λ m n. m + n) (parts_length off position 0 (items e)) (count_parts_at items off (position + 1) es) ∙ sym (sum_by-cons (λ e. length (items e)) e es)
 
-count_parts : {A : Type 0} (items : Element → List A) (es : List Entry) → length (flat_map (λ (p : Placed). parts p.0 p.1 0 (items p.2)) (elements_in es)) ≡ sum_by (λ elements. sum_by (λ e. length (items e)) elements) (map elements_of es)
+pub count_parts : {A : Type 0} (items : Element → List A) (es : List Entry) → length (flat_map (λ (p : Placed). parts p.0 p.1 0 (items p.2)) (elements_in es)) ≡ sum_by (λ elements. sum_by (λ e. length (items e)) elements) (map elements_of es)
 count_parts items [] = refl
 count_parts items (e ∷ es) =
     ap length (flat_map-append (λ (p : Placed). parts p.0 p.1 0 (items p.2)) (within e) (elements_in es))

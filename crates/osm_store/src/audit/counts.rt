@@ -6,7 +6,7 @@ ghost use Rattle.sqlite.specs.Order.{Row as SqlRow};
 ghost use Rattle.sqlite.specs.State.{HasCleanDisk};
 ghost use Rattle.sqlite.specs.Held.{state};
 ghost use Rattle.osm_value.specs.declared.element.Element.{Element as ElementValue};
-ghost use Rattle.osm_store.specs.Audit.{HasCount, ShowsCounts, capped, counts_of, tags_in, links_in};
+ghost use Rattle.osm_store.specs.Audit.{AreCountable, HasCount, ShowsCounts, capped, counts_of, tags_in, links_in};
 ghost use Rattle.osm_store.specs.Keeping.{IsForeign};
 ghost use Rattle.osm_store.specs.Load.Asking.{IsAnswered, JustAsks};
 ghost use Rattle.osm_store.specs.Load.Selects.{selects};
@@ -55,6 +55,16 @@ impl Counts {
         self.elements = self.elements.saturating_add(elements.len() as u64);
         self.tags = self.tags.saturating_add(tags_in(elements));
         self.links = self.links.saturating_add(links_in(elements));
+    }
+
+    /// Whether SQL can count so many rows: of each table fewer than 2^63 - 1.
+    pub fn are_countable(&self) -> bool
+        ensures { IsTrue result ↔ AreCountable self.now }
+    {
+        self.blobs < MOST_ROWS
+            && self.elements < MOST_ROWS
+            && self.tags < MOST_ROWS
+            && self.links < MOST_ROWS
     }
 }
 
