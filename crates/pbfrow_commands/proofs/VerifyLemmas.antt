@@ -399,18 +399,21 @@ reads-more before trusted layout db depth left was now at w c d r s blobs p weak
 pub seen-whole : (before is_open : Type 0) (layout : Layout) (first last : Database) (depth : Depth) (left : Known) (now : Reading) (counts : Counts) (rows : Rows) (blobs : List (Part Compared)) (close : Close)
     → Reads before layout first.trees depth left now counts rows blobs → IsAtEnd now.left → first.schema ≡ schema_of layout → (is_open → before) → (is_open → last ≡ first)
     → HasCountedRows is_open layout last depth counts rows close → HasSeenInput layout first.trees depth left counts close
-seen-whole before is_open layout first last depth left now counts rows blobs (Whole extras) so_far ended schema trust there counted = (blobs, record {
-  found = so_far.found;
-  behind = now.left;
-  read = so_far.read;
-  ended = ended;
-  counted = so_far.counted;
-  shown = λ deep agreed none few.
-      let told = counted deep agreed none (subst (λ (r : Rows). AreCountable r) (sym so_far.rows_are) few) in
-      let same = there told.0 in
-      let shown = told.1 (ap (λ (d : Database). d.schema) same ∙ schema) in
-      (so_far.seen (trust told.0), subst (λ (r : Rows). ShowsCounts layout first.trees r) so_far.rows_are (subst (λ (d : Database). ShowsCounts layout d.trees rows) same shown));
-})
+seen-whole before is_open layout first last depth left now counts rows blobs (Whole extras) so_far ended schema trust there counted = (
+  blobs,
+  record {
+    found = so_far.found;
+    behind = now.left;
+    read = so_far.read;
+    ended = ended;
+    counted = so_far.counted;
+    shown = λ deep agreed none few.
+        let told = counted deep agreed none (subst (λ (r : Rows). AreCountable r) (sym so_far.rows_are) few) in
+        let same = there told.0 in
+        let shown = told.1 (ap (λ (d : Database). d.schema) same ∙ schema) in
+        (so_far.seen (trust told.0), subst (λ (r : Rows). ShowsCounts layout first.trees r) so_far.rows_are (subst (λ (d : Database). ShowsCounts layout d.trees rows) same shown));
+  },
+)
 seen-whole before is_open layout first last depth left now counts rows blobs (Early stop) so_far ended schema trust there counted = tt
 seen-whole before is_open layout first last depth left now counts rows blobs Unwritten so_far ended schema trust there counted = tt
 

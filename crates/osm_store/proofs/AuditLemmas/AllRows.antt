@@ -1,5 +1,5 @@
 -- Rows that are those of each blob at its offset, and no more rows than these, are those of the map.
-use Rattle.std.proofs.Common.{◌≡◌, inl, inr, ℕ, suc, ◌+◌, ◌-◌, ◌^◌, ◌<◌, min, pos, Bool, true, false, not, ◌==◌, List, [], ◌∷◌, ◌++◌, map, length, length-append, refl, sym, ap, ap₂, subst, ◌∙◌, arith, IsPermutation}
+use Rattle.std.proofs.Common.{◌≡◌, inl, inr, ℕ, suc, ◌+◌, ◌-◌, ◌^◌, ◌<◌, min, pos, Bool, false, not, ◌==◌, List, [], ◌∷◌, ◌++◌, map, length, length-append, refl, sym, ap, ap₂, subst, ◌∙◌, arith, IsPermutation}
 use Rattle.std.specs.Prelude.{filter, flat_map, sum_by}
 use Rattle.std.specs.FinMap.{entries}
 use Rattle.std.specs.List.{AllByRecursion}
@@ -21,14 +21,13 @@ use Rattle.sqlite_trees.specs.Tree.{IsAscending}
 use Rattle.sqlite_trees.proofs.ListLemmas.{all_weaker, all_both, all-permutation, all-map, all-flat_map, IsPermutation-same}
 use Rattle.osm_value.specs.declared.element.Element.{Element}
 use Rattle.osm_value.specs.Elements.{tags_of_element}
-use Rattle.osm_store.specs.Audit.{is_at, HasAt, HasCount, ShowsBlob, ShowsCounts, ShowsMap, ShowElementsAt, capped, counts_of, tags_in, links_in, seen, seen_extents, seen_bodies, seen_elements, seen_tags, seen_links}
-use Rattle.osm_store.specs.declared.audit.counts.Counts.{Counts}
+use Rattle.osm_store.specs.Audit.{is_at, HasAt, HasCount, ShowsBlob, ShowsCounts, ShowsMap, capped, counts_of, seen, seen_extents}
 use Rattle.osm_store.specs.declared.schema.layout.Layout.{Layout}
 use Rattle.osm_store.specs.declared.schema.layout.Layout.TheVariants.{Bodies, Tables}
-use Rattle.osm_store.specs.Held.{Blob, HeldMap}
+use Rattle.osm_store.specs.Held.{HeldMap}
 use Rattle.osm_store.specs.Keeping.{extent_of}
 use Rattle.osm_store.specs.Rows.{Placed, placed, body_row, extent_columns}
-use Rattle.osm_store.specs.TableRows.{Part, parts, element_row, tag_row, tags_at, link_row, links_at, links_of}
+use Rattle.osm_store.specs.TableRows.{Part, parts, element_row, tag_row, link_row, links_of}
 use Rattle.osm_store.proofs.ListLemmas.CompareLemmas.{same_number}
 use Rattle.osm_store.proofs.MapLemmas.PartLaws.{parts_own}
 use Rattle.osm_store.proofs.MapLemmas.PlacedLaws.{Entry, entries_rise, within, here}

@@ -1,6 +1,6 @@
 -- The rows at an offset of a held map are those of the blob there and of no other, and the tables have as many rows as the map.
-use Rattle.std.proofs.Common.{◌≡◌, inl, inr, ℕ, ◌+◌, ◌-◌, ◌^◌, ◌<◌, ◌==◌, min, pos, Bool, true, false, cond, eqb, List, [], ◌∷◌, map, length, Option, Some, None, refl, sym, ap, ap₂, subst, ◌∙◌, arith, IsPermutation}
-use Rattle.std.specs.Prelude.{filter, flat_map, sum_by}
+use Rattle.std.proofs.Common.{◌≡◌, inl, inr, ℕ, ◌+◌, ◌-◌, ◌^◌, ◌<◌, ◌==◌, min, pos, Bool, true, false, cond, eqb, List, [], ◌∷◌, map, length, Option, Some, None, refl, sym, ap, subst, ◌∙◌, arith, IsPermutation}
+use Rattle.std.specs.Prelude.{filter, flat_map}
 use Rattle.std.specs.Ordering.{nat_cmp}
 use Rattle.std.specs.Cmp.{unsigned_tied}
 use Rattle.std.specs.FinMap.{entries, get, find, get-entries}
@@ -23,16 +23,16 @@ use Rattle.sqlite_trees.proofs.ListLemmas.{all_weaker, all-permutation, filter-m
 use Rattle.osm_value.specs.declared.element.Element.{Element}
 use Rattle.osm_value.specs.Elements.{tags_of_element}
 use Rattle.osm_write.specs.Canon.{canon}
-use Rattle.osm_store.specs.Audit.{is_at, seen, HasAt, HasCount, ShowsBlob, ShowsCounts, ShowElementsAt, AreCountable, IsPlain, capped, counts_of, elements_held}
+use Rattle.osm_store.specs.Audit.{is_at, seen, HasAt, ShowsBlob, ShowsCounts, ShowElementsAt, AreCountable, IsPlain, counts_of, elements_held}
 use Rattle.osm_store.specs.declared.keeper.Extent.{Extent}
 use Rattle.osm_store.specs.declared.schema.layout.Layout.{Layout}
 use Rattle.osm_store.specs.declared.schema.layout.Layout.TheVariants.{Bodies, Tables}
 use Rattle.osm_store.specs.Held.{Blob, HeldMap}
 use Rattle.osm_store.specs.Keeping.{extent_of, extents_of}
 use Rattle.osm_store.specs.LayoutHolding.{Holds, IsBlob, IsKept, TablesHold}
-use Rattle.osm_store.specs.Rows.{Placed, IsBefore, IsStored, placed, placed_in, is_in, body_row, extent_columns, blob_code}
+use Rattle.osm_store.specs.Rows.{Placed, IsBefore, IsStored, placed, placed_in, body_row, extent_columns, blob_code}
 use Rattle.osm_store.specs.Schema.Layouts.{schema_of}
-use Rattle.osm_store.specs.TableRows.{Part, element_row, tags_at, tag_row, tag_rows, links_at, links_of, link_row, link_rows}
+use Rattle.osm_store.specs.TableRows.{element_row, tags_at, tag_row, tag_rows, links_at, links_of, link_row, link_rows}
 use Rattle.osm_store.proofs.AuditLemmas.AllRows.{count_elements, count_parts}
 use Rattle.osm_store.proofs.ListLemmas.CompareLemmas.{same_number}
 use Rattle.osm_store.proofs.LoadLemmas.ReadLemmas.{ascending_among}

@@ -61,11 +61,17 @@ impl Counts {
     pub fn are_countable(&self) -> bool
         ensures { IsTrue result ↔ AreCountable self.now }
     {
-        self.blobs < MOST_ROWS
-            && self.elements < MOST_ROWS
-            && self.tags < MOST_ROWS
-            && self.links < MOST_ROWS
+        let held = are_few(self.blobs, self.elements);
+        let parts = are_few(self.tags, self.links);
+        held && parts
     }
+}
+
+/// Whether SQL can count so many rows, in either of two tables.
+fn are_few(one: u64, other: u64) -> bool
+    ensures { IsTrue result ↔ ((one < 2 ^ 63 - 1) × (other < 2 ^ 63 - 1)) }
+{
+    one < MOST_ROWS && other < MOST_ROWS
 }
 
 /// How many tags elements have, up to 2^64 - 1.

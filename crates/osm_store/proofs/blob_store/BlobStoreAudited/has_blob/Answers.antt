@@ -1,4 +1,4 @@
-use Rattle.std.proofs.Common.{◌≡◌, ℕ, [], ◌∷◌, length, sym, subst}
+use Rattle.std.proofs.Common.{◌≡◌, ℕ, [], ◌∷◌, sym, subst}
 use Rattle.std.specs.Prelude.{◌↔◌, IfOk, IsTrue}
 use Rattle.sqlite.specs.Held.{state}
 use Rattle.osm_store.specs.Audit.{HasAt, ShowElementsAt, ShowsBlob, seen_extents}
@@ -43,6 +43,6 @@ pub returns-clause-held : goal.returns-clause-held
 returns-clause-held g c held holds clean plain =
     let layout = g.L.StoreLayout.LAYOUT in
     let blob : Blob = record { fin = c.args.fin; digest = c.args.digest.now; kind = c.args.kind; elements = c.args.elements.now } in
-    let old = state g.S.Store c.self.old.connection in
+    let old = state g.S.Store c.args.self.now.connection in
     ok_told c.has_rows_of-answer.result (λ b told. iff_then told (holds_shown layout old held holds c.args.off blob plain, shows_held layout old held holds c.args.off blob))
     (returns-clause-told g c clean (has_schema layout old held holds))

@@ -33,6 +33,6 @@ returns-clause-reads g c =
 pub returns-clause-held : goal.returns-clause-held
 returns-clause-held g c held holds clean same few =
     let layout = g.L.StoreLayout.LAYOUT in
-    let old = state g.S.Store c.self.old.connection in
+    let old = state g.S.Store c.args.self.now.connection in
     let shown = subst (λ (n : Counts). ShowsCounts layout old.committed.trees n) (sym same) (counts_held layout old held holds (subst (λ (n : Counts). AreCountable n) same few)) in
     ok_told c.has_counts_of-answer.result (λ b told. told.1 shown) (returns-clause-told g c clean (has_schema layout old held holds))
