@@ -54,33 +54,33 @@ returns-clause-compared g c = λ held holds honest.
 -- ---- whatever rows the tables have
 
 pub returns-in-None-clause-shown : goal.returns-in-None-clause-shown
-returns-in-None-clause-shown g c = λ honest open schema deep same. absurd (cc)
+returns-in-None-clause-shown g c = λ honest up schema deep same. absurd (cc)
 
 pub returns-then-not-is_extent_of-clause-shown : goal.returns-then-not-is_extent_of-clause-shown
-returns-then-not-is_extent_of-clause-shown g c = λ honest open schema deep same. absurd (cc)
+returns-then-not-is_extent_of-clause-shown g c = λ honest up schema deep same. absurd (cc)
 
 pub returns-then-eq-clause-shown : goal.returns-then-eq-clause-shown
-returns-then-eq-clause-shown g c = λ honest open schema deep same.
+returns-then-eq-clause-shown g c = λ honest up schema deep same.
     let shallow : c.args.depth ≡ Extents = search rules in
     let bad : Extents ≡ Elements = sym shallow ∙ deep in absurd (cc)
 
 pub returns-then-branch-clause-shown : goal.returns-then-branch-clause-shown
-returns-then-branch-clause-shown g c = λ honest open schema deep same.
+returns-then-branch-clause-shown g c = λ honest up schema deep same.
     let K = g.K.Audited in
     let asked = c.in_ok-has_frame.ensures in
-    let first = c.in_ok-touched.ensures.reads.same (asked.rereads.stays.honest honest) (asked.rereads.stays.open_if open) in
+    let first = c.in_ok-touched.ensures.reads.same (asked.rereads.stays.honest honest) (asked.rereads.stays.open_if up) in
     let there = g.met.K.Audited.same_database _ _ first in
     subst (λ (db : Database). IsShown K.layout db.trees c.args.off c.args.bytes.now c.args.good.now.elements.items) there ((asked.told honest (ap (λ (db : Database). db.schema) there ∙ schema)).0 c.if-branch.true)
 
 pub returns-clause-shown : goal.returns-clause-shown
-returns-clause-shown g c = λ honest open schema deep same. absurd (cc)
+returns-clause-shown g c = λ honest up schema deep same. absurd (cc)
 
 pub returns-then-branch-clause-same : goal.returns-then-branch-clause-same
-returns-then-branch-clause-same g c = λ honest open.
+returns-then-branch-clause-same g c = λ honest up.
     let asked = c.in_ok-has_frame.ensures in
-    g.met.K.Reader.same_tables_then _ _ _ (c.in_ok-touched.ensures.reads.same (asked.rereads.stays.honest honest) (asked.rereads.stays.open_if open)) (asked.same honest open)
+    g.met.K.Reader.same_tables_then _ _ _ (c.in_ok-touched.ensures.reads.same (asked.rereads.stays.honest honest) (asked.rereads.stays.open_if up)) (asked.same honest up)
 
 pub returns-clause-same : goal.returns-clause-same
-returns-clause-same g c = λ honest open.
+returns-clause-same g c = λ honest up.
     let asked = c.in_ok-has_frame.ensures in
-    g.met.K.Reader.same_tables_then _ _ _ (c.in_ok-touched.ensures.reads.same (asked.rereads.stays.honest honest) (asked.rereads.stays.open_if open)) (asked.same honest open)
+    g.met.K.Reader.same_tables_then _ _ _ (c.in_ok-touched.ensures.reads.same (asked.rereads.stays.honest honest) (asked.rereads.stays.open_if up)) (asked.same honest up)

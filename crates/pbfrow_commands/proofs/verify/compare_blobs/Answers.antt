@@ -30,7 +30,7 @@ loop-frames-init g c =
       end = sym here;
       limit = omega arith;
       going = λ held holds honest. ([], going-none (HasCompared c.args.depth held) compared_lines left (g.W.Write.contents c.args.out.now.writer) c.in-Ok.frames c.args.out.now.has_failed here same, c.requires, refl);
-      same = λ honest open. g.met.K.Reader.same_tables_self _;
+      same = λ honest up. g.met.K.Reader.same_tables_self _;
       reads = ([], reads-none _ _ _ _ left _ _ _ here same c.requires refl);
     }
 
@@ -80,7 +80,7 @@ loop-frames-preserved g c =
             told.5 blobs before.2,
             rows-push blobs p _ _ told.6 before.3,
           );
-      same = λ honest open. g.met.K.Reader.same_tables_then _ _ _ (inv.same (stays.honest honest) (stays.open_if open)) (ok.same honest open);
+      same = λ honest up. g.met.K.Reader.same_tables_then _ _ _ (inv.same (stays.honest honest) (stays.open_if up)) (ok.same honest up);
       reads =
           let K = g.K.Reader in
           let A = g.K.Audited in
@@ -198,4 +198,4 @@ returns-in-Ok-None-clause-seen g c = λ honest schema.
     (sym fine.frames) before.1 in
     let ends : ReadsFrame was now (Ok None) = rw (c.in-Ok-None.is, c.in-Ok-None.field-0-is) at c.next.follows.holds-at-none in
     seen-whole _ (K.is_open c.close_whole.new.store) A.layout (A.database first) (A.database c.loop-frames.store) c.args.depth _ was _ _ before.0 c.close_whole.result so_far ends.0 schema
-    (λ open. (stays.honest honest, stays.open_if open, schema)) (λ open. g.met.K.Audited.same_database _ _ (inv.same (stays.honest honest) (stays.open_if open))) (c.close_whole.ensures.shown honest)
+    (λ up. (stays.honest honest, stays.open_if up, schema)) (λ up. g.met.K.Audited.same_database _ _ (inv.same (stays.honest honest) (stays.open_if up))) (c.close_whole.ensures.shown honest)
