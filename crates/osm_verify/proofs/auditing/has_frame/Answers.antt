@@ -3,7 +3,6 @@ use Rattle.std.specs.List.{AllByRecursion}
 use Rattle.std.proofs.lemmas.Result.{IfOk-weaker}
 use Rattle.osm_value.specs.declared.element.Element.{Element}
 use Rattle.osm_value.specs.Elements.{IsElement}
-use Rattle.osm_store.specs.Audit.{IsPlain}
 use Rattle.osm_store.specs.Held.{Blob}
 use Rattle.osm_import.specs.Good.{IsGood}
 use Rattle.osm_import.specs.Step.{IsEntry}

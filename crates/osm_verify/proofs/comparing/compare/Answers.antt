@@ -4,8 +4,6 @@ use Rattle.sqlite.specs.Effect.{Database}
 use Rattle.osm_store.specs.declared.keeper.Extent.{Extent}
 use Rattle.osm_verify.specs.Agreements.{IsSame}
 use Rattle.osm_verify.specs.Audits.{IsShown}
-use Rattle.osm_verify.specs.declared.comparing.Agreement.{Agreement}
-use Rattle.osm_verify.specs.declared.comparing.Agreement.TheVariants.{Same, Missing, Differs}
 use Rattle.osm_verify.specs.declared.comparing.Depth.{Depth}
 use Rattle.osm_verify.specs.declared.comparing.Depth.TheVariants.{Extents, Elements}
 use Rattle.osm_verify.proofs.HeldThere.{held-at, missing-at, other-extent, same-extent, same-deep, other-deep}
