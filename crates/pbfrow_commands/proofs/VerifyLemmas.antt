@@ -11,8 +11,6 @@ use Rattle.std.proofs.lemmas.List.Sums.{sum_by-cons}
 use Rattle.std.proofs.lemmas.List.{nil_from_length}
 use Rattle.pbf_frame.specs.declared.fault.FrameFault.{FrameFault}
 use Rattle.pbf_frame.specs.declared.part.TheConstants.{MAX_OFFSET}
-use Rattle.sqlite.specs.Effect.{Database}
-use Rattle.sqlite.specs.Tree.{Trees}
 use Rattle.osm_value.specs.Sink.{Writes}
 use Rattle.osm_value.specs.declared.element.Element.{Element}
 use Rattle.osm_store.specs.Audit.{AreCountable, ShowsCounts, counts_of as counts_of_rows, elements_held}
@@ -35,7 +33,7 @@ use Rattle.osm_import.specs.declared.stream.fault.Stop.{Stop}
 use Rattle.osm_import.specs.declared.stream.fault.Stop.TheVariants.{Frame, NoHeaderFirst, WriteFailed, Store, ReadFailed, BlobLimit}
 use Rattle.osm_import.specs.declared.stream.fault.StreamFault.{StreamFault}
 use Rattle.osm_verify.specs.Agreements.{begins}
-use Rattle.osm_verify.specs.Audits.{AreEntries, AreShown}
+use Rattle.osm_verify.specs.Audits.{Database, Trees, AreEntries, AreShown}
 use Rattle.osm_verify.specs.Laws.{AreSame, AreAlone, IsExact}
 use Rattle.osm_verify.specs.declared.comparing.Depth.{Depth}
 use Rattle.osm_verify.specs.declared.comparing.Depth.TheVariants.{Elements}

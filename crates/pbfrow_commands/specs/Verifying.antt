@@ -5,8 +5,6 @@ use Rattle.std.specs.List.{count_by, flat_map, sum_by}
 use Rattle.std.specs.Fmt.{decimal}
 use Rattle.std.specs.Io.KnownBytes.{Consumes, IsAtEnd}
 use Rattle.pbf_frame.specs.declared.part.TheConstants.{MAX_OFFSET}
-use Rattle.sqlite.specs.Effect.{Database}
-use Rattle.sqlite.specs.Tree.{Trees}
 use Rattle.osm_value.specs.Sink.{Wrote}
 use Rattle.osm_value.specs.declared.element.Element.{Element}
 use Rattle.osm_store.specs.Audit.{AreCountable, ShowsCounts, counts_of as counts_of_rows}
@@ -27,7 +25,7 @@ use Rattle.osm_import.specs.declared.stream.fault.Stop.{Stop}
 use Rattle.osm_import.specs.declared.stream.fault.Stop.TheVariants.{Frame, NoHeaderFirst, Store}
 use Rattle.osm_import.specs.declared.stream.fault.StreamFault.{StreamFault}
 use Rattle.osm_verify.specs.Agreements.{IsAgreement, begins}
-use Rattle.osm_verify.specs.Audits.{IsEntryOf, AreEntries, IsShown, ShowsImport}
+use Rattle.osm_verify.specs.Audits.{Database, Trees, IsEntryOf, AreEntries, IsShown, ShowsImport}
 use Rattle.osm_verify.specs.declared.comparing.Depth.{Depth}
 use Rattle.osm_verify.specs.declared.comparing.Depth.TheVariants.{Elements}
 use Rattle.osm_verify.specs.declared.comparing.Agreement.{Agreement}

@@ -1,6 +1,6 @@
 use Rattle.std.proofs.Common.{◌≡◌, ◌≤◌, ◌∙◌, ◌++◌, [], ◌∷◌, Ok, None, refl, sym, subst, ap, arith, rules}
-use Rattle.sqlite.specs.Effect.{Database}
 use Rattle.osm_store.specs.Schema.Layouts.{schema_of}
+use Rattle.osm_verify.specs.Audits.{Database}
 use Rattle.osm_import.specs.FrameReads.{GivesFrame, Halts, Reading, ReadsFrame}
 use Rattle.osm_import.specs.declared.stream.fault.Stop.TheVariants.{Store}
 use Rattle.osm_import.specs.declared.stream.fault.StreamFault.{StreamFault}
@@ -181,7 +181,9 @@ returns-in-Err-next-clause-told g c = λ held holds honest.
 -- ---- whatever rows the tables have
 
 pub returns-in-Err-compare_blob-clause-seen : goal.returns-in-Err-compare_blob-clause-seen
-returns-in-Err-compare_blob-clause-seen g c = λ honest schema. subst (λ (close : Close). HasSeenInput _ _ _ _ _ close) (sym c.broken.ensures) tt
+returns-in-Err-compare_blob-clause-seen g c = λ honest schema.
+    let A = g.K.Audited in
+    subst (λ (close : Close). HasSeenInput A.layout (A.database c.args.store.now).trees c.args.depth (g.R.Read.remaining c.args.input.now) c.compare_blob.new.counts close) (sym c.broken.ensures) tt
 
 pub returns-in-Ok-None-clause-seen : goal.returns-in-Ok-None-clause-seen
 returns-in-Ok-None-clause-seen g c = λ honest schema.
