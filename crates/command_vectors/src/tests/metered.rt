@@ -13,6 +13,7 @@ use std::io::Cursor;
 use std::test::*;
 
 /// A watcher that counts what it is told.
+#[derive(Drop)]
 struct Counting {
     blobs: Cell<u64>,
     bytes: Cell<u64>,
