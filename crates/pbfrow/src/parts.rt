@@ -1,6 +1,7 @@
 //! The commands on several databases that hold parts of one file: `status` and `export`.
 
 ghost use Rattle.std.specs.Prelude.{◌≡◌, IfOk};
+ghost use Rattle.osm_parts.specs.Opening.{AddsUp};
 ghost use Rattle.osm_trees.specs.Ways.{counted};
 
 use crate::database::{adopted, end, is_missing, unopened};
@@ -49,6 +50,23 @@ fn opened(rt: &HostRuntime, name: &str) -> Result<FileReader, StoreFault>
     }
 }
 
+/// So many failures and so many more, up to 2^64 - 1.
+fn add_failures(before: u64, more: u64) -> u64
+    ensures { AddsUp before more result }
+{
+    match before.checked_add(more) {
+        Some(sum) => sum,
+        None => u64::MAX,
+    }
+}
+
+/// Lets a store go, and answers how many of its calls have failed.
+fn let_go<K: Reader + Drop>(store: K) -> u64
+    ensures { result ≡ K.failures store }
+{
+    store.failures()
+}
+
 /// Such a store, which tells the meter of its blobs.
 type Metered<'a> = MeteredStore<'a, FileReader, Meter<'a>>;
 
@@ -90,7 +108,7 @@ impl<'a> Openings<Metered<'a>> for Databases<'a> {
     }
 
     fn close(&mut self, store: Metered<'a>) {
-        self.failures = self.failures.saturating_add(store.failures());
+        self.failures = add_failures(self.failures, let_go(store));
     }
 }
 
