@@ -16,6 +16,7 @@ use pbfrow_commands::parts::{export_parts, status_parts};
 use pbfrow_commands::report::refuse_memory;
 use pbfrow_words::Question;
 use sqlite::{Connection, File as DatabaseFile, FileStore};
+use std::alloc::Global;
 use std::io;
 use std::io::{BufWriter, Write};
 
@@ -67,19 +68,39 @@ fn let_go<K: Reader + Drop>(store: K) -> u64
     store.failures()
 }
 
-/// Such a store, which tells the meter of its blobs.
-type Metered<'a> = MeteredStore<'a, FileReader, Meter<'a>>;
+/// What opens stores by their places, counted from 0.
+trait Opens<K: Reader> {
+    fn open_at(&self, place: u64) -> Result<K, StoreFault>
+        ensures { IfOk result (λ store. K.failures store ≡ 0) };
+}
 
-/// Database files by their places. What they hold is said nowhere: no contract can tell what a file gives.
+/// Database files by their places.
 #[derive(Drop)]
-struct Databases<'a> {
+struct Files<'a> {
     rt: &'a HostRuntime,
     names: &'a [&'a str],
+}
+
+impl Opens<FileReader> for Files<'_> {
+    fn open_at(&self, place: u64) -> Result<FileReader, StoreFault> {
+        match self.names.get(place as usize) {
+            Some(name) => opened(self.rt, name),
+            None => Err(StoreFault::Disk),
+        }
+    }
+}
+
+/// Databases by their places, each of which tells the meter of its blobs. What they hold is said nowhere: no contract can
+/// tell what a file gives.
+#[derive(Drop)]
+struct Databases<'a, F> {
+    files: F,
     meter: &'a Meter<'a>,
     failures: u64,
 }
 
-impl<'a> Openings<Metered<'a>> for Databases<'a> {
+impl<'a, K: Reader + Drop, F: Opens<K>> Openings<MeteredStore<'a, K, Meter<'a>>>
+    for Databases<'a, F> {
     ghost holds = { λ databases parts. ⊥ };
 
     ghost lends = { λ databases parts held. ⊥ };
@@ -90,12 +111,8 @@ impl<'a> Openings<Metered<'a>> for Databases<'a> {
 
     ghost failures = { λ databases. databases.failures };
 
-    fn open(&mut self, place: u64) -> Result<Metered<'a>, StoreFault> {
-        let answer = match self.names.get(place as usize) {
-            Some(name) => opened(self.rt, name),
-            None => Err(StoreFault::Disk),
-        };
-        match answer {
+    fn open(&mut self, place: u64) -> Result<MeteredStore<'a, K, Meter<'a>>, StoreFault> {
+        match self.files.open_at(place) {
             Ok(store) => Ok(MeteredStore {
                 store,
                 watcher: self.meter,
@@ -107,22 +124,26 @@ impl<'a> Openings<Metered<'a>> for Databases<'a> {
         }
     }
 
-    fn close(&mut self, store: Metered<'a>) {
+    fn close(&mut self, store: MeteredStore<'a, K, Meter<'a>>) {
         self.failures = add_failures(self.failures, let_go(store));
     }
 }
 
-/// Asks a question of several databases, and answers the exit status.
-fn ask_in_turn<W: Write>(databases: &mut Databases, question: Question, out: &mut Outlet<W>) -> u8 {
-    let alloc = databases.rt.alloc();
-    let count = databases.names.len() as u64;
+/// Asks a question of `count` stores, which are opened one after the other, and answers the exit status.
+fn ask_in_turn<K: Reader + Drop, O: Openings<K>, W: Write>(
+    alloc: Global,
+    openings: &mut O,
+    count: u64,
+    question: Question,
+    out: &mut Outlet<W>,
+) -> u8 {
     match question {
-        Question::Status { size } => status_parts(alloc, databases, count, size, out),
+        Question::Status { size } => status_parts(alloc, openings, count, size, out),
         Question::Export {
             size,
             partial,
             form,
-        } => export_parts(alloc, databases, count, size, partial, form, out),
+        } => export_parts(alloc, openings, count, size, partial, form, out),
     }
 }
 
@@ -138,11 +159,11 @@ pub(crate) fn ask_parts(rt: &HostRuntime, names: &[&str], question: Question) ->
     };
     let mut out = Outlet::new(output);
     let mut databases = Databases {
-        rt,
-        names,
+        files: Files { rt, names },
         meter: &meter,
         failures: 0,
     };
-    let status = ask_in_turn(&mut databases, question, &mut out);
+    let count = names.len() as u64;
+    let status = ask_in_turn(rt.alloc(), &mut databases, count, question, &mut out);
     end(&mut out, &meter, status)
 }
