@@ -15,7 +15,8 @@ use pbfrow_commands::metered::{MeteredOutput, MeteredStore};
 use pbfrow_commands::parts::{export_parts, status_parts};
 use pbfrow_commands::report::refuse_memory;
 use pbfrow_words::Question;
-use sqlite::{Connection, File as DatabaseFile, FileStore};
+use sqlite::{Alter, Connection, File as DatabaseFile, FileStore};
+use sqlite_trees::store::Store;
 use std::alloc::Global;
 use std::io;
 use std::io::{BufWriter, Write};
@@ -147,6 +148,28 @@ fn ask_in_turn<K: Reader + Drop, O: Openings<K>, W: Write>(
     }
 }
 
+/// Asks a question of `count` databases, and answers the exit status.
+fn ask_opened<
+    T: Store + Drop,
+    S: Alter + Drop,
+    F: Opens<Opened<TreeReader<T>, TableStore<S>>> + Drop,
+    W: Write,
+>(
+    alloc: Global,
+    files: F,
+    count: u64,
+    question: Question,
+    meter: &Meter,
+    out: &mut Outlet<W>,
+) -> u8 {
+    let mut databases = Databases {
+        files,
+        meter,
+        failures: 0,
+    };
+    ask_in_turn(alloc, &mut databases, count, question, out)
+}
+
 /// Asks a question of several databases that hold parts of one file, and answers the exit status. None is made.
 pub(crate) fn ask_parts(rt: &HostRuntime, names: &[&str], question: Question) -> u8 {
     let meter = Meter::new(rt, matches!(question, Question::Export { .. }));
@@ -158,12 +181,8 @@ pub(crate) fn ask_parts(rt: &HostRuntime, names: &[&str], question: Question) ->
         return refuse_memory(&mut Outlet::new(io::writer(rt)), None);
     };
     let mut out = Outlet::new(output);
-    let mut databases = Databases {
-        files: Files { rt, names },
-        meter: &meter,
-        failures: 0,
-    };
+    let files = Files { rt, names };
     let count = names.len() as u64;
-    let status = ask_in_turn(rt.alloc(), &mut databases, count, question, &mut out);
+    let status = ask_opened(rt.alloc(), files, count, question, &meter, &mut out);
     end(&mut out, &meter, status)
 }
