@@ -112,7 +112,14 @@ if has sqlite3; then
   changes "a time that is gone" "UPDATE element SET time = NULL $node" - "differs 98"
   changes "a last element that is gone" "DELETE FROM tag $of AND pos = 7999; DELETE FROM element $of AND pos = 7999" - "differs 98"
   changes "a member with another role" "UPDATE link SET role = 'none' WHERE off = 111576 AND pos = 0 AND k = 0" - "differs 111576"
-  changes "a row that no element has" "UPDATE element SET version = -2 $node" - "fault 66 NotThisStore at 98"
+  changes "a row that no element has" "UPDATE element SET version = -2 $node" - "differs 98"
+  changes "one more tag" "INSERT INTO tag (off, pos, k, key, val) VALUES (98, 6689, 99, 'a', 'b')" - "differs 98"
+  # rows at no offset of the file: the counts at its end tell these
+  behind="fault 66 NotThisStore at 163855"
+  changes "a tag in no blob" "INSERT INTO tag (off, pos, k, key, val) VALUES (99, 0, 0, 'a', 'b')" - "$behind"
+  changes "a member in no blob" "INSERT INTO link (off, pos, k, kind, ref, role) VALUES (99, 0, 0, 0, 1, '')" - "$behind"
+  changes "an element in no blob" "INSERT INTO element (off, pos, kind, id, lat, lon) VALUES (99, 0, 0, 1, 2, 3)" - "$behind"
+  changes "a blob at a negative offset" "INSERT INTO blob VALUES (-5, 0, zeroblob(32), 2, 0)" - "$behind"
 else
   skip "verify of databases that were changed" "sqlite3 isn't installed"
 fi

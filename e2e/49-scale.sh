@@ -48,8 +48,19 @@ expect "an empty file at 0" 1 "fault 61 NoHeaderFirst at 0${nl}" import /dev/nul
 expect "a part and bytes to drop" 2 "" import "$two" part-47.db --from 47 --at 47
 expect "a part above 2^62" 2 "" import "$two" part-47.db --at 4611686018427387905
 
-# scheduled NAME: the parts in this folder, merged, are the extract; the folder is left empty.
+# what one import of the whole gives
+"$pbfrow" import "$country" one.db > got.txt
+"$pbfrow" export one.db > one.txt
+"$pbfrow" export one.db --form pbf > one.osm.pbf
+
+# scheduled NAME: the parts in this folder, asked as one, have no gap and export what one import of the extract does; and
+# merged, they are the extract. The folder is left empty.
 scheduled() {
+  expect "$1, asked as one" 0 "blobs 12 end $size gaps 0${nl}" status part-*.db --size "$size"
+  "$pbfrow" export part-*.db --size "$size" > got.txt
+  same "$1, exported as lines" got.txt one.txt
+  "$pbfrow" export part-*.db --size "$size" --form pbf > got.osm.pbf
+  same "$1, exported as PBF" got.osm.pbf one.osm.pbf
   if "$pbfrow" merge whole.db part-*.db > got.txt; then
     expect "$1" 0 "$whole" verify "$country" whole.db --elements
   else

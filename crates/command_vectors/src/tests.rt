@@ -5,6 +5,7 @@ mod list;
 mod merge;
 mod metered;
 mod migrate;
+mod parts;
 mod progress;
 mod ranges;
 mod show;

@@ -25,6 +25,7 @@ use Rattle.osm_parts.specs.PartsFaults.{IsOfMaps}
 use Rattle.osm_parts.specs.declared.fault.PartsFault.{PartsFault}
 use Rattle.osm_parts.specs.declared.fault.PartsFault.TheVariants.{Interleaved, Store}
 use Rattle.osm_parts.proofs.PartsLemmas.{extents-join, parts-join, whole-apart}
+use Rattle.osm_parts.proofs.WholeLemmas.{whole-exists}
 use Rattle.osm_parts.proofs.PlacingLemmas.{IsChain, chain-insert}
 use Rattle.osm_parts.proofs.Orders.{in-at}
 
@@ -275,6 +276,17 @@ read-parts maps asked parts whole read are = record {
   kept = λ off blob found. are.kept off blob (in-maps maps asked parts read.ordered off blob read.each found);
   only = λ off blob found. read.all off blob (are.only off blob found);
 }
+
+-- and there is a whole
+pub whole-read : (maps : List HeldMap) (asked : Bool) (parts : List Part) → AreRead maps asked parts → (whole : HeldMap) × AreParts maps whole
+whole-read maps asked parts read =
+    let it = whole-exists read.ordered 0 read.follow in (
+      it.0,
+      record {
+        kept = λ off blob found. it.1.kept off blob (read.all off blob found);
+        only = λ off blob found. in-maps maps asked parts read.ordered off blob read.each (it.1.only off blob found);
+      },
+    )
 
 each-apart : (maps : List HeldMap) (asked : Bool) (parts : List Part) (ordered : List HeldMap) → AreEach maps asked parts ordered → AreApart ordered
 each-apart maps asked parts [] each = tt

@@ -6,3 +6,4 @@ pub mod AtOffset
 pub mod BlobReads
 pub mod CountReads
 pub mod AllRows
+pub mod HeldRows

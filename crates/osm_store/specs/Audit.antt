@@ -2,6 +2,7 @@
 -- when they are those of a map. A row that lacks its last values reads as NULL there, which no query can tell.
 use Rattle.std.specs.Prelude.{◌≡◌, ℕ, ◌-◌, ◌^◌, ◌<◌, min, pos, Bool, List, [], ◌∷◌, map, filter, length, sum_by}
 use Rattle.std.specs.List.Sorted.{IsPermutation}
+use Rattle.std.specs.FinMap.{entries}
 use Rattle.sqlite.specs.declared.types.Value.TheVariants.{Int}
 use Rattle.sqlite.specs.Collation.TheVariants.{Binary}
 use Rattle.sqlite.specs.Ops.{binary, is_true}
@@ -10,11 +11,11 @@ use Rattle.sqlite.specs.Tree.{Trees}
 use Rattle.sqlite_sql.specs.declared.ops.CompareOp.TheVariants.{Eq}
 use Rattle.sqlite_sql.specs.declared.ops.BinaryOp.TheVariants.{Compare}
 use Rattle.osm_value.specs.declared.element.Element.{Element}
-use Rattle.osm_value.specs.Elements.{tags_of_element}
+use Rattle.osm_value.specs.Elements.{IsElement, tags_of_element}
 use Rattle.osm_store.specs.declared.audit.counts.Counts.{Counts}
 use Rattle.osm_store.specs.declared.schema.layout.Layout.{Layout}
 use Rattle.osm_store.specs.declared.schema.layout.Layout.TheVariants.{Bodies, Tables}
-use Rattle.osm_store.specs.Held.{Blob, HeldMap}
+use Rattle.osm_store.specs.Held.{Blob, HeldMap, HasFewTexts}
 use Rattle.osm_store.specs.Keeping.{extent_of, extents_of}
 use Rattle.osm_store.specs.Rows.{Placed, placed, placed_in, body_row, extent_columns}
 use Rattle.osm_store.specs.TableRows.{element_rows, tag_rows, link_rows, links_of}
@@ -89,6 +90,23 @@ counts_of blobs = record {
   tags = capped (sum_by tags_in blobs);
   links = capped (sum_by links_in blobs);
 }
+
+-- each is one that SQL can count, as it is of all tables that a disk can have
+pub record AreCountable (counts : Counts) : Type 0 where
+  pub blobs : counts.blobs < 2 ^ 63 - 1
+  pub elements : counts.elements < 2 ^ 63 - 1
+  pub tags : counts.tags < 2 ^ 63 - 1
+  pub links : counts.links < 2 ^ 63 - 1
+
+-- the elements of each blob of the map
+abbrev pub elements_held : HeldMap → List (List Element)
+elements_held held = map (λ (entry : ℕ × Blob). entry.1.elements) (entries held)
+
+-- ---- which blobs rows tell apart
+
+-- inside its ranges, and with a block of its own: what is known of each element of a good frame
+abbrev pub IsPlain : Element → Type 0
+IsPlain e = IsElement e × HasFewTexts e
 
 -- ---- all rows
 

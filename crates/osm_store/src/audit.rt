@@ -6,10 +6,13 @@ mod extent;
 mod same;
 mod tables;
 
-ghost use Rattle.std.specs.Prelude.{◌≡◌, ◌↔◌, ◌<◌, ◌≤◌, IsTrue, IfOk};
+ghost use Rattle.std.specs.Prelude.{◌≡◌, ◌↔◌, ◌<◌, ◌≤◌, Some, IsTrue, IfOk};
+ghost use Rattle.std.specs.FinMap as map;
+ghost use Rattle.std.specs.List.{AllByRecursion};
 ghost use Rattle.sqlite.specs.Effect.{Database};
 ghost use Rattle.osm_store.specs.declared.schema.layout.Layout.{Layout as HowKept};
-ghost use Rattle.osm_store.specs.Audit.{ShowsBlob, ShowsCounts};
+ghost use Rattle.osm_store.specs.Audit.{ShowsBlob, ShowsCounts, AreCountable, IsPlain, counts_of, elements_held};
+ghost use Rattle.osm_store.specs.Held.{HeldMap};
 ghost use Rattle.osm_store.specs.Keeping.{OnlyReads};
 ghost use Rattle.osm_store.specs.Schema.Layouts.{schema_of};
 
@@ -47,6 +50,9 @@ pub trait Audited: Reader {
         requires limit { fin ≤ MAX_OFFSET }
         ensures told { Self.is_honest self.new → (database self.old).schema ≡ schema_of layout
             → IfOk result (λ told. IsTrue told ↔ ShowsBlob layout (database self.old).trees off (record { fin = fin; digest = digest.now; kind = kind; elements = elements.now })) }
+        // over a held map, where the elements are such as a put takes, it is whether the map has this blob there
+        ensures held { (held : HeldMap) → Self.holds self.old held → Self.is_honest self.new → AllByRecursion IsPlain elements.now
+            → IfOk result (λ told. IsTrue told ↔ (map.get held off ≡ Some (record { fin = fin; digest = digest.now; kind = kind; elements = elements.now }))) }
         ensures opened { Self.is_honest self.new → IfOk result (λ _. Self.is_open self.new) }
         ensures reads { OnlyReads Self.holds Self.leaves Self.leaves_a_map Self.same_tables Self.is_honest Self.is_open Self.failures self.old result self.new };
 
@@ -55,6 +61,8 @@ pub trait Audited: Reader {
     fn has_counts(&mut self, counts: &Counts) -> Result<bool, StoreFault>
         ensures told { Self.is_honest self.new → (database self.old).schema ≡ schema_of layout
             → IfOk result (λ told. IsTrue told ↔ ShowsCounts layout (database self.old).trees counts.now) }
+        // the tables of a held map have as many rows as the map
+        ensures held { (held : HeldMap) → Self.holds self.old held → Self.is_honest self.new → counts.now ≡ counts_of (elements_held held) → AreCountable counts.now → IfOk result IsTrue }
         ensures opened { Self.is_honest self.new → IfOk result (λ _. Self.is_open self.new) }
         ensures reads { OnlyReads Self.holds Self.leaves Self.leaves_a_map Self.same_tables Self.is_honest Self.is_open Self.failures self.old result self.new };
 

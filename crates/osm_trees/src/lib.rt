@@ -14,6 +14,8 @@ mod row;
 mod search;
 mod tables;
 mod version;
+mod ways;
 
 pub use reader::TreeReader;
 pub use tables::open_tables;
+pub use ways::Opened;

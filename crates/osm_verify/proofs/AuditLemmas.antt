@@ -9,16 +9,20 @@ use Rattle.std.specs.FinMap.Entries.{below_all}
 use Rattle.std.proofs.lemmas.Bool.Decides.{eqb_tells, nat_tests}
 use Rattle.sqlite.specs.Tree.{Trees}
 use Rattle.osm_value.specs.declared.element.Element.{Element}
+use Rattle.osm_value.specs.Elements.{IsElement}
 use Rattle.osm_store.specs.declared.schema.layout.Layout.{Layout}
-use Rattle.osm_store.specs.Audit.{ShowsBlob, ShowsCounts, ShowsMap, counts_of}
-use Rattle.osm_store.specs.Held.{Blob, HeldMap}
+use Rattle.osm_store.specs.Audit.{IsPlain, ShowsBlob, ShowsCounts, counts_of, elements_held}
+use Rattle.osm_store.specs.Held.{Blob, HeldMap, HaveFewTexts}
 use Rattle.osm_store.proofs.AuditLemmas.AllRows.{shows_map}
 use Rattle.osm_import.specs.Merges.{IsImported, placed_from}
 use Rattle.osm_import.specs.Runs.{IsGoodIn}
 use Rattle.osm_import.specs.Step.{IsEntry}
 use Rattle.osm_import.proofs.FilesLemmas.{entry-same}
 use Rattle.osm_import.proofs.GoodLaws.{frame-filled}
-use Rattle.osm_verify.specs.Audits.{IsShown, AreShown, IsAudited, ShowsImport, AuditedShowsImport}
+use Rattle.osm_verify.specs.declared.comparing.Depth.TheVariants.{Elements}
+use Rattle.osm_verify.specs.Agreements.{IsSame}
+use Rattle.osm_verify.specs.Audits.{AreEntries, IsShown, AuditedShowsImport}
+use Rattle.osm_verify.proofs.LawLemmas.{exact-is-one}
 
 frame-long : (off : ℕ) (frame : List ℕ) (blob : Blob) → IsEntry off frame blob → 4 ≤ length frame
 frame-long off frame blob entry = frame-filled entry.good.type_name entry.good.blob frame entry.good.placed.frame
@@ -31,43 +35,54 @@ true-and false b p q = absurd p
 pub shown-told : (layout : Layout) (db : Trees) (off : ℕ) (frame : List ℕ) (blob : Blob) (elements : List Element) (T : Type 0) → IsEntry off frame blob → blob.elements ≡ elements → T ↔ ShowsBlob layout db off blob
     → T ↔ IsShown layout db off frame elements
 shown-told layout db off frame blob elements T entry are told = (
-  (λ t. record { entry = blob; is_entry = entry; elements_are = are; shown = told.0 t }),
-  (λ s. told.1 (subst (λ (b : Blob). ShowsBlob layout db off b) (entry-same off frame s.entry blob s.is_entry entry) s.shown)),
+  (λ t. record { entry = blob; is_entry = entry; elements_are = are; so = told.0 t }),
+  (λ s. told.1 (subst (λ (b : Blob). ShowsBlob layout db off b) (entry-same off frame s.entry blob s.is_entry entry) s.so)),
 )
 
-module _ (layout : Layout) (db : Trees) where
+-- what a held map is told to have at a frame's offset
+pub held-told : (held : HeldMap) (off : ℕ) (frame : List ℕ) (blob : Blob) (T : Type 0) → IsEntry off frame blob → T ↔ (get held off ≡ Some blob) → T ↔ IsSame Elements held off frame
+held-told held off frame blob T entry told = (
+  (λ t. record { entry = blob; is_entry = entry; blob = blob; found = told.0 t; alike = refl }),
+  (λ s. told.1 (s.found ∙ ap Some (s.alike ∙ entry-same off frame s.entry blob s.is_entry entry))),
+)
+
+pub plain-each : (es : List Element) → AllByRecursion IsElement es → HaveFewTexts es → AllByRecursion IsPlain es
+plain-each [] in_range few = tt
+plain-each (e ∷ es) in_range few = ((in_range.0, few.0), plain-each es in_range.1 few.1)
+
+module _ (P : ℕ → Blob → Type 0) where
   -- the blobs of the frames, by their offsets
-  all : (start : ℕ) (frames : List (List ℕ)) (blobs : List (List Element)) → AreShown layout db start frames blobs → List (ℕ × Blob)
+  all : (start : ℕ) (frames : List (List ℕ)) (blobs : List (List Element)) → AreEntries P start frames blobs → List (ℕ × Blob)
   all start [] [] shown = []
   all start [] (elements ∷ blobs) shown = absurd shown
   all start (frame ∷ frames) [] shown = absurd shown
   all start (frame ∷ frames) (elements ∷ blobs) shown = (start, shown.0.entry) ∷ all (start + length frame) frames blobs shown.1
 
-  elements-all : (start : ℕ) (frames : List (List ℕ)) (blobs : List (List Element)) (shown : AreShown layout db start frames blobs) → map (λ (e : ℕ × Blob). e.1.elements) (all start frames blobs shown) ≡ blobs
+  elements-all : (start : ℕ) (frames : List (List ℕ)) (blobs : List (List Element)) (shown : AreEntries P start frames blobs) → map (λ (e : ℕ × Blob). e.1.elements) (all start frames blobs shown) ≡ blobs
   unfolding all
   elements-all start [] [] shown = refl
   elements-all start [] (elements ∷ blobs) shown = absurd shown
   elements-all start (frame ∷ frames) [] shown = absurd shown
   elements-all start (frame ∷ frames) (elements ∷ blobs) shown = ap₂ ◌∷◌ shown.0.elements_are (elements-all (start + length frame) frames blobs shown.1)
 
-  shown-all : (start : ℕ) (frames : List (List ℕ)) (blobs : List (List Element)) (shown : AreShown layout db start frames blobs) → AllByRecursion (λ (e : ℕ × Blob). ShowsBlob layout db e.0 e.1) (all start frames blobs shown)
+  shown-all : (start : ℕ) (frames : List (List ℕ)) (blobs : List (List Element)) (shown : AreEntries P start frames blobs) → AllByRecursion (λ (e : ℕ × Blob). P e.0 e.1) (all start frames blobs shown)
   unfolding all
   shown-all start [] [] shown = tt
   shown-all start [] (elements ∷ blobs) shown = absurd shown
   shown-all start (frame ∷ frames) [] shown = absurd shown
-  shown-all start (frame ∷ frames) (elements ∷ blobs) shown = (shown.0.shown, shown-all (start + length frame) frames blobs shown.1)
+  shown-all start (frame ∷ frames) (elements ∷ blobs) shown = (shown.0.so, shown-all (start + length frame) frames blobs shown.1)
 
   less : (m n : ℕ) → m < n → T (is_lt (nat_cmp m n))
   less m n low = grind (arith, nat_tests)
 
-  below : (low start : ℕ) (frames : List (List ℕ)) (blobs : List (List Element)) (shown : AreShown layout db start frames blobs) → low < start → T (below_all nat_cmp low (all start frames blobs shown))
+  below : (low start : ℕ) (frames : List (List ℕ)) (blobs : List (List Element)) (shown : AreEntries P start frames blobs) → low < start → T (below_all nat_cmp low (all start frames blobs shown))
   unfolding all
   below low start [] [] shown h = tt
   below low start [] (elements ∷ blobs) shown h = absurd shown
   below low start (frame ∷ frames) [] shown h = absurd shown
   below low start (frame ∷ frames) (elements ∷ blobs) shown h = true-and _ _ (less low start h) (below low (start + length frame) frames blobs shown.1 (omega (arith, h)))
 
-  sorted : (start : ℕ) (frames : List (List ℕ)) (blobs : List (List Element)) (shown : AreShown layout db start frames blobs) → T (is_sorted nat_cmp (all start frames blobs shown))
+  sorted : (start : ℕ) (frames : List (List ℕ)) (blobs : List (List Element)) (shown : AreEntries P start frames blobs) → T (is_sorted nat_cmp (all start frames blobs shown))
   unfolding all
   sorted start [] [] shown = tt
   sorted start [] (elements ∷ blobs) shown = absurd shown
@@ -86,7 +101,7 @@ module _ (layout : Layout) (db : Trees) where
   found : (off start : ℕ) (entry : Blob) (es : List (ℕ × Blob)) → find nat_cmp off ((start, entry) ∷ es) ≡ cond (eqb off start) (Some entry) (find nat_cmp off es)
   found off start entry es = ap (λ b. cond b (Some entry) (find nat_cmp off es)) (unsigned_tied off start)
 
-  exactly : (start : ℕ) (frames : List (List ℕ)) (blobs : List (List Element)) (shown : AreShown layout db start frames blobs) (off : ℕ) (blob : Blob)
+  exactly : (start : ℕ) (frames : List (List ℕ)) (blobs : List (List Element)) (shown : AreEntries P start frames blobs) (off : ℕ) (blob : Blob)
       → (find nat_cmp off (all start frames blobs shown) ≡ Some blob) ↔ IsGoodIn (placed_from start frames) off blob
   unfolding all
   exactly start [] [] shown off blob = ((λ is. absurd (cc)), λ good. absurd good)
@@ -116,18 +131,34 @@ module _ (layout : Layout) (db : Trees) where
             )
       ]
 
+  -- the map of these blobs
+  map-of : (frames : List (List ℕ)) (blobs : List (List Element)) → AreEntries P 0 frames blobs → HeldMap
+  map-of frames blobs shown = from_sorted (all 0 frames blobs shown)
+
+  map-entries : (frames : List (List ℕ)) (blobs : List (List Element)) (shown : AreEntries P 0 frames blobs) → entries (map-of frames blobs shown) ≡ all 0 frames blobs shown
+  unfolding map-of
+  map-entries frames blobs shown = entries-from_sorted nat_cmp (all 0 frames blobs shown) (sorted 0 frames blobs shown)
+
+  map-elements : (frames : List (List ℕ)) (blobs : List (List Element)) (shown : AreEntries P 0 frames blobs) → map (λ (e : ℕ × Blob). e.1.elements) (entries (map-of frames blobs shown)) ≡ blobs
+  map-elements frames blobs shown = ap (map (λ (e : ℕ × Blob). e.1.elements)) (map-entries frames blobs shown) ∙ elements-all 0 frames blobs shown
+
+  map-imported : (frames : List (List ℕ)) (blobs : List (List Element)) (shown : AreEntries P 0 frames blobs) → IsImported (placed_from 0 frames) (map-of frames blobs shown)
+  map-imported frames blobs shown off blob =
+      let all_told = exactly 0 frames blobs shown off blob in
+      let known : get (map-of frames blobs shown) off ≡ find nat_cmp off (all 0 frames blobs shown) = get-entries (map-of frames blobs shown) off ∙ ap (find nat_cmp off) (map-entries frames blobs shown) in
+      ((λ is. all_told.0 (sym known ∙ is)), λ good. known ∙ all_told.1 good)
+
+  -- what an import of the frames comes to has the elements of these blobs
+  pub imported-elements : (held : HeldMap) (frames : List (List ℕ)) (blobs : List (List Element)) → AreEntries P 0 frames blobs → IsImported (placed_from 0 frames) held → elements_held held ≡ blobs
+  imported-elements held frames blobs shown imported =
+      ap elements_held (exact-is-one held (map-of frames blobs shown) frames imported (map-imported frames blobs shown)) ∙ map-elements frames blobs shown
+
 pub audited-shows-import : AuditedShowsImport
 audited-shows-import layout db frames audited =
-    let es = all layout db 0 frames audited.blobs audited.shown in
-    let held : HeldMap = from_sorted es in
-    let are : entries held ≡ es = entries-from_sorted nat_cmp es (sorted layout db 0 frames audited.blobs audited.shown) in
-    let elements : map (λ (e : ℕ × Blob). e.1.elements) (entries held) ≡ audited.blobs = ap (map (λ (e : ℕ × Blob). e.1.elements)) are ∙ elements-all layout db 0 frames audited.blobs audited.shown in
+    let held : HeldMap = map-of (ShowsBlob layout db) frames audited.blobs audited.shown in
     record {
       held = held;
-      imported = λ off blob.
-          let all_told = exactly layout db 0 frames audited.blobs audited.shown off blob in
-          let known : get held off ≡ find nat_cmp off es = get-entries held off ∙ ap (find nat_cmp off) are in
-          ((λ is. all_told.0 (sym known ∙ is)), λ good. known ∙ all_told.1 good);
-      shown = shows_map layout db held (subst (AllByRecursion (λ (e : ℕ × Blob). ShowsBlob layout db e.0 e.1)) (sym are) (shown-all layout db 0 frames audited.blobs audited.shown))
-          (subst (λ (blobs : List (List Element)). ShowsCounts layout db (counts_of blobs)) (sym elements) audited.counted);
+      imported = map-imported (ShowsBlob layout db) frames audited.blobs audited.shown;
+      shown = shows_map layout db held (subst (AllByRecursion (λ (e : ℕ × Blob). ShowsBlob layout db e.0 e.1)) (sym (map-entries (ShowsBlob layout db) frames audited.blobs audited.shown)) (shown-all (ShowsBlob layout db) 0 frames audited.blobs audited.shown))
+          (subst (λ (blobs : List (List Element)). ShowsCounts layout db (counts_of blobs)) (sym (map-elements (ShowsBlob layout db) frames audited.blobs audited.shown)) audited.counted);
     }

@@ -82,27 +82,15 @@ same-extent held off frame kind elements extent good at is =
       alike = λ i. record { off = off; fin = fin i; digest = digest i; kind = kind_is i; n = counted i };
     }
 
-pub same-elements : (held : HeldMap) (off : ℕ) (frame : List ℕ) (kind : Kind) (elements : List Element) (extent : Extent) → IsGood off frame kind elements → (at : HeldAt held off extent)
-    → IsExtentOf extent (off + length frame) (sha256 frame) kind (length elements) → at.blob.elements ≡ elements → (depth : Depth) → IsSame depth held off frame
-same-elements held off frame kind elements extent good at is are =
-    let fin : at.blob.fin ≡ off + length frame = sym (ap (λ (e : Extent). e.fin) at.same) ∙ is.ends in
-    let digest : at.blob.digest ≡ sha256 frame = sym (ap (λ (e : Extent). e.digest) at.same) ∙ is.digested in
-    let kind_is : at.blob.kind ≡ kind = sym (ap (λ (e : Extent). e.kind) at.same) ∙ is.kind_is in
-    let one : at.blob ≡ entry_at off frame kind elements = λ i. record { fin = fin i; digest = digest i; kind = kind_is i; elements = are i } in
-    elim [
-      | Extents ↦ same-extent held off frame kind elements extent good at is
-      | Elements ↦ record { entry = entry_at off frame kind elements; is_entry = entry_at-is off frame kind elements good; blob = at.blob; found = at.found; alike = one }
-    ]
+-- what is told of all of a blob, where more than its extent is compared
+pub same-deep : (depth : Depth) (held : HeldMap) (off : ℕ) (frame : List ℕ) → depth ≢ Extents → IsSame Elements held off frame → IsSame depth held off frame
+same-deep Extents held off frame deep same = absurd (deep refl)
+same-deep Elements held off frame deep same = same
 
-pub other-elements : (held : HeldMap) (off : ℕ) (frame : List ℕ) (kind : Kind) (elements : List Element) (extent : Extent) → IsGood off frame kind elements → (at : HeldAt held off extent)
-    → ¬ (at.blob.elements ≡ elements) → (depth : Depth) → depth ≢ Extents → IsOther depth held off frame
-other-elements held off frame kind elements extent good at apart = elim [
-  | Extents ↦ λ deep. absurd (deep refl)
-  | Elements ↦ λ deep. record {
-    entry = entry_at off frame kind elements;
-    is_entry = entry_at-is off frame kind elements good;
-    blob = at.blob;
-    found = at.found;
-    apart = λ alike. apart (ap (λ (b : Blob). b.elements) alike);
-  }
-]
+pub other-deep : (depth : Depth) (held : HeldMap) (off : ℕ) (frame : List ℕ) (kind : Kind) (elements : List Element) (extent : Extent) → IsGood off frame kind elements → HeldAt held off extent
+    → ¬ (IsSame Elements held off frame) → depth ≢ Extents → IsOther depth held off frame
+other-deep Extents held off frame kind elements extent good at other deep = absurd (deep refl)
+other-deep Elements held off frame kind elements extent good at other deep =
+    let entry = entry_at off frame kind elements in
+    let is_entry = entry_at-is off frame kind elements good in
+    record { entry = entry; is_entry = is_entry; blob = at.blob; found = at.found; apart = λ alike. other (record { entry = entry; is_entry = is_entry; blob = at.blob; found = at.found; alike = alike }) }

@@ -2,4 +2,4 @@ pub mod HeldThere
 pub mod Beginning
 pub mod LawLemmas
 pub mod AuditLemmas
-pub mod SameLemmas
+pub mod TellLemmas

@@ -1,5 +1,5 @@
 -- Whether what is held at a place of a file is what an import of the file puts there.
-use Rattle.std.specs.Prelude.{◌≡◌, ℕ, Bool, ◌&&◌, nat_le, nat_lt, List, Some, None}
+use Rattle.std.specs.Prelude.{◌≡◌, ℕ, Bool, true, false, ◌&&◌, nat_le, nat_lt, List, Some, None}
 use Rattle.std.specs.FinMap.{get}
 use Rattle.pbf_frame.specs.declared.kind.Kind.{Kind}
 use Rattle.osm_store.specs.Held.{Blob, HeldMap}
@@ -10,6 +10,11 @@ use Rattle.osm_verify.specs.declared.comparing.Depth.{Depth}
 use Rattle.osm_verify.specs.declared.comparing.Depth.TheVariants.{Extents, Elements}
 use Rattle.osm_verify.specs.declared.comparing.Agreement.{Agreement}
 use Rattle.osm_verify.specs.declared.comparing.Agreement.TheVariants.{Same, Missing, Differs}
+
+-- true where it holds, and false where it doesn't
+abbrev pub Tells : Bool → Type 0 → Type 0
+Tells true P = P
+Tells false P = ¬ P
 
 -- two blobs at one offset have the same end, digest, kind and count of elements; or are the same in all, elements too
 abbrev pub AreAlike : Depth → ℕ → Blob → Blob → Type 0

@@ -1,6 +1,7 @@
 -- What it comes to that a database has the rows of each frame of a file, and no others, whatever else was said of it.
 use Rattle.std.specs.Prelude.{◌≡◌, ℕ, ◌+◌, List, [], ◌∷◌, length}
-use Rattle.sqlite.specs.Tree.{Trees}
+pub use Rattle.sqlite.specs.Effect.{Database}
+pub use Rattle.sqlite.specs.Tree.{Trees}
 use Rattle.osm_value.specs.declared.element.Element.{Element}
 use Rattle.osm_store.specs.declared.schema.layout.Layout.{Layout}
 use Rattle.osm_store.specs.Audit.{ShowsBlob, ShowsCounts, ShowsMap, counts_of}
@@ -8,19 +9,28 @@ use Rattle.osm_store.specs.Held.{Blob, HeldMap}
 use Rattle.osm_import.specs.Merges.{IsImported, placed_from}
 use Rattle.osm_import.specs.Step.{IsEntry}
 
--- the frame is good, of a blob with these elements, and the rows at its offset are those of that blob
-pub record IsShown (layout : Layout) (db : Trees) (off : ℕ) (frame : List ℕ) (elements : List Element) : Type 0 where
+-- the frame is good, of a blob with these elements, of which this is so
+pub record IsEntryOf (P : Blob → Type 0) (off : ℕ) (frame : List ℕ) (elements : List Element) : Type 0 where
   pub entry : Blob
   pub is_entry : IsEntry off frame entry
   pub elements_are : entry.elements ≡ elements
-  pub shown : ShowsBlob layout db off entry
+  pub so : P entry
+
+-- each of the frames that stand one behind the other from this offset on is good, of a blob with these elements, of which
+-- this is so at its offset
+abbrev pub AreEntries : (ℕ → Blob → Type 0) → ℕ → List (List ℕ) → List (List Element) → Type 0
+AreEntries P start [] [] = Unit {0}
+AreEntries P start [] (elements ∷ blobs) = ⊥
+AreEntries P start (frame ∷ frames) [] = ⊥
+AreEntries P start (frame ∷ frames) (elements ∷ blobs) = IsEntryOf (P start) start frame elements × AreEntries P (start + length frame) frames blobs
+
+-- the frame is good, of a blob with these elements, and the rows at its offset are those of that blob
+abbrev pub IsShown : Layout → Trees → ℕ → List ℕ → List Element → Type 0
+IsShown layout db off frame elements = IsEntryOf (ShowsBlob layout db off) off frame elements
 
 -- so is each of the frames that stand one behind the other from this offset on
 abbrev pub AreShown : Layout → Trees → ℕ → List (List ℕ) → List (List Element) → Type 0
-AreShown layout db start [] [] = Unit {0}
-AreShown layout db start [] (elements ∷ blobs) = ⊥
-AreShown layout db start (frame ∷ frames) [] = ⊥
-AreShown layout db start (frame ∷ frames) (elements ∷ blobs) = IsShown layout db start frame elements × AreShown layout db (start + length frame) frames blobs
+AreShown layout db start frames blobs = AreEntries (ShowsBlob layout db) start frames blobs
 
 -- the rows at the offset of each frame are those of its blob, and the tables have no more rows than these
 pub record IsAudited (layout : Layout) (db : Trees) (frames : List (List ℕ)) : Type 0 where

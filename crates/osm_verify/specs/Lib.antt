@@ -1,4 +1,3 @@
 pub mod Agreements
 pub mod Laws
 pub mod Audits
-pub mod Same

@@ -7,10 +7,13 @@ ghost use Rattle.osm_store.specs.Schema.Layouts.{schema_of};
 ghost use Rattle.osm_import.specs.Good.{IsGood};
 ghost use Rattle.osm_import.specs.Step.{HasCause};
 ghost use Rattle.osm_import.specs.Stores.{Rereads};
+ghost use Rattle.osm_verify.specs.Agreements.{IsSame};
 ghost use Rattle.osm_verify.specs.Audits.{IsShown};
+ghost use Rattle.osm_verify.specs.declared.comparing.Depth.TheVariants.{Elements};
 
 use osm_import::Good;
 use osm_store::{Audited, StoreFault};
+use osm_value::laws::elements_in_range;
 use sha2::{Digest, Sha256};
 use std::alloc::Global;
 
@@ -30,11 +33,15 @@ pub fn has_frame<K: Audited>(
     requires { IsGood off bytes.now good.now.kind good.now.elements.items }
     ensures told { K.is_honest store.new → (K.database store.old).schema ≡ schema_of K.layout
         → IfOk result (λ told. IsTrue told ↔ IsShown K.layout (K.database store.old).trees off bytes.now good.now.elements.items) }
+    // over a held map, it is whether the map has the frame's blob there
+    ensures held { (held : HeldMap) → K.holds store.old held → K.is_honest store.new → IfOk result (λ told. IsTrue told ↔ IsSame Elements held off bytes.now) }
+    ensures same { K.is_honest store.new → K.is_open store.new → K.same_tables store.old store.new }
     ensures rereads { Rereads K.Reader store.old result store.new }
     ensures own { (held : HeldMap) → K.holds store.old held → K.is_honest store.new → IfErr result (λ fault. ¬ (IsForeign fault)) }
     ensures cause { IfErr result (HasCause (K.failures store.old) (K.failures store.new)) }
     ensures counted { K.failures store.old ≤ K.failures store.new }
 {
+    elements_in_range(&good.elements);
     let fin = off + bytes.len() as u64;
     let digest = Sha256::digest(bytes);
     store.has_blob(alloc, off, fin, &digest, good.kind, &good.elements)

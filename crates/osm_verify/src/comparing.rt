@@ -1,20 +1,19 @@
 //! One frame of a file and what a store holds at its offset.
 
-ghost use Rattle.std.specs.Prelude.{◌≡◌, ◌==◌, ◌+◌, ◌<◌, ◌≤◌, ◌^◌, length, find, filter, nat_le, Some, IfOk, IfErr};
-ghost use Rattle.std.specs.FinMap.{get};
+ghost use Rattle.std.specs.Prelude.{◌≡◌, ◌==◌, ◌+◌, ◌<◌, ◌≤◌, length, find, filter, nat_le, IfOk, IfErr};
 ghost use Rattle.sha2.specs.Sha256.{sha256};
-ghost use Rattle.osm_store.specs.Held.{Blob, HeldMap};
+ghost use Rattle.osm_store.specs.Held.{HeldMap};
 ghost use Rattle.osm_store.specs.Keeping.{IsForeign, extents_of};
+ghost use Rattle.osm_store.specs.Schema.Layouts.{schema_of};
 ghost use Rattle.osm_import.specs.Good.{IsGood};
 ghost use Rattle.osm_import.specs.Step.{HasCause};
 ghost use Rattle.osm_import.specs.Stores.{Rereads};
-ghost use Rattle.osm_verify.specs.Agreements.{IsAgreement, IsExtentOf, begins};
-ghost use Rattle.osm_verify.specs.Same.{Tells};
+ghost use Rattle.osm_verify.specs.Agreements.{IsAgreement, IsExtentOf, Tells, begins};
+ghost use Rattle.osm_verify.specs.Audits.{IsShown};
 
-use crate::same::same_elements;
+use crate::auditing::has_frame;
 use osm_import::Good;
-use osm_store::{Extent, Reader, StoreFault};
-use osm_value::Element;
+use osm_store::{Audited, Extent, Reader, StoreFault};
 use pbf_frame::MAX_OFFSET;
 use sha2::{Digest, Sha256};
 use std::alloc::{AllocError, Global};
@@ -24,7 +23,7 @@ use std::alloc::{AllocError, Global};
 pub enum Depth {
     /// Its end, its SHA-256, its kind and how many elements it has.
     Extents,
-    /// All elements too, each of which is loaded.
+    /// All rows of its elements too, and that there are no others.
     Elements,
 }
 
@@ -35,7 +34,7 @@ pub enum Agreement {
     Same,
     /// Nothing is held there.
     Missing,
-    /// It is another blob, or has other elements.
+    /// It is another blob, or has other rows.
     Differs,
 }
 
@@ -62,33 +61,17 @@ fn is_extent_of(found: &Extent, fin: u64, bytes: &[u8], good: &Good<'_>) -> bool
     found.digest == digest
 }
 
-/// Whether the blob that is held at an offset has these elements.
-fn holds_elements<K: Reader>(
-    alloc: Global,
-    store: &mut K,
-    off: u64,
-    elements: &[Element],
-) -> Result<bool, StoreFault>
-    ensures same { (held : HeldMap) (blob : Blob) → K.holds store.old held → K.is_honest store.new → get held off ≡ Some blob
-        → IfOk result (λ same. Tells same (blob.elements ≡ elements.now)) }
-    ensures rereads { Rereads K.Reader store.old result store.new }
-    ensures own { (held : HeldMap) → K.holds store.old held → K.is_honest store.new → IfErr result (λ fault. ¬ (IsForeign fault)) }
-    ensures cause { IfErr result (HasCause (K.failures store.old) (K.failures store.new)) }
-    ensures counted { K.failures store.old ≤ K.failures store.new }
-{
-    let loaded = store.load(alloc, off)?;
-    let found = loaded.elements(alloc)?;
-    Ok(same_elements(&found, elements))
-}
-
 /// How what a store holds at the offset `off`, in bytes, of a file compares with the good frame that the file has there,
 /// of these bytes: `Missing` where nothing is held at the offset, `Same` where it is held with the frame's end, SHA-256,
 /// kind and count of elements, and by `Depth::Elements` with the frame's elements, and `Differs` where it is held
 /// otherwise. What is held stays.
 ///
+/// Of the rows nothing has to be known: by `Depth::Elements` it is `Same` only where the rows at the offset are those that
+/// an import of the frame writes, and no others.
+///
 /// An error is that of a read of the store that has failed, or `Memory` where memory was refused. Over an honest disk,
 /// where the store holds a map, it is never `NotThisStore`.
-pub fn compare<K: Reader>(
+pub fn compare<K: Audited>(
     alloc: Global,
     store: &mut K,
     off: u64,
@@ -98,6 +81,9 @@ pub fn compare<K: Reader>(
 ) -> Result<Agreement, StoreFault>
     requires { IsGood off bytes.now good.now.kind good.now.elements.items }
     ensures compared { (held : HeldMap) → K.holds store.old held → K.is_honest store.new → IfOk result (IsAgreement depth held off bytes.now) }
+    ensures shown { K.is_honest store.new → K.is_open store.new → (K.database store.old).schema ≡ schema_of K.layout → depth ≡ Depth.Elements
+        → IfOk result (λ agreement. agreement ≡ Agreement.Same → IsShown K.layout (K.database store.old).trees off bytes.now good.now.elements.items) }
+    ensures same { K.is_honest store.new → K.is_open store.new → K.same_tables store.old store.new }
     ensures rereads { Rereads K.Reader store.old result store.new }
     ensures own { (held : HeldMap) → K.holds store.old held → K.is_honest store.new → IfErr result (λ fault. ¬ (IsForeign fault)) }
     ensures cause { IfErr result (HasCause (K.failures store.old) (K.failures store.new)) }
@@ -115,7 +101,7 @@ pub fn compare<K: Reader>(
     if depth == Depth::Extents {
         return Ok(Agreement::Same);
     }
-    if holds_elements(alloc, store, off, &good.elements)? {
+    if has_frame(alloc, store, off, bytes, good)? {
         return Ok(Agreement::Same);
     }
     Ok(Agreement::Differs)
@@ -150,6 +136,7 @@ pub fn extents_beginning<K: Reader>(
     requires limit { to ≤ MAX_OFFSET }
     ensures all { (held : HeldMap) → K.holds store.old held → K.is_honest store.new
         → IfOk result (λ extents. extents.items ≡ filter (begins from to) (extents_of held)) }
+    ensures same { K.is_honest store.new → K.is_open store.new → K.same_tables store.old store.new }
     ensures rereads { Rereads K.Reader store.old result store.new }
     ensures own { (held : HeldMap) → K.holds store.old held → K.is_honest store.new → IfErr result (λ fault. ¬ (IsForeign fault)) }
     ensures cause { IfErr result (HasCause (K.failures store.old) (K.failures store.new)) }

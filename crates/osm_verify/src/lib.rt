@@ -4,7 +4,6 @@
 mod auditing;
 mod comparing;
 pub mod laws;
-mod same;
 
 pub use auditing::has_frame;
 pub use comparing::{Agreement, Depth, compare, extents_beginning};

@@ -1,6 +1,6 @@
 //! The commands on one database: they open its file and write the answer to standard output.
 
-ghost use Rattle.std.specs.Prelude.{◌≡◌, ◌≤◌, false};
+ghost use Rattle.std.specs.Prelude.{◌≡◌, ◌≤◌, false, IfOk};
 ghost use Rattle.sqlite.specs.Held.{state};
 
 use crate::FAULTY;
@@ -9,7 +9,7 @@ use crate::trees::open_trees;
 use osm_import::{Inlet, Stop};
 use osm_store::{Keeper, Reader, StoreFault, TableStore};
 use osm_trees::TreeReader;
-use osm_value::Outlet;
+use osm_value::{MemberKind, Outlet};
 use pbf_frame::MAX_OFFSET;
 use pbfrow_commands::export::export;
 use pbfrow_commands::find::find;
@@ -24,6 +24,15 @@ use std::alloc::Global;
 use std::fs::File;
 use std::io;
 use std::io::{BufWriter, ErrorKind, LineWriter, Read, Write};
+
+/// What is asked of one database.
+#[derive(Clone, Copy)]
+pub(crate) enum Query {
+    /// What several can be asked as well.
+    Whole(Question),
+    /// Where the element of this kind and id is held.
+    Element(MemberKind, i64),
+}
 
 /// Why a database isn't opened: memory was refused, or any other cause.
 pub(crate) fn unopened(error: Error) -> StoreFault {
@@ -54,6 +63,7 @@ pub(crate) fn adopted<S: Alter + Drop>(
     connection: Connection<S>,
 ) -> Result<TableStore<S>, StoreFault>
     requires { (state S.Store connection).in_transaction ≡ false }
+    ensures { IfOk result (λ store. store.failures ≡ 0) }
 {
     match TableStore::adopt(connection) {
         Ok(store) => Ok(store),
@@ -122,43 +132,45 @@ fn filled<S: Alter + Drop, R: Read + Drop, W: Write>(
     }
 }
 
-/// Asks a question of a store, and answers the exit status.
+/// Asks a store, and answers the exit status.
 fn answer<K: Reader + Drop, W: Write>(
     alloc: Global,
     mut store: K,
-    question: Question,
+    query: Query,
     meter: &Meter,
     out: &mut Outlet<W>,
 ) -> u8 {
-    match question {
-        Question::Status { size } => status(alloc, &mut store, size, out),
-        Question::Export {
-            size,
-            partial,
-            form,
-        } => {
+    match query {
+        Query::Whole(Question::Status { size }) => status(alloc, &mut store, size, out),
+        Query::Whole(
+            Question::Export {
+                size,
+                partial,
+                form,
+            },
+        ) => {
             let mut store = MeteredStore {
                 store,
                 watcher: meter,
             };
             export(alloc, &mut store, size, partial, form, out)
         }
-        Question::Find { kind, id } => find(alloc, &mut store, kind, id, out),
+        Query::Element(kind, id) => find(alloc, &mut store, kind, id, out),
     }
 }
 
-/// Asks a question of the store of a connection, and answers the exit status.
+/// Asks the store of a connection, and answers the exit status.
 fn asked<S: Alter + Drop, W: Write>(
     alloc: Global,
     connection: Connection<S>,
-    question: Question,
+    query: Query,
     meter: &Meter,
     out: &mut Outlet<W>,
 ) -> u8
     requires { (state S.Store connection).in_transaction ≡ false }
 {
     match adopted(connection) {
-        Ok(store) => answer(alloc, store, question, meter, out),
+        Ok(store) => answer(alloc, store, query, meter, out),
         Err(fault) => refuse(out, fault),
     }
 }
@@ -223,37 +235,37 @@ pub(crate) fn fill(rt: &HostRuntime, file: &str, database: &str, start: Start) -
     fill_from(rt, reader, database, start, &meter, &mut out)
 }
 
-/// Asks a question of the trees of a database, and answers the exit status.
+/// Asks the trees of a database, and answers the exit status.
 fn answer_of_trees<S: Store + Drop, W: Write>(
     alloc: Global,
     trees: S,
-    question: Question,
+    query: Query,
     meter: &Meter,
     out: &mut Outlet<W>,
 ) -> u8 {
-    answer(alloc, TreeReader::new(trees), question, meter, out)
+    answer(alloc, TreeReader::new(trees), query, meter, out)
 }
 
-/// Asks a question of a database file that is opened by SQL, and answers the exit status.
+/// Asks a database file that is opened by SQL, and answers the exit status.
 fn ask_by_sql<W: Write>(
     rt: &HostRuntime,
     database: &str,
-    question: Question,
+    query: Query,
     meter: &Meter,
     out: &mut Outlet<W>,
 ) -> u8 {
     match Connection::open(rt, database) {
-        Ok(connection) => asked(rt.alloc(), connection, question, meter, out),
+        Ok(connection) => asked(rt.alloc(), connection, query, meter, out),
         Err(error) => refuse(out, unopened(error)),
     }
 }
 
-/// Asks a question of a database file, and answers the exit status. A sound database of this version is read by its trees,
-/// and any other is opened by SQL, which says what it is.
+/// Asks a database file, and answers the exit status. A sound database of this version is read by its trees, and any other
+/// is opened by SQL, which says what it is.
 fn ask_in<W: Write>(
     rt: &HostRuntime,
     database: &str,
-    question: Question,
+    query: Query,
     meter: &Meter,
     out: &mut Outlet<W>,
 ) -> u8 {
@@ -261,15 +273,15 @@ fn ask_in<W: Write>(
         return refuse(out, StoreFault::NotThisStore(None));
     }
     match open_trees(rt, database) {
-        Ok(Some(trees)) => answer_of_trees(rt.alloc(), trees, question, meter, out),
-        Ok(None) => ask_by_sql(rt, database, question, meter, out),
+        Ok(Some(trees)) => answer_of_trees(rt.alloc(), trees, query, meter, out),
+        Ok(None) => ask_by_sql(rt, database, query, meter, out),
         Err(refused) => refuse(out, refused.into()),
     }
 }
 
-/// Asks a question of a database, and answers the exit status. If there is no database, none is made.
-pub(crate) fn ask(rt: &HostRuntime, database: &str, question: Question) -> u8 {
-    let meter = Meter::new(rt, matches!(question, Question::Export { .. }));
+/// Asks a database, and answers the exit status. If there is no database, none is made.
+pub(crate) fn ask(rt: &HostRuntime, database: &str, query: Query) -> u8 {
+    let meter = Meter::new(rt, matches!(query, Query::Whole(Question::Export { .. })));
     let output = MeteredOutput {
         writer: io::writer(rt),
         watcher: &meter,
@@ -278,6 +290,6 @@ pub(crate) fn ask(rt: &HostRuntime, database: &str, question: Question) -> u8 {
         return refuse_memory(&mut Outlet::new(io::writer(rt)), None);
     };
     let mut out = Outlet::new(output);
-    let status = ask_in(rt, database, question, &meter, &mut out);
+    let status = ask_in(rt, database, query, &meter, &mut out);
     end(&mut out, &meter, status)
 }

@@ -10,16 +10,18 @@ mod copying;
 mod database;
 mod merging;
 mod meter;
+mod parts;
 mod trees;
 mod verifying;
 
 use clap::Error;
 use copying::copy;
-use database::{ask, end, fill};
+use database::{Query, ask, end, fill};
 use merging::merge;
 use meter::Meter;
 use osm_value::Outlet;
 use osm_verify::Depth;
+use parts::ask_parts;
 use pbfrow_commands::check::check;
 use pbfrow_commands::import::Start;
 use pbfrow_commands::input::refuse_input;
@@ -28,7 +30,7 @@ use pbfrow_commands::metered::{MeteredOutput, MeteredReader};
 use pbfrow_commands::ranges::ranges;
 use pbfrow_commands::report::refuse_memory;
 use pbfrow_commands::show::show;
-use pbfrow_words::{Reading, Words, read_words};
+use pbfrow_words::{Question, Reading, Words, read_words};
 use std::alloc::{AllocError, Global};
 use std::fs::File;
 use std::io::{BufWriter, ErrorKind, Read, Write};
@@ -124,7 +126,20 @@ fn run(rt: HostRuntime, words: Words) -> u8
             database,
             elements,
         } => compare(&rt, file, database, depth_of(elements)),
-        Words::Ask { database, question } => ask(&rt, database, question),
+        Words::Ask {
+            databases,
+            question,
+        } => ask_all(&rt, databases.as_slice(), question),
+        Words::Find { database, kind, id } => ask(&rt, database, Query::Element(kind, id)),
+    }
+}
+
+/// Asks a question of one database, or of several that hold parts of one file, and answers the exit status.
+fn ask_all(rt: &HostRuntime, databases: &[&str], question: Question) -> u8 {
+    if databases.len() == 1 {
+        ask(rt, databases[0], Query::Whole(question))
+    } else {
+        ask_parts(rt, databases, question)
     }
 }
 

@@ -128,7 +128,8 @@ impl Watcher for Meter<'_> {
     }
 
     fn see_size(&self, size: u64) {
-        self.size.set(Some(size));
+        let known = self.size.get().unwrap_or(0);
+        self.size.set(Some(size.max(known)));
     }
 
     /// Makes room for what goes to standard output.

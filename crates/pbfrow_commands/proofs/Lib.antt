@@ -9,6 +9,7 @@ pub mod ListingLaws
 pub mod ListingSteps
 pub mod RangesLemmas
 pub mod ShowLemmas
+pub mod PartsLines
 pub mod StatusLemmas
 pub mod VerifyLemmas
 mod VectorCommands

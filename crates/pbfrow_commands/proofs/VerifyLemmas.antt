@@ -1,10 +1,10 @@
 -- Counting compared blobs one by one, and what `verify` has done.
-use Rattle.std.proofs.Common.{◌≡◌, ◌≢◌, ℕ, ◌+◌, ◌<◌, ◌≤◌, ◌==◌, ◌&&◌, nat_lt, cond, Bool, true, List, [], ◌∷◌, ◌++◌, filter, length, Ok, Err, refl, sym, ap, subst, ◌∙◌, arith, inl, inr, append-nil, append_assoc, add-zero, zero-add, length-append}
+use Rattle.std.proofs.Common.{◌≡◌, ◌≢◌, ℕ, ◌+◌, ◌<◌, ◌≤◌, ◌==◌, ◌&&◌, nat_lt, cond, Bool, true, List, [], ◌∷◌, ◌++◌, filter, length, map, Ok, Err, refl, sym, ap, subst, ◌∙◌, arith, inl, inr, append-nil, append_assoc, add-zero, zero-add, length-append}
 use Rattle.std.specs.Prelude.{IfSome, is_err, codes}
 use Rattle.std.specs.Fmt.{decimal}
 use Rattle.std.specs.List.{count_by, sum_by}
-use Rattle.std.specs.Io.KnownBytes.{IsAtEnd, Keeps}
-use Rattle.std.proofs.KnownBytes.{Consumes-whole}
+use Rattle.std.specs.Io.KnownBytes.{Consumes, IsAtEnd, Keeps}
+use Rattle.std.proofs.KnownBytes.{Consumes-nil, Consumes-trans, Consumes-whole}
 use Rattle.std.proofs.lemmas.Bool.{false≢true, and_parts}
 use Rattle.std.proofs.lemmas.Bool.Decides.{nat_tests}
 use Rattle.std.proofs.lemmas.List.Sums.{sum_by-cons}
@@ -12,35 +12,43 @@ use Rattle.std.proofs.lemmas.List.{nil_from_length}
 use Rattle.pbf_frame.specs.declared.fault.FrameFault.{FrameFault}
 use Rattle.pbf_frame.specs.declared.part.TheConstants.{MAX_OFFSET}
 use Rattle.osm_value.specs.Sink.{Writes}
+use Rattle.osm_value.specs.declared.element.Element.{Element}
+use Rattle.osm_store.specs.Audit.{AreCountable, ShowsCounts, counts_of as counts_of_rows, elements_held}
 use Rattle.osm_store.specs.Held.{HeldMap, IsApart}
 use Rattle.osm_store.specs.Keeping.{extents_of}
+use Rattle.osm_store.specs.Schema.Layouts.{schema_of}
+use Rattle.osm_store.specs.declared.audit.counts.Counts.{Counts as Rows}
 use Rattle.osm_store.specs.declared.fault.StoreFault.{StoreFault}
 use Rattle.osm_store.specs.declared.keeper.Extent.{Extent}
+use Rattle.osm_store.specs.declared.schema.layout.Layout.{Layout}
 use Rattle.osm_import.specs.Exports.{Known}
 use Rattle.osm_import.specs.Files.{AreFrames, IsFile}
 use Rattle.osm_import.specs.Files as files
 use Rattle.osm_import.specs.Faults.{number_of, name_of}
 use Rattle.osm_import.specs.Lines.{fault_line}
-use Rattle.osm_import.specs.FrameReads.{Reading, Halts}
+use Rattle.osm_import.specs.FrameReads.{Reading, GivesFrame, Halts}
 use Rattle.osm_import.specs.Step.{HasCause}
 use Rattle.osm_import.specs.declared.fault.Fault.{Fault}
 use Rattle.osm_import.specs.declared.stream.fault.Stop.{Stop}
 use Rattle.osm_import.specs.declared.stream.fault.Stop.TheVariants.{Frame, NoHeaderFirst, WriteFailed, Store, ReadFailed, BlobLimit}
 use Rattle.osm_import.specs.declared.stream.fault.StreamFault.{StreamFault}
 use Rattle.osm_verify.specs.Agreements.{begins}
+use Rattle.osm_verify.specs.Audits.{Database, Trees, AreEntries, AreShown}
 use Rattle.osm_verify.specs.Laws.{AreSame, AreAlone, IsExact}
 use Rattle.osm_verify.specs.declared.comparing.Depth.{Depth}
+use Rattle.osm_verify.specs.declared.comparing.Depth.TheVariants.{Elements}
 use Rattle.osm_verify.specs.declared.comparing.Agreement.{Agreement}
 use Rattle.osm_verify.specs.declared.comparing.Agreement.TheVariants.{Same, Missing, Differs}
+use Rattle.osm_verify.proofs.AuditLemmas.{audited-shows-import, imported-elements}
 use Rattle.osm_verify.proofs.LawLemmas.{verified-is-exact}
 use Rattle.pbfrow_commands.specs.Checking.{capped}
 use Rattle.pbfrow_commands.specs.CommandLines.{stop_line}
-use Rattle.pbfrow_commands.specs.Walks.{Part, joined, lines_from, AreFound, status_of}
-use Rattle.pbfrow_commands.specs.Verifying.{Comparison, Compared, IsComparison, HasCompared, first_extra, is_missing, is_other, counts_of, agreement_line, comparison_line, IsBroken, IsClosing, HasClosed, close_text, counts_behind, counts_line, header_line, extra_lines, compared_lines, is_agreed, ComparesBlobs, VerifiesInput}
+use Rattle.pbfrow_commands.specs.Walks.{Part, IsPart, joined, lines_from, AreFound, status_of}
+use Rattle.pbfrow_commands.specs.Verifying.{Comparison, Compared, CountsMore, IsComparison, HasCompared, HasCountedRows, HasElements, HasOwnElements, HasSeen, HasSeenInput, ShowsFile, agree, rows_of, is_whole, first_extra, is_missing, is_other, counts_of, agreement_line, comparison_line, IsBroken, IsClosing, HasClosed, close_text, counts_behind, counts_line, header_line, extra_lines, compared_lines, is_agreed, ComparesBlobs, VerifiesInput}
 use Rattle.pbfrow_commands.specs.declared.verify.Close.{Close}
 use Rattle.pbfrow_commands.specs.declared.verify.Close.TheVariants.{Whole, Early, Unwritten}
 use Rattle.pbfrow_commands.specs.declared.verify.Counts.{Counts}
-use Rattle.pbfrow_commands.proofs.Walking.{Going, refused, tells-early, tells-nothing, lines-unwritten, status-zero}
+use Rattle.pbfrow_commands.proofs.Walking.{Going, found-push, joined-push, refused, tells-early, tells-nothing, lines-unwritten, status-zero}
 
 -- ---- pieces of lines, joined
 
@@ -200,10 +208,10 @@ unfolding frames_of
 frames-joined [] = refl
 frames-joined (p ∷ ps) = ap (λ (v : List ℕ). p.bytes ++ v) (frames-joined ps)
 
-frames-whole : (depth : Depth) (held : HeldMap) (at : ℕ) (ps : List (Part Compared)) → AreFound (HasCompared depth held) at ps → AreFrames (frames_of ps)
+frames-whole : (Has : ℕ → Part Compared → Type 0) (at : ℕ) (ps : List (Part Compared)) → AreFound Has at ps → AreFrames (frames_of ps)
 unfolding frames_of
-frames-whole depth held at [] found = tt
-frames-whole depth held at (p ∷ ps) found = ((p.type_name, p.blob, found.0), frames-whole depth held (at + length p.bytes) ps found.2)
+frames-whole Has at [] found = tt
+frames-whole Has at (p ∷ ps) found = ((p.type_name, p.blob, found.0), frames-whole Has (at + length p.bytes) ps found.2)
 
 record AllZero (ps : List (Part Compared)) : Type 0 where
   bad : count_by (λ (q : Part Compared). is_err q.found.verdict) ps ≡ 0
@@ -223,24 +231,27 @@ verdict-same (Ok Missing) bad missing differs = absurd (omega (arith, missing))
 verdict-same (Ok Differs) bad missing differs = absurd (omega (arith, differs))
 verdict-same (Err fault) bad missing differs = absurd (omega (arith, bad))
 
+first-same : (p : Part Compared) (ps : List (Part Compared)) → AllZero (p ∷ ps) → (p.found.verdict ≡ Ok Same) × (length p.found.extras ≡ 0) × AllZero ps
+first-same p ps zero =
+    let bad = zero-sum _ _ _ zero.bad (sum_by-cons (λ (q : Part Compared). cond (is_err q.found.verdict) 1 0) p ps) in
+    let missing = zero-sum _ _ _ zero.missing (sum_by-cons (λ (q : Part Compared). cond (is_missing q.found.verdict) 1 0) p ps) in
+    let differs = zero-sum _ _ _ zero.differs (sum_by-cons (λ (q : Part Compared). cond (is_other q.found.verdict) 1 0) p ps) in
+    let extra = zero-sum _ _ _ zero.extra (sum_by-cons (λ (q : Part Compared). length q.found.extras) p ps) in
+    (verdict-same p.found.verdict bad.0 missing.0 differs.0, extra.0, record { bad = bad.1; missing = missing.1; differs = differs.1; extra = extra.1 })
+
 all-same : (depth : Depth) (held : HeldMap) (at : ℕ) (ps : List (Part Compared)) → AreFound (HasCompared depth held) at ps → AllZero ps → filter (begins (at + length (joined ps)) MAX_OFFSET) (extents_of held) ≡ []
     → AreSame depth held at (frames_of ps) × AreAlone held at (frames_of ps)
 unfolding frames_of
 all-same depth held at [] found zero none = (tt, ap (λ n. filter (begins n MAX_OFFSET) (extents_of held)) (sym (add-zero at)) ∙ none)
 all-same depth held at (p ∷ ps) found zero none =
-    let bad = zero-sum _ _ _ zero.bad (sum_by-cons (λ (q : Part Compared). cond (is_err q.found.verdict) 1 0) p ps) in
-    let missing = zero-sum _ _ _ zero.missing (sum_by-cons (λ (q : Part Compared). cond (is_missing q.found.verdict) 1 0) p ps) in
-    let differs = zero-sum _ _ _ zero.differs (sum_by-cons (λ (q : Part Compared). cond (is_other q.found.verdict) 1 0) p ps) in
-    let extra = zero-sum _ _ _ zero.extra (sum_by-cons (λ (q : Part Compared). length q.found.extras) p ps) in
-    let same : p.found.verdict ≡ Ok Same = verdict-same p.found.verdict bad.0 missing.0 differs.0 in
-    let own : IsComparison depth held at p.bytes (Ok Same) = subst (λ (v : Comparison). IsComparison depth held at p.bytes v) same found.1.judged in
+    let first = first-same p ps zero in
+    let own : IsComparison depth held at p.bytes (Ok Same) = subst (λ (v : Comparison). IsComparison depth held at p.bytes v) first.0 found.1.judged in
     let inside : p.found.extras ≡ filter (begins (at + 1) (at + length p.bytes)) (extents_of held)
-    = found.1.extras ∙ ap (λ (v : Comparison). filter (begins (first_extra at v) (at + length p.bytes)) (extents_of held)) same in
+    = found.1.extras ∙ ap (λ (v : Comparison). filter (begins (first_extra at v) (at + length p.bytes)) (extents_of held)) first.0 in
     let there : at + length p.bytes + length (joined ps) ≡ at + length (joined (p ∷ ps)) = omega (arith, length-append p.bytes (joined ps)) in
-    let rest = all-same depth held (at + length p.bytes) ps found.2 (record { bad = bad.1; missing = missing.1; differs = differs.1; extra = extra.1 })
-    (ap (λ n. filter (begins n MAX_OFFSET) (extents_of held)) there ∙ none) in (
+    let rest = all-same depth held (at + length p.bytes) ps found.2 first.2 (ap (λ n. filter (begins n MAX_OFFSET) (extents_of held)) there ∙ none) in (
       (own, rest.0),
-      (sym inside ∙ nil_from_length p.found.extras extra.0, rest.1),
+      (sym inside ∙ nil_from_length p.found.extras first.1, rest.1),
     )
 
 capped-zero : (c n : ℕ) → c ≡ capped n → c ≡ 0 → n ≡ 0
@@ -257,6 +268,30 @@ unfolding frames_of
 some-frames [] some none = omega arith
 some-frames (p ∷ ps) some none = (let bad : p.bytes ∷ frames_of ps ≡ [] = none in cc)
 
+record Agreed (ps : List (Part Compared)) (behind : ℕ) : Type 0 where
+  zeros : AllZero ps
+  none : behind ≡ 0
+  some : 0 < capped (length ps)
+
+agreed-all : (ps : List (Part Compared)) (behind : ℕ) → agree (counts_of ps behind) ≡ true → Agreed ps behind
+agreed-all ps behind agreed =
+    let c = counts_of ps behind in
+    let one = and_parts (nat_lt 0 c.blobs) ((c.bad == 0 && c.missing == 0) && (c.differs == 0 && c.extra == 0)) agreed in
+    let two = and_parts (c.bad == 0 && c.missing == 0) (c.differs == 0 && c.extra == 0) one.1 in
+    let left_two = and_parts (c.bad == 0) (c.missing == 0) two.0 in
+    let right_two = and_parts (c.differs == 0) (c.extra == 0) two.1 in
+    let sums = zero-sum _ (sum_by (λ (q : Part Compared). length q.found.extras) ps) behind (capped-zero c.extra _ refl (eq-zero c.extra right_two.1)) refl in
+    record {
+      zeros = record {
+        bad = capped-zero c.bad _ refl (eq-zero c.bad left_two.0);
+        missing = capped-zero c.missing _ refl (eq-zero c.missing left_two.1);
+        differs = capped-zero c.differs _ refl (eq-zero c.differs right_two.0);
+        extra = sums.0;
+      };
+      none = sums.1;
+      some = lt-zero c.blobs one.0;
+    }
+
 pub exact-at-zero : (depth : Depth) (held : HeldMap) (left old written : Known) (failed : Bool) (before now status : ℕ) → IsApart held → VerifiesInput depth held left old written failed before now status → status ≡ 0
     → IfSome left (λ bytes. (frames : List (List ℕ)) × IsFile bytes frames × IsExact depth held frames)
 exact-at-zero depth held left old written failed before now status apart h zero =
@@ -267,25 +302,139 @@ exact-at-zero depth held left old written failed before now status apart h zero 
     of-close (Early stop) is agreed = absurd (false≢true agreed)
     of-close Unwritten is agreed = absurd (false≢true agreed)
     of-close (Whole extras) is agreed =
-        let c = counts_of h.blobs (length extras.items) in
         let closed : IsAtEnd h.behind × (extras.items ≡ filter (begins (length (joined h.blobs)) MAX_OFFSET) (extents_of held))
         = subst (λ (close : Close). HasClosed held (length (joined h.blobs)) h.behind failed before now close) is h.closed in
-        let one = and_parts (nat_lt 0 c.blobs) ((c.bad == 0 && c.missing == 0) && (c.differs == 0 && c.extra == 0)) agreed in
-        let two = and_parts (c.bad == 0 && c.missing == 0) (c.differs == 0 && c.extra == 0) one.1 in
-        let left_two = and_parts (c.bad == 0) (c.missing == 0) two.0 in
-        let right_two = and_parts (c.differs == 0) (c.extra == 0) two.1 in
-        let sums = zero-sum _ (sum_by (λ (q : Part Compared). length q.found.extras) h.blobs) (length extras.items) (capped-zero c.extra _ refl (eq-zero c.extra right_two.1)) refl in
-        let zeros : AllZero h.blobs = record {
-          bad = capped-zero c.bad _ refl (eq-zero c.bad left_two.0);
-          missing = capped-zero c.missing _ refl (eq-zero c.missing left_two.1);
-          differs = capped-zero c.differs _ refl (eq-zero c.differs right_two.0);
-          extra = sums.0;
-        } in
+        let agrees = agreed-all h.blobs (length extras.items) agreed in
         let none : filter (begins (0 + length (joined h.blobs)) MAX_OFFSET) (extents_of held) ≡ []
-        = ap (λ n. filter (begins n MAX_OFFSET) (extents_of held)) (zero-add (length (joined h.blobs))) ∙ sym closed.1 ∙ nil_from_length extras.items sums.1 in
-        let all = all-same depth held 0 h.blobs h.found zeros none in
+        = ap (λ n. filter (begins n MAX_OFFSET) (extents_of held)) (zero-add (length (joined h.blobs))) ∙ sym closed.1 ∙ nil_from_length extras.items agrees.none in
+        let all = all-same depth held 0 h.blobs h.found agrees.zeros none in
         Consumes-whole left h.behind (joined h.blobs) (λ bytes. (frames : List (List ℕ)) × IsFile bytes frames × IsExact depth held frames) h.read closed.0 (
           frames_of h.blobs,
-          record { some = some-frames h.blobs (lt-zero c.blobs one.0); whole = frames-whole depth held 0 h.blobs h.found; is_joined = frames-joined h.blobs },
+          record { some = some-frames h.blobs agrees.some; whole = frames-whole (HasCompared depth held) 0 h.blobs h.found; is_joined = frames-joined h.blobs },
           verified-is-exact depth held (frames_of h.blobs) apart (record { same = all.0; alone = all.1 }),
         )
+
+-- ---- the rows of the tables
+
+abbrev elements_of : List (Part Compared) → List (List Element)
+elements_of ps = map (λ (p : Part Compared). p.found.elements) ps
+
+elements-push : (ps : List (Part Compared)) (p : Part Compared) → elements_of ps ++ p.found.elements ∷ [] ≡ elements_of (ps ++ p ∷ [])
+elements-push [] p = refl
+elements-push (q ∷ ps) p = ap (λ (l : List (List Element)). q.found.elements ∷ l) (elements-push ps p)
+
+pub rows-push : (ps : List (Part Compared)) (p : Part Compared) (old new : Rows) → CountsMore old p.found.elements new → old ≡ rows_of ps → new ≡ rows_of (ps ++ p ∷ [])
+rows-push ps p old new more is = more (elements_of ps) is ∙ ap counts_of_rows (elements-push ps p)
+
+found-weaker : (Has Had : ℕ → Part Compared → Type 0) → ((at : ℕ) (p : Part Compared) → Has at p → Had at p) → (at : ℕ) (ps : List (Part Compared)) → AreFound Has at ps → AreFound Had at ps
+found-weaker Has Had f at [] found = tt
+found-weaker Has Had f at (p ∷ ps) found = (found.0, f at p found.1, found-weaker Has Had f (at + length p.bytes) ps found.2)
+
+own-entries : (at : ℕ) (ps : List (Part Compared)) → AreFound HasOwnElements at ps → AllZero ps → AreEntries (λ off blob. Unit {0}) at (frames_of ps) (elements_of ps)
+unfolding frames_of
+own-entries at [] found zero = tt
+own-entries at (p ∷ ps) found zero =
+    let first = first-same p ps zero in
+    (subst (λ (v : Comparison). HasElements at p.bytes v p.found.elements) first.0 found.1, own-entries (at + length p.bytes) ps found.2 first.2)
+
+seen-entries : (layout : Layout) (db : Trees) (at : ℕ) (ps : List (Part Compared)) → AreFound (HasSeen layout db Elements) at ps → AllZero ps → AreShown layout db at (frames_of ps) (elements_of ps)
+unfolding frames_of
+seen-entries layout db at [] found zero = tt
+seen-entries layout db at (p ∷ ps) found zero =
+    let first = first-same p ps zero in
+    (found.1 refl first.0, seen-entries layout db (at + length p.bytes) ps found.2 first.2)
+
+-- where all frames are held alike and nothing else is held, the counts of their rows are those of the map
+rows-alike : (held : HeldMap) (ps : List (Part Compared)) → IsApart held → AreFound (HasCompared Elements held) 0 ps → AllZero ps → filter (begins (0 + length (joined ps)) MAX_OFFSET) (extents_of held) ≡ []
+    → rows_of ps ≡ counts_of_rows (elements_held held)
+rows-alike held ps apart found zeros none =
+    let same = all-same Elements held 0 ps found zeros none in
+    let exact = verified-is-exact Elements held (frames_of ps) apart (record { same = same.0; alone = same.1 }) in
+    let own = own-entries 0 ps (found-weaker (HasCompared Elements held) HasOwnElements (λ at p has. has.elements_are) 0 ps found) zeros in
+    ap counts_of_rows (sym (imported-elements (λ off blob. Unit {0}) held (frames_of ps) (elements_of ps) own exact))
+
+pub rows-held : (depth : Depth) (held : HeldMap) (ps : List (Part Compared)) (end : ℕ) (c : Counts) (rows : Rows) → IsApart held → AreFound (HasCompared depth held) 0 ps → end ≡ length (joined ps) → c ≡ counts_of ps 0 → rows ≡ rows_of ps
+    → depth ≡ Elements → agree c ≡ true → filter (begins end MAX_OFFSET) (extents_of held) ≡ [] → rows ≡ counts_of_rows (elements_held held)
+rows-held depth held ps end c rows apart found here counted rows_are deep agreed none =
+    let all = agreed-all ps 0 (sym (ap agree counted) ∙ agreed) in
+    let behind : filter (begins (0 + length (joined ps)) MAX_OFFSET) (extents_of held) ≡ [] = ap (λ n. filter (begins n MAX_OFFSET) (extents_of held)) (zero-add (length (joined ps)) ∙ sym here) ∙ none in
+    rows_are ∙ rows-alike held ps apart (subst (λ (d : Depth). AreFound (HasCompared d held) 0 ps) deep found) all.zeros behind
+
+-- ---- whatever rows they have
+
+-- The frames so far, so counted; where the store can be trusted, they are found alike only where their rows are there.
+pub record Reads (trusted : Type 0) (layout : Layout) (db : Trees) (depth : Depth) (left : Known) (now : Reading) (counts : Counts) (rows : Rows) (blobs : List (Part Compared)) : Type 0 where
+  pub found : AreFound HasOwnElements 0 blobs
+  pub stands : now.offset ≡ length (joined blobs)
+  pub read : Consumes left now.left (joined blobs)
+  pub counted : counts ≡ counts_of blobs 0
+  pub rows_are : rows ≡ rows_of blobs
+  pub seen : trusted → AreFound (HasSeen layout db depth) 0 blobs
+
+pub reads-none : (trusted : Type 0) (layout : Layout) (db : Trees) (depth : Depth) (left : Known) (now : Reading) (counts : Counts) (rows : Rows) → now.offset ≡ 0 → now.left ≡ left → counts ≡ counts_of [] 0 → rows ≡ rows_of []
+    → Reads trusted layout db depth left now counts rows []
+reads-none trusted layout db depth left now counts rows here same counted rows_are =
+    record { found = tt; stands = here; read = subst (λ (o : Known). Consumes left o []) (sym same) (Consumes-nil left); counted = counted; rows_are = rows_are; seen = λ trust. tt }
+
+pub reads-more : (before trusted : Type 0) (layout : Layout) (db : Trees) (depth : Depth) (left : Known) (was now : Reading) (at : ℕ) (w : List ℕ) (c d : Counts) (r s : Rows) (blobs : List (Part Compared)) (p : Part Compared)
+    → (trusted → before) → Reads before layout db depth left was c r blobs → GivesFrame was now at w → p.bytes ≡ w → IsPart p → HasOwnElements at p
+    → ((bs : List (Part Compared)) → c ≡ counts_of bs 0 → d ≡ counts_of (bs ++ p ∷ []) 0) → CountsMore r p.found.elements s → (trusted → HasSeen layout db depth at p)
+    → Reads trusted layout db depth left now d s (blobs ++ p ∷ [])
+reads-more before trusted layout db depth left was now at w c d r s blobs p weaker so_far gives bytes is own counts rows seen =
+    let here : at ≡ length (joined blobs) = gives.here ∙ so_far.stands in
+    let there : at ≡ 0 + length (joined blobs) = here ∙ sym (zero-add (length (joined blobs))) in
+    record {
+      found = found-push HasOwnElements 0 blobs p so_far.found is (subst (λ k. HasOwnElements k p) there own);
+      stands = gives.next ∙ omega (arith, here, ap length (joined-push blobs p), ap length bytes, length-append (joined blobs) p.bytes);
+      read = subst (λ (v : List ℕ). Consumes left now.left v) (sym (joined-push blobs p))
+          (Consumes-trans left was.left now.left (joined blobs) p.bytes so_far.read (subst (λ (v : List ℕ). Consumes was.left now.left v) (sym bytes) gives.read));
+      counted = counts blobs so_far.counted;
+      rows_are = rows-push blobs p r s rows so_far.rows_are;
+      seen = λ trust. found-push (HasSeen layout db depth) 0 blobs p (so_far.seen (weaker trust)) is (subst (λ k. HasSeen layout db depth k p) there (seen trust));
+    }
+
+-- at the end of the input
+pub seen-whole : (before is_open : Type 0) (layout : Layout) (first last : Database) (depth : Depth) (left : Known) (now : Reading) (counts : Counts) (rows : Rows) (blobs : List (Part Compared)) (close : Close)
+    → Reads before layout first.trees depth left now counts rows blobs → IsAtEnd now.left → first.schema ≡ schema_of layout → (is_open → before) → (is_open → last ≡ first)
+    → HasCountedRows is_open layout last depth counts rows close → HasSeenInput layout first.trees depth left counts close
+seen-whole before is_open layout first last depth left now counts rows blobs (Whole extras) so_far ended schema trust there counted = (
+  blobs,
+  record {
+    found = so_far.found;
+    behind = now.left;
+    read = so_far.read;
+    ended = ended;
+    counted = so_far.counted;
+    shown = λ deep agreed none few.
+        let told = counted deep agreed none (subst (λ (r : Rows). AreCountable r) (sym so_far.rows_are) few) in
+        let same = there told.0 in
+        let shown = told.1 (ap (λ (d : Database). d.schema) same ∙ schema) in
+        (so_far.seen (trust told.0), subst (λ (r : Rows). ShowsCounts layout first.trees r) so_far.rows_are (subst (λ (d : Database). ShowsCounts layout d.trees rows) same shown));
+  },
+)
+seen-whole before is_open layout first last depth left now counts rows blobs (Early stop) so_far ended schema trust there counted = tt
+seen-whole before is_open layout first last depth left now counts rows blobs Unwritten so_far ended schema trust there counted = tt
+
+pub shown-at-zero : (layout : Layout) (db : Trees) (left : Known) (c : Counts) (close : Close) (failed : Bool) (status : ℕ) → HasSeenInput layout db Elements left c close → is_whole close ≡ true
+    → ((blobs : List (Part Compared)) → c ≡ counts_of blobs 0 → status ≡ status_of (is_agreed close blobs) failed) → status ≡ 0
+    → IfSome left (λ bytes. (frames : List (List ℕ)) × IsFile bytes frames × ShowsFile layout db frames)
+shown-at-zero layout db left c (Early stop) failed status seen whole line zero = absurd (false≢true whole)
+shown-at-zero layout db left c Unwritten failed status seen whole line zero = absurd (false≢true whole)
+shown-at-zero layout db left c (Whole extras) failed status seen whole line zero =
+    let blobs = seen.0 in
+    let h = seen.1 in
+    let well = status-zero (is_agreed (Whole extras) blobs) failed status (line blobs h.counted) zero in
+    let all = agreed-all blobs (length extras.items) well.0 in
+    let none : extras.items ≡ [] = nil_from_length extras.items all.none in
+    let agreed : agree c ≡ true = ap agree (h.counted ∙ ap (counts_of blobs) (sym all.none)) ∙ well.0 in
+    Consumes-whole left h.behind (joined blobs) (λ bytes. (frames : List (List ℕ)) × IsFile bytes frames × ShowsFile layout db frames) h.read h.ended (
+      frames_of blobs,
+      record { some = some-frames blobs all.some; whole = frames-whole HasOwnElements 0 blobs h.found; is_joined = frames-joined blobs },
+      record {
+        blobs = elements_of blobs;
+        are = own-entries 0 blobs h.found all.zeros;
+        imported = λ few.
+            let shown = h.shown refl agreed none few in
+            audited-shows-import layout db (frames_of blobs) (record { blobs = elements_of blobs; shown = seen-entries layout db 0 blobs shown.0 all.zeros; counted = shown.1 });
+      },
+    )

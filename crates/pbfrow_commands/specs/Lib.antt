@@ -4,6 +4,7 @@ pub mod Copying
 pub mod Exporting
 pub mod Finding
 pub mod Importing
+pub mod InParts
 pub mod Listing
 pub mod Progress
 pub mod Ranging

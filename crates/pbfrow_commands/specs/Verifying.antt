@@ -1,15 +1,20 @@
 -- What the command `verify` prints: a line for each bad blob and each that isn't held alike, one for each extra extent, one
 -- for what ended the frames early, and the counts.
-use Rattle.std.specs.Prelude.{◌≡◌, ◌⊎◌, ℕ, ◌+◌, ◌==◌, nat_lt, Bool, true, false, ◌&&◌, List, [], ◌∷◌, ◌++◌, length, filter, codes, Result, Ok, Err, is_err}
+use Rattle.std.specs.Prelude.{◌≡◌, ◌⊎◌, ℕ, ◌+◌, ◌==◌, nat_lt, Bool, true, false, ◌&&◌, List, [], ◌∷◌, ◌++◌, length, map, filter, codes, Result, Ok, Err, is_err}
 use Rattle.std.specs.List.{count_by, flat_map, sum_by}
 use Rattle.std.specs.Fmt.{decimal}
 use Rattle.std.specs.Io.KnownBytes.{Consumes, IsAtEnd}
 use Rattle.pbf_frame.specs.declared.part.TheConstants.{MAX_OFFSET}
 use Rattle.osm_value.specs.Sink.{Wrote}
+use Rattle.osm_value.specs.declared.element.Element.{Element}
+use Rattle.osm_store.specs.Audit.{AreCountable, ShowsCounts, counts_of as counts_of_rows}
 use Rattle.osm_store.specs.Held.{HeldMap}
 use Rattle.osm_store.specs.Keeping.{IsForeign, extents_of}
+use Rattle.osm_store.specs.Schema.Layouts.{schema_of}
+use Rattle.osm_store.specs.declared.audit.counts.Counts.{Counts as Rows}
 use Rattle.osm_store.specs.declared.fault.StoreFault.{StoreFault}
 use Rattle.osm_store.specs.declared.keeper.Extent.{Extent}
+use Rattle.osm_store.specs.declared.schema.layout.Layout.{Layout}
 use Rattle.osm_import.specs.Bad.{IsBad}
 use Rattle.osm_import.specs.Exports.{Known}
 use Rattle.osm_import.specs.Faults.{number_of, name_of}
@@ -20,7 +25,9 @@ use Rattle.osm_import.specs.declared.stream.fault.Stop.{Stop}
 use Rattle.osm_import.specs.declared.stream.fault.Stop.TheVariants.{Frame, NoHeaderFirst, Store}
 use Rattle.osm_import.specs.declared.stream.fault.StreamFault.{StreamFault}
 use Rattle.osm_verify.specs.Agreements.{IsAgreement, begins}
+use Rattle.osm_verify.specs.Audits.{Database, Trees, IsEntryOf, AreEntries, IsShown, ShowsImport}
 use Rattle.osm_verify.specs.declared.comparing.Depth.{Depth}
+use Rattle.osm_verify.specs.declared.comparing.Depth.TheVariants.{Elements}
 use Rattle.osm_verify.specs.declared.comparing.Agreement.{Agreement}
 use Rattle.osm_verify.specs.declared.comparing.Agreement.TheVariants.{Same, Missing, Differs}
 use Rattle.pbfrow_commands.specs.Checking.{capped}
@@ -37,10 +44,11 @@ use Rattle.pbfrow_commands.specs.declared.verify.Counts.{Counts}
 abbrev pub Comparison : Type 0
 Comparison = Result Agreement Fault
 
--- that, and the held extents that begin in the frame and aren't its own
+-- that, the held extents that begin in the frame and aren't its own, and the frame's elements, none where it is bad
 pub record Compared : Type 0 where
   pub verdict : Comparison
   pub extras : List Extent
+  pub elements : List Element
 
 abbrev pub IsComparison : Depth → HeldMap → ℕ → List ℕ → Comparison → Type 0
 IsComparison depth held at w (Ok agreement) = IsAgreement depth held at w agreement
@@ -51,12 +59,27 @@ abbrev pub first_extra : ℕ → Comparison → ℕ
 first_extra at (Ok agreement) = at + 1
 first_extra at (Err fault) = at
 
+abbrev pub HasElements : ℕ → List ℕ → Comparison → List Element → Type 0
+HasElements at w (Ok agreement) elements = IsEntryOf (λ entry. Unit {0}) at w elements
+HasElements at w (Err fault) elements = elements ≡ []
+
 pub record IsCompared (depth : Depth) (held : HeldMap) (at : ℕ) (w : List ℕ) (found : Compared) : Type 0 where
   pub judged : IsComparison depth held at w found.verdict
   pub extras : found.extras ≡ filter (begins (first_extra at found.verdict) (at + length w)) (extents_of held)
+  pub elements_are : HasElements at w found.verdict found.elements
 
 abbrev pub HasCompared : Depth → HeldMap → ℕ → Part Compared → Type 0
 HasCompared depth held at p = IsCompared depth held at p.bytes p.found
+
+abbrev pub HasOwnElements : ℕ → Part Compared → Type 0
+HasOwnElements at p = HasElements at p.bytes p.found.verdict p.found.elements
+
+-- whatever rows the tables have: by elements a frame is found alike only where the rows at its offset are its blob's
+abbrev pub IsSeen : Layout → Trees → Depth → ℕ → List ℕ → Comparison → List Element → Type 0
+IsSeen layout db depth at w verdict elements = depth ≡ Elements → verdict ≡ Ok Same → IsShown layout db at w elements
+
+abbrev pub HasSeen : Layout → Trees → Depth → ℕ → Part Compared → Type 0
+HasSeen layout db depth at p = IsSeen layout db depth at p.bytes p.found.verdict p.found.elements
 
 -- ---- its lines
 
@@ -109,6 +132,14 @@ counts_line c = codes "blobs " ++ decimal c.blobs ++ codes " missing " ++ decima
 abbrev pub agree : Counts → Bool
 agree c = nat_lt 0 c.blobs && ((c.bad == 0 && c.missing == 0) && (c.differs == 0 && c.extra == 0))
 
+-- the counts of the rows of a blob more
+abbrev pub CountsMore : Rows → List Element → Rows → Type 0
+CountsMore old elements new = (before : List (List Element)) → old ≡ counts_of_rows before → new ≡ counts_of_rows (before ++ elements ∷ [])
+
+-- the counts of the rows of these blobs
+abbrev pub rows_of : List (Part Compared) → Rows
+rows_of blobs = counts_of_rows (map (λ (p : Part Compared). p.found.elements) blobs)
+
 -- ---- the whole
 
 -- the store answered a fault at this offset, and why
@@ -148,6 +179,11 @@ close_text (Whole extras) blobs = header_line blobs ++ extra_lines extras.items 
 close_text (Early stop) blobs = stop_line stop.fault stop.at ++ counts_behind blobs stop.fault
 close_text Unwritten blobs = []
 
+abbrev pub is_whole : Close → Bool
+is_whole (Whole extras) = true
+is_whole (Early stop) = false
+is_whole Unwritten = false
+
 abbrev pub is_agreed : Close → List (Part Compared) → Bool
 is_agreed (Whole extras) blobs = agree (counts_of blobs (length extras.items))
 is_agreed (Early stop) blobs = false
@@ -172,3 +208,34 @@ pub record VerifiesInput (depth : Depth) (held : HeldMap) (left written_old writ
   pub closed : HasClosed held (length (joined blobs)) behind sink_failed before now close
   pub text : Wrote written_old (lines_from compared_lines 0 blobs ++ close_text close blobs) written_new sink_failed
   pub status_is : status ≡ status_of (is_agreed close blobs) sink_failed
+
+-- ---- whatever rows the tables have
+
+-- where by elements all was found alike and nothing more, and SQL can count so many rows, the tables have so many
+abbrev pub HasCountedRows : Type 0 → Layout → Database → Depth → Counts → Rows → Close → Type 0
+HasCountedRows is_open layout db depth counts rows (Whole extras) =
+    depth ≡ Elements → agree counts ≡ true → extras.items ≡ [] → AreCountable rows → is_open × (db.schema ≡ schema_of layout → ShowsCounts layout db.trees rows)
+HasCountedRows is_open layout db depth counts rows (Early stop) = Unit {0}
+HasCountedRows is_open layout db depth counts rows Unwritten = Unit {0}
+
+-- The whole input is these frames, so counted, with these extents behind. Where by elements all was found alike and nothing
+-- more, and SQL can count their rows, the rows at the offset of each are those of its blob, and the tables have no more.
+pub record HasSeenWhole (layout : Layout) (db : Trees) (depth : Depth) (left : Known) (counts : Counts) (blobs : List (Part Compared)) (extras : List Extent) : Type 0 where
+  pub found : AreFound HasOwnElements 0 blobs
+  pub behind : Known
+  pub read : Consumes left behind (joined blobs)
+  pub ended : IsAtEnd behind
+  pub counted : counts ≡ counts_of blobs 0
+  pub shown : depth ≡ Elements → agree counts ≡ true → extras ≡ [] → AreCountable (rows_of blobs) → AreFound (HasSeen layout db depth) 0 blobs × ShowsCounts layout db (rows_of blobs)
+
+abbrev pub HasSeenInput : Layout → Trees → Depth → Known → Counts → Close → Type 0
+HasSeenInput layout db depth left counts (Whole extras) = (blobs : List (Part Compared)) × HasSeenWhole layout db depth left counts blobs extras.items
+HasSeenInput layout db depth left counts (Early stop) = Unit {0}
+HasSeenInput layout db depth left counts Unwritten = Unit {0}
+
+-- these are the elements of the frames; and where SQL can count their rows, queries see in the tables the rows of what an
+-- import of the frames to a new store comes to, and no others
+pub record ShowsFile (layout : Layout) (db : Trees) (frames : List (List ℕ)) : Type 0 where
+  pub blobs : List (List Element)
+  pub are : AreEntries (λ off blob. Unit {0}) 0 frames blobs
+  pub imported : AreCountable (counts_of_rows blobs) → ShowsImport layout db frames

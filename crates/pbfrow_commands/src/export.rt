@@ -27,7 +27,7 @@ fn put_export_fault<S: Sink>(out: &mut S, fault: ExportFault)
 }
 
 /// Writes what follows the exported text, and answers the exit status.
-fn finish<S: Sink>(out: &mut S, answer: Result<(), ExportFault>) -> u8
+pub(crate) fn finish<S: Sink>(out: &mut S, answer: Result<(), ExportFault>) -> u8
     ensures ends { EndsExport (S.written out.old) (S.written out.new) (S.has_failed out.new) result answer }
     ensures kept { answer ≡ Err ExportFault.WriteFailed → S.has_failed out.new ≡ S.has_failed out.old }
 {

@@ -12,6 +12,7 @@ pub mod list;
 pub mod merge;
 pub mod metered;
 pub mod migrate;
+pub mod parts;
 pub mod progress;
 pub mod ranges;
 pub mod report;

@@ -80,7 +80,7 @@ impl<W: Write, P: Watcher> Write for BlobLines<'_, W, P> {
 }
 
 /// A store that tells of its blobs as they are loaded, in the order of their offsets: these are the bytes that are done,
-/// up to the greatest end of a blob.
+/// up to the greatest end of a blob that it or another store of the same watcher has.
 #[derive(Drop)]
 pub struct MeteredStore<'a, K, P> {
     pub store: K,

@@ -1,12 +1,12 @@
 //! The command `status`: the byte ranges that a store is missing.
 
-ghost use Rattle.std.specs.Prelude.{◌≡◌, IfOk, IfErr};
+ghost use Rattle.std.specs.Prelude.{◌≡◌, ℕ, Option, IfOk, IfErr};
 ghost use Rattle.osm_value.specs.Sink.{Writes};
 ghost use Rattle.osm_store.specs.Held.{HeldMap};
 ghost use Rattle.osm_import.specs.Step.{HasCause};
 ghost use Rattle.osm_import.specs.Stores.{Rereads, Stays};
 ghost use Rattle.pbfrow_commands.specs.CommandLines.{counts_line, gap_line, gap_lines};
-ghost use Rattle.pbfrow_commands.specs.Status.{IsSurvey, TellsStatus};
+ghost use Rattle.pbfrow_commands.specs.Status.{IsSurvey, Tells, TellsStatus, status_text};
 
 use crate::report::put_store_fault;
 use osm_import::{gaps, greatest_end};
@@ -16,10 +16,10 @@ use std::alloc::Global;
 
 /// How many blobs a store holds, the greatest end of one, and the ranges that none covers.
 #[derive(Debug, Drop)]
-struct Holdings {
-    blobs: u64,
-    end: u64,
-    gaps: Vec<(u64, u64)>,
+pub(crate) struct Holdings {
+    pub(crate) blobs: u64,
+    pub(crate) end: u64,
+    pub(crate) gaps: Vec<(u64, u64)>,
 }
 
 /// What a store holds, and the gaps up to the size, or up to the greatest end if no size is given.
@@ -80,6 +80,21 @@ fn put_counts<S: Sink>(out: &mut S, blobs: u64, end: u64, gaps: u64)
     put(out, b"\n");
 }
 
+/// Writes the lines of what is held, and answers the exit status: 0 if they were written, else 1.
+pub(crate) fn put_holdings<S: Sink>(out: &mut S, holdings: &Holdings) -> u8
+    ensures { (held : HeldMap) (size : Option ℕ) → IsSurvey held size holdings.now
+        → Tells (status_text held holdings.now.gaps.items) (S.written out.old) (S.written out.new) (S.has_failed out.new) result }
+{
+    put_gaps(out, &holdings.gaps);
+    put_counts(
+        out,
+        holdings.blobs,
+        holdings.end,
+        holdings.gaps.len() as u64,
+    );
+    if out.failed() { 1 } else { 0 }
+}
+
 /// Writes a line for each range that no blob covers, up to the size in bytes or else the greatest held end, and finally
 /// the counts; or the line of a fault of the store. Answers the exit status: 0 if everything was written, and 1 if there
 /// was a fault or the output failed.
@@ -93,19 +108,11 @@ pub fn status<K: Reader, S: Sink>(
         → TellsStatus held size (K.failures store.old) (K.failures store.new) (S.written out.old) (S.written out.new) (S.has_failed out.new) result }
     ensures stays { Stays K.Reader store.old store.new }
 {
-    let holdings = match survey(alloc, store, size) {
-        Ok(holdings) => holdings,
+    match survey(alloc, store, size) {
+        Ok(holdings) => put_holdings(out, &holdings),
         Err(fault) => {
             put_store_fault(out, fault);
-            return 1;
+            1
         }
-    };
-    put_gaps(out, &holdings.gaps);
-    put_counts(
-        out,
-        holdings.blobs,
-        holdings.end,
-        holdings.gaps.len() as u64,
-    );
-    if out.failed() { 1 } else { 0 }
+    }
 }

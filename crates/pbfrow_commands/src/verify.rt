@@ -1,18 +1,21 @@
 //! The command `verify`: whether a store holds exactly what an import of a file gives.
 
-ghost use Rattle.std.specs.Prelude.{◌≡◌, ◌+◌, ◌-◌, ◌^◌, ◌<◌, ◌≤◌, ◌++◌, ◌∷◌, [], length, cond, codes, ℕ, List, is_err, IfOk, IfErr, IfSome, OnOk, OnErr};
+ghost use Rattle.std.specs.Prelude.{◌≡◌, ◌↔◌, ◌+◌, ◌-◌, ◌<◌, ◌≤◌, ◌++◌, ◌∷◌, [], filter, length, cond, codes, true, ℕ, List, is_err, IsTrue, IfOk, IfErr, IfSome, OnOk, OnErr};
 ghost use Rattle.std.specs.Fmt.{decimal};
 ghost use Rattle.pbf_frame.specs.declared.part.TheConstants.{MAX_OFFSET as LAST};
 ghost use Rattle.osm_value.specs.Sink.{Writes};
+ghost use Rattle.osm_value.specs.declared.element.Element.{Element as ElementValue};
+ghost use Rattle.osm_store.specs.Audit.{AreCountable, ShowsCounts, counts_of as counts_of_rows, elements_held};
 ghost use Rattle.osm_store.specs.Held.{HeldMap};
 ghost use Rattle.osm_store.specs.Keeping.{IsForeign, extents_of};
+ghost use Rattle.osm_store.specs.Schema.Layouts.{schema_of};
 ghost use Rattle.osm_import.specs.Files.{IsFile};
 ghost use Rattle.osm_import.specs.Good.{IsFrame};
 ghost use Rattle.osm_import.specs.Step.{HasCause};
 ghost use Rattle.osm_import.specs.Stores.{Rereads, Stays};
 ghost use Rattle.osm_verify.specs.Agreements.{begins};
 ghost use Rattle.osm_verify.specs.Laws.{IsExact};
-ghost use Rattle.pbfrow_commands.specs.Verifying.{Compared, HasCompared, IsClosing, IsComparison, IsCompared, ComparesBlobs, VerifiesInput, agree, agreement_line, close_text, compared_lines, comparison_line, counts_line, counts_of, extra_line, extra_lines, first_extra, header_line, is_agreed, is_missing, is_other};
+ghost use Rattle.pbfrow_commands.specs.Verifying.{Compared, CountsMore, HasCompared, HasCountedRows, HasElements, HasOwnElements, HasSeen, HasSeenInput, IsClosing, IsComparison, IsCompared, IsSeen, ComparesBlobs, ShowsFile, VerifiesInput, agree, agreement_line, close_text, compared_lines, comparison_line, counts_line, counts_of, extra_line, extra_lines, first_extra, header_line, is_agreed, is_missing, is_other, is_whole};
 ghost use Rattle.pbfrow_commands.specs.Walks.{IsPart, Part, status_of};
 
 use crate::check::put_total;
@@ -21,7 +24,7 @@ use crate::watcher::Watcher;
 use osm_import::{
     ExamineFault, Fault, FrameReader, Inlet, Stop, StreamFault, examine_frame, put_fault_at,
 };
-use osm_store::{Extent, Reader, StoreFault};
+use osm_store::{Audited, Counts as Rows, Extent, Reader, StoreFault};
 use osm_value::{Outlet, Sink, put, put_digits};
 use osm_verify::{Agreement, Depth, compare, extents_beginning};
 use pbf_frame::MAX_OFFSET;
@@ -82,7 +85,7 @@ impl Counts {
 
     /// Counts one frame more.
     fn add(&mut self, finding: &Finding)
-        ensures { (blobs : List (Part Compared)) (p : Part Compared) → p.found ≡ record { verdict = finding.now.verdict; extras = finding.now.extras.items } → self.old ≡ counts_of blobs 0
+        ensures { (blobs : List (Part Compared)) (p : Part Compared) → p.found.verdict ≡ finding.now.verdict → p.found.extras ≡ finding.now.extras.items → self.old ≡ counts_of blobs 0
             → self.new ≡ counts_of (blobs ++ p ∷ []) 0 }
     {
         self.blobs = self.blobs.saturating_add(1);
@@ -143,12 +146,13 @@ fn other_in(verdict: &Result<Agreement, Fault>) -> u64
 /// extent or by its elements too, and which other extents begin in the frame, and at last which begin behind the end.
 /// Writes `missing OFFSET`, `differs OFFSET` or `extra OFFSET` for each that doesn't agree and a fault's line for each bad
 /// blob, ascending by offset, and finally the counts; nothing follows the line of a read that failed, of a fault of the
-/// store or of refused memory. The lines so far are flushed before more of the input is read. Where the output fails, no
+/// store or of refused memory. Where by elements all agrees and the tables have yet more rows, as somebody else has
+/// written them, that is the fault `NotThisStore` at the end of the input. The lines so far are flushed before more of the input is read. Where the output fails, no
 /// more is read. What is held stays. The watcher is called for each blob that was compared.
 ///
 /// Answers the exit status: 0 where the store holds exactly what an import of the input gives, at least one blob, and all
 /// was written; else 1.
-pub fn verify<K: Reader, R: Read, P: Watcher, W: Write>(
+pub fn verify<K: Audited, R: Read, P: Watcher, W: Write>(
     alloc: Global,
     store: &mut K,
     input: &mut R,
@@ -161,6 +165,10 @@ pub fn verify<K: Reader, R: Read, P: Watcher, W: Write>(
     // At 0 the input is a file of good blobs, and the store holds what an import of it comes to.
     ensures exact { (held : HeldMap) → K.holds store.old held → K.is_honest store.new → result ≡ 0
         → IfSome (R.remaining input.old) (λ bytes. (frames : List (List ℕ)) × IsFile bytes frames × IsExact depth held frames) }
+    // At 0 by elements, whatever rows the tables have had: they are such as an import of the input writes, and no others. That
+    // leaves out an input of more rows than SQL can count.
+    ensures shown { K.is_honest store.new → (K.database store.old).schema ≡ schema_of K.layout → depth ≡ Depth.Elements → result ≡ 0
+        → IfSome (R.remaining input.old) (λ bytes. (frames : List (List ℕ)) × IsFile bytes frames × ShowsFile K.layout (K.database store.old).trees frames) }
     ensures stays { Stays K.Reader store.old store.new }
 {
     let mut counts = Counts::NONE;
@@ -169,7 +177,7 @@ pub fn verify<K: Reader, R: Read, P: Watcher, W: Write>(
 }
 
 /// Compares the blobs, counts them and writes their lines, and answers how the frames ended.
-fn compare_blobs<K: Reader, R: Read, P: Watcher, W: Write>(
+fn compare_blobs<K: Audited, R: Read, P: Watcher, W: Write>(
     alloc: Global,
     store: &mut K,
     input: &mut R,
@@ -182,6 +190,7 @@ fn compare_blobs<K: Reader, R: Read, P: Watcher, W: Write>(
     ensures told { (held : HeldMap) → K.holds store.old held → K.is_honest store.new
         → (blobs : List (Part Compared)) × ComparesBlobs depth held (R.remaining input.old) (W.contents out.old.writer) (W.contents out.new.writer) out.new.has_failed (K.failures store.old) (K.failures store.new) blobs result
         × (counts.new ≡ counts_of blobs 0) }
+    ensures seen { K.is_honest store.new → (K.database store.old).schema ≡ schema_of K.layout → HasSeenInput K.layout (K.database store.old).trees depth (R.remaining input.old) counts.new result }
     ensures stays { Stays K.Reader store.old store.new }
 {
     let mut frames = match FrameReader::new(alloc, 0, Inlet::new(input)) {
@@ -189,13 +198,14 @@ fn compare_blobs<K: Reader, R: Read, P: Watcher, W: Write>(
         Err(stop) => return Close::Early(stop),
     };
     let mut end = 0;
+    let mut rows = Rows::NONE;
     loop {
         let Ok(()) = flush_to_wait(&mut frames, out) else {
             return Close::Unwritten;
         };
         match frames.next() {
             Ok(Some((at, bytes))) => {
-                match compare_blob(alloc, store, at, bytes, depth, counts, out) {
+                match compare_blob(alloc, store, at, bytes, depth, counts, &mut rows, out) {
                     Ok(next) => {
                         end = next;
                         watcher.see_blob();
@@ -203,34 +213,79 @@ fn compare_blobs<K: Reader, R: Read, P: Watcher, W: Write>(
                     Err(fault) => return Close::broken(fault, at),
                 }
             }
-            Ok(None) => return close_whole(alloc, store, end),
+            Ok(None) => return close_whole(alloc, store, end, depth, counts, &rows),
             Err(stop) => return Close::Early(stop),
         }
     }
 }
 
-/// The end of an input, with the held extents that begin there or behind.
-fn close_whole<K: Reader>(alloc: Global, store: &mut K, end: u64) -> Close
+/// The end of an input, with the held extents that begin there or behind. Where by elements all was found alike and there
+/// are none, the tables may yet have other rows, so these are counted.
+fn close_whole<K: Audited>(
+    alloc: Global,
+    store: &mut K,
+    end: u64,
+    depth: Depth,
+    counts: &Counts,
+    rows: &Rows,
+) -> Close
     requires { end ≤ LAST }
-    ensures extras { (held : HeldMap) → K.holds store.old held → K.is_honest store.new → IsClosing held end (K.failures store.old) (K.failures store.new) result }
+    ensures extras { (held : HeldMap) → K.holds store.old held → K.is_honest store.new
+        → (depth ≡ Depth.Elements → agree counts.now ≡ true → filter (begins end LAST) (extents_of held) ≡ [] → rows.now ≡ counts_of_rows (elements_held held))
+        → IsClosing held end (K.failures store.old) (K.failures store.new) result }
+    ensures shown { K.is_honest store.new → HasCountedRows (K.is_open store.new) K.layout (K.database store.old) depth counts.now rows.now result }
+    ensures same { K.is_honest store.new → K.is_open store.new → K.same_tables store.old store.new }
     ensures stays { Stays K.Reader store.old store.new }
     ensures counted { K.failures store.old ≤ K.failures store.new }
 {
-    match extents_beginning(alloc, store, end, MAX_OFFSET) {
-        Ok(extras) => Close::Whole(extras),
+    let extras = match extents_beginning(alloc, store, end, MAX_OFFSET) {
+        Ok(extras) => extras,
+        Err(fault) => return Close::broken(fault, end),
+    };
+    if !are_alike(depth, counts, &extras) {
+        return Close::Whole(extras);
+    }
+    match has_rows(store, rows) {
+        Ok(true) => Close::Whole(extras),
+        Ok(false) => Close::broken(StoreFault::NotThisStore(None), end),
         Err(fault) => Close::broken(fault, end),
     }
 }
 
-/// Compares a blob, counts it and writes its lines, and answers the offset behind it. At an error nothing is counted or
-/// written.
-fn compare_blob<K: Reader, S: Sink>(
+/// Whether by elements all was found alike, and no extent begins behind.
+fn are_alike(depth: Depth, counts: &Counts, extras: &[Extent]) -> bool
+    ensures { IsTrue result ↔ ((depth ≡ Depth.Elements) × (agree counts.now ≡ true) × (extras.now ≡ [])) }
+{
+    depth == Depth::Elements && counts.agree() && extras.is_empty()
+}
+
+/// Whether the tables have so many rows, or SQL can't count so many, as on no disk.
+fn has_rows<K: Audited>(store: &mut K, rows: &Rows) -> Result<bool, StoreFault>
+    ensures held { (held : HeldMap) → K.holds store.old held → K.is_honest store.new → rows.now ≡ counts_of_rows (elements_held held) → IfOk result IsTrue }
+    ensures shown { K.is_honest store.new → AreCountable rows.now
+        → IfOk result (λ told. K.is_open store.new × (IsTrue told → (K.database store.old).schema ≡ schema_of K.layout → ShowsCounts K.layout (K.database store.old).trees rows.now)) }
+    ensures same { K.is_honest store.new → K.is_open store.new → K.same_tables store.old store.new }
+    ensures rereads { Rereads K.Reader store.old result store.new }
+    ensures own { (held : HeldMap) → K.holds store.old held → K.is_honest store.new → IfErr result (λ fault. ¬ (IsForeign fault)) }
+    ensures cause { IfErr result (HasCause (K.failures store.old) (K.failures store.new)) }
+    ensures counted { K.failures store.old ≤ K.failures store.new }
+{
+    if !rows.are_countable() {
+        return Ok(true);
+    }
+    store.has_counts(rows)
+}
+
+/// Compares a blob, counts it and its rows, writes its lines, and answers the offset behind it. At an error the counts stay,
+/// and nothing is written.
+fn compare_blob<K: Audited, S: Sink>(
     alloc: Global,
     store: &mut K,
     at: u64,
     bytes: &[u8],
     depth: Depth,
     counts: &mut Counts,
+    rows: &mut Rows,
     out: &mut S,
 ) -> Result<u64, StoreFault>
     requires frame { IsFrame bytes.now }
@@ -238,7 +293,13 @@ fn compare_blob<K: Reader, S: Sink>(
     ensures told { (held : HeldMap) → K.holds store.old held → K.is_honest store.new
         → OnOk result ((p : Part Compared) × (p.bytes ≡ bytes.now) × IsPart p × HasCompared depth held at p
         × Writes (S.written out.old) (S.has_failed out.old) (S.written out.new) (S.has_failed out.new) (compared_lines at p)
-        × ((blobs : List (Part Compared)) → counts.old ≡ counts_of blobs 0 → counts.new ≡ counts_of (blobs ++ p ∷ []) 0)) }
+        × ((blobs : List (Part Compared)) → counts.old ≡ counts_of blobs 0 → counts.new ≡ counts_of (blobs ++ p ∷ []) 0)
+        × CountsMore rows.old p.found.elements rows.new) }
+    ensures seen { OnOk result ((p : Part Compared) × (p.bytes ≡ bytes.now) × IsPart p × HasOwnElements at p
+        × ((blobs : List (Part Compared)) → counts.old ≡ counts_of blobs 0 → counts.new ≡ counts_of (blobs ++ p ∷ []) 0)
+        × CountsMore rows.old p.found.elements rows.new
+        × (K.is_honest store.new → K.is_open store.new → (K.database store.old).schema ≡ schema_of K.layout → HasSeen K.layout (K.database store.old).trees depth at p)) }
+    ensures same { K.is_honest store.new → K.is_open store.new → K.same_tables store.old store.new }
     ensures end { IfOk result (λ end. end ≡ at + length bytes.now) }
     ensures err { OnErr result ((out.new ≡ out.old) × (counts.new ≡ counts.old)) }
     ensures rereads { Rereads K.Reader store.old result store.new }
@@ -246,7 +307,7 @@ fn compare_blob<K: Reader, S: Sink>(
     ensures cause { IfErr result (HasCause (K.failures store.old) (K.failures store.new)) }
     ensures counted { K.failures store.old ≤ K.failures store.new }
 {
-    let finding = match inspect(alloc, store, at, bytes, depth) {
+    let finding = match inspect(alloc, store, at, bytes, depth, rows) {
         Ok(finding) => finding,
         Err(fault) => return Err(fault),
     };
@@ -257,23 +318,27 @@ fn compare_blob<K: Reader, S: Sink>(
 }
 
 /// Compares a blob with what is held at its offset and in it.
-fn inspect<K: Reader>(
+fn inspect<K: Audited>(
     alloc: Global,
     store: &mut K,
     at: u64,
     bytes: &[u8],
     depth: Depth,
+    rows: &mut Rows,
 ) -> Result<Finding, StoreFault>
     requires frame { IsFrame bytes.now }
     requires limit { at + length bytes.now ≤ LAST }
-    ensures found { (held : HeldMap) → K.holds store.old held → K.is_honest store.new
-        → IfOk result (λ finding. IsCompared depth held at bytes.now (record { verdict = finding.verdict; extras = finding.extras.items })) }
+    ensures found { IfOk result (λ finding. (elements : List ElementValue) × HasElements at bytes.now finding.verdict elements × CountsMore rows.old elements rows.new
+        × ((held : HeldMap) → K.holds store.old held → K.is_honest store.new
+        → IsCompared depth held at bytes.now (record { verdict = finding.verdict; extras = finding.extras.items; elements = elements }))
+        × (K.is_honest store.new → K.is_open store.new → (K.database store.old).schema ≡ schema_of K.layout → IsSeen K.layout (K.database store.old).trees depth at bytes.now finding.verdict elements)) }
+    ensures same { K.is_honest store.new → K.is_open store.new → K.same_tables store.old store.new }
     ensures rereads { Rereads K.Reader store.old result store.new }
     ensures own { (held : HeldMap) → K.holds store.old held → K.is_honest store.new → IfErr result (λ fault. ¬ (IsForeign fault)) }
     ensures cause { IfErr result (HasCause (K.failures store.old) (K.failures store.new)) }
     ensures counted { K.failures store.old ≤ K.failures store.new }
 {
-    let verdict = match judge(alloc, store, at, bytes, depth) {
+    let verdict = match judge(alloc, store, at, bytes, depth, rows) {
         Ok(verdict) => verdict,
         Err(fault) => return Err(fault),
     };
@@ -295,16 +360,20 @@ fn first_extra(at: u64, verdict: Result<Agreement, Fault>) -> u64
     }
 }
 
-/// Compares a blob with what is held at its offset, or finds its fault.
-fn judge<K: Reader>(
+/// Compares a blob with what is held at its offset, or finds its fault, and counts its rows, of which a bad blob has none.
+fn judge<K: Audited>(
     alloc: Global,
     store: &mut K,
     at: u64,
     bytes: &[u8],
     depth: Depth,
+    rows: &mut Rows,
 ) -> Result<Result<Agreement, Fault>, StoreFault>
     requires { IsFrame bytes.now }
-    ensures judged { (held : HeldMap) → K.holds store.old held → K.is_honest store.new → IfOk result (IsComparison depth held at bytes.now) }
+    ensures judged { IfOk result (λ verdict. (elements : List ElementValue) × HasElements at bytes.now verdict elements × CountsMore rows.old elements rows.new
+        × ((held : HeldMap) → K.holds store.old held → K.is_honest store.new → IsComparison depth held at bytes.now verdict)
+        × (K.is_honest store.new → K.is_open store.new → (K.database store.old).schema ≡ schema_of K.layout → IsSeen K.layout (K.database store.old).trees depth at bytes.now verdict elements)) }
+    ensures same { K.is_honest store.new → K.is_open store.new → K.same_tables store.old store.new }
     ensures rereads { Rereads K.Reader store.old result store.new }
     ensures own { (held : HeldMap) → K.holds store.old held → K.is_honest store.new → IfErr result (λ fault. ¬ (IsForeign fault)) }
     ensures cause { IfErr result (HasCause (K.failures store.old) (K.failures store.new)) }
@@ -312,10 +381,16 @@ fn judge<K: Reader>(
 {
     match examine_frame(alloc, at, &frame_of(bytes)) {
         Ok(good) => match compare(alloc, store, at, bytes, &good, depth) {
-            Ok(agreement) => Ok(Ok(agreement)),
+            Ok(agreement) => {
+                rows.add(&good.elements);
+                Ok(Ok(agreement))
+            }
             Err(fault) => Err(fault),
         },
-        Err(ExamineFault::Bad(fault)) => Ok(Err(fault)),
+        Err(ExamineFault::Bad(fault)) => {
+            rows.add(&[]);
+            Ok(Err(fault))
+        }
         Err(ExamineFault::Memory) => Err(StoreFault::Memory),
     }
 }
@@ -364,6 +439,7 @@ fn finish<S: Sink>(out: &mut S, counts: &mut Counts, close: &Close) -> u8
     ensures line { (blobs : List (Part Compared)) → counts.old ≡ counts_of blobs 0
         → Writes (S.written out.old) (S.has_failed out.old) (S.written out.new) (S.has_failed out.new) (close_text close.now blobs) }
     ensures status { (blobs : List (Part Compared)) → counts.old ≡ counts_of blobs 0 → result ≡ status_of (is_agreed close.now blobs) (S.has_failed out.new) }
+    ensures whole { result ≡ 0 → is_whole close.now ≡ true }
     ensures unwritten { close.now ≡ Close.Unwritten → S.has_failed out.new ≡ S.has_failed out.old }
 {
     match close {

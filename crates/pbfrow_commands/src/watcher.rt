@@ -12,7 +12,7 @@ pub trait Watcher {
     /// All that stands before this offset, in bytes, is done.
     fn see_offset(&self, off: u64);
 
-    /// There are so many bytes in all.
+    /// There are so many bytes at least.
     fn see_size(&self, size: u64);
 
     /// Something is about to be written to standard output.

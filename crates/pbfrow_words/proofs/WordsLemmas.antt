@@ -21,7 +21,8 @@ begins_within (command.Ranges file count) name rows said = tt
 begins_within (command.Migrate old new) name rows said = tt
 begins_within (command.Merge into from) name rows said = tt
 begins_within (command.Verify file database elements) name rows said = tt
-begins_within (command.Ask database question) name rows said = tt
+begins_within (command.Ask databases question) name rows said = tt
+begins_within (command.Find database kind id) name rows said = tt
 
 pub said_begins_within : (w : Words) (o : Option (Text × List Row)) → IsSomeAnd o (λ p. Says w p.0 p.1) → BeginsWithin w
 said_begins_within w (Some p) said = begins_within w p.0 p.1 said
@@ -34,7 +35,8 @@ cuts_some (command.Read reading file) name rows said = tt
 cuts_some (command.Migrate old new) name rows said = tt
 cuts_some (command.Merge into from) name rows said = tt
 cuts_some (command.Verify file database elements) name rows said = tt
-cuts_some (command.Ask database question) name rows said = tt
+cuts_some (command.Ask databases question) name rows said = tt
+cuts_some (command.Find database kind id) name rows said = tt
 
 pub said_cuts_some : (w : Words) (o : Option (Text × List Row)) → IsSomeAnd o (λ p. Says w p.0 p.1) → CutsSome w
 said_cuts_some w (Some p) said = cuts_some w p.0 p.1 said

@@ -1,12 +1,13 @@
 -- The commands that ask a database, as clap's model of a command has them, and what a question says of their matches.
-use Rattle.std.specs.Prelude.{◌≡◌, List, Option, Some, [], ◌∷◌, codes}
+use Rattle.std.specs.Prelude.{◌≡◌, ℤ, List, Option, Some, [], ◌∷◌, codes}
 use Rattle.clap.specs.Words.{App, Row, Rule, Text, first_of, new_app, new_rule, one_of, with_rule, with_subcommand}
+use Rattle.osm_value.specs.declared.element.MemberKind.{MemberKind}
 use Rattle.osm_value.specs.declared.form.Form.{Form}
 use Rattle.osm_value.specs.declared.form.Form.TheVariants as form
-use Rattle.pbfrow_words.specs.Arguments.{IsFlag, IsNumber, flag, offset_option, required_argument}
+use Rattle.pbfrow_words.specs.Arguments.{IsFlag, IsNumber, flag, offset_option, required_argument, required_arguments}
 use Rattle.pbfrow_words.specs.Element.{element_at}
 use Rattle.pbfrow_words.specs.declared.asking.Question.{Question}
-use Rattle.pbfrow_words.specs.declared.asking.Question.TheVariants.{Status, Export, Find}
+use Rattle.pbfrow_words.specs.declared.asking.Question.TheVariants.{Status, Export}
 
 abbrev pub form_option : Rule
 form_option = record (new_rule (codes "form")) {
@@ -17,14 +18,14 @@ form_option = record (new_rule (codes "form")) {
 
 abbrev pub status_command : App
 status_command = with_rule (with_rule (new_app (codes "status"))
-    (required_argument (codes "DB"))) (offset_option (codes "size"))
+    (required_arguments (codes "DB"))) (offset_option (codes "size"))
 
 abbrev pub with_export_choices : App → App
 with_export_choices command = with_rule (with_rule command (flag (codes "partial"))) form_option
 
 abbrev pub export_command : App
 export_command = with_export_choices (with_rule (with_rule (new_app (codes "export"))
-    (required_argument (codes "DB"))) (offset_option (codes "size")))
+    (required_arguments (codes "DB"))) (offset_option (codes "size")))
 
 abbrev pub find_command : App
 find_command = with_rule (with_rule (new_app (codes "find"))
@@ -43,5 +44,7 @@ abbrev pub Asks : Question → Text → List Row → Type 0
 Asks (Status size) name rows = (name ≡ codes "status") × IsNumber size (one_of (codes "size") rows)
 Asks (Export size partial how) name rows = (name ≡ codes "export") × IsNumber size (one_of (codes "size") rows)
     × IsFlag partial (one_of (codes "partial") rows) × IsForm how (first_of (codes "form") rows)
-Asks (Find kind id) name rows = (name ≡ codes "find")
-    × ((text : Text) × (Some text ≡ first_of (codes "ELEMENT") rows) × (element_at text ≡ Some (kind, id)))
+
+-- the text names an element of this kind and id
+abbrev pub IsElementOf : MemberKind → ℤ → Option Text → Type 0
+IsElementOf kind id given = (text : Text) × (Some text ≡ given) × (element_at text ≡ Some (kind, id))

@@ -2,7 +2,7 @@
 use Rattle.std.specs.Prelude.{◌≡◌, ◌<◌, ◌≤◌, List, Some, true, codes, map}
 use Rattle.clap.specs.Words.{App, Row, Text, all_of, first_of, new_app, one_of}
 use Rattle.pbfrow_words.specs.Arguments.{IsFlag, text_of}
-use Rattle.pbfrow_words.specs.Asking.{Asks, with_asking_commands}
+use Rattle.pbfrow_words.specs.Asking.{Asks, IsElementOf, with_asking_commands}
 use Rattle.pbfrow_words.specs.Filling.{IsStart, begins_at, with_filling_commands}
 use Rattle.pbfrow_words.specs.Ranges.{IsCount, with_ranges}
 use Rattle.pbfrow_words.specs.Reading.{Reads, with_reading_commands}
@@ -34,7 +34,9 @@ Says (command.Merge into from) name rows = (name ≡ codes "merge")
 Says (command.Verify file database elements) name rows = (name ≡ codes "verify")
     × (Some file.now ≡ first_of (codes "FILE") rows)
     × (Some database.now ≡ first_of (codes "DB") rows) × IsFlag elements (one_of (codes "elements") rows)
-Says (command.Ask database question) name rows = (Some database.now ≡ first_of (codes "DB") rows) × Asks question name rows
+Says (command.Ask databases question) name rows = (Some (map (λ s. s.now) databases.items) ≡ all_of (codes "DB") rows) × Asks question name rows
+Says (command.Find database kind id) name rows = (name ≡ codes "find")
+    × (Some database.now ≡ first_of (codes "DB") rows) × IsElementOf kind id (first_of (codes "ELEMENT") rows)
 
 -- an import begins at 2^62 at most
 abbrev pub BeginsWithin : Words → Type 0

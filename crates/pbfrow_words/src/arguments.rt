@@ -70,6 +70,17 @@ pub(crate) fn database<'a>(alloc: Global) -> Arg<'a>
     required_argument(alloc, "DB", "Database file")
 }
 
+pub(crate) fn databases<'a>(alloc: Global) -> Arg<'a>
+    ensures rule { rule_of result ≡ definitions.required_arguments (codes "DB") }
+    ensures local { result.global ≡ false }
+{
+    required_arguments(
+        alloc,
+        "DB",
+        "Database file; several if each holds a part of the file",
+    )
+}
+
 /// Adds an argument that isn't passed on to the subcommands.
 pub(crate) fn with_argument<'a>(
     command: Command<'a>,

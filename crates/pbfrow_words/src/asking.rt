@@ -5,18 +5,19 @@ ghost use Rattle.clap.specs.Words.{app_of, first_of, found_of, rows_of, rule_of}
 ghost use Rattle.clap.specs.declared.builder.command.Command.TheViews.{out-Command as fields_of};
 ghost use Rattle.pbfrow_words.specs.Arguments.{offset_option};
 ghost use Rattle.pbfrow_words.specs.Asking as definitions;
-ghost use Rattle.pbfrow_words.specs.Asking.{Asks, IsForm};
+ghost use Rattle.pbfrow_words.specs.Asking.{Asks, IsElementOf, IsForm};
 
 use crate::arguments::{
-    database, flag, flag_of, new_command, number_of, offset_option, required_argument, text_of,
-    with_argument, with_command,
+    database, databases, flag, flag_of, new_command, number_of, offset_option, required_argument,
+    text_of, with_argument, with_command,
 };
 use crate::element::read_element;
 use clap::{Arg, ArgMatches, Command};
 use osm_value::{Form, MemberKind};
 use std::alloc::{AllocError, Global};
 
-/// What is asked of a database. A `size` is that of the whole PBF file in bytes, at most 2^62.
+/// What is asked of a database, or of several that hold parts of one file. A `size` is that of the whole PBF file in
+/// bytes, at most 2^62.
 #[derive(Clone, Copy, Debug, PartialEq, Eq)]
 pub enum Question {
     Status {
@@ -28,11 +29,6 @@ pub enum Question {
         partial: bool,
         form: Form,
     },
-    /// The element of this kind and id, as `read_element` reads it.
-    Find {
-        kind: MemberKind,
-        id: i64,
-    },
 }
 
 const STATUS_HELP: &str =
@@ -40,10 +36,15 @@ const STATUS_HELP: &str =
 up to --size or, without it, up to the greatest end of a held blob; and last
 'blobs B end N gaps G'.
 
-Exit status: 0 if the database was read, else 1.
+Several databases that hold parts of one file, in any order, are read one after
+the other, as if one held all of it. No part may have blobs between those of
+another, nor a blob that another has, too (fault 71).
 
-Example:
-  pbfrow status berlin.db --size 73400320";
+Exit status: 0 if the databases were read, else 1.
+
+Examples:
+  pbfrow status berlin.db --size 73400320
+  pbfrow status part-1.db part-2.db";
 
 const EXPORT_HELP: &str =
     "Writes the elements of all held blobs to standard output, in the order of the
@@ -51,11 +52,16 @@ file. Nothing is written if a blob is missing (fault 67) or ends past --size
 (fault 70); without --size the greatest end of a held blob counts, so blobs that
 are missing at the end of the file aren't noticed.
 
+Several databases that hold parts of one file, in any order, are read one after
+the other, each of them twice, as if one held all of it. No part may have blobs
+between those of another, nor a blob that another has, too (fault 71).
+
 Exit status: 0 if all was written, else 1.
 
 Examples:
   pbfrow export berlin.db --size 73400320
-  pbfrow export berlin.db --form pbf > berlin.osm.pbf";
+  pbfrow export berlin.db --form pbf > berlin.osm.pbf
+  pbfrow export part-1.db part-2.db --form pbf > berlin.osm.pbf";
 
 const FIND_HELP: &str =
     "Prints 'OFFSET POSITION LINE' for each time that the element is held: the offset
@@ -95,7 +101,7 @@ fn status_command<'a>(alloc: Global) -> Result<Command<'a>, AllocError>
         "List the byte ranges missing from a database",
         STATUS_HELP,
     );
-    let command = with_argument(command, database(alloc))?;
+    let command = with_argument(command, databases(alloc))?;
     with_argument(command, size_option(alloc))
 }
 
@@ -123,7 +129,7 @@ fn export_command<'a>(alloc: Global) -> Result<Command<'a>, AllocError>
         "Write the elements held in a database",
         EXPORT_HELP,
     );
-    let command = with_argument(command, database(alloc))?;
+    let command = with_argument(command, databases(alloc))?;
     let command = with_argument(command, size_option(alloc))?;
     with_export_choices(alloc, command)
 }
@@ -189,11 +195,11 @@ fn export_of(matches: &ArgMatches) -> Option<Question>
     })
 }
 
-fn find_of(matches: &ArgMatches) -> Option<Question>
-    ensures { IfSome result (λ q. Asks q (codes "find") (rows_of (found_of matches.now))) }
+/// The kind and the id of the element that is to be found.
+pub(crate) fn element_of(matches: &ArgMatches) -> Option<(MemberKind, i64)>
+    ensures { IfSome result (λ e. IsElementOf e.0 e.1 (first_of (codes "ELEMENT") (rows_of (found_of matches.now)))) }
 {
-    let (kind, id) = read_element(text_of(matches, "ELEMENT")?)?;
-    Some(Question::Find { kind, id })
+    read_element(text_of(matches, "ELEMENT")?)
 }
 
 /// The question that the command of this name asks.
@@ -203,7 +209,6 @@ pub(crate) fn question_of(name: &str, matches: &ArgMatches) -> Option<Question>
     match name {
         "status" => status_of(matches),
         "export" => export_of(matches),
-        "find" => find_of(matches),
         _ => None,
     }
 }

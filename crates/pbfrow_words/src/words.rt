@@ -6,20 +6,21 @@ ghost use Rattle.clap.specs.declared.builder.command.Command.TheViews.{out-Comma
 ghost use Rattle.pbfrow_words.specs.Words.{BeginsWithin, CutsSome, Says, program};
 
 use crate::arguments::{flag_of, text_of, texts_of};
-use crate::asking::{Question, question_of, with_asking_commands};
+use crate::asking::{Question, element_of, question_of, with_asking_commands};
 use crate::filling::{Start, start_of, with_filling_commands};
 use crate::ranges::{count_of, with_ranges};
 use crate::reading::{Reading, reading_of, with_reading_commands};
 use crate::verifying::with_verify;
 use clap::error::ErrorKind;
 use clap::{ArgMatches, Command, Error};
+use osm_value::MemberKind;
 use std::alloc::{AllocError, Global};
 
 /// The message for an invalid ELEMENT or FORM, which clap takes for plain text.
 const UNREADABLE: &str =
     "ELEMENT must be n, w or r followed by an id, such as w-2, and FORM must be lines or pbf";
 
-/// A command with its arguments. A `file`, a `database`, and those that are `old` and `new`, `into` and `from`, are paths.
+/// A command with its arguments. A `file`, a `database`, each of `databases`, and those that are `old` and `new`, `into` and `from`, are paths.
 #[derive(Debug, Drop, PartialEq, Eq)]
 pub enum Words<'a> {
     Read {
@@ -54,8 +55,15 @@ pub enum Words<'a> {
         elements: bool,
     },
     Ask {
-        database: &'a str,
+        /// One at least, in the order that they were given.
+        databases: Vec<&'a str>,
         question: Question,
+    },
+    /// The element of this kind and id, as `read_element` reads it.
+    Find {
+        database: &'a str,
+        kind: MemberKind,
+        id: i64,
     },
 }
 
@@ -141,7 +149,37 @@ fn merge_of<'a>(alloc: Global, matches: &ArgMatches<'a>) -> Result<Option<Words<
     Ok(Some(Words::Merge { into, from }))
 }
 
-/// The command of this name, if it isn't `merge`.
+/// The words of a question. None are given where there is no such command or one of its arguments can't be read.
+fn ask_of<'a>(
+    alloc: Global,
+    name: &str,
+    matches: &ArgMatches<'a>,
+) -> Result<Option<Words<'a>>, AllocError>
+    ensures { IfOk result (λ o. IfSome o (λ w. Says w name.now (rows_of (found_of matches.now)))) }
+{
+    let (Some(question), Some(texts)) = (question_of(name, matches), texts_of(matches, "DB")) else {
+        return Ok(None);
+    };
+    let mut databases = Vec::new(alloc);
+    databases.extend_from_slice(texts)?;
+    Ok(Some(Words::Ask {
+        databases,
+        question,
+    }))
+}
+
+fn find_of<'a>(matches: &ArgMatches<'a>) -> Option<Words<'a>>
+    ensures { IfSome result (λ w. Says w (codes "find") (rows_of (found_of matches.now))) }
+{
+    let (kind, id) = element_of(matches)?;
+    Some(Words::Find {
+        database: text_of(matches, "DB")?,
+        kind,
+        id,
+    })
+}
+
+/// The command of this name, if it takes no list of names.
 fn simple_words_of<'a>(name: &str, matches: &ArgMatches<'a>) -> Option<Words<'a>>
     ensures { IfSome result (λ w. Says w name.now (rows_of (found_of matches.now))) }
 {
@@ -156,10 +194,8 @@ fn simple_words_of<'a>(name: &str, matches: &ArgMatches<'a>) -> Option<Words<'a>
         "import" => import_of(matches),
         "migrate" => migrate_of(matches),
         "verify" => verify_of(matches),
-        _ => Some(Words::Ask {
-            question: question_of(name, matches)?,
-            database: text_of(matches, "DB")?,
-        }),
+        "find" => find_of(matches),
+        _ => None,
     }
 }
 
@@ -173,6 +209,8 @@ fn words_of<'a>(
 {
     match name {
         "merge" => merge_of(alloc, matches),
+        "status" => ask_of(alloc, name, matches),
+        "export" => ask_of(alloc, name, matches),
         _ => Ok(simple_words_of(name, matches)),
     }
 }

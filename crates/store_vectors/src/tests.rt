@@ -7,6 +7,7 @@ mod faults;
 mod fixtures;
 mod history;
 mod memory;
+mod parts;
 mod questions;
 mod refusals;
 mod spoiled;

@@ -2,7 +2,7 @@
 
 use super::support::{EXTRA, TWO_NODES};
 use osm_import::Inlet;
-use osm_store::{BlobStore, BodyStore, Keeper, StoreLayout, TableStore};
+use osm_store::{Audited, BlobStore, BodyStore, Keeper, StoreLayout, TableStore};
 use osm_value::Outlet;
 use pbfrow_commands::import::{Start, import};
 use sqlite::{Connection, MemStore};
@@ -16,8 +16,11 @@ pub type Blocks = BodyStore<MemStore>;
 pub type Columns = TableStore<MemStore>;
 
 /// A store in memory, which holds nothing at first.
-pub trait NewStore: Keeper + Drop {
+pub trait NewStore: Keeper + Audited + Drop {
     fn new_store(alloc: Global) -> Option<Self>;
+
+    /// The store, opened again after a statement has changed its rows.
+    fn changed(self, sql: &str) -> Option<Self>;
 }
 
 impl<L: StoreLayout> NewStore for BlobStore<MemStore, L> {
@@ -26,6 +29,15 @@ impl<L: StoreLayout> NewStore for BlobStore<MemStore, L> {
             return None;
         };
         BlobStore::create(connection).ok()
+    }
+
+    fn changed(self, sql: &str) -> Option<BlobStore<MemStore, L>> {
+        let mut connection = self.into_connection();
+        connection.execute(sql, &[]).ok()?;
+        if !connection.is_autocommit() {
+            return None;
+        }
+        BlobStore::adopt(connection).ok()
     }
 }
 

@@ -2,7 +2,7 @@
 
 use super::stores::{Blocks, Columns, NewStore, import_four_blobs, import_two_nodes};
 use super::support::{Breaking, Closed, TWO_NODES, Unwatched};
-use osm_store::{Keeper, Reader};
+use osm_store::{Audited, Keeper};
 use osm_value::Outlet;
 use osm_verify::Depth;
 use pbf_frame::Kind;
@@ -13,7 +13,7 @@ use std::process::Abort;
 use std::test::*;
 
 /// Verifies an input against a store, and expects this exit status and exactly this text.
-fn expect_verify<K: Reader, R: Read + Drop>(
+fn expect_verify<K: Audited, R: Read + Drop>(
     rt: &(impl Abort + Alloc<A = Global>),
     store: &mut K,
     mut input: R,
@@ -28,7 +28,7 @@ fn expect_verify<K: Reader, R: Read + Drop>(
 }
 
 /// The same by extents and by elements.
-fn expect_both<K: Reader>(
+fn expect_both<K: Audited>(
     rt: &(impl Abort + Alloc<A = Global>),
     store: &mut K,
     input: &[u8],
@@ -110,6 +110,73 @@ fn tells_other_elements<K: NewStore>(rt: &(impl Abort + Alloc<A = Global>)) -> R
 fn tells_other_elements_in_both_layouts(rt: HostRuntime) -> Result<(), Fail> {
     tells_other_elements::<Blocks>(&rt)?;
     tells_other_elements::<Columns>(&rt)
+}
+
+/// Statements that change rows of the two nodes, and what is written then by elements; by extents the store still agrees.
+type Changes = &'static [(&'static str, &'static [u8])];
+
+const DIFFERS: &[u8] = b"differs 47\nblobs 2 missing 0 differs 1 extra 0\n";
+
+/// Rows at no offset of the file are told at its end.
+const HAS_MORE: &[u8] = b"fault 66 NotThisStore at 84\n";
+
+fn tells_changes<K: NewStore>(
+    rt: &(impl Abort + Alloc<A = Global>),
+    changes: Changes,
+) -> Result<(), Fail> {
+    let same = b"blobs 2 missing 0 differs 0 extra 0\n";
+    for (sql, text) in changes {
+        let mut store = K::new_store(rt.alloc()).ok_or("a store")?;
+        import_two_nodes(rt, &mut store);
+        let mut store = store.changed(sql).ok_or("a changed store")?;
+        let input = Cursor::new(&TWO_NODES[..]);
+        expect_verify(rt, &mut store, input, Depth::Extents, 0, same);
+        let input = Cursor::new(&TWO_NODES[..]);
+        expect_verify(rt, &mut store, input, Depth::Elements, 1, text);
+    }
+    Ok(())
+}
+
+#[test]
+fn tells_rows_of_no_blob_in_bodies(rt: HostRuntime) -> Result<(), Fail> {
+    const CHANGES: Changes = &[
+        (
+            "INSERT INTO body (off, pos, kind, id, data) VALUES (48, 0, 0, 3, x'00')",
+            HAS_MORE,
+        ),
+        (
+            "INSERT INTO body (off, pos, kind, id, data) VALUES (47, 2, 0, 3, x'00')",
+            DIFFERS,
+        ),
+    ];
+    tells_changes::<Blocks>(&rt, CHANGES)
+}
+
+#[test]
+fn tells_rows_of_no_blob_in_tables(rt: HostRuntime) -> Result<(), Fail> {
+    const CHANGES: Changes = &[
+        (
+            "INSERT INTO blob (off, fin, digest, kind, n) VALUES (-5, 0, x'01', 2, 0)",
+            HAS_MORE,
+        ),
+        (
+            "INSERT INTO element (off, pos, kind, id) VALUES (48, 0, 1, 3)",
+            HAS_MORE,
+        ),
+        (
+            "INSERT INTO tag (off, pos, k, key, val) VALUES (48, 0, 0, 'a', 'b')",
+            HAS_MORE,
+        ),
+        (
+            "INSERT INTO link (off, pos, k, kind, ref, role) VALUES (-1, 0, 0, 0, 1, '')",
+            HAS_MORE,
+        ),
+        (
+            "INSERT INTO tag (off, pos, k, key, val) VALUES (47, 5, 0, 'a', 'b')",
+            DIFFERS,
+        ),
+    ];
+    tells_changes::<Columns>(&rt, CHANGES)
 }
 
 #[test]

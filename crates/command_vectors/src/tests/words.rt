@@ -2,6 +2,8 @@
 
 use osm_value::{Form, MemberKind};
 use pbfrow_words::{Question, Reading, Start, Words, read_element, read_words};
+use std::alloc::Global;
+use std::process::Abort;
 use std::test::*;
 
 static IMPORT: [&str; 6] = ["pbfrow", "import", "F", "D", "--from", "47"];
@@ -56,6 +58,8 @@ static VERIFY_NO_DATABASE: [&str; 4] = ["pbfrow", "verify", "F", "--elements"];
 
 static FIND: [&str; 4] = ["pbfrow", "find", "D", "n2"];
 
+static FIND_IN_TWO: [&str; 5] = ["pbfrow", "find", "D", "E", "n2"];
+
 static FIND_NO_ELEMENT: [&str; 4] = ["pbfrow", "find", "D", "x2"];
 
 static LIST: [&str; 2] = ["pbfrow", "list"];
@@ -66,9 +70,15 @@ static SHOW_TWO: [&str; 4] = ["pbfrow", "show", "F", "G"];
 
 static STATUS: [&str; 5] = ["pbfrow", "status", "D", "--size", "85"];
 
+static STATUS_OF_PARTS: [&str; 7] = ["pbfrow", "status", "D", "E", "D", "--size", "85"];
+
+static STATUS_OF_NOTHING: [&str; 4] = ["pbfrow", "status", "--size", "85"];
+
 static EXPORT: [&str; 3] = ["pbfrow", "export", "D"];
 
 static EXPORT_PBF: [&str; 6] = ["pbfrow", "export", "D", "--partial", "--form", "pbf"];
+
+static EXPORT_OF_PARTS: [&str; 7] = ["pbfrow", "export", "D", "E", "--partial", "--form", "pbf"];
 
 static EXPORT_XML: [&str; 5] = ["pbfrow", "export", "D", "--form", "xml"];
 
@@ -201,44 +211,52 @@ fn words_of_verify(rt: HostRuntime) {
     assert!(rt; read_words(rt.alloc(), VERIFY_NO_DATABASE.as_slice()).is_err());
 }
 
+/// The words of a question of these databases.
+fn expect_question<R: Abort + Alloc<A = Global>>(
+    rt: &R,
+    words: &'static [&'static str],
+    databases: &[&'static str],
+    question: Question,
+) -> Result<(), Fail> {
+    let mut names = Vec::new(rt.alloc());
+    names.extend_from_slice(databases)?;
+    let databases = names;
+    assert!(rt;
+        read_words(rt.alloc(), words).ok()
+            == Some(Words::Ask {
+                databases,
+                question
+            })
+    );
+    Ok(())
+}
+
 #[test]
-fn words_of_database_commands(rt: HostRuntime) {
-    assert!(rt;
-        matches!(
-            read_words(rt.alloc(), STATUS.as_slice()),
-            Ok(Words::Ask {
-                database: "D",
-                question: Question::Status { size: Some(85) }
-            })
-        )
-    );
-    assert!(rt;
-        matches!(
-            read_words(rt.alloc(), EXPORT.as_slice()),
-            Ok(Words::Ask {
-                database: "D",
-                question: Question::Export {
-                    size: None,
-                    partial: false,
-                    form: Form::Lines
-                }
-            })
-        )
-    );
-    assert!(rt;
-        matches!(
-            read_words(rt.alloc(), EXPORT_PBF.as_slice()),
-            Ok(Words::Ask {
-                database: "D",
-                question: Question::Export {
-                    size: None,
-                    partial: true,
-                    form: Form::Pbf
-                }
-            })
-        )
-    );
+fn words_of_status(rt: HostRuntime) -> Result<(), Fail> {
+    let question = Question::Status { size: Some(85) };
+    expect_question(&rt, STATUS.as_slice(), &["D"], question)?;
+    expect_question(&rt, STATUS_OF_PARTS.as_slice(), &["D", "E", "D"], question)?;
+    assert!(rt; read_words(rt.alloc(), STATUS_OF_NOTHING.as_slice()).is_err());
+    Ok(())
+}
+
+#[test]
+fn words_of_export(rt: HostRuntime) -> Result<(), Fail> {
+    let lines = Question::Export {
+        size: None,
+        partial: false,
+        form: Form::Lines,
+    };
+    expect_question(&rt, EXPORT.as_slice(), &["D"], lines)?;
+    let partial = Question::Export {
+        size: None,
+        partial: true,
+        form: Form::Pbf,
+    };
+    expect_question(&rt, EXPORT_PBF.as_slice(), &["D"], partial)?;
+    expect_question(&rt, EXPORT_OF_PARTS.as_slice(), &["D", "E"], partial)?;
     assert!(rt; read_words(rt.alloc(), EXPORT_XML.as_slice()).is_err());
+    Ok(())
 }
 
 #[test]
@@ -246,16 +264,15 @@ fn words_of_find(rt: HostRuntime) {
     assert!(rt;
         matches!(
             read_words(rt.alloc(), FIND.as_slice()),
-            Ok(Words::Ask {
+            Ok(Words::Find {
                 database: "D",
-                question: Question::Find {
-                    kind: MemberKind::Node,
-                    id: 2
-                }
+                kind: MemberKind::Node,
+                id: 2
             })
         )
     );
     assert!(rt; read_words(rt.alloc(), FIND_NO_ELEMENT.as_slice()).is_err());
+    assert!(rt; read_words(rt.alloc(), FIND_IN_TWO.as_slice()).is_err());
 }
 
 #[test]

@@ -1,5 +1,5 @@
 -- Rows that are those of each blob at its offset, and no more rows than these, are those of the map.
-use Rattle.std.proofs.Common.{◌≡◌, inl, inr, ℕ, suc, ◌+◌, ◌-◌, ◌^◌, ◌<◌, min, pos, Bool, true, false, not, ◌==◌, List, [], ◌∷◌, ◌++◌, map, length, length-append, refl, sym, ap, ap₂, subst, ◌∙◌, arith, IsPermutation}
+use Rattle.std.proofs.Common.{◌≡◌, inl, inr, ℕ, suc, ◌+◌, ◌-◌, ◌^◌, ◌<◌, min, pos, Bool, false, not, ◌==◌, List, [], ◌∷◌, ◌++◌, map, length, length-append, refl, sym, ap, ap₂, subst, ◌∙◌, arith, IsPermutation}
 use Rattle.std.specs.Prelude.{filter, flat_map, sum_by}
 use Rattle.std.specs.FinMap.{entries}
 use Rattle.std.specs.List.{AllByRecursion}
@@ -21,14 +21,13 @@ use Rattle.sqlite_trees.specs.Tree.{IsAscending}
 use Rattle.sqlite_trees.proofs.ListLemmas.{all_weaker, all_both, all-permutation, all-map, all-flat_map, IsPermutation-same}
 use Rattle.osm_value.specs.declared.element.Element.{Element}
 use Rattle.osm_value.specs.Elements.{tags_of_element}
-use Rattle.osm_store.specs.Audit.{is_at, HasAt, HasCount, ShowsBlob, ShowsCounts, ShowsMap, ShowElementsAt, capped, counts_of, tags_in, links_in, seen, seen_extents, seen_bodies, seen_elements, seen_tags, seen_links}
-use Rattle.osm_store.specs.declared.audit.counts.Counts.{Counts}
+use Rattle.osm_store.specs.Audit.{is_at, HasAt, HasCount, ShowsBlob, ShowsCounts, ShowsMap, capped, counts_of, seen, seen_extents}
 use Rattle.osm_store.specs.declared.schema.layout.Layout.{Layout}
 use Rattle.osm_store.specs.declared.schema.layout.Layout.TheVariants.{Bodies, Tables}
-use Rattle.osm_store.specs.Held.{Blob, HeldMap}
+use Rattle.osm_store.specs.Held.{HeldMap}
 use Rattle.osm_store.specs.Keeping.{extent_of}
 use Rattle.osm_store.specs.Rows.{Placed, placed, body_row, extent_columns}
-use Rattle.osm_store.specs.TableRows.{Part, parts, element_row, tag_row, tags_at, link_row, links_at, links_of}
+use Rattle.osm_store.specs.TableRows.{Part, parts, element_row, tag_row, link_row, links_of}
 use Rattle.osm_store.proofs.ListLemmas.CompareLemmas.{same_number}
 use Rattle.osm_store.proofs.MapLemmas.PartLaws.{parts_own}
 use Rattle.osm_store.proofs.MapLemmas.PlacedLaws.{Entry, entries_rise, within, here}
@@ -95,7 +94,7 @@ stand_parts row items first e =
     all-map (Stands e.0) row _ (all-flat_map _ (λ (p : Placed). parts p.0 p.1 0 (items p)) (within e)
     (all_weaker _ _ (λ (p : Placed) at. all_weaker _ _ (λ x own. first x ∙ ap (λ n. Int (pos n)) (own.0 ∙ at)) _ (parts_own p 0 (items p))) (within e) (here e)))
 
-abbrev elements_in : List Entry → List Placed
+abbrev pub elements_in : List Entry → List Placed
 elements_in es = flat_map within es
 
 placed_more : (row : Placed → Row) (e : Entry) (es : List Entry) → map row (elements_in (e ∷ es)) ≡ map row (within e) ++ map row (elements_in es)
@@ -107,7 +106,7 @@ parts_more row inner e es = ap (map row) (flat_map-append inner (within e) (elem
 
 -- ---- how many they are
 
-abbrev elements_of : Entry → List Element
+abbrev pub elements_of : Entry → List Element
 elements_of e = e.1.elements
 
 placed_length : (off position : ℕ) (es : List Element) → length (placed off position es) ≡ length es
@@ -118,7 +117,7 @@ parts_length : {A : Type 0} (off position number : ℕ) (xs : List A) → length
 parts_length off position number [] = refl
 parts_length off position number (x ∷ xs) = ap suc (parts_length off position (number + 1) xs)
 
-count_elements : (es : List Entry) → length (elements_in es) ≡ sum_by length (map elements_of es)
+pub count_elements : (es : List Entry) → length (elements_in es) ≡ sum_by length (map elements_of es)
 count_elements [] = refl
 count_elements (e ∷ es) = length-append (within e) (elements_in es) ∙ ap₂ (λ m n. m + n) (placed_length e.0 0 e.1.elements) (count_elements es) ∙ sym (sum_by-cons length e.1.elements (map elements_of es))
 
@@ -127,7 +126,7 @@ count_parts_at items off position [] = refl
 count_parts_at items off position (e ∷ es) =
     length-append (parts off position 0 (items e)) _ ∙ ap₂ (λ m n. m + n) (parts_length off position 0 (items e)) (count_parts_at items off (position + 1) es) ∙ sym (sum_by-cons (λ e. length (items e)) e es)
 
-count_parts : {A : Type 0} (items : Element → List A) (es : List Entry) → length (flat_map (λ (p : Placed). parts p.0 p.1 0 (items p.2)) (elements_in es)) ≡ sum_by (λ elements. sum_by (λ e. length (items e)) elements) (map elements_of es)
+pub count_parts : {A : Type 0} (items : Element → List A) (es : List Entry) → length (flat_map (λ (p : Placed). parts p.0 p.1 0 (items p.2)) (elements_in es)) ≡ sum_by (λ elements. sum_by (λ e. length (items e)) elements) (map elements_of es)
 count_parts items [] = refl
 count_parts items (e ∷ es) =
     ap length (flat_map-append (λ (p : Placed). parts p.0 p.1 0 (items p.2)) (within e) (elements_in es))

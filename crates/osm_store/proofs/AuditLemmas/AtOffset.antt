@@ -1,5 +1,5 @@
 -- What a query for an offset shows of a table, whatever rows it has.
-use Rattle.std.proofs.Common.{◌≡◌, ℕ, ℤ, negsuc, Bool, List, [], ◌∷◌, map, refl, sym, ap, ap₂, subst, ◌∙◌, Less, IsPermutation}
+use Rattle.std.proofs.Common.{◌≡◌, ℕ, negsuc, Bool, List, [], ◌∷◌, map, refl, sym, ap, ap₂, subst, ◌∙◌, Less, IsPermutation}
 use Rattle.std.specs.Prelude.{filter, ◌↔◌}
 use Rattle.std.specs.List.{list_all, AllByRecursion}
 use Rattle.std.proofs.lemmas.List.Sorted.{IsPermutation-map, IsPermutation-sym, IsPermutation-trans}

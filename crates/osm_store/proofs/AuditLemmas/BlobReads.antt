@@ -1,14 +1,13 @@
 -- What the queries for the rows of one blob say of the tables, whatever rows these have.
-use Rattle.std.proofs.Common.{◌≡◌, ◌<◌, inr, ℕ, pos, Bool, true, false, ◌==◌, ◌&&◌, List, [], ◌∷◌, map, codes, refl, sym, ap, ◌∙◌, IsPermutation}
-use Rattle.std.specs.Prelude.{filter, flat_map, ◌↔◌}
-use Rattle.std.specs.List.{AllByRecursion}
+use Rattle.std.proofs.Common.{◌≡◌, ◌<◌, inr, ℕ, pos, false, List, [], ◌∷◌, map, refl, sym, ◌∙◌}
+use Rattle.std.specs.Prelude.{flat_map, ◌↔◌}
 use Rattle.sqlite.specs.declared.types.Value.TheVariants.{Null, Int}
 use Rattle.sqlite.specs.Command.TheVariants.{Select}
 use Rattle.sqlite.specs.Order.{Row, column}
 use Rattle.sqlite.specs.Query.{Output}
 use Rattle.sqlite.specs.Program.{overlay}
 use Rattle.sqlite.specs.State.{State}
-use Rattle.sqlite.specs.Term.{Term, col}
+use Rattle.sqlite.specs.Term.{col}
 use Rattle.sqlite.specs.Listing.{understood, reads_listing}
 use Rattle.sqlite.proofs.Callers.{reads_as, IsPlain, command_of}
 use Rattle.sqlite_sql.specs.declared.ops.CompareOp.TheVariants.{Eq}
@@ -27,7 +26,7 @@ use Rattle.osm_store.specs.Rows.{Placed, IsBefore, placed, body_row, extent_colu
 use Rattle.osm_store.specs.Schema.Bodies.{body_schema}
 use Rattle.osm_store.specs.Schema.Layouts.{schema_of}
 use Rattle.osm_store.specs.Schema.Tables.{table_schema}
-use Rattle.osm_store.specs.TableRows.{Part, element_row, element_rows, tag_row, tag_rows, tags_at, link_row, link_rows, links_at, links_of}
+use Rattle.osm_store.specs.TableRows.{element_row, element_rows, tag_row, tag_rows, tags_at, link_row, link_rows, links_at, links_of}
 use Rattle.osm_store.proofs.AuditLemmas.AtOffset.{exactly}
 use Rattle.osm_store.proofs.LoadLemmas.BodyTexts.{compares, extent_columns, extent_names, body_shown, body_order, rows_are}
 use Rattle.osm_store.proofs.LoadLemmas.OneTable.{select}
@@ -36,7 +35,6 @@ use Rattle.osm_store.proofs.LoadLemmas.TableReads.{parts_in_order, twelve_places
 use Rattle.osm_store.proofs.LoadLemmas.TableTexts.{element_shown, tag_shown, link_shown, by_place, by_part, at_off, elements_are, tags_are, links_are}
 use Rattle.osm_store.proofs.MapLemmas.PartLaws.{all_parts_rise}
 use Rattle.osm_store.proofs.MapLemmas.PlacedLaws.{Entry, here, by_position}
-use Rattle.osm_store.specs.Held.{Blob}
 use Rattle.pbf_frame.specs.declared.kind.Kind.TheVariants.{Other}
 
 -- the elements of one blob ascend

@@ -1,6 +1,6 @@
 -- What the queries that count say of the tables.
-use Rattle.std.proofs.Common.{◌≡◌, ℕ, suc, ◌<◌, ◌-◌, ◌^◌, min, pos, negsuc, Bool, true, false, List, [], ◌∷◌, ◌++◌, map, length, codes, Some, None, refl, sym, ap, ap₂, subst, ◌∙◌, arith, IsPermutation}
-use Rattle.std.specs.Prelude.{◌↔◌, flat_map, filter}
+use Rattle.std.proofs.Common.{◌≡◌, ℕ, suc, min, pos, negsuc, true, false, List, [], ◌∷◌, ◌++◌, map, length, codes, Some, refl, sym, ap, subst, ◌∙◌, arith, IsPermutation}
+use Rattle.std.specs.Prelude.{flat_map, filter}
 use Rattle.std.specs.List.{AllZip, AllByRecursion}
 use Rattle.std.proofs.lemmas.List.{length-map}
 use Rattle.std.proofs.lemmas.List.Sorted.{length_permutation}
@@ -23,7 +23,6 @@ use Rattle.sqlite_tied.specs.Compute.{everything}
 use Rattle.osm_store.specs.declared.schema.layout.Layout.{Layout}
 use Rattle.osm_store.specs.declared.schema.layout.Layout.TheVariants.{Bodies, Tables}
 use Rattle.osm_store.specs.declared.schema.sql.TheConstants.{COUNT_BLOBS, COUNT_BODIES, COUNT_ELEMENTS, COUNT_TAGS, COUNT_LINKS}
-use Rattle.osm_store.specs.Audit.{HasCount}
 use Rattle.osm_store.specs.Load.Asking.{IsAnswered}
 use Rattle.osm_store.specs.Schema.Bodies.{body_schema}
 use Rattle.osm_store.specs.Schema.Layouts.{schema_of}

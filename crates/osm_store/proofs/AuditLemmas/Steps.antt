@@ -1,7 +1,6 @@
 -- Reads that follow one another see the same rows.
-use Rattle.std.proofs.Common.{◌≡◌, IsTrue, sym, ap, ◌∙◌}
+use Rattle.std.proofs.Common.{◌≡◌, IsTrue, sym, ◌∙◌}
 use Rattle.std.specs.Prelude.{◌↔◌}
-use Rattle.sqlite.specs.Effect.{Database}
 use Rattle.sqlite.specs.State.{State, HasCleanDisk}
 use Rattle.osm_store.specs.Load.Asking.{JustAsks}
 

@@ -1,5 +1,5 @@
 -- What a bool that tells one fact tells of another.
-use Rattle.std.proofs.Common.{◌≡◌, Bool, true, false, true≢false, List, [], IsTrue, Result, Ok, Err, refl, sym, ◌∙◌, subst}
+use Rattle.std.proofs.Common.{◌≡◌, Bool, false, true≢false, List, IsTrue, Result, Ok, Err, sym, ◌∙◌, subst}
 use Rattle.std.specs.Prelude.{◌↔◌, IfOk, IfErr, MatchResult}
 
 pub iff_then : {A B C : Type 0} → A ↔ B → B ↔ C → A ↔ C

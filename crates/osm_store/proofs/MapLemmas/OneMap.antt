@@ -1,5 +1,5 @@
 -- The rows of a map are those of no other.
-use Rattle.std.proofs.Common.{◌≡◌, ◌⊎◌, inl, inr, ℕ, ◌+◌, List, [], ◌∷◌, ◌++◌, length, map, refl, sym, ap, ap₂, ◌∙◌, arith, Less, Equal}
+use Rattle.std.proofs.Common.{◌≡◌, ◌⊎◌, inl, inr, ℕ, ◌+◌, List, [], ◌∷◌, ◌++◌, length, map, drop, refl, sym, ap, ap₂, ◌∙◌, arith, Less, Equal, IsPermutation}
 use Rattle.std.specs.Ordering.{ordering_reverse}
 use Rattle.std.specs.Prelude.{flat_map}
 use Rattle.std.specs.List.{AllByRecursion}
@@ -36,7 +36,7 @@ use Rattle.osm_store.proofs.MapLemmas.StoredElements.{all_stored}
 
 -- ---- rows in the order of some columns
 
-abbrev Precedes : List ℕ → Row → Row → Type 0
+abbrev pub Precedes : List ℕ → Row → Row → Type 0
 Precedes [] r s = ⊥
 Precedes (at ∷ ats) r s = (value_cmp (column r at) (column s at) ≡ Less) ⊎ ((value_cmp (column r at) (column s at) ≡ Equal) × Precedes ats r s)
 
@@ -51,16 +51,19 @@ never_both (at ∷ ats) r s (inr p) (inl q) = tied_both (column r at) (column s 
 never_both (at ∷ ats) r s (inr p) (inr q) = never_both ats r s p.1 q.1
 
 -- rows that ascend by some columns, in any order, are in one order
-same_table : (ats : List ℕ) (rows other : List Row) (table : List Row) → IsAscending (Precedes ats) rows → IsAscending (Precedes ats) other → HasRows rows table → HasRows other table → rows ≡ other
-same_table ats rows other table up vp has has_too =
+pub same_rows : (ats : List ℕ) (rows other : List Row) (table : List Row) → IsAscending (Precedes ats) rows → IsAscending (Precedes ats) other → IsPermutation rows table → IsPermutation other table → rows ≡ other
+same_rows ats rows other table up vp has has_too =
     let same = IsPermutation-trans _ _ _ has (IsPermutation-sym _ _ has_too) in
     sym (same_elements (Precedes ats) (never_both ats) rows other up vp (λ P. all-permutation P _ _ same) (λ P. all-permutation P _ _ (IsPermutation-sym _ _ same)))
 
-body_before : (a b : Placed) → IsBefore a b → Precedes (0 ∷ 1 ∷ []) (body_row a) (body_row b)
+same_table : (ats : List ℕ) (rows other : List Row) (table : List Row) → IsAscending (Precedes ats) rows → IsAscending (Precedes ats) other → HasRows rows table → HasRows other table → rows ≡ other
+same_table ats rows other table = same_rows ats rows other (map (drop 1) table)
+
+pub body_before : (a b : Placed) → IsBefore a b → Precedes (0 ∷ 1 ∷ []) (body_row a) (body_row b)
 body_before a b (inl low) = inl (numbers_below a.0 b.0 low)
 body_before a b (inr h) = inr (numbers_tied a.0 b.0 h.0, inl (numbers_below a.1 b.1 h.1))
 
-element_before : (a b : Placed) → IsBefore a b → Precedes (0 ∷ 1 ∷ []) (element_row a) (element_row b)
+pub element_before : (a b : Placed) → IsBefore a b → Precedes (0 ∷ 1 ∷ []) (element_row a) (element_row b)
 element_before a b (inl low) = inl (numbers_below a.0 b.0 low)
 element_before a b (inr h) = inr (numbers_tied a.0 b.0 h.0, inl (numbers_below a.1 b.1 h.1))
 
@@ -74,18 +77,18 @@ link_before a b (inl low) = inl (numbers_below a.off b.off low)
 link_before a b (inr (off, inl low)) = inr (numbers_tied a.off b.off off, inl (numbers_below a.position b.position low))
 link_before a b (inr (off, inr (position, low))) = inr (numbers_tied a.off b.off off, inr (numbers_tied a.position b.position position, inl (numbers_below a.number b.number low)))
 
-rises : {X : Type 0} (ats : List ℕ) (R : X → X → Type 0) (row : X → Row) → ((a b : X) → R a b → Precedes ats (row a) (row b)) → (xs : List X) → IsAscending R xs → IsAscending (Precedes ats) (map row xs)
+pub rises : {X : Type 0} (ats : List ℕ) (R : X → X → Type 0) (row : X → Row) → ((a b : X) → R a b → Precedes ats (row a) (row b)) → (xs : List X) → IsAscending R xs → IsAscending (Precedes ats) (map row xs)
 rises ats R row f xs up = ascending-map (Precedes ats) row xs (ascending_weaker _ _ f xs up)
 
-tags_rise : (ps : List Placed) → IsAscending IsBefore ps → IsAscending (Precedes (0 ∷ 1 ∷ 2 ∷ [])) (tag_rows ps)
+pub tags_rise : (ps : List Placed) → IsAscending IsBefore ps → IsAscending (Precedes (0 ∷ 1 ∷ 2 ∷ [])) (tag_rows ps)
 tags_rise ps up = rises (0 ∷ 1 ∷ 2 ∷ []) (λ x y. IsPartBefore x y) tag_row tag_before (flat_map tags_at ps) (all_parts_rise (λ (p : Placed). tags_of_element p.2) ps up)
 
-links_rise : (ps : List Placed) → IsAscending IsBefore ps → IsAscending (Precedes (0 ∷ 1 ∷ 2 ∷ [])) (link_rows ps)
+pub links_rise : (ps : List Placed) → IsAscending IsBefore ps → IsAscending (Precedes (0 ∷ 1 ∷ 2 ∷ [])) (link_rows ps)
 links_rise ps up = rises (0 ∷ 1 ∷ 2 ∷ []) (λ x y. IsPartBefore x y) link_row link_before (flat_map links_at ps) (all_parts_rise (λ (p : Placed). links_of p.2) ps up)
 
 -- ---- from rows back to elements
 
-same_bodies : (ps qs : List Placed) → AllByRecursion (λ (p : Placed). IsStored Bodies p.2) ps → AllByRecursion (λ (p : Placed). IsStored Bodies p.2) qs → map body_row ps ≡ map body_row qs → ps ≡ qs
+pub same_bodies : (ps qs : List Placed) → AllByRecursion (λ (p : Placed). IsStored Bodies p.2) ps → AllByRecursion (λ (p : Placed). IsStored Bodies p.2) qs → map body_row ps ≡ map body_row qs → ps ≡ qs
 same_bodies [] [] hp hq is = refl
 same_bodies [] (q ∷ qs) hp hq is = absurd (cc)
 same_bodies (p ∷ ps) [] hp hq is = absurd (cc)
@@ -114,7 +117,7 @@ same_placed Tables one other db kept kept_too has has_too =
 
 -- ---- from extents and elements back to blobs
 
-same_kind : (j k : Kind) → blob_code j ≡ blob_code k → j ≡ k
+pub same_kind : (j k : Kind) → blob_code j ≡ blob_code k → j ≡ k
 same_kind OsmHeader OsmHeader e = refl
 same_kind OsmHeader OsmData e = absurd (omega arith)
 same_kind OsmHeader Other e = absurd (omega arith)
@@ -154,7 +157,7 @@ same_front off position (x ∷ xs) (y ∷ ys) rest other len is =
     let tail = same_front off (position + 1) xs ys rest other shorter more in
     (ap₂ ◌∷◌ head tail.0, tail.1)
 
-same_blob : (a b : Blob) → a.fin ≡ b.fin → a.digest ≡ b.digest → a.kind ≡ b.kind → a.elements ≡ b.elements → a ≡ b
+pub same_blob : (a b : Blob) → a.fin ≡ b.fin → a.digest ≡ b.digest → a.kind ≡ b.kind → a.elements ≡ b.elements → a ≡ b
 same_blob a b fin digest kind elements =
     let make : ℕ → List ℕ → Kind → List Element → Blob = λ f d k e. record { fin = f; digest = d; kind = k; elements = e } in
     ap (λ x. make x a.digest a.kind a.elements) fin ∙ ap (λ x. make b.fin x a.kind a.elements) digest ∙ ap (λ x. make b.fin b.digest x a.elements) kind ∙ ap (make b.fin b.digest b.kind) elements

@@ -11,7 +11,7 @@ use Rattle.osm_store.specs.Rows.{Placed, placed, placed_in, CanStore, IsStored}
 use Rattle.osm_store.specs.LayoutHolding.{IsBlob, IsKept}
 use Rattle.osm_store.proofs.MapLemmas.PlacedLaws.{within}
 
-stored_both : (layout : Layout) (es : List Element) → AllByRecursion (CanStore layout) es → AllByRecursion HasFewTexts es → AllByRecursion (IsStored layout) es
+pub stored_both : (layout : Layout) (es : List Element) → AllByRecursion (CanStore layout) es → AllByRecursion HasFewTexts es → AllByRecursion (IsStored layout) es
 stored_both layout = all_both (CanStore layout) HasFewTexts (IsStored layout) (λ e can few. (can, few))
 
 pub blob_stored : (layout : Layout) (blob : Blob) → IsBlob layout blob → All (IsStored layout) blob.elements

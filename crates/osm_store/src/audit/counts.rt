@@ -6,7 +6,7 @@ ghost use Rattle.sqlite.specs.Order.{Row as SqlRow};
 ghost use Rattle.sqlite.specs.State.{HasCleanDisk};
 ghost use Rattle.sqlite.specs.Held.{state};
 ghost use Rattle.osm_value.specs.declared.element.Element.{Element as ElementValue};
-ghost use Rattle.osm_store.specs.Audit.{HasCount, ShowsCounts, capped, counts_of, tags_in, links_in};
+ghost use Rattle.osm_store.specs.Audit.{AreCountable, HasCount, ShowsCounts, capped, counts_of, tags_in, links_in};
 ghost use Rattle.osm_store.specs.Keeping.{IsForeign};
 ghost use Rattle.osm_store.specs.Load.Asking.{IsAnswered, JustAsks};
 ghost use Rattle.osm_store.specs.Load.Selects.{selects};
@@ -56,6 +56,22 @@ impl Counts {
         self.tags = self.tags.saturating_add(tags_in(elements));
         self.links = self.links.saturating_add(links_in(elements));
     }
+
+    /// Whether SQL can count so many rows: of each table fewer than 2^63 - 1.
+    pub fn are_countable(&self) -> bool
+        ensures { IsTrue result ↔ AreCountable self.now }
+    {
+        let held = are_few(self.blobs, self.elements);
+        let parts = are_few(self.tags, self.links);
+        held && parts
+    }
+}
+
+/// Whether SQL can count so many rows, in either of two tables.
+fn are_few(one: u64, other: u64) -> bool
+    ensures { IsTrue result ↔ ((one < 2 ^ 63 - 1) × (other < 2 ^ 63 - 1)) }
+{
+    one < MOST_ROWS && other < MOST_ROWS
 }
 
 /// How many tags elements have, up to 2^64 - 1.

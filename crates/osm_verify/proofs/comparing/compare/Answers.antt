@@ -1,11 +1,13 @@
-use Rattle.std.proofs.Common.{◌≡◌, ◌≢◌, ◌==◌, ◌∙◌, true, false, Some, None, ap, subst, sym, rules}
+use Rattle.std.proofs.Common.{◌≡◌, ◌≢◌, ◌==◌, ◌∙◌, true, false, true≢false, Some, None, ap, subst, sym, rules}
 use Rattle.std.specs.Prelude.{find}
+use Rattle.sqlite.specs.Effect.{Database}
 use Rattle.osm_store.specs.declared.keeper.Extent.{Extent}
 use Rattle.osm_verify.specs.Agreements.{IsSame}
+use Rattle.osm_verify.specs.Audits.{IsShown}
 use Rattle.osm_verify.specs.declared.comparing.Depth.{Depth}
-use Rattle.osm_verify.specs.declared.comparing.Depth.TheVariants.{Extents}
-use Rattle.osm_verify.proofs.HeldThere.{held-at, missing-at, other-extent, same-extent, same-elements, other-elements}
-use Rattle.osm_verify.proofs.SameLemmas.{told-true, told-false}
+use Rattle.osm_verify.specs.declared.comparing.Depth.TheVariants.{Extents, Elements}
+use Rattle.osm_verify.proofs.HeldThere.{held-at, missing-at, other-extent, same-extent, same-deep, other-deep}
+use Rattle.osm_verify.proofs.TellLemmas.{told-true, told-false}
 use Rattle.osm_verify.proofs.comparing.compare.Goals as goal
 
 pub returns-in-None-clause-compared : goal.returns-in-None-clause-compared
@@ -31,19 +33,52 @@ returns-then-eq-clause-compared g c = λ held holds honest.
 
 pub returns-then-branch-clause-compared : goal.returns-then-branch-clause-compared
 returns-then-branch-clause-compared g c = λ held holds honest.
-    let earlier = c.in_ok-holds_elements.ensures.rereads.stays.honest honest in
-    let at = held-at held c.args.off c.args.bytes.now c.args.good.now.kind c.args.good.now.elements.items c.in_ok-touched.touched.items c.in-Some.found c.requires (g.met.K.Reader.is_apart _ held holds)
-    (c.in_ok-touched.ensures.touching held holds earlier) (c.in-Some.ensures ∙ ap (find (λ (e : Extent). e.off == c.args.off)) c.deref.ensures.value) in
-    let test : c.is_extent_of.result ≡ true = search rules in
-    let same = c.in_ok-holds_elements.ensures.same held at.blob (c.in_ok-touched.ensures.reads.ok earlier held holds) honest at.found in
-    same-elements held c.args.off c.args.bytes.now c.args.good.now.kind c.args.good.now.elements.items c.in-Some.found c.requires at (told-true c.is_extent_of.result _ test c.is_extent_of.ensures)
-    (told-true c.in_ok-holds_elements.field-0 _ c.if-branch.true same ∙ c.deref-2.ensures.value) c.args.depth
+    let asked = c.in_ok-has_frame.ensures in
+    let earlier = asked.rereads.stays.honest honest in
+    let told = asked.held held (c.in_ok-touched.ensures.reads.ok earlier held holds) honest in
+    let deep : c.args.depth ≢ Extents = search rules in
+    same-deep c.args.depth held c.args.off c.args.bytes.now deep (told.0 c.if-branch.true)
 
 pub returns-clause-compared : goal.returns-clause-compared
 returns-clause-compared g c = λ held holds honest.
-    let earlier = c.in_ok-holds_elements.ensures.rereads.stays.honest honest in
+    let asked = c.in_ok-has_frame.ensures in
+    let earlier = asked.rereads.stays.honest honest in
     let at = held-at held c.args.off c.args.bytes.now c.args.good.now.kind c.args.good.now.elements.items c.in_ok-touched.touched.items c.in-Some.found c.requires (g.met.K.Reader.is_apart _ held holds)
     (c.in_ok-touched.ensures.touching held holds earlier) (c.in-Some.ensures ∙ ap (find (λ (e : Extent). e.off == c.args.off)) c.deref.ensures.value) in
     let deep : c.args.depth ≢ Extents = search rules in
-    let same = c.in_ok-holds_elements.ensures.same held at.blob (c.in_ok-touched.ensures.reads.ok earlier held holds) honest at.found in
-    other-elements held c.args.off c.args.bytes.now c.args.good.now.kind c.args.good.now.elements.items c.in-Some.found c.requires at (λ are. told-false c.in_ok-holds_elements.field-0 _ c.if-branch.false same (are ∙ sym c.deref-2.ensures.value)) c.args.depth deep
+    let told = asked.held held (c.in_ok-touched.ensures.reads.ok earlier held holds) honest in
+    other-deep c.args.depth held c.args.off c.args.bytes.now c.args.good.now.kind c.args.good.now.elements.items c.in-Some.found c.requires at (λ same. true≢false (sym (told.1 same) ∙ c.if-branch.false)) deep
+
+-- ---- whatever rows the tables have
+
+pub returns-in-None-clause-shown : goal.returns-in-None-clause-shown
+returns-in-None-clause-shown g c = λ honest up schema deep same. absurd (cc)
+
+pub returns-then-not-is_extent_of-clause-shown : goal.returns-then-not-is_extent_of-clause-shown
+returns-then-not-is_extent_of-clause-shown g c = λ honest up schema deep same. absurd (cc)
+
+pub returns-then-eq-clause-shown : goal.returns-then-eq-clause-shown
+returns-then-eq-clause-shown g c = λ honest up schema deep same.
+    let shallow : c.args.depth ≡ Extents = search rules in
+    let bad : Extents ≡ Elements = sym shallow ∙ deep in absurd (cc)
+
+pub returns-then-branch-clause-shown : goal.returns-then-branch-clause-shown
+returns-then-branch-clause-shown g c = λ honest up schema deep same.
+    let K = g.K.Audited in
+    let asked = c.in_ok-has_frame.ensures in
+    let first = c.in_ok-touched.ensures.reads.same (asked.rereads.stays.honest honest) (asked.rereads.stays.open_if up) in
+    let there = g.met.K.Audited.same_database _ _ first in
+    subst (λ (db : Database). IsShown K.layout db.trees c.args.off c.args.bytes.now c.args.good.now.elements.items) there ((asked.told honest (ap (λ (db : Database). db.schema) there ∙ schema)).0 c.if-branch.true)
+
+pub returns-clause-shown : goal.returns-clause-shown
+returns-clause-shown g c = λ honest up schema deep same. absurd (cc)
+
+pub returns-then-branch-clause-same : goal.returns-then-branch-clause-same
+returns-then-branch-clause-same g c = λ honest up.
+    let asked = c.in_ok-has_frame.ensures in
+    g.met.K.Reader.same_tables_then _ _ _ (c.in_ok-touched.ensures.reads.same (asked.rereads.stays.honest honest) (asked.rereads.stays.open_if up)) (asked.same honest up)
+
+pub returns-clause-same : goal.returns-clause-same
+returns-clause-same g c = λ honest up.
+    let asked = c.in_ok-has_frame.ensures in
+    g.met.K.Reader.same_tables_then _ _ _ (c.in_ok-touched.ensures.reads.same (asked.rereads.stays.honest honest) (asked.rereads.stays.open_if up)) (asked.same honest up)

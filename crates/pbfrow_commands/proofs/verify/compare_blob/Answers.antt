@@ -8,16 +8,33 @@ use Rattle.pbfrow_commands.proofs.verify.compare_blob.Goals as goal
 pub returns-clause-told : goal.returns-clause-told
 returns-clause-told g c = λ held holds honest.
     let finding = c.in-Ok.finding in
+    let known = c.in-Ok.ensures.found in
     let p : Part Compared =
-    record { type_name = c.requires.frame.0; blob = c.requires.frame.1; bytes = c.args.bytes.now; found = record { verdict = finding.verdict; extras = finding.extras.items } } in (
+    record { type_name = c.requires.frame.0; blob = c.requires.frame.1; bytes = c.args.bytes.now; found = record { verdict = finding.verdict; extras = finding.extras.items; elements = known.0 } } in (
       p,
       refl,
       c.requires.frame.2,
-      c.in-Ok.ensures.found held holds honest,
+      known.3 held holds honest,
       (λ start before h.
           Wrote-text start _ _ _ _
           (append_assoc before (comparison_line c.args.at finding.verdict) (extra_lines c.deref.result.now)
           ∙ ap (λ (es : List Extent). before ++ (comparison_line c.args.at finding.verdict ++ extra_lines es)) c.deref.ensures.value)
           (c.put_extras.ensures start _ (c.put_verdict.ensures start before h))),
-      (λ blobs is. c.add.ensures blobs p refl is),
+      (λ blobs is. c.add.ensures blobs p refl refl is),
+      known.2,
+    )
+
+pub returns-clause-seen : goal.returns-clause-seen
+returns-clause-seen g c =
+    let finding = c.in-Ok.finding in
+    let known = c.in-Ok.ensures.found in
+    let p : Part Compared =
+    record { type_name = c.requires.frame.0; blob = c.requires.frame.1; bytes = c.args.bytes.now; found = record { verdict = finding.verdict; extras = finding.extras.items; elements = known.0 } } in (
+      p,
+      refl,
+      c.requires.frame.2,
+      known.1,
+      (λ blobs is. c.add.ensures blobs p refl refl is),
+      known.2,
+      known.4,
     )

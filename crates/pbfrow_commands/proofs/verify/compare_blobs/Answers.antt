@@ -1,11 +1,13 @@
 use Rattle.std.proofs.Common.{◌≡◌, ◌≤◌, ◌∙◌, ◌++◌, [], ◌∷◌, Ok, None, refl, sym, subst, ap, arith, rules}
+use Rattle.osm_store.specs.Schema.Layouts.{schema_of}
+use Rattle.osm_verify.specs.Audits.{Database}
 use Rattle.osm_import.specs.FrameReads.{GivesFrame, Halts, Reading, ReadsFrame}
 use Rattle.osm_import.specs.declared.stream.fault.Stop.TheVariants.{Store}
 use Rattle.osm_import.specs.declared.stream.fault.StreamFault.{StreamFault}
-use Rattle.pbfrow_commands.specs.Verifying.{HasCompared, ComparesBlobs, IsBroken, compared_lines}
+use Rattle.pbfrow_commands.specs.Verifying.{HasCompared, HasSeen, HasSeenInput, ComparesBlobs, IsBroken, compared_lines}
 use Rattle.pbfrow_commands.specs.declared.verify.Close.{Close}
 use Rattle.pbfrow_commands.specs.declared.verify.Close.TheVariants.{Early}
-use Rattle.pbfrow_commands.proofs.VerifyLemmas.{cause-later, closing-later, closes-nothing, closes-early, closes-broken, closes-unwritten, closes-whole}
+use Rattle.pbfrow_commands.proofs.VerifyLemmas.{Reads, reads-none, reads-more, rows-held, rows-push, seen-whole, cause-later, closing-later, closes-nothing, closes-early, closes-broken, closes-unwritten, closes-whole}
 use Rattle.pbfrow_commands.proofs.Walking.{Going, going-none, going-on, going-more}
 use Rattle.pbfrow_commands.proofs.verify.compare_blobs.Goals as goal
 
@@ -27,7 +29,9 @@ loop-frames-init g c =
       counted = omega arith;
       end = sym here;
       limit = omega arith;
-      going = λ held holds honest. ([], going-none (HasCompared c.args.depth held) compared_lines left (g.W.Write.contents c.args.out.now.writer) c.in-Ok.frames c.args.out.now.has_failed here same, c.requires);
+      going = λ held holds honest. ([], going-none (HasCompared c.args.depth held) compared_lines left (g.W.Write.contents c.args.out.now.writer) c.in-Ok.frames c.args.out.now.has_failed here same, c.requires, refl);
+      same = λ honest up. g.met.K.Reader.same_tables_self _;
+      reads = ([], reads-none _ _ _ _ left _ _ _ here same c.requires refl);
     }
 
 pub returns-in_default-clause-told : goal.returns-in_default-clause-told
@@ -74,6 +78,29 @@ loop-frames-preserved g c =
             going-more (HasCompared c.args.depth held) compared_lines left was now c.in-Ok-Some.at c.in-Ok-Some.bytes.now old mid (g.W.Write.contents c.compare_blob.new.out.writer) flushed.has_failed c.compare_blob.new.out.has_failed blobs p
                 so_far gives told.1 told.2 told.3 told.4,
             told.5 blobs before.2,
+            rows-push blobs p _ _ told.6 before.3,
+          );
+      same = λ honest up. g.met.K.Reader.same_tables_then _ _ _ (inv.same (stays.honest honest) (stays.open_if up)) (ok.same honest up);
+      reads =
+          let K = g.K.Reader in
+          let A = g.K.Audited in
+          let fine = c.in-Ok-flush_to_wait.ensures in
+          let was = c.flush_to_wait.new.frames in
+          let now = c.next.follows.lender-at-none in
+          let first = c.args.store.now in
+          let before = inv.reads in
+          let blobs = before.0 in
+          let db = (A.database first).trees in
+          let so_far = subst (λ (r : Reading). Reads (K.is_honest c.loop-frames.store × K.is_open c.loop-frames.store × ((A.database first).schema ≡ schema_of A.layout)) A.layout db c.args.depth (g.R.Read.remaining c.args.input.now) r c.loop-frames.counts c.loop-frames.rows blobs)
+          (sym fine.frames) before.1 in
+          let told = ok.seen in
+          let p = told.0 in (
+            blobs ++ p ∷ [],
+            reads-more _ (K.is_honest c.compare_blob.new.store × K.is_open c.compare_blob.new.store × ((A.database first).schema ≡ schema_of A.layout)) A.layout db c.args.depth _ was now c.in-Ok-Some.at c.in-Ok-Some.bytes.now _ _ _ _ blobs p
+                (λ trust. (stays.honest trust.0, stays.open_if trust.1, trust.2)) so_far gives told.1 told.2 told.3 told.4 told.5
+                (λ trust.
+                let there = g.met.K.Audited.same_database _ _ (inv.same (stays.honest trust.0) (stays.open_if trust.1)) in
+                subst (λ (d : Database). HasSeen A.layout d.trees c.args.depth c.in-Ok-Some.at p) there (told.6 trust.0 trust.1 (ap (λ (d : Database). d.schema) there ∙ trust.2))),
           );
     }
 
@@ -126,9 +153,10 @@ returns-in-Ok-None-clause-told g c = λ held holds honest.
     let so_far : Going (HasCompared c.args.depth held) compared_lines left was old mid flushed.has_failed blobs =
     going-on (HasCompared c.args.depth held) compared_lines left c.loop-frames.frames was old (g.W.Write.contents c.loop-frames.out.writer) mid c.loop-frames.out.has_failed flushed.has_failed blobs fine.frames fine.ok.0 fine.kept before.1 in
     let ends : ReadsFrame was now (Ok None) = rw (c.in-Ok-None.is, c.in-Ok-None.field-0-is) at c.next.follows.holds-at-none in
-    let closing = closing-later held c.loop-frames.end (g.K.Reader.failures c.args.store.now) _ _ c.close_whole.result c.loop-frames.invariant.counted
-    (c.close_whole.ensures.extras held (c.loop-frames.invariant.kept earlier held holds) honest) in
-    let here : c.loop-frames.end ≡ was.offset = c.loop-frames.invariant.end ∙ sym (ap (λ (r : Reading). r.offset) fine.frames) in (
+    let here : c.loop-frames.end ≡ was.offset = c.loop-frames.invariant.end ∙ sym (ap (λ (r : Reading). r.offset) fine.frames) in
+    let kept = c.loop-frames.invariant.kept earlier held holds in
+    let rows = rows-held c.args.depth held blobs c.loop-frames.end _ _ (g.met.K.Reader.is_apart _ held kept) before.1.found (here ∙ so_far.stands) before.2 before.3 in
+    let closing = closing-later held c.loop-frames.end (g.K.Reader.failures c.args.store.now) _ _ c.close_whole.result c.loop-frames.invariant.counted (c.close_whole.ensures.extras held kept honest rows) in (
       blobs,
       closes-whole c.args.depth held left was old mid flushed.has_failed _ _ blobs c.loop-frames.end c.close_whole.result so_far ends.0 here closing,
       before.2,
@@ -149,3 +177,27 @@ returns-in-Err-next-clause-told g c = λ held holds honest.
     going-on (HasCompared c.args.depth held) compared_lines left c.loop-frames.frames was old (g.W.Write.contents c.loop-frames.out.writer) mid c.loop-frames.out.has_failed flushed.has_failed blobs fine.frames fine.ok.0 fine.kept before.1 in
     let halts : Halts was now c.in-Err-next.stop = rw c.in-Err-next.is at c.next.follows.holds-at-none in
     (blobs, closes-early c.args.depth held left was now old mid flushed.has_failed _ _ blobs c.in-Err-next.stop so_far halts, before.2)
+
+-- ---- whatever rows the tables have
+
+pub returns-in-Err-compare_blob-clause-seen : goal.returns-in-Err-compare_blob-clause-seen
+returns-in-Err-compare_blob-clause-seen g c = λ honest schema.
+    let A = g.K.Audited in
+    subst (λ (close : Close). HasSeenInput A.layout (A.database c.args.store.now).trees c.args.depth (g.R.Read.remaining c.args.input.now) c.compare_blob.new.counts close) (sym c.broken.ensures) tt
+
+pub returns-in-Ok-None-clause-seen : goal.returns-in-Ok-None-clause-seen
+returns-in-Ok-None-clause-seen g c = λ honest schema.
+    let K = g.K.Reader in
+    let A = g.K.Audited in
+    let stays = c.close_whole.ensures.stays in
+    let inv = c.loop-frames.invariant in
+    let fine = c.in-Ok-flush_to_wait.ensures in
+    let was = c.flush_to_wait.new.frames in
+    let now = c.next.follows.lender-at-none in
+    let first = c.args.store.now in
+    let before = inv.reads in
+    let so_far = subst (λ (r : Reading). Reads (K.is_honest c.loop-frames.store × K.is_open c.loop-frames.store × ((A.database first).schema ≡ schema_of A.layout)) A.layout (A.database first).trees c.args.depth (g.R.Read.remaining c.args.input.now) r c.loop-frames.counts c.loop-frames.rows before.0)
+    (sym fine.frames) before.1 in
+    let ends : ReadsFrame was now (Ok None) = rw (c.in-Ok-None.is, c.in-Ok-None.field-0-is) at c.next.follows.holds-at-none in
+    seen-whole _ (K.is_open c.close_whole.new.store) A.layout (A.database first) (A.database c.loop-frames.store) c.args.depth _ was _ _ before.0 c.close_whole.result so_far ends.0 schema
+    (λ up. (stays.honest honest, stays.open_if up, schema)) (λ up. g.met.K.Audited.same_database _ _ (inv.same (stays.honest honest) (stays.open_if up))) (c.close_whole.ensures.shown honest)

@@ -1,13 +1,16 @@
 use Rattle.std.proofs.Common.{◌≡◌, ◌≤◌, ◌-◌, List}
 use Rattle.osm_store.specs.Held.{HeldMap}
-use Rattle.pbfrow_commands.specs.Verifying.{Compared, HasCompared, compared_lines, counts_of}
+use Rattle.osm_store.specs.Schema.Layouts.{schema_of}
+use Rattle.pbfrow_commands.specs.Verifying.{Compared, HasCompared, compared_lines, counts_of, rows_of}
 use Rattle.pbfrow_commands.specs.Walks.{Part}
+use Rattle.pbfrow_commands.proofs.VerifyLemmas.{Reads}
 use Rattle.pbfrow_commands.proofs.Walking.{Going}
 use Rattle.pbfrow_commands.proofs.verify.compare_blobs.Given as goal
 
 abbrev pub invariant-loop-frames : goal.invariant-loop-frames
 invariant-loop-frames g l =
     let K = g.K.Reader in
+    let A = g.K.Audited in
     record {
       honest : K.is_honest l.store → K.is_honest l.fn.store;
       open_if : K.is_open l.store → K.is_open l.fn.store;
@@ -19,7 +22,9 @@ invariant-loop-frames g l =
       limit : l.end ≤ 4611686018427387904;
       going : (held : HeldMap) → K.holds l.fn.store held → K.is_honest l.store
           → (blobs : List (Part Compared)) × Going (HasCompared l.depth held) compared_lines (g.R.Read.remaining l.fn.input) l.frames (g.W.Write.contents l.fn.out.writer) (g.W.Write.contents l.out.writer) l.out.has_failed blobs
-          × (l.counts ≡ counts_of blobs 0);
+          × (l.counts ≡ counts_of blobs 0) × (l.rows ≡ rows_of blobs);
+      same : K.is_honest l.store → K.is_open l.store → K.same_tables l.fn.store l.store;
+      reads : (blobs : List (Part Compared)) × Reads (K.is_honest l.store × K.is_open l.store × ((A.database l.fn.store).schema ≡ schema_of A.layout)) A.layout (A.database l.fn.store).trees l.depth (g.R.Read.remaining l.fn.input) l.frames l.counts l.rows blobs;
     }
 
 -- each frame ends at 2^62 at most

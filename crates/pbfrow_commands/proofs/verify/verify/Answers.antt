@@ -1,4 +1,7 @@
-use Rattle.pbfrow_commands.proofs.VerifyLemmas.{verifies-input, exact-at-zero}
+use Rattle.std.proofs.Common.{subst}
+use Rattle.osm_verify.specs.declared.comparing.Depth.{Depth}
+use Rattle.pbfrow_commands.specs.Verifying.{HasSeenInput}
+use Rattle.pbfrow_commands.proofs.VerifyLemmas.{verifies-input, exact-at-zero, shown-at-zero}
 use Rattle.pbfrow_commands.proofs.verify.verify.Goals as goal
 
 pub returns-clause-verified : goal.returns-clause-verified
@@ -9,3 +12,10 @@ returns-clause-verified g c = λ held holds honest.
 pub returns-clause-exact : goal.returns-clause-exact
 returns-clause-exact g c = λ held holds honest zero.
     exact-at-zero c.args.depth held _ _ _ _ _ _ _ (g.met.K.Reader.is_apart _ held holds) (returns-clause-verified g c held holds honest) zero
+
+pub returns-clause-shown : goal.returns-clause-shown
+returns-clause-shown g c = λ honest schema deep zero.
+    let A = g.K.Audited in
+    let db = (A.database c.args.store.now).trees in
+    let seen = subst (λ (d : Depth). HasSeenInput A.layout db d (g.R.Read.remaining c.args.input.now) c.compare_blobs-close.new.counts c.compare_blobs-close.result) deep (c.compare_blobs-close.ensures.seen honest schema) in
+    shown-at-zero A.layout db _ c.compare_blobs-close.new.counts c.compare_blobs-close.result _ _ seen (c.finish.ensures.whole zero) c.finish.ensures.status zero

@@ -1,4 +1,4 @@
-use Rattle.std.proofs.Common.{sym, ◌∙◌}
+use Rattle.std.proofs.Common.{◌∙◌}
 use Rattle.osm_store.proofs.audit.counts.has_count.Goals as goal
 
 pub returns-clause-told : goal.returns-clause-told

@@ -1,5 +1,5 @@
-use Rattle.std.proofs.Common.{◌≡◌, ◌<◌, ◌∙◌, length, get_or, arith, refl, sym, ap, subst, ext_get_or, true≢false}
-use Rattle.std.proofs.lemmas.List.{get_or-map, length-map}
+use Rattle.std.proofs.Common.{arith, refl, ext_get_or}
+use Rattle.std.proofs.lemmas.List.{length-map}
 use Rattle.sqlite.specs.declared.types.Value.TheVariants.{Null}
 use Rattle.sqlite.specs.Values.{bound, bound_value}
 use Rattle.sqlite.specs.Value.{owned}

@@ -1,4 +1,3 @@
-use Rattle.sqlite.specs.Held.{state}
 use Rattle.osm_store.proofs.AuditLemmas.Telling.{asked, ok_told}
 use Rattle.osm_store.proofs.audit.tables.answers.Goals as goal
 

@@ -1,4 +1,4 @@
-use Rattle.std.proofs.Common.{◌≡◌, ℕ, [], ◌∷◌, length, sym, subst}
+use Rattle.std.proofs.Common.{◌≡◌, ℕ, [], ◌∷◌, sym, subst}
 use Rattle.std.specs.Prelude.{◌↔◌, IfOk, IsTrue}
 use Rattle.sqlite.specs.Held.{state}
 use Rattle.osm_store.specs.Audit.{HasAt, ShowElementsAt, ShowsBlob, seen_extents}
@@ -10,6 +10,7 @@ use Rattle.osm_store.specs.Schema.Layouts.{schema_of}
 use Rattle.osm_store.specs.Store.{Store, JustReads}
 use Rattle.sqlite.specs.Tree.{Trees}
 use Rattle.osm_store.proofs.AuditLemmas.Telling.{iff_then, ok_told, both_told}
+use Rattle.osm_store.proofs.AuditLemmas.HeldRows.{has_schema, shows_held, holds_shown}
 use Rattle.osm_store.proofs.LoadLemmas.ReaderPromises.{just_reads}
 use Rattle.osm_store.proofs.blob_store.BlobStoreAudited.has_blob.Goals as goal
 
@@ -37,3 +38,11 @@ returns-clause-reads g c =
     let new : Store _ = record { connection = c.has_rows_of-answer.new.connection; failures = c.failures_after-self-inside.result } in
     let reads = just_reads c.LAYOUT.result g.S.Store inside new c.has_rows_of-answer.ensures.asks c.has_rows_of-answer.result (λ clean held holds. both_told _ _ c.has_rows_of-answer.result (c.has_rows_of-answer.ensures.opened clean) c.has_rows_of-answer.ensures.ours) c.failures_after-self-inside.ensures in
     subst (λ old. JustReads g.L.StoreLayout.LAYOUT g.S.Store old c.has_rows_of-answer.result new) c.self.view_is (subst (λ layout. JustReads layout g.S.Store inside c.has_rows_of-answer.result new) c.LAYOUT.ensures reads)
+
+pub returns-clause-held : goal.returns-clause-held
+returns-clause-held g c held holds clean plain =
+    let layout = g.L.StoreLayout.LAYOUT in
+    let blob : Blob = record { fin = c.args.fin; digest = c.args.digest.now; kind = c.args.kind; elements = c.args.elements.now } in
+    let old = state g.S.Store c.args.self.now.connection in
+    ok_told c.has_rows_of-answer.result (λ b told. iff_then told (holds_shown layout old held holds c.args.off blob plain, shows_held layout old held holds c.args.off blob))
+    (returns-clause-told g c clean (has_schema layout old held holds))

@@ -1,11 +1,13 @@
 use Rattle.std.proofs.Common.{◌≡◌, sym, subst}
 use Rattle.std.specs.Prelude.{◌↔◌, IfOk, IsTrue}
 use Rattle.sqlite.specs.Held.{state}
-use Rattle.osm_store.specs.Audit.{ShowsCounts}
+use Rattle.osm_store.specs.Audit.{AreCountable, ShowsCounts}
+use Rattle.osm_store.specs.declared.audit.counts.Counts.{Counts}
 use Rattle.osm_store.specs.declared.schema.layout.Layout.{Layout}
 use Rattle.osm_store.specs.Schema.Layouts.{schema_of}
 use Rattle.osm_store.specs.Store.{Store, JustReads}
 use Rattle.osm_store.proofs.AuditLemmas.Telling.{ok_told, both_told}
+use Rattle.osm_store.proofs.AuditLemmas.HeldRows.{has_schema, counts_held}
 use Rattle.osm_store.proofs.LoadLemmas.ReaderPromises.{just_reads}
 use Rattle.osm_store.proofs.blob_store.BlobStoreAudited.has_counts.Goals as goal
 
@@ -27,3 +29,10 @@ returns-clause-reads g c =
     let new : Store _ = record { connection = c.has_counts_of-answer.new.connection; failures = c.failures_after-self-inside.result } in
     let reads = just_reads c.LAYOUT.result g.S.Store inside new c.has_counts_of-answer.ensures.asks c.has_counts_of-answer.result (λ clean held holds. both_told _ _ c.has_counts_of-answer.result (c.has_counts_of-answer.ensures.opened clean) c.has_counts_of-answer.ensures.ours) c.failures_after-self-inside.ensures in
     subst (λ old. JustReads g.L.StoreLayout.LAYOUT g.S.Store old c.has_counts_of-answer.result new) c.self.view_is (subst (λ layout. JustReads layout g.S.Store inside c.has_counts_of-answer.result new) c.LAYOUT.ensures reads)
+
+pub returns-clause-held : goal.returns-clause-held
+returns-clause-held g c held holds clean same few =
+    let layout = g.L.StoreLayout.LAYOUT in
+    let old = state g.S.Store c.args.self.now.connection in
+    let shown = subst (λ (n : Counts). ShowsCounts layout old.committed.trees n) (sym same) (counts_held layout old held holds (subst (λ (n : Counts). AreCountable n) same few)) in
+    ok_told c.has_counts_of-answer.result (λ b told. told.1 shown) (returns-clause-told g c clean (has_schema layout old held holds))

@@ -1,0 +1,168 @@
+//! The commands `status` and `export` on several stores that hold parts of one file.
+
+ghost use Rattle.std.specs.Prelude.{◌≡◌, Bool, List, IfOk, IfErr, length};
+ghost use Rattle.osm_value.specs.Sink.{Writes};
+ghost use Rattle.osm_store.specs.Held.{HeldMap};
+ghost use Rattle.osm_parts.specs.Opening.{KeepsMaps, OnlyOpens};
+ghost use Rattle.osm_parts.specs.Parts.{AreParts};
+ghost use Rattle.osm_parts.specs.PartsFaults.{IsOfMaps, PartsFaultHasCause};
+ghost use Rattle.osm_parts.specs.Reading.{AreRead};
+ghost use Rattle.pbfrow_commands.specs.InParts.{parts_fault_line, TellsOfWhole, TellsParts, TellsLines, TellsPbf};
+ghost use Rattle.pbfrow_commands.specs.Status.{IsSurvey, TellsStatus};
+
+use crate::export::finish;
+use crate::report::{put_fault_at, put_store_fault};
+use crate::status::{Holdings, put_holdings};
+use osm_import::{gaps_between, greatest_end};
+use osm_parts::{
+    Openings, Part, PartsFault, export_parts_as_lines, export_parts_as_pbf, extents_of_parts,
+    read_parts,
+};
+use osm_store::Reader;
+use osm_value::{Form, Sink};
+use std::alloc::{AllocError, Global};
+
+/// Writes the line of what keeps stores from being read as one.
+fn put_parts_fault<S: Sink>(out: &mut S, fault: PartsFault)
+    ensures { Writes (S.written out.old) (S.has_failed out.old) (S.written out.new) (S.has_failed out.new) (parts_fault_line fault) }
+{
+    match fault {
+        PartsFault::Interleaved(off) => put_fault_at(out, fault.number(), fault.name(), off),
+        PartsFault::Store(fault) => put_store_fault(out, fault),
+    }
+}
+
+/// What the stores of these parts hold together, and the gaps up to the size, or up to the greatest end if no size is
+/// given.
+fn holdings_of(alloc: Global, parts: &[Part], size: Option<u64>) -> Result<Holdings, AllocError>
+    ensures { (maps : List HeldMap) (asked : Bool) (whole : HeldMap) → AreRead maps asked parts.now → AreParts maps whole → IfOk result (IsSurvey whole size) }
+{
+    let extents = extents_of_parts(alloc, parts)?;
+    let end = greatest_end(&extents);
+    let gaps = gaps_between(alloc, &extents, size.unwrap_or(end))?;
+    Ok(Holdings {
+        blobs: extents.len() as u64,
+        end,
+        gaps,
+    })
+}
+
+/// What `count` stores hold together, read of one after the other.
+fn survey_parts<K: Reader + Drop, O: Openings<K>>(
+    alloc: Global,
+    openings: &mut O,
+    count: u64,
+    size: Option<u64>,
+) -> Result<Holdings, PartsFault>
+    ensures told { (maps : List HeldMap) → O.holds openings.old maps → O.is_honest openings.new → length maps ≡ count → IfOk result (λ holdings. TellsOfWhole (λ whole. IsSurvey whole size holdings) maps) }
+    ensures fault { (maps : List HeldMap) → O.holds openings.old maps → O.is_honest openings.new → length maps ≡ count → IfErr result (IsOfMaps maps) }
+    ensures opens { OnlyOpens O.holds O.is_honest O.is_open openings.old result openings.new }
+    ensures cause { IfErr result (PartsFaultHasCause (O.failures openings.old) (O.failures openings.new)) }
+{
+    let parts = read_parts(alloc, openings, count, false)?;
+    let holdings = holdings_of(alloc, &parts, size)?;
+    Ok(holdings)
+}
+
+/// Writes what `status` writes of one store that holds the blobs of all `count` stores, which are opened one after the
+/// other; or the line of a fault: 71 `Interleaved` with the offset of a blob where the stores don't follow one another, or
+/// a fault of a store. Answers the exit status: 0 if everything was written, and 1 if there was a fault or the output
+/// failed. What the stores hold stays.
+pub fn status_parts<K: Reader + Drop, O: Openings<K>, S: Sink>(
+    alloc: Global,
+    openings: &mut O,
+    count: u64,
+    size: Option<u64>,
+    out: &mut S,
+) -> u8
+    ensures told { (maps : List HeldMap) → O.holds openings.old maps → O.is_honest openings.new → length maps ≡ count
+        → TellsParts (λ whole. TellsStatus whole size (O.failures openings.old) (O.failures openings.new) (S.written out.old) (S.written out.new) (S.has_failed out.new) result)
+        maps (O.failures openings.old) (O.failures openings.new) (S.written out.old) (S.written out.new) (S.has_failed out.new) result }
+    ensures keeps { KeepsMaps O.holds O.is_honest O.is_open openings.old openings.new }
+{
+    match survey_parts(alloc, openings, count, size) {
+        Ok(holdings) => put_holdings(out, &holdings),
+        Err(fault) => {
+            put_parts_fault(out, fault);
+            1
+        }
+    }
+}
+
+/// Exports as lines, and answers the exit status.
+fn export_as_lines<K: Reader + Drop, O: Openings<K>, S: Sink>(
+    alloc: Global,
+    openings: &mut O,
+    count: u64,
+    size: Option<u64>,
+    partial: bool,
+    out: &mut S,
+) -> u8
+    ensures told { (maps : List HeldMap) → O.holds openings.old maps → O.is_honest openings.new → length maps ≡ count
+        → TellsParts (TellsLines size partial (O.failures openings.old) (O.failures openings.new) (S.written out.old) (S.written out.new) (S.has_failed out.new) result)
+        maps (O.failures openings.old) (O.failures openings.new) (S.written out.old) (S.written out.new) (S.has_failed out.new) result }
+    ensures keeps { KeepsMaps O.holds O.is_honest O.is_open openings.old openings.new }
+{
+    let parts = match read_parts(alloc, openings, count, false) {
+        Ok(parts) => parts,
+        Err(fault) => {
+            put_parts_fault(out, fault);
+            return 1;
+        }
+    };
+    let answer = export_parts_as_lines(alloc, openings, &parts, size, partial, out);
+    finish(out, answer)
+}
+
+/// Exports as a PBF file, and answers the exit status.
+fn export_as_pbf<K: Reader + Drop, O: Openings<K>, S: Sink>(
+    alloc: Global,
+    openings: &mut O,
+    count: u64,
+    size: Option<u64>,
+    partial: bool,
+    out: &mut S,
+) -> u8
+    ensures told { (maps : List HeldMap) → O.holds openings.old maps → O.is_honest openings.new → length maps ≡ count
+        → TellsParts (TellsPbf size partial (O.failures openings.old) (O.failures openings.new) (S.written out.old) (S.written out.new) (S.has_failed out.new) result)
+        maps (O.failures openings.old) (O.failures openings.new) (S.written out.old) (S.written out.new) (S.has_failed out.new) result }
+    ensures keeps { KeepsMaps O.holds O.is_honest O.is_open openings.old openings.new }
+{
+    let parts = match read_parts(alloc, openings, count, true) {
+        Ok(parts) => parts,
+        Err(fault) => {
+            put_parts_fault(out, fault);
+            return 1;
+        }
+    };
+    let answer = export_parts_as_pbf(alloc, openings, &parts, size, partial, out);
+    finish(out, answer)
+}
+
+/// Writes what `export` writes of one store that holds the blobs of all `count` stores, with the same refusals; or the
+/// line of a fault: 71 `Interleaved`, before any byte, with the offset of a blob where the stores don't follow one another,
+/// or a fault of a store. Each store is opened twice, one after the other: once for its extents, since a refusal comes
+/// before any byte, and once for its elements. Answers the exit status: 0 if everything was written, else 1. What the
+/// stores hold stays.
+pub fn export_parts<K: Reader + Drop, O: Openings<K>, S: Sink>(
+    alloc: Global,
+    openings: &mut O,
+    count: u64,
+    size: Option<u64>,
+    partial: bool,
+    form: Form,
+    out: &mut S,
+) -> u8
+    ensures lines { (maps : List HeldMap) → O.holds openings.old maps → O.is_honest openings.new → length maps ≡ count → form ≡ Form.Lines
+        → TellsParts (TellsLines size partial (O.failures openings.old) (O.failures openings.new) (S.written out.old) (S.written out.new) (S.has_failed out.new) result)
+        maps (O.failures openings.old) (O.failures openings.new) (S.written out.old) (S.written out.new) (S.has_failed out.new) result }
+    ensures pbf { (maps : List HeldMap) → O.holds openings.old maps → O.is_honest openings.new → length maps ≡ count → form ≡ Form.Pbf
+        → TellsParts (TellsPbf size partial (O.failures openings.old) (O.failures openings.new) (S.written out.old) (S.written out.new) (S.has_failed out.new) result)
+        maps (O.failures openings.old) (O.failures openings.new) (S.written out.old) (S.written out.new) (S.has_failed out.new) result }
+    ensures keeps { KeepsMaps O.holds O.is_honest O.is_open openings.old openings.new }
+{
+    match form {
+        Form::Lines => export_as_lines(alloc, openings, count, size, partial, out),
+        Form::Pbf => export_as_pbf(alloc, openings, count, size, partial, out),
+    }
+}

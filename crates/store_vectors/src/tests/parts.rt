@@ -1,0 +1,301 @@
+//! One map in two stores in memory, of which one at a time is open.
+
+ghost use Rattle.std.specs.Prelude.{◌≡◌, IfOk};
+
+use super::deliveries::answers_to;
+use super::fixtures::{
+    EXTRA_AT_84, FILE, Frame, HEADER_AT_0, HELD_EXTRA, HELD_HEADER, HELD_NODES, HELD_NODES_AT_100,
+    HELD_TAGGED, LINES, NODES, NODES_AT_47, NODES_AT_100, TAGGED_AT_84, TAGGED_LINES,
+    WRITTEN_HEADER,
+};
+use super::memory::{BodiesInMemory, NewStore, TablesInMemory};
+use super::steps::are_joined;
+use osm_import::ExportFault;
+use osm_parts::{
+    Openings, Part, PartsFault, export_parts_as_lines, export_parts_as_pbf, extents_of_parts,
+    gaps_of_parts, read_parts,
+};
+use osm_store::{Extent, Reader, StoreFault};
+use osm_value::Outlet;
+use osm_vectors::FailingWriter;
+use std::alloc::Global;
+use std::process::Abort;
+use std::test::*;
+
+/// The nodes over the last byte of the file.
+const NODES_AT_83: Frame = (83, NODES);
+
+/// The store that is there, if no call of it has failed.
+fn lend<K: Reader + Drop>(slot: &mut Option<K>) -> Result<K, StoreFault>
+    ensures { IfOk result (λ store. K.failures store ≡ 0) }
+{
+    match slot.take() {
+        Some(store) => {
+            if store.failures() == 0 {
+                return Ok(store);
+            }
+            *slot = Some(store);
+            Err(StoreFault::Disk)
+        }
+        None => Err(StoreFault::Disk),
+    }
+}
+
+/// Two stores by their places. One that is given out is missing until it is closed. What they hold is said nowhere, as of files.
+#[derive(Drop)]
+struct Pair<K> {
+    first: Option<K>,
+    second: Option<K>,
+    failures: u64,
+}
+
+impl<K: Reader + Drop> Openings<K> for Pair<K> {
+    ghost holds = { λ pair maps. ⊥ };
+
+    ghost lends = { λ pair maps held. ⊥ };
+
+    ghost is_honest = { λ pair. ⊥ };
+
+    ghost is_open = { λ pair. ⊥ };
+
+    ghost failures = { λ pair. pair.failures };
+
+    fn open(&mut self, place: u64) -> Result<K, StoreFault> {
+        let answer = match place {
+            0 => lend(&mut self.first),
+            1 => lend(&mut self.second),
+            _ => Err(StoreFault::Disk),
+        };
+        if answer.is_err() {
+            self.failures = self.failures.saturating_add(1);
+        }
+        answer
+    }
+
+    fn close(&mut self, store: K) {
+        self.failures = self.failures.saturating_add(store.failures());
+        if self.first.is_none() {
+            self.first = Some(store);
+        } else {
+            self.second = Some(store);
+        }
+    }
+}
+
+/// Two new stores, to each of which these frames were delivered.
+fn two_stores<K: NewStore>(alloc: Global, lists: [&[Frame<'_>]; 2]) -> Result<Pair<K>, Fail> {
+    let [one, other] = lists;
+    let (_, first) = answers_to::<K>(alloc, one)?;
+    let (_, second) = answers_to::<K>(alloc, other)?;
+    Ok(Pair {
+        first: Some(first),
+        second: Some(second),
+        failures: 0,
+    })
+}
+
+/// What an export of the parts as lines answers, and what it has written.
+fn lines_of<K: Reader + Drop>(
+    alloc: Global,
+    stores: &mut Pair<K>,
+    parts: &[Part],
+    size: Option<u64>,
+    partial: bool,
+) -> (Result<(), ExportFault>, Vec<u8>) {
+    let mut out = Outlet::new(Vec::new(alloc));
+    let result = export_parts_as_lines(alloc, stores, parts, size, partial, &mut out);
+    (result, out.into_inner())
+}
+
+/// What is delivered to each of two stores, and what is read of both.
+struct Turn {
+    lists: [&'static [Frame<'static>]; 2],
+    extents: &'static [Extent],
+    gaps: &'static [(u64, u64)],
+    lines: &'static [&'static [u8]],
+}
+
+fn expect_turn<K: NewStore, R: Abort + Alloc<A = Global>>(rt: &R, turn: &Turn) -> Result<(), Fail> {
+    let alloc = rt.alloc();
+    let mut stores = two_stores::<K>(alloc, turn.lists)?;
+    for _ in 0..2 {
+        let parts = read_parts(alloc, &mut stores, 2, false)?;
+        assert!(rt; extents_of_parts(alloc, &parts)?.as_slice() == turn.extents);
+        assert!(rt; gaps_of_parts(alloc, &parts, 200)?.as_slice() == turn.gaps);
+        let (result, lines) = lines_of(alloc, &mut stores, &parts, None, true);
+        assert!(rt; result == Ok(()));
+        assert!(rt; are_joined(&lines, turn.lines));
+    }
+    Ok(())
+}
+
+/// A file in two stores, in both orders; and stores of which one holds nothing, or begins behind a gap.
+const TURNS: [Turn; 4] = [
+    Turn {
+        lists: [&[HEADER_AT_0], &[NODES_AT_47]],
+        extents: &[HELD_HEADER, HELD_NODES],
+        gaps: &[(84, 200)],
+        lines: &[LINES],
+    },
+    Turn {
+        lists: [&[NODES_AT_47, TAGGED_AT_84], &[HEADER_AT_0]],
+        extents: &[HELD_HEADER, HELD_NODES, HELD_TAGGED],
+        gaps: &[(169, 200)],
+        lines: &[LINES, TAGGED_LINES],
+    },
+    Turn {
+        lists: [&[], FILE],
+        extents: &[HELD_HEADER, HELD_NODES],
+        gaps: &[(84, 200)],
+        lines: &[LINES],
+    },
+    Turn {
+        lists: [&[NODES_AT_100, EXTRA_AT_84], &[HEADER_AT_0]],
+        extents: &[HELD_HEADER, HELD_EXTRA, HELD_NODES_AT_100],
+        gaps: &[(47, 84), (137, 200)],
+        lines: &[LINES],
+    },
+];
+
+#[test]
+fn files_in_parts(rt: HostRuntime) -> Result<(), Fail> {
+    for turn in &TURNS {
+        expect_turn::<BodiesInMemory, _>(&rt, turn)?;
+        expect_turn::<TablesInMemory, _>(&rt, turn)?;
+    }
+    Ok(())
+}
+
+/// Two stores that don't follow one another.
+fn expect_interleaved<K: NewStore, R: Abort + Alloc<A = Global>>(
+    rt: &R,
+    lists: [&[Frame<'_>]; 2],
+    off: u64,
+) -> Result<(), Fail> {
+    let alloc = rt.alloc();
+    let mut stores = two_stores::<K>(alloc, lists)?;
+    let found = read_parts(alloc, &mut stores, 2, false);
+    assert!(rt;
+        matches!(found, Err(PartsFault::Interleaved(at)) if at == off),
+        "at {off}"
+    );
+    assert!(rt;
+        read_parts(alloc, &mut stores, 1, false)?.len() == 1,
+        "at {off}"
+    );
+    Ok(())
+}
+
+/// A store that lies between the blobs of another, in both orders; one that begins before another's end; and two that hold
+/// one blob.
+const INTERLEAVED: [([&[Frame]; 2], u64); 5] = [
+    ([&[HEADER_AT_0, EXTRA_AT_84], &[NODES_AT_47]], 47),
+    ([&[NODES_AT_47], &[HEADER_AT_0, EXTRA_AT_84]], 47),
+    ([&[NODES_AT_47], &[NODES_AT_83]], 83),
+    ([&[HEADER_AT_0], FILE], 0),
+    ([&[NODES_AT_47], FILE], 47),
+];
+
+#[test]
+fn stores_that_do_not_follow(rt: HostRuntime) -> Result<(), Fail> {
+    for (lists, off) in INTERLEAVED {
+        expect_interleaved::<BodiesInMemory, _>(&rt, lists, off)?;
+        expect_interleaved::<TablesInMemory, _>(&rt, lists, off)?;
+    }
+    Ok(())
+}
+
+/// A refused export writes nothing, and each store goes on.
+fn refusals_of<K: NewStore, R: Abort + Alloc<A = Global>>(rt: &R) -> Result<(), Fail> {
+    let alloc = rt.alloc();
+    let mut stores = two_stores::<K>(alloc, [&[NODES_AT_100], FILE])?;
+    let parts = read_parts(alloc, &mut stores, 2, false)?;
+    let refusals = [
+        (None, ExportFault::Incomplete(84, 100)),
+        (Some(200), ExportFault::Incomplete(84, 100)),
+        (Some(84), ExportFault::PastEnd(137)),
+    ];
+    for (size, fault) in refusals {
+        let (result, lines) = lines_of(alloc, &mut stores, &parts, size, false);
+        assert!(rt; result == Err(fault));
+        assert!(rt; lines.is_empty());
+    }
+    let (result, lines) = lines_of(alloc, &mut stores, &parts, None, true);
+    assert!(rt; result == Ok(()));
+    assert!(rt; are_joined(&lines, &[LINES, LINES]));
+    Ok(())
+}
+
+#[test]
+fn refusals_of_parts(rt: HostRuntime) -> Result<(), Fail> {
+    refusals_of::<BodiesInMemory, _>(&rt)?;
+    refusals_of::<TablesInMemory, _>(&rt)
+}
+
+/// The file in two stores as a PBF file: the header that an export writes, and the nodes as they came.
+fn pbf_of<K: NewStore, R: Abort + Alloc<A = Global>>(rt: &R) -> Result<(), Fail> {
+    let alloc = rt.alloc();
+    let mut stores = two_stores::<K>(alloc, [&[NODES_AT_47], &[HEADER_AT_0]])?;
+    let parts = read_parts(alloc, &mut stores, 2, true)?;
+    let mut out = Outlet::new(Vec::new(alloc));
+    let result = export_parts_as_pbf(alloc, &mut stores, &parts, Some(84), false, &mut out);
+    assert!(rt; result == Ok(()));
+    assert!(rt; are_joined(&out.into_inner(), &[WRITTEN_HEADER, NODES]));
+    Ok(())
+}
+
+#[test]
+fn pbf_of_parts(rt: HostRuntime) -> Result<(), Fail> {
+    pbf_of::<BodiesInMemory, _>(&rt)?;
+    pbf_of::<TablesInMemory, _>(&rt)
+}
+
+/// After each failure no store is open, and the lines before it were written.
+fn failures_of<K: NewStore, R: Abort + Alloc<A = Global>>(rt: &R) -> Result<(), Fail> {
+    let alloc = rt.alloc();
+    let mut stores = two_stores::<K>(alloc, [&[NODES_AT_47], &[HEADER_AT_0]])?;
+    let found = read_parts(alloc, &mut stores, 3, false);
+    assert!(rt; matches!(found, Err(PartsFault::Store(StoreFault::Disk))));
+    let parts = read_parts(alloc, &mut stores, 2, false)?;
+    for room in 0..LINES.len() {
+        let inner = Vec::new(alloc);
+        let mut out = Outlet::new(FailingWriter { inner, room });
+        let result = export_parts_as_lines(alloc, &mut stores, &parts, None, false, &mut out);
+        assert!(rt; result == Err(ExportFault::WriteFailed));
+        let taken = out.into_inner().inner;
+        assert!(rt; taken.len() == room && LINES.starts_with(&taken));
+    }
+    // a store that isn't there any more
+    let second = stores.second.take();
+    let (result, lines) = lines_of(alloc, &mut stores, &parts, None, false);
+    assert!(rt; result == Err(ExportFault::Store(StoreFault::Disk)));
+    assert!(rt; lines.is_empty());
+    stores.second = second;
+    let (result, lines) = lines_of(alloc, &mut stores, &parts, None, false);
+    assert!(rt; result == Ok(()));
+    assert!(rt; lines.as_slice() == LINES);
+    Ok(())
+}
+
+#[test]
+fn failures(rt: HostRuntime) -> Result<(), Fail> {
+    failures_of::<BodiesInMemory, _>(&rt)?;
+    failures_of::<TablesInMemory, _>(&rt)
+}
+
+#[test]
+fn faults_of_parts(rt: HostRuntime) {
+    let faults = [
+        (PartsFault::Interleaved(47), 71, "Interleaved"),
+        (PartsFault::Store(StoreFault::Memory), 65, "Memory"),
+        (
+            PartsFault::Store(StoreFault::NotThisStore(None)),
+            66,
+            "NotThisStore",
+        ),
+    ];
+    for (fault, number, name) in faults {
+        assert!(rt; fault.number() == number);
+        assert!(rt; fault.name() == name);
+    }
+}

@@ -1,0 +1,80 @@
+#!/usr/bin/env bash
+# Databases of parts of one file are asked as one, in any order.
+. "$(dirname -- "${BASH_SOURCE[0]}")/begin.sh"
+. "$top/e2e/older.sh"
+two=$top/data/two-nodes.osm.pbf
+country=$top/data/liechtenstein-raw.osm.pbf
+nl='
+'
+"$pbfrow" import "$country" whole.db > got.txt
+"$pbfrow" export whole.db > whole.txt
+"$pbfrow" export whole.db --form pbf > whole.osm.pbf
+size=$(stat -c %s "$country")
+
+"$pbfrow" ranges "$country" 4 > plan.txt
+parts=0
+while read -r from to; do
+  parts=$((parts + 1))
+  tail -c +$((from + 1)) "$country" | head -c $((to - from)) | "$pbfrow" import /dev/stdin "part-$parts.db" --at "$from" > "part-$parts.txt"
+done < plan.txt
+[ "$parts" = 4 ] && pass "a plan of four parts" || fail "a plan of four parts"
+for order in "1 2 3 4" "4 3 2 1" "3 1 4 2"; do
+  files=$(for part in $order; do echo "part-$part.db"; done)
+  expect "status of parts $order" 0 "blobs 12 end $size gaps 0${nl}" status $files --size "$size"
+  "$pbfrow" export $files --size "$size" > got.txt
+  same "lines of parts $order" got.txt whole.txt
+  "$pbfrow" export $files --form pbf > got.osm.pbf
+  same "PBF of parts $order" got.osm.pbf whole.osm.pbf
+done
+
+# some of the parts
+blobs_of() { awk '/^blobs/ { print $3 }' "part-$1.txt"; }
+read -r second third < <(sed -n 2p plan.txt)
+read -r last _ < <(tail -n 1 plan.txt)
+left=$((12 - $(blobs_of 2)))
+expect "status without the second part" 0 "gap $second $third${nl}blobs $left end $size gaps 1${nl}" status part-4.db part-1.db part-3.db
+expect "its export is refused" 1 "fault 67 Incomplete${nl}" export part-4.db part-1.db part-3.db
+expect "and as PBF" 1 "fault 67 Incomplete${nl}" export part-4.db part-1.db part-3.db --form pbf
+for part in 1 3 4; do "$pbfrow" export "part-$part.db" --partial; done > want.txt
+"$pbfrow" export part-4.db part-1.db part-3.db --partial > got.txt
+same "a partial one has the lines of the others" got.txt want.txt
+left=$((12 - $(blobs_of 4)))
+expect "the last part isn't missed without the size" 0 "blobs $left end $last gaps 0${nl}" status part-3.db part-2.db part-1.db
+expect "but with it" 0 "gap $last $size${nl}blobs $left end $last gaps 1${nl}" status part-3.db part-2.db part-1.db --size "$size"
+expect "which an export is refused for" 1 "fault 67 Incomplete${nl}" export part-3.db part-2.db part-1.db --size "$size"
+expect "a size before the end" 1 "fault 70 PastEnd${nl}" export part-1.db part-2.db --size 98
+
+# databases that don't follow one another
+expect "one database twice" 1 "fault 71 Interleaved at 0${nl}" status part-1.db part-2.db part-1.db
+expect "its export" 1 "fault 71 Interleaved at 0${nl}" export part-1.db part-2.db part-1.db
+expect "its export, whatever is there" 1 "fault 71 Interleaved at 0${nl}" export part-1.db part-2.db part-1.db --partial
+expect "a part and the whole" 1 "fault 71 Interleaved at $second${nl}" status part-2.db whole.db
+expect "the whole and a part" 1 "fault 71 Interleaved at $second${nl}" export whole.db part-2.db --form pbf
+"$pbfrow" import "$two" two-nodes.db > got.txt
+expect "databases of two files" 1 "fault 71 Interleaved at 0${nl}" status whole.db two-nodes.db
+
+# what is no part
+"$pbfrow" import "$two" some.db --from 47 > got.txt
+"$pbfrow" import /dev/null none.db > got.txt
+expect "one that holds nothing" 0 "blobs 2 end 84 gaps 0${nl}" status none.db two-nodes.db none.db
+expect "two that hold nothing" 0 "gap 0 84${nl}blobs 0 end 0 gaps 1${nl}" status none.db none.db --size 84
+expect "their export" 1 "fault 67 Incomplete${nl}" export none.db none.db
+expect "one that isn't there" 1 "fault 66 NotThisStore${nl}" status some.db nowhere.db
+expect "an export of one that isn't there" 1 "fault 66 NotThisStore${nl}" export nowhere.db some.db
+[ ! -e nowhere.db ] && pass "which isn't made" || fail "which isn't made"
+head -c 5000 part-3.db > cut.db
+for command in status export; do
+  got=$("$pbfrow" "$command" part-1.db part-2.db cut.db 2>/dev/null; echo "status $?")
+  case "$got" in
+    "fault 6"[56]" "*"status 1") pass "$command with a damaged one" ;;
+    *) fail "$command with a damaged one"; echo "  got $got" ;;
+  esac
+done
+if has sqlite3; then
+  older_two_nodes old.db
+  expect "one of an earlier version" 1 "fault 66 NotThisStore${nl}" status some.db old.db
+  expect "an export of one" 1 "fault 66 NotThisStore${nl}" export old.db some.db
+else
+  skip "one of an earlier version" "sqlite3 isn't installed"
+fi
+counted
