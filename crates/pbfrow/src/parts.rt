@@ -69,10 +69,11 @@ fn let_go<K: Reader + Drop>(store: K) -> u64
     store.failures()
 }
 
-/// What opens stores by their places, counted from 0.
-trait Opens<K: Reader> {
-    fn open_at(&self, place: u64) -> Result<K, StoreFault>
-        ensures { IfOk result (λ store. K.failures store ≡ 0) };
+/// What opens stores by their places, counted from 0. It is over the stores of trees and of SQL, so that the readers over
+/// them stand in generic code alone.
+trait Opens<T: Store, S: Alter> {
+    fn open_at(&self, place: u64) -> Result<Opened<TreeReader<T>, TableStore<S>>, StoreFault>
+        ensures { IfOk result (λ reader. counted (λ trees. trees.failures) (λ store. store.failures) reader ≡ 0) };
 }
 
 /// Database files by their places.
@@ -82,7 +83,7 @@ struct Files<'a> {
     names: &'a [&'a str],
 }
 
-impl Opens<FileReader> for Files<'_> {
+impl Opens<FileStore<DatabaseFile>, FileStore<DatabaseFile>> for Files<'_> {
     fn open_at(&self, place: u64) -> Result<FileReader, StoreFault> {
         match self.names.get(place as usize) {
             Some(name) => opened(self.rt, name),
@@ -100,7 +101,10 @@ struct Databases<'a, F> {
     failures: u64,
 }
 
-impl<'a, K: Reader + Drop, F: Opens<K>> Openings<MeteredStore<'a, K, Meter<'a>>>
+/// A store that tells the meter of its blobs, and that is read by its trees or by SQL.
+type MeteredReader<'a, T, S> = MeteredStore<'a, Opened<TreeReader<T>, TableStore<S>>, Meter<'a>>;
+
+impl<'a, T: Store + Drop, S: Alter + Drop, F: Opens<T, S>> Openings<MeteredReader<'a, T, S>>
     for Databases<'a, F> {
     ghost holds = { λ databases parts. ⊥ };
 
@@ -112,7 +116,7 @@ impl<'a, K: Reader + Drop, F: Opens<K>> Openings<MeteredStore<'a, K, Meter<'a>>>
 
     ghost failures = { λ databases. databases.failures };
 
-    fn open(&mut self, place: u64) -> Result<MeteredStore<'a, K, Meter<'a>>, StoreFault> {
+    fn open(&mut self, place: u64) -> Result<MeteredReader<'a, T, S>, StoreFault> {
         match self.files.open_at(place) {
             Ok(store) => Ok(MeteredStore {
                 store,
@@ -125,7 +129,7 @@ impl<'a, K: Reader + Drop, F: Opens<K>> Openings<MeteredStore<'a, K, Meter<'a>>>
         }
     }
 
-    fn close(&mut self, store: MeteredStore<'a, K, Meter<'a>>) {
+    fn close(&mut self, store: MeteredReader<'a, T, S>) {
         self.failures = add_failures(self.failures, let_go(store));
     }
 }
@@ -149,12 +153,7 @@ fn ask_in_turn<K: Reader + Drop, O: Openings<K>, W: Write>(
 }
 
 /// Asks a question of `count` databases, and answers the exit status.
-fn ask_opened<
-    T: Store + Drop,
-    S: Alter + Drop,
-    F: Opens<Opened<TreeReader<T>, TableStore<S>>> + Drop,
-    W: Write,
->(
+fn ask_opened<T: Store + Drop, S: Alter + Drop, F: Opens<T, S> + Drop, W: Write>(
     alloc: Global,
     files: F,
     count: u64,
