@@ -17,37 +17,81 @@ use pbfrow_commands::report::refuse_memory;
 use pbfrow_words::Question;
 use sqlite::{Alter, Connection, File as DatabaseFile, FileStore};
 use sqlite_trees::store::Store;
-use std::alloc::Global;
+use std::alloc::{AllocError, Global};
 use std::io;
 use std::io::{BufWriter, Write};
 
-/// The store of a database file that is opened by SQL, if it has one.
-fn opened_by_sql(
-    rt: &HostRuntime,
-    name: &str,
-) -> Result<TableStore<FileStore<DatabaseFile>>, StoreFault>
-    ensures { IfOk result (λ store. store.failures ≡ 0) }
-{
-    match Connection::open(rt, name) {
-        Ok(connection) => adopted(connection),
-        Err(error) => Err(unopened(error)),
+/// Where the trees of databases are opened. The trees are named, and not what they are: so all that is done with them stands
+/// in generic code.
+trait Trees {
+    type Opened: Store + Drop;
+
+    /// The trees of a database, if it is a sound one of this version.
+    fn open(&self, rt: &HostRuntime, name: &str) -> Result<Option<Self::Opened>, AllocError>;
+}
+
+/// Where databases are opened by SQL.
+trait Tables {
+    type Opened: Alter + Drop;
+
+    /// The store of a database, if it has one.
+    fn open(&self, rt: &HostRuntime, name: &str) -> Result<TableStore<Self::Opened>, StoreFault>
+        ensures { IfOk result (λ store. store.failures ≡ 0) };
+}
+
+/// The files of this machine.
+#[derive(Drop)]
+struct Files;
+
+impl Trees for Files {
+    type Opened = FileStore<DatabaseFile>;
+
+    fn open(
+        &self,
+        rt: &HostRuntime,
+        name: &str,
+    ) -> Result<Option<FileStore<DatabaseFile>>, AllocError> {
+        open_trees(rt, name)
     }
 }
 
-/// The store of a database file, as a single one is read.
-type FileReader = Opened<TreeReader<FileStore<DatabaseFile>>, TableStore<FileStore<DatabaseFile>>>;
+impl Tables for Files {
+    type Opened = FileStore<DatabaseFile>;
 
-/// The store of a database file, if it has one. A sound database of this version is read by its trees, and any other is
-/// opened by SQL, which says what it is.
-fn opened(rt: &HostRuntime, name: &str) -> Result<FileReader, StoreFault>
+    fn open(
+        &self,
+        rt: &HostRuntime,
+        name: &str,
+    ) -> Result<TableStore<FileStore<DatabaseFile>>, StoreFault> {
+        match Connection::open(rt, name) {
+            Ok(connection) => adopted(connection),
+            Err(error) => Err(unopened(error)),
+        }
+    }
+}
+
+/// The store of a database, as a single one is read.
+type OpenedStore<T, S> = Opened<
+    TreeReader<<T as Trees>::Opened>,
+    TableStore<<S as Tables>::Opened>,
+>;
+
+/// The store of a database, if it has one. A sound database of this version is read by its trees, and any other is opened
+/// by SQL, which says what it is.
+fn opened<T: Trees, S: Tables>(
+    rt: &HostRuntime,
+    trees: &T,
+    tables: &S,
+    name: &str,
+) -> Result<OpenedStore<T, S>, StoreFault>
     ensures { IfOk result (λ reader. counted (λ trees. trees.failures) (λ store. store.failures) reader ≡ 0) }
 {
     if is_missing(rt, name) {
         return Err(StoreFault::NotThisStore(None));
     }
-    match open_trees(rt, name) {
+    match trees.open(rt, name) {
         Ok(Some(trees)) => Ok(Opened::ByTrees(TreeReader::new(trees))),
-        Ok(None) => Ok(Opened::BySql(opened_by_sql(rt, name)?)),
+        Ok(None) => Ok(Opened::BySql(tables.open(rt, name)?)),
         Err(refused) => Err(refused.into()),
     }
 }
@@ -69,43 +113,34 @@ fn let_go<K: Reader + Drop>(store: K) -> u64
     store.failures()
 }
 
-/// What opens stores by their places, counted from 0. It is over the stores of trees and of SQL, so that the readers over
-/// them stand in generic code alone.
-trait Opens<T: Store, S: Alter> {
-    fn open_at(&self, place: u64) -> Result<Opened<TreeReader<T>, TableStore<S>>, StoreFault>
-        ensures { IfOk result (λ reader. counted (λ trees. trees.failures) (λ store. store.failures) reader ≡ 0) };
-}
-
-/// Database files by their places.
+/// Databases by their places, each of which tells the meter of its blobs. What they hold is said nowhere: no contract can
+/// tell what a file gives.
 #[derive(Drop)]
-struct Files<'a> {
+struct Databases<'a, T, S> {
     rt: &'a HostRuntime,
+    trees: T,
+    tables: S,
     names: &'a [&'a str],
+    meter: &'a Meter<'a>,
+    failures: u64,
 }
 
-impl Opens<FileStore<DatabaseFile>, FileStore<DatabaseFile>> for Files<'_> {
-    fn open_at(&self, place: u64) -> Result<FileReader, StoreFault> {
+impl<T: Trees, S: Tables> Databases<'_, T, S> {
+    /// The store at a place, as it is read.
+    fn open_at(&self, place: u64) -> Result<OpenedStore<T, S>, StoreFault>
+        ensures { IfOk result (λ reader. counted (λ trees. trees.failures) (λ store. store.failures) reader ≡ 0) }
+    {
         match self.names.get(place as usize) {
-            Some(name) => opened(self.rt, name),
+            Some(name) => opened(self.rt, &self.trees, &self.tables, name),
             None => Err(StoreFault::Disk),
         }
     }
 }
 
-/// Databases by their places, each of which tells the meter of its blobs. What they hold is said nowhere: no contract can
-/// tell what a file gives.
-#[derive(Drop)]
-struct Databases<'a, F> {
-    files: F,
-    meter: &'a Meter<'a>,
-    failures: u64,
-}
+/// A store that tells the meter of its blobs.
+type MeteredOpened<'a, T, S> = MeteredStore<'a, OpenedStore<T, S>, Meter<'a>>;
 
-/// A store that tells the meter of its blobs, and that is read by its trees or by SQL.
-type MeteredReader<'a, T, S> = MeteredStore<'a, Opened<TreeReader<T>, TableStore<S>>, Meter<'a>>;
-
-impl<'a, T: Store + Drop, S: Alter + Drop, F: Opens<T, S>> Openings<MeteredReader<'a, T, S>>
-    for Databases<'a, F> {
+impl<'a, T: Trees, S: Tables> Openings<MeteredOpened<'a, T, S>> for Databases<'a, T, S> {
     ghost holds = { λ databases parts. ⊥ };
 
     ghost lends = { λ databases parts held. ⊥ };
@@ -116,8 +151,8 @@ impl<'a, T: Store + Drop, S: Alter + Drop, F: Opens<T, S>> Openings<MeteredReade
 
     ghost failures = { λ databases. databases.failures };
 
-    fn open(&mut self, place: u64) -> Result<MeteredReader<'a, T, S>, StoreFault> {
-        match self.files.open_at(place) {
+    fn open(&mut self, place: u64) -> Result<MeteredOpened<'a, T, S>, StoreFault> {
+        match self.open_at(place) {
             Ok(store) => Ok(MeteredStore {
                 store,
                 watcher: self.meter,
@@ -129,7 +164,7 @@ impl<'a, T: Store + Drop, S: Alter + Drop, F: Opens<T, S>> Openings<MeteredReade
         }
     }
 
-    fn close(&mut self, store: MeteredReader<'a, T, S>) {
+    fn close(&mut self, store: MeteredOpened<'a, T, S>) {
         self.failures = add_failures(self.failures, let_go(store));
     }
 }
@@ -152,25 +187,14 @@ fn ask_in_turn<K: Reader + Drop, O: Openings<K>, W: Write>(
     }
 }
 
-/// Asks a question of `count` databases, and answers the exit status.
-fn ask_opened<T: Store + Drop, S: Alter + Drop, F: Opens<T, S> + Drop, W: Write>(
-    alloc: Global,
-    files: F,
-    count: u64,
+/// Asks a question of several databases, and answers the exit status.
+fn ask_of<T: Trees + Drop, S: Tables + Drop>(
+    rt: &HostRuntime,
+    trees: T,
+    tables: S,
+    names: &[&str],
     question: Question,
-    meter: &Meter,
-    out: &mut Outlet<W>,
 ) -> u8 {
-    let mut databases = Databases {
-        files,
-        meter,
-        failures: 0,
-    };
-    ask_in_turn(alloc, &mut databases, count, question, out)
-}
-
-/// Asks a question of several databases that hold parts of one file, and answers the exit status. None is made.
-pub(crate) fn ask_parts(rt: &HostRuntime, names: &[&str], question: Question) -> u8 {
     let meter = Meter::new(rt, matches!(question, Question::Export { .. }));
     let output = MeteredOutput {
         writer: io::writer(rt),
@@ -180,8 +204,30 @@ pub(crate) fn ask_parts(rt: &HostRuntime, names: &[&str], question: Question) ->
         return refuse_memory(&mut Outlet::new(io::writer(rt)), None);
     };
     let mut out = Outlet::new(output);
-    let files = Files { rt, names };
+    let mut databases = Databases {
+        rt,
+        trees,
+        tables,
+        names,
+        meter: &meter,
+        failures: 0,
+    };
     let count = names.len() as u64;
-    let status = ask_opened(rt.alloc(), files, count, question, &meter, &mut out);
+    let status = ask_in_turn(rt.alloc(), &mut databases, count, question, &mut out);
     end(&mut out, &meter, status)
+}
+
+/// Asks a question of several databases that are files where they are opened by SQL, and answers the exit status.
+fn ask_files<T: Trees + Drop>(
+    rt: &HostRuntime,
+    trees: T,
+    names: &[&str],
+    question: Question,
+) -> u8 {
+    ask_of(rt, trees, Files, names, question)
+}
+
+/// Asks a question of several databases that hold parts of one file, and answers the exit status. None is made.
+pub(crate) fn ask_parts(rt: &HostRuntime, names: &[&str], question: Question) -> u8 {
+    ask_files(rt, Files, names, question)
 }

@@ -21,13 +21,13 @@ const ALL_LINES: &[u8] =
     b"n 1 1000 -100 [] {}\nn 2 900 -100 [] {}\nn 1 1000 -100 [] {}\nn 2 900 -100 [] {}\n";
 
 /// A new store that holds the frames of a file between these two offsets.
-fn part_of<K: NewStore>(alloc: Global, file: &[u8], from: u64, to: u64) -> Option<K>
+fn part_of<K: NewStore>(alloc: Global, file: &[u8], from: u32, to: u32) -> Option<K>
     ensures { IfSome result (λ store. K.failures store ≡ 0) }
 {
     let mut store = K::new_store(alloc)?;
     let start = Start {
-        dropped: from,
-        at: from,
+        dropped: u64::from(from),
+        at: u64::from(from),
     };
     let mut input = Inlet::new(Cursor::new(file.get(..to as usize)?));
     let mut out = Outlet::new(Vec::new(alloc));
@@ -44,7 +44,7 @@ fn part_of<K: NewStore>(alloc: Global, file: &[u8], from: u64, to: u64) -> Optio
 struct Ranges<'a> {
     alloc: Global,
     file: &'a [u8],
-    ranges: &'a [(u64, u64)],
+    ranges: &'a [(u32, u32)],
     failures: u64,
 }
 
@@ -82,7 +82,7 @@ impl<K: NewStore> Openings<K> for Ranges<'_> {
 fn status_of<K: NewStore>(
     alloc: Global,
     file: &[u8],
-    ranges: &[(u64, u64)],
+    ranges: &[(u32, u32)],
     count: u64,
     size: Option<u64>,
 ) -> (u8, Vec<u8>) {
@@ -101,7 +101,7 @@ fn status_of<K: NewStore>(
 fn export_of<K: NewStore>(
     alloc: Global,
     file: &[u8],
-    ranges: &[(u64, u64)],
+    ranges: &[(u32, u32)],
     size: Option<u64>,
     partial: bool,
     form: Form,
@@ -119,7 +119,7 @@ fn export_of<K: NewStore>(
 }
 
 /// Parts, the size that is given, and what `status` answers and writes.
-const STATUSES: [(&[(u64, u64)], Option<u64>, u8, &[u8]); 6] = [
+const STATUSES: [(&[(u32, u32)], Option<u64>, u8, &[u8]); 6] = [
     (&[(84, 137), (0, 84)], None, 0, b"blobs 4 end 137 gaps 0\n"),
     (
         &[(100, 137), (0, 47), (47, 100)],
@@ -165,7 +165,7 @@ fn statuses_of_parts(rt: HostRuntime) -> Result<(), Fail> {
 }
 
 /// Parts, the size that is given, whether the export is partial, and what an export as lines answers and writes.
-const EXPORTS: [(&[(u64, u64)], Option<u64>, bool, u8, &[u8]); 7] = [
+const EXPORTS: [(&[(u32, u32)], Option<u64>, bool, u8, &[u8]); 7] = [
     (&[(84, 137), (0, 84)], None, false, 0, ALL_LINES),
     (
         &[(100, 137), (0, 47), (47, 100)],
