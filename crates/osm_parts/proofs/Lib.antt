@@ -5,3 +5,4 @@ pub mod PlacingLemmas
 pub mod ReadingLemmas
 pub mod OpeningLemmas
 pub mod ExportingLemmas
+pub mod ShelfLemmas

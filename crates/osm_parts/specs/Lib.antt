@@ -4,3 +4,4 @@ pub mod Opening
 pub mod Placing
 pub mod Reading
 pub mod PartsFaults
+pub mod Shelves

@@ -7,8 +7,10 @@ pub mod laws;
 mod openings;
 mod placing;
 mod reading;
+mod shelf;
 
 pub use exporting::{export_parts_as_lines, export_parts_as_pbf};
 pub use fault::PartsFault;
 pub use openings::Openings;
 pub use reading::{Part, extents_of_parts, gaps_of_parts, read_parts};
+pub use shelf::Shelf;
