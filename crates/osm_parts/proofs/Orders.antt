@@ -72,7 +72,7 @@ in-at [] i held off blob at found = absurd (cc)
 in-at (map ∷ maps) zero held off blob at found = let same : map ≡ held = cc in inl (ap (λ (m : HeldMap). get m off) same ∙ found)
 in-at (map ∷ maps) (suc i) held off blob at found = inr (in-at maps i held off blob at found)
 
-follow-apart : (from : ℕ) (maps : List HeldMap) (i j : ℕ) (first second : HeldMap) (at next : ℕ) (blob other : Blob) → FollowFrom from maps → slice_get maps i ≡ Some first → slice_get maps j ≡ Some second
+pub follow-apart : (from : ℕ) (maps : List HeldMap) (i j : ℕ) (first second : HeldMap) (at next : ℕ) (blob other : Blob) → FollowFrom from maps → slice_get maps i ≡ Some first → slice_get maps j ≡ Some second
     → i < j → get first at ≡ Some blob → get second next ≡ Some other → blob.fin ≤ next
 follow-apart from [] i j first second at next blob other follow one two low found also = absurd (cc)
 follow-apart from (map ∷ maps) zero zero first second at next blob other follow one two low found also = absurd (omega arith)

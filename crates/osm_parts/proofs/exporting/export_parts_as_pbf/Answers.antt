@@ -3,12 +3,12 @@ use Rattle.std.specs.Io.KnownBytes.{Appends}
 use Rattle.osm_store.specs.Keeping.{extents_of}
 use Rattle.osm_import.specs.Exports.{WritesBlob, size_of}
 use Rattle.osm_import.specs.ExportCauses.{ExportHasCause, ExportIsOwn}
-use Rattle.osm_import.specs.Pbf.{header_frame, IsPbfExport, WritesBlocks}
+use Rattle.osm_import.specs.Pbf.{header_frame, IsHeadedExport, WritesBlocks}
 use Rattle.osm_import.specs.declared.export.fault.ExportFault.{ExportFault}
 use Rattle.osm_import.proofs.HandedOn.{handed}
 use Rattle.osm_import.proofs.PbfLemmas.{pbf-unbegun, pbf-no_header, pbf-exported}
 use Rattle.osm_import.proofs.WalkLemmas.{cause-unwritten, write-cause, write-own}
-use Rattle.osm_parts.proofs.ReadingLemmas.{flags-whole}
+use Rattle.osm_parts.proofs.FlagLemmas.{history-read}
 use Rattle.osm_parts.proofs.ExportingLemmas.{walks-whole}
 use Rattle.osm_parts.proofs.exporting.export_parts_as_pbf.Goals as goal
 
