@@ -1,5 +1,5 @@
 -- Flags of visibility in runs.
-use Rattle.std.proofs.Common.{◌≡◌, ℕ, zero, suc, cond, Bool, true, false, ◌&&◌, ◌||◌, List, [], ◌∷◌, slice_get, Some, refl, sym, ◌∙◌, ap, subst, inl, inr}
+use Rattle.std.proofs.Common.{◌≡◌, ℕ, zero, suc, cond, Bool, true, false, ◌||◌, List, [], ◌∷◌, slice_get, Some, refl, sym, ◌∙◌, ap, inl, inr}
 use Rattle.std.specs.List.{list_any}
 use Rattle.std.specs.Ordering.{nat_cmp}
 use Rattle.std.specs.FinMap.{get, entries, find, is_sorted, get-entries, entries_sorted}
@@ -19,12 +19,13 @@ use Rattle.osm_parts.proofs.Orders.{in-at}
 
 flagged-entry : (es : List (ℕ × Blob)) → is_sorted nat_cmp es ≡ true → list_any blob_has_flag es ≡ true → (off : ℕ) × (blob : Blob) × (find nat_cmp off es ≡ Some blob) × (list_any has_flag blob.elements ≡ true)
 flagged-entry [] sorted some = absurd (cc)
-flagged-entry (e ∷ es) sorted some = at (list_any has_flag e.1.elements) refl
+flagged-entry (e ∷ es) sorted some = at (λ later. flagged-entry es (sorted-tail e es sorted) later) (list_any has_flag e.1.elements) refl
   where
-    at : (b : Bool) → list_any has_flag e.1.elements ≡ b → (off : ℕ) × (blob : Blob) × (find nat_cmp off (e ∷ es) ≡ Some blob) × (list_any has_flag blob.elements ≡ true)
-    at true is = (e.0, e.1, find-head e es, is)
-    at false is =
-        let it = flagged-entry es (sorted-tail e es sorted) (ap (λ b. b || list_any blob_has_flag es) (sym is) ∙ some) in
+    at : (list_any blob_has_flag es ≡ true → (off : ℕ) × (blob : Blob) × (find nat_cmp off es ≡ Some blob) × (list_any has_flag blob.elements ≡ true)) → (b : Bool) → list_any has_flag e.1.elements ≡ b
+        → (off : ℕ) × (blob : Blob) × (find nat_cmp off (e ∷ es) ≡ Some blob) × (list_any has_flag blob.elements ≡ true)
+    at behind true is = (e.0, e.1, find-head e es, is)
+    at behind false is =
+        let it = behind (ap (λ b. b || list_any blob_has_flag es) (sym is) ∙ some) in
         (it.0, it.1, (find-tail e es sorted it.0 it.1 it.2).1, it.3)
 
 or-left : (a b : Bool) → a ≡ true → (a || b) ≡ true
@@ -70,11 +71,12 @@ told-each : (maps : List HeldMap) (parts : List Part) (ordered : List HeldMap) �
     → (place : ℕ) × (store : HeldMap) × (slice_get maps place ≡ Some store) × (has_flags store ≡ true)
 told-each maps [] ordered each some = absurd (cc)
 told-each maps (part ∷ parts) [] each some = absurd each
-told-each maps (part ∷ parts) (run ∷ ordered) each some = at part.history refl
+told-each maps (part ∷ parts) (run ∷ ordered) each some = at (λ later. told-each maps parts ordered each.1 later) part.history refl
   where
-    at : (b : Bool) → part.history ≡ b → (place : ℕ) × (store : HeldMap) × (slice_get maps place ≡ Some store) × (has_flags store ≡ true)
-    at true is = (part.place, each.0.store, each.0.at, sym each.0.history ∙ is)
-    at false is = told-each maps parts ordered each.1 (ap (λ b. b || list_any (λ (p : Part). p.history) parts) (sym is) ∙ some)
+    at : (list_any (λ (p : Part). p.history) parts ≡ true → (place : ℕ) × (store : HeldMap) × (slice_get maps place ≡ Some store) × (has_flags store ≡ true)) → (b : Bool) → part.history ≡ b
+        → (place : ℕ) × (store : HeldMap) × (slice_get maps place ≡ Some store) × (has_flags store ≡ true)
+    at behind true is = (part.place, each.0.store, each.0.at, sym each.0.history ∙ is)
+    at behind false is = behind (ap (λ b. b || list_any (λ (p : Part). p.history) parts) (sym is) ∙ some)
 
 any-at : (maps : List HeldMap) (place : ℕ) (store : HeldMap) → slice_get maps place ≡ Some store → has_flags store ≡ true → list_any has_flags maps ≡ true
 any-at [] place store at some = absurd (cc)

@@ -1,5 +1,5 @@
 -- Parts in another order.
-use Rattle.std.proofs.Common.{◌≡◌, ◌≢◌, ◌⊎◌, ℕ, zero, suc, ◌<◌, ◌≤◌, List, [], ◌∷◌, length, get_or, slice_get, Some, refl, sym, ◌∙◌, ap, subst, inl, inr, arith}
+use Rattle.std.proofs.Common.{◌≡◌, ◌≢◌, ◌⊎◌, ℕ, zero, suc, ◌<◌, ◌≤◌, List, [], ◌∷◌, length, get_or, slice_get, Some, refl, sym, ◌∙◌, ap, inl, inr, arith}
 use Rattle.std.specs.List.{swap}
 use Rattle.std.specs.Prelude.{IsPermutation}
 use Rattle.std.specs.FinMap.{get}
@@ -9,7 +9,7 @@ use Rattle.std.proofs.lemmas.List.Sorted.{IsPermutation-keeps}
 use Rattle.std.proofs.lemmas.Option.{slice_get_within, get_or_from_slice_get, slice_get-get_or}
 use Rattle.osm_store.specs.Held.{Blob, HeldMap}
 use Rattle.osm_parts.specs.Parts.{FollowFrom, IsInPart}
-use Rattle.osm_parts.specs.Interleaved.{NoneFollows, AreInterleaved}
+use Rattle.osm_parts.specs.Interleaved.{NoneFollows}
 use Rattle.osm_parts.proofs.PartsLemmas.{in_part-lies}
 
 -- ---- two places of a list

@@ -1,14 +1,14 @@
 -- The blobs of several stores, gathered, and each of them once.
-use Rattle.std.proofs.Common.{◌≡◌, ◌≢◌, ◌⊎◌, ℕ, zero, suc, ◌+◌, ◌<◌, ◌≤◌, cond, Bool, true, List, [], ◌∷◌, ◌++◌, map, length, take, get_or, slice_get, Option, Some, refl, sym, ◌∙◌, ap, subst, inl, inr, arith, add-one, IsPermutation}
+use Rattle.std.proofs.Common.{◌≡◌, ◌⊎◌, ℕ, zero, suc, ◌+◌, ◌<◌, ◌≤◌, cond, Bool, true, false, List, [], ◌∷◌, ◌++◌, map, length, take, get_or, slice_get, Some, refl, sym, ◌∙◌, ap, subst, inl, inr, arith, add-one, IsPermutation}
 use Rattle.std.specs.List.{Contains}
 use Rattle.std.specs.List.Sorted.{IsNonDecreasingBy}
 use Rattle.std.specs.Ordering.{nat_cmp}
 use Rattle.std.specs.FinMap.{get, entries, find, is_sorted, get-entries, entries_sorted}
 use Rattle.std.proofs.lemmas.Bool.Decides.{eqb_tells}
-use Rattle.std.proofs.lemmas.List.{take_all, take_more}
+use Rattle.std.proofs.lemmas.List.{take_more}
 use Rattle.std.proofs.lemmas.List.Elements.{Contains-append_left, Contains-append_right, Contains-append_cases, Contains-push, Contains-push_cases}
 use Rattle.std.proofs.lemmas.List.Sorted.{Contains-permutation, IsPermutation-sym}
-use Rattle.osm_store.specs.Flags.{has_flags}
+use Rattle.pbf_frame.specs.declared.kind.Kind.TheVariants.{OsmHeader}
 use Rattle.osm_store.specs.Held.{Blob, HeldMap, IsApart}
 use Rattle.osm_store.specs.Keeping.{extents_of, extent_of, IsForeign}
 use Rattle.osm_store.specs.declared.fault.StoreFault.{StoreFault}
@@ -18,7 +18,7 @@ use Rattle.osm_import.proofs.Touching.{find-head, find-tail, sorted-tail, find-c
 use Rattle.osm_import.proofs.Delivering.{true-of}
 use Rattle.osm_import.proofs.WalkLemmas.{read-is}
 use Rattle.osm_parts.specs.Parts.{IsInPart}
-use Rattle.osm_parts.specs.Pieces.{offset_of, pieces_of, IsPiece, HasExtent, AreGathered, IsRow, AreOnce, IfLast, IsNext, IsInTheWay, IsAmong}
+use Rattle.osm_parts.specs.Pieces.{offset_of, pieces_of, IsPiece, AreGathered, IsRow, AreOnce, IfLast, IsNext, IsInTheWay, IsAmong}
 use Rattle.osm_parts.specs.PartsFaults.{IsOfMaps}
 use Rattle.osm_parts.specs.Reading.{IsReadOf}
 use Rattle.osm_parts.specs.declared.pieces.Piece.{Piece}
@@ -136,6 +136,13 @@ gathered-permuted maps asked count xs ys same so_far = record {
 }
 
 -- ---- each once
+
+-- what is read of a list where it has no element
+abbrev pub blank : Piece
+blank = record { place = 0; extent = record { off = 0; fin = 0; digest = []; kind = OsmHeader; n = 0 }; history = false }
+
+pub piece-at : (pieces : List Piece) (i : ℕ) → i < length pieces → get_or pieces i blank ≡ get_or pieces i (get_or pieces i blank)
+piece-at pieces i low = read-is pieces i blank (get_or pieces i blank) low
 
 row-push : (from : ℕ) (xs : List Piece) (piece : Piece) → IsRow from xs → IfLast (λ last. last.extent.fin ≤ piece.extent.off) xs → (xs ≡ [] → from ≤ piece.extent.off) → IsRow from (xs ++ piece ∷ [])
 row-push from [] piece row last low = (low refl, tt)

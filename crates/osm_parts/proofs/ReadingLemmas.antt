@@ -1,12 +1,12 @@
 -- From the runs of stores to the map that holds what they hold.
-use Rattle.std.proofs.Common.{◌≡◌, ℕ, zero, suc, ◌+◌, ◌<◌, ◌≤◌, Bool, List, [], ◌∷◌, ◌++◌, length, take, get_or, Some, refl, sym, ◌∙◌, ap, inl, inr, arith, append_assoc, append-nil, add-one}
+use Rattle.std.proofs.Common.{◌≡◌, ℕ, zero, suc, ◌+◌, ◌<◌, Bool, List, [], ◌∷◌, ◌++◌, length, take, get_or, Some, refl, sym, ◌∙◌, ap, inl, inr, arith, append_assoc, append-nil, add-one}
 use Rattle.std.specs.FinMap.{get}
 use Rattle.osm_store.specs.Held.{Blob, HeldMap, IsApart}
 use Rattle.osm_store.specs.Keeping.{extents_of}
 use Rattle.osm_store.specs.declared.keeper.Extent.{Extent}
 use Rattle.osm_import.proofs.MergeLemmas.{one_map}
 use Rattle.osm_parts.specs.Parts.{IsInPart, AreParts, AreApart, extents_in}
-use Rattle.osm_parts.specs.Reading.{IsPart, AreEach, AreRead, joined_extents}
+use Rattle.osm_parts.specs.Reading.{AreEach, AreRead, joined_extents}
 use Rattle.osm_parts.specs.Unions.{IsUnionOf, UnionIsWhole}
 use Rattle.osm_parts.specs.declared.runs.Part.{Part}
 use Rattle.osm_parts.proofs.PartsLemmas.{extents-join, whole-apart}
@@ -36,10 +36,10 @@ pub union-is_whole : UnionIsWhole
 union-is_whole maps whole other are union =
     one_map whole other (λ off blob. (
       (λ found. (
-        let it = union.kept off blob (are.only off blob found) in
-        let also : get whole off ≡ Some it.0 = are.kept off it.0 (union.only off it.0 it.1) in
-        it.1 ∙ sym also ∙ found
-        )),
+          let it = union.kept off blob (are.only off blob found) in
+          let also : get whole off ≡ Some it.0 = are.kept off it.0 (union.only off it.0 it.1) in
+          it.1 ∙ sym also ∙ found
+          )),
       (λ found. are.kept off blob (union.only off blob found)),
     ))
 

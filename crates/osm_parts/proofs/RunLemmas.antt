@@ -1,5 +1,5 @@
 -- From pieces in a row to the runs of the stores.
-use Rattle.std.proofs.Common.{◌≡◌, ◌≢◌, ◌⊎◌, ℕ, zero, suc, ◌+◌, ◌<◌, ◌≤◌, cond, Bool, true, List, [], ◌∷◌, ◌++◌, map, length, take, slice_get, Option, Some, None, refl, sym, ◌∙◌, ap, subst, inl, inr, arith, append_assoc, append-nil}
+use Rattle.std.proofs.Common.{◌≡◌, ℕ, zero, suc, ◌+◌, ◌<◌, ◌≤◌, cond, Bool, List, [], ◌∷◌, ◌++◌, map, length, slice_get, Some, refl, sym, ◌∙◌, ap, subst, inl, inr, arith, append_assoc, append-nil}
 use Rattle.std.specs.List.{Contains}
 use Rattle.std.specs.Ordering.{nat_cmp}
 use Rattle.std.specs.Cmp.{nat_cmp_total}
@@ -11,14 +11,13 @@ use Rattle.std.proofs.lemmas.List.Elements.{Contains-append_left, Contains-appen
 use Rattle.osm_store.specs.Held.{Blob, HeldMap, IsApart}
 use Rattle.osm_store.specs.Keeping.{extents_of, extent_of}
 use Rattle.osm_store.specs.declared.keeper.Extent.{Extent}
-use Rattle.osm_import.specs.Walks.{IsWithin}
 use Rattle.osm_import.proofs.Touching.{find-head, find-cons}
 use Rattle.osm_import.proofs.Delivering.{true-of}
 use Rattle.osm_parts.specs.Parts.{LiesIn, FollowFrom, IsInPart}
 use Rattle.osm_parts.specs.Interleaved.{AreInterleaved}
-use Rattle.osm_parts.specs.Pieces.{IsPiece, HasExtent, AreGathered, IsRow, AreOnce}
+use Rattle.osm_parts.specs.Pieces.{IsPiece, AreGathered, IsRow, AreOnce}
 use Rattle.osm_parts.specs.Reading.{IsPart, AreEach, AreRead}
-use Rattle.osm_parts.specs.Runs.{first_offset, AreAt, IsRunOf, AreCut, IsPut, ReturnsAt, IsBetween}
+use Rattle.osm_parts.specs.Runs.{first_offset, AreAt, IsRunOf, AreCut, IsPut, IsBetween}
 use Rattle.osm_parts.specs.declared.pieces.Piece.{Piece}
 use Rattle.osm_parts.specs.declared.runs.Part.{Part}
 use Rattle.osm_parts.proofs.OpeningLemmas.{same-held}
@@ -59,7 +58,7 @@ cut-grow [] last part pieces piece (head, behind, rest, one, none, is) grown = (
   run-grown last part piece head behind grown one,
   refl,
   ap (λ (l : List Piece). l ++ piece ∷ []) is ∙ ap (λ (l : List Piece). head ∷ ((behind ++ l) ++ piece ∷ [])) none ∙ ap (λ (l : List Piece). head ∷ (l ++ piece ∷ [])) (append-nil behind)
-  ∙ ap (λ (l : List Piece). head ∷ l) (sym (append-nil (behind ++ piece ∷ []))),
+      ∙ ap (λ (l : List Piece). head ∷ l) (sym (append-nil (behind ++ piece ∷ []))),
 )
 cut-grow (first ∷ front) last part pieces piece (head, behind, rest, one, cut, is) grown =
     (head, behind, rest ++ piece ∷ [], one, cut-grow front last part rest piece cut grown, ap (λ (l : List Piece). l ++ piece ∷ []) is ∙ ap (λ (l : List Piece). head ∷ l) (append_assoc behind rest (piece ∷ [])))
@@ -159,10 +158,17 @@ extents-are held (piece ∷ pieces) [] are = absurd are
 extents-are held (piece ∷ pieces) (e ∷ es) (found, is, rest) =
     ap (λ (x : Extent). x ∷ map extent_of es) is ∙ ap (λ (xs : List Extent). piece.extent ∷ xs) (extents-are held pieces es rest)
 
-entries-from : (from : ℕ) (es : List (ℕ × Blob)) → Rise from es → entries (from_entries es) ≡ es
-entries-from from es rise =
-    same_entries nat_cmp nat_cmp_total nat_cmp-IsAntisymmetric (entries (from_entries es)) es (entries_sorted (from_entries es)) (rise-sorted from es rise)
-    (λ off. sym (get-entries (from_entries es) off) ∙ get-from_entries nat_cmp_total es off)
+made-map : List (ℕ × Blob) → HeldMap
+made-map es = from_entries es
+
+get-made : (es : List (ℕ × Blob)) (off : ℕ) → get (made-map es) off ≡ find nat_cmp off es
+unfolding made-map
+get-made es off = get-from_entries nat_cmp_total es off
+
+entries-made : (from : ℕ) (es : List (ℕ × Blob)) → Rise from es → entries (made-map es) ≡ es
+entries-made from es rise =
+    same_entries nat_cmp nat_cmp_total nat_cmp-IsAntisymmetric (entries (made-map es)) es (entries_sorted (made-map es)) (rise-sorted from es rise)
+    (λ off. sym (get-entries (made-map es) off) ∙ get-made es off)
 
 -- ---- one run
 
@@ -182,16 +188,16 @@ run-from maps asked part head behind from cut row each =
     let made = entries-of maps asked part.place held (head ∷ behind) at (cut.place, cut.places) each in
     let es = made.0 in
     let rise = rise-of held first.apart from (head ∷ behind) es made.1 row in
-    let run = from_entries es in
-    let listed : entries run ≡ es = entries-from from es rise in
+    let run = made-map es in
+    let listed : entries run ≡ es = entries-made from es rise in
     let known : (off : ℕ) (blob : Blob) → get run off ≡ Some blob → (get held off ≡ Some blob) × (from ≤ off) × (blob.fin ≤ end_of from (head ∷ behind))
-        = λ off blob found. found-of held first.apart from (head ∷ behind) es made.1 row off blob (sym (get-from_entries nat_cmp_total es off) ∙ found) in
+    = λ off blob found. found-of held first.apart from (head ∷ behind) es made.1 row off blob (sym (get-made es off) ∙ found) in
     let members : (p : Piece) → Contains (head ∷ behind) p → (blob : Blob) × (get run p.extent.off ≡ Some blob) × (extent_of (p.extent.off, blob) ≡ p.extent)
-        = λ p found. (
-          let extent : Contains (map extent_of es) p.extent = subst (λ (xs : List Extent). Contains xs p.extent) (sym (extents-are held (head ∷ behind) es made.1)) (map-contains (λ (q : Piece). q.extent) (head ∷ behind) p found) in
-          let it = each-extent es (true-of _ (rise-sorted from es rise)) p.extent extent in
-          (it.0, get-from_entries nat_cmp_total es p.extent.off ∙ it.1, it.2)
-          ) in
+    = λ p found. (
+    let extent : Contains (map extent_of es) p.extent = subst (λ (xs : List Extent). Contains xs p.extent) (sym (extents-are held (head ∷ behind) es made.1)) (map-contains (λ (q : Piece). q.extent) (head ∷ behind) p found) in
+    let it = each-extent es (true-of _ (rise-sorted from es rise)) p.extent extent in
+    (it.0, get-made es p.extent.off ∙ it.1, it.2)
+    ) in
     let one = members head (head-contains head behind) in
     record {
       run = run;

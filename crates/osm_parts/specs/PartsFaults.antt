@@ -5,7 +5,6 @@ use Rattle.osm_store.specs.Held.{HeldMap}
 use Rattle.osm_store.specs.Keeping.{IsForeign}
 use Rattle.osm_import.specs.Faults.{conflict_number_of, conflict_name_of}
 use Rattle.osm_import.specs.Step.{HasCause}
-use Rattle.osm_import.specs.declared.answer.Conflict.{Conflict}
 use Rattle.osm_import.specs.declared.answer.Conflict.TheVariants.{Differs, Overlap}
 use Rattle.osm_parts.specs.Conflicts.{AreDiffering, AreOverlapping}
 use Rattle.osm_parts.specs.Interleaved.{AreInterleaved}

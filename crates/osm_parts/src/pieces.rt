@@ -71,7 +71,7 @@ fn add_once(kept: &mut Vec<Piece>, piece: &Piece) -> Result<(), PartsFault>
 /// Of pieces that come by offset those whose extent the one before doesn't have. An error says which two are in each
 /// other's way: where both begin at the same offset with different extents, or one begins inside the other.
 pub(crate) fn each_once(alloc: Global, pieces: &[Piece]) -> Result<Vec<Piece>, PartsFault>
-    ensures once { IsNonDecreasingBy offset_of pieces.now → IfOk result (λ kept. AreOnce pieces.now kept.items) }
+    ensures once { IfOk result (λ kept. AreOnce pieces.now kept.items) }
     ensures refused { IsNonDecreasingBy offset_of pieces.now → IfErr result (IsAmong pieces.now) }
 {
     let mut kept = Vec::new(alloc);

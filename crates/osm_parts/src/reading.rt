@@ -106,7 +106,7 @@ fn gather<K: Reader + Drop, O: Openings<K>>(
 fn runs_of(alloc: Global, pieces: Vec<Piece>, count: u64) -> Result<Vec<Part>, PartsFault>
     ensures read { (maps : List HeldMap) (asked : Bool) → AreGathered maps asked count pieces.items → length maps ≡ count → IfOk result (λ parts. AreRead maps asked parts.items) }
     ensures few { IfOk result (λ parts. AreFew count parts.items) }
-    ensures fault { (maps : List HeldMap) (asked : Bool) → AreGathered maps asked count pieces.items → IfErr result (IsOfMaps maps) }
+    ensures fault { (maps : List HeldMap) (asked : Bool) → AreGathered maps asked count pieces.items → length maps ≡ count → IfErr result (IsOfMaps maps) }
     ensures cause { IfErr result (λ fault. (before : ℕ) (now : ℕ) → PartsFaultHasCause before now fault) }
 {
     let sorted = by_offset(pieces)?;
