@@ -17,7 +17,7 @@ pub enum PartsFault {
     #[error("the blob at {0} lies between those of another store")]
     Interleaved(u64),
     /// What one store holds is in the way of another's blob, and where the later of both begins.
-    #[error("{0}, at {1}")]
+    #[error("{0} (at {1})")]
     Refused(Conflict, u64),
     /// An opening or a read of a store has failed, or memory was refused.
     #[error("{0}")]
