@@ -119,7 +119,15 @@ fn export_of<K: NewStore>(
     };
     let mut out = Outlet::new(Vec::new(alloc));
     let count = stores.len() as u64;
-    let status = export_parts::<K, _, _>(alloc, &mut openings, count, size, partial, form, &mut out);
+    let status = export_parts::<K, _, _>(
+        alloc,
+        &mut openings,
+        count,
+        size,
+        partial,
+        form,
+        &mut out,
+    );
     (status, out.into_inner())
 }
 

@@ -4,9 +4,9 @@ ghost use Rattle.std.specs.Prelude.{◌≡◌, IfOk};
 
 use super::deliveries::answers_to;
 use super::fixtures::{
-    EXTRA, EXTRA_AT_84, FILE, Frame, HEADER_AT_0, HELD_EXTRA, HELD_HEADER, HELD_NODES, HELD_NODES_AT_100,
-    HELD_TAGGED, LINES, NODES, NODES_AT_47, NODES_AT_100, TAGGED_AT_84, TAGGED_LINES,
-    WRITTEN_HEADER,
+    EXTRA, EXTRA_AT_84, FILE, Frame, HEADER_AT_0, HELD_EXTRA, HELD_HEADER, HELD_NODES,
+    HELD_NODES_AT_100, HELD_TAGGED, LINES, NODES, NODES_AT_47, NODES_AT_100, TAGGED_AT_84,
+    TAGGED_LINES, WRITTEN_HEADER,
 };
 use super::memory::{BodiesInMemory, NewStore, TablesInMemory};
 use super::steps::are_joined;
