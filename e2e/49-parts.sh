@@ -1,5 +1,5 @@
 #!/usr/bin/env bash
-# Databases of parts of one file are asked as one, in any order.
+# Databases that hold blobs of one file are asked as one, in any order.
 . "$(dirname -- "${BASH_SOURCE[0]}")/begin.sh"
 . "$top/e2e/older.sh"
 two=$top/data/two-nodes.osm.pbf
@@ -44,14 +44,57 @@ expect "but with it" 0 "gap $last $size${nl}blobs $left end $last gaps 1${nl}" s
 expect "which an export is refused for" 1 "fault 67 Incomplete${nl}" export part-3.db part-2.db part-1.db --size "$size"
 expect "a size before the end" 1 "fault 70 PastEnd${nl}" export part-1.db part-2.db --size 98
 
-# databases that don't follow one another
-expect "one database twice" 1 "fault 71 Interleaved at 0${nl}" status part-1.db part-2.db part-1.db
-expect "its export" 1 "fault 71 Interleaved at 0${nl}" export part-1.db part-2.db part-1.db
-expect "its export, whatever is there" 1 "fault 71 Interleaved at 0${nl}" export part-1.db part-2.db part-1.db --partial
-expect "a part and the whole" 1 "fault 71 Interleaved at $second${nl}" status part-2.db whole.db
-expect "the whole and a part" 1 "fault 71 Interleaved at $second${nl}" export whole.db part-2.db --form pbf
+# the same blob in several databases
+expect "one database twice" 0 "blobs $(($(blobs_of 1) + $(blobs_of 2))) end $third gaps 0${nl}" status part-1.db part-2.db part-1.db
+"$pbfrow" export part-1.db part-2.db --partial > want.txt
+"$pbfrow" export part-1.db part-2.db part-1.db --partial > got.txt
+same "its export" got.txt want.txt
+expect "a part and the whole" 0 "blobs 12 end $size gaps 0${nl}" status part-2.db whole.db
+"$pbfrow" export part-2.db whole.db > got.txt
+same "their lines" got.txt whole.txt
+"$pbfrow" export whole.db part-2.db part-4.db whole.db --form pbf > got.osm.pbf
+same "the whole and parts as PBF" got.osm.pbf whole.osm.pbf
+
+# databases whose blobs come in turn: the first blobs, each second one in the other database
+"$pbfrow" list "$country" | awk '{ print $1 }' > from.txt
+{ tail -n +2 from.txt; echo "$size"; } | paste -d ' ' from.txt - > blobs.txt
+in_turn() {
+  local index=0 from to
+  rm -f turn-0.db turn-1.db
+  while read -r from to; do
+    tail -c +$((from + 1)) "$country" | head -c $((to - from)) | "$pbfrow" import /dev/stdin "turn-$((index % 2)).db" --at "$from" > got.txt
+    index=$((index + 1))
+  done < <(head -n "$1" blobs.txt)
+}
+in_turn 4
+read -r _ end < <(sed -n 4p blobs.txt)
+head -c "$end" "$country" > four.osm.pbf
+"$pbfrow" import four.osm.pbf four.db > got.txt
+expect "four blobs in turn" 0 "blobs 4 end $end gaps 0${nl}" status turn-1.db turn-0.db
+"$pbfrow" export four.db > want.txt
+"$pbfrow" export turn-0.db turn-1.db > got.txt
+same "their lines" got.txt want.txt
+"$pbfrow" export four.db --form pbf > want.osm.pbf
+"$pbfrow" export turn-1.db turn-0.db --form pbf > got.osm.pbf
+same "their PBF" got.osm.pbf want.osm.pbf
+in_turn 5
+read -r next _ < <(sed -n 2p blobs.txt)
+expect "five blobs in turn" 1 "fault 71 Interleaved at $next${nl}" status turn-0.db turn-1.db
+expect "their export" 1 "fault 71 Interleaved at $next${nl}" export turn-1.db turn-0.db
+expect "their export, whatever is there" 1 "fault 71 Interleaved at $next${nl}" export turn-0.db turn-1.db --partial --form pbf
+in_turn 12
+expect "all blobs in turn" 1 "fault 71 Interleaved at $next${nl}" status turn-0.db turn-1.db
+"$pbfrow" merge both.db turn-0.db turn-1.db > got.txt
+"$pbfrow" export both.db > got.txt
+same "a merge takes them" got.txt whole.txt
+
+# databases that aren't of one file
 "$pbfrow" import "$two" two-nodes.db > got.txt
-expect "databases of two files" 1 "fault 71 Interleaved at 0${nl}" status whole.db two-nodes.db
+expect "databases of two files" 1 "fault 63 Differs at 0${nl}" status whole.db two-nodes.db
+expect "their export, whatever is there" 1 "fault 63 Differs at 0${nl}" export two-nodes.db whole.db --partial
+tail -c +48 "$two" | "$pbfrow" import /dev/stdin over.db --at 50 > got.txt
+expect "a blob inside another" 1 "fault 64 Overlap at 50${nl}" status over.db whole.db
+expect "its export" 1 "fault 64 Overlap at 50${nl}" export whole.db over.db --form pbf
 
 # what is no part
 "$pbfrow" import "$two" some.db --from 47 > got.txt

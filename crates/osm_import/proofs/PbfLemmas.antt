@@ -7,12 +7,11 @@ use Rattle.osm_value.specs.declared.element.Element.{Element}
 use Rattle.osm_value.specs.Sink.{AppendsFront}
 use Rattle.osm_write.specs.Cutter.{StepOk, ComesToOne}
 use Rattle.osm_write.specs.Header.{header_block, plain_header, plain_header_is, historic_header, historic_header_is}
-use Rattle.osm_store.specs.Flags.{has_flags}
 use Rattle.osm_store.specs.Held.{Blob, HeldMap}
 use Rattle.osm_store.specs.declared.fault.StoreFault.{StoreFault}
 use Rattle.osm_import.specs.Exports.{Known, WritesBlob, IsUnbegun}
 use Rattle.osm_import.specs.Gaps.{Tiles}
-use Rattle.osm_import.specs.Pbf.{header_frame, data_frame, data_frames, Cuts, AreFramesOf, AreFirstFrames, WritesBlocks, IsPbfExport}
+use Rattle.osm_import.specs.Pbf.{header_frame, data_frame, data_frames, Cuts, AreFramesOf, AreFirstFrames, WritesBlocks, IsHeadedExport}
 use Rattle.osm_import.specs.Walks.{elements_at, WritesInTurn, Walks}
 use Rattle.osm_import.specs.declared.export.fault.ExportFault.{ExportFault}
 use Rattle.osm_import.specs.declared.export.fault.ExportFault.TheVariants.{Incomplete, PastEnd, WriteFailed, BlockTooLarge, Store}
@@ -128,53 +127,53 @@ none-yet : (held : HeldMap) → AreFirstFrames (entries held) [] (elements_at (e
 none-yet held = record { count = 0; before = []; blocks = []; whole = refl; cut = refl; joined = refl }
 
 -- nothing was written
-pub pbf-unbegun : (held : HeldMap) (size : ℕ) (partial : Bool) (text : Known) (fault : ExportFault) → IsUnbegun held size partial fault → IsPbfExport held size partial text text (Err fault)
-pbf-unbegun held size partial text (Store fault) h = ([], elements_at (entries held) 0, none-yet held, ([], header_frame (has_flags held) ++ [], refl, Appends-nil text), λ whole. inr refl)
-pbf-unbegun held size partial text (Incomplete from to) h = (h.0, refl, h.1)
-pbf-unbegun held size partial text (PastEnd fin) h = (h.0, refl, h.1)
-pbf-unbegun held size partial text WriteFailed h = absurd h
-pbf-unbegun held size partial text BlockTooLarge h = absurd h
+pub pbf-unbegun : (history : Bool) (held : HeldMap) (size : ℕ) (partial : Bool) (text : Known) (fault : ExportFault) → IsUnbegun held size partial fault → IsHeadedExport history held size partial text text (Err fault)
+pbf-unbegun history held size partial text (Store fault) h = ([], elements_at (entries held) 0, none-yet held, ([], header_frame history ++ [], refl, Appends-nil text), λ whole. inr refl)
+pbf-unbegun history held size partial text (Incomplete from to) h = (h.0, refl, h.1)
+pbf-unbegun history held size partial text (PastEnd fin) h = (h.0, refl, h.1)
+pbf-unbegun history held size partial text WriteFailed h = absurd h
+pbf-unbegun history held size partial text BlockTooLarge h = absurd h
 
 -- the header frame didn't go out whole
-pub pbf-no_header : (held : HeldMap) (size : ℕ) (partial : Bool) (before after : Known) (fault : ExportFault) → WritesBlob before (header_frame (has_flags held)) after (Err fault) → (partial ≡ false → Tiles held size) → IsPbfExport held size partial before after (Err fault)
-pbf-no_header held size partial before after WriteFailed wrote tiles =
-    ([], elements_at (entries held) 0, none-yet held, subst (λ (text : List ℕ). AppendsFront before after text) (sym (append-nil (header_frame (has_flags held)))) wrote, tiles)
-pbf-no_header held size partial before after (Store fault) wrote tiles =
-    subst (λ (k : Known). IsPbfExport held size partial before k (Err (Store fault))) (sym wrote) (pbf-unbegun held size partial before (Store fault) tt)
-pbf-no_header held size partial before after BlockTooLarge wrote tiles = absurd wrote
-pbf-no_header held size partial before after (Incomplete from to) wrote tiles = absurd wrote
-pbf-no_header held size partial before after (PastEnd fin) wrote tiles = absurd wrote
+pub pbf-no_header : (history : Bool) (held : HeldMap) (size : ℕ) (partial : Bool) (before after : Known) (fault : ExportFault) → WritesBlob before (header_frame history) after (Err fault) → (partial ≡ false → Tiles held size) → IsHeadedExport history held size partial before after (Err fault)
+pbf-no_header history held size partial before after WriteFailed wrote tiles =
+    ([], elements_at (entries held) 0, none-yet held, subst (λ (text : List ℕ). AppendsFront before after text) (sym (append-nil (header_frame history))) wrote, tiles)
+pbf-no_header history held size partial before after (Store fault) wrote tiles =
+    subst (λ (k : Known). IsHeadedExport history held size partial before k (Err (Store fault))) (sym wrote) (pbf-unbegun history held size partial before (Store fault) tt)
+pbf-no_header history held size partial before after BlockTooLarge wrote tiles = absurd wrote
+pbf-no_header history held size partial before after (Incomplete from to) wrote tiles = absurd wrote
+pbf-no_header history held size partial before after (PastEnd fin) wrote tiles = absurd wrote
 
 behind-header : (history : Bool) (before middle after : Known) (bytes : List ℕ) → Appends before middle (header_frame history) → AppendsFront middle after bytes → AppendsFront before after (header_frame history ++ bytes)
 behind-header history before middle after bytes header front =
     front-of-piece before middle after (header_frame history) bytes [] (header_frame history ++ bytes) header (append-nil (header_frame history ++ bytes)) front
 
 -- a walk over all blobs, behind the header
-pub pbf-exported : (held : HeldMap) (size : ℕ) (partial : Bool) (before middle after : Known) (result : Result (Unit {0}) ExportFault) → Appends before middle (header_frame (has_flags held))
-    → Walks WritesBlocks middle (entries held) after result → (partial ≡ false → Tiles held size) → IsPbfExport held size partial before after result
-pbf-exported held size partial before middle after (Ok _) header walk tiles =
+pub pbf-exported : (history : Bool) (held : HeldMap) (size : ℕ) (partial : Bool) (before middle after : Known) (result : Result (Unit {0}) ExportFault) → Appends before middle (header_frame history)
+    → Walks WritesBlocks middle (entries held) after result → (partial ≡ false → Tiles held size) → IsHeadedExport history held size partial before after result
+pbf-exported history held size partial before middle after (Ok _) header walk tiles =
     let all = frames-in-turn (entries held) middle after walk in
-    (all.bytes, all.frames, Appends-trans before middle after (header_frame (has_flags held)) all.bytes header all.wrote, tiles)
-pbf-exported held size partial before middle after (Err WriteFailed) header walk tiles =
+    (all.bytes, all.frames, Appends-trans before middle after (header_frame history) all.bytes header all.wrote, tiles)
+pbf-exported history held size partial before middle after (Err WriteFailed) header walk tiles =
     let made = walk.stopped in
     let front = front-of (entries held) walk.count middle walk.middle after (frames-in-turn (take walk.count (entries held)) middle walk.middle walk.turns) made.0 made.1 made.2 made.3 in
-    (front.0, front.1, front.2, behind-header (has_flags held) before middle after front.0 header front.3, tiles)
-pbf-exported held size partial before middle after (Err BlockTooLarge) header walk tiles =
+    (front.0, front.1, front.2, behind-header history before middle after front.0 header front.3, tiles)
+pbf-exported history held size partial before middle after (Err BlockTooLarge) header walk tiles =
     let made = walk.stopped in
     let so_far = frames-in-turn (take walk.count (entries held)) middle walk.middle walk.turns in (
       so_far.bytes ++ data_frames made.0,
       made.1,
       first-frames (entries held) walk.count so_far.bytes made.0 made.1 so_far.frames made.2,
       made.3,
-      Appends-trans before middle after (header_frame (has_flags held)) (so_far.bytes ++ data_frames made.0) header (Appends-trans middle walk.middle after so_far.bytes (data_frames made.0) so_far.wrote made.4),
+      Appends-trans before middle after (header_frame history) (so_far.bytes ++ data_frames made.0) header (Appends-trans middle walk.middle after so_far.bytes (data_frames made.0) so_far.wrote made.4),
       tiles,
     )
-pbf-exported held size partial before middle after (Err (Store fault)) header walk tiles =
+pbf-exported history held size partial before middle after (Err (Store fault)) header walk tiles =
     let so_far = frames-in-turn (take walk.count (entries held)) middle walk.middle walk.turns in
     let front : FrontOf middle (entries held) after = elim walk.stopped [
       | inl same ↦ front-before (entries held) walk.count middle walk.middle after so_far same
       | inr made ↦ front-of (entries held) walk.count middle walk.middle after so_far made.0 made.1 made.2 made.3
     ] in
-    (front.0, front.1, front.2, behind-header (has_flags held) before middle after front.0 header front.3, λ whole. inl (tiles whole))
-pbf-exported held size partial before middle after (Err (Incomplete from to)) header walk tiles = absurd walk.stopped
-pbf-exported held size partial before middle after (Err (PastEnd fin)) header walk tiles = absurd walk.stopped
+    (front.0, front.1, front.2, behind-header history before middle after front.0 header front.3, λ whole. inl (tiles whole))
+pbf-exported history held size partial before middle after (Err (Incomplete from to)) header walk tiles = absurd walk.stopped
+pbf-exported history held size partial before middle after (Err (PastEnd fin)) header walk tiles = absurd walk.stopped

@@ -58,20 +58,25 @@ WritesBlocks before elements after (Err (Store fault)) = (blocks : List (List �
 WritesBlocks before elements after (Err (Incomplete from to)) = ⊥
 WritesBlocks before elements after (Err (PastEnd fin)) = ⊥
 
--- What an export as PBF has done: the header frame, with history where an element has a flag, and the frames of all held
--- blobs went out; or those up to the place where a cutter came to an element whose block alone is too large; or a front
--- of that where a write failed or at a store fault; nothing where it is refused. Unless partial, what is held tiles the size, or a store fault came before any byte.
+-- What an export as PBF has done behind a header that asks for history or not: that header's frame and the frames of all
+-- held blobs went out; or those up to the place where a cutter came to an element whose block alone is too large; or a
+-- front of that where a write failed or at a store fault; nothing where it is refused. Unless partial, what is held tiles
+-- the size, or a store fault came before any byte.
+abbrev pub IsHeadedExport : Bool → HeldMap → ℕ → Bool → Known → Known → Result (Unit {0}) ExportFault → Type 0
+IsHeadedExport history held size partial before after (Ok _) =
+    (bytes : List ℕ) × AreFramesOf (entries held) bytes × Appends before after (header_frame history ++ bytes) × (partial ≡ false → Tiles held size)
+IsHeadedExport history held size partial before after (Err WriteFailed) =
+    (bytes : List ℕ) × (rest : List Element) × AreFirstFrames (entries held) bytes rest × AppendsFront before after (header_frame history ++ bytes) × (partial ≡ false → Tiles held size)
+IsHeadedExport history held size partial before after (Err BlockTooLarge) =
+    (bytes : List ℕ) × (rest : List Element) × AreFirstFrames (entries held) bytes rest × ComesToOne rest × Appends before after (header_frame history ++ bytes) × (partial ≡ false → Tiles held size)
+IsHeadedExport history held size partial before after (Err (Store fault)) =
+    (bytes : List ℕ) × (rest : List Element) × AreFirstFrames (entries held) bytes rest × AppendsFront before after (header_frame history ++ bytes) × IsGuarded held size partial before after
+IsHeadedExport history held size partial before after (Err (Incomplete from to)) = (partial ≡ false) × (after ≡ before) × IsRefusal held size (Incomplete from to)
+IsHeadedExport history held size partial before after (Err (PastEnd fin)) = (partial ≡ false) × (after ≡ before) × IsRefusal held size (PastEnd fin)
+
+-- what an export as PBF has done: its header asks for history where an element has a flag
 abbrev pub IsPbfExport : HeldMap → ℕ → Bool → Known → Known → Result (Unit {0}) ExportFault → Type 0
-IsPbfExport held size partial before after (Ok _) =
-    (bytes : List ℕ) × AreFramesOf (entries held) bytes × Appends before after (header_frame (has_flags held) ++ bytes) × (partial ≡ false → Tiles held size)
-IsPbfExport held size partial before after (Err WriteFailed) =
-    (bytes : List ℕ) × (rest : List Element) × AreFirstFrames (entries held) bytes rest × AppendsFront before after (header_frame (has_flags held) ++ bytes) × (partial ≡ false → Tiles held size)
-IsPbfExport held size partial before after (Err BlockTooLarge) =
-    (bytes : List ℕ) × (rest : List Element) × AreFirstFrames (entries held) bytes rest × ComesToOne rest × Appends before after (header_frame (has_flags held) ++ bytes) × (partial ≡ false → Tiles held size)
-IsPbfExport held size partial before after (Err (Store fault)) =
-    (bytes : List ℕ) × (rest : List Element) × AreFirstFrames (entries held) bytes rest × AppendsFront before after (header_frame (has_flags held) ++ bytes) × IsGuarded held size partial before after
-IsPbfExport held size partial before after (Err (Incomplete from to)) = (partial ≡ false) × (after ≡ before) × IsRefusal held size (Incomplete from to)
-IsPbfExport held size partial before after (Err (PastEnd fin)) = (partial ≡ false) × (after ≡ before) × IsRefusal held size (PastEnd fin)
+IsPbfExport held size partial before after result = IsHeadedExport (has_flags held) held size partial before after result
 
 -- At Ok the bytes that are written are a file, and where they are 2^62 at most, its elements are the file's; and it isn't refused.
 abbrev pub WritesPbfFile : List (List ℕ) → Known → Known → Result (Unit {0}) ExportFault → Type 0

@@ -1,7 +1,8 @@
 -- One walk over held blobs, whatever an export writes of each.
-use Rattle.std.specs.Prelude.{◌≡◌, ◌⊎◌, ℕ, zero, suc, ◌<◌, List, [], ◌∷◌, length, take, Result, Ok, Err}
+use Rattle.std.specs.Prelude.{◌≡◌, ◌⊎◌, ℕ, zero, suc, ◌<◌, List, [], ◌∷◌, length, take, Some, Result, Ok, Err}
+use Rattle.std.specs.FinMap.{get}
 use Rattle.osm_value.specs.declared.element.Element.{Element}
-use Rattle.osm_store.specs.Held.{Blob}
+use Rattle.osm_store.specs.Held.{Blob, HeldMap}
 use Rattle.osm_import.specs.Exports.{Known}
 use Rattle.osm_import.specs.declared.export.fault.ExportFault.{ExportFault}
 use Rattle.osm_import.specs.declared.export.fault.ExportFault.TheVariants.{Incomplete, PastEnd, WriteFailed, BlockTooLarge, Store}
@@ -9,6 +10,10 @@ use Rattle.osm_import.specs.declared.export.fault.ExportFault.TheVariants.{Incom
 -- what is done, at a blob with these elements, to what was written before
 abbrev pub Writing : Type 1
 Writing = Known → List Element → Known → Result (Unit {0}) ExportFault → Type 0
+
+-- each blob of the run is held there by the store as well
+abbrev pub IsWithin : HeldMap → HeldMap → Type 0
+IsWithin run held = (off : ℕ) (blob : Blob) → get run off ≡ Some blob → get held off ≡ Some blob
 
 -- the elements of the blob at a place in the list, none behind the last
 abbrev pub elements_at : List (ℕ × Blob) → ℕ → List Element

@@ -14,10 +14,9 @@ use Rattle.osm_import.specs.declared.export.fault.ExportFault.TheVariants.{Incom
 use Rattle.osm_parts.specs.Opening.{AddsUp}
 use Rattle.osm_parts.specs.Parts.{AreParts, entries_in}
 use Rattle.osm_parts.specs.Reading.{IsPart, AreEach, AreRead}
-use Rattle.osm_parts.specs.declared.reading.Part.{Part}
+use Rattle.osm_parts.specs.declared.runs.Part.{Part}
 use Rattle.osm_parts.proofs.PartsLemmas.{parts-join}
 use Rattle.osm_parts.proofs.OpeningLemmas.{cause-closed, cause-later}
-use Rattle.osm_parts.proofs.ReadingLemmas.{read-parts}
 
 -- ---- one part
 
@@ -31,7 +30,7 @@ some-held held at blob found = some (entries held) (sym (get-entries held at) �
 -- a store that wasn't opened
 pub unopened : (Writes : Writing) (before : Known) (maps : List HeldMap) (asked : Bool) (part : Part) (held : HeldMap) (fault : StoreFault) → IsPart maps asked part held → Walks Writes before (entries held) before (Err (Store fault))
 unopened Writes before maps asked part held fault is =
-    record { count = 0; middle = before; here = some-held held part.from is.begins.0 is.begins.1; turns = refl; stopped = inl refl }
+    record { count = 0; middle = before; here = some-held held is.filled.0 is.filled.1 is.filled.2; turns = refl; stopped = inl refl }
 
 -- ---- part after part
 
@@ -118,10 +117,10 @@ all-turns Writes maps asked parts ordered i before after each long turns =
 
 -- ---- the whole
 
-pub walks-whole : (Writes : Writing) (maps : List HeldMap) (asked : Bool) (parts : List Part) (whole : HeldMap) (before after : Known) (result : Result (Unit {0}) ExportFault) → (read : AreRead maps asked parts) → AreParts maps whole
+pub walks-whole : (Writes : Writing) (maps : List HeldMap) (asked : Bool) (parts : List Part) (whole : HeldMap) (before after : Known) (result : Result (Unit {0}) ExportFault) → (read : AreRead maps asked parts) → AreParts read.ordered whole
     → Walks Writes before (entries_in read.ordered) after result → Walks Writes before (entries whole) after result
 walks-whole Writes maps asked parts whole before after result read are walk =
-    subst (λ (es : List (ℕ × Blob)). Walks Writes before es after result) (sym (parts-join read.ordered whole 0 read.follow (read-parts maps asked parts whole read are))) walk
+    subst (λ (es : List (ℕ × Blob)). Walks Writes before es after result) (sym (parts-join read.ordered whole 0 read.follow are)) walk
 
 -- ---- why it fails
 

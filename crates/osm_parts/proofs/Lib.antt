@@ -1,8 +1,10 @@
 pub mod PartsLemmas
 pub mod WholeLemmas
 pub mod Orders
-pub mod PlacingLemmas
+pub mod PieceLemmas
 pub mod ReadingLemmas
+pub mod RunLemmas
+pub mod FlagLemmas
 pub mod OpeningLemmas
 pub mod ExportingLemmas
 pub mod ShelfLemmas

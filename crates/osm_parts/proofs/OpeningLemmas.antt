@@ -1,13 +1,12 @@
 -- A store that is opened, read and closed.
-use Rattle.std.proofs.Common.{◌≡◌, ◌⊎◌, ℕ, ◌+◌, ◌<◌, ◌≤◌, ◌^◌, ◌-◌, List, slice_get, Some, Result, Ok, Err, sym, ◌∙◌, subst, inl, inr, arith}
+use Rattle.std.proofs.Common.{◌≡◌, ℕ, ◌≤◌, List, slice_get, Some, Result, Ok, Err, sym, ◌∙◌, subst, inl, inr, arith}
 use Rattle.std.specs.Prelude.{OnOk, IfErr, IsErrAnd}
 use Rattle.osm_store.specs.Held.{HeldMap}
-use Rattle.osm_store.specs.Keeping.{failures_after}
 use Rattle.osm_store.specs.declared.fault.StoreFault.{StoreFault}
 use Rattle.osm_store.specs.declared.keeper.Reader.{Ghosts}
 use Rattle.osm_import.specs.Step.{HasCause}
 use Rattle.osm_import.specs.Stores.{Rereads}
-use Rattle.osm_parts.specs.Opening.{IsLent, KeepsMaps, OnlyOpens, AddsUp}
+use Rattle.osm_parts.specs.Opening.{IsLent, OnlyOpens, AddsUp}
 
 -- what `?` has handed on
 pub if-err : {T E : Type 0} (r : Result T E) (e : E) (P : E → Type 0) → IsErrAnd r (λ y. y ≡ e) → P e → IfErr r P

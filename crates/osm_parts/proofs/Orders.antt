@@ -1,5 +1,5 @@
 -- Parts in another order.
-use Rattle.std.proofs.Common.{◌≡◌, ◌≢◌, ◌⊎◌, ℕ, zero, suc, ◌<◌, ◌≤◌, List, [], ◌∷◌, length, get_or, slice_get, Some, refl, sym, ◌∙◌, ap, subst, inl, inr, arith}
+use Rattle.std.proofs.Common.{◌≡◌, ◌≢◌, ◌⊎◌, ℕ, zero, suc, ◌<◌, ◌≤◌, List, [], ◌∷◌, length, get_or, slice_get, Some, refl, sym, ◌∙◌, ap, inl, inr, arith}
 use Rattle.std.specs.List.{swap}
 use Rattle.std.specs.Prelude.{IsPermutation}
 use Rattle.std.specs.FinMap.{get}
@@ -9,7 +9,7 @@ use Rattle.std.proofs.lemmas.List.Sorted.{IsPermutation-keeps}
 use Rattle.std.proofs.lemmas.Option.{slice_get_within, get_or_from_slice_get, slice_get-get_or}
 use Rattle.osm_store.specs.Held.{Blob, HeldMap}
 use Rattle.osm_parts.specs.Parts.{FollowFrom, IsInPart}
-use Rattle.osm_parts.specs.Interleaved.{NoneFollows, AreInterleaved}
+use Rattle.osm_parts.specs.Interleaved.{NoneFollows}
 use Rattle.osm_parts.proofs.PartsLemmas.{in_part-lies}
 
 -- ---- two places of a list
@@ -72,7 +72,7 @@ in-at [] i held off blob at found = absurd (cc)
 in-at (map ∷ maps) zero held off blob at found = let same : map ≡ held = cc in inl (ap (λ (m : HeldMap). get m off) same ∙ found)
 in-at (map ∷ maps) (suc i) held off blob at found = inr (in-at maps i held off blob at found)
 
-follow-apart : (from : ℕ) (maps : List HeldMap) (i j : ℕ) (first second : HeldMap) (at next : ℕ) (blob other : Blob) → FollowFrom from maps → slice_get maps i ≡ Some first → slice_get maps j ≡ Some second
+pub follow-apart : (from : ℕ) (maps : List HeldMap) (i j : ℕ) (first second : HeldMap) (at next : ℕ) (blob other : Blob) → FollowFrom from maps → slice_get maps i ≡ Some first → slice_get maps j ≡ Some second
     → i < j → get first at ≡ Some blob → get second next ≡ Some other → blob.fin ≤ next
 follow-apart from [] i j first second at next blob other follow one two low found also = absurd (cc)
 follow-apart from (map ∷ maps) zero zero first second at next blob other follow one two low found also = absurd (omega arith)

@@ -24,7 +24,7 @@ use Rattle.osm_import.proofs.GapsLemmas.{gaps-between}
 -- ---- ascending entries
 
 -- the keys rise, from this one on
-abbrev Rise : ℕ → List (ℕ × Blob) → Type 0
+abbrev pub Rise : ℕ → List (ℕ × Blob) → Type 0
 Rise from [] = Unit {0}
 Rise from (e ∷ es) = (from ≤ e.0) × Rise (e.0 + 1) es
 
@@ -32,7 +32,7 @@ abbrev EndBy : ℕ → List (ℕ × Blob) → Type 0
 EndBy to [] = Unit {0}
 EndBy to (e ∷ es) = (e.0 < to) × EndBy to es
 
-rise-later : (from later : ℕ) (es : List (ℕ × Blob)) → from ≤ later → Rise later es → Rise from es
+pub rise-later : (from later : ℕ) (es : List (ℕ × Blob)) → from ≤ later → Rise later es → Rise from es
 rise-later from later [] le rise = tt
 rise-later from later (e ∷ es) le rise = (let h : later ≤ e.0 = rise.0 in omega arith, rise.1)
 
@@ -51,7 +51,7 @@ rise-below : (x from : ℕ) (es : List (ℕ × Blob)) → x < from → Rise from
 rise-below x from [] l rise = tt
 rise-below x from (e ∷ es) l rise = let h : from ≤ e.0 = rise.0 in both-hold _ _ (less-is x e.0 (omega arith)) (rise-below x (e.0 + 1) es (omega arith) rise.1)
 
-rise-sorted : (from : ℕ) (es : List (ℕ × Blob)) → Rise from es → T (is_sorted nat_cmp es)
+pub rise-sorted : (from : ℕ) (es : List (ℕ × Blob)) → Rise from es → T (is_sorted nat_cmp es)
 rise-sorted from [] rise = tt
 rise-sorted from (e ∷ es) rise = both-hold _ _ (rise-below e.0 (e.0 + 1) es (omega arith) rise.1) (rise-sorted (e.0 + 1) es rise.1)
 

@@ -4,7 +4,7 @@ use Rattle.std.proofs.lemmas.Bool.Decides.{eqb_tells}
 use Rattle.std.proofs.lemmas.Option.{slice_get_within}
 use Rattle.osm_store.specs.Held.{HeldMap}
 use Rattle.osm_parts.specs.Shelves.{HoldsEach, LendsOne, AllAreIn}
-use Rattle.osm_parts.proofs.ReadingLemmas.{held-at}
+use Rattle.osm_parts.proofs.PieceLemmas.{held-at}
 
 same-set : {X : Type 0} (xs : List X) (i : ℕ) (x y : X) → slice_get xs i ≡ Some x → slice_get (set xs i y) i ≡ Some y
 same-set [] i x y at = absurd (cc)

@@ -1,11 +1,9 @@
 -- The one map whose parts follow one another.
-use Rattle.std.proofs.Common.{◌≡◌, ℕ, List, Some, sym, ◌∙◌}
-use Rattle.std.specs.Ordering.{nat_cmp}
+use Rattle.std.proofs.Common.{sym, ◌∙◌}
 use Rattle.std.specs.Cmp.{nat_cmp_total}
-use Rattle.std.specs.FinMap.{get, from_entries, get-from_entries}
-use Rattle.osm_store.specs.Held.{Blob, HeldMap}
+use Rattle.std.specs.FinMap.{from_entries, get-from_entries}
 use Rattle.osm_import.proofs.MergeLemmas.{one_map}
-use Rattle.osm_parts.specs.Parts.{FollowFrom, AreParts, entries_in}
+use Rattle.osm_parts.specs.Parts.{entries_in}
 use Rattle.osm_parts.specs.Interleaved.{WholeExists, WholeIsOne}
 use Rattle.osm_parts.proofs.PartsLemmas.{in_part-found, found-in_part}
 

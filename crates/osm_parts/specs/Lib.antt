@@ -1,7 +1,10 @@
 pub mod Parts
 pub mod Interleaved
+pub mod Unions
+pub mod Conflicts
 pub mod Opening
-pub mod Placing
+pub mod Pieces
+pub mod Runs
 pub mod Reading
 pub mod PartsFaults
 pub mod Shelves

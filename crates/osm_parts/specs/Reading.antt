@@ -1,47 +1,45 @@
--- Stores that were read as the parts of one map.
+-- Stores that were read as one map, run by run.
 use Rattle.std.specs.Prelude.{◌≡◌, ℕ, Bool, ◌&&◌, List, [], ◌∷◌, ◌++◌, Some, slice_get}
 use Rattle.std.specs.FinMap.{get}
 use Rattle.osm_store.specs.Flags.{has_flags}
 use Rattle.osm_store.specs.Held.{Blob, HeldMap, IsApart}
 use Rattle.osm_store.specs.Keeping.{extents_of}
 use Rattle.osm_store.specs.declared.keeper.Extent.{Extent}
-use Rattle.osm_import.specs.Exports.{greatest_end}
-use Rattle.osm_parts.specs.Parts.{LiesIn, FollowFrom, IsInPart}
-use Rattle.osm_parts.specs.Placing.{first_offset}
-use Rattle.osm_parts.specs.declared.reading.Part.{Part}
+use Rattle.osm_parts.specs.Parts.{FollowFrom}
+use Rattle.osm_import.specs.Walks.{IsWithin}
+use Rattle.osm_parts.specs.Unions.{AreCovered}
+use Rattle.osm_parts.specs.declared.runs.Part.{Part}
 
 -- what is read of the store at a place that holds this map
 pub record IsReadOf (asked : Bool) (place : ℕ) (held : HeldMap) (part : Part) : Type 0 where
   pub placed : part.place ≡ place
-  pub from : part.from ≡ first_offset part.extents.items
-  pub to : part.to ≡ greatest_end part.extents.items
   pub extents : part.extents.items ≡ extents_of held
   pub history : part.history ≡ (asked && has_flags held)
 
--- The part is the map at its place, which holds something: a blob where the part begins, one that ends where it ends, and
--- all between. Whether an element has a flag of visibility is told where that is asked.
-pub record IsPart (maps : List HeldMap) (asked : Bool) (part : Part) (held : HeldMap) : Type 0 where
-  pub at : slice_get maps part.place ≡ Some held
-  pub extents : part.extents.items ≡ extents_of held
-  pub history : part.history ≡ (asked && has_flags held)
-  pub begins : (blob : Blob) × (get held part.from ≡ Some blob)
-  pub ends : (at : ℕ) × (blob : Blob) × (get held at ≡ Some blob) × (blob.fin ≡ part.to)
-  pub lies : LiesIn part.from part.to held
-  pub apart : IsApart held
+-- The part is a run of the store at its place: a map of some of its blobs, at least one, with their extents. Whether an
+-- element of that store has a flag of visibility is told where that is asked.
+pub record IsPart (maps : List HeldMap) (asked : Bool) (part : Part) (run : HeldMap) : Type 0 where
+  pub store : HeldMap
+  pub at : slice_get maps part.place ≡ Some store
+  pub within : IsWithin run store
+  pub extents : part.extents.items ≡ extents_of run
+  pub history : part.history ≡ (asked && has_flags store)
+  pub filled : (off : ℕ) × (blob : Blob) × (get run off ≡ Some blob)
+  pub apart : IsApart run
 
 -- each of them, in order
 abbrev pub AreEach : List HeldMap → Bool → List Part → List HeldMap → Type 0
 AreEach maps asked [] [] = Unit {0}
-AreEach maps asked [] (held ∷ ordered) = ⊥
+AreEach maps asked [] (run ∷ ordered) = ⊥
 AreEach maps asked (part ∷ parts) [] = ⊥
-AreEach maps asked (part ∷ parts) (held ∷ ordered) = IsPart maps asked part held × AreEach maps asked parts ordered
+AreEach maps asked (part ∷ parts) (run ∷ ordered) = IsPart maps asked part run × AreEach maps asked parts ordered
 
--- The parts are those of these maps that hold something, in an order in which they follow one another.
+-- The parts are runs that follow one another, and each blob of the maps is in one of them: it, or one of the same extent.
 pub record AreRead (maps : List HeldMap) (asked : Bool) (parts : List Part) : Type 0 where
   pub ordered : List HeldMap
   pub each : AreEach maps asked parts ordered
   pub follow : FollowFrom 0 ordered
-  pub all : (off : ℕ) (blob : Blob) → IsInPart maps off blob → IsInPart ordered off blob
+  pub all : AreCovered maps ordered
 
 -- the extents of the parts, one part after the other
 abbrev pub joined_extents : List Part → List Extent

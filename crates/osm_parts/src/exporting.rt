@@ -8,14 +8,16 @@ ghost use Rattle.osm_store.specs.Keeping.{extents_of};
 ghost use Rattle.osm_import.specs.ExportCauses.{ExportHasCause, ExportIsOwn, WriteHasCause};
 ghost use Rattle.osm_import.specs.Exports.{IsExport, IsUnbegun, size_of};
 ghost use Rattle.osm_import.specs.Gaps.{Tiles};
-ghost use Rattle.osm_import.specs.Pbf.{IsPbfExport};
+ghost use Rattle.osm_import.specs.Pbf.{IsHeadedExport};
 ghost use Rattle.osm_import.specs.Walks.{Walks};
 ghost use Rattle.osm_parts.specs.Opening.{OnlyOpens};
 ghost use Rattle.osm_parts.specs.Parts.{AreParts, entries_in};
 ghost use Rattle.osm_parts.specs.Reading.{IsPart, AreEach, AreRead};
+ghost use Rattle.osm_parts.specs.Unions.{IsHistoryOf};
 
 use crate::openings::Openings;
-use crate::reading::{Part, extents_of_parts};
+use crate::reading::extents_of_parts;
+use crate::runs::Part;
 use osm_import::{BlobStep, Blocks, ExportFault, Lines, refused, write_blobs, write_header};
 use osm_store::Reader;
 use osm_value::Sink;
@@ -29,8 +31,8 @@ fn write_part<K: Reader + Drop, O: Openings<K>, S: Sink, W: BlobStep<S>>(
     step: &W,
     out: &mut S,
 ) -> Result<(), ExportFault>
-    ensures wrote { (maps : List HeldMap) (asked : Bool) (held : HeldMap) → O.holds openings.old maps → O.is_honest openings.new → IsPart maps asked part.now held
-        → Walks W.writes (S.written out.old) (entries held) (S.written out.new) result }
+    ensures wrote { (maps : List HeldMap) (asked : Bool) (run : HeldMap) → O.holds openings.old maps → O.is_honest openings.new → IsPart maps asked part.now run
+        → Walks W.writes (S.written out.old) (entries run) (S.written out.new) result }
     ensures opens { OnlyOpens O.holds O.is_honest O.is_open openings.old result openings.new }
     ensures own { (maps : List HeldMap) → O.holds openings.old maps → O.is_honest openings.new → ExportIsOwn result }
     ensures cause { ExportHasCause (O.failures openings.old) (O.failures openings.new) (S.has_failed out.new) result }
@@ -71,9 +73,9 @@ fn refuse_untiled(
     size: Option<u64>,
     partial: bool,
 ) -> Result<(), ExportFault>
-    ensures tiled { (maps : List HeldMap) (asked : Bool) (whole : HeldMap) → AreRead maps asked parts.now → AreParts maps whole → partial ≡ false
+    ensures tiled { (maps : List HeldMap) (asked : Bool) (whole : HeldMap) (read : AreRead maps asked parts.now) → AreParts read.ordered whole → partial ≡ false
         → OnOk result (Tiles whole (size_of size (extents_of whole))) }
-    ensures refused { (maps : List HeldMap) (asked : Bool) (whole : HeldMap) → AreRead maps asked parts.now → AreParts maps whole
+    ensures refused { (maps : List HeldMap) (asked : Bool) (whole : HeldMap) (read : AreRead maps asked parts.now) → AreParts read.ordered whole
         → IfErr result (IsUnbegun whole (size_of size (extents_of whole)) partial) }
     ensures cause { WriteHasCause false result }
 {
@@ -87,7 +89,7 @@ fn refuse_untiled(
     }
 }
 
-/// Whether an element of a part has a flag of visibility.
+/// Whether an element of one of these stores has a flag of visibility.
 fn have_history(parts: &[Part]) -> bool
     ensures { result ≡ list_any (λ part. part.history) parts.now }
 {
@@ -95,8 +97,8 @@ fn have_history(parts: &[Part]) -> bool
 }
 
 /// Writes the lines of all that the stores of these parts hold, by offset and position: what `export_lines` writes of one
-/// store that holds all of their blobs, with the same refusals, before any byte. `parts` are what `read_parts` has read of
-/// these stores. Each store is opened once more, one after the other, and what it holds stays.
+/// store that holds all of their blobs, each once, with the same refusals, before any byte. `parts` are what `read_parts`
+/// has read of these stores. For each run its store is opened once more, one after the other, and what it holds stays.
 ///
 /// After `WriteFailed` a front of the text went out, and after `Store` the lines of the blobs before; it is also the answer
 /// where a store isn't opened.
@@ -108,7 +110,7 @@ pub fn export_parts_as_lines<K: Reader + Drop, O: Openings<K>, S: Sink>(
     partial: bool,
     out: &mut S,
 ) -> Result<(), ExportFault>
-    ensures export { (maps : List HeldMap) (asked : Bool) (whole : HeldMap) → O.holds openings.old maps → O.is_honest openings.new → AreRead maps asked parts.now → AreParts maps whole
+    ensures export { (maps : List HeldMap) (asked : Bool) (whole : HeldMap) → O.holds openings.old maps → O.is_honest openings.new → (read : AreRead maps asked parts.now) → AreParts read.ordered whole
         → IsExport whole (size_of size (extents_of whole)) partial (S.written out.old) (S.written out.new) result }
     ensures opens { OnlyOpens O.holds O.is_honest O.is_open openings.old result openings.new }
     ensures own { (maps : List HeldMap) → O.holds openings.old maps → O.is_honest openings.new → ExportIsOwn result }
@@ -119,8 +121,8 @@ pub fn export_parts_as_lines<K: Reader + Drop, O: Openings<K>, S: Sink>(
 }
 
 /// Writes all that the stores of these parts hold as one PBF file: what `export_pbf` writes of one store that holds all of
-/// their blobs, with the same refusals, before any byte. `parts` are what `read_parts` has read of these stores with
-/// `asks_history`. Each store is opened once more, one after the other, and what it holds stays.
+/// their blobs, each once, with the same refusals, before any byte. `parts` are what `read_parts` has read of these stores
+/// with `asks_history`. For each run its store is opened once more, one after the other, and what it holds stays.
 ///
 /// After `BlockTooLarge` the frames before the element that is too large went out, and after `WriteFailed` and `Store` a
 /// front of what was to be written.
@@ -132,8 +134,8 @@ pub fn export_parts_as_pbf<K: Reader + Drop, O: Openings<K>, S: Sink>(
     partial: bool,
     out: &mut S,
 ) -> Result<(), ExportFault>
-    ensures export { (maps : List HeldMap) (whole : HeldMap) → O.holds openings.old maps → O.is_honest openings.new → AreRead maps true parts.now → AreParts maps whole
-        → IsPbfExport whole (size_of size (extents_of whole)) partial (S.written out.old) (S.written out.new) result }
+    ensures export { (maps : List HeldMap) (whole : HeldMap) → O.holds openings.old maps → O.is_honest openings.new → (read : AreRead maps true parts.now) → AreParts read.ordered whole
+        → (history : Bool) × IsHistoryOf maps whole history × IsHeadedExport history whole (size_of size (extents_of whole)) partial (S.written out.old) (S.written out.new) result }
     ensures opens { OnlyOpens O.holds O.is_honest O.is_open openings.old result openings.new }
     ensures own { (maps : List HeldMap) → O.holds openings.old maps → O.is_honest openings.new → ExportIsOwn result }
     ensures cause { ExportHasCause (O.failures openings.old) (O.failures openings.new) (S.has_failed out.new) result }

@@ -1,6 +1,7 @@
 //! What the definitions imply: theorems, with no code.
 
 ghost use Rattle.osm_parts.specs.Interleaved.{WholeExists, WholeIsOne, NoneFollows};
+ghost use Rattle.osm_parts.specs.Unions.{UnionIsWhole};
 ghost use Rattle.osm_parts.specs.Parts.{PartsJoin, ExtentsJoin, LinesJoin, FramesJoin, GapsJoin, ImportsAreParts};
 
 /// Where a map's parts follow one another, what is read of them in turn is what is read of the map: its entries, its
@@ -20,4 +21,9 @@ pub fn parts_that_follow_are_one_map()
     ensures exists { WholeExists }
     ensures one { WholeIsOne }
     ensures interleaved { NoneFollows }
+{}
+
+/// Where maps are the parts of one map, it is their only union.
+pub fn a_union_of_parts_is_their_map()
+    ensures { UnionIsWhole }
 {}

@@ -5,12 +5,14 @@ mod exporting;
 mod fault;
 pub mod laws;
 mod openings;
-mod placing;
+mod pieces;
 mod reading;
+mod runs;
 mod shelf;
 
 pub use exporting::{export_parts_as_lines, export_parts_as_pbf};
 pub use fault::PartsFault;
 pub use openings::Openings;
-pub use reading::{Part, extents_of_parts, gaps_of_parts, read_parts};
+pub use reading::{extents_of_parts, gaps_of_parts, read_parts};
+pub use runs::Part;
 pub use shelf::Shelf;

@@ -1,6 +1,6 @@
 //! What several stores hold together, read of one after the other.
 
-ghost use Rattle.std.specs.Prelude.{◌≡◌, ◌≤◌, Bool, ◌&&◌, List, Some, IfOk, IfErr, length, slice_get};
+ghost use Rattle.std.specs.Prelude.{◌≡◌, ◌≤◌, ℕ, Bool, ◌&&◌, List, Some, IfOk, IfErr, length, slice_get};
 ghost use Rattle.osm_store.specs.Flags.{has_flags};
 ghost use Rattle.osm_store.specs.Held.{HeldMap, IsApart};
 ghost use Rattle.osm_store.specs.Keeping.{IsForeign, extents_of};
@@ -10,40 +10,17 @@ ghost use Rattle.osm_import.specs.Stores.{Rereads};
 ghost use Rattle.osm_parts.specs.Opening.{OnlyOpens};
 ghost use Rattle.osm_parts.specs.Parts.{AreParts};
 ghost use Rattle.osm_parts.specs.PartsFaults.{IsOfMaps, PartsFaultHasCause};
-ghost use Rattle.osm_parts.specs.Placing.{first_offset};
+ghost use Rattle.osm_parts.specs.Pieces.{AreGathered};
 ghost use Rattle.osm_parts.specs.Reading.{IsReadOf, AreRead, joined_extents};
+ghost use Rattle.osm_parts.specs.Runs.{AreFew};
 
 use crate::fault::PartsFault;
 use crate::openings::Openings;
-use crate::placing::add_part;
-use osm_import::{gaps_between, greatest_end};
+use crate::pieces::{Piece, add_pieces, by_offset, each_once};
+use crate::runs::{Part, cut_into_runs, first_return};
+use osm_import::gaps_between;
 use osm_store::{Extent, Reader, StoreFault};
 use std::alloc::{AllocError, Global};
-
-/// A store that holds something, as it was read.
-#[derive(Debug, Drop)]
-pub struct Part {
-    /// Its place in the list of stores, from 0.
-    pub place: u64,
-    /// Where its first blob begins.
-    pub from: u64,
-    /// The greatest end of its blobs.
-    pub to: u64,
-    /// Its extents, by offset.
-    pub extents: Vec<Extent>,
-    /// Whether one of its elements has a flag of visibility. It is false where that wasn't asked.
-    pub history: bool,
-}
-
-/// Where the first of these extents begins, 0 where there is none.
-fn first_offset(extents: &[Extent]) -> u64
-    ensures { result ≡ first_offset extents.now }
-{
-    match extents.first() {
-        Some(extent) => extent.off,
-        None => 0,
-    }
-}
 
 /// Whether one of its elements has a flag of visibility, if that is asked.
 fn history_of<K: Reader>(alloc: Global, store: &mut K, asked: bool) -> Result<bool, StoreFault>
@@ -76,8 +53,6 @@ fn read_store<K: Reader>(
     let history = history_of(alloc, store, asks_history)?;
     Ok(Part {
         place,
-        from: first_offset(&extents),
-        to: greatest_end(&extents),
         extents,
         history,
     })
@@ -105,12 +80,54 @@ fn read_part<K: Reader + Drop, O: Openings<K>>(
     answer
 }
 
-/// The stores of `count` places that hold something, each opened, read and closed in turn, by the offsets at which their
-/// first blobs begin; whether elements have flags of visibility is read where `asks_history`. What each store holds stays.
+/// The blobs of the stores at `count` places, each store opened, read and closed in turn.
+fn gather<K: Reader + Drop, O: Openings<K>>(
+    alloc: Global,
+    openings: &mut O,
+    count: u64,
+    asks_history: bool,
+) -> Result<Vec<Piece>, StoreFault>
+    ensures read { (maps : List HeldMap) → O.holds openings.old maps → O.is_honest openings.new → length maps ≡ count
+        → IfOk result (λ pieces. AreGathered maps asks_history count pieces.items) }
+    ensures own { (maps : List HeldMap) → O.holds openings.old maps → O.is_honest openings.new → IfErr result (λ fault. ¬ (IsForeign fault)) }
+    ensures opens { OnlyOpens O.holds O.is_honest O.is_open openings.old result openings.new }
+    ensures cause { IfErr result (HasCause (O.failures openings.old) (O.failures openings.new)) }
+    ensures counted { O.failures openings.old ≤ O.failures openings.new }
+{
+    let mut pieces = Vec::new(alloc);
+    for place in 0..count {
+        let part = read_part(alloc, openings, place, asks_history)?;
+        add_pieces(&mut pieces, place, part.history, &part.extents)?;
+    }
+    Ok(pieces)
+}
+
+/// The runs of these blobs, if there aren't more than twice as many as stores.
+fn runs_of(alloc: Global, pieces: Vec<Piece>, count: u64) -> Result<Vec<Part>, PartsFault>
+    ensures read { (maps : List HeldMap) (asked : Bool) → AreGathered maps asked count pieces.items → length maps ≡ count → IfOk result (λ parts. AreRead maps asked parts.items) }
+    ensures few { IfOk result (λ parts. AreFew count parts.items) }
+    ensures fault { (maps : List HeldMap) (asked : Bool) → AreGathered maps asked count pieces.items → length maps ≡ count → IfErr result (IsOfMaps maps) }
+    ensures cause { IfErr result (λ fault. (before : ℕ) (now : ℕ) → PartsFaultHasCause before now fault) }
+{
+    let sorted = by_offset(pieces)?;
+    let pieces = each_once(alloc, &sorted)?;
+    let parts = cut_into_runs(alloc, &pieces)?;
+    if parts.len() as u64 > count.saturating_mul(2) {
+        if let Some(off) = first_return(&parts) {
+            return Err(PartsFault::Interleaved(off));
+        }
+    }
+    Ok(parts)
+}
+
+/// The blobs of the stores at `count` places, by offset and cut into runs, each of successive blobs of one store; each
+/// store is opened, read and closed in turn. Of blobs with the same extent at the same offset one counts, that of the
+/// lowest place. Whether elements have flags of visibility is read where `asks_history`. What each store holds stays.
 ///
-/// An error is `Interleaved` where two stores don't follow one another, with the offset of a blob of one that begins
-/// between the beginning of the other's first blob and its greatest end; or `Store`, the fault of an opening or of a read,
-/// or refused memory.
+/// An error is `Refused` with `Differs` where two stores hold blobs at one offset whose extents differ, or with `Overlap`
+/// where a blob begins inside another one's bytes, at its beginning; `Interleaved` where there are more than twice as many
+/// runs as stores, with the offset of a run that lies between two of another store; or `Store`, the fault of an opening or
+/// of a read, or refused memory.
 pub fn read_parts<K: Reader + Drop, O: Openings<K>>(
     alloc: Global,
     openings: &mut O,
@@ -119,23 +136,20 @@ pub fn read_parts<K: Reader + Drop, O: Openings<K>>(
 ) -> Result<Vec<Part>, PartsFault>
     ensures read { (maps : List HeldMap) → O.holds openings.old maps → O.is_honest openings.new → length maps ≡ count
         → IfOk result (λ parts. AreRead maps asks_history parts.items) }
+    ensures few { IfOk result (λ parts. AreFew count parts.items) }
     ensures fault { (maps : List HeldMap) → O.holds openings.old maps → O.is_honest openings.new → length maps ≡ count → IfErr result (IsOfMaps maps) }
     ensures opens { OnlyOpens O.holds O.is_honest O.is_open openings.old result openings.new }
     ensures cause { IfErr result (PartsFaultHasCause (O.failures openings.old) (O.failures openings.new)) }
     ensures counted { O.failures openings.old ≤ O.failures openings.new }
 {
-    let mut parts = Vec::new(alloc);
-    for place in 0..count {
-        let part = read_part(alloc, openings, place, asks_history)?;
-        add_part(&mut parts, part)?;
-    }
-    Ok(parts)
+    let pieces = gather(alloc, openings, count, asks_history)?;
+    runs_of(alloc, pieces, count)
 }
 
-/// All extents of the parts, by offset. Where the parts are those of a map, they are the extents of that map.
+/// All extents of the parts, by offset: those of the map that holds what the runs hold.
 pub fn extents_of_parts(alloc: Global, parts: &[Part]) -> Result<Vec<Extent>, AllocError>
     ensures joined { IfOk result (λ extents. extents.items ≡ joined_extents parts.now) }
-    ensures whole { (maps : List HeldMap) (asked : Bool) (whole : HeldMap) → AreRead maps asked parts.now → AreParts maps whole
+    ensures whole { (maps : List HeldMap) (asked : Bool) (whole : HeldMap) (read : AreRead maps asked parts.now) → AreParts read.ordered whole
         → IfOk result (λ extents. extents.items ≡ extents_of whole) }
 {
     let mut extents = Vec::new(alloc);
@@ -146,13 +160,13 @@ pub fn extents_of_parts(alloc: Global, parts: &[Part]) -> Result<Vec<Extent>, Al
 }
 
 /// The maximal ranges within `0..size` that no extent of the parts covers, as `gaps` tells them of one store that holds
-/// all of their blobs. The one error is refused memory.
+/// all of their blobs, each once. The one error is refused memory.
 pub fn gaps_of_parts(
     alloc: Global,
     parts: &[Part],
     size: u64,
 ) -> Result<Vec<(u64, u64)>, AllocError>
-    ensures { (maps : List HeldMap) (asked : Bool) (whole : HeldMap) → AreRead maps asked parts.now → AreParts maps whole
+    ensures { (maps : List HeldMap) (asked : Bool) (whole : HeldMap) (read : AreRead maps asked parts.now) → AreParts read.ordered whole
         → IfOk result (λ gaps. AreGaps whole size gaps.items) }
 {
     let extents = extents_of_parts(alloc, parts)?;

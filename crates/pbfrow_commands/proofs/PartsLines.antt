@@ -9,15 +9,17 @@ use Rattle.osm_store.specs.Keeping.{extent_of, extents_of}
 use Rattle.osm_store.specs.declared.keeper.Extent.{Extent}
 use Rattle.osm_import.specs.Exports.{Known, greatest_end, size_of}
 use Rattle.osm_import.specs.Gaps.{AreGaps, ranges_between}
+use Rattle.osm_import.specs.Faults.{conflict_number_of, conflict_name_of}
 use Rattle.osm_import.specs.Lines.{fault_line}
+use Rattle.osm_import.specs.declared.answer.Conflict.{Conflict}
 use Rattle.osm_import.proofs.GapsLemmas.{gaps-between}
 use Rattle.osm_parts.specs.Opening.{KeepsMaps}
 use Rattle.osm_parts.specs.Parts.{AreParts}
 use Rattle.osm_parts.specs.PartsFaults.{IsOfMaps, PartsFaultHasCause}
 use Rattle.osm_parts.specs.Reading.{AreRead}
 use Rattle.osm_parts.specs.declared.fault.PartsFault.{PartsFault}
-use Rattle.osm_parts.specs.declared.fault.PartsFault.TheVariants.{Interleaved, Store}
-use Rattle.osm_parts.specs.declared.reading.Part.{Part}
+use Rattle.osm_parts.specs.declared.fault.PartsFault.TheVariants.{Interleaved, Refused, Store}
+use Rattle.osm_parts.specs.declared.runs.Part.{Part}
 use Rattle.osm_parts.proofs.ReadingLemmas.{read-apart}
 use Rattle.pbfrow_commands.specs.InParts.{parts_fault_line, TellsParts}
 use Rattle.pbfrow_commands.specs.Status.{IsSurvey}
@@ -27,16 +29,19 @@ use Rattle.pbfrow_commands.specs.declared.status.Holdings.{Holdings}
 
 pub parts-fault : (TellsWhole : HeldMap → Type 0) (maps : List HeldMap) (before now : ℕ) (old new : Known) (failed : Bool) (fault : PartsFault) → IsOfMaps maps fault → PartsFaultHasCause before now fault → Wrote old (parts_fault_line fault) new failed
     → TellsParts TellsWhole maps before now old new failed 1
-parts-fault TellsWhole maps before now old new failed (Interleaved off) of_maps cause line = inl (record { off = off; interleaved = of_maps; line = line; one = refl })
-parts-fault TellsWhole maps before now old new failed (Store fault) of_maps cause line = inr (inl (record { fault = fault; own = of_maps; cause = cause; line = line; one = refl }))
+parts-fault TellsWhole maps before now old new failed fault of_maps cause line = inl (record { fault = fault; of_maps = of_maps; cause = cause; line = line; one = refl })
 
 pub interleaved-line : (fault : PartsFault) (off n : ℕ) (name : List ℕ) → fault ≡ Interleaved off → n ≡ 71 → name ≡ codes "Interleaved" → fault_line n name off ≡ parts_fault_line fault
 interleaved-line fault off n name is number named =
     ap (λ m. fault_line m name off) number ∙ ap (λ (text : List ℕ). fault_line 71 text off) named ∙ sym (ap parts_fault_line is)
 
+pub refused-line : (fault : PartsFault) (conflict : Conflict) (off n : ℕ) (name : List ℕ) → fault ≡ Refused conflict off → n ≡ conflict_number_of conflict → name ≡ conflict_name_of conflict → fault_line n name off ≡ parts_fault_line fault
+refused-line fault conflict off n name is number named =
+    ap (λ m. fault_line m name off) number ∙ ap (λ (text : List ℕ). fault_line (conflict_number_of conflict) text off) named ∙ sym (ap parts_fault_line is)
+
 -- ---- what they hold together
 
-pub survey-whole : (maps : List HeldMap) (asked : Bool) (parts : List Part) (whole : HeldMap) (size : Option ℕ) (extents : List Extent) (h : Holdings) → AreRead maps asked parts → AreParts maps whole → extents ≡ extents_of whole
+pub survey-whole : (maps : List HeldMap) (asked : Bool) (parts : List Part) (whole : HeldMap) (size : Option ℕ) (extents : List Extent) (h : Holdings) → (read : AreRead maps asked parts) → AreParts read.ordered whole → extents ≡ extents_of whole
     → h.blobs ≡ length extents → h.end ≡ greatest_end extents → h.gaps.items ≡ ranges_between 0 (unwrap_or size h.end) extents → IsSurvey whole size h
 survey-whole maps asked parts whole size extents h read are held blobs end gaps = record {
   blobs = blobs ∙ ap length held ∙ length-map (entries whole) extent_of;

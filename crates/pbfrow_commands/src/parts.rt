@@ -1,4 +1,4 @@
-//! The commands `status` and `export` on several stores that hold parts of one file.
+//! The commands `status` and `export` on several stores that hold blobs of one file.
 
 ghost use Rattle.std.specs.Prelude.{◌≡◌, Bool, List, IfOk, IfErr, length};
 ghost use Rattle.osm_value.specs.Sink.{Writes};
@@ -7,7 +7,7 @@ ghost use Rattle.osm_parts.specs.Opening.{KeepsMaps, OnlyOpens};
 ghost use Rattle.osm_parts.specs.Parts.{AreParts};
 ghost use Rattle.osm_parts.specs.PartsFaults.{IsOfMaps, PartsFaultHasCause};
 ghost use Rattle.osm_parts.specs.Reading.{AreRead};
-ghost use Rattle.pbfrow_commands.specs.InParts.{parts_fault_line, TellsOfWhole, TellsParts, TellsLines, TellsPbf};
+ghost use Rattle.pbfrow_commands.specs.InParts.{parts_fault_line, TellsOfUnion, TellsParts, TellsLines, TellsPbf};
 ghost use Rattle.pbfrow_commands.specs.Status.{IsSurvey, TellsStatus};
 
 use crate::export::finish;
@@ -28,6 +28,7 @@ fn put_parts_fault<S: Sink>(out: &mut S, fault: PartsFault)
 {
     match fault {
         PartsFault::Interleaved(off) => put_fault_at(out, fault.number(), fault.name(), off),
+        PartsFault::Refused(_, off) => put_fault_at(out, fault.number(), fault.name(), off),
         PartsFault::Store(fault) => put_store_fault(out, fault),
     }
 }
@@ -35,7 +36,7 @@ fn put_parts_fault<S: Sink>(out: &mut S, fault: PartsFault)
 /// What the stores of these parts hold together, and the gaps up to the size, or up to the greatest end if no size is
 /// given.
 fn holdings_of(alloc: Global, parts: &[Part], size: Option<u64>) -> Result<Holdings, AllocError>
-    ensures { (maps : List HeldMap) (asked : Bool) (whole : HeldMap) → AreRead maps asked parts.now → AreParts maps whole → IfOk result (IsSurvey whole size) }
+    ensures { (maps : List HeldMap) (asked : Bool) (whole : HeldMap) (read : AreRead maps asked parts.now) → AreParts read.ordered whole → IfOk result (IsSurvey whole size) }
 {
     let extents = extents_of_parts(alloc, parts)?;
     let end = greatest_end(&extents);
@@ -54,7 +55,7 @@ fn survey_parts<K: Reader + Drop, O: Openings<K>>(
     count: u64,
     size: Option<u64>,
 ) -> Result<Holdings, PartsFault>
-    ensures told { (maps : List HeldMap) → O.holds openings.old maps → O.is_honest openings.new → length maps ≡ count → IfOk result (λ holdings. TellsOfWhole (λ whole. IsSurvey whole size holdings) maps) }
+    ensures told { (maps : List HeldMap) → O.holds openings.old maps → O.is_honest openings.new → length maps ≡ count → IfOk result (λ holdings. TellsOfUnion (λ whole. IsSurvey whole size holdings) maps) }
     ensures fault { (maps : List HeldMap) → O.holds openings.old maps → O.is_honest openings.new → length maps ≡ count → IfErr result (IsOfMaps maps) }
     ensures opens { OnlyOpens O.holds O.is_honest O.is_open openings.old result openings.new }
     ensures cause { IfErr result (PartsFaultHasCause (O.failures openings.old) (O.failures openings.new)) }
@@ -64,9 +65,10 @@ fn survey_parts<K: Reader + Drop, O: Openings<K>>(
     Ok(holdings)
 }
 
-/// Writes what `status` writes of one store that holds the blobs of all `count` stores, which are opened one after the
-/// other; or the line of a fault: 71 `Interleaved` with the offset of a blob where the stores don't follow one another, or
-/// a fault of a store. Answers the exit status: 0 if everything was written, and 1 if there was a fault or the output
+/// Writes what `status` writes of one store that holds the blobs of all `count` stores, each once, which are opened one
+/// after the other; or the line of a fault: 63 `Differs` or 64 `Overlap` with the offset of a blob that another is in the
+/// way of, 71 `Interleaved` with that of a blob between those of another store, if there are more than twice as many runs
+/// as stores, or a fault of a store. Answers the exit status: 0 if everything was written, and 1 if there was a fault or the output
 /// failed. What the stores hold stays.
 pub fn status_parts<K: Reader + Drop, O: Openings<K>, S: Sink>(
     alloc: Global,
@@ -124,7 +126,7 @@ fn export_as_pbf<K: Reader + Drop, O: Openings<K>, S: Sink>(
     out: &mut S,
 ) -> u8
     ensures told { (maps : List HeldMap) → O.holds openings.old maps → O.is_honest openings.new → length maps ≡ count
-        → TellsParts (TellsPbf size partial (O.failures openings.old) (O.failures openings.new) (S.written out.old) (S.written out.new) (S.has_failed out.new) result)
+        → TellsParts (TellsPbf maps size partial (O.failures openings.old) (O.failures openings.new) (S.written out.old) (S.written out.new) (S.has_failed out.new) result)
         maps (O.failures openings.old) (O.failures openings.new) (S.written out.old) (S.written out.new) (S.has_failed out.new) result }
     ensures keeps { KeepsMaps O.holds O.is_honest O.is_open openings.old openings.new }
 {
@@ -139,10 +141,9 @@ fn export_as_pbf<K: Reader + Drop, O: Openings<K>, S: Sink>(
     finish(out, answer)
 }
 
-/// Writes what `export` writes of one store that holds the blobs of all `count` stores, with the same refusals; or the
-/// line of a fault: 71 `Interleaved`, before any byte, with the offset of a blob where the stores don't follow one another,
-/// or a fault of a store. Each store is opened twice, one after the other: once for its extents, since a refusal comes
-/// before any byte, and once for its elements. Answers the exit status: 0 if everything was written, else 1. What the
+/// Writes what `export` writes of one store that holds the blobs of all `count` stores, each once, with the same refusals;
+/// or the line of a fault, before any byte: those of `status_parts`. Each store is opened once for its extents, since a
+/// refusal comes before any byte, and then once for each run of its blobs, one after the other. Answers the exit status: 0 if everything was written, else 1. What the
 /// stores hold stays.
 pub fn export_parts<K: Reader + Drop, O: Openings<K>, S: Sink>(
     alloc: Global,
@@ -157,7 +158,7 @@ pub fn export_parts<K: Reader + Drop, O: Openings<K>, S: Sink>(
         → TellsParts (TellsLines size partial (O.failures openings.old) (O.failures openings.new) (S.written out.old) (S.written out.new) (S.has_failed out.new) result)
         maps (O.failures openings.old) (O.failures openings.new) (S.written out.old) (S.written out.new) (S.has_failed out.new) result }
     ensures pbf { (maps : List HeldMap) → O.holds openings.old maps → O.is_honest openings.new → length maps ≡ count → form ≡ Form.Pbf
-        → TellsParts (TellsPbf size partial (O.failures openings.old) (O.failures openings.new) (S.written out.old) (S.written out.new) (S.has_failed out.new) result)
+        → TellsParts (TellsPbf maps size partial (O.failures openings.old) (O.failures openings.new) (S.written out.old) (S.written out.new) (S.has_failed out.new) result)
         maps (O.failures openings.old) (O.failures openings.new) (S.written out.old) (S.written out.new) (S.has_failed out.new) result }
     ensures keeps { KeepsMaps O.holds O.is_honest O.is_open openings.old openings.new }
 {

@@ -36,9 +36,11 @@ const STATUS_HELP: &str =
 up to --size or, without it, up to the greatest end of a held blob; and last
 'blobs B end N gaps G'.
 
-Several databases that hold parts of one file, in any order, are read one after
-the other, as if one held all of it. No part may have blobs between those of
-another, nor a blob that another has, too (fault 71).
+Several databases that hold blobs of one file, in any order, are read one after
+the other, as if one held all of it; a blob that several hold counts once. They
+may not hold different blobs at one offset (fault 63), nor one that begins inside
+another (fault 64), nor so many in turn that they change more than twice as often
+as there are databases (fault 71).
 
 Exit status: 0 if the databases were read, else 1.
 
@@ -52,9 +54,10 @@ file. Nothing is written if a blob is missing (fault 67) or ends past --size
 (fault 70); without --size the greatest end of a held blob counts, so blobs that
 are missing at the end of the file aren't noticed.
 
-Several databases that hold parts of one file, in any order, are read one after
-the other, each of them twice, as if one held all of it. No part may have blobs
-between those of another, nor a blob that another has, too (fault 71).
+Several databases that hold blobs of one file, in any order, are read one after
+the other, as if one held all of it: each of them once, and once more for each row
+of its blobs that no blob of another interrupts. Faults 63, 64 and 71 are those of
+status.
 
 Exit status: 0 if all was written, else 1.
 

@@ -1,4 +1,4 @@
-//! Tests of `status` and `export` of several stores that hold parts of one file.
+//! Tests of `status` and `export` of several stores that hold blobs of one file.
 
 ghost use Rattle.std.specs.Prelude.{◌≡◌, IfSome};
 
@@ -20,18 +20,23 @@ const BOTH_NODES: &[u8] = b"n 1 1000 -100 [] {}\nn 2 900 -100 [] {}\n";
 const ALL_LINES: &[u8] =
     b"n 1 1000 -100 [] {}\nn 2 900 -100 [] {}\nn 1 1000 -100 [] {}\nn 2 900 -100 [] {}\n";
 
-/// A new store that holds the frames of a file between these two offsets.
-fn part_of<K: NewStore>(alloc: Global, file: &[u8], from: u32, to: u32) -> Option<K>
+/// Frames of a file, from an offset and up to one, and the offset where they are put.
+type Range = (u32, u32, u32);
+
+/// A new store that holds these frames of a file.
+fn part_of<K: NewStore>(alloc: Global, file: &[u8], ranges: &[Range]) -> Option<K>
     ensures { IfSome result (λ store. K.failures store ≡ 0) }
 {
     let mut store = K::new_store(alloc)?;
-    let start = Start {
-        dropped: u64::from(from),
-        at: u64::from(from),
-    };
-    let mut input = Inlet::new(Cursor::new(file.get(..to as usize)?));
-    let mut out = Outlet::new(Vec::new(alloc));
-    import(alloc, &mut input, &mut store, start, &mut out);
+    for (from, to, at) in ranges {
+        let start = Start {
+            dropped: u64::from(*from),
+            at: u64::from(*at),
+        };
+        let mut input = Inlet::new(Cursor::new(file.get(..*to as usize)?));
+        let mut out = Outlet::new(Vec::new(alloc));
+        import(alloc, &mut input, &mut store, start, &mut out);
+    }
     if store.failures() == 0 {
         Some(store)
     } else {
@@ -39,12 +44,12 @@ fn part_of<K: NewStore>(alloc: Global, file: &[u8], from: u32, to: u32) -> Optio
     }
 }
 
-/// Parts of the file of four blobs, by their first offsets and those behind them. Each is imported anew where it is opened.
+/// Stores by the frames of a file that each holds. Each is imported anew where it is opened.
 #[derive(Drop)]
 struct Ranges<'a> {
     alloc: Global,
     file: &'a [u8],
-    ranges: &'a [(u32, u32)],
+    stores: &'a [&'a [Range]],
     failures: u64,
 }
 
@@ -60,8 +65,8 @@ impl<K: NewStore> Openings<K> for Ranges<'_> {
     ghost failures = { λ ranges. ranges.failures };
 
     fn open(&mut self, place: u64) -> Result<K, StoreFault> {
-        let found = match self.ranges.get(place as usize) {
-            Some((from, to)) => part_of(self.alloc, self.file, *from, *to),
+        let found = match self.stores.get(place as usize) {
+            Some(ranges) => part_of(self.alloc, self.file, ranges),
             None => None,
         };
         match found {
@@ -82,18 +87,18 @@ impl<K: NewStore> Openings<K> for Ranges<'_> {
 fn status_of<K: NewStore>(
     alloc: Global,
     file: &[u8],
-    ranges: &[(u32, u32)],
+    stores: &[&[Range]],
     count: u64,
     size: Option<u64>,
 ) -> (u8, Vec<u8>) {
-    let mut stores = Ranges {
+    let mut openings = Ranges {
         alloc,
         file,
-        ranges,
+        stores,
         failures: 0,
     };
     let mut out = Outlet::new(Vec::new(alloc));
-    let status = status_parts::<K, _, _>(alloc, &mut stores, count, size, &mut out);
+    let status = status_parts::<K, _, _>(alloc, &mut openings, count, size, &mut out);
     (status, out.into_inner())
 }
 
@@ -101,58 +106,104 @@ fn status_of<K: NewStore>(
 fn export_of<K: NewStore>(
     alloc: Global,
     file: &[u8],
-    ranges: &[(u32, u32)],
+    stores: &[&[Range]],
     size: Option<u64>,
     partial: bool,
     form: Form,
 ) -> (u8, Vec<u8>) {
-    let mut stores = Ranges {
+    let mut openings = Ranges {
         alloc,
         file,
-        ranges,
+        stores,
         failures: 0,
     };
     let mut out = Outlet::new(Vec::new(alloc));
-    let count = ranges.len() as u64;
-    let status = export_parts::<K, _, _>(alloc, &mut stores, count, size, partial, form, &mut out);
+    let count = stores.len() as u64;
+    let status = export_parts::<K, _, _>(
+        alloc,
+        &mut openings,
+        count,
+        size,
+        partial,
+        form,
+        &mut out,
+    );
     (status, out.into_inner())
 }
 
-/// Parts, the size that is given, and what `status` answers and writes.
-const STATUSES: [(&[(u32, u32)], Option<u64>, u8, &[u8]); 6] = [
-    (&[(84, 137), (0, 84)], None, 0, b"blobs 4 end 137 gaps 0\n"),
+/// The file of four blobs and the first nodes once more behind it, in two stores in turn: five runs.
+const IN_TURN: &[&[Range]] = &[
+    &[(0, 47, 0), (84, 100, 84), (47, 84, 137)],
+    &[(47, 84, 47), (100, 137, 100)],
+];
+
+/// Stores, the size that is given, and what `status` answers and writes.
+const STATUSES: [(&[&[Range]], Option<u64>, u8, &[u8]); 10] = [
     (
-        &[(100, 137), (0, 47), (47, 100)],
+        &[&[(84, 137, 84)], &[(0, 84, 0)]],
+        None,
+        0,
+        b"blobs 4 end 137 gaps 0\n",
+    ),
+    (
+        &[&[(100, 137, 100)], &[(0, 47, 0)], &[(47, 100, 47)]],
         Some(140),
         0,
         b"gap 137 140\nblobs 4 end 137 gaps 1\n",
     ),
     (
-        &[(100, 137), (0, 47)],
+        &[&[(100, 137, 100)], &[(0, 47, 0)]],
         None,
         0,
         b"gap 47 100\nblobs 2 end 137 gaps 1\n",
     ),
     (&[], Some(10), 0, b"gap 0 10\nblobs 0 end 0 gaps 1\n"),
     (
-        &[(0, 84), (47, 100)],
+        &[&[(0, 84, 0)], &[(47, 100, 47)]],
+        None,
+        0,
+        b"blobs 3 end 100 gaps 0\n",
+    ),
+    (
+        &[&[(0, 47, 0)], &[(0, 47, 0)]],
+        None,
+        0,
+        b"blobs 1 end 47 gaps 0\n",
+    ),
+    (
+        &[
+            &[(0, 47, 0), (84, 100, 84)],
+            &[(100, 137, 100), (47, 84, 47)],
+        ],
+        None,
+        0,
+        b"blobs 4 end 137 gaps 0\n",
+    ),
+    (
+        &[&[(0, 84, 0)], &[(84, 100, 47)]],
         None,
         1,
-        b"fault 71 Interleaved at 47\n",
+        b"fault 63 Differs at 47\n",
     ),
-    (&[(0, 47), (0, 47)], None, 1, b"fault 71 Interleaved at 0\n"),
+    (
+        &[&[(47, 84, 83)], &[(0, 84, 0)]],
+        None,
+        1,
+        b"fault 64 Overlap at 83\n",
+    ),
+    (IN_TURN, None, 1, b"fault 71 Interleaved at 47\n"),
 ];
 
 fn statuses_of<K: NewStore, R: Abort + Alloc<A = Global>>(rt: &R) -> Result<(), Fail> {
     let alloc = rt.alloc();
     let file = four_blobs(alloc)?;
-    for (ranges, size, ended, text) in STATUSES {
-        let count = ranges.len() as u64;
-        let (status, written) = status_of::<K>(alloc, &file, ranges, count, size);
+    for (stores, size, ended, text) in STATUSES {
+        let count = stores.len() as u64;
+        let (status, written) = status_of::<K>(alloc, &file, stores, count, size);
         assert_eq!(rt; status, ended);
         assert!(rt; written.as_slice() == text);
     }
-    let (status, written) = status_of::<K>(alloc, &file, &[(0, 47)], 2, None);
+    let (status, written) = status_of::<K>(alloc, &file, &[&[(0, 47, 0)]], 2, None);
     assert_eq!(rt; status, 1);
     assert!(rt; written.as_slice() == b"fault 65 Disk\n".as_slice());
     Ok(())
@@ -164,26 +215,38 @@ fn statuses_of_parts(rt: HostRuntime) -> Result<(), Fail> {
     statuses_of::<Columns, _>(&rt)
 }
 
-/// Parts, the size that is given, whether the export is partial, and what an export as lines answers and writes.
-const EXPORTS: [(&[(u32, u32)], Option<u64>, bool, u8, &[u8]); 7] = [
-    (&[(84, 137), (0, 84)], None, false, 0, ALL_LINES),
+/// Stores, the size that is given, whether the export is partial, and what an export as lines answers and writes.
+const EXPORTS: [(&[&[Range]], Option<u64>, bool, u8, &[u8]); 11] = [
     (
-        &[(100, 137), (0, 47), (47, 100)],
+        &[&[(84, 137, 84)], &[(0, 84, 0)]],
+        None,
+        false,
+        0,
+        ALL_LINES,
+    ),
+    (
+        &[&[(100, 137, 100)], &[(0, 47, 0)], &[(47, 100, 47)]],
         Some(137),
         false,
         0,
         ALL_LINES,
     ),
-    (&[(100, 137), (0, 47)], None, true, 0, BOTH_NODES),
     (
-        &[(100, 137), (0, 47)],
+        &[&[(100, 137, 100)], &[(0, 47, 0)]],
+        None,
+        true,
+        0,
+        BOTH_NODES,
+    ),
+    (
+        &[&[(100, 137, 100)], &[(0, 47, 0)]],
         None,
         false,
         1,
         b"fault 67 Incomplete\n",
     ),
     (
-        &[(84, 137), (0, 84)],
+        &[&[(84, 137, 84)], &[(0, 84, 0)]],
         Some(136),
         false,
         1,
@@ -191,19 +254,44 @@ const EXPORTS: [(&[(u32, u32)], Option<u64>, bool, u8, &[u8]); 7] = [
     ),
     (&[], None, false, 1, b"fault 67 Incomplete\n"),
     (
-        &[(47, 100), (0, 84)],
+        &[&[(47, 137, 47)], &[(0, 84, 0)]],
+        Some(137),
+        false,
+        0,
+        ALL_LINES,
+    ),
+    (
+        &[
+            &[(47, 84, 47), (100, 137, 100)],
+            &[(0, 47, 0), (84, 100, 84)],
+        ],
+        None,
+        false,
+        0,
+        ALL_LINES,
+    ),
+    (
+        &[&[(0, 84, 0)], &[(84, 100, 47)]],
         None,
         true,
         1,
-        b"fault 71 Interleaved at 47\n",
+        b"fault 63 Differs at 47\n",
     ),
+    (
+        &[&[(0, 84, 0)], &[(47, 84, 83)]],
+        None,
+        true,
+        1,
+        b"fault 64 Overlap at 83\n",
+    ),
+    (IN_TURN, None, true, 1, b"fault 71 Interleaved at 47\n"),
 ];
 
 fn exports_of<K: NewStore, R: Abort + Alloc<A = Global>>(rt: &R) -> Result<(), Fail> {
     let alloc = rt.alloc();
     let file = four_blobs(alloc)?;
-    for (ranges, size, partial, ended, text) in EXPORTS {
-        let (status, written) = export_of::<K>(alloc, &file, ranges, size, partial, Form::Lines);
+    for (stores, size, partial, ended, text) in EXPORTS {
+        let (status, written) = export_of::<K>(alloc, &file, stores, size, partial, Form::Lines);
         assert_eq!(rt; status, ended);
         assert!(rt; written.as_slice() == text);
     }
@@ -222,21 +310,26 @@ fn pbf_of<K: NewStore, R: Abort + Alloc<A = Global>>(rt: &R) -> Result<(), Fail>
     let mut bytes = Vec::new(alloc);
     bytes.extend_from_slice(&WRITTEN_HEADER[..])?;
     bytes.extend_from_slice(TWO_NODES.split_at(47).1)?;
-    let ranges = [(47, 84), (0, 47)];
+    let lists: [&[&[Range]]; 2] = [
+        &[&[(47, 84, 47)], &[(0, 47, 0)]],
+        &[&[(0, 84, 0)], &[(47, 84, 47)]],
+    ];
+    for stores in lists {
+        let (status, written) = export_of::<K>(
+            alloc,
+            &TWO_NODES[..],
+            stores,
+            Some(84),
+            false,
+            Form::Pbf,
+        );
+        assert_eq!(rt; status, 0);
+        assert!(rt; written.as_slice() == bytes.as_slice());
+    }
     let (status, written) = export_of::<K>(
         alloc,
         &TWO_NODES[..],
-        &ranges,
-        Some(84),
-        false,
-        Form::Pbf,
-    );
-    assert_eq!(rt; status, 0);
-    assert!(rt; written.as_slice() == bytes.as_slice());
-    let (status, written) = export_of::<K>(
-        alloc,
-        &TWO_NODES[..],
-        &ranges,
+        lists[0],
         Some(85),
         false,
         Form::Pbf,
@@ -259,7 +352,7 @@ fn parts_to_a_closed_output(rt: HostRuntime) {
     let mut stores = Ranges {
         alloc,
         file: &TWO_NODES[..],
-        ranges: &[(47, 84), (0, 47)],
+        stores: &[&[(47, 84, 47)], &[(0, 47, 0)]],
         failures: 0,
     };
     let mut out = Outlet::new(Closed);

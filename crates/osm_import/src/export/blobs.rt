@@ -7,7 +7,7 @@ ghost use Rattle.osm_store.specs.Keeping.{extents_of};
 ghost use Rattle.osm_import.specs.Gaps.{Tiles};
 ghost use Rattle.osm_import.specs.Exports.{size_of, IsUnbegun};
 ghost use Rattle.osm_import.specs.ExportCauses.{ExportHasCause, ExportIsOwn, WriteHasCause};
-ghost use Rattle.osm_import.specs.Walks.{Writing, WritesOne, Walks};
+ghost use Rattle.osm_import.specs.Walks.{Writing, IsWithin, WritesOne, Walks};
 ghost use Rattle.osm_import.specs.Stores.{Rereads};
 
 use super::ExportFault;
@@ -72,8 +72,8 @@ fn write_blob<K: Reader, S: Sink, W: BlobStep<S>>(
     step.write(alloc, &elements, out)
 }
 
-/// Takes the step at each of the blobs at these extents, in their order, up to the first fault. Where they are all that a
-/// store holds, it is taken once at each held blob, by offset. What is held stays.
+/// Takes the step at each of the blobs at these extents, in their order, up to the first fault. Where they are all or some
+/// of those that the store holds, it is taken once at each of these, by offset. What is held stays.
 pub fn write_blobs<K: Reader, S: Sink, W: BlobStep<S>>(
     alloc: Global,
     keeper: &mut K,
@@ -81,8 +81,8 @@ pub fn write_blobs<K: Reader, S: Sink, W: BlobStep<S>>(
     step: &W,
     out: &mut S,
 ) -> Result<(), ExportFault>
-    ensures wrote { (held : HeldMap) → K.holds keeper.old held → K.is_honest keeper.new → extents.now ≡ extents_of held
-        → Walks W.writes (S.written out.old) (entries held) (S.written out.new) result }
+    ensures wrote { (held run : HeldMap) → K.holds keeper.old held → K.is_honest keeper.new → IsWithin run held → extents.now ≡ extents_of run
+        → Walks W.writes (S.written out.old) (entries run) (S.written out.new) result }
     ensures rereads { Rereads K.Reader keeper.old result keeper.new }
     ensures own { (held : HeldMap) → K.holds keeper.old held → K.is_honest keeper.new → ExportIsOwn result }
     ensures cause { ExportHasCause (K.failures keeper.old) (K.failures keeper.new) (S.has_failed out.new) result }

@@ -86,5 +86,8 @@ fn texts(rt: HostRuntime) -> Result<(), Fail> {
     let text = format!(in rt.alloc(); "{}", PartsFault::Interleaved(47))?;
     let expected = "the blob at 47 lies between those of another store";
     assert_eq!(rt; text.as_str(), expected);
+    let text = format!(in rt.alloc(); "{}", PartsFault::Refused(Conflict::Differs, 47))?;
+    let expected = "another blob is held at this offset (at 47)";
+    assert_eq!(rt; text.as_str(), expected);
     Ok(())
 }

@@ -1,19 +1,17 @@
-//! One map in two stores in memory, of which one at a time is open.
-
-ghost use Rattle.std.specs.Prelude.{◌≡◌, IfOk};
+//! Two stores in memory, of which one at a time is open, read as one.
 
 use super::deliveries::answers_to;
 use super::fixtures::{
-    EXTRA_AT_84, FILE, Frame, HEADER_AT_0, HELD_EXTRA, HELD_HEADER, HELD_NODES, HELD_NODES_AT_100,
-    HELD_TAGGED, LINES, NODES, NODES_AT_47, NODES_AT_100, TAGGED_AT_84, TAGGED_LINES,
-    WRITTEN_HEADER,
+    EXTRA, EXTRA_AT_84, FILE, Frame, HEADER_AT_0, HELD_EXTRA, HELD_HEADER, HELD_NODES,
+    HELD_NODES_AT_100, HELD_TAGGED, LINES, NODES, NODES_AT_47, NODES_AT_100, TAGGED_AT_84,
+    TAGGED_LINES, WRITTEN_HEADER,
 };
 use super::memory::{BodiesInMemory, NewStore, TablesInMemory};
 use super::steps::are_joined;
-use osm_import::ExportFault;
+use osm_import::{Conflict, ExportFault};
 use osm_parts::{
-    Openings, Part, PartsFault, export_parts_as_lines, export_parts_as_pbf, extents_of_parts,
-    gaps_of_parts, read_parts,
+    Openings, Part, PartsFault, Shelf, export_parts_as_lines, export_parts_as_pbf,
+    extents_of_parts, gaps_of_parts, read_parts,
 };
 use osm_store::{Extent, Reader, StoreFault};
 use osm_value::Outlet;
@@ -25,79 +23,26 @@ use std::test::*;
 /// The nodes over the last byte of the file.
 const NODES_AT_83: Frame = (83, NODES);
 
-/// The store that is there, if no call of it has failed.
-fn lend<K: Reader + Drop>(slot: &mut Option<K>) -> Result<K, StoreFault>
-    ensures { IfOk result (λ store. K.failures store ≡ 0) }
-{
-    match slot.take() {
-        Some(store) => {
-            if store.failures() == 0 {
-                return Ok(store);
-            }
-            *slot = Some(store);
-            Err(StoreFault::Disk)
-        }
-        None => Err(StoreFault::Disk),
-    }
-}
+/// The nodes behind a gap.
+const NODES_AT_200: Frame = (200, NODES);
 
-/// Two stores by their places. One that is given out is missing until it is closed. What they hold is said nowhere, as of files.
-#[derive(Drop)]
-struct Pair<K> {
-    first: Option<K>,
-    second: Option<K>,
-    failures: u64,
-}
-
-impl<K: Reader + Drop> Openings<K> for Pair<K> {
-    ghost holds = { λ pair maps. ⊥ };
-
-    ghost lends = { λ pair maps held. ⊥ };
-
-    ghost is_honest = { λ pair. ⊥ };
-
-    ghost is_open = { λ pair. ⊥ };
-
-    ghost failures = { λ pair. pair.failures };
-
-    fn open(&mut self, place: u64) -> Result<K, StoreFault> {
-        let answer = match place {
-            0 => lend(&mut self.first),
-            1 => lend(&mut self.second),
-            _ => Err(StoreFault::Disk),
-        };
-        if answer.is_err() {
-            self.failures = self.failures.saturating_add(1);
-        }
-        answer
-    }
-
-    fn close(&mut self, store: K) {
-        self.failures = self.failures.saturating_add(store.failures());
-        if self.first.is_none() {
-            self.first = Some(store);
-        } else {
-            self.second = Some(store);
-        }
-    }
-}
+/// Another frame where the nodes are.
+const EXTRA_AT_47: Frame = (47, EXTRA);
 
 /// Two new stores, to each of which these frames were delivered.
-fn two_stores<K: NewStore>(alloc: Global, lists: [&[Frame<'_>]; 2]) -> Result<Pair<K>, Fail> {
-    let [one, other] = lists;
-    let (_, first) = answers_to::<K>(alloc, one)?;
-    let (_, second) = answers_to::<K>(alloc, other)?;
-    Ok(Pair {
-        first: Some(first),
-        second: Some(second),
-        failures: 0,
-    })
+fn two_stores<K: NewStore>(alloc: Global, lists: [&[Frame<'_>]; 2]) -> Result<Shelf<K>, Fail> {
+    let mut stores = Shelf::new(alloc);
+    for frames in &lists {
+        let (_, store) = answers_to::<K>(alloc, frames)?;
+        stores.push(store)?;
+    }
+    Ok(stores)
 }
 
 /// What an export of the parts as lines answers, and what it has written.
 fn lines_of<K: Reader + Drop>(
     alloc: Global,
-    stores: &mut Pair<K>,
+    stores: &mut Shelf<K>,
     parts: &[Part],
     size: Option<u64>,
     partial: bool,
@@ -129,8 +74,10 @@ fn expect_turn<K: NewStore, R: Abort + Alloc<A = Global>>(rt: &R, turn: &Turn) -
     Ok(())
 }
 
-/// A file in two stores, in both orders; and stores of which one holds nothing, or begins behind a gap.
-const TURNS: [Turn; 4] = [
+/// A file in two stores, in both orders; stores of which one holds nothing, or begins behind a gap; stores whose blobs come
+/// in turn, twice as many times as there are stores at most; and stores that hold the same blob. What is read of them is
+/// what is read of one store that holds each blob once.
+const TURNS: [Turn; 10] = [
     Turn {
         lists: [&[HEADER_AT_0], &[NODES_AT_47]],
         extents: &[HELD_HEADER, HELD_NODES],
@@ -155,6 +102,42 @@ const TURNS: [Turn; 4] = [
         gaps: &[(47, 84), (137, 200)],
         lines: &[LINES],
     },
+    Turn {
+        lists: [&[HEADER_AT_0, EXTRA_AT_84], &[NODES_AT_47]],
+        extents: &[HELD_HEADER, HELD_NODES, HELD_EXTRA],
+        gaps: &[(100, 200)],
+        lines: &[LINES],
+    },
+    Turn {
+        lists: [&[NODES_AT_47], &[HEADER_AT_0, TAGGED_AT_84]],
+        extents: &[HELD_HEADER, HELD_NODES, HELD_TAGGED],
+        gaps: &[(169, 200)],
+        lines: &[LINES, TAGGED_LINES],
+    },
+    Turn {
+        lists: [&[HEADER_AT_0, EXTRA_AT_84], &[NODES_AT_47, NODES_AT_100]],
+        extents: &[HELD_HEADER, HELD_NODES, HELD_EXTRA, HELD_NODES_AT_100],
+        gaps: &[(137, 200)],
+        lines: &[LINES, LINES],
+    },
+    Turn {
+        lists: [&[HEADER_AT_0], FILE],
+        extents: &[HELD_HEADER, HELD_NODES],
+        gaps: &[(84, 200)],
+        lines: &[LINES],
+    },
+    Turn {
+        lists: [FILE, &[NODES_AT_47, TAGGED_AT_84]],
+        extents: &[HELD_HEADER, HELD_NODES, HELD_TAGGED],
+        gaps: &[(169, 200)],
+        lines: &[LINES, TAGGED_LINES],
+    },
+    Turn {
+        lists: [FILE, FILE],
+        extents: &[HELD_HEADER, HELD_NODES],
+        gaps: &[(84, 200)],
+        lines: &[LINES],
+    },
 ];
 
 #[test]
@@ -166,41 +149,67 @@ fn files_in_parts(rt: HostRuntime) -> Result<(), Fail> {
     Ok(())
 }
 
-/// Two stores that don't follow one another.
-fn expect_interleaved<K: NewStore, R: Abort + Alloc<A = Global>>(
+/// Two stores that aren't read as one, although each alone is.
+fn expect_refused<K: NewStore, R: Abort + Alloc<A = Global>>(
     rt: &R,
     lists: [&[Frame<'_>]; 2],
-    off: u64,
+    fault: PartsFault,
 ) -> Result<(), Fail> {
     let alloc = rt.alloc();
     let mut stores = two_stores::<K>(alloc, lists)?;
     let found = read_parts(alloc, &mut stores, 2, false);
-    assert!(rt;
-        matches!(found, Err(PartsFault::Interleaved(at)) if at == off),
-        "at {off}"
-    );
+    assert!(rt; matches!(found, Err(answer) if answer == fault), "{fault}");
     assert!(rt;
         read_parts(alloc, &mut stores, 1, false)?.len() == 1,
-        "at {off}"
+        "{fault}"
     );
     Ok(())
 }
 
-/// A store that lies between the blobs of another, in both orders; one that begins before another's end; and two that hold
-/// one blob.
-const INTERLEAVED: [([&[Frame]; 2], u64); 5] = [
-    ([&[HEADER_AT_0, EXTRA_AT_84], &[NODES_AT_47]], 47),
-    ([&[NODES_AT_47], &[HEADER_AT_0, EXTRA_AT_84]], 47),
-    ([&[NODES_AT_47], &[NODES_AT_83]], 83),
-    ([&[HEADER_AT_0], FILE], 0),
-    ([&[NODES_AT_47], FILE], 47),
+/// Another frame at one offset, in both orders; a frame that begins inside another, in both orders; and five runs of two
+/// stores, of which the third comes back to the first store, in both orders.
+const REFUSED: [([&[Frame]; 2], PartsFault); 7] = [
+    (
+        [FILE, &[EXTRA_AT_47]],
+        PartsFault::Refused(Conflict::Differs, 47),
+    ),
+    (
+        [&[EXTRA_AT_47], FILE],
+        PartsFault::Refused(Conflict::Differs, 47),
+    ),
+    (
+        [&[NODES_AT_47], &[NODES_AT_83]],
+        PartsFault::Refused(Conflict::Overlap, 83),
+    ),
+    (
+        [&[NODES_AT_83], FILE],
+        PartsFault::Refused(Conflict::Overlap, 83),
+    ),
+    (
+        [&[EXTRA_AT_84], &[NODES_AT_83]],
+        PartsFault::Refused(Conflict::Overlap, 84),
+    ),
+    (
+        [
+            &[HEADER_AT_0, EXTRA_AT_84, NODES_AT_200],
+            &[NODES_AT_47, NODES_AT_100],
+        ],
+        PartsFault::Interleaved(47),
+    ),
+    (
+        [
+            &[NODES_AT_47, NODES_AT_100],
+            &[HEADER_AT_0, EXTRA_AT_84, NODES_AT_200],
+        ],
+        PartsFault::Interleaved(47),
+    ),
 ];
 
 #[test]
-fn stores_that_do_not_follow(rt: HostRuntime) -> Result<(), Fail> {
-    for (lists, off) in INTERLEAVED {
-        expect_interleaved::<BodiesInMemory, _>(&rt, lists, off)?;
-        expect_interleaved::<TablesInMemory, _>(&rt, lists, off)?;
+fn stores_that_are_not_one(rt: HostRuntime) -> Result<(), Fail> {
+    for (lists, fault) in REFUSED {
+        expect_refused::<BodiesInMemory, _>(&rt, lists, fault)?;
+        expect_refused::<TablesInMemory, _>(&rt, lists, fault)?;
     }
     Ok(())
 }
@@ -232,22 +241,36 @@ fn refusals_of_parts(rt: HostRuntime) -> Result<(), Fail> {
     refusals_of::<TablesInMemory, _>(&rt)
 }
 
-/// The file in two stores as a PBF file: the header that an export writes, and the nodes as they came.
-fn pbf_of<K: NewStore, R: Abort + Alloc<A = Global>>(rt: &R) -> Result<(), Fail> {
+/// Two stores as a PBF file: the header that an export writes, and the nodes as they came.
+fn expect_pbf<K: NewStore, R: Abort + Alloc<A = Global>>(
+    rt: &R,
+    lists: [&[Frame<'_>]; 2],
+    size: u64,
+) -> Result<(), Fail> {
     let alloc = rt.alloc();
-    let mut stores = two_stores::<K>(alloc, [&[NODES_AT_47], &[HEADER_AT_0]])?;
+    let mut stores = two_stores::<K>(alloc, lists)?;
     let parts = read_parts(alloc, &mut stores, 2, true)?;
     let mut out = Outlet::new(Vec::new(alloc));
-    let result = export_parts_as_pbf(alloc, &mut stores, &parts, Some(84), false, &mut out);
+    let result = export_parts_as_pbf(alloc, &mut stores, &parts, Some(size), false, &mut out);
     assert!(rt; result == Ok(()));
     assert!(rt; are_joined(&out.into_inner(), &[WRITTEN_HEADER, NODES]));
     Ok(())
 }
 
+/// The file in two stores, a frame without elements behind it in the store of the header, and the file in both stores.
+const PBF_PARTS: [([&[Frame]; 2], u64); 3] = [
+    ([&[NODES_AT_47], &[HEADER_AT_0]], 84),
+    ([&[HEADER_AT_0, EXTRA_AT_84], &[NODES_AT_47]], 100),
+    ([FILE, FILE], 84),
+];
+
 #[test]
 fn pbf_of_parts(rt: HostRuntime) -> Result<(), Fail> {
-    pbf_of::<BodiesInMemory, _>(&rt)?;
-    pbf_of::<TablesInMemory, _>(&rt)
+    for (lists, size) in PBF_PARTS {
+        expect_pbf::<BodiesInMemory, _>(&rt, lists, size)?;
+        expect_pbf::<TablesInMemory, _>(&rt, lists, size)?;
+    }
+    Ok(())
 }
 
 /// After each failure no store is open, and the lines before it were written.
@@ -266,11 +289,11 @@ fn failures_of<K: NewStore, R: Abort + Alloc<A = Global>>(rt: &R) -> Result<(), 
         assert!(rt; taken.len() == room && LINES.starts_with(&taken));
     }
     // a store that isn't there any more
-    let second = stores.second.take();
+    let second = stores.open(1)?;
     let (result, lines) = lines_of(alloc, &mut stores, &parts, None, false);
     assert!(rt; result == Err(ExportFault::Store(StoreFault::Disk)));
     assert!(rt; lines.is_empty());
-    stores.second = second;
+    stores.close(second);
     let (result, lines) = lines_of(alloc, &mut stores, &parts, None, false);
     assert!(rt; result == Ok(()));
     assert!(rt; lines.as_slice() == LINES);
@@ -287,6 +310,8 @@ fn failures(rt: HostRuntime) -> Result<(), Fail> {
 fn faults_of_parts(rt: HostRuntime) {
     let faults = [
         (PartsFault::Interleaved(47), 71, "Interleaved"),
+        (PartsFault::Refused(Conflict::Differs, 47), 63, "Differs"),
+        (PartsFault::Refused(Conflict::Overlap, 47), 64, "Overlap"),
         (PartsFault::Store(StoreFault::Memory), 65, "Memory"),
         (
             PartsFault::Store(StoreFault::NotThisStore(None)),

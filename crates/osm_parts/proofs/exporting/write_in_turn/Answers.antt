@@ -1,4 +1,4 @@
-use Rattle.std.proofs.Common.{◌<◌, length, refl, Result, sym, subst, arith}
+use Rattle.std.proofs.Common.{refl, Result, sym, subst, arith}
 use Rattle.osm_import.specs.Walks.{Walks}
 use Rattle.osm_import.specs.declared.export.fault.ExportFault.{ExportFault}
 use Rattle.osm_import.proofs.HandedOn.{handed}

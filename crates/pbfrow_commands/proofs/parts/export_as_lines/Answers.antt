@@ -1,7 +1,7 @@
 use Rattle.std.proofs.Common.{[], false, List, inr, sym, subst}
 use Rattle.osm_value.proofs.SinkLemmas.{started}
 use Rattle.osm_parts.specs.Reading.{AreRead}
-use Rattle.osm_parts.specs.declared.reading.Part.{Part}
+use Rattle.osm_parts.specs.declared.runs.Part.{Part}
 use Rattle.osm_parts.proofs.ExportingLemmas.{export-later}
 use Rattle.osm_parts.proofs.ReadingLemmas.{whole-read}
 use Rattle.pbfrow_commands.specs.InParts.{TellsLines}
@@ -24,10 +24,10 @@ returns-clause-told g c = λ maps holds honest all.
     let still = c.in-Ok.ensures.opens.ok earlier maps holds in
     let read = c.in-Ok.ensures.read maps holds earlier all in
     let lent = subst (λ (parts : List Part). AreRead maps false parts) (sym c.deref.ensures.value) read in
-    let it = whole-read maps false c.in-Ok.parts.items read in
-    inr (inr (
+    let it = whole-read maps false c.deref.result.now lent in
+    inr (
       it.0,
-      it.1,
+      it.2,
       (
         exported.result,
         g.S.Sink.written exported.new.out,
@@ -36,7 +36,7 @@ returns-clause-told g c = λ maps holds honest all.
         exported.ensures.own maps still honest,
         c.finish.ensures.ends,
       ),
-    ))
+    )
 
 pub returns-clause-keeps : goal.returns-clause-keeps
 returns-clause-keeps g c = keeps-then _ _ _ _ _ _ c.in-Ok.ensures.opens.keeps c.export_parts_as_lines-answer.ensures.opens.keeps

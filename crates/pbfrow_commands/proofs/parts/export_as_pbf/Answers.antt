@@ -1,7 +1,7 @@
 use Rattle.std.proofs.Common.{[], true, List, inr, sym, subst}
 use Rattle.osm_value.proofs.SinkLemmas.{started}
 use Rattle.osm_parts.specs.Reading.{AreRead}
-use Rattle.osm_parts.specs.declared.reading.Part.{Part}
+use Rattle.osm_parts.specs.declared.runs.Part.{Part}
 use Rattle.osm_parts.proofs.ExportingLemmas.{export-later}
 use Rattle.osm_parts.proofs.ReadingLemmas.{whole-read}
 use Rattle.pbfrow_commands.specs.InParts.{TellsPbf}
@@ -14,7 +14,7 @@ returns-in-Err-clause-told g c = λ maps holds honest all.
     let old = g.S.Sink.written c.args.out.now in
     let new = g.S.Sink.written c.put_parts_fault.new.out in
     let failed = g.S.Sink.has_failed c.put_parts_fault.new.out in
-    parts-fault (TellsPbf c.args.size c.args.partial _ _ old new failed 1) maps _ _ old new failed c.in-Err.fault
+    parts-fault (TellsPbf maps c.args.size c.args.partial _ _ old new failed 1) maps _ _ old new failed c.in-Err.fault
     (c.in-Err.ensures.fault maps holds honest all) c.in-Err.ensures.cause (c.put_parts_fault.ensures _ [] (started _ _))
 
 pub returns-clause-told : goal.returns-clause-told
@@ -24,19 +24,22 @@ returns-clause-told g c = λ maps holds honest all.
     let still = c.in-Ok.ensures.opens.ok earlier maps holds in
     let read = c.in-Ok.ensures.read maps holds earlier all in
     let lent = subst (λ (parts : List Part). AreRead maps true parts) (sym c.deref.ensures.value) read in
-    let it = whole-read maps true c.in-Ok.parts.items read in
-    inr (inr (
+    let it = whole-read maps true c.deref.result.now lent in
+    let made = exported.ensures.export maps it.0 still honest lent it.1 in
+    inr (
       it.0,
-      it.1,
+      it.2,
       (
         exported.result,
         g.S.Sink.written exported.new.out,
-        exported.ensures.export maps it.0 still honest lent it.1,
+        made.0,
+        made.1,
+        made.2,
         export-later _ _ _ _ exported.result c.in-Ok.ensures.counted (cause-kept _ _ _ _ exported.result c.finish.ensures.kept exported.ensures.cause),
         exported.ensures.own maps still honest,
         c.finish.ensures.ends,
       ),
-    ))
+    )
 
 pub returns-clause-keeps : goal.returns-clause-keeps
 returns-clause-keeps g c = keeps-then _ _ _ _ _ _ c.in-Ok.ensures.opens.keeps c.export_parts_as_pbf-answer.ensures.opens.keeps

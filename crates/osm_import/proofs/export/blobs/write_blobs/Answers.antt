@@ -8,13 +8,13 @@ use Rattle.osm_import.proofs.WalkLemmas.{walk-more, walk-stops, walk-all, read-i
 use Rattle.osm_import.proofs.export.blobs.write_blobs.Goals as goal
 
 pub returns-in_err-write_blob-clause-wrote : goal.returns-in_err-write_blob-clause-wrote
-returns-in_err-write_blob-clause-wrote g c = λ held holds honest are.
+returns-in_err-write_blob-clause-wrote g c = λ held run holds honest within are.
     let inv = c.loop-extent.invariant in
     let earlier = c.write_blob.ensures.rereads.stays.honest honest in
-    subst (λ (r : Result (Unit {0}) ExportFault). Walks g.W.BlobStep.writes (g.S.Sink.written c.args.out.now) (entries held) (g.S.Sink.written c.write_blob.new.out) r) (sym (handed c.from_residual.result _ c.from_residual.ensures.1))
-    (walk-stops g.W.BlobStep.writes held c.args.extents.now c.loop-extent.extent-index _ (g.S.Sink.written c.args.out.now) (g.S.Sink.written c.loop-extent.out) (g.S.Sink.written c.write_blob.new.out) c.in_err-write_blob.field-0.0 are (omega arith)
-    (read-is c.args.extents.now c.loop-extent.extent-index _ _ (omega arith)) (inv.wrote held holds earlier are)
-    (λ blob found. c.in_err-write_blob.ensures.wrote held blob (inv.kept earlier held holds) honest found))
+    subst (λ (r : Result (Unit {0}) ExportFault). Walks g.W.BlobStep.writes (g.S.Sink.written c.args.out.now) (entries run) (g.S.Sink.written c.write_blob.new.out) r) (sym (handed c.from_residual.result _ c.from_residual.ensures.1))
+    (walk-stops g.W.BlobStep.writes run c.args.extents.now c.loop-extent.extent-index _ (g.S.Sink.written c.args.out.now) (g.S.Sink.written c.loop-extent.out) (g.S.Sink.written c.write_blob.new.out) c.in_err-write_blob.field-0.0 are (omega arith)
+    (read-is c.args.extents.now c.loop-extent.extent-index _ _ (omega arith)) (inv.wrote held run holds earlier within are)
+    (λ blob found. c.in_err-write_blob.ensures.wrote held blob (inv.kept earlier held holds) honest (within _ blob found)))
 
 pub loop-extent-preserved : goal.loop-extent-preserved
 loop-extent-preserved g c =
@@ -27,10 +27,10 @@ loop-extent-preserved g c =
       crash = λ h held left. inv.crash (made.rereads.stays.honest h) held (made.rereads.stays.crash h held left);
       whole = λ h maps. made.rereads.stays.whole h (inv.whole (made.rereads.stays.honest h) maps);
       counted = omega (arith, inv.counted, made.counted);
-      wrote = λ held holds honest are.
-          walk-more g.W.BlobStep.writes held c.args.extents.now c.loop-extent.extent-index _ (g.S.Sink.written c.args.out.now) (g.S.Sink.written c.loop-extent.out) (g.S.Sink.written c.write_blob.new.out) are (omega arith)
-          (read-is c.args.extents.now c.loop-extent.extent-index _ _ (omega arith)) (inv.wrote held holds (made.rereads.stays.honest honest) are)
-          (λ blob found. made.wrote held blob (inv.kept (made.rereads.stays.honest honest) held holds) honest found);
+      wrote = λ held run holds honest within are.
+          walk-more g.W.BlobStep.writes run c.args.extents.now c.loop-extent.extent-index _ (g.S.Sink.written c.args.out.now) (g.S.Sink.written c.loop-extent.out) (g.S.Sink.written c.write_blob.new.out) are (omega arith)
+          (read-is c.args.extents.now c.loop-extent.extent-index _ _ (omega arith)) (inv.wrote held run holds (made.rereads.stays.honest honest) within are)
+          (λ blob found. made.wrote held blob (inv.kept (made.rereads.stays.honest honest) held holds) honest (within _ blob found));
     }
 
 pub loop-extent-init : goal.loop-extent-init
@@ -41,7 +41,7 @@ loop-extent-init g c = record {
   crash = λ h held left. left;
   whole = λ h maps. maps;
   counted = omega arith;
-  wrote = λ held holds honest are. refl;
+  wrote = λ held run holds honest within are. refl;
 }
 
 pub returns-in_err-write_blob-clause-own : goal.returns-in_err-write_blob-clause-own
@@ -50,5 +50,5 @@ returns-in_err-write_blob-clause-own g c = λ held holds honest.
     (c.in_err-write_blob.ensures.own held (c.loop-extent.invariant.kept (c.write_blob.ensures.rereads.stays.honest honest) held holds) honest)
 
 pub returns-clause-wrote : goal.returns-clause-wrote
-returns-clause-wrote g c = λ held holds honest are.
-    walk-all g.W.BlobStep.writes held c.args.extents.now c.loop-extent.extent-index (g.S.Sink.written c.args.out.now) (g.S.Sink.written c.loop-extent.out) are (omega arith) (c.loop-extent.invariant.wrote held holds honest are)
+returns-clause-wrote g c = λ held run holds honest within are.
+    walk-all g.W.BlobStep.writes run c.args.extents.now c.loop-extent.extent-index (g.S.Sink.written c.args.out.now) (g.S.Sink.written c.loop-extent.out) are (omega arith) (c.loop-extent.invariant.wrote held run holds honest within are)

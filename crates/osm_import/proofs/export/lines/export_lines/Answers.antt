@@ -18,7 +18,7 @@ returns-clause-export g c = λ held holds honest.
     let made = c.in_ok-extents.ensures in
     let earlier = c.write_blobs.ensures.rereads.stays.honest honest in
     exported held (size_of c.args.size (extents_of held)) c.args.partial (g.S.Sink.written c.args.out.now) (g.S.Sink.written c.write_blobs.new.out) c.write_blobs.result
-    (c.write_blobs.ensures.wrote held (made.rereads.ok earlier held holds) honest (c.deref.ensures.value ∙ made.all held holds earlier)) (made.tiled held holds earlier)
+    (c.write_blobs.ensures.wrote held held (made.rereads.ok earlier held holds) honest (λ off blob found. found) (c.deref.ensures.value ∙ made.all held holds earlier)) (made.tiled held holds earlier)
 
 pub returns-in_err-extents-clause-one_file : goal.returns-in_err-extents-clause-one_file
 returns-in_err-extents-clause-one_file g c = λ held file frames holds honest is_file of_file tiles asked.

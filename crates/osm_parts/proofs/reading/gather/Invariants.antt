@@ -1,7 +1,7 @@
 use Rattle.std.proofs.Common.{◌≡◌, ◌≤◌, List, length}
 use Rattle.osm_store.specs.Held.{HeldMap}
-use Rattle.osm_parts.proofs.ReadingLemmas.{SoFar}
-use Rattle.osm_parts.proofs.reading.read_parts.Given as goal
+use Rattle.osm_parts.specs.Pieces.{AreGathered}
+use Rattle.osm_parts.proofs.reading.gather.Given as goal
 
 abbrev pub invariant-loop-place : goal.invariant-loop-place
 invariant-loop-place g l =
@@ -11,5 +11,5 @@ invariant-loop-place g l =
       open_if : O.is_open l.openings → O.is_open l.fn.openings;
       kept : O.is_honest l.openings → (maps : List HeldMap) → O.holds l.fn.openings maps → O.holds l.openings maps;
       counted : O.failures l.fn.openings ≤ O.failures l.openings;
-      read : (maps : List HeldMap) → O.holds l.fn.openings maps → O.is_honest l.openings → length maps ≡ l.fn.count → SoFar maps l.fn.asks_history l.place l.parts.items;
+      read : (maps : List HeldMap) → O.holds l.fn.openings maps → O.is_honest l.openings → length maps ≡ l.fn.count → AreGathered maps l.fn.asks_history l.place l.pieces.items;
     }
