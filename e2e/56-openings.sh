@@ -91,7 +91,6 @@ faulty "an extract" damaged.db
 rm -f damaged.db*
 
 # an import that is killed leaves a log: what was stored is there, and nothing that isn't whole
-"$pbfrow" --build-only
 rm -f broken.db* whole.db*
 "$top/crates/pbfrow/out/pbfrow" import "$country" broken.db > broken.txt 2>/dev/null &
 pid=$!
