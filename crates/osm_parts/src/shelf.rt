@@ -24,7 +24,8 @@ pub struct Shelf<K> {
 impl<K: Reader + Drop> Shelf<K> {
     /// A shelf without stores.
     pub fn new(alloc: Global) -> Shelf<K>
-        ensures { HoldsEach K.holds result.slots.items [] }
+        ensures empty { HoldsEach K.holds result.slots.items [] }
+        ensures unused { (result.taken ≡ None) × (result.is_misused ≡ false) × (result.failures ≡ 0) }
     {
         Shelf {
             slots: Vec::new(alloc),
@@ -36,8 +37,9 @@ impl<K: Reader + Drop> Shelf<K> {
 
     /// Puts a store behind the others. The one error is refused memory, at which the store is let go.
     pub fn push(&mut self, store: K) -> Result<(), AllocError>
-        ensures { (maps : List HeldMap) (held : HeldMap) → HoldsEach K.holds self.old.slots.items maps → K.holds store held
+        ensures held { (maps : List HeldMap) (held : HeldMap) → HoldsEach K.holds self.old.slots.items maps → K.holds store held
             → IfOk result (λ _. HoldsEach K.holds self.new.slots.items (maps ++ held ∷ [])) }
+        ensures kept { (self.new.taken ≡ self.old.taken) × (self.new.is_misused ≡ self.old.is_misused) × (self.new.failures ≡ self.old.failures) }
     {
         self.slots.push(Some(store))?;
         Ok(())
