@@ -18,6 +18,7 @@ while read -r from to; do
   tail -c +$((from + 1)) "$country" | head -c $((to - from)) | "$pbfrow" import /dev/stdin "part-$parts.db" --at "$from" > "part-$parts.txt"
 done < plan.txt
 [ "$parts" = 4 ] && pass "a plan of four parts" || fail "a plan of four parts"
+sha256sum part-?.db > sums.txt
 for order in "1 2 3 4" "4 3 2 1" "3 1 4 2"; do
   files=$(for part in $order; do echo "part-$part.db"; done)
   expect "status of parts $order" 0 "blobs 12 end $size gaps 0${nl}" status $files --size "$size"
@@ -151,4 +152,5 @@ if has sqlite3; then
 else
   skip "one of an earlier version" "sqlite3 isn't installed"
 fi
+sha256sum -c --quiet sums.txt && pass "nothing was written to a part" || fail "nothing was written to a part"
 counted
