@@ -1,7 +1,6 @@
 //! Stores that are there already, and are given out one at a time.
 
 ghost use Rattle.std.specs.Prelude.{◌≡◌, ◌↔◌, ◌++◌, ◌∷◌, [], false, Some, None, List, IfOk, IfSome, IsNone, IsTrue, set, slice_get};
-ghost use Rattle.osm_parts.specs.Opening.{AddsUp};
 ghost use Rattle.osm_store.specs.Held.{HeldMap};
 ghost use Rattle.osm_parts.specs.Shelves.{HoldsEach, LendsOne, AllAreIn};
 
@@ -71,16 +70,6 @@ impl<K: Reader + Drop> Shelf<K> {
     }
 }
 
-/// So many failures and so many more, up to 2^64 - 1.
-fn add_failures(before: u64, more: u64) -> u64
-    ensures { AddsUp before more result }
-{
-    match before.checked_add(more) {
-        Some(sum) => sum,
-        None => u64::MAX,
-    }
-}
-
 impl<K: Reader + Drop> Openings<K> for Shelf<K> {
     ghost holds = { λ shelf maps. HoldsEach K.holds shelf.slots.items maps };
 
@@ -103,7 +92,7 @@ impl<K: Reader + Drop> Openings<K> for Shelf<K> {
     }
 
     fn close(&mut self, store: K) {
-        self.failures = add_failures(self.failures, store.failures());
+        self.failures = self.failures.saturating_add(store.failures());
         match self.taken.take() {
             Some(index) if self.is_free(index) => self.slots[index] = Some(store),
             _ => self.is_misused = true,

@@ -1,7 +1,6 @@
 //! The commands on several databases that hold parts of one file: `status` and `export`.
 
 ghost use Rattle.std.specs.Prelude.{◌≡◌, IfOk};
-ghost use Rattle.osm_parts.specs.Opening.{AddsUp};
 ghost use Rattle.osm_trees.specs.Ways.{counted};
 
 use crate::database::{adopted, end, is_missing, unopened};
@@ -96,16 +95,6 @@ fn opened<T: Trees, S: Tables>(
     }
 }
 
-/// So many failures and so many more, up to 2^64 - 1.
-fn add_failures(before: u64, more: u64) -> u64
-    ensures { AddsUp before more result }
-{
-    match before.checked_add(more) {
-        Some(sum) => sum,
-        None => u64::MAX,
-    }
-}
-
 /// Lets a store go, and answers how many of its calls have failed.
 fn let_go<K: Reader + Drop>(store: K) -> u64
     ensures { result ≡ K.failures store }
@@ -165,7 +154,7 @@ impl<'a, T: Trees, S: Tables> Openings<MeteredOpened<'a, T, S>> for Databases<'a
     }
 
     fn close(&mut self, store: MeteredOpened<'a, T, S>) {
-        self.failures = add_failures(self.failures, let_go(store));
+        self.failures = self.failures.saturating_add(let_go(store));
     }
 }
 
