@@ -1,6 +1,7 @@
 #!/usr/bin/env bash
 # Databases that hold blobs of one file are asked as one, in any order.
 . "$(dirname -- "${BASH_SOURCE[0]}")/begin.sh"
+. "$top/e2e/locks.sh"
 . "$top/e2e/older.sh"
 two=$top/data/two-nodes.osm.pbf
 country=$top/data/liechtenstein-raw.osm.pbf
@@ -114,6 +115,7 @@ for command in status export; do
     *) fail "$command with a damaged one"; echo "  got $got" ;;
   esac
 done
+
 # a thousand databases; in memory if that can be had, since each opening waits for the disk
 many=$(mktemp -d -p /dev/shm 2>/dev/null || mktemp -d)
 cp part-1.db part-2.db part-3.db part-4.db "$many"
@@ -121,27 +123,11 @@ expect "a thousand databases" 0 "blobs 12 end $size gaps 0${nl}" status $(for _ 
 rm -rf "$many"
 
 if has python3; then
-  # holds DATABASE: keeps SQLite's locks on it, until its standard input ends.
-  holds() {
-    python3 -c '
-import fcntl, sys
-file = open(sys.argv[1], "r+b")
-fcntl.lockf(file, fcntl.LOCK_EX, 512, 1 << 30)
-print("locked", flush=True)
-sys.stdin.read()' "$1"
-  }
-  rm -f keeper told
-  mkfifo keeper
-  holds part-2.db < keeper > told &
-  pid=$!
-  exec 7> keeper
-  for _ in $(seq 100); do [ -s told ] && break; sleep 0.05; done
+  lock_database part-2.db
   expect "status with one that another program has locked" 1 "fault 65 Disk${nl}" status part-1.db part-2.db part-3.db part-4.db
   expect "export with one" 1 "fault 65 Disk${nl}" export part-1.db part-2.db part-3.db part-4.db
-  exec 7>&-
-  wait "$pid"
+  unlock_database
   expect "status when it is free again" 0 "blobs 12 end $size gaps 0${nl}" status part-1.db part-2.db part-3.db part-4.db
-  rm -f keeper told
 else
   skip "one that another program has locked" "python3 isn't installed"
 fi

@@ -2,6 +2,7 @@
 # Files that are opened as a database and aren't a sound one of ours: status and find answer one line of a fault, or what
 # is right, and leave the file so that the next program can open it.
 . "$(dirname -- "${BASH_SOURCE[0]}")/begin.sh"
+. "$top/e2e/locks.sh"
 two=$top/data/two-nodes.osm.pbf
 country=$top/data/liechtenstein-raw.osm.pbf
 nl='
@@ -125,27 +126,11 @@ right "a log of noise, which is none" damaged.db
 rm -f damaged.db*
 
 if has python3; then
-  # holds DATABASE: keeps SQLite's locks on it, until its standard input ends.
-  holds() {
-    python3 -c '
-import fcntl, sys
-file = open(sys.argv[1], "r+b")
-fcntl.lockf(file, fcntl.LOCK_EX, 512, 1 << 30)
-print("locked", flush=True)
-sys.stdin.read()' "$1"
-  }
-  rm -f keeper told
-  mkfifo keeper
-  holds sound.db < keeper > told &
-  pid=$!
-  exec 7> keeper
-  for _ in $(seq 100); do [ -s told ] && break; sleep 0.05; done
+  lock_database sound.db
   expect "a database that another program has locked: status" 1 "fault 65 Disk${nl}" status sound.db
   expect "a database that another program has locked: find" 1 "fault 65 Disk${nl}" find sound.db n1
-  exec 7>&-
-  wait "$pid"
+  unlock_database
   right "the same when it is free again" sound.db
-  rm -f keeper told
 else
   skip "a database that is locked" "python3 isn't installed"
 fi
