@@ -6,5 +6,6 @@ mod tables;
 mod transaction;
 
 pub(crate) use table_row::TableRow;
-pub(crate) use tables::{element_rows, link_rows, tag_rows};
+pub use table_row::{ElementRow, LinkRow, TagRow};
+pub use tables::{element_rows, link_rows, tag_rows};
 pub(crate) use transaction::put_rows;

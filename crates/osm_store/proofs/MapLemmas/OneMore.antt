@@ -69,7 +69,7 @@ module _ (off : ℕ) (blob : Blob) where
   after e es high = ap (λ o. by_order o (new ∷ e ∷ es) ((e.0, blob) ∷ es) (e ∷ put nat_cmp off blob es)) (sym (nat_cmp_is off e.0 Greater high))
 
   -- its row is put in the same place
-  put_entry : (es : List Entry) → find nat_cmp off es ≡ None → put_row (row_of new) (map extent_row (map extent_of es)) ≡ map extent_row (map extent_of (put nat_cmp off blob es))
+  pub put_entry : (es : List Entry) → find nat_cmp off es ≡ None → put_row (row_of new) (map extent_row (map extent_of es)) ≡ map extent_row (map extent_of (put nat_cmp off blob es))
   put_entry [] none = refl
   put_entry (e ∷ es) none =
       let rest = not_found off e es none in
@@ -107,10 +107,10 @@ none_of None h = refl
 none_of (Some blob) h = absurd (h blob refl)
 
 module _ (held : HeldMap) (off : ℕ) (blob : Blob) (layout : Layout) (kept : IsKept layout held) (free : IsFree held off blob.fin) (order : off < blob.fin) where
-  unheld : find nat_cmp off (entries held) ≡ None
+  pub unheld : find nat_cmp off (entries held) ≡ None
   unheld = sym (get-entries held off) ∙ none_of (get held off) (IsFree-unheld held off blob.fin kept.apart free order)
 
-  inserted : entries (with_blob held off blob) ≡ put nat_cmp off blob (entries held)
+  pub inserted : entries (with_blob held off blob) ≡ put nat_cmp off blob (entries held)
   inserted = entries-insert nat_cmp_total held off blob
 
   pub kept_more : blob.fin ≤ MAX_OFFSET → IsBlob layout blob → IsKept layout (with_blob held off blob)
@@ -146,7 +146,7 @@ module _ (held : HeldMap) (off : ℕ) (blob : Blob) (layout : Layout) (kept : Is
   has_more_rows : (row : Placed → Row) (old new : List Row) → HasRows (map row (placed_in held)) old → Gains old (map row (placed off 0 blob.elements)) new → HasRows (map row (placed_in (with_blob held off blob))) new
   has_more_rows row = has_more (map row) (map-append row) (IsPermutation-map row)
 
-  more_elements : (layout : Layout) (old new : Trees) → HoldElements layout (placed_in held) old → GainsElements layout (placed off 0 blob.elements) old new → HoldElements layout (placed_in (with_blob held off blob)) new
+  pub more_elements : (layout : Layout) (old new : Trees) → HoldElements layout (placed_in held) old → GainsElements layout (placed off 0 blob.elements) old new → HoldElements layout (placed_in (with_blob held off blob)) new
   more_elements Bodies old new has gains = has_more_rows body_row (old 2) (new 2) has gains
   more_elements Tables old new has gains = (has_more_rows element_row (old 2) (new 2) has.0 gains.0, has_more_parts tags_at tag_row (old 4) (new 4) has.1 gains.1, has_more_parts links_at link_row (old 6) (new 6) has.2 gains.2)
 

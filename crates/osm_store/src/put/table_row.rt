@@ -80,42 +80,44 @@ pub(crate) trait TableRow {
             → OnOk result ((rows : List Self) → length rows ≡ rows_of batch → bound values.now ≡ flat_map columns rows → AddsRows Layout.Tables tree (state S.Store transaction.old.conn.now) (state S.Store transaction.new.conn.now) (map columns rows)) };
 }
 
-/// A row of the table `element`. What is absent is None.
+/// A row of the table `element`: places are in nanodegrees, times in milliseconds since 1970. What is absent is
+/// None.
 #[derive(Drop)]
-pub(crate) struct ElementRow<'a> {
-    pub(crate) off: i64,
-    pub(crate) position: i64,
-    pub(crate) kind: MemberKind,
-    pub(crate) id: i64,
-    pub(crate) lat: Option<i64>,
-    pub(crate) lon: Option<i64>,
-    pub(crate) version: Option<i32>,
-    pub(crate) time: Option<i64>,
-    pub(crate) changeset: Option<i64>,
-    pub(crate) uid: Option<i32>,
-    pub(crate) user: Option<&'a str>,
-    pub(crate) visible: Option<bool>,
+pub struct ElementRow<'a> {
+    pub off: i64,
+    pub position: i64,
+    pub kind: MemberKind,
+    pub id: i64,
+    pub lat: Option<i64>,
+    pub lon: Option<i64>,
+    pub version: Option<i32>,
+    pub time: Option<i64>,
+    pub changeset: Option<i64>,
+    pub uid: Option<i32>,
+    pub user: Option<&'a str>,
+    pub visible: Option<bool>,
 }
 
-/// A row of the table `tag`; `number` counts the tags of the element.
+/// A row of the table `tag`; `number` counts the tags of the element, from 0.
 #[derive(Drop)]
-pub(crate) struct TagRow<'a> {
-    pub(crate) off: i64,
-    pub(crate) position: i64,
-    pub(crate) number: i64,
-    pub(crate) key: &'a str,
-    pub(crate) val: &'a str,
+pub struct TagRow<'a> {
+    pub off: i64,
+    pub position: i64,
+    pub number: i64,
+    pub key: &'a str,
+    pub val: &'a str,
 }
 
-/// A row of the table `link`: a node of a way, or a member of a relation; `number` counts those of the element.
+/// A row of the table `link`: a node of a way, or a member of a relation; `number` counts those of the element,
+/// from 0.
 #[derive(Drop)]
-pub(crate) struct LinkRow<'a> {
-    pub(crate) off: i64,
-    pub(crate) position: i64,
-    pub(crate) number: i64,
-    pub(crate) kind: MemberKind,
-    pub(crate) id: i64,
-    pub(crate) role: &'a str,
+pub struct LinkRow<'a> {
+    pub off: i64,
+    pub position: i64,
+    pub number: i64,
+    pub kind: MemberKind,
+    pub id: i64,
+    pub role: &'a str,
 }
 
 fn element_statement(batch: Batch) -> &'static str

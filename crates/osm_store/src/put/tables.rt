@@ -68,8 +68,9 @@ fn element_row<'a>(off: u64, position: u64, element: &Element<'a>) -> ElementRow
     }
 }
 
-/// The rows of the table `element`.
-pub(crate) fn element_rows<'a>(
+/// The rows of the table `element` for the elements of the blob at this offset, which is `MAX_OFFSET` at most. The only
+/// failure is that memory is refused.
+pub fn element_rows<'a>(
     alloc: Global,
     off: u64,
     elements: &[Element<'a>],
@@ -126,8 +127,8 @@ fn push_tags<'a>(
     push_pairs(rows, off, position, element.tags())
 }
 
-/// The rows of the table `tag`.
-pub(crate) fn tag_rows<'a>(
+/// The rows of the table `tag` for the elements of the blob at this offset, as `element_rows`.
+pub fn tag_rows<'a>(
     alloc: Global,
     off: u64,
     elements: &[Element<'a>],
@@ -219,8 +220,8 @@ fn push_links<'a>(
     }
 }
 
-/// The rows of the table `link`.
-pub(crate) fn link_rows<'a>(
+/// The rows of the table `link` for the elements of the blob at this offset, as `element_rows`.
+pub fn link_rows<'a>(
     alloc: Global,
     off: u64,
     elements: &[Element<'a>],

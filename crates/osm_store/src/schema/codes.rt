@@ -7,7 +7,7 @@ use osm_value::MemberKind;
 use pbf_frame::Kind;
 
 /// The number that a row has for a kind of blob.
-pub(crate) fn blob_code(kind: Kind) -> u32
+pub fn blob_code(kind: Kind) -> u32
     ensures { result ≡ blob_code kind }
 {
     match kind {
@@ -30,7 +30,7 @@ pub(crate) fn blob_kind(code: u64) -> Option<Kind>
 }
 
 /// The number that a row has for a kind of element.
-pub(crate) fn element_code(kind: MemberKind) -> u32
+pub fn element_code(kind: MemberKind) -> u32
     ensures { result ≡ element_code kind }
 {
     match kind {
