@@ -15,7 +15,7 @@ pub use blob_store::{BlobStore, BodyStore, TableStore};
 pub use fault::StoreFault;
 pub use keeper::{Extent, Keeper, Reader};
 pub use load::{Found, Loaded, are_apart};
-pub use put::{ElementRow, LinkRow, TagRow, element_rows, link_rows, tag_rows};
+pub use put::{ElementRow, LinkRow, TableRow, TagRow, element_rows, link_rows, tag_rows};
 pub use schema::codes::{blob_code, element_code};
 pub use schema::sql::{
     CREATE_BLOB, CREATE_ELEMENT, CREATE_ELEMENT_INDEX, CREATE_LINK, CREATE_META, CREATE_TAG,

@@ -5,7 +5,6 @@ mod table_row;
 mod tables;
 mod transaction;
 
-pub(crate) use table_row::TableRow;
-pub use table_row::{ElementRow, LinkRow, TagRow};
+pub use table_row::{ElementRow, LinkRow, TableRow, TagRow};
 pub use tables::{element_rows, link_rows, tag_rows};
 pub(crate) use transaction::put_rows;

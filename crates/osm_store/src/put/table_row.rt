@@ -55,17 +55,20 @@ impl Batch {
 }
 
 /// A row of one of the tables of elements.
-pub(crate) trait TableRow {
-    /// The tree of its table.
-    ghost tree: { ℕ };
-
-    /// What it writes there, without the rowid, which `sqlite` chooses.
+pub trait TableRow {
+    /// What it writes there, without the rowid.
     ghost columns: { Self → Row };
 
-    /// Adds what it writes to the parameters of a statement.
+    /// Adds the columns, in their order, to values that are to be written. `sqlite` writes a NaN as NULL.
     fn push_values<'v>(&'v self, values: &mut Vec<ValueRef<'v>>) -> Result<(), StoreFault>
         ensures pushed { OnOk result (bound values.new.items ≡ bound values.old.items ++ columns self.now) }
         ensures ours { IfErr result (λ fault. ¬ (IsForeign fault)) };
+}
+
+/// A row that a statement adds to its table. `sqlite` chooses the rowid.
+pub(crate) trait InsertedRow: TableRow {
+    /// The tree of its table.
+    ghost tree: { ℕ };
 
     /// Adds as many rows as the batch has, whose values are the parameters. It is called on any of them: an `impl` takes
     /// the clauses of a trait over only for a method with a receiver.
@@ -77,7 +80,7 @@ pub(crate) trait TableRow {
     ) -> Result<(), StoreFault>
         ensures step { WorksInside S.Store transaction.old.conn result transaction.new.conn }
         ensures added { HasCleanDisk (state S.Store transaction.new.conn.now) → IsWriting Layout.Tables (state S.Store transaction.old.conn.now)
-            → OnOk result ((rows : List Self) → length rows ≡ rows_of batch → bound values.now ≡ flat_map columns rows → AddsRows Layout.Tables tree (state S.Store transaction.old.conn.now) (state S.Store transaction.new.conn.now) (map columns rows)) };
+            → OnOk result ((rows : List Self) → length rows ≡ rows_of batch → bound values.now ≡ flat_map Self.TableRow.columns rows → AddsRows Layout.Tables tree (state S.Store transaction.old.conn.now) (state S.Store transaction.new.conn.now) (map Self.TableRow.columns rows)) };
 }
 
 /// A row of the table `element`: places are in nanodegrees, times in milliseconds since 1970. What is absent is
@@ -120,19 +123,8 @@ pub struct LinkRow<'a> {
     pub role: &'a str,
 }
 
-fn element_statement(batch: Batch) -> &'static str
-    ensures { result.now ≡ element_statement batch }
-{
-    match batch {
-        Batch::One => INSERT_ELEMENT,
-        Batch::ThirtyTwo => INSERT_ELEMENTS,
-    }
-}
-
 impl<'a> TableRow for ElementRow<'a> {
     ghost use Rattle.osm_store.specs.Put.WrittenRows.{element_columns};
-
-    ghost tree = { 2 };
 
     ghost columns = { element_columns };
 
@@ -153,6 +145,19 @@ impl<'a> TableRow for ElementRow<'a> {
         ])?;
         Ok(())
     }
+}
+
+fn element_statement(batch: Batch) -> &'static str
+    ensures { result.now ≡ element_statement batch }
+{
+    match batch {
+        Batch::One => INSERT_ELEMENT,
+        Batch::ThirtyTwo => INSERT_ELEMENTS,
+    }
+}
+
+impl<'a> InsertedRow for ElementRow<'a> {
+    ghost tree = { 2 };
 
     fn insert<S: Alter>(
         &self,
@@ -165,19 +170,8 @@ impl<'a> TableRow for ElementRow<'a> {
     }
 }
 
-fn tag_statement(batch: Batch) -> &'static str
-    ensures { result.now ≡ tag_statement batch }
-{
-    match batch {
-        Batch::One => INSERT_TAG,
-        Batch::ThirtyTwo => INSERT_TAGS,
-    }
-}
-
 impl<'a> TableRow for TagRow<'a> {
     ghost use Rattle.osm_store.specs.Put.WrittenRows.{tag_columns};
-
-    ghost tree = { 4 };
 
     ghost columns = { tag_columns };
 
@@ -191,6 +185,19 @@ impl<'a> TableRow for TagRow<'a> {
         ])?;
         Ok(())
     }
+}
+
+fn tag_statement(batch: Batch) -> &'static str
+    ensures { result.now ≡ tag_statement batch }
+{
+    match batch {
+        Batch::One => INSERT_TAG,
+        Batch::ThirtyTwo => INSERT_TAGS,
+    }
+}
+
+impl<'a> InsertedRow for TagRow<'a> {
+    ghost tree = { 4 };
 
     fn insert<S: Alter>(
         &self,
@@ -203,19 +210,8 @@ impl<'a> TableRow for TagRow<'a> {
     }
 }
 
-fn link_statement(batch: Batch) -> &'static str
-    ensures { result.now ≡ link_statement batch }
-{
-    match batch {
-        Batch::One => INSERT_LINK,
-        Batch::ThirtyTwo => INSERT_LINKS,
-    }
-}
-
 impl<'a> TableRow for LinkRow<'a> {
     ghost use Rattle.osm_store.specs.Put.WrittenRows.{link_columns};
-
-    ghost tree = { 6 };
 
     ghost columns = { link_columns };
 
@@ -230,6 +226,19 @@ impl<'a> TableRow for LinkRow<'a> {
         ])?;
         Ok(())
     }
+}
+
+fn link_statement(batch: Batch) -> &'static str
+    ensures { result.now ≡ link_statement batch }
+{
+    match batch {
+        Batch::One => INSERT_LINK,
+        Batch::ThirtyTwo => INSERT_LINKS,
+    }
+}
+
+impl<'a> InsertedRow for LinkRow<'a> {
+    ghost tree = { 6 };
 
     fn insert<S: Alter>(
         &self,
@@ -243,7 +252,7 @@ impl<'a> TableRow for LinkRow<'a> {
 }
 
 /// Adds as many rows as the batch has.
-fn add_batch<S: Alter, R: TableRow>(
+fn add_batch<S: Alter, R: InsertedRow>(
     alloc: Global,
     transaction: &mut Transaction<'_, S>,
     batch: Batch,
@@ -252,7 +261,7 @@ fn add_batch<S: Alter, R: TableRow>(
     requires { length rows.now ≡ rows_of batch }
     ensures step { WorksInside S.Store transaction.old.conn result transaction.new.conn }
     ensures added { HasCleanDisk (state S.Store transaction.new.conn.now) → IsWriting Layout.Tables (state S.Store transaction.old.conn.now)
-        → OnOk result (AddsRows Layout.Tables R.tree (state S.Store transaction.old.conn.now) (state S.Store transaction.new.conn.now) (map R.columns rows.now)) }
+        → OnOk result (AddsRows Layout.Tables R.InsertedRow.tree (state S.Store transaction.old.conn.now) (state S.Store transaction.new.conn.now) (map R.TableRow.columns rows.now)) }
 {
     let mut values = Vec::new(alloc);
     for row in rows {
@@ -265,14 +274,14 @@ fn add_batch<S: Alter, R: TableRow>(
 }
 
 /// Adds all rows of a table.
-pub(crate) fn add_rows<S: Alter, R: TableRow>(
+pub(crate) fn add_rows<S: Alter, R: InsertedRow>(
     alloc: Global,
     transaction: &mut Transaction<'_, S>,
     rows: &[R],
 ) -> Result<(), StoreFault>
     ensures step { WorksInside S.Store transaction.old.conn result transaction.new.conn }
     ensures added { HasCleanDisk (state S.Store transaction.new.conn.now) → IsWriting Layout.Tables (state S.Store transaction.old.conn.now)
-        → OnOk result (AddsRows Layout.Tables R.tree (state S.Store transaction.old.conn.now) (state S.Store transaction.new.conn.now) (map R.columns rows.now)) }
+        → OnOk result (AddsRows Layout.Tables R.InsertedRow.tree (state S.Store transaction.old.conn.now) (state S.Store transaction.new.conn.now) (map R.TableRow.columns rows.now)) }
 {
     let mut rest = rows;
     while !rest.is_empty() {

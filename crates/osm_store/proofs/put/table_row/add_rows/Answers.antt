@@ -17,7 +17,7 @@ loop-rest-init g c =
         whole = refl;
         goes_on = stays g.S.Store c.args.transaction.now.conn;
         inside = λ clean inside. inside;
-        added = λ clean over. no_rows Tables g.R.TableRow.tree start over;
+        added = λ clean over. no_rows Tables g.R.InsertedRow.tree start over;
       },
     )
 
@@ -40,7 +40,7 @@ loop-rest-preserved g c =
         inside = λ clean inside. step.inside clean (it.inside (before clean) inside);
         added = λ clean over.
             let added = it.added (before clean) over in
-            rows_more Tables g.R.TableRow.tree start (state g.S.Store now.now) (state g.S.Store next.now) done chunk added (c.in_ok-add_batch.ensures.added clean added.over);
+            rows_more Tables g.R.InsertedRow.tree start (state g.S.Store now.now) (state g.S.Store next.now) done chunk added (c.in_ok-add_batch.ensures.added clean added.over);
       },
     )
 
@@ -65,4 +65,4 @@ returns-clause-added g c clean over =
     let columns = g.R.TableRow.columns in
     let none : length c.loop-rest.rest.now ≡ 0 = grind (arith, nat_tests) in
     let whole = all_done columns c.loop-rest.rest.now c.loop-rest.invariant.0 _ none it.whole in
-    subst (AddsRows Tables g.R.TableRow.tree (state g.S.Store c.args.transaction.now.conn.now) (state g.S.Store c.loop-rest.transaction.conn.now)) (sym whole) (it.added clean over)
+    subst (AddsRows Tables g.R.InsertedRow.tree (state g.S.Store c.args.transaction.now.conn.now) (state g.S.Store c.loop-rest.transaction.conn.now)) (sym whole) (it.added clean over)

@@ -16,7 +16,7 @@ invariant-loop-rest g l =
       whole : map g.R.TableRow.columns l.rows ≡ done ++ map g.R.TableRow.columns l.rest;
       goes_on : GoesOn g.S.Store l.fn.transaction.conn l.transaction.conn;
       inside : HasCleanDisk now → IsTrue old.in_transaction → IsTrue now.in_transaction;
-      added : HasCleanDisk now → IsWriting Tables old → AddsRows Tables g.R.TableRow.tree old now done;
+      added : HasCleanDisk now → IsWriting Tables old → AddsRows Tables g.R.InsertedRow.tree old now done;
     }
 
 abbrev pub decreases-loop-rest : goal.decreases-loop-rest

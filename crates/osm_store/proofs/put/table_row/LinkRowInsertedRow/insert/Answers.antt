@@ -4,7 +4,7 @@ use Rattle.sqlite.specs.Values.{bound}
 use Rattle.sqlite.specs.Held.{state}
 use Rattle.osm_store.proofs.StepLemmas.{runs_on}
 use Rattle.osm_store.proofs.PutLemmas.InsertSteps.{inserts_link}
-use Rattle.osm_store.proofs.put.table_row.LinkRowTableRow.insert.Goals as goal
+use Rattle.osm_store.proofs.put.table_row.LinkRowInsertedRow.insert.Goals as goal
 
 pub returns-clause-added : goal.returns-clause-added
 returns-clause-added g c clean over rows many these =
