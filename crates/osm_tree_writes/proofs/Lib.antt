@@ -1,0 +1,5 @@
+pub mod Places
+pub mod AppendLemmas
+pub mod RowKeys
+pub mod Obeying
+pub mod Writing

@@ -1,0 +1,153 @@
+-- What the steps of a put come to.
+use Rattle.std.proofs.Common.{◌≡◌, ◌≢◌, ℕ, false, List, [], ◌∷◌, ◌++◌, map, drop, refl, sym, ap, subst, ◌∙◌, eq-eqb, ne_eqb, arith}
+use Rattle.std.specs.List.Sorted.{IsPermutation}
+use Rattle.std.proofs.lemmas.List.Sorted.{IsPermutation-refl}
+use Rattle.sqlite_value.specs.Order.{Row}
+use Rattle.sqlite_trees.specs.Tree.{Trees, put_row, with_tree}
+use Rattle.sqlite_trees.specs.Objects.{catalog_tree}
+use Rattle.sqlite_trees.specs.View.{View, IsShaped, IsOrdered, SetsTree}
+use Rattle.sqlite_trees.specs.declared.store.Shape.{Shape}
+use Rattle.sqlite_exec.specs.Calls.{OnlyReads}
+use Rattle.sqlite_sql.specs.Catalog.{IsIndexOf}
+use Rattle.osm_store.specs.declared.keeper.Extent.{Extent}
+use Rattle.osm_store.specs.Rows.{Placed, extent_row}
+use Rattle.osm_store.specs.TableRows.{element_rows, tag_rows, link_rows}
+use Rattle.osm_store.specs.Put.Steps.{Gains}
+use Rattle.osm_tree_writes.specs.declared.layout.TheConstants.{ELEMENTS, TAGS, LINKS}
+use Rattle.osm_tree_writes.specs.Appending.{IsStoreAt, Appends}
+use Rattle.osm_tree_writes.specs.Putting.{IsIndexedStore, AreTables, PutsBelow, WritesElements, Writes}
+
+-- two steps that write trees and move cursors are one
+rest_then : (a b c : View) → b ≡ record a { trees = b.trees; cursors = b.cursors } → c ≡ record b { trees = c.trees; cursors = c.cursors } → c ≡ record a { trees = c.trees; cursors = c.cursors }
+rest_then a b c first second = second ∙ ap (λ (v : View). record v { trees = c.trees; cursors = c.cursors }) first
+
+with_same : (db : Trees) (t : ℕ) (es : List Row) → with_tree db t es t ≡ es
+with_same db t es = rw (eq-eqb t t refl)
+
+with_other : (db : Trees) (t u : ℕ) (es : List Row) → u ≢ t → with_tree db t es u ≡ db u
+with_other db t u es other = rw (ne_eqb u t other)
+
+gains : (old new rows : List Row) → map (drop 1) new ≡ map (drop 1) old ++ rows → Gains old rows new
+gains old new rows e = subst (IsPermutation (map (drop 1) old ++ rows)) (sym e) (IsPermutation-refl _)
+
+gains_along : (old mid new end rows : List Row) → mid ≡ old → end ≡ new → Gains mid rows new → Gains old rows end
+gains_along old mid new end rows before after h = subst (Gains old rows) (sym after) (subst (λ l. Gains l rows new) before h)
+
+-- an index of rows that are the same is one of them still
+index_along : (cs : List ℕ) (rows entries other others : List Row) → other ≡ rows → others ≡ entries → IsIndexOf cs rows entries → IsIndexOf cs other others
+index_along cs rows entries other others p q h = subst (IsIndexOf cs other) (sym q) (subst (λ l. IsIndexOf cs l entries) (sym p) h)
+
+module _ (v0 v1 v2 v3 : View) (ps : List Placed) (e : Appends ELEMENTS (element_rows ps) v0 v1) (t : Appends TAGS (tag_rows ps) v1 v2) (l : Appends LINKS (link_rows ps) v2 v3) where
+  by_elements : (u : ℕ) → u ≢ 2 → 3 ≢ u → 8 ≢ u → v1.trees u ≡ v0.trees u
+  by_elements u a b c = e.others u a (b, (c, tt))
+
+  by_tags : (u : ℕ) → u ≢ 4 → 5 ≢ u → v2.trees u ≡ v1.trees u
+  by_tags u a b = t.others u a (b, tt)
+
+  by_links : (u : ℕ) → u ≢ 6 → 7 ≢ u → v3.trees u ≡ v2.trees u
+  by_links u a b = l.others u a (b, tt)
+
+  all_three : (u : ℕ) → u ≢ 2 → 3 ≢ u → 8 ≢ u → u ≢ 4 → 5 ≢ u → u ≢ 6 → 7 ≢ u → v3.trees u ≡ v0.trees u
+  all_three u a b c d f h i = by_links u h i ∙ by_tags u d f ∙ by_elements u a b c
+
+  after_elements : (u : ℕ) → u ≢ 4 → 5 ≢ u → u ≢ 6 → 7 ≢ u → v3.trees u ≡ v1.trees u
+  after_elements u a b c d = by_links u c d ∙ by_tags u a b
+
+  abbrev from : Trees
+  from = v0.trees
+
+  abbrev to : Trees
+  to = v3.trees
+
+  elements_kept : (cs : List ℕ) (index : ℕ) → v3.trees index ≡ v1.trees index → (IsIndexOf cs (from 2) (from index) → IsIndexOf cs (v1.trees 2) (v1.trees index)) → IsIndexOf cs (from 2) (from index) → IsIndexOf cs (to 2) (to index)
+  elements_kept cs index same step h = index_along cs (v1.trees 2) (v1.trees index) (to 2) (to index) (after_elements 2 (omega arith) (omega arith) (omega arith) (omega arith)) same (step h)
+
+  pub appended : WritesElements v0 v3 ps
+  appended = record {
+    sound = e.sound;
+    catalog = all_three catalog_tree (omega arith) (omega arith) (omega arith) (omega arith) (omega arith) (omega arith) (omega arith);
+    meta = all_three 0 (omega arith) (omega arith) (omega arith) (omega arith) (omega arith) (omega arith) (omega arith);
+    blob = all_three 1 (omega arith) (omega arith) (omega arith) (omega arith) (omega arith) (omega arith) (omega arith);
+    elements = (
+      gains_along (from 2) (from 2) (v1.trees 2) (to 2) (element_rows ps) refl (after_elements 2 (omega arith) (omega arith) (omega arith) (omega arith)) (gains (from 2) (v1.trees 2) (element_rows ps) e.rows),
+      gains_along (from 4) (v1.trees 4) (v2.trees 4) (to 4) (tag_rows ps) (by_elements 4 (omega arith) (omega arith) (omega arith)) (by_links 4 (omega arith) (omega arith)) (gains (v1.trees 4) (v2.trees 4) (tag_rows ps) t.rows),
+      gains_along (from 6) (v2.trees 6) (to 6) (to 6) (link_rows ps) (by_tags 6 (omega arith) (omega arith) ∙ by_elements 6 (omega arith) (omega arith) (omega arith)) refl (gains (v2.trees 6) (to 6) (link_rows ps) l.rows),
+    );
+    indexed = λ was. (
+      elements_kept (1 ∷ 2 ∷ []) 3 (after_elements 3 (omega arith) (omega arith) (omega arith) (omega arith)) e.indexed.0 was.0,
+      (
+        index_along (1 ∷ 2 ∷ 3 ∷ []) (v2.trees 4) (v2.trees 5) (to 4) (to 5) (by_links 4 (omega arith) (omega arith)) (by_links 5 (omega arith) (omega arith))
+            (t.indexed.0 (index_along (1 ∷ 2 ∷ 3 ∷ []) (from 4) (from 5) (v1.trees 4) (v1.trees 5) (by_elements 4 (omega arith) (omega arith) (omega arith)) (by_elements 5 (omega arith) (omega arith) (omega arith)) was.1.0)),
+        (
+          l.indexed.0 (index_along (1 ∷ 2 ∷ 3 ∷ []) (from 6) (from 7) (v2.trees 6) (v2.trees 7) (by_tags 6 (omega arith) (omega arith) ∙ by_elements 6 (omega arith) (omega arith) (omega arith)) (by_tags 7 (omega arith) (omega arith) ∙ by_elements 7 (omega arith) (omega arith) (omega arith)) was.1.1.0),
+          (
+            elements_kept (3 ∷ 4 ∷ []) 8 (after_elements 8 (omega arith) (omega arith) (omega arith) (omega arith)) e.indexed.1.0 was.1.1.1.0,
+            tt,
+          ),
+        ),
+      ),
+    );
+    rest = rest_then v0 v2 v3 (rest_then v0 v1 v2 e.rest t.rest) l.rest;
+  }
+
+-- trees in these shapes are tables
+are_tables : (shapes : ℕ → Shape) (db : Trees) → IsStoreAt shapes → IsOrdered shapes db → AreTables db
+are_tables shapes db at ordered =
+    (subst (λ s. IsShaped s (db 2)) at.1.0 (ordered 2), subst (λ s. IsShaped s (db 4)) at.2.0 (ordered 4), subst (λ s. IsShaped s (db 6)) at.3.0 (ordered 6))
+
+module _ (v0 v1 v2 : View) (extent : Extent) (ps : List Placed) (sets : SetsTree v0 v1 1 (put_row (extent_row extent))) (w : WritesElements v1 v2 ps) where
+  abbrev old : Trees
+  old = v0.trees
+
+  set_other : (u : ℕ) → u ≢ 1 → v1.trees u ≡ old u
+  set_other u apart = ap (λ (v : View). v.trees u) sets.is ∙ with_other old 1 u _ apart
+
+  set_here : v1.trees 1 ≡ put_row (extent_row extent) (old 1)
+  set_here = ap (λ (v : View). v.trees 1) sets.is ∙ with_same old 1 _
+
+  set_rest : v1 ≡ record v0 { trees = v1.trees; cursors = v1.cursors }
+  set_rest = sets.is ∙ ap (λ (ts : Trees). record v0 { trees = ts; cursors = v1.cursors }) (sym (ap (λ (v : View). v.trees) sets.is))
+
+  still_indexed : IsIndexedStore old → IsIndexedStore v1.trees
+  still_indexed was = (
+    index_along (1 ∷ 2 ∷ []) (old 2) (old 3) (v1.trees 2) (v1.trees 3) (set_other 2 (omega arith)) (set_other 3 (omega arith)) was.0,
+    (
+      index_along (1 ∷ 2 ∷ 3 ∷ []) (old 4) (old 5) (v1.trees 4) (v1.trees 5) (set_other 4 (omega arith)) (set_other 5 (omega arith)) was.1.0,
+      (
+        index_along (1 ∷ 2 ∷ 3 ∷ []) (old 6) (old 7) (v1.trees 6) (v1.trees 7) (set_other 6 (omega arith)) (set_other 7 (omega arith)) was.1.1.0,
+        (
+          index_along (3 ∷ 4 ∷ []) (old 2) (old 8) (v1.trees 2) (v1.trees 8) (set_other 2 (omega arith)) (set_other 8 (omega arith)) was.1.1.1.0,
+          tt,
+        ),
+      ),
+    ),
+  )
+
+  pub rest : v2 ≡ record v0 { trees = v2.trees; cursors = v2.cursors }
+  rest = rest_then v0 v1 v2 set_rest w.rest
+
+  pub written : IsStoreAt v0.shape → (v2.is_broken ≡ false → IsOrdered v2.shape v2.trees) → Writes v0 v2 extent ps
+  written at ordered = record {
+    sound = sets.sound;
+    puts = record {
+      catalog = w.catalog ∙ set_other catalog_tree (omega arith);
+      meta = w.meta ∙ set_other 0 (omega arith);
+      blob = w.blob ∙ set_here;
+      elements = (
+        gains_along (old 2) (v1.trees 2) (v2.trees 2) (v2.trees 2) (element_rows ps) (set_other 2 (omega arith)) refl w.elements.0,
+        gains_along (old 4) (v1.trees 4) (v2.trees 4) (v2.trees 4) (tag_rows ps) (set_other 4 (omega arith)) refl w.elements.1,
+        gains_along (old 6) (v1.trees 6) (v2.trees 6) (v2.trees 6) (link_rows ps) (set_other 6 (omega arith)) refl w.elements.2,
+      );
+      indexed = λ was. w.indexed (still_indexed was);
+      tables = are_tables v2.shape v2.trees (subst IsStoreAt (sym (ap (λ (v : View). v.shape) rest)) at) (ordered (ap (λ (v : View). v.is_broken) rest ∙ sets.sound));
+    };
+    rest = rest;
+  }
+
+-- what is written after a read is written after what was before the read
+pub written_after : (a b c : View) (extent : Extent) (ps : List Placed) → OnlyReads a b → Writes b c extent ps → Writes a c extent ps
+written_after a b c extent ps reads w = record {
+  sound = sym (ap (λ (v : View). v.is_broken) reads) ∙ w.sound;
+  puts = subst (λ (ts : Trees). PutsBelow ts c.trees extent ps) (ap (λ (v : View). v.trees) reads) w.puts;
+  rest = w.rest ∙ ap (λ (v : View). record v { trees = c.trees; cursors = c.cursors }) reads;
+}

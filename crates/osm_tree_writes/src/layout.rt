@@ -1,0 +1,85 @@
+//! The trees of a table and of its indexes.
+
+ghost use Rattle.std.specs.Prelude.{IsTrue};
+ghost use Rattle.osm_tree_writes.specs.Appending.{IsIndexAt, IsTableAt};
+
+use sqlite_trees::store::{Shape, Store};
+use sqlite_value::keys::Order;
+
+/// An index of a table. Its entries ascend by their bytes.
+#[derive(Clone, Copy, Debug)]
+pub(crate) struct IndexTree {
+    pub(crate) tree: u32,
+    /// The place of its first column in a row, of which the rowid is place 0.
+    pub(crate) first: usize,
+    /// How many columns it has, which stand side by side in a row.
+    pub(crate) width: usize,
+}
+
+/// A table of elements, of tags or of links.
+#[derive(Clone, Copy, Debug)]
+pub(crate) struct TableTree {
+    pub(crate) tree: u32,
+    /// The index of its primary key.
+    pub(crate) key: IndexTree,
+    /// The index by kind and id, if it has one.
+    pub(crate) by_id: Option<IndexTree>,
+}
+
+/// How many trees a store has: five tables and four indexes.
+pub(crate) const TREES: u64 = 9;
+
+/// The tree of the table of blobs.
+pub(crate) const BLOBS: u32 = 1;
+
+pub(crate) const ELEMENTS: TableTree = TableTree {
+    tree: 2,
+    key: IndexTree {
+        tree: 3,
+        first: 1,
+        width: 2,
+    },
+    by_id: Some(IndexTree {
+        tree: 8,
+        first: 3,
+        width: 2,
+    }),
+};
+
+pub(crate) const TAGS: TableTree = TableTree {
+    tree: 4,
+    key: IndexTree {
+        tree: 5,
+        first: 1,
+        width: 3,
+    },
+    by_id: None,
+};
+
+pub(crate) const LINKS: TableTree = TableTree {
+    tree: 6,
+    key: IndexTree {
+        tree: 7,
+        first: 1,
+        width: 3,
+    },
+    by_id: None,
+};
+
+/// Whether the trees have this index.
+fn has_index<S: Store>(store: &S, index: IndexTree) -> bool
+    ensures { IsTrue result → IsIndexAt (S.Store.view store.now).shape index }
+{
+    store.shape(index.tree) == Shape::Index(Order::PLAIN)
+}
+
+/// Whether the trees have this table and its indexes.
+pub(crate) fn has_table<S: Store>(store: &S, table: &TableTree) -> bool
+    ensures { IsTrue result → IsTableAt (S.Store.view store.now).shape table.now }
+{
+    let has_rest = match table.by_id {
+        Some(index) => has_index(store, index),
+        None => true,
+    };
+    has_rest && has_index(store, table.key) && store.shape(table.tree) == Shape::Table
+}

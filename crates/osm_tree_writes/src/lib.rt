@@ -1,0 +1,13 @@
+//! A blob put into the trees of a store that keeps elements in tables, with no word of SQL.
+#![tactic(auto)]
+
+mod append;
+mod fault;
+mod free;
+pub mod laws;
+mod layout;
+mod put;
+mod rowid;
+
+pub use fault::fault_of;
+pub use put::{put_blob, takes_blobs};

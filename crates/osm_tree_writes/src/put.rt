@@ -1,0 +1,152 @@
+//! A blob's rows, put into the trees in one transaction.
+
+ghost use Rattle.std.specs.Prelude.{◌≡◌, ◌⊎◌, ◌<◌, ◌≤◌, ◌^◌, false, IsTrue, OnOk, OnErr, IfOk, IfErr};
+ghost use Rattle.std.specs.List.{AllByRecursion};
+ghost use Rattle.sqlite_trees.specs.declared.store.Shape.TheVariants.{Table};
+ghost use Rattle.sqlite_trees.specs.Tree.{Trees, put_row};
+ghost use Rattle.sqlite_trees.specs.View.{doubt, IsClean, IsQuiet, KeepsSchema, KeepsCommitted, SetsTree};
+ghost use Rattle.osm_value.specs.Elements.{IsElement};
+ghost use Rattle.osm_store.specs.Keeping.{IsForeign};
+ghost use Rattle.osm_store.specs.Rows.{placed, extent_row};
+ghost use Rattle.osm_tree_writes.specs.Appending.{HasNoMoreIndexes, IsStoreAt};
+ghost use Rattle.osm_tree_writes.specs.Putting.{PutsBelow, Writes, WritesElements};
+
+use crate::append::{append_rows, put_table_row};
+use crate::fault::fault_of;
+use crate::free::are_places_free;
+use crate::layout::{BLOBS, ELEMENTS, LINKS, TAGS, TREES, has_table};
+use osm_store::{Extent, StoreFault, blob_code, element_rows, link_rows, tag_rows};
+use osm_value::Element;
+use osm_value::laws::elements_in_range;
+use pbf_frame::MAX_OFFSET;
+use sqlite_trees::store::{Shape, Store};
+use sqlite_value::row::Row;
+use sqlite_value::value::ValueRef;
+use std::alloc::{AllocError, Global};
+
+/// Whether a put can write to these trees: they have the tables of a store and their indexes, and nothing beside them. An
+/// index of somebody's own would lack the entries of the rows that a put writes.
+pub fn takes_blobs<S: Store>(store: &S) -> bool
+    ensures store { IsTrue result → IsStoreAt (S.Store.view store.now).shape }
+    ensures alone { IsTrue result → HasNoMoreIndexes (S.Store.view store.now).shape }
+{
+    store.tree_count() == TREES
+        && store.shape(BLOBS) == Shape::Table
+        && has_table(store, &ELEMENTS)
+        && has_table(store, &TAGS)
+        && has_table(store, &LINKS)
+}
+
+/// The row of the table of blobs.
+fn extent_row(alloc: Global, extent: &Extent) -> Result<Row, AllocError>
+    requires bounds { (extent.now.off ≤ MAX_OFFSET) × (extent.now.fin ≤ MAX_OFFSET) × (extent.now.n < 2 ^ 63) }
+    ensures { IfOk result (λ row. row ≡ extent_row extent.now) }
+{
+    let mut row = Row::new(alloc);
+    row.push(ValueRef::Int(extent.off as i64))?;
+    row.push(ValueRef::Null)?;
+    row.push(ValueRef::Int(extent.fin as i64))?;
+    row.push(ValueRef::Blob(&extent.digest))?;
+    row.push(ValueRef::Int(i64::from(blob_code(extent.kind))))?;
+    row.push(ValueRef::Int(extent.n as i64))?;
+    Ok(row)
+}
+
+/// Puts the row of a blob into its table.
+fn put_extent<S: Store>(alloc: Global, store: &mut S, extent: &Extent) -> Result<(), StoreFault>
+    requires shaped { IsClean (S.Store.view store.old) → (S.Store.view store.old).shape 1 ≡ Table }
+    requires bounds { (extent.now.off ≤ MAX_OFFSET) × (extent.now.fin ≤ MAX_OFFSET) × (extent.now.n < 2 ^ 63) }
+    ensures ok { OnOk result (IsClean (S.Store.view store.new) → SetsTree (S.Store.view store.old) (S.Store.view store.new) 1 (put_row (extent_row extent.now))) }
+    ensures kept { IsClean (S.Store.view store.new) → OnErr result (KeepsCommitted (S.Store.view store.old) (S.Store.view store.new)) }
+    ensures schema { KeepsSchema (S.Store.view store.old) (S.Store.view store.new) }
+    ensures ours { IfErr result (λ fault. ¬ (IsForeign fault)) }
+    ensures quiet { IsQuiet S.Store.view S.Store.faults S.Store.recovers S.Store.is_shielded store.old store.new }
+{
+    let row = extent_row(alloc, extent)?;
+    put_table_row(store, BLOBS, &row)
+}
+
+/// Puts the rows of a blob's elements behind those of their tables.
+fn append_elements<S: Store>(
+    alloc: Global,
+    store: &mut S,
+    off: u64,
+    elements: &[Element],
+) -> Result<(), StoreFault>
+    requires shaped { IsClean (S.Store.view store.old) → IsStoreAt (S.Store.view store.old).shape }
+    requires bounds { off ≤ MAX_OFFSET }
+    ensures written { OnOk result (IsClean (S.Store.view store.new) → WritesElements (S.Store.view store.old) (S.Store.view store.new) (placed off 0 elements.now)) }
+    ensures kept { IsClean (S.Store.view store.new) → OnErr result (KeepsCommitted (S.Store.view store.old) (S.Store.view store.new)) }
+    ensures schema { KeepsSchema (S.Store.view store.old) (S.Store.view store.new) }
+    ensures ours { IfErr result (λ fault. ¬ (IsForeign fault)) }
+    ensures quiet { IsQuiet S.Store.view S.Store.faults S.Store.recovers S.Store.is_shielded store.old store.new }
+{
+    let rows = element_rows(alloc, off, elements)?;
+    append_rows(alloc, store, &ELEMENTS, &rows)?;
+    let tags = tag_rows(alloc, off, elements)?;
+    append_rows(alloc, store, &TAGS, &tags)?;
+    let links = link_rows(alloc, off, elements)?;
+    append_rows(alloc, store, &LINKS, &links)
+}
+
+/// Writes the rows of a blob, and commits nothing.
+fn write_rows<S: Store>(
+    alloc: Global,
+    store: &mut S,
+    extent: &Extent,
+    elements: &[Element],
+) -> Result<(), StoreFault>
+    requires bounds { (extent.now.off ≤ MAX_OFFSET) × (extent.now.fin ≤ MAX_OFFSET) × (extent.now.n < 2 ^ 63) }
+    ensures written { OnOk result (IsClean (S.Store.view store.new) → Writes (S.Store.view store.old) (S.Store.view store.new) extent.now (placed extent.now.off 0 elements.now)) }
+    ensures can_store { OnOk result (AllByRecursion IsElement elements.now) }
+    ensures alone { OnOk result (HasNoMoreIndexes (S.Store.view store.old).shape) }
+    ensures kept { IsClean (S.Store.view store.new) → OnErr result (KeepsCommitted (S.Store.view store.old) (S.Store.view store.new)) }
+    ensures ours { IfErr result (λ fault. ¬ (IsForeign fault)) }
+    ensures quiet { IsQuiet S.Store.view S.Store.faults S.Store.recovers S.Store.is_shielded store.old store.new }
+{
+    elements_in_range(elements);
+    if !takes_blobs(store) {
+        return Err(StoreFault::Disk);
+    }
+    let are_free = are_places_free(alloc, store, extent.off)?;
+    if !are_free {
+        return Err(StoreFault::Disk);
+    }
+    put_extent(alloc, store, extent)?;
+    append_elements(alloc, store, extent.off, elements)
+}
+
+/// One transaction adds the rows of a blob and of its elements, or nothing. A fault is `Memory`, `Full` where there is no
+/// room, and else `Disk`, as where the trees take no blobs (`takes_blobs`) or have
+/// rows at the blob's offset that are those of no blob; what was committed before stays. Trees that have
+/// to be opened again take nothing.
+pub fn put_blob<S: Store>(
+    alloc: Global,
+    store: &mut S,
+    extent: &Extent,
+    elements: &[Element],
+) -> Result<(), StoreFault>
+    requires bounds { (extent.now.off ≤ MAX_OFFSET) × (extent.now.fin ≤ MAX_OFFSET) × (extent.now.n < 2 ^ 63) }
+    ensures added { IsClean (S.Store.view store.new) → OnOk result (PutsBelow (S.Store.view store.old).trees (S.Store.view store.new).trees extent.now (placed extent.now.off 0 elements.now)) }
+    ensures can_store { OnOk result (AllByRecursion IsElement elements.now) }
+    ensures alone { OnOk result (HasNoMoreIndexes (S.Store.view store.old).shape) }
+    ensures committed { IsClean (S.Store.view store.new) → OnOk result (((S.Store.view store.old).is_broken ≡ false) × ((S.Store.view store.new).is_broken ≡ false) × ((S.Store.view store.new).committed ≡ (S.Store.view store.new).trees)) }
+    ensures unchanged { IsClean (S.Store.view store.new) → (S.Store.view store.new).is_broken ≡ false
+        → OnErr result (((S.Store.view store.old).is_broken ≡ false) × ((S.Store.view store.new).trees ≡ (S.Store.view store.old).committed) × ((S.Store.view store.new).committed ≡ (S.Store.view store.old).committed)) }
+    ensures ours { IfErr result (λ fault. ¬ (IsForeign fault)) }
+    ensures clean { doubt (S.Store.view store.old).is_clean ≤ doubt (S.Store.view store.new).is_clean }
+    // a crash leaves what it could leave before, or the trees with the whole blob
+    ensures crash { IsClean (S.Store.view store.new) → (db : Trees) → S.Store.recovers store.new db
+        → S.Store.recovers store.old db ⊎ (((S.Store.view store.old).is_broken ≡ false) × AllByRecursion IsElement elements.now × PutsBelow (S.Store.view store.old).trees db extent.now (placed extent.now.off 0 elements.now)) }
+{
+    if store.is_broken() {
+        return Err(StoreFault::Disk);
+    }
+    match write_rows(alloc, store, extent, elements) {
+        Ok(()) => store.commit().map_err(fault_of),
+        Err(fault) => {
+            store.rollback();
+            Err(fault)
+        }
+    }
+}
