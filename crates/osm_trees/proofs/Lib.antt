@@ -8,3 +8,5 @@ pub mod Looking
 pub mod Answers
 pub mod TreeReads
 pub mod Bridge
+pub mod Downward
+pub mod Adding

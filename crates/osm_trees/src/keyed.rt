@@ -7,9 +7,9 @@ ghost use Rattle.sqlite_exec.specs.Plan.{resolved};
 ghost use Rattle.osm_store.specs.Keeping.{IsForeign};
 ghost use Rattle.osm_trees.specs.Below.{Finds};
 
-use crate::extents::fault_of;
 use crate::row::copy_columns;
 use osm_store::StoreFault;
+use osm_tree_writes::fault_of;
 use sqlite_exec::work::FromRow;
 use sqlite_trees::store::{Direction, Shape, Store};
 use sqlite_value::keys::Order;

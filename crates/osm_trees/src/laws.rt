@@ -2,12 +2,17 @@
 
 ghost use Rattle.std.specs.Prelude.{◌≡◌, false};
 ghost use Rattle.sqlite.specs.Held.{state};
+ghost use Rattle.sqlite.specs.State.{HasCleanDisk, IsLive, Opens};
 ghost use Rattle.osm_store.specs.declared.schema.layout.Layout.{Layout};
+ghost use Rattle.osm_store.specs.declared.schema.layout.Layout.TheVariants.{Tables};
 ghost use Rattle.osm_store.specs.Held.{HeldMap};
 ghost use Rattle.osm_store.specs.LayoutHolding.{Holds};
 ghost use Rattle.osm_trees.specs.Below.{HoldsBelow};
 
+use crate::tree_store::TreeStore;
+use osm_store::laws::holds_again;
 use sqlite::{Alter, Connection};
+use sqlite_trees::store::Store;
 
 /// What a connection holds, the trees of its store hold.
 pub fn holds_below<S: Alter>(connection: &Connection<S>)
@@ -15,4 +20,16 @@ pub fn holds_below<S: Alter>(connection: &Connection<S>)
         → HoldsBelow layout (S.Store.view connection.now.store) held }
 {
     let _connection = connection;
+}
+
+/// A connection that was opened over the trees that a tree store has committed holds what the tree store holds.
+pub fn a_connection_holds_the_same<T: Store, S: Alter>(
+    before: &TreeStore<T>,
+    connection: &Connection<S>,
+)
+    ensures { (held : HeldMap) → HoldsBelow Tables (T.Store.view before.now.store) held → HasCleanDisk (state S.Store connection.now) → Opens (state S.Store connection.now) → IsLive (state S.Store connection.now)
+        → (state S.Store connection.now).now.trees ≡ (T.Store.view before.now.store).committed → Holds Tables (state S.Store connection.now) held }
+{
+    let _before = before;
+    holds_again(connection);
 }

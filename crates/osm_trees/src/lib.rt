@@ -1,4 +1,4 @@
-//! Reads of a store of blobs below SQL, over the trees of its database.
+//! A store of blobs below SQL, over the trees of its database.
 #![tactic(auto)]
 
 mod catalog;
@@ -9,13 +9,13 @@ pub mod laws;
 mod load;
 mod opening;
 mod parts;
-mod reader;
 mod row;
 mod search;
 mod tables;
+mod tree_store;
 mod version;
 mod ways;
 
-pub use reader::TreeReader;
 pub use tables::open_tables;
+pub use tree_store::TreeStore;
 pub use ways::Opened;

@@ -17,7 +17,7 @@ ghost use Rattle.osm_trees.specs.Below.{HoldsBelow, Looks};
 
 use crate::keyed::rows_with;
 use crate::parts::{ELEMENTS, parts_of};
-use osm_store::StoreFault;
+use osm_store::{StoreFault, element_code};
 use osm_value::MemberKind;
 use sqlite::Row;
 use sqlite_exec::work::FromRow;
@@ -29,17 +29,6 @@ use std::alloc::{AllocError, Global};
 
 /// The tree of the index of elements by kind and id.
 const ELEMENT_BY_ID: u32 = 8;
-
-/// The number that a row has for a kind of element.
-fn element_code(kind: MemberKind) -> u32
-    ensures { result ≡ element_code kind }
-{
-    match kind {
-        MemberKind::Node => 0,
-        MemberKind::Way => 1,
-        MemberKind::Relation => 2,
-    }
-}
 
 /// The key of the elements of this kind and id.
 fn id_key(alloc: Global, kind: MemberKind, id: i64) -> Result<row::Row, AllocError>

@@ -4,7 +4,7 @@ use Rattle.osm_store.specs.declared.schema.layout.Layout.TheVariants.{Tables}
 use Rattle.osm_trees.specs.Below.{HoldsBelow}
 use Rattle.osm_trees.specs.Reading.{Reading, JustReads}
 use Rattle.osm_trees.proofs.Answers.{just_reads, ok_of}
-use Rattle.osm_trees.proofs.reader.TreeReaderReader.extents_touching.Goals as goal
+use Rattle.osm_trees.proofs.tree_store.TreeStoreReader.extents_touching.Goals as goal
 
 pub returns-clause-reads : goal.returns-clause-reads
 returns-clause-reads g c =

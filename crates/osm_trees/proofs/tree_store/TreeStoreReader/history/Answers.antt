@@ -2,7 +2,7 @@ use Rattle.std.proofs.Common.{subst}
 use Rattle.std.proofs.lemmas.Result.{MatchResult-weaker}
 use Rattle.osm_trees.specs.Reading.{Reading, JustReads}
 use Rattle.osm_trees.proofs.Answers.{just_reads}
-use Rattle.osm_trees.proofs.reader.TreeReaderReader.history.Goals as goal
+use Rattle.osm_trees.proofs.tree_store.TreeStoreReader.history.Goals as goal
 
 pub returns-clause-reads : goal.returns-clause-reads
 returns-clause-reads g c =

@@ -1,4 +1,4 @@
-//! A reader of a store of blobs in the layout of tables, over trees.
+//! A store of blobs in the layout of tables, over trees.
 
 ghost use Rattle.std.specs.Prelude.{◌≡◌};
 ghost use Rattle.osm_store.specs.Keeping.{failures_after};
@@ -6,20 +6,22 @@ ghost use Rattle.osm_store.specs.Keeping.{failures_after};
 use crate::extents::{all_extents, touched_extents};
 use crate::history::any_flag;
 use crate::load::{find_elements, load_blob};
-use osm_store::{Extent, Found, Loaded, Reader, StoreFault};
-use osm_value::MemberKind;
+use osm_store::{Extent, Found, Keeper, Loaded, Reader, StoreFault};
+use osm_tree_writes::put_blob;
+use osm_value::{Element, MemberKind};
+use pbf_frame::Kind;
 use sqlite_trees::store::Store;
 use std::alloc::Global;
 use std::marker::Model;
 
-/// A reader of a store of blobs over the trees of its database, numbered as this program makes them: it begins at once,
-/// and reads no more rows than a call needs.
-pub struct TreeReader<S: Store> {
+/// A store of blobs over the trees of its database, numbered as this program makes them: it begins at once, reads no more
+/// rows than a call needs, and writes the rows of a blob with no word of SQL.
+pub struct TreeStore<S: Store> {
     store: S,
     failures: u64,
 }
 
-impl<S: Store> Model for TreeReader<S> {
+impl<S: Store> Model for TreeStore<S> {
     ghost use Rattle.osm_trees.specs.Reading.{Reading, reading_code};
 
     ghost Value = { Reading S };
@@ -29,28 +31,28 @@ impl<S: Store> Model for TreeReader<S> {
     ghost view = { λ r. record { store = r.store; failures = r.failures } };
 }
 
-impl<S: Store + Drop> Drop for TreeReader<S> {
+impl<S: Store + Drop> Drop for TreeStore<S> {
     fn drop(self) {
-        let TreeReader {
+        let TreeStore {
             store: _,
             failures: _,
         } = self;
     }
 }
 
-impl<S: Store> TreeReader<S> {
-    /// A reader of these trees.
-    pub fn new(store: S) -> TreeReader<S>
+impl<S: Store> TreeStore<S> {
+    /// The store of these trees.
+    pub fn new(store: S) -> TreeStore<S>
         ensures { result ≡ record { store = store; failures = 0 } }
     {
-        TreeReader { store, failures: 0 }
+        TreeStore { store, failures: 0 }
     }
 
-    /// The trees, as the reads left them.
+    /// The trees, as the calls left them.
     pub fn into_store(self) -> S
         ensures { result ≡ self.store }
     {
-        let TreeReader { store, failures: _ } = self;
+        let TreeStore { store, failures: _ } = self;
         store
     }
 }
@@ -66,7 +68,7 @@ fn failures_after<T>(answer: &Result<T, StoreFault>, failures: u64) -> u64
     }
 }
 
-impl<S: Store> Reader for TreeReader<S> {
+impl<S: Store> Reader for TreeStore<S> {
     ghost use Rattle.std.specs.Prelude.{refl};
     ghost use Rattle.sqlite_trees.specs.View.{IsClean};
     ghost use Rattle.osm_store.specs.declared.schema.layout.Layout.TheVariants.{Tables};
@@ -140,4 +142,27 @@ impl<S: Store> Reader for TreeReader<S> {
     ghost is_apart = { λ r held holds. holds.kept.apart };
 
     ghost has_few_texts = { λ r held holds. few_texts_of Tables held holds.kept };
+}
+
+impl<S: Store> Keeper for TreeStore<S> {
+    fn put(
+        &mut self,
+        alloc: Global,
+        off: u64,
+        fin: u64,
+        digest: &[u8; 32],
+        kind: Kind,
+        elements: &[Element],
+    ) -> Result<(), StoreFault> {
+        let extent = Extent {
+            off,
+            fin,
+            digest: *digest,
+            kind,
+            n: elements.len() as u64,
+        };
+        let answer = put_blob(alloc, &mut self.store, &extent, elements);
+        self.failures = failures_after(&answer, self.failures);
+        answer
+    }
 }

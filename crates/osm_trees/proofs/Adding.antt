@@ -1,0 +1,133 @@
+-- A put of a blob's rows into the trees keeps what a keeper promises of it.
+use Rattle.std.proofs.Common.{◌≡◌, ◌⊎◌, inl, inr, ℕ, ◌<◌, ◌≤◌, false, length, IsTrue, Result, Ok, Err, sym, subst, ◌∙◌, arith}
+use Rattle.std.specs.Prelude.{OnOk, OnErr, IfErr}
+use Rattle.std.specs.List.{AllByRecursion}
+use Rattle.sqlite_trees.specs.declared.store.Store.{Ghosts}
+use Rattle.sqlite_trees.specs.Tree.{Trees}
+use Rattle.sqlite_trees.specs.View.{doubt, IsClean}
+use Rattle.pbf_frame.specs.declared.part.TheConstants.{MAX_OFFSET}
+use Rattle.osm_value.specs.Elements.{IsElement}
+use Rattle.osm_store.specs.declared.fault.StoreFault.{StoreFault}
+use Rattle.osm_store.specs.declared.schema.layout.Layout.TheVariants.{Tables}
+use Rattle.osm_store.specs.Held.{Blob, HeldMap}
+use Rattle.osm_store.specs.Keeping.{Adds, IsAddable, IsForeign, extent_of, failures_after, with_blob}
+use Rattle.osm_store.specs.LayoutHolding.{IsBlob, IsKept, TablesHold}
+use Rattle.osm_store.specs.Rows.{placed}
+use Rattle.osm_store.proofs.MapLemmas.OneMap.{one_map}
+use Rattle.osm_store.proofs.MapLemmas.OneMore.{kept_more}
+use Rattle.osm_tree_writes.specs.Putting.{PutsBelow}
+use Rattle.osm_tree_writes.proofs.Obeying.{hold_with}
+use Rattle.osm_trees.specs.Below.{HoldsBelow, IsUsable, MayLeave, LeavesAMap, SameTrees}
+use Rattle.osm_trees.specs.Reading.{Reading, leaves_held}
+
+-- the rows of the blob are put into these trees
+abbrev pub Puts : ℕ → Blob → Trees → Trees → Type 0
+Puts off blob old new = PutsBelow old new (extent_of (off, blob)) (placed off 0 blob.elements)
+
+-- what the writing of a blob's rows says
+pub record Wrote {S T : Type 0} (g : Ghosts S) (off : ℕ) (blob : Blob) (old new : S) (r : Result T StoreFault) : Type 0 where
+  pub added : IsClean (g.view new) → OnOk r (Puts off blob (g.view old).trees (g.view new).trees)
+  pub can_store : OnOk r (AllByRecursion IsElement blob.elements)
+  pub committed : IsClean (g.view new) → OnOk r (((g.view old).is_broken ≡ false) × ((g.view new).is_broken ≡ false) × ((g.view new).committed ≡ (g.view new).trees))
+  pub unchanged : IsClean (g.view new) → (g.view new).is_broken ≡ false → OnErr r (((g.view old).is_broken ≡ false) × ((g.view new).trees ≡ (g.view old).committed) × ((g.view new).committed ≡ (g.view old).committed))
+  pub ours : IfErr r (λ fault. ¬ (IsForeign fault))
+  pub clean : doubt (g.view old).is_clean ≤ doubt (g.view new).is_clean
+  pub crash : IsClean (g.view new) → (db : Trees) → g.recovers new db → g.recovers old db ⊎ (((g.view old).is_broken ≡ false) × AllByRecursion IsElement blob.elements × Puts off blob (g.view old).trees db)
+
+-- what a keeper promises of a put, of this store
+abbrev pub AddsBelow : {S T : Type 0} → Ghosts S → ℕ → Blob → Reading S → Result T StoreFault → Reading S → Type 0
+AddsBelow g off blob old result new = Adds (λ r held. HoldsBelow Tables (g.view r.store) held) (λ r left. MayLeave g r.store left) (λ r. LeavesAMap g r.store) (λ r s. SameTrees (g.view r.store) (g.view s.store))
+    (λ r. IsClean (g.view r.store)) (λ r. IsUsable (g.view r.store)) (λ r. r.failures) off blob old result new
+
+module _ {S : Type 0} (g : Ghosts S) (old new : Reading S) (off : ℕ) (blob : Blob) (order : off < blob.fin) (limit : blob.fin ≤ MAX_OFFSET) (digest : length blob.digest ≡ 32)
+    (settles : (db : Trees) → IsTrue (g.view old.store).is_open → g.recovers old.store db → db ≡ (g.view old.store).committed) (shuts : (g.view old.store).is_open ≡ false → IsTrue (g.view old.store).is_broken) where
+  abbrev Written : Result (Unit {0}) StoreFault → Type 0
+  Written r = Wrote g off blob old.store new.store r
+
+  -- ---- where a map is held that can take the blob
+  module _ (held : HeldMap) (holds : HoldsBelow Tables (g.view old.store) held) (can : IsAddable held off blob) where
+    blob_is : AllByRecursion IsElement blob.elements → IsBlob Tables blob
+    blob_is stored = record { digest = digest; can_store = stored; few_texts = can.few_texts }
+
+    kept : AllByRecursion IsElement blob.elements → IsKept Tables (with_blob held off blob)
+    kept stored = kept_more held off blob Tables holds.kept can.free order limit (blob_is stored)
+
+    tables : AllByRecursion IsElement blob.elements → (db : Trees) → Puts off blob (g.view old.store).trees db → TablesHold Tables (with_blob held off blob) db
+    tables stored db puts = hold_with held off blob holds.kept can order limit (blob_is stored) (g.view old.store).trees db holds.tables puts
+
+    holds_more : IsClean (g.view new.store) → AllByRecursion IsElement blob.elements → Puts off blob (g.view old.store).trees (g.view new.store).trees → (g.view new.store).is_broken ≡ false
+        → (g.view new.store).committed ≡ (g.view new.store).trees → HoldsBelow Tables (g.view new.store) (with_blob held off blob)
+    holds_more clean stored puts unbroken committed = record {
+      clean = clean;
+      unbroken = unbroken;
+      settled = sym committed;
+      kept = kept stored;
+      tables = tables stored (g.view new.store).trees puts;
+      only = λ other kept_too tables_too. one_map Tables other (with_blob held off blob) (g.view new.store).trees kept_too (kept stored) tables_too (tables stored (g.view new.store).trees puts);
+    }
+
+    leaves_more : {r : Result (Unit {0}) StoreFault} → Written r → IsClean (g.view new.store) → (left : HeldMap) → MayLeave g new.store left → MayLeave g old.store left ⊎ (left ≡ with_blob held off blob)
+    leaves_more w clean left may = elim (w.crash clean may.trees may.left) [
+      | inl before ↦ inl (record { kept = may.kept; trees = may.trees; left = before; tables = may.tables })
+      | inr put ↦ inr (one_map Tables left (with_blob held off blob) may.trees may.kept (kept put.1) may.tables (tables put.1 may.trees put.2))
+    ]
+
+    leaves_a_map : {r : Result (Unit {0}) StoreFault} → Written r → IsClean (g.view new.store) → LeavesAMap g new.store
+    leaves_a_map w clean db left = elim (w.crash clean db left) [
+      | inl before ↦ leaves_held (g.view old.store) (g.recovers old.store) held holds settles shuts db before
+      | inr put ↦ (with_blob held off blob, kept put.1, tables put.1 db put.2)
+    ]
+
+  -- ---- where nothing is written
+  holds_still : (held : HeldMap) → HoldsBelow Tables (g.view old.store) held → IsClean (g.view new.store) → (g.view new.store).is_broken ≡ false → (g.view new.store).trees ≡ (g.view old.store).committed
+      → (g.view new.store).committed ≡ (g.view old.store).committed → HoldsBelow Tables (g.view new.store) held
+  holds_still held holds clean unbroken trees committed =
+      let same = trees ∙ sym holds.settled in
+      record {
+        clean = clean;
+        unbroken = unbroken;
+        settled = trees ∙ sym committed;
+        kept = holds.kept;
+        tables = subst (TablesHold Tables held) (sym same) holds.tables;
+        only = λ other kept tables. holds.only other kept (subst (TablesHold Tables other) same tables);
+      }
+
+  -- what is left after a put into a store that can't go on was left before
+  left_before : {r : Result (Unit {0}) StoreFault} → Written r → IsClean (g.view new.store) → ¬ (IsUsable (g.view old.store)) → (db : Trees) → g.recovers new.store db → g.recovers old.store db
+  left_before w clean closed db left = elim (w.crash clean db left) [
+    | inl before ↦ before
+    | inr put ↦ absurd (closed (omega (arith, w.clean, clean), put.0))
+  ]
+
+  shut_leaves : {r : Result (Unit {0}) StoreFault} → Written r → IsClean (g.view new.store) → ¬ (IsUsable (g.view old.store)) → (left : HeldMap) → MayLeave g new.store left → MayLeave g old.store left
+  shut_leaves w clean closed left may = record { kept = may.kept; trees = may.trees; left = left_before w clean closed may.trees may.left; tables = may.tables }
+
+  pub put_adds : (r : Result (Unit {0}) StoreFault) → Written r → new.failures ≡ failures_after r old.failures → AddsBelow g off blob old r new
+  put_adds (Ok x) w counted = record {
+    honest = λ clean. omega (arith, w.clean, clean);
+    open_if = λ up. (omega (arith, w.clean, up.0), (w.committed up.0).0);
+    ok = λ clean held holds can. holds_more held holds can clean w.can_store (w.added clean) (w.committed clean).1 (w.committed clean).2;
+    err = tt;
+    same = λ clean up. tt;
+    crash = λ clean held left holds can may. leaves_more held holds can w clean left may;
+    whole = λ clean held holds can. leaves_a_map held holds can w clean;
+    own = λ held holds clean can. tt;
+    was_open = λ clean. (omega (arith, w.clean, clean), (w.committed clean).0);
+    shut = λ clean closed left may. shut_leaves w clean closed left may;
+    shut_whole = λ clean closed whole db left. whole db (left_before w clean closed db left);
+    counted = counted;
+  }
+  put_adds (Err fault) w counted = record {
+    honest = λ clean. omega (arith, w.clean, clean);
+    open_if = λ up. (omega (arith, w.clean, up.0), (w.unchanged up.0 up.1).0);
+    ok = tt;
+    err = λ clean up held holds can. holds_still held holds clean up.1 (w.unchanged clean up.1).1 (w.unchanged clean up.1).2;
+    same = λ clean up. (w.unchanged clean up.1).2;
+    crash = λ clean held left holds can may. leaves_more held holds can w clean left may;
+    whole = λ clean held holds can. leaves_a_map held holds can w clean;
+    own = λ held holds clean can. w.ours;
+    was_open = λ clean. tt;
+    shut = λ clean closed left may. shut_leaves w clean closed left may;
+    shut_whole = λ clean closed whole db left. whole db (left_before w clean closed db left);
+    counted = counted;
+  }

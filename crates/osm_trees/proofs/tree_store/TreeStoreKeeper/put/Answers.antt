@@ -1,0 +1,18 @@
+use Rattle.std.proofs.Common.{◌≡◌, length, rules, subst}
+use Rattle.osm_store.specs.Held.{Blob}
+use Rattle.osm_trees.specs.Reading.{Reading}
+use Rattle.osm_trees.proofs.Adding.{AddsBelow, put_adds}
+use Rattle.osm_trees.proofs.tree_store.TreeStoreKeeper.put.Goals as goal
+
+pub returns : goal.returns
+returns g c =
+    let blob : Blob = record { fin = c.args.fin; digest = c.args.digest.now; kind = c.args.kind; elements = c.args.elements.now } in
+    let inside : Reading _ = record { store = c.self.inside.store; failures = c.self.inside.failures } in
+    let new : Reading _ = record { store = c.put_blob-answer.new.store; failures = c.failures_after-self-inside.result } in
+    let wide : length c.args.digest.now ≡ 32 = search rules in
+    let says = c.put_blob-answer.ensures in
+    let adds = put_adds g.S.Store inside new c.args.off blob c.requires.order c.requires.limit wide (λ db up there. g.met.S.Store.settled c.self.inside.store db up there) (g.met.S.Store.broken_if_shut c.self.inside.store)
+    c.put_blob-answer.result
+    (record { added = says.added; can_store = says.can_store; committed = says.committed; unchanged = says.unchanged; ours = says.ours; clean = says.clean; crash = says.crash })
+    c.failures_after-self-inside.ensures in
+    record { adds = subst (λ old. AddsBelow g.S.Store c.args.off blob old c.put_blob-answer.result new) c.self.view_is adds }
