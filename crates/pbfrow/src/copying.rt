@@ -3,9 +3,11 @@
 ghost use Rattle.std.specs.Prelude.{◌≡◌, false};
 ghost use Rattle.sqlite.specs.Held.{state};
 
-use crate::database::{adopted_or_created, close, is_missing, refuse, unopened};
+use crate::database::refuse;
+use crate::databases::{Databases, close, is_missing, opened_or_made};
 use crate::meter::Meter;
 use osm_store::{BodyStore, Keeper, Reader, StoreFault};
+use osm_trees::Opened;
 use osm_value::Outlet;
 use pbfrow_commands::metered::{MeteredOutput, MeteredStore};
 use pbfrow_commands::migrate::migrate;
@@ -33,43 +35,31 @@ fn copied<F: Reader + Drop, T: Keeper, W: Write>(
     )
 }
 
-/// Copies what a store holds into the store of a connection, which is made if it has none. Answers the exit status, and
-/// gives the connection back unless it has another store.
-fn copied_into<F: Reader + Drop, S: Alter + Drop, W: Write>(
-    alloc: Global,
-    from: F,
-    connection: Connection<S>,
-    meter: &Meter,
-    out: &mut Outlet<W>,
-) -> (u8, Option<Connection<S>>)
-    requires { (state S.Store connection).in_transaction ≡ false }
-{
-    match adopted_or_created(connection) {
-        Ok(mut store) => {
-            let status = copied(alloc, from, &mut store, meter, out);
-            (status, Some(store.into_connection()))
-        }
-        Err(fault) => (refuse(out, fault), None),
-    }
-}
-
-/// Copies what a store holds into a database file, and answers the exit status.
-fn copy_into<F: Reader + Drop, W: Write>(
+/// Copies what a store holds into a database, and answers the exit status.
+fn copy_into<D: Databases, F: Reader + Drop, W: Write>(
     rt: &HostRuntime,
+    files: &D,
     from: F,
     database: &str,
     meter: &Meter,
     out: &mut Outlet<W>,
 ) -> u8 {
-    match Connection::open(rt, database) {
-        Ok(connection) => close(copied_into(rt.alloc(), from, connection, meter, out)),
-        Err(error) => refuse(out, unopened(error)),
-    }
+    let mut store = match opened_or_made(rt, files, database) {
+        Ok(store) => store,
+        Err(fault) => return refuse(out, fault),
+    };
+    let status = match &mut store {
+        Opened::ByTrees(store) => copied(rt.alloc(), from, store, meter, out),
+        Opened::BySql(store) => copied(rt.alloc(), from, store, meter, out),
+    };
+    close(files, store);
+    status
 }
 
-/// Copies what the store of a connection holds into a database file, and answers the exit status.
-fn copy_out_of<S: Alter + Drop, W: Write>(
+/// Copies what the store of a connection holds into a database, and answers the exit status.
+fn copy_out_of<D: Databases, S: Alter + Drop, W: Write>(
     rt: &HostRuntime,
+    files: &D,
     connection: Connection<S>,
     database: &str,
     meter: &Meter,
@@ -78,14 +68,14 @@ fn copy_out_of<S: Alter + Drop, W: Write>(
     requires { (state S.Store connection).in_transaction ≡ false }
 {
     match BodyStore::adopt(connection) {
-        Ok(store) => copy_into(rt, store, database, meter, out),
+        Ok(store) => copy_into(rt, files, store, database, meter, out),
         Err((fault, _)) => refuse(out, fault),
     }
 }
 
 /// Copies what a database that keeps elements as blocks holds into one that keeps them as rows, and answers the exit
 /// status. Unless the first has a store of blocks, the other isn't touched.
-pub(crate) fn copy(rt: &HostRuntime, old: &str, new: &str) -> u8 {
+pub(crate) fn copy<D: Databases>(rt: &HostRuntime, files: &D, old: &str, new: &str) -> u8 {
     let meter = Meter::new(rt, true);
     let mut out = Outlet::new(MeteredOutput {
         writer: io::writer(rt),
@@ -94,9 +84,9 @@ pub(crate) fn copy(rt: &HostRuntime, old: &str, new: &str) -> u8 {
     if is_missing(rt, old) {
         return refuse(&mut out, StoreFault::NotThisStore(None));
     }
-    let status = match Connection::open(rt, old) {
-        Ok(connection) => copy_out_of(rt, connection, new, &meter, &mut out),
-        Err(error) => refuse(&mut out, unopened(error)),
+    let status = match files.connection(rt, old) {
+        Ok(connection) => copy_out_of(rt, files, connection, new, &meter, &mut out),
+        Err(fault) => refuse(&mut out, fault),
     };
     meter.erase();
     status

@@ -1,14 +1,13 @@
-//! The commands on one database: they open its file and write the answer to standard output.
+//! The commands on one database: they open it and write the answer to standard output.
 
-ghost use Rattle.std.specs.Prelude.{◌≡◌, ◌≤◌, false, IfOk};
-ghost use Rattle.sqlite.specs.Held.{state};
+ghost use Rattle.std.specs.Prelude.{◌≤◌};
 
 use crate::FAULTY;
+use crate::databases::{Databases, close, opened, opened_or_made};
 use crate::meter::Meter;
-use crate::trees::open_trees;
 use osm_import::{Inlet, Stop};
-use osm_store::{Keeper, Reader, StoreFault, TableStore};
-use osm_trees::TreeReader;
+use osm_store::{Keeper, Reader, StoreFault};
+use osm_trees::Opened;
 use osm_value::{MemberKind, Outlet};
 use pbf_frame::MAX_OFFSET;
 use pbfrow_commands::export::export;
@@ -18,12 +17,10 @@ use pbfrow_commands::metered::{BlobLines, MeteredOutput, MeteredReader, MeteredS
 use pbfrow_commands::report::{put_fault_at, put_store_fault, refuse_memory};
 use pbfrow_commands::status::status;
 use pbfrow_words::Question;
-use sqlite::{Alter, Connection, Error, ErrorCode, File as DatabaseFile, FileStore};
-use sqlite_trees::store::Store;
 use std::alloc::Global;
 use std::fs::File;
 use std::io;
-use std::io::{BufWriter, ErrorKind, LineWriter, Read, Write};
+use std::io::{BufWriter, LineWriter, Read, Write};
 
 /// What is asked of one database.
 #[derive(Clone, Copy)]
@@ -32,14 +29,6 @@ pub(crate) enum Query {
     Whole(Question),
     /// Where the element of this kind and id is held.
     Element(MemberKind, i64),
-}
-
-/// Why a database isn't opened: memory was refused, or any other cause.
-pub(crate) fn unopened(error: Error) -> StoreFault {
-    match error {
-        Error::SqliteFailure(ErrorCode::OutOfMemory) => StoreFault::Memory,
-        _ => StoreFault::Disk,
-    }
 }
 
 /// Writes the line of a fault of a database, and answers the exit status.
@@ -58,46 +47,6 @@ pub(crate) fn end<W: Write>(out: &mut Outlet<W>, meter: &Meter, status: u8) -> u
     }
 }
 
-/// The store that a connection has.
-pub(crate) fn adopted<S: Alter + Drop>(
-    connection: Connection<S>,
-) -> Result<TableStore<S>, StoreFault>
-    requires { (state S.Store connection).in_transaction ≡ false }
-    ensures { IfOk result (λ store. store.failures ≡ 0) }
-{
-    match TableStore::adopt(connection) {
-        Ok(store) => Ok(store),
-        Err((fault, _)) => Err(fault),
-    }
-}
-
-/// The store that a connection has. If it has none, one is made.
-pub(crate) fn adopted_or_created<S: Alter + Drop>(
-    connection: Connection<S>,
-) -> Result<TableStore<S>, StoreFault>
-    requires { (state S.Store connection).in_transaction ≡ false }
-{
-    let (fault, connection) = match TableStore::adopt(connection) {
-        Ok(store) => return Ok(store),
-        Err(refused) => refused,
-    };
-    if fault != StoreFault::NotThisStore(None) {
-        return Err(fault);
-    }
-    match TableStore::create(connection) {
-        Ok(store) => Ok(store),
-        Err((fault, _)) => Err(fault),
-    }
-}
-
-/// Whether a file is missing. One that can't be opened for another reason isn't.
-pub(crate) fn is_missing(rt: &HostRuntime, name: &str) -> bool {
-    match File::open(rt, name) {
-        Ok(_) => false,
-        Err(error) => error.kind() == ErrorKind::NotFound,
-    }
-}
-
 /// Imports what a reader gives into a store, and answers the exit status.
 fn imported<R: Read + Drop, K: Keeper, W: Write>(
     alloc: Global,
@@ -109,27 +58,6 @@ fn imported<R: Read + Drop, K: Keeper, W: Write>(
     requires { start.at ≤ MAX_OFFSET }
 {
     import(alloc, &mut Inlet::new(reader), store, start, out)
-}
-
-/// Imports what a reader gives into the store of a connection, which is made if it has none. Answers the exit status,
-/// and gives the connection back unless it has another store.
-fn filled<S: Alter + Drop, R: Read + Drop, W: Write>(
-    alloc: Global,
-    connection: Connection<S>,
-    reader: R,
-    start: Start,
-    out: &mut Outlet<W>,
-) -> (u8, Option<Connection<S>>)
-    requires within { start.at ≤ MAX_OFFSET }
-    requires settled { (state S.Store connection).in_transaction ≡ false }
-{
-    match adopted_or_created(connection) {
-        Ok(mut store) => {
-            let status = imported(alloc, reader, &mut store, start, out);
-            (status, Some(store.into_connection()))
-        }
-        Err(fault) => (refuse(out, fault), None),
-    }
 }
 
 /// Asks a store, and answers the exit status.
@@ -159,54 +87,38 @@ fn answer<K: Reader + Drop, W: Write>(
     }
 }
 
-/// Asks the store of a connection, and answers the exit status.
-fn asked<S: Alter + Drop, W: Write>(
-    alloc: Global,
-    connection: Connection<S>,
-    query: Query,
-    meter: &Meter,
-    out: &mut Outlet<W>,
-) -> u8
-    requires { (state S.Store connection).in_transaction ≡ false }
-{
-    match adopted(connection) {
-        Ok(store) => answer(alloc, store, query, meter, out),
-        Err(fault) => refuse(out, fault),
-    }
-}
-
-/// Closes a connection that was written to, and answers the exit status that is given with it.
-pub(crate) fn close(ended: (u8, Option<Connection<FileStore<DatabaseFile>>>)) -> u8 {
-    let (status, connection) = ended;
-    if let Some(connection) = connection {
-        // the log is copied into the database; if that fails it stays, and is read when the database is next opened
-        let _closed = connection.close();
-    }
-    status
-}
-
-/// Imports what a reader gives into a database file, and answers the exit status.
-fn fill_from<R: Read + Drop, W: Write>(
+/// Imports what a reader gives into a database, and answers the exit status.
+fn fill_from<D: Databases, R: Read + Drop, W: Write>(
     rt: &HostRuntime,
+    files: &D,
     reader: R,
     database: &str,
     start: Start,
-    meter: &Meter,
     out: &mut Outlet<W>,
 ) -> u8
     requires { start.at ≤ MAX_OFFSET }
 {
-    let status = match Connection::open(rt, database) {
-        Ok(connection) => close(filled(rt.alloc(), connection, reader, start, out)),
-        Err(error) => refuse(out, unopened(error)),
+    let mut store = match opened_or_made(rt, files, database) {
+        Ok(store) => store,
+        Err(fault) => return refuse(out, fault),
     };
-    meter.erase();
+    let status = match &mut store {
+        Opened::ByTrees(store) => imported(rt.alloc(), reader, store, start, out),
+        Opened::BySql(store) => imported(rt.alloc(), reader, store, start, out),
+    };
+    close(files, store);
     status
 }
 
 /// Imports a file, or a part of one, into a database, and answers the exit status. If the file can't be
 /// opened, no database is made.
-pub(crate) fn fill(rt: &HostRuntime, file: &str, database: &str, start: Start) -> u8
+pub(crate) fn fill<D: Databases>(
+    rt: &HostRuntime,
+    files: &D,
+    file: &str,
+    database: &str,
+    start: Start,
+) -> u8
     requires { start.at ≤ MAX_OFFSET }
 {
     let meter = Meter::new(rt, true);
@@ -232,55 +144,13 @@ pub(crate) fn fill(rt: &HostRuntime, file: &str, database: &str, start: Start) -
         reader: input,
         watcher: &meter,
     };
-    fill_from(rt, reader, database, start, &meter, &mut out)
-}
-
-/// Asks the trees of a database, and answers the exit status.
-fn answer_of_trees<S: Store + Drop, W: Write>(
-    alloc: Global,
-    trees: S,
-    query: Query,
-    meter: &Meter,
-    out: &mut Outlet<W>,
-) -> u8 {
-    answer(alloc, TreeReader::new(trees), query, meter, out)
-}
-
-/// Asks a database file that is opened by SQL, and answers the exit status.
-fn ask_by_sql<W: Write>(
-    rt: &HostRuntime,
-    database: &str,
-    query: Query,
-    meter: &Meter,
-    out: &mut Outlet<W>,
-) -> u8 {
-    match Connection::open(rt, database) {
-        Ok(connection) => asked(rt.alloc(), connection, query, meter, out),
-        Err(error) => refuse(out, unopened(error)),
-    }
-}
-
-/// Asks a database file, and answers the exit status. A sound database of this version is read by its trees, and any other
-/// is opened by SQL, which says what it is.
-fn ask_in<W: Write>(
-    rt: &HostRuntime,
-    database: &str,
-    query: Query,
-    meter: &Meter,
-    out: &mut Outlet<W>,
-) -> u8 {
-    if is_missing(rt, database) {
-        return refuse(out, StoreFault::NotThisStore(None));
-    }
-    match open_trees(rt, database) {
-        Ok(Some(trees)) => answer_of_trees(rt.alloc(), trees, query, meter, out),
-        Ok(None) => ask_by_sql(rt, database, query, meter, out),
-        Err(refused) => refuse(out, refused.into()),
-    }
+    let status = fill_from(rt, files, reader, database, start, &mut out);
+    meter.erase();
+    status
 }
 
 /// Asks a database, and answers the exit status. If there is no database, none is made.
-pub(crate) fn ask(rt: &HostRuntime, database: &str, query: Query) -> u8 {
+pub(crate) fn ask<D: Databases>(rt: &HostRuntime, files: &D, database: &str, query: Query) -> u8 {
     let meter = Meter::new(rt, matches!(query, Query::Whole(Question::Export { .. })));
     let output = MeteredOutput {
         writer: io::writer(rt),
@@ -290,6 +160,9 @@ pub(crate) fn ask(rt: &HostRuntime, database: &str, query: Query) -> u8 {
         return refuse_memory(&mut Outlet::new(io::writer(rt)), None);
     };
     let mut out = Outlet::new(output);
-    let status = ask_in(rt, database, query, &meter, &mut out);
+    let status = match opened(rt, files, database) {
+        Ok(store) => answer(rt.alloc(), store, query, &meter, &mut out),
+        Err(fault) => refuse(&mut out, fault),
+    };
     end(&mut out, &meter, status)
 }

@@ -8,15 +8,16 @@ ghost use Rattle.pbfrow_words.specs.Words.{BeginsWithin, CutsSome};
 
 mod copying;
 mod database;
+mod databases;
 mod merging;
 mod meter;
 mod parts;
-mod trees;
 mod verifying;
 
 use clap::Error;
 use copying::copy;
 use database::{Query, ask, end, fill};
+use databases::{Databases, Files};
 use merging::merge;
 use meter::Meter;
 use osm_value::Outlet;
@@ -92,7 +93,7 @@ fn refuse_words(rt: &HostRuntime, error: io::Error) -> io::Result<u8> {
 
 fn answer<'a>(rt: HostRuntime, words: &'a [&'a str]) -> io::Result<u8> {
     match read_words(rt.alloc(), words) {
-        Ok(words) => Ok(run(rt, words)),
+        Ok(words) => Ok(run(rt, &Files, words)),
         Err(error) => refuse(rt, error),
     }
 }
@@ -107,7 +108,8 @@ fn refuse(rt: HostRuntime, error: Error) -> io::Result<u8> {
     Ok(error.exit_code() as u8)
 }
 
-fn run(rt: HostRuntime, words: Words) -> u8
+/// Runs a command, whose databases stand among these, and answers the exit status.
+fn run<D: Databases>(rt: HostRuntime, files: &D, words: Words) -> u8
     requires begins { BeginsWithin words }
     requires cuts { CutsSome words }
 {
@@ -118,9 +120,9 @@ fn run(rt: HostRuntime, words: Words) -> u8
             file,
             database,
             start,
-        } => fill(&rt, file, database, start_of(start)),
-        Words::Migrate { old, new } => copy(&rt, old, new),
-        Words::Merge { into, from } => merge(&rt, into, from.as_slice()),
+        } => fill(&rt, files, file, database, start_of(start)),
+        Words::Migrate { old, new } => copy(&rt, files, old, new),
+        Words::Merge { into, from } => merge(&rt, files, into, from.as_slice()),
         Words::Verify {
             file,
             database,
@@ -129,17 +131,17 @@ fn run(rt: HostRuntime, words: Words) -> u8
         Words::Ask {
             databases,
             question,
-        } => ask_all(&rt, databases.as_slice(), question),
-        Words::Find { database, kind, id } => ask(&rt, database, Query::Element(kind, id)),
+        } => ask_all(&rt, files, databases.as_slice(), question),
+        Words::Find { database, kind, id } => ask(&rt, files, database, Query::Element(kind, id)),
     }
 }
 
 /// Asks a question of one database, or of several that hold parts of one file, and answers the exit status.
-fn ask_all(rt: &HostRuntime, databases: &[&str], question: Question) -> u8 {
-    if databases.len() == 1 {
-        ask(rt, databases[0], Query::Whole(question))
+fn ask_all<D: Databases>(rt: &HostRuntime, files: &D, names: &[&str], question: Question) -> u8 {
+    if names.len() == 1 {
+        ask(rt, files, names[0], Query::Whole(question))
     } else {
-        ask_parts(rt, databases, question)
+        ask_parts(rt, files, names, question)
     }
 }
 

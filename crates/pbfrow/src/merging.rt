@@ -4,10 +4,12 @@ ghost use Rattle.std.specs.Prelude.{◌≡◌, false};
 ghost use Rattle.sqlite.specs.Held.{state};
 
 use crate::FAULTY;
-use crate::database::{adopted_or_created, close, is_missing, refuse, unopened};
+use crate::database::refuse;
+use crate::databases::{Databases, close, is_missing, opened_or_made};
 use crate::meter::Meter;
 use osm_import::CopyCounts;
 use osm_store::{BodyStore, Keeper, Reader, StoreFault, TableStore};
+use osm_trees::{Opened, TreeStore};
 use osm_value::Outlet;
 use pbfrow_commands::merge::{end_merge, merge_one};
 use pbfrow_commands::metered::{MeteredOutput, MeteredStore};
@@ -66,9 +68,26 @@ fn merged_from<S: Alter + Drop, T: Keeper, W: Write>(
     }
 }
 
-/// Copies what a database file holds. The counts, or none behind the line of a fault.
-fn merged_file<T: Keeper, W: Write>(
+/// Copies what a database holds that is opened by SQL. The counts, or none behind the line of a fault.
+fn merged_by_sql<D: Databases, T: Keeper, W: Write>(
     rt: &HostRuntime,
+    files: &D,
+    name: &str,
+    into: &mut T,
+    meter: &Meter,
+    out: &mut Outlet<W>,
+) -> Option<CopyCounts> {
+    match files.connection(rt, name) {
+        Ok(connection) => merged_from(rt.alloc(), connection, into, meter, out),
+        Err(fault) => refused(out, fault),
+    }
+}
+
+/// Copies what a database holds: a sound one of this version is read by its trees, and any other by SQL. The counts, or none
+/// behind the line of a fault.
+fn merged_file<D: Databases, T: Keeper, W: Write>(
+    rt: &HostRuntime,
+    files: &D,
     name: &str,
     into: &mut T,
     meter: &Meter,
@@ -77,15 +96,17 @@ fn merged_file<T: Keeper, W: Write>(
     if is_missing(rt, name) {
         return refused(out, StoreFault::NotThisStore(None));
     }
-    match Connection::open(rt, name) {
-        Ok(connection) => merged_from(rt.alloc(), connection, into, meter, out),
-        Err(error) => refused(out, unopened(error)),
+    match files.trees(rt, name) {
+        Ok(Some(trees)) => merged(rt.alloc(), TreeStore::new(trees), into, meter, out),
+        Ok(None) => merged_by_sql(rt, files, name, into, meter, out),
+        Err(error) => refused(out, error.into()),
     }
 }
 
-/// Copies what database files hold, one after the other, up to a fault, and answers the exit status.
-fn merge_files<T: Keeper, W: Write>(
+/// Copies what databases hold, one after the other, up to a fault, and answers the exit status.
+fn merge_all<D: Databases, T: Keeper, W: Write>(
     rt: &HostRuntime,
+    files: &D,
     names: &[&str],
     into: &mut T,
     meter: &Meter,
@@ -94,7 +115,7 @@ fn merge_files<T: Keeper, W: Write>(
     let mut copied = 0_u64;
     let mut held = 0_u64;
     for name in names {
-        let Some(counts) = merged_file(rt, name, into, meter, out) else {
+        let Some(counts) = merged_file(rt, files, name, into, meter, out) else {
             return FAULTY;
         };
         // there are fewer blobs than this could count
@@ -104,37 +125,22 @@ fn merge_files<T: Keeper, W: Write>(
     end_merge(out, CopyCounts { copied, held })
 }
 
-/// Copies what database files hold into the store of a connection, which is made if it has none. Answers the exit
-/// status, and gives the connection back unless it has another store.
-fn merged_into<S: Alter + Drop, W: Write>(
-    rt: &HostRuntime,
-    names: &[&str],
-    connection: Connection<S>,
-    meter: &Meter,
-    out: &mut Outlet<W>,
-) -> (u8, Option<Connection<S>>)
-    requires { (state S.Store connection).in_transaction ≡ false }
-{
-    match adopted_or_created(connection) {
-        Ok(mut store) => {
-            let status = merge_files(rt, names, &mut store, meter, out);
-            (status, Some(store.into_connection()))
-        }
-        Err(fault) => (refuse(out, fault), None),
-    }
-}
-
 /// Copies what databases hold into one, which is made if it is missing, and answers the exit status.
-pub(crate) fn merge(rt: &HostRuntime, into: &str, from: &[&str]) -> u8 {
+pub(crate) fn merge<D: Databases>(rt: &HostRuntime, files: &D, into: &str, from: &[&str]) -> u8 {
     let meter = Meter::new(rt, true);
     let mut out = Outlet::new(MeteredOutput {
         writer: io::writer(rt),
         watcher: &meter,
     });
-    let status = match Connection::open(rt, into) {
-        Ok(connection) => close(merged_into(rt, from, connection, &meter, &mut out)),
-        Err(error) => refuse(&mut out, unopened(error)),
+    let mut store = match opened_or_made(rt, files, into) {
+        Ok(store) => store,
+        Err(fault) => return refuse(&mut out, fault),
     };
+    let status = match &mut store {
+        Opened::ByTrees(store) => merge_all(rt, files, from, store, &meter, &mut out),
+        Opened::BySql(store) => merge_all(rt, files, from, store, &meter, &mut out),
+    };
+    close(files, store);
     meter.erase();
     status
 }

@@ -3,7 +3,8 @@
 ghost use Rattle.std.specs.Prelude.{◌≡◌, false};
 ghost use Rattle.sqlite.specs.Held.{state};
 
-use crate::database::{adopted, end, is_missing, refuse, unopened};
+use crate::database::{end, refuse};
+use crate::databases::{adopted, is_missing, unopened};
 use crate::meter::Meter;
 use osm_store::StoreFault;
 use osm_value::Outlet;
