@@ -2,7 +2,7 @@
 //! connection have changed.
 
 use super::fixtures::{NOTHING, PLACED_HEADER, PLACED_NODES, PLACED_WAYS, THREE_WAYS, TWO_NODES};
-use super::memory::{BodiesInMemory, NewStore, TablesInMemory};
+use super::memory::{BodiesInMemory, NewSqlStore, TablesInMemory};
 use super::spoiled::{FIVE_BLOBS, RELATION_AT_137, WAY_AT_203};
 use super::steps::followed;
 use super::tables::{RELATION, WAY};
@@ -111,7 +111,10 @@ fn has_block<K: Audited>(
 }
 
 /// Expects the five blobs as they were put, and no others.
-fn expect_all<K: NewStore, R: Abort + Alloc<A = Global>>(rt: &R, layout: &str) -> Result<(), Fail> {
+fn expect_all<K: NewSqlStore, R: Abort + Alloc<A = Global>>(
+    rt: &R,
+    layout: &str,
+) -> Result<(), Fail> {
     let mut store: K = followed(rt, layout, FIVE_BLOBS)?;
     for (number, asked) in ALL_ASKED.iter().enumerate() {
         let answer = asked.is_there(rt.alloc(), &mut store);
@@ -125,7 +128,7 @@ fn expect_all<K: NewStore, R: Abort + Alloc<A = Global>>(rt: &R, layout: &str) -
 }
 
 /// Expects that each is there as it was put, and isn't once the rows are changed.
-fn expect_changes<K: NewStore, R: Abort + Alloc<A = Global>>(
+fn expect_changes<K: NewSqlStore, R: Abort + Alloc<A = Global>>(
     rt: &R,
     layout: &str,
     table: &[Changed],

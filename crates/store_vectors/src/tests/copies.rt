@@ -4,7 +4,7 @@ use super::deliveries::file_store;
 use super::fixtures::{
     CHANGED, CHANGED_LINES, HELD_EXTRA, HELD_HEADER, HELD_NODES, HELD_NODES_AT_200, LINES, NODES,
 };
-use super::memory::{BodiesInMemory, NewStore, TablesInMemory};
+use super::memory::{BodiesInMemory, NewStore, TablesInMemory, TreesInMemory};
 use super::steps::{STORE_EXTRA, STORE_HEADER, STORE_NODES, Step, holds_the_file};
 use osm_import::{
     Answer, Conflict, CopyCounts, CopyFault, CopyStop, MigrateFault, copy_held, deliver, migrate,
@@ -70,7 +70,9 @@ fn over_any_layouts<R: Abort + Alloc<A = Global>>(rt: &R, steps: &[CopyStep]) ->
     follow::<BodiesInMemory, BodiesInMemory, _>(rt, "bodies to bodies", steps)?;
     follow::<BodiesInMemory, TablesInMemory, _>(rt, "bodies to tables", steps)?;
     follow::<TablesInMemory, BodiesInMemory, _>(rt, "tables to bodies", steps)?;
-    follow::<TablesInMemory, TablesInMemory, _>(rt, "tables to tables", steps)
+    follow::<TablesInMemory, TablesInMemory, _>(rt, "tables to tables", steps)?;
+    follow::<BodiesInMemory, TreesInMemory, _>(rt, "bodies to trees", steps)?;
+    follow::<TreesInMemory, TablesInMemory, _>(rt, "trees to tables", steps)
 }
 
 /// A second copy finds each blob held and changes nothing.

@@ -3,7 +3,7 @@
 
 use super::fixtures::{HEADER, HELD_HEADER, LINES, NODES, THREE_WAYS, WRITTEN_HEADER};
 use super::memory::{CountedRows, expect_rows};
-use super::steps::{PUT_HEADER, PUT_NODES, STORE_HEADER, STORE_NODES, Step, over_both_layouts};
+use super::steps::{PUT_HEADER, PUT_NODES, STORE_HEADER, STORE_NODES, Step, over_all_stores};
 use super::tables::{PLACED_RELATION, PLACED_WAY, RELATION, WAY, filled};
 use osm_import::Answer;
 use osm_store::Extent;
@@ -81,7 +81,7 @@ fn a_file_with_a_flag(rt: HostRuntime) -> Result<(), Fail> {
         Step::Lines(Some(118), &[VISIBLE_NODE_LINE]),
         Step::Pbf(Some(118), &[HISTORIC_HEADER, VISIBLE_NODE]),
     ];
-    over_both_layouts(&rt, STEPS)
+    over_all_stores(&rt, STEPS)
 }
 
 /// A header that requires history says nothing of flags: where no element has one, the plain header is written.
@@ -95,7 +95,7 @@ fn a_header_with_history_alone(rt: HostRuntime) -> Result<(), Fail> {
         Step::Lines(Some(116), &[LINES]),
         Step::Pbf(Some(116), &[WRITTEN_HEADER, NODES]),
     ];
-    over_both_layouts(&rt, STEPS)
+    over_all_stores(&rt, STEPS)
 }
 
 /// Nodes, ways and a relation without flags are held, and then an element with one behind them, of each kind.
@@ -124,7 +124,7 @@ fn the_last_element_has_a_flag(rt: HostRuntime) -> Result<(), Fail> {
         Step::PartialPbf(&[HISTORIC_HEADER, NODES, VISIBLE_NODE]),
         Step::Failures(0),
     ];
-    over_both_layouts(&rt, STEPS)
+    over_all_stores(&rt, STEPS)
 }
 
 /// The first element has a flag, and none behind it.
@@ -141,7 +141,7 @@ fn the_first_element_has_a_flag(rt: HostRuntime) -> Result<(), Fail> {
         Step::Loads(300, b"w 7 () [x=0] {}\n"),
         Step::Failures(0),
     ];
-    over_both_layouts(&rt, STEPS)
+    over_all_stores(&rt, STEPS)
 }
 
 /// A flag is 0 or 1 in its column, and NULL where there is none.

@@ -1,8 +1,9 @@
-//! Stores in memory, of both layouts, and the rows of their tables.
+//! Stores in memory, of both layouts and below SQL, and the rows of their tables.
 
 use osm_store::{
     Audited, BlobStore, Bodies, BodyStore, Keeper, StoreFault, StoreLayout, TableStore, Tables,
 };
+use osm_trees::TreeStore;
 use sqlite::{Alter, Connection, MemStore};
 use std::alloc::Global;
 use std::process::Abort;
@@ -13,6 +14,9 @@ pub(crate) type BodiesInMemory = BodyStore<MemStore>;
 
 /// One that keeps each as rows of numbers and texts.
 pub(crate) type TablesInMemory = TableStore<MemStore>;
+
+/// One of rows that is read and written below SQL.
+pub(crate) type TreesInMemory = TreeStore<MemStore>;
 
 /// A query, and the number that it shows.
 pub(crate) type CountedRows = (&'static str, i64);
@@ -95,12 +99,15 @@ pub(crate) const NODES_AS_ROWS: &[CountedRows] = &[
 ];
 
 /// A store in memory, which holds nothing at first.
-pub(crate) trait NewStore: Keeper + Audited + Drop {
+pub(crate) trait NewStore: Keeper + Drop {
     fn new_store(alloc: Global) -> Result<Self, StoreFault>;
 
-    /// How many steps each later statement may take; None is no limit.
+    /// How many steps each later statement may take; None is no limit. Below SQL there are no statements.
     fn limit_steps(&mut self, limit: Option<u64>);
+}
 
+/// One whose rows are asked for and changed by statements.
+pub(crate) trait NewSqlStore: NewStore + Audited {
     /// The store, opened again after a statement has changed its rows.
     fn changed(self, sql: &str) -> Option<Self>;
 
@@ -120,7 +127,9 @@ impl<L: KnownLayout> NewStore for BlobStore<MemStore, L> {
     fn limit_steps(&mut self, limit: Option<u64>) {
         self.set_step_limit(limit);
     }
+}
 
+impl<L: KnownLayout> NewSqlStore for BlobStore<MemStore, L> {
     fn changed(self, sql: &str) -> Option<BlobStore<MemStore, L>> {
         let mut connection = self.into_connection();
         connection.execute(sql, &[]).ok()?;
@@ -141,8 +150,21 @@ impl<L: KnownLayout> NewStore for BlobStore<MemStore, L> {
     }
 }
 
+/// The store of tables, to be read and written by its trees.
+pub(crate) fn below<S: Alter + Drop>(store: TableStore<S>) -> TreeStore<S> {
+    TreeStore::new(store.into_connection().into_store())
+}
+
+impl NewStore for TreeStore<MemStore> {
+    fn new_store(alloc: Global) -> Result<TreesInMemory, StoreFault> {
+        Ok(below(TablesInMemory::new_store(alloc)?))
+    }
+
+    fn limit_steps(&mut self, _: Option<u64>) {}
+}
+
 /// The rows that these queries show, as text.
-fn rows_of<S: Alter>(
+pub(crate) fn rows_of<S: Alter>(
     alloc: Global,
     connection: &mut Connection<S>,
     queries: &[&str],

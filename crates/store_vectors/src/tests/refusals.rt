@@ -4,7 +4,7 @@ use super::deliveries::answers_to;
 use super::fixtures::{
     FILE, LINES, NODES, RELATION_FRAME, TAGGED, TAGGED_LINES, WAY_FRAME, WRITTEN_HEADER,
 };
-use super::memory::{BodiesInMemory, NewStore, TablesInMemory};
+use super::memory::{BodiesInMemory, NewSqlStore, NewStore, TablesInMemory, TreesInMemory};
 use super::questions::{Question, answer_to};
 use super::steps::are_joined;
 use osm_import::{Answer, ExportFault, deliver};
@@ -67,7 +67,8 @@ fn changed_frames_of<K: NewStore, R: Abort + Alloc<A = Global>>(rt: &R) -> Resul
 #[test]
 fn changed_frames(rt: HostRuntime) -> Result<(), Fail> {
     changed_frames_of::<BodiesInMemory, _>(&rt)?;
-    changed_frames_of::<TablesInMemory, _>(&rt)
+    changed_frames_of::<TablesInMemory, _>(&rt)?;
+    changed_frames_of::<TreesInMemory, _>(&rt)
 }
 
 /// A store that holds the file, and behind it the way and the relation twice: 254 bytes.
@@ -151,7 +152,7 @@ fn reads_under_each_step_limit(rt: HostRuntime) -> Result<(), Fail> {
 
 /// What a frame is answered with that is delivered at 300 under limits of 1, 2, .. steps, until one is enough. An error
 /// where a delivery that was broken off isn't counted, or has changed a row of any table.
-fn delivered_under_limits<K: NewStore>(alloc: Global, frame: &[u8]) -> Result<Answer, Fail> {
+fn delivered_under_limits<K: NewSqlStore>(alloc: Global, frame: &[u8]) -> Result<Answer, Fail> {
     let first: K = four_blobs(alloc)?;
     let (mut store, before) = first.with_rows(alloc).ok_or("no rows")?;
     for limit in 1..100 {
@@ -176,7 +177,7 @@ fn delivered_under_limits<K: NewStore>(alloc: Global, frame: &[u8]) -> Result<An
     Err("100 steps aren't enough".into())
 }
 
-fn deliveries_under_limits_of<K: NewStore, R: Abort + Alloc<A = Global>>(
+fn deliveries_under_limits_of<K: NewSqlStore, R: Abort + Alloc<A = Global>>(
     rt: &R,
 ) -> Result<(), Fail> {
     for (frame, count) in [(THREE_NODES, 3), (RELATION_FRAME, 1), (WAY_FRAME, 1)] {

@@ -5,7 +5,7 @@ use super::fixtures::{
     LINES, NODES, PLACED_HEADER, PLACED_NODES, PLACED_WAYS, THREE_WAYS, THREE_WAYS_LINES,
     WRITTEN_HEADER,
 };
-use super::memory::{BodiesInMemory, NewStore, TablesInMemory};
+use super::memory::{BodiesInMemory, NewSqlStore, NewStore, TablesInMemory};
 use super::steps::{PUT_HEADER, PUT_NODES, Step, are_joined, followed};
 use super::tables::{PLACED_RELATION, PLACED_WAY, RELATION, WAY};
 use osm_import::{CopyFault, CopyStop, ExportFault, copy_held};
@@ -74,7 +74,7 @@ const FIND_WAYS: Step = Step::Finds(
 );
 
 /// Expects that each read is answered as it has to be, and by fault 66 once the rows are spoiled.
-fn expect_refusals<K: NewStore, R: Abort + Alloc<A = Global>>(
+fn expect_refusals<K: NewSqlStore, R: Abort + Alloc<A = Global>>(
     rt: &R,
     layout: &str,
     table: &[Spoiled],
@@ -352,7 +352,7 @@ fn expect_front<K: NewStore, R: Abort + Alloc<A = Global>>(
 
 /// Expects that exports and a copy stop at the three ways, once their rows are spoiled. An export as PBF has written these
 /// pieces.
-fn expect_stops<K: NewStore, R: Abort + Alloc<A = Global>>(
+fn expect_stops<K: NewSqlStore, R: Abort + Alloc<A = Global>>(
     rt: &R,
     layout: &str,
     statements: &[&str],

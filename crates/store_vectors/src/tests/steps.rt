@@ -3,9 +3,9 @@
 use super::deliveries::{deliveries_of, exported};
 use super::fixtures::{
     EXTRA, FILE_BYTES, Frame, HEADER, HELD_HEADER, HELD_NODES, LINES, NODES, NOTHING, PLACED_EXTRA,
-    PLACED_HEADER, PLACED_NODES, TWO_NODES, WRITTEN_HEADER,
+    PLACED_HEADER, PLACED_NODES, TAGGED, TWO_NODES, WRITTEN_HEADER,
 };
-use super::memory::{BodiesInMemory, NewStore, TablesInMemory};
+use super::memory::{BodiesInMemory, NewStore, TablesInMemory, TreesInMemory};
 use osm_block::read_block;
 use osm_import::{
     Answer, ExportFault, Inlet, StreamFault, Summary, deliver, deliver_all, gaps, import_stream,
@@ -69,6 +69,9 @@ pub(crate) const STORE_NODES: Step = Step::Deliver(47, NODES, Answer::Stored(2))
 
 /// Behind the file.
 pub(crate) const STORE_EXTRA: Step = Step::Deliver(84, EXTRA, Answer::Stored(0));
+
+/// The tagged way and relation in its place.
+pub(crate) const STORE_TAGGED: Step = Step::Deliver(84, TAGGED, Answer::Stored(2));
 
 /// The same blobs, put without their frames.
 pub(crate) const PUT_HEADER: Step = Step::Put(PLACED_HEADER, NOTHING, Ok(()));
@@ -344,4 +347,19 @@ pub(crate) fn over_both_layouts<R: Abort + Alloc<A = Global>>(
     followed::<BodiesInMemory, _>(rt, "bodies", steps)?;
     followed::<TablesInMemory, _>(rt, "tables", steps)?;
     Ok(())
+}
+
+/// The same below SQL.
+fn over_trees<R: Abort + Alloc<A = Global>>(rt: &R, steps: &[Step]) -> Result<(), Fail> {
+    followed::<TreesInMemory, _>(rt, "trees", steps)?;
+    Ok(())
+}
+
+/// Takes the steps in turn over a new store of each layout, and over one that is read and written below SQL.
+pub(crate) fn over_all_stores<R: Abort + Alloc<A = Global>>(
+    rt: &R,
+    steps: &[Step],
+) -> Result<(), Fail> {
+    over_both_layouts(rt, steps)?;
+    over_trees(rt, steps)
 }

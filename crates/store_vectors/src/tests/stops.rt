@@ -1,16 +1,17 @@
 //! Databases one of whose files stops at a call, what the next opening finds, and how it goes on.
 
+mod below;
 mod imports;
 mod openings;
 mod reads;
 
 use super::deliveries::{deliveries_of, exported};
 use super::fixtures::{HELD_HEADER, HELD_NODES, HELD_TAGGED, LINES, TAGGED_FILE, TAGGED_LINES};
-use super::memory::{KnownLayout, has_rows, number};
+use super::memory::{KnownLayout, below, has_rows, number, rows_of};
 use super::questions::{Question, answer_to};
 use super::steps::are_joined;
 use osm_import::{Answer, ExportFault, deliver_all};
-use osm_store::{BlobStore, Extent, Keeper, Reader, StoreFault, StoreLayout};
+use osm_store::{BlobStore, Extent, Keeper, Reader, StoreFault, StoreLayout, TableStore};
 use osm_value::Form;
 use sqlite::{Alter, Connection, FileStore, Files, Options};
 use sqlite_disk::{Crash, Disk, Fuse, Memory};
@@ -66,6 +67,8 @@ enum Reached {
     HeaderAndNodes,
     /// The whole file, or all that is asked; or the opening is done.
     All,
+    /// The whole file, and the log is copied.
+    Copied,
 }
 
 /// How far the work had come where a file stopped, and what the next opening found.
@@ -76,12 +79,16 @@ type Outcome = (Reached, Reached);
 enum Work<'a> {
     /// A new store is made, and the file delivered.
     Import,
+    /// A new store is made by SQL, and the file delivered to its trees.
+    ImportBelow,
     /// The store is opened, where there is one.
     Adopt,
     /// The store is opened and asked; these are the pieces of all that it tells.
     Ask(Question, &'a [&'a [u8]]),
     /// It is seen what is held, and the file is delivered again.
     GoOn,
+    /// It is seen whether these are all rows.
+    Show(&'a str),
 }
 
 /// The database in these files; or the files, where one of them stops or can't be used.
@@ -161,6 +168,13 @@ fn answered(answers: &[Answer]) -> Option<Reached> {
     }
 }
 
+/// Delivers the file. How far that was answered.
+fn delivered<K: Keeper>(alloc: Global, store: &mut K) -> Option<Reached> {
+    let deliveries = deliveries_of(alloc, TAGGED_FILE).ok()?;
+    let answers = deliver_all(alloc, store, &deliveries).ok()?;
+    answered(&answers)
+}
+
 /// Imports the file into a new store. How far that was answered, and the database.
 fn filled<S: Alter + Drop, L: StoreLayout>(
     alloc: Global,
@@ -170,13 +184,33 @@ fn filled<S: Alter + Drop, L: StoreLayout>(
         return None;
     }
     match BlobStore::<S, L>::create(database) {
-        Ok(mut store) => {
-            let deliveries = deliveries_of(alloc, TAGGED_FILE).ok()?;
-            let answers = deliver_all(alloc, &mut store, &deliveries).ok()?;
-            Some((answered(&answers), store.into_connection()))
-        }
+        Ok(mut store) => Some((delivered(alloc, &mut store), store.into_connection())),
         Err((_, database)) => Some((Some(Reached::Database), database)),
     }
+}
+
+/// Imports the file into the trees of a new store. How far that was answered, and what they lie in.
+fn filled_below<S: Alter + Drop>(alloc: Global, database: Connection<S>) -> Option<(Reached, S)> {
+    if !database.is_autocommit() {
+        return None;
+    }
+    match TableStore::create(database) {
+        Ok(store) => {
+            let mut trees = below(store);
+            Some((delivered(alloc, &mut trees)?, trees.into_store()))
+        }
+        Err((_, database)) => Some((Reached::Database, database.into_store())),
+    }
+}
+
+/// Whether these are all rows, as text; and the database.
+fn shown<S: Alter + Drop, L: KnownLayout>(
+    alloc: Global,
+    mut database: Connection<S>,
+    rows: &str,
+) -> Option<(Option<Reached>, Connection<S>)> {
+    let found = rows_of(alloc, &mut database, L::ALL)?;
+    Some(((found.as_str() == rows).then_some(Reached::All), database))
 }
 
 /// The store in a database; or the database, and why it isn't opened as a store.
@@ -256,6 +290,21 @@ fn sum<S: Alter>(database: &mut Connection<S>, queries: &[&str]) -> Option<i64> 
     Some(sum)
 }
 
+/// How much of the file these extents are.
+fn extents_of(extents: &[Extent]) -> Option<Reached> {
+    if extents.is_empty() {
+        Some(Reached::Store)
+    } else if extents == [HELD_HEADER].as_slice() {
+        Some(Reached::Header)
+    } else if extents == [HELD_HEADER, HELD_NODES].as_slice() {
+        Some(Reached::HeaderAndNodes)
+    } else if extents == [HELD_HEADER, HELD_NODES, HELD_TAGGED].as_slice() {
+        Some(Reached::All)
+    } else {
+        None
+    }
+}
+
 /// What is held, where each extent and each row is of the file.
 fn held_by<S: Alter, L: KnownLayout>(
     extents: &[Extent],
@@ -263,18 +312,13 @@ fn held_by<S: Alter, L: KnownLayout>(
 ) -> Option<Reached> {
     let rows = sum(database, L::COUNTS)?;
     let has_nodes = has_rows(database, L::NODES);
-    let has_all = has_nodes && has_rows(database, L::TAGGED);
-    if extents.is_empty() && rows == 0 {
-        Some(Reached::Store)
-    } else if extents == [HELD_HEADER].as_slice() && rows == 0 {
-        Some(Reached::Header)
-    } else if extents == [HELD_HEADER, HELD_NODES].as_slice() && rows == 2 && has_nodes {
-        Some(Reached::HeaderAndNodes)
-    } else if extents == [HELD_HEADER, HELD_NODES, HELD_TAGGED].as_slice() && has_all {
-        Some(Reached::All)
-    } else {
-        None
-    }
+    let held = extents_of(extents)?;
+    let are_its_rows = match held {
+        Reached::Store | Reached::Header => rows == 0,
+        Reached::HeaderAndNodes => rows == 2 && has_nodes,
+        _ => has_nodes && has_rows(database, L::TAGGED),
+    };
+    are_its_rows.then_some(held)
 }
 
 /// What a store holds, and its database.
@@ -348,13 +392,29 @@ fn worked<S: Alter + Drop, L: KnownLayout>(
     work: Work<'_>,
 ) -> Option<(Reached, S)> {
     let (reached, database) = match work {
+        Work::ImportBelow => return filled_below(alloc, database),
         Work::Import => filled::<S, L>(alloc, database)?,
         Work::Adopt => entered::<S, L>(database)?,
         Work::Ask(question, pieces) => asked::<S, L>(alloc, database, question, pieces)?,
-
         Work::GoOn => continued::<S, L>(alloc, database)?,
+        Work::Show(rows) => shown::<S, L>(alloc, database, rows)?,
     };
     Some((reached?, database.into_store()))
+}
+
+/// Closes the files of a database, in which the work came so far. Behind an import below SQL the log is copied, as the
+/// program does.
+fn closed<D: Disk + Drop>(
+    mut store: FileStore<D>,
+    reached: Reached,
+    work: Work<'_>,
+) -> (Reached, Files<D>) {
+    let is_whole = matches!(work, Work::ImportBelow) && reached == Reached::All;
+    if is_whole && store.checkpoint().is_ok() {
+        (Reached::Copied, store.close())
+    } else {
+        (reached, store.close())
+    }
 }
 
 /// The same in the database in these files, which are closed behind it. Each kind of work goes through here, since one
@@ -366,13 +426,13 @@ fn session<L: KnownLayout>(
     work: Work<'_>,
 ) -> Option<(Reached, Files<Fused>)> {
     let cache_pages = match work {
-        Work::Import | Work::GoOn => 8,
+        Work::Import | Work::ImportBelow | Work::GoOn | Work::Show(_) => 8,
         Work::Adopt | Work::Ask(..) => 1,
     };
     match opened(alloc, files, cache_pages) {
         Ok(database) => {
             let (reached, store) = worked::<_, L>(alloc, database, work)?;
-            Some((reached, store.close()))
+            Some(closed(store, reached, work))
         }
         Err(files) => Some((Reached::Nothing, files)),
     }

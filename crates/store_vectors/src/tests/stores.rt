@@ -4,8 +4,10 @@ use super::fixtures::{
     LINES, NOTHING, PLACED_EXTRA, PLACED_HEADER, PLACED_NODES, PLACED_WAYS, THREE_WAYS,
     THREE_WAYS_LINES, TWO_NODES,
 };
-use super::memory::{BodiesInMemory, NewStore, TablesInMemory};
-use super::steps::{PUT_EXTRA, PUT_HEADER, PUT_NODES, Step, over_both_layouts, put_block};
+use super::memory::{BodiesInMemory, NewSqlStore, NewStore, TablesInMemory};
+use super::steps::{
+    PUT_EXTRA, PUT_HEADER, PUT_NODES, Step, over_all_stores, over_both_layouts, put_block,
+};
 use osm_store::{Extent, Reader, StoreFault};
 use osm_value::MemberKind;
 use std::alloc::Global;
@@ -31,7 +33,7 @@ fn found_node(rt: HostRuntime) -> Result<(), Fail> {
         Step::Finds(MemberKind::Node, 2, b"47 1 n 2 900 -100 [] {}\n"),
         Step::Finds(MemberKind::Way, 2, b""),
     ];
-    over_both_layouts(&rt, STEPS)
+    over_all_stores(&rt, STEPS)
 }
 
 #[test]
@@ -47,7 +49,7 @@ fn found_in_two_blobs(rt: HostRuntime) -> Result<(), Fail> {
             b"100 2 w 1 () [] {}\n137 2 w 1 () [] {}\n",
         ),
     ];
-    over_both_layouts(&rt, STEPS)
+    over_all_stores(&rt, STEPS)
 }
 
 #[test]
@@ -58,7 +60,7 @@ fn all_extents(rt: HostRuntime) -> Result<(), Fail> {
         PUT_EXTRA,
         Step::Extents(&[PLACED_HEADER, PLACED_NODES, PLACED_EXTRA]),
     ];
-    over_both_layouts(&rt, STEPS)
+    over_all_stores(&rt, STEPS)
 }
 
 #[test]
@@ -70,7 +72,7 @@ fn touching_one(rt: HostRuntime) -> Result<(), Fail> {
         Step::Touching(60, 61, &[PLACED_NODES]),
         Step::Touching(84, 121, &[]),
     ];
-    over_both_layouts(&rt, STEPS)
+    over_all_stores(&rt, STEPS)
 }
 
 #[test]
@@ -94,7 +96,7 @@ fn touching_several(rt: HostRuntime) -> Result<(), Fail> {
             ],
         ),
     ];
-    over_both_layouts(&rt, STEPS)
+    over_all_stores(&rt, STEPS)
 }
 
 #[test]
@@ -108,7 +110,20 @@ fn loaded_elements(rt: HostRuntime) -> Result<(), Fail> {
         Step::Loads(47, LINES),
         Step::Loads(84, b""),
     ];
-    over_both_layouts(&rt, STEPS)
+    over_all_stores(&rt, STEPS)
+}
+
+/// Rows that have the place of those of a blob refuse it, and nothing is changed.
+#[test]
+fn a_blob_that_is_held(rt: HostRuntime) -> Result<(), Fail> {
+    const STEPS: &[Step] = &[
+        PUT_NODES,
+        Step::Put(PLACED_NODES, TWO_NODES, Err(StoreFault::Disk)),
+        Step::Failures(1),
+        Step::Loads(47, LINES),
+        Step::Finds(MemberKind::Node, 2, b"47 1 n 2 900 -100 [] {}\n"),
+    ];
+    over_all_stores(&rt, STEPS)
 }
 
 /// A call that is refused, and one that is broken off, are counted.
@@ -148,7 +163,7 @@ fn put_limited<K: NewStore>(alloc: Global, store: &mut K, limit: u64) -> Result<
 }
 
 /// How many limits on steps refuse the blob before one lets it in; None where a refusal changes a row.
-fn refused_limits<K: NewStore>(alloc: Global) -> Option<u64> {
+fn refused_limits<K: NewSqlStore>(alloc: Global) -> Option<u64> {
     let first: K = three_blobs(alloc).ok()?;
     let (mut store, before) = first.with_rows(alloc)?;
     for limit in 1u64..1000 {
@@ -167,7 +182,7 @@ fn refused_limits<K: NewStore>(alloc: Global) -> Option<u64> {
 }
 
 /// The blob is put whole or not at all.
-fn step_limits_of<K: NewStore, R: Abort + Alloc<A = Global>>(rt: &R) -> Result<(), Fail> {
+fn step_limits_of<K: NewSqlStore, R: Abort + Alloc<A = Global>>(rt: &R) -> Result<(), Fail> {
     let refused = refused_limits::<K>(rt.alloc()).ok_or("whole or not at all")?;
     assert!(rt; refused > 0);
     Ok(())

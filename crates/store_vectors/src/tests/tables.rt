@@ -4,7 +4,7 @@
 use super::fixtures::{LINES, PLACED_HEADER, PLACED_NODES, RELATION_FRAME, WAY_FRAME};
 use super::memory::{CountedRows, NODES_AS_ROWS, TablesInMemory, expect_rows};
 use super::steps::{
-    PUT_HEADER, PUT_NODES, STORE_HEADER, STORE_NODES, Step, followed, over_both_layouts,
+    PUT_HEADER, PUT_NODES, STORE_HEADER, STORE_NODES, Step, followed, over_all_stores,
 };
 use osm_import::Answer;
 use osm_store::{BodyStore, Extent, StoreFault, TableStore};
@@ -181,5 +181,5 @@ fn loaded_and_found_elements(rt: HostRuntime) -> Result<(), Fail> {
         Step::Touching(83, 85, &[PLACED_NODES, PLACED_RELATION]),
         Step::Failures(0),
     ];
-    over_both_layouts(&rt, STEPS)
+    over_all_stores(&rt, STEPS)
 }

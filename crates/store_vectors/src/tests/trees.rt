@@ -4,7 +4,7 @@ use super::fixtures::{LINES, PLACED_HEADER, PLACED_NODES};
 use super::history::{SECOND_WAY_DELETED, TWO_LAST};
 use super::steps::{PUT_HEADER, PUT_NODES, Step};
 use super::tables::{PLACED_RELATION, PLACED_WAY, RELATION, WAY, filled};
-use osm_trees::TreeReader;
+use osm_trees::TreeStore;
 use osm_value::MemberKind;
 use std::alloc::Global;
 use std::process::Abort;
@@ -18,7 +18,7 @@ fn expect_reads<R: Abort + Alloc<A = Global>>(
     reads: &[Step],
 ) -> Result<(), Fail> {
     let alloc = rt.alloc();
-    let mut reader = TreeReader::new(filled(rt, steps)?.into_store());
+    let mut reader = TreeStore::new(filled(rt, steps)?.into_store());
     for (number, read) in reads.iter().enumerate() {
         let outcome = read.is_read(alloc, &mut reader);
         assert_eq!(rt; outcome, Ok(true), "read {number}");

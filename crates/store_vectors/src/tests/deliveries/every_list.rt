@@ -2,7 +2,7 @@
 
 use super::{answers_to, exported};
 use crate::tests::fixtures::{CHANGED, CHANGED_LINES, EXTRA, Frame, HEADER, LINES, NODES};
-use crate::tests::memory::{BodiesInMemory, NewStore, TablesInMemory};
+use crate::tests::memory::{BodiesInMemory, NewStore, TablesInMemory, TreesInMemory};
 use osm_block::BlockFault;
 use osm_import::{Answer, Conflict, Fault, gaps};
 use osm_store::{Extent, Reader};
@@ -209,7 +209,8 @@ fn every_list_of_up_to_four_of<K: NewStore, R: Abort + Alloc<A = Global>>(
 #[test]
 fn every_list_of_up_to_four(rt: HostRuntime) -> Result<(), Fail> {
     every_list_of_up_to_four_of::<BodiesInMemory, _>(&rt)?;
-    every_list_of_up_to_four_of::<TablesInMemory, _>(&rt)
+    every_list_of_up_to_four_of::<TablesInMemory, _>(&rt)?;
+    every_list_of_up_to_four_of::<TreesInMemory, _>(&rt)
 }
 
 /// A bad blob leaves what is held, whatever that is.
@@ -228,5 +229,6 @@ fn a_bad_blob_before_and_behind_of<K: NewStore, R: Abort + Alloc<A = Global>>(
 #[test]
 fn a_bad_blob_before_and_behind(rt: HostRuntime) -> Result<(), Fail> {
     a_bad_blob_before_and_behind_of::<BodiesInMemory, _>(&rt)?;
-    a_bad_blob_before_and_behind_of::<TablesInMemory, _>(&rt)
+    a_bad_blob_before_and_behind_of::<TablesInMemory, _>(&rt)?;
+    a_bad_blob_before_and_behind_of::<TreesInMemory, _>(&rt)
 }

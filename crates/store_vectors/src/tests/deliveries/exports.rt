@@ -3,7 +3,7 @@
 use super::{export_as, exported, file_store};
 use crate::tests::fixtures::{LINES, NODES, WRITTEN_HEADER};
 use crate::tests::memory::{BodiesInMemory, NewStore, TablesInMemory};
-use crate::tests::steps::{STORE_EXTRA, STORE_HEADER, STORE_NODES, Step, over_both_layouts};
+use crate::tests::steps::{STORE_EXTRA, STORE_HEADER, STORE_NODES, Step, over_all_stores};
 use osm_import::{Answer, ExportFault};
 use osm_value::{Form, Outlet};
 use osm_vectors::FailingWriter;
@@ -23,7 +23,7 @@ fn sizes_of_a_whole_file(rt: HostRuntime) -> Result<(), Fail> {
         Step::NoExport(Some(83), ExportFault::PastEnd(84)),
         Step::NoExport(Some(85), ExportFault::Incomplete(84, 85)),
     ];
-    over_both_layouts(&rt, STEPS)
+    over_all_stores(&rt, STEPS)
 }
 
 #[test]
@@ -34,7 +34,7 @@ fn a_gap_before_the_data(rt: HostRuntime) -> Result<(), Fail> {
         Step::NoExport(None, ExportFault::Incomplete(0, 47)),
         Step::PartialLines(&[LINES]),
     ];
-    over_both_layouts(&rt, STEPS)
+    over_all_stores(&rt, STEPS)
 }
 
 #[test]
@@ -45,7 +45,7 @@ fn a_store_that_holds_nothing(rt: HostRuntime) -> Result<(), Fail> {
         Step::PartialLines(&[]),
         Step::PartialPbf(&[WRITTEN_HEADER]),
     ];
-    over_both_layouts(&rt, STEPS)
+    over_all_stores(&rt, STEPS)
 }
 
 /// What was exported is delivered again, where it stands in the new file of 93 bytes.
@@ -60,7 +60,7 @@ fn a_file_as_pbf(rt: HostRuntime) -> Result<(), Fail> {
         Step::Deliver(56, NODES, Answer::Stored(2)),
         Step::Lines(Some(93), &[LINES]),
     ];
-    over_both_layouts(&rt, STEPS)
+    over_all_stores(&rt, STEPS)
 }
 
 const _: () = prove!(WRITTEN_HEADER.len() + 2 * NODES.len() == 130);
@@ -75,7 +75,7 @@ fn a_file_with_another_type_as_pbf(rt: HostRuntime) -> Result<(), Fail> {
         STORE_HEADER,
         Step::Pbf(Some(137), &[WRITTEN_HEADER, NODES, NODES]),
     ];
-    over_both_layouts(&rt, STEPS)
+    over_all_stores(&rt, STEPS)
 }
 
 /// An export fails over a writer with room for less than all of it, which has then taken a front.

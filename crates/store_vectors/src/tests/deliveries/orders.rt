@@ -3,7 +3,9 @@
 use crate::tests::fixtures::{
     CHANGED, EXTRA, FILE, HEADER, HEADER_AT_0, LINES, NODES, NODES_AT_47,
 };
-use crate::tests::steps::{STORE_EXTRA, STORE_HEADER, STORE_NODES, Step, over_both_layouts};
+use crate::tests::steps::{
+    STORE_EXTRA, STORE_HEADER, STORE_NODES, Step, over_all_stores, over_both_layouts,
+};
 use osm_import::{Answer, Conflict, Fault, examine};
 use osm_store::StoreFault;
 use pbf_frame::Kind;
@@ -18,7 +20,7 @@ fn frames_in_any_order_and_again(rt: HostRuntime) -> Result<(), Fail> {
         Step::Deliver(47, NODES, Answer::AlreadyHeld),
         Step::Lines(None, &[LINES]),
     ];
-    over_both_layouts(&rt, STEPS)
+    over_all_stores(&rt, STEPS)
 }
 
 #[test]
@@ -30,7 +32,7 @@ fn a_frame_of_another_type(rt: HostRuntime) -> Result<(), Fail> {
         Step::Deliver(100, NODES, Answer::Stored(2)),
         Step::Lines(Some(137), &[LINES, LINES]),
     ];
-    over_both_layouts(&rt, STEPS)
+    over_all_stores(&rt, STEPS)
 }
 
 #[test]
@@ -44,7 +46,7 @@ fn what_is_in_the_way(rt: HostRuntime) -> Result<(), Fail> {
         Step::Deliver(0, NODES, Answer::Bad(Fault::NoHeaderFirst)),
         Step::Lines(None, &[LINES]),
     ];
-    over_both_layouts(&rt, STEPS)
+    over_all_stores(&rt, STEPS)
 }
 
 /// Each is answered, also behind a call of the store that fails, and the next deliveries go on.

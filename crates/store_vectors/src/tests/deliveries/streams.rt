@@ -1,8 +1,8 @@
 //! Streams of frames.
 
 use crate::tests::fixtures::{FILE_BYTES, HELD_HEADER, HELD_NODES};
-use crate::tests::memory::{BodiesInMemory, NewStore, TablesInMemory};
-use crate::tests::steps::{Step, import, over_both_layouts};
+use crate::tests::memory::{BodiesInMemory, NewStore, TablesInMemory, TreesInMemory};
+use crate::tests::steps::{Step, import, over_all_stores};
 use osm_import::{Inlet, Stop, StreamFault, Summary, gaps, import_stream};
 use osm_store::Extent;
 use osm_value::Outlet;
@@ -68,7 +68,7 @@ fn limits_of_blobs(rt: HostRuntime) -> Result<(), Fail> {
         Step::Import((0, 84), 2, Ok(BOTH_STORED), b"0 stored 0\n47 stored 2\n"),
         Step::Gaps(84, &[]),
     ];
-    over_both_layouts(&rt, STEPS)
+    over_all_stores(&rt, STEPS)
 }
 
 #[test]
@@ -77,7 +77,7 @@ fn the_same_file_again(rt: HostRuntime) -> Result<(), Fail> {
         Step::Import((0, 84), 9, Ok(BOTH_STORED), b"0 stored 0\n47 stored 2\n"),
         Step::Import((0, 84), 9, Ok(BOTH_HELD), b"0 held\n47 held\n"),
     ];
-    over_both_layouts(&rt, STEPS)
+    over_all_stores(&rt, STEPS)
 }
 
 #[test]
@@ -89,7 +89,7 @@ fn streams_that_end_early(rt: HostRuntime) -> Result<(), Fail> {
         Step::NewStore,
         Step::Import((47, 84), 9, Ok(ONE_BAD), b"fault 61 NoHeaderFirst at 0\n"),
     ];
-    over_both_layouts(&rt, STEPS)
+    over_all_stores(&rt, STEPS)
 }
 
 fn readers_that_fail_of<K: NewStore, R: Abort + Alloc<A = Global>>(rt: &R) -> Result<(), Fail> {
@@ -125,7 +125,8 @@ fn readers_that_fail_of<K: NewStore, R: Abort + Alloc<A = Global>>(rt: &R) -> Re
 #[test]
 fn readers_that_fail(rt: HostRuntime) -> Result<(), Fail> {
     readers_that_fail_of::<BodiesInMemory, _>(&rt)?;
-    readers_that_fail_of::<TablesInMemory, _>(&rt)
+    readers_that_fail_of::<TablesInMemory, _>(&rt)?;
+    readers_that_fail_of::<TreesInMemory, _>(&rt)
 }
 
 /// What an import of the file comes to over a writer with room for so many bytes, and what is held then: a line of 11
@@ -167,5 +168,6 @@ fn writers_that_fail_of<K: NewStore, R: Abort + Alloc<A = Global>>(rt: &R) -> Re
 #[test]
 fn writers_that_fail(rt: HostRuntime) -> Result<(), Fail> {
     writers_that_fail_of::<BodiesInMemory, _>(&rt)?;
-    writers_that_fail_of::<TablesInMemory, _>(&rt)
+    writers_that_fail_of::<TablesInMemory, _>(&rt)?;
+    writers_that_fail_of::<TreesInMemory, _>(&rt)
 }

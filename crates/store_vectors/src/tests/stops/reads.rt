@@ -9,7 +9,7 @@ use super::{
     opened, session,
 };
 use osm_store::{Bodies, Tables};
-use osm_trees::TreeReader;
+use osm_trees::TreeStore;
 use sqlite::{Alter, Connection, Files};
 use std::alloc::Global;
 use std::process::Abort;
@@ -112,7 +112,7 @@ fn reads_over_tables(rt: HostRuntime) -> Result<(), Fail> {
 
 /// Whether all questions are answered below SQL, over the trees of a connection.
 fn is_told_below<S: Alter + Drop>(alloc: Global, connection: Connection<S>) -> bool {
-    let mut reader = TreeReader::new(connection.into_store());
+    let mut reader = TreeStore::new(connection.into_store());
     for (question, pieces) in QUESTIONS {
         let (answer, text) = answer_to(alloc, &mut reader, *question);
         if answer != Ok(()) || !are_joined(&text, pieces) {
