@@ -11,6 +11,7 @@ nodes="n 1 1000 -100 [] {}${nl}n 2 900 -100 [] {}${nl}"
 rm -f two.db
 expect "an import" 0 "$stored" import "$two" two.db
 expect "the same import again" 0 "$held" import "$two" two.db
+sound "which sqlite3 finds whole" two.db
 expect "its status" 0 "blobs 2 end 84 gaps 0${nl}" status two.db
 expect "its status against a longer file" 0 "gap 84 85${nl}blobs 2 end 84 gaps 1${nl}" status two.db --size 85
 expect "its export" 0 "$nodes" export two.db
@@ -35,6 +36,7 @@ head -c 83 "$two" > cut.osm.pbf
 expect "an import of a file that is cut" 1 "0 stored 0${nl}fault 18 BlobCut at 47${nl}" import cut.osm.pbf cut.db
 expect "the whole file after it" 0 "0 held${nl}47 stored 2${nl}blobs stored 1 held 1 bad 0 refused 0${nl}" import "$two" cut.db
 expect "and its export" 0 "$nodes" export cut.db
+sound "an import that went on is found whole" cut.db
 
 rm -f from.db
 expect "an import from the second frame" 0 "47 stored 2${nl}blobs stored 1 held 0 bad 0 refused 0${nl}" import "$two" from.db --from 47
@@ -46,6 +48,7 @@ expect "an import from behind the end" 1 "fault 68 ReadFailed at 85${nl}" import
 expect "a number above 2^62" 2 "" import "$two" past.db --from 4611686018427387905
 rm -f empty.db
 expect "an import of nothing" 1 "fault 61 NoHeaderFirst at 0${nl}" import /dev/null empty.db
+sound "a database that holds nothing is found whole" empty.db
 expect "an export of nothing" 1 "fault 67 Incomplete${nl}" export empty.db
 "$pbfrow" export empty.db --partial --form pbf > header-only.osm.pbf
 stat -c %s header-only.osm.pbf > size.txt

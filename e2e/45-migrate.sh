@@ -16,6 +16,7 @@ if has sqlite3; then
   expect "it is copied into a new one" 0 "copied 2 held 0${nl}" migrate old.db new.db
   expect "whose export is that of the file" 0 "$nodes" export new.db --size 84
   expect "a second time all of it is held" 0 "copied 0 held 2${nl}" migrate old.db new.db
+  sound "sqlite3 finds it whole" new.db
   expect "so is what an import of the file finds" 0 "0 held${nl}47 held${nl}blobs stored 0 held 2 bad 0 refused 0${nl}" import "$two" new.db
   sqlite3 old.db .dump > after.sql
   same "the older one is as it was" old.sql after.sql
@@ -52,6 +53,7 @@ if has sqlite3; then
     expect "an older database of a real extract is copied" 0 "copied $((blobs - 1)) held 0${nl}" migrate older.db new.db
     "$pbfrow" export new.db > got.txt
     same "its export is that of an import" want.txt got.txt
+    sound "sqlite3 finds the copy whole" new.db
     rm -f country.db older.db
   else
     skip "an older database of a real extract is copied" "python3 isn't installed"

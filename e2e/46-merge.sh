@@ -34,6 +34,7 @@ echo "blobs copied 12 held 0" >> want.txt
 same "its counts" last.txt want.txt
 "$pbfrow" export into.db --size "$size" > got.txt
 same "its export is that of one import" got.txt whole.txt
+sound "sqlite3 finds a merge whole" into.db
 expect "a second merge finds all of it" 0 "copied 0 held 12${nl}blobs copied 0 held 12${nl}" merge into.db whole.db
 
 # killed, and run again
@@ -47,6 +48,7 @@ wait $! 2>/dev/null
 [ $? = 0 ] && pass "a merge after one that was killed" || fail "a merge after one that was killed"
 "$pbfrow" export into.db --size "$size" > got.txt
 same "and its export" got.txt whole.txt
+sound "sqlite3 finds it whole" into.db
 
 # what isn't of one file, and what is no database
 rm -f into.db into.db-wal two.db
@@ -57,6 +59,7 @@ rm -f into.db into.db-wal two.db
 expect "a database of another file" 1 "fault 63 Differs at 47${nl}" merge into.db other.db
 expect "what came before it was copied" 0 "blobs 2 end 84 gaps 0${nl}" status into.db
 expect "and what was held stays" 0 "$nodes" export into.db
+sound "which sqlite3 finds whole" into.db
 expect "a database that isn't there" 1 "copied 0 held 2${nl}fault 66 NotThisStore${nl}" merge into.db two.db nowhere.db two.db
 [ ! -e nowhere.db ] && pass "which isn't made" || fail "which isn't made"
 expect "into a folder that isn't there" 1 "fault 65 Disk${nl}" merge nowhere/into.db two.db

@@ -98,6 +98,7 @@ if has sqlite3; then
   changes "a blob that was deleted with its rows" "DELETE FROM link $of; DELETE FROM tag $of; DELETE FROM element $of; DELETE FROM blob $of" "missing 98" - "missing 98"
   "$pbfrow" import few.osm.pbf changed.db > got.txt
   expect "verify --elements after it was imported again" 0 "$few" verify few.osm.pbf changed.db --elements
+  sound "sqlite3 finds it whole" changed.db
   changes "another digest" "UPDATE blob SET digest = zeroblob(32) $of" "differs 98" - "differs 98"
   changes "another type" "UPDATE blob SET kind = 2 $of" "differs 98" - "differs 98"
   changes "another count of elements" "UPDATE blob SET n = n + 1 $of" "differs 98" - "differs 98"
@@ -161,4 +162,5 @@ same "and has a line for each blob that is missing" got.txt want.txt
 "$pbfrow" import "$country" killed.db > got.txt
 expect "verify after it was imported again" 0 "$whole" verify "$country" killed.db
 expect "verify --elements after it was imported again" 0 "$whole" verify "$country" killed.db --elements
+sound "sqlite3 finds it whole" killed.db
 counted

@@ -27,6 +27,7 @@ done
 expect "find in an empty file" 1 "fault 66 NotThisStore${nl}" find blank.db n1
 : > blank.db
 expect "an import into an empty file" 0 "0 stored 0${nl}47 stored 2${nl}blobs stored 2 held 0 bad 0 refused 0${nl}" import "$two" blank.db
+sound "which sqlite3 finds whole" blank.db
 rm -f nowhere.db
 
 # one_fault NAME WORD..: the program with these words ends with 1 and one line of fault 65 or 66.
@@ -103,6 +104,7 @@ rm -f whole.db
 "$pbfrow" import "$country" whole.db > whole.txt
 "$pbfrow" export whole.db > whole-export.txt
 same "its export is that of an unbroken run" full-export.txt whole-export.txt
+sound "sqlite3 finds it whole" full.db
 
 "$pbfrow" export whole.db | head -n 1 > one.txt
 head -n 1 whole-export.txt > want.txt

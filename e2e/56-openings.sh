@@ -116,6 +116,7 @@ if [ -s broken.db-wal ]; then
   "$pbfrow" export broken.db > got.txt
   "$pbfrow" export whole.db > want.txt
   same "to the export of an unbroken one" got.txt want.txt
+  sound "sqlite3 finds it whole" broken.db
 else
   skip "a log that a kill left" "the import ended before it"
 fi

@@ -12,7 +12,8 @@ blobs=$(grep -c . unbroken.txt)
 workers=$(nproc)
 
 # Kills an import after so many microseconds, completes it by a second run, and writes how that went: whether the kill
-# came before the end, and whether the export is that of the unbroken import.
+# came before the end, and whether the export is that of the unbroken import and sqlite3, where it is installed, finds the
+# database whole.
 killed_import() {
   local name=killed-$1 wait_us=$2 pid end=late came=equal
   "$pbfrow" import "$country" "$name.db" > "$name.txt" 2>/dev/null &
@@ -24,6 +25,7 @@ killed_import() {
   "$pbfrow" import "$country" "$name.db" > "$name-resumed.txt" || came=different
   "$pbfrow" export "$name.db" > "$name-export.txt"
   cmp -s unbroken-export.txt "$name-export.txt" || came=different
+  if has sqlite3 && [ "$(sqlite3 "$name.db" "PRAGMA integrity_check" 2>&1)" != ok ]; then came=different; fi
   echo "$end $came" > "$name.verdict"
   rm -f "$name.db"* "$name-export.txt"
 }

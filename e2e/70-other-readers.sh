@@ -26,6 +26,39 @@ if has sqlite3; then
   printf '%s\n' "0|0|15721|" "1|0|15718|" "2|0|15720|" > want.txt
   same "sqlite3 reads the nodes of a way" way.txt want.txt
 
+  # a database with a table of somebody else is written by SQL, and shows the same rows
+  rm -f by-sql.db
+  "$pbfrow" import /dev/null by-sql.db > got.txt
+  sqlite3 by-sql.db "CREATE TABLE mine (name TEXT)"
+  "$pbfrow" import "$country" by-sql.db > got.txt
+  same "an import beside a table of one's own" got.txt imported.txt
+  sqlite3 by-sql.db "DROP TABLE mine"
+  sqlite3 by-sql.db .dump > got.sql
+  sqlite3 country.db .dump > want.sql
+  same "its rows" got.sql want.sql
+
+  # what sqlite3 leaves of a database that holds nothing, before an import
+  # imports_after NAME STATEMENTS STATUS TEXT: an import of the two-node file behind these statements.
+  imports_after() {
+    rm -f changed.db*
+    "$pbfrow" import /dev/null changed.db > got.txt
+    sqlite3 changed.db "$2" > got.txt
+    expect "an import after $1" "$3" "$4" import "$top/data/two-nodes.osm.pbf" changed.db
+    sound "which is found whole after $1" changed.db
+  }
+  stored=$'0 stored 0\n47 stored 2\nblobs stored 2 held 0 bad 0 refused 0\n'
+  imports_after "VACUUM" "VACUUM" 0 "$stored"
+  imports_after "another page size" "PRAGMA journal_mode = DELETE; PRAGMA page_size = 512; VACUUM" 0 "$stored"
+  imports_after "a rollback journal" "PRAGMA journal_mode = DELETE; CREATE TABLE gone (a); DROP TABLE gone" 0 "$stored"
+  imports_after "a log of its own" "PRAGMA journal_mode = WAL; CREATE TABLE gone (a); DROP TABLE gone" 0 "$stored"
+  imports_after "ANALYZE" "ANALYZE" 0 "$stored"
+  imports_after "a column of one's own" "ALTER TABLE element ADD COLUMN more INTEGER" 0 "$stored"
+  imports_after "an index of one's own" "CREATE INDEX element_by_place ON element (lat, lon)" 0 "$stored"
+  imports_after "an index that is gone" "DROP INDEX element_by_id" 0 "$stored"
+  imports_after "a view and a table of one's own" "CREATE VIEW node AS SELECT * FROM element WHERE kind = 0; CREATE TABLE mine (name TEXT PRIMARY KEY) WITHOUT ROWID" 0 "$stored"
+  imports_after "a trigger" "CREATE TABLE mine (name TEXT); CREATE TRIGGER told AFTER INSERT ON element BEGIN DELETE FROM mine; END" 1 $'0 stored 0\nfault 65 Disk at 47\n'
+  imports_after "a row in the place of one of the file" "INSERT INTO element (off, pos, kind, id) VALUES (47, 0, 0, 1)" 1 $'0 stored 0\nfault 65 Disk at 47\n'
+
   # what somebody else puts into the database, between two imports
   rm -f own.db
   "$pbfrow" import "$country" own.db --from 1259691 > imported.txt

@@ -43,6 +43,14 @@ same() {
   fi
 }
 
+# sound NAME DATABASE: sqlite3 finds the database whole, and each index complete.
+sound() {
+  local said
+  has sqlite3 || { skip "$1" "sqlite3 isn't installed"; return; }
+  said=$(sqlite3 "$2" "PRAGMA integrity_check" 2>&1)
+  if [ "$said" = ok ]; then pass "$1"; else fail "$1"; printf '%s\n' "$said" | head -n 5 | sed 's/^/    /'; fi
+}
+
 # has COMMAND..: whether all of these commands are there.
 has() {
   local command
