@@ -86,10 +86,10 @@ indexed_last o cs rows entries new shaped was =
 
 -- ---- the trees
 
-with_same : (db : Trees) (t : ℕ) (es : List Row) → with_tree db t es t ≡ es
+pub with_same : (db : Trees) (t : ℕ) (es : List Row) → with_tree db t es t ≡ es
 with_same db t es = rw (eq-eqb t t refl)
 
-with_other : (db : Trees) (t u : ℕ) (es : List Row) → u ≢ t → with_tree db t es u ≡ db u
+pub with_other : (db : Trees) (t u : ℕ) (es : List Row) → u ≢ t → with_tree db t es u ≡ db u
 with_other db t u es other = rw (ne_eqb u t other)
 
 module _ (old new : View) (t : ℕ) (edit : List Row → List Row) (sets : SetsTree old new t edit) where

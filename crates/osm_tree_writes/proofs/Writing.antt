@@ -15,17 +15,12 @@ use Rattle.osm_store.specs.TableRows.{element_rows, tag_rows, link_rows}
 use Rattle.osm_store.specs.Put.Steps.{Gains}
 use Rattle.osm_tree_writes.specs.declared.layout.TheConstants.{ELEMENTS, TAGS, LINKS}
 use Rattle.osm_tree_writes.specs.Appending.{IsStoreAt, Appends}
+use Rattle.osm_tree_writes.proofs.AppendLemmas.{with_same, with_other}
 use Rattle.osm_tree_writes.specs.Putting.{IsIndexedStore, AreTables, PutsBelow, WritesElements, Writes}
 
 -- two steps that write trees and move cursors are one
 rest_then : (a b c : View) → b ≡ record a { trees = b.trees; cursors = b.cursors } → c ≡ record b { trees = c.trees; cursors = c.cursors } → c ≡ record a { trees = c.trees; cursors = c.cursors }
 rest_then a b c first second = second ∙ ap (λ (v : View). record v { trees = c.trees; cursors = c.cursors }) first
-
-with_same : (db : Trees) (t : ℕ) (es : List Row) → with_tree db t es t ≡ es
-with_same db t es = rw (eq-eqb t t refl)
-
-with_other : (db : Trees) (t u : ℕ) (es : List Row) → u ≢ t → with_tree db t es u ≡ db u
-with_other db t u es other = rw (ne_eqb u t other)
 
 gains : (old new rows : List Row) → map (drop 1) new ≡ map (drop 1) old ++ rows → Gains old rows new
 gains old new rows e = subst (IsPermutation (map (drop 1) old ++ rows)) (sym e) (IsPermutation-refl _)
