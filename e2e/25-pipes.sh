@@ -11,36 +11,62 @@ for command in list check show; do
   [ "${PIPESTATUS[1]}" = "$of_file" ] && cmp -s of-file.txt of-pipe.txt && pass "$command of a pipe" || fail "$command of a pipe"
 done
 
-# after_first_frame COMMAND: starts the command on a writer that has written the header frame alone, keeps in early.txt
-# what is out by then, and in late.txt what is out after the rest was written.
+# after_first_frame FILE BYTES COMMAND WORD..: starts the command on a writer that has written the first frame of the file alone,
+# which has so many bytes, keeps in early.txt what is out by then, and in late.txt what is out after the rest was written. The
+# other words stand behind the input.
 after_first_frame() {
-  local reader
+  local file=$1 bytes=$2 command=$3 reader
+  shift 3
   rm -f slow.fifo late.txt
   mkfifo slow.fifo
-  "$pbfrow" "$1" slow.fifo > late.txt &
+  "$pbfrow" "$command" slow.fifo "$@" > late.txt &
   reader=$!
   exec 7> slow.fifo
-  head -c 47 "$two" >&7
+  head -c "$bytes" "$file" >&7
   for _ in $(seq 100); do
     [ -s late.txt ] && break
     sleep 0.1
   done
   cp late.txt early.txt
-  tail -c +48 "$two" >&7
+  tail -c +$((bytes + 1)) "$file" >&7
   exec 7>&-
   wait "$reader"
 }
 
-after_first_frame list
+after_first_frame "$two" 47 list
 lines "0 OSMHeader 30" > want.txt
 same "list prints a frame's line before it reads on" early.txt want.txt
 lines "0 OSMHeader 30" "47 OSMData 22" > want.txt
 same "list of a slow writer" late.txt want.txt
-after_first_frame show
+after_first_frame "$two" 47 show
 lines "blob 0 OSMHeader 47" "required OsmSchema-V0.6" "required DenseNodes" > want.txt
 same "show prints a blob's lines before it reads on" early.txt want.txt
 "$pbfrow" show "$two" > want.txt
 same "show of a slow writer" late.txt want.txt
+
+# the data frame in the place of the header frame, and behind it the header frame
+{ tail -c 37 "$two"; head -c 47 "$two"; } > turned.osm.pbf
+after_first_frame turned.osm.pbf 37 check
+lines "fault 61 NoHeaderFirst at 0" > want.txt
+same "check prints a bad blob's line before it reads on" early.txt want.txt
+lines "fault 61 NoHeaderFirst at 0" "fault 62 HeaderNotFirst at 37" "blobs 2 nodes 0 ways 0 relations 0 faults 2" > want.txt
+same "check of a slow writer" late.txt want.txt
+
+rm -f slow.db*
+after_first_frame "$two" 47 import slow.db
+lines "0 stored 0" > want.txt
+same "import prints a blob's line before it reads on" early.txt want.txt
+lines "0 stored 0" "47 stored 2" "blobs stored 2 held 0 bad 0 refused 0" > want.txt
+same "import of a slow writer" late.txt want.txt
+
+# a database without the first blob
+rm -f slow.db*
+"$pbfrow" import "$two" slow.db --from 47 > got.txt
+after_first_frame "$two" 47 verify slow.db
+lines "missing 0" > want.txt
+same "verify prints a blob's line before it reads on" early.txt want.txt
+lines "missing 0" "blobs 2 missing 1 differs 0 extra 0" > want.txt
+same "verify of a slow writer" late.txt want.txt
 
 # import reads a pipe as it reads a file, and says of a blob what became of it before it reads on
 rm -f pipe.db

@@ -5,7 +5,10 @@ two=$top/data/two-nodes.osm.pbf
 nl='
 '
 expect "the version" 0 "pbfrow 0.1.0${nl}" --version
-for command in list check show ranges import migrate merge verify status export find; do
+"$pbfrow" --help | sed -n '/^Commands:/,/^$/s/^  \([a-z]*\) .*/\1/p' | grep -vx help > got.txt
+commands > want.txt
+same "the help names the commands of README's table" got.txt want.txt
+for command in $(commands); do
   "$pbfrow" "$command" --help > help.txt
   if [ $? = 0 ] && grep -q "^Exit status: 0" help.txt && grep -q "^  pbfrow $command " help.txt; then
     pass "help of $command"

@@ -22,6 +22,8 @@ if has sqlite3; then
   same "the older one is as it was" old.sql after.sql
 
   expect "an older database that isn't there" 1 "fault 66 NotThisStore${nl}" migrate nowhere.db none.db
+  : > blank.db
+  expect "an empty file as the older one" 1 "fault 66 NotThisStore${nl}" migrate blank.db none.db
   expect "one that isn't older" 1 "fault 66 NotThisStore${nl}" migrate new.db none.db
   [ ! -e none.db ] && pass "then no database is made" || fail "then no database is made"
   expect "a database in a folder that isn't there" 1 "fault 65 Disk${nl}" migrate old.db nowhere/new.db
@@ -32,6 +34,11 @@ if has sqlite3; then
   esac
   sqlite3 old.db .dump > after.sql
   same "which is as it was" old.sql after.sql
+  rm -f blank.db*
+  : > blank.db
+  expect "a copy into an empty file" 0 "copied 2 held 0${nl}" migrate old.db blank.db
+  expect "whose export is that of the file, too" 0 "$nodes" export blank.db --size 84
+  sound "which sqlite3 finds whole" blank.db
 
   # the second node a little further east, which is another blob at the same place
   { head -c 83 "$two"; printf '\002'; } > moved.osm.pbf

@@ -37,13 +37,16 @@ same "its export is that of one import" got.txt whole.txt
 sound "sqlite3 finds a merge whole" into.db
 expect "a second merge finds all of it" 0 "copied 0 held 12${nl}blobs copied 0 held 12${nl}" merge into.db whole.db
 
-# killed, and run again
+# killed as soon as the line of the first part is written, with three parts still to copy; and run again
 rm -f into.db into.db-wal
-"$pbfrow" merge into.db part-1.db part-2.db part-3.db part-4.db > got.txt 2> stderr.txt &
-sleep 0.3
+"$pbfrow" merge into.db part-1.db part-2.db part-3.db part-4.db > killed.txt 2> stderr.txt &
+for _ in $(seq 1000); do [ -s killed.txt ] && break; sleep 0.01; done
 kill -9 $!
 # until it is gone it has the lock
 wait $! 2>/dev/null
+grep -q '^copied' killed.txt && ! grep -q '^blobs' killed.txt && pass "a merge that is killed between two parts" || fail "a merge that is killed between two parts"
+held=$("$pbfrow" status into.db | sed -n 's/^blobs \([0-9]*\) .*/\1/p')
+[ "${held:-0}" -ge 1 ] && [ "${held:-0}" -lt 12 ] && pass "which has copied some of the blobs" || fail "which has copied some of the blobs ($held)"
 "$pbfrow" merge into.db part-1.db part-2.db part-3.db part-4.db > got.txt
 [ $? = 0 ] && pass "a merge after one that was killed" || fail "a merge after one that was killed"
 "$pbfrow" export into.db --size "$size" > got.txt
@@ -62,6 +65,14 @@ expect "and what was held stays" 0 "$nodes" export into.db
 sound "which sqlite3 finds whole" into.db
 expect "a database that isn't there" 1 "copied 0 held 2${nl}fault 66 NotThisStore${nl}" merge into.db two.db nowhere.db two.db
 [ ! -e nowhere.db ] && pass "which isn't made" || fail "which isn't made"
+rm -f blank.db*
+: > blank.db
+expect "an empty file that is to be copied" 1 "copied 0 held 2${nl}fault 66 NotThisStore${nl}" merge into.db two.db blank.db two.db
+rm -f blank.db*
+: > blank.db
+expect "a merge into an empty file" 0 "copied 2 held 0${nl}blobs copied 2 held 0${nl}" merge blank.db two.db
+expect "its export" 0 "$nodes" export blank.db --size 84
+sound "which sqlite3 finds whole, too" blank.db
 expect "into a folder that isn't there" 1 "fault 65 Disk${nl}" merge nowhere/into.db two.db
 "$pbfrow" merge two.db two.db > got.txt
 expect "a database into itself leaves it as it was" 0 "$nodes" export two.db --size 84
@@ -72,5 +83,11 @@ if has sqlite3; then
   expect "a database of an earlier version and one of this" 0 "copied 2 held 0${nl}copied 0 held 2${nl}blobs copied 2 held 2${nl}" merge into.db old.db two.db
 else
   skip "a merge of a database of an earlier version" "sqlite3 isn't installed"
+fi
+if has python3; then
+  python3 "$top/e2e/every_list.py" "$pbfrow" "$two" > got.txt && pass "each list of databases makes their union" || fail "each list of databases makes their union"
+  sed 's/^/  /' got.txt
+else
+  skip "merges of lists of databases" "python3 isn't installed"
 fi
 counted

@@ -20,6 +20,12 @@ for depth in "" --elements; do
   expect "verify${depth:+ $depth} of a blob behind the file" 1 "extra 47${nl}blobs 1 missing 0 differs 0 extra 1${nl}" verify header.osm.pbf two.db $depth
   expect "verify${depth:+ $depth} of a file that ends inside a frame" 1 "fault 18 BlobCut at 47${nl}blobs 1 missing 0 differs 0 extra 0${nl}" verify cut.osm.pbf two.db $depth
 done
+if has python3; then
+  python3 "$top/e2e/every_byte.py" "$pbfrow" "$two" two.db > got.txt && pass "verify of a file of which one byte is another" || fail "verify of a file of which one byte is another"
+  sed 's/^/  /' got.txt
+else
+  skip "verify of a file of which one byte is another" "python3 isn't installed"
+fi
 expect "verify of an empty input" 1 "fault 61 NoHeaderFirst at 0${nl}extra 0${nl}extra 47${nl}blobs 0 missing 0 differs 0 extra 2${nl}" verify /dev/null two.db
 cat header.osm.pbf header.osm.pbf > headers.osm.pbf
 expect "verify of a bad blob in the place of a good one" 1 "fault 62 HeaderNotFirst at 47${nl}extra 47${nl}blobs 2 missing 0 differs 0 extra 1${nl}" verify headers.osm.pbf two.db

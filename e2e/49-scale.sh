@@ -122,7 +122,7 @@ if has dask-scheduler dask-worker && /usr/bin/python3 -c 'import distributed' 2>
   worker 2
   second=$!
   address=$(sed -n 's/.*"address": "\([^"]*\)".*/\1/p' scheduler.json)
-  "$top/examples/dask_import.py" "$address" "$country" 4 > dask.txt 2> stderr.txt &
+  timeout -k 10 300 "$top/examples/dask_import.py" "$address" "$country" 4 > dask.txt 2> stderr.txt &
   driver=$!
   for _ in $(seq 600); do [ -n "$(ls part-*.db 2> /dev/null)" ] && break; sleep 0.05; done
   kill -9 "$first"
@@ -130,7 +130,8 @@ if has dask-scheduler dask-worker && /usr/bin/python3 -c 'import distributed' 2>
   third=$!
   wait "$driver"
   [ $? = 0 ] && pass "Dask ends with 0 where a worker was killed" || fail "Dask ends with 0 where a worker was killed"
-  kill "$second" "$third" "$scheduler" 2> /dev/null
+  # not asked to end: a worker that loses its scheduler while it does may wait for it for ever
+  kill -9 "$second" "$third" "$scheduler" 2> /dev/null
   wait "$first" "$second" "$third" "$scheduler" 2> /dev/null
   lines "4 parts are imported" > want.txt
   same "and has imported all parts" dask.txt want.txt
@@ -141,7 +142,7 @@ fi
 
 if has sbatch sinfo && timeout 5 sinfo > /dev/null 2>&1; then
   cp ranges.txt plan
-  sbatch --wait --requeue --array=1-4 --wrap "$import_part $country \$(sed -n \${SLURM_ARRAY_TASK_ID}p plan)" > got.txt 2> stderr.txt
+  timeout -k 10 300 sbatch --wait --requeue --array=1-4 --wrap "$import_part $country \$(sed -n \${SLURM_ARRAY_TASK_ID}p plan)" > got.txt 2> stderr.txt
   [ $? = 0 ] && pass "Slurm ends with 0" || fail "Slurm ends with 0"
   scheduled "parts imported by Slurm"
 else

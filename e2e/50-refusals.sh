@@ -5,7 +5,6 @@ two=$top/data/two-nodes.osm.pbf
 country=$top/data/liechtenstein-raw.osm.pbf
 nl='
 '
-nodes="n 1 1000 -100 [] {}${nl}n 2 900 -100 [] {}${nl}"
 
 rm -f any.db
 expect "an input that isn't there" 1 "fault 68 ReadFailed at 0${nl}" import nowhere.osm.pbf any.db
@@ -89,22 +88,59 @@ else
   skip "inputs and databases without permission" "this shell isn't root, or setpriv isn't installed"
 fi
 
-# a file may grow to 600 kB: then writes fail as on a full disk
-rm -f full.db
-(ulimit -f 600; trap '' XFSZ; "$pbfrow" import "$country" full.db > full.txt 2>/dev/null)
-ended=$?
-tail -n 1 full.txt > last.txt
-case "$ended $(cat last.txt)" in
-  "1 fault 65 "*) pass "a full disk" ;;
-  *) fail "a full disk"; echo "  got status $ended and: $(cat last.txt)" ;;
-esac
-"$pbfrow" import "$country" full.db > again.txt && pass "the import after it" || fail "the import after it"
-"$pbfrow" export full.db > full-export.txt
-rm -f whole.db
+# fills_up NAME WORD..: where no file may grow past 600 kB, so that writes fail as on a full disk, the program with these words
+# ends with 1, and its last line is that of fault 65.
+fills_up() {
+  local name=$1 ended
+  shift
+  (ulimit -f 600; trap '' XFSZ; "$pbfrow" "$@" > full.txt 2>/dev/null)
+  ended=$?
+  case "$ended $(tail -n 1 full.txt)" in
+    "1 fault 65 "*) pass "$name" ;;
+    *) fail "$name"; echo "  got status $ended and: $(tail -n 1 full.txt)" ;;
+  esac
+}
+
+# as_whole NAME DATABASE: the database exports what an unbroken import of the extract gives, and sqlite3 finds it whole.
+as_whole() {
+  "$pbfrow" export "$2" > full-export.txt
+  same "$1" full-export.txt whole-export.txt
+  sound "sqlite3 finds it whole" "$2"
+}
+
+rm -f full.db* whole.db*
 "$pbfrow" import "$country" whole.db > whole.txt
 "$pbfrow" export whole.db > whole-export.txt
-same "its export is that of an unbroken run" full-export.txt whole-export.txt
-sound "sqlite3 finds it whole" full.db
+fills_up "a full disk" import "$country" full.db
+"$pbfrow" import "$country" full.db > again.txt && pass "the import after it" || fail "the import after it"
+as_whole "its export is that of an unbroken run" full.db
+
+# what is copied is as it was, byte for byte
+blobs=$(grep -c '^[0-9][0-9]* stored ' whole.txt)
+"$pbfrow" ranges "$country" 2 > plan.txt
+while read -r from to; do
+  tail -c +$((from + 1)) "$country" | head -c $((to - from)) | "$pbfrow" import /dev/stdin "part-$from.db" --at "$from" > got.txt
+done < plan.txt
+rm -f full.db*
+sha256sum part-*.db > sums.txt
+fills_up "a merge on a full disk" merge full.db part-*.db
+sha256sum -c --quiet sums.txt && pass "which leaves what it copies" || fail "which leaves what it copies"
+"$pbfrow" merge full.db part-*.db > again.txt && pass "the merge after it" || fail "the merge after it"
+as_whole "its export is that of one import" full.db
+expect "the parts are still whole" 0 "blobs $blobs end $(stat -c %s "$country") gaps 0${nl}" status part-*.db
+
+if has python3; then
+  python3 "$top/bench/older.py" whole.db older.db
+  rm -f full.db*
+  sha256sum older.db > sums.txt
+  fills_up "a copy of an older database on a full disk" migrate older.db full.db
+  sha256sum -c --quiet sums.txt && pass "which leaves the older one" || fail "which leaves the older one"
+  "$pbfrow" migrate older.db full.db > again.txt && pass "the copy after it" || fail "the copy after it"
+  as_whole "its export is that of an import" full.db
+  rm -f older.db
+else
+  skip "a copy of an older database on a full disk" "python3 isn't installed"
+fi
 
 "$pbfrow" export whole.db | head -n 1 > one.txt
 head -n 1 whole-export.txt > want.txt

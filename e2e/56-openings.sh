@@ -192,11 +192,12 @@ if has sqlite3; then
   rm -f other.db*
   sqlite3 other.db "$(sqlite3 sound.db .schema | tr '\n' ' ')"
   expect "our tables without a version: status" 1 "fault 66 NotThisStore${nl}" status other.db
-  sqlite3 other.db "INSERT INTO meta VALUES (3)"
+  version=$(schema_version)
+  sqlite3 other.db "INSERT INTO meta VALUES ($((version + 1)))"
   expect "our tables under another version: status" 1 "fault 66 NotThisStore${nl}" status other.db
-  sqlite3 other.db "INSERT INTO meta VALUES (2)"
+  sqlite3 other.db "INSERT INTO meta VALUES ($version)"
   expect "our tables under two versions: status" 1 "fault 66 NotThisStore${nl}" status other.db
-  sqlite3 other.db "DELETE FROM meta WHERE version = 3"
+  sqlite3 other.db "DELETE FROM meta WHERE version > $version"
   expect "our tables, made by sqlite3, with no blob: status" 0 "blobs 0 end 0 gaps 0${nl}" status other.db
   sqlite3 other.db "DROP INDEX element_by_id"
   expect "without an index: status" 0 "blobs 0 end 0 gaps 0${nl}" status other.db

@@ -13,7 +13,7 @@ if has sqlite3; then
   echo ok > want.txt
   same "sqlite3 finds the database whole" integrity.txt want.txt
   sqlite3 country.db "SELECT count(*), sum(n), max(fin) FROM blob; SELECT version FROM meta" > counts.txt
-  printf '%s\n' "12|72967|1311970" 2 > want.txt
+  printf '%s\n' "12|72967|1311970" "$(schema_version)" > want.txt
   same "sqlite3 counts its blobs and elements" counts.txt want.txt
   sqlite3 country.db "SELECT kind, count(*) FROM element GROUP BY kind; SELECT count(*) FROM tag; SELECT count(*) FROM link" > counts.txt
   # as counted by a program over libosmium (bench/peers/store_tables.cpp)

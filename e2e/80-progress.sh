@@ -45,6 +45,20 @@ shows() {
   same "$command writes the same as without a terminal" got.txt "$wanted"
 }
 
+# copies FILE DATABASE COMMAND WORD..: this command, which copies all of the extract into a new database and is held up for more
+# than a second where it begins, with a terminal at standard error, ends with 0, tells how far it is, erases that line, and writes
+# what the file has.
+copies() {
+  local wanted=$1 database=$2 command=$3
+  shift 2
+  rm -f "$database"*
+  python3 "$terminal" --paused "$database-wal" "$pbfrow" "$@" > got.txt
+  ends_well "$command on a terminal ends with 0" $?
+  told "$command tells how far it is" "[0-9]+\.[0-9] MB of 1\.3 MB, [0-9]+ blobs, $rate(, [0-9]+ s left)?"
+  same "the line of $command is erased at the end" shown.txt nothing.txt
+  same "$command writes the same as without a terminal" got.txt "$wanted"
+}
+
 if has python3 && python3 -c 'import pty; pty.openpty()' 2>/dev/null; then
   : > nothing.txt
   "$pbfrow" check "$country" > want.txt
@@ -63,6 +77,15 @@ if has python3 && python3 -c 'import pty; pty.openpty()' 2>/dev/null; then
 
   "$pbfrow" verify "$country" plain.db > verified.txt
   shows verified.txt verify /dev/stdin plain.db
+
+  "$pbfrow" ranges "$country" 4 > ranges.txt
+  shows ranges.txt ranges /dev/stdin 4
+
+  lines "copied 12 held 0" "blobs copied 12 held 0" > copied.txt
+  copies copied.txt merged.db merge merged.db plain.db
+  python3 "$top/bench/older.py" plain.db older.db
+  lines "copied 12 held 0" > copied.txt
+  copies copied.txt migrated.db migrate older.db migrated.db
 
   rm -f slow.db
   slowly "$country" | python3 "$terminal" --all "$pbfrow" import /dev/stdin slow.db

@@ -10,7 +10,7 @@ if has make install; then
     printf '%s\n' "0 OSMHeader 30" "47 OSMData 22" > want.txt
     same "the installed program runs by itself" listed.txt want.txt
     grep '^Usage: ' image/usr/share/man/man1/pbfrow.1 | cut -d ' ' -f 3 > described.txt
-    printf '%s\n' list check show ranges import migrate merge verify status export find > want.txt
+    commands > want.txt
     same "the manual page describes each command" described.txt want.txt
   else
     fail "make install"

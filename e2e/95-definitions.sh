@@ -1,5 +1,5 @@
 #!/usr/bin/env bash
-# The definitions: each that a clause of a public function cites is explained in docs/DEFINITIONS.md.
+# The definitions: each that a clause of a public function cites is explained in docs/DEFINITIONS.md, or with a promise in docs/PROOFS.md.
 . "$(dirname -- "${BASH_SOURCE[0]}")/begin.sh"
 if has python3; then
   if "$top/docs/definitions_check" > missing.txt; then

@@ -51,6 +51,12 @@ sound() {
   if [ "$said" = ok ]; then pass "$1"; else fail "$1"; printf '%s\n' "$said" | head -n 5 | sed 's/^/    /'; fi
 }
 
+# commands: the commands of the program, as README's table has them.
+commands() { sed -n '/^## Commands/,/^## What/s/^| `\([a-z]*\) .*/\1/p' "$top/README.md"; }
+
+# schema_version: the version of the tables, as docs/SCHEMA.md has it.
+schema_version() { sed -n 's/.*| the version of these tables: \([0-9]*\) |$/\1/p' "$top/docs/SCHEMA.md"; }
+
 # has COMMAND..: whether all of these commands are there.
 has() {
   local command

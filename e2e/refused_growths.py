@@ -1,5 +1,6 @@
 #!/usr/bin/env python3
-"""Runs a command of pbfrow on the two-node file once for each growth of memory that it makes, with that growth refused.
+"""Runs a command of pbfrow on the two-node file, or on databases that hold it, once for each growth of memory that it
+makes, with that growth refused.
 
     refused_growths.py EVERY PROGRAM WORD..
 
@@ -10,8 +11,9 @@ of these ways:
 - with 2, nothing on standard output, and `error: out of memory` on standard error: the arguments weren't read;
 - with 1 and, behind a front of the output, the line `fault 65 Memory` or `fault 65 Memory at OFFSET`.
 
-After each run of an import the same with memory has to end with 0, and the export to be whole. The counts of these ways
-are printed, and what went otherwise; the exit status is 1 if something did.
+After each run of an import, a migrate or a merge the same with memory has to end with 0, and the export to be whole. What
+is copied has to stay as it was. The counts of these ways are printed, and what went otherwise; the exit status is 1 if
+something did.
 """
 import glob
 import os
@@ -25,6 +27,10 @@ from concurrent.futures import ThreadPoolExecutor
 
 AS_WITH_MEMORY, ARGUMENTS, FAULT = "as with memory", "with 2 and no output", "with the line of the fault"
 FAULT_LINE = re.compile(rb"fault 65 Memory(?: at (?:0|47|84))?\n\Z")
+
+# Where the words of a command name databases, first the one that it fills or asks. All words of a merge do.
+DATABASES = {"import": [2], "verify": [2], "status": [1], "export": [1], "find": [1], "migrate": [2, 1]}
+FILLING = ("import", "migrate", "merge")
 
 SECONDS = 60
 
@@ -77,24 +83,39 @@ def way_of(got, wanted, is_text):
     return FAULT if wanted[1].startswith(front) and (ends_line or not is_text) else None
 
 
+def places(words):
+    """Where these words name databases."""
+    return list(range(1, len(words))) if words[0] == "merge" else DATABASES.get(words[0], [])
+
+
 def in_folder(words, folder):
-    """The words of a command over a copy in this folder of the database that it names, and that copy."""
-    at = {"import": 2, "verify": 2, "status": 1, "export": 1, "find": 1}.get(words[0])
-    if at is None:
-        return list(words), None
-    copy = os.path.join(folder, os.path.basename(words[at]))
-    for path in glob.glob(f"{words[at]}*"):
-        shutil.copy(path, folder)
-    return [*words[:at], copy, *words[at + 1:]], copy
+    """The words of a command over copies in this folder of the databases that it names, and these copies."""
+    moved = list(words)
+    for place in places(words):
+        for path in glob.glob(f"{words[place]}*"):
+            shutil.copy(path, folder)
+        moved[place] = os.path.join(folder, os.path.basename(words[place]))
+    return moved, [moved[place] for place in places(words)]
+
+
+def contents(names):
+    """The bytes of databases."""
+    read = []
+    for name in names:
+        with open(name, "rb") as file:
+            read.append(file.read())
+    return read
 
 
 def tried(program, words, refusals, wanted, is_new):
-    """Runs a command with each of these growths refused, over a copy of its database: the ways, and what went otherwise."""
+    """Runs a command with each of these growths refused, over copies of its databases: the ways, and what went otherwise."""
     ways, told = Counter(), []
     with tempfile.TemporaryDirectory(dir=FOLDER) as folder:
-        words, database = in_folder(words, folder)
+        words, databases = in_folder(words, folder)
+        database, copied = (databases[0], databases[1:]) if databases else (None, [])
         command, export = [program, *words], [program, "export", database]
         whole = database and run(export)
+        before = contents(copied)
         for refused in refusals:
             if is_new:
                 remove(database)
@@ -103,15 +124,17 @@ def tried(program, words, refusals, wanted, is_new):
             ways[way] += 1
             if not way:
                 told.append(f"growth {refused}: {got}")
-            if words[0] == "import" and (run(command)[0] != 0 or run(export) != whole):
-                told.append(f"growth {refused}: the same again doesn't complete the import")
+            if words[0] in FILLING and (run(command)[0] != 0 or run(export) != whole):
+                told.append(f"growth {refused}: the same again doesn't complete the {words[0]}")
+            if contents(copied) != before:
+                told.append(f"growth {refused}: what is copied isn't as it was")
         if database and run(export) != whole:
             told.append("the database isn't as it was")
     return ways, told
 
 
 def main(every, program, *words):
-    is_new = words[0] == "import" and not os.path.exists(words[2])
+    is_new = words[0] in FILLING and not os.path.exists(words[places(words)[0]])
     wanted, made = counted([program, *words])
     refusals = range(1, made + 1, int(every))
     # each worker has every so many of them, and a database of its own

@@ -27,6 +27,6 @@ a_relation = elements.Relation (record {
   info = no_info;
 })
 
--- eight columns without a value: places, version, time, changeset, user id, user and flag
-abbrev pub eight_nulls : Row
-eight_nulls = Null ∷ Null ∷ Null ∷ Null ∷ Null ∷ Null ∷ Null ∷ Null ∷ []
+-- the columns without a value: places, version, time, changeset, user id, user and flag
+abbrev pub no_values : Row
+no_values = Null ∷ Null ∷ Null ∷ Null ∷ Null ∷ Null ∷ Null ∷ Null ∷ []

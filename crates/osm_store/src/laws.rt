@@ -8,7 +8,7 @@ ghost use Rattle.sqlite.specs.Held.{state};
 ghost use Rattle.sqlite.specs.State.{HasCleanDisk, IsLive, Opens};
 ghost use Rattle.sqlite.specs.Steps.{over_memory};
 ghost use Rattle.sqlite.specs.Tree.{Trees};
-ghost use Rattle.osm_store.specs.RowExamples.{a_node, a_way, a_relation, eight_nulls};
+ghost use Rattle.osm_store.specs.RowExamples.{a_node, a_way, a_relation, no_values};
 ghost use Rattle.osm_store.specs.TableRows.{element_rows, tag_rows, link_rows};
 ghost use Rattle.osm_store.specs.Audit.{ShowsBlob, ShowsCounts, ShowsMap, counts_of};
 ghost use Rattle.osm_store.specs.Held.{Blob, HeldMap};
@@ -50,7 +50,7 @@ pub fn rows_of_a_way()
 
 /// The rows of a relation, of its tag and of its members.
 pub fn rows_of_a_relation()
-    ensures element { (off : ℕ) → element_rows ((off, 0, a_relation) ∷ []) ≡ (Int (pos off) ∷ Int (pos 0) ∷ Int (pos 2) ∷ Int (pos 9) ∷ eight_nulls) ∷ [] }
+    ensures element { (off : ℕ) → element_rows ((off, 0, a_relation) ∷ []) ≡ (Int (pos off) ∷ Int (pos 0) ∷ Int (pos 2) ∷ Int (pos 9) ∷ no_values) ∷ [] }
     ensures tag { (off : ℕ) → tag_rows ((off, 0, a_relation) ∷ []) ≡ (Int (pos off) ∷ Int (pos 0) ∷ Int (pos 0) ∷ Words (codes "name") ∷ Words (codes "a b,c") ∷ []) ∷ [] }
     ensures links { (off : ℕ) → link_rows ((off, 0, a_relation) ∷ [])
         ≡ (Int (pos off) ∷ Int (pos 0) ∷ Int (pos 0) ∷ Int (pos 0) ∷ Int (pos 1) ∷ Words (codes "outer") ∷ [])

@@ -19,5 +19,6 @@ pub use put::{ElementRow, LinkRow, TableRow, TagRow, element_rows, link_rows, ta
 pub use schema::codes::{blob_code, element_code};
 pub use schema::sql::{
     CREATE_BLOB, CREATE_ELEMENT, CREATE_ELEMENT_INDEX, CREATE_LINK, CREATE_META, CREATE_TAG,
+    TABLE_VERSION,
 };
 pub use schema::{Bodies, StoreLayout, Tables};

@@ -1,6 +1,9 @@
 -- What the steps of a put come to.
 use Rattle.std.proofs.Common.{◌≡◌, ◌≢◌, ℕ, false, List, [], ◌∷◌, ◌++◌, map, drop, refl, sym, ap, subst, ◌∙◌, eq-eqb, ne_eqb, arith}
+use Rattle.std.specs.Prelude.{flat_map}
 use Rattle.std.specs.List.Sorted.{IsPermutation}
+use Rattle.std.proofs.lemmas.List.{map-append}
+use Rattle.std.proofs.lemmas.List.Concat.{flat_map-append}
 use Rattle.std.proofs.lemmas.List.Sorted.{IsPermutation-refl}
 use Rattle.sqlite_value.specs.Order.{Row}
 use Rattle.sqlite_trees.specs.Tree.{Trees, put_row, with_tree}
@@ -11,8 +14,9 @@ use Rattle.sqlite_exec.specs.Calls.{OnlyReads}
 use Rattle.sqlite_sql.specs.Catalog.{IsIndexOf}
 use Rattle.osm_store.specs.declared.keeper.Extent.{Extent}
 use Rattle.osm_store.specs.Rows.{Placed, extent_row}
-use Rattle.osm_store.specs.TableRows.{element_rows, tag_rows, link_rows}
+use Rattle.osm_store.specs.TableRows.{Part, element_row, tag_row, link_row, tags_at, links_at, element_rows, tag_rows, link_rows}
 use Rattle.osm_store.specs.Put.Steps.{Gains}
+use Rattle.osm_store.proofs.PutLemmas.RowSteps.{gains_then}
 use Rattle.osm_tree_writes.specs.declared.layout.TheConstants.{ELEMENTS, TAGS, LINKS}
 use Rattle.osm_tree_writes.specs.Appending.{IsStoreAt, Appends}
 use Rattle.osm_tree_writes.proofs.AppendLemmas.{with_same, with_other}
@@ -27,6 +31,10 @@ gains old new rows e = subst (IsPermutation (map (drop 1) old ++ rows)) (sym e) 
 
 gains_along : (old mid new end rows : List Row) → mid ≡ old → end ≡ new → Gains mid rows new → Gains old rows end
 gains_along old mid new end rows before after h = subst (Gains old rows) (sym after) (subst (λ l. Gains l rows new) before h)
+
+-- the rows for the parts of elements, of which some come first
+parts_both : {A : Type 0} (row : Part A → Row) (parts_at : Placed → List (Part A)) (ps qs : List Placed) → map row (flat_map parts_at (ps ++ qs)) ≡ map row (flat_map parts_at ps) ++ map row (flat_map parts_at qs)
+parts_both row parts_at ps qs = ap (map row) (flat_map-append parts_at ps qs) ∙ map-append row (flat_map parts_at ps) (flat_map parts_at qs)
 
 -- an index of rows that are the same is one of them still
 index_along : (cs : List ℕ) (rows entries other others : List Row) → other ≡ rows → others ≡ entries → IsIndexOf cs rows entries → IsIndexOf cs other others
@@ -84,6 +92,22 @@ module _ (v0 v1 v2 v3 : View) (ps : List Placed) (e : Appends ELEMENTS (element_
     );
     rest = rest_then v0 v2 v3 (rest_then v0 v1 v2 e.rest t.rest) l.rest;
   }
+
+-- the rows of more elements are written behind those of some
+pub written_more : (a b c : View) (ps qs : List Placed) → WritesElements a b ps → WritesElements b c qs → WritesElements a c (ps ++ qs)
+written_more a b c ps qs one two = record {
+  sound = one.sound;
+  catalog = two.catalog ∙ one.catalog;
+  meta = two.meta ∙ one.meta;
+  blob = two.blob ∙ one.blob;
+  elements = (
+    subst (λ rows. Gains (a.trees 2) rows (c.trees 2)) (sym (map-append element_row ps qs)) (gains_then (a.trees 2) (b.trees 2) (c.trees 2) (element_rows ps) (element_rows qs) one.elements.0 two.elements.0),
+    subst (λ rows. Gains (a.trees 4) rows (c.trees 4)) (sym (parts_both tag_row tags_at ps qs)) (gains_then (a.trees 4) (b.trees 4) (c.trees 4) (tag_rows ps) (tag_rows qs) one.elements.1 two.elements.1),
+    subst (λ rows. Gains (a.trees 6) rows (c.trees 6)) (sym (parts_both link_row links_at ps qs)) (gains_then (a.trees 6) (b.trees 6) (c.trees 6) (link_rows ps) (link_rows qs) one.elements.2 two.elements.2),
+  );
+  indexed = λ was. two.indexed (one.indexed was);
+  rest = rest_then a b c one.rest two.rest;
+}
 
 -- trees in these shapes are tables
 are_tables : (shapes : ℕ → Shape) (db : Trees) → IsStoreAt shapes → IsOrdered shapes db → AreTables db

@@ -6,7 +6,7 @@ use Rattle.sqlite_value.specs.declared.value.Value.TheVariants.{Int}
 use Rattle.sqlite_value.specs.Order.{Row, value_cmp}
 use Rattle.sqlite_value.specs.Keys.{plain}
 use Rattle.sqlite_trees.specs.declared.store.Shape.{Shape}
-use Rattle.sqlite_trees.specs.declared.store.Shape.TheVariants.{Table, Index}
+use Rattle.sqlite_trees.specs.declared.store.Shape.TheVariants.{Absent, Table, Index}
 use Rattle.sqlite_trees.specs.Tree.{rowid, IsIndexShape}
 use Rattle.sqlite_trees.specs.View.{View}
 use Rattle.sqlite_sql.specs.Catalog.{IsIndexOf}
@@ -44,6 +44,10 @@ IsStoreAt shapes = (shapes 1 ≡ Table) × IsTableAt shapes ELEMENTS × IsTableA
 -- no index stands behind the trees of a store
 abbrev pub HasNoMoreIndexes : (ℕ → Shape) → Type 0
 HasNoMoreIndexes shapes = (t : ℕ) → 9 ≤ t → t < 2 ^ 32 → ¬ IsIndexShape (shapes t)
+
+-- no tree stands behind those of a store
+abbrev pub HasNoMoreTrees : (ℕ → Shape) → Type 0
+HasNoMoreTrees shapes = (t : ℕ) → 9 ≤ t → shapes t ≡ Absent
 
 -- the table and each index have a tree of their own
 abbrev pub IsApart : TableTree → Type 0

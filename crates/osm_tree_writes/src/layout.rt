@@ -1,6 +1,6 @@
 //! The trees of a table and of its indexes.
 
-ghost use Rattle.std.specs.Prelude.{IsTrue};
+ghost use Rattle.std.specs.Prelude.{◌↔◌, IsTrue};
 ghost use Rattle.osm_tree_writes.specs.Appending.{IsIndexAt, IsTableAt};
 
 use sqlite_trees::store::{Shape, Store};
@@ -68,14 +68,14 @@ pub(crate) const LINKS: TableTree = TableTree {
 
 /// Whether the trees have this index.
 fn has_index<S: Store>(store: &S, index: IndexTree) -> bool
-    ensures { IsTrue result → IsIndexAt (S.Store.view store.now).shape index }
+    ensures { IsTrue result ↔ IsIndexAt (S.Store.view store.now).shape index }
 {
     store.shape(index.tree) == Shape::Index(Order::PLAIN)
 }
 
 /// Whether the trees have this table and its indexes.
 pub(crate) fn has_table<S: Store>(store: &S, table: &TableTree) -> bool
-    ensures { IsTrue result → IsTableAt (S.Store.view store.now).shape table.now }
+    ensures { IsTrue result ↔ IsTableAt (S.Store.view store.now).shape table.now }
 {
     let has_rest = match table.by_id {
         Some(index) => has_index(store, index),

@@ -1,6 +1,6 @@
 //! A blob's rows, put into the trees in one transaction.
 
-ghost use Rattle.std.specs.Prelude.{◌≡◌, ◌⊎◌, ◌<◌, ◌≤◌, ◌^◌, false, IsTrue, OnOk, OnErr, IfOk, IfErr};
+ghost use Rattle.std.specs.Prelude.{◌≡◌, ◌⊎◌, ◌+◌, ◌<◌, ◌≤◌, ◌^◌, ℕ, false, length, IsTrue, OnOk, OnErr, IfOk, IfErr};
 ghost use Rattle.std.specs.List.{AllByRecursion};
 ghost use Rattle.sqlite_trees.specs.declared.store.Shape.TheVariants.{Table};
 ghost use Rattle.sqlite_trees.specs.Tree.{Trees, put_row};
@@ -8,7 +8,7 @@ ghost use Rattle.sqlite_trees.specs.View.{doubt, IsClean, IsQuiet, KeepsSchema, 
 ghost use Rattle.osm_value.specs.Elements.{IsElement};
 ghost use Rattle.osm_store.specs.Keeping.{IsForeign};
 ghost use Rattle.osm_store.specs.Rows.{placed, extent_row};
-ghost use Rattle.osm_tree_writes.specs.Appending.{HasNoMoreIndexes, IsStoreAt};
+ghost use Rattle.osm_tree_writes.specs.Appending.{HasNoMoreIndexes, HasNoMoreTrees, IsStoreAt};
 ghost use Rattle.osm_tree_writes.specs.Putting.{PutsBelow, Writes, WritesElements};
 
 use crate::append::{append_rows, put_table_row};
@@ -24,11 +24,15 @@ use sqlite_value::row::Row;
 use sqlite_value::value::ValueRef;
 use std::alloc::{AllocError, Global};
 
+/// Of how many elements the rows are made at once.
+const AT_ONCE: usize = 64;
+
 /// Whether a put can write to these trees: they have the tables of a store and their indexes, and nothing beside them. An
 /// index of somebody's own would lack the entries of the rows that a put writes.
 pub fn takes_blobs<S: Store>(store: &S) -> bool
     ensures store { IsTrue result → IsStoreAt (S.Store.view store.now).shape }
     ensures alone { IsTrue result → HasNoMoreIndexes (S.Store.view store.now).shape }
+    ensures whole { IsStoreAt (S.Store.view store.now).shape → HasNoMoreTrees (S.Store.view store.now).shape → IsTrue result }
 {
     store.tree_count() == TREES
         && store.shape(BLOBS) == Shape::Table
@@ -66,7 +70,32 @@ fn put_extent<S: Store>(alloc: Global, store: &mut S, extent: &Extent) -> Result
     put_table_row(store, BLOBS, &row)
 }
 
-/// Puts the rows of a blob's elements behind those of their tables.
+/// Puts the rows of some elements of a blob, of which the first has this position in it, behind those of their tables.
+fn append_some<S: Store>(
+    alloc: Global,
+    store: &mut S,
+    off: u64,
+    first: u64,
+    elements: &[Element],
+) -> Result<(), StoreFault>
+    requires shaped { IsClean (S.Store.view store.old) → IsStoreAt (S.Store.view store.old).shape }
+    requires bounds { (off ≤ MAX_OFFSET) × (first + length elements.now ≤ 2 ^ 63) }
+    ensures written { OnOk result (IsClean (S.Store.view store.new) → WritesElements (S.Store.view store.old) (S.Store.view store.new) (placed off first elements.now)) }
+    ensures kept { IsClean (S.Store.view store.new) → OnErr result (KeepsCommitted (S.Store.view store.old) (S.Store.view store.new)) }
+    ensures schema { KeepsSchema (S.Store.view store.old) (S.Store.view store.new) }
+    ensures ours { IfErr result (λ fault. ¬ (IsForeign fault)) }
+    ensures quiet { IsQuiet S.Store.view S.Store.faults S.Store.recovers S.Store.is_shielded store.old store.new }
+{
+    let rows = element_rows(alloc, off, first, elements)?;
+    append_rows(alloc, store, &ELEMENTS, &rows)?;
+    let tags = tag_rows(alloc, off, first, elements)?;
+    append_rows(alloc, store, &TAGS, &tags)?;
+    let links = link_rows(alloc, off, first, elements)?;
+    append_rows(alloc, store, &LINKS, &links)
+}
+
+/// Puts the rows of a blob's elements behind those of their tables. Those of a few elements are made at once: a blob of
+/// relations may have a million members.
 fn append_elements<S: Store>(
     alloc: Global,
     store: &mut S,
@@ -81,12 +110,17 @@ fn append_elements<S: Store>(
     ensures ours { IfErr result (λ fault. ¬ (IsForeign fault)) }
     ensures quiet { IsQuiet S.Store.view S.Store.faults S.Store.recovers S.Store.is_shielded store.old store.new }
 {
-    let rows = element_rows(alloc, off, elements)?;
-    append_rows(alloc, store, &ELEMENTS, &rows)?;
-    let tags = tag_rows(alloc, off, elements)?;
-    append_rows(alloc, store, &TAGS, &tags)?;
-    let links = link_rows(alloc, off, elements)?;
-    append_rows(alloc, store, &LINKS, &links)
+    // The first part is written even where a blob has no elements: only a call that ends well shows that the store has
+    // the three tables.
+    let (some, mut rest) = elements.split_at(elements.len().min(AT_ONCE));
+    append_some(alloc, store, off, 0, some)?;
+    while !rest.is_empty() {
+        let first = elements.len() - rest.len();
+        let (some, after) = rest.split_at(rest.len().min(AT_ONCE));
+        append_some(alloc, store, off, first as u64, some)?;
+        rest = after;
+    }
+    Ok(())
 }
 
 /// Writes the rows of a blob, and commits nothing.

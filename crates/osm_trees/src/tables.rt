@@ -14,6 +14,7 @@ use crate::opening::open_listed;
 use crate::version::has_only;
 use osm_store::{
     CREATE_BLOB, CREATE_ELEMENT, CREATE_ELEMENT_INDEX, CREATE_LINK, CREATE_META, CREATE_TAG,
+    TABLE_VERSION,
 };
 use sqlite_disk::{Disk, Files};
 use sqlite_pager::Options;
@@ -27,9 +28,6 @@ use std::alloc::{AllocError, Global};
 
 /// The tree of the table that names the version.
 const META: u32 = 0;
-
-/// The version of a store that keeps elements in tables.
-const VERSION: i64 = 2;
 
 /// A table, as a statement makes it.
 fn table(name: &'static str, sql: &'static str) -> Object<'static>
@@ -81,7 +79,7 @@ fn version_row(alloc: Global) -> Result<Row, AllocError>
     ensures { IfOk result (λ row. row ≡ version_row Layout.Tables) }
 {
     let mut row = Row::new(alloc);
-    row.push(ValueRef::Int(VERSION))?;
+    row.push(ValueRef::Int(TABLE_VERSION))?;
     row.push(ValueRef::Null)?;
     Ok(row)
 }

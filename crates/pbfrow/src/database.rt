@@ -5,17 +5,16 @@ ghost use Rattle.std.specs.Prelude.{◌≤◌};
 use crate::FAULTY;
 use crate::databases::{Databases, close, opened, opened_or_made};
 use crate::meter::Meter;
+use crate::questions::{ask_one, goes_by_blobs};
 use osm_import::{Inlet, Stop};
 use osm_store::{Keeper, Reader, StoreFault};
 use osm_trees::Opened;
 use osm_value::{MemberKind, Outlet};
 use pbf_frame::MAX_OFFSET;
-use pbfrow_commands::export::export;
 use pbfrow_commands::find::find;
 use pbfrow_commands::import::{Start, import};
-use pbfrow_commands::metered::{BlobLines, MeteredOutput, MeteredReader, MeteredStore};
+use pbfrow_commands::metered::{BlobLines, MeteredOutput, MeteredReader};
 use pbfrow_commands::report::{put_fault_at, put_store_fault, refuse_memory};
-use pbfrow_commands::status::status;
 use pbfrow_words::Question;
 use std::alloc::Global;
 use std::fs::File;
@@ -69,20 +68,7 @@ fn answer<K: Reader + Drop, W: Write>(
     out: &mut Outlet<W>,
 ) -> u8 {
     match query {
-        Query::Whole(Question::Status { size }) => status(alloc, &mut store, size, out),
-        Query::Whole(
-            Question::Export {
-                size,
-                partial,
-                form,
-            },
-        ) => {
-            let mut store = MeteredStore {
-                store,
-                watcher: meter,
-            };
-            export(alloc, &mut store, size, partial, form, out)
-        }
+        Query::Whole(question) => ask_one(alloc, store, question, meter, out),
         Query::Element(kind, id) => find(alloc, &mut store, kind, id, out),
     }
 }
@@ -151,7 +137,11 @@ pub(crate) fn fill<D: Databases>(
 
 /// Asks a database, and answers the exit status. If there is no database, none is made.
 pub(crate) fn ask<D: Databases>(rt: &HostRuntime, files: &D, database: &str, query: Query) -> u8 {
-    let meter = Meter::new(rt, matches!(query, Query::Whole(Question::Export { .. })));
+    let goes_by_blobs = match query {
+        Query::Whole(question) => goes_by_blobs(question),
+        Query::Element(..) => false,
+    };
+    let meter = Meter::new(rt, goes_by_blobs);
     let output = MeteredOutput {
         writer: io::writer(rt),
         watcher: &meter,

@@ -11,6 +11,7 @@ use sqlite::{
     Alter, Connection, Error, ErrorCode, File as DatabaseFile, FileStore, Options, Unknown,
 };
 use sqlite_disk::Disk;
+use sqlite_std_file::OpenError;
 use sqlite_trees::store::Store;
 use std::alloc::AllocError;
 use std::fs::File;
@@ -58,10 +59,7 @@ impl Databases for Files {
         rt: &HostRuntime,
         name: &str,
     ) -> Result<Connection<FileStore<DatabaseFile>>, StoreFault> {
-        match Connection::open(rt, name) {
-            Ok(connection) => Ok(connection),
-            Err(error) => Err(unopened(error)),
-        }
+        open_connection(rt, name)
     }
 
     fn close(&self, trees: FileStore<DatabaseFile>) {
@@ -69,19 +67,64 @@ impl Databases for Files {
     }
 }
 
+/// How many pages the log of a database grows to before they are copied into it: 64 MiB. Each blob waits for the disk once,
+/// and each copy several times, so one copy serves many blobs.
+const CHECKPOINT_FRAMES: usize = 16_384;
+
+/// How a database is opened, if random numbers can be had.
+fn options(rt: &HostRuntime) -> Option<Options> {
+    let Ok(random) = RandomState::new(rt) else {
+        return None;
+    };
+    let mut options = Options::new(random.hash_one(&0u8));
+    options.checkpoint_frames = CHECKPOINT_FRAMES;
+    Some(options)
+}
+
+/// Whether a name stands for no file where a database is opened by SQL.
+fn names_no_file(name: &str) -> bool {
+    name == ":memory:" || name.starts_with("file:")
+}
+
 /// The trees of a database file, if it is a sound database of this version.
 fn open_trees(rt: &HostRuntime, name: &str) -> Result<Option<FileStore<DatabaseFile>>, AllocError> {
-    // names that stand for no file where a database is opened by SQL
-    if name == ":memory:" || name.starts_with("file:") {
+    if names_no_file(name) {
         return Ok(None);
     }
-    let Ok(random) = RandomState::new(rt) else {
+    let Some(options) = options(rt) else {
         return Ok(None);
     };
     let Ok(files) = sqlite_std_file::open(rt, name, Unknown) else {
         return Ok(None);
     };
-    open_tables(rt.alloc(), files, Options::new(random.hash_one(&0u8)))
+    open_tables(rt.alloc(), files, options)
+}
+
+/// A database file that is opened by SQL. One that is missing is made.
+fn open_connection(
+    rt: &HostRuntime,
+    name: &str,
+) -> Result<Connection<FileStore<DatabaseFile>>, StoreFault>
+    ensures { IfOk result IsNew }
+{
+    if names_no_file(name) {
+        return Err(StoreFault::Disk);
+    }
+    let Some(options) = options(rt) else {
+        return Err(StoreFault::Disk);
+    };
+    let files = match sqlite_std_file::open(rt, name, Unknown) {
+        Ok(files) => files,
+        Err(OpenError::OutOfMemory) => return Err(StoreFault::Memory),
+        Err(OpenError::Io(error)) if error.kind() == ErrorKind::OutOfMemory => return Err(
+            StoreFault::Memory,
+        ),
+        Err(_) => return Err(StoreFault::Disk),
+    };
+    match Connection::open_files(rt.alloc(), files, options) {
+        Ok(connection) => Ok(connection),
+        Err((error, _)) => Err(unopened(error)),
+    }
 }
 
 /// Copies the log into the database, if it can be copied, and closes both files.

@@ -12,6 +12,7 @@ mod databases;
 mod merging;
 mod meter;
 mod parts;
+mod questions;
 mod verifying;
 
 use clap::Error;

@@ -6,14 +6,13 @@ ghost use Rattle.osm_trees.specs.Ways.{counted};
 use crate::database::end;
 use crate::databases::{Databases, OpenedStore, opened};
 use crate::meter::Meter;
+use crate::questions::{ask_in_turn, goes_by_blobs};
 use osm_parts::Openings;
 use osm_store::{Reader, StoreFault};
 use osm_value::Outlet;
 use pbfrow_commands::metered::{MeteredOutput, MeteredStore};
-use pbfrow_commands::parts::{export_parts, status_parts};
 use pbfrow_commands::report::refuse_memory;
 use pbfrow_words::Question;
-use std::alloc::Global;
 use std::io;
 use std::io::{BufWriter, Write};
 
@@ -79,24 +78,6 @@ impl<'a, D: Databases> Openings<MeteredPart<'a, D>> for Parts<'a, D> {
     }
 }
 
-/// Asks a question of `count` stores, which are opened one after the other, and answers the exit status.
-fn ask_in_turn<K: Reader + Drop, O: Openings<K>, W: Write>(
-    alloc: Global,
-    openings: &mut O,
-    count: u64,
-    question: Question,
-    out: &mut Outlet<W>,
-) -> u8 {
-    match question {
-        Question::Status { size } => status_parts(alloc, openings, count, size, out),
-        Question::Export {
-            size,
-            partial,
-            form,
-        } => export_parts(alloc, openings, count, size, partial, form, out),
-    }
-}
-
 /// Asks a question of several databases that hold parts of one file, and answers the exit status. None is made.
 pub(crate) fn ask_parts<D: Databases>(
     rt: &HostRuntime,
@@ -104,7 +85,7 @@ pub(crate) fn ask_parts<D: Databases>(
     names: &[&str],
     question: Question,
 ) -> u8 {
-    let meter = Meter::new(rt, matches!(question, Question::Export { .. }));
+    let meter = Meter::new(rt, goes_by_blobs(question));
     let output = MeteredOutput {
         writer: io::writer(rt),
         watcher: &meter,

@@ -55,7 +55,7 @@ file. Nothing is written if a blob is missing (fault 67) or ends past --size
 are missing at the end of the file aren't noticed.
 
 Several databases that hold blobs of one file, in any order, are read one after
-the other, as if one held all of it: each of them once, and once more for each row
+the other, as if one held all of it: each of them once, and once more for each run
 of its blobs that no blob of another interrupts. Faults 63, 64 and 71 are those of
 status.
 

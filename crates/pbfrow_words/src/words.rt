@@ -207,11 +207,12 @@ fn words_of<'a>(
 ) -> Result<Option<Words<'a>>, AllocError>
     ensures { IfOk result (λ o. IfSome o (λ w. Says w name.now (rows_of (found_of matches.now)))) }
 {
-    match name {
-        "merge" => merge_of(alloc, matches),
-        "status" => ask_of(alloc, name, matches),
-        "export" => ask_of(alloc, name, matches),
-        _ => Ok(simple_words_of(name, matches)),
+    if name == "merge" {
+        return merge_of(alloc, matches);
+    }
+    match simple_words_of(name, matches) {
+        Some(words) => Ok(Some(words)),
+        None => ask_of(alloc, name, matches),
     }
 }
 

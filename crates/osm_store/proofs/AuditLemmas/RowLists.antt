@@ -4,7 +4,7 @@ use Rattle.std.proofs.lemmas.List.{get_or-map, length-map, take_all}
 use Rattle.sqlite.specs.Order.{Row}
 use Rattle.osm_value.specs.declared.element.Element.{Element}
 use Rattle.osm_store.specs.Rows.{Placed, placed}
-use Rattle.osm_store.proofs.PutLemmas.Placing.{next_taken, mapped_more, rows_more}
+use Rattle.osm_store.proofs.PutLemmas.Placing.{next_taken, mapped_more, first_rows_more}
 
 module _ {X Y : Type 0} (row : X → Y) (ys : List Y) (xs : List X) where
   pub same_more : (at : ℕ) (y : Y) (x : X) → at < length ys → at < length xs → y ≡ get_or ys at y → x ≡ get_or xs at x → take at ys ≡ map row (take at xs) → y ≡ row x
@@ -36,7 +36,7 @@ module _ (row : Placed → Row) (off : ℕ) (rows : List Row) (es : List Element
   pub placed_same_more : (at : ℕ) (r : Row) (e : Element) → at < length rows → at < length es → r ≡ get_or rows at r → e ≡ get_or es at e → take at rows ≡ map row (placed off 0 (take at es)) → r ≡ row (off, at, e)
       → take (at + 1) rows ≡ map row (placed off 0 (take (at + 1) es))
   placed_same_more at r e low below is here before same =
-      next_taken rows at r low is ∙ ap₂ (λ a b. a ++ b) before (ap (λ z. z ∷ []) same) ∙ sym (rows_more row off es at e below here)
+      next_taken rows at r low is ∙ ap₂ (λ a b. a ++ b) before (ap (λ z. z ∷ []) same) ∙ sym (first_rows_more row off es at e below here)
 
   pub placed_same_at : (at : ℕ) (r : Row) (e : Element) → at < length es → r ≡ get_or rows at r → e ≡ get_or es at e → rows ≡ map row (placed off 0 es) → r ≡ row (off, at, e)
   placed_same_at at r e below is here all =

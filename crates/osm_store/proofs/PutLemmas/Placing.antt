@@ -12,10 +12,10 @@ use Rattle.osm_value.specs.declared.element.Element.{Element}
 use Rattle.osm_store.specs.Rows.{Placed, placed}
 use Rattle.osm_store.specs.TableRows.{Part, parts}
 
-pub placed-append : (off position : ℕ) (es : List Element) (e : Element) → placed off position (es ++ e ∷ []) ≡ placed off position es ++ (off, position + length es, e) ∷ []
-placed-append off position [] e = ap (λ n. (off, n, e) ∷ []) (let it : position ≡ position + 0 = omega arith in it)
-placed-append off position (x ∷ es) e =
-    ap (λ ps. (off, position, x) ∷ ps) (placed-append off (position + 1) es e ∙ ap (λ n. placed off (position + 1) es ++ (off, n, e) ∷ []) (let it : position + 1 + length es ≡ position + suc (length es) = omega arith in it))
+pub placed-append : (off position : ℕ) (es more : List Element) → placed off position (es ++ more) ≡ placed off position es ++ placed off (position + length es) more
+placed-append off position [] more = ap (λ n. placed off n more) (let it : position ≡ position + 0 = omega arith in it)
+placed-append off position (x ∷ es) more =
+    ap (λ ps. (off, position, x) ∷ ps) (placed-append off (position + 1) es more ∙ ap (λ n. placed off (position + 1) es ++ placed off n more) (let it : position + 1 + length es ≡ position + suc (length es) = omega arith in it))
 
 taken : (es : List Element) (at : ℕ) (e : Element) → at < length es → e ≡ get_or es at e → take (at + 1) es ≡ take at es ++ e ∷ []
 taken es at e low is =
@@ -35,20 +35,25 @@ next_taken xs at x low is =
 pub mapped_more : {X R : Type 0} (row : X → R) (xs : List X) (at : ℕ) (x : X) → at < length xs → x ≡ get_or xs at x → map row (take (at + 1) xs) ≡ map row (take at xs) ++ row x ∷ []
 mapped_more row xs at x low is = ap (map row) (next_taken xs at x low is) ∙ map-append row (take at xs) (x ∷ [])
 
-pub placed_more : (off : ℕ) (es : List Element) (at : ℕ) (e : Element) → at < length es → e ≡ get_or es at e → placed off 0 (take (at + 1) es) ≡ placed off 0 (take at es) ++ (off, at, e) ∷ []
-placed_more off es at e low is =
-    let n : 0 + length (take at es) ≡ at = omega (arith, length-take at es) in
-    ap (placed off 0) (taken es at e low is) ∙ placed-append off 0 (take at es) e ∙ ap (λ n. placed off 0 (take at es) ++ (off, n, e) ∷ []) n
+pub placed_more : (off first : ℕ) (es : List Element) (at : ℕ) (e : Element) → at < length es → e ≡ get_or es at e → placed off first (take (at + 1) es) ≡ placed off first (take at es) ++ (off, first + at, e) ∷ []
+placed_more off first es at e low is =
+    let n : first + length (take at es) ≡ first + at = omega (arith, length-take at es) in
+    ap (placed off first) (taken es at e low is) ∙ placed-append off first (take at es) (e ∷ []) ∙ ap (λ n. placed off first (take at es) ++ (off, n, e) ∷ []) n
 
-pub rows_more : {R : Type 0} (row : Placed → R) (off : ℕ) (es : List Element) (at : ℕ) (e : Element) → at < length es → e ≡ get_or es at e
+pub rows_more : {R : Type 0} (row : Placed → R) (off first : ℕ) (es : List Element) (at : ℕ) (e : Element) → at < length es → e ≡ get_or es at e
+    → map row (placed off first (take (at + 1) es)) ≡ map row (placed off first (take at es)) ++ row (off, first + at, e) ∷ []
+rows_more row off first es at e low is = ap (map row) (placed_more off first es at e low is) ∙ map-append row (placed off first (take at es)) ((off, first + at, e) ∷ [])
+
+-- the same from the first position on
+pub first_rows_more : {R : Type 0} (row : Placed → R) (off : ℕ) (es : List Element) (at : ℕ) (e : Element) → at < length es → e ≡ get_or es at e
     → map row (placed off 0 (take (at + 1) es)) ≡ map row (placed off 0 (take at es)) ++ row (off, at, e) ∷ []
-rows_more row off es at e low is = ap (map row) (placed_more off es at e low is) ∙ map-append row (placed off 0 (take at es)) ((off, at, e) ∷ [])
+first_rows_more row off es at e low is = rows_more row off 0 es at e low is ∙ ap (λ n. map row (placed off 0 (take at es)) ++ row (off, n, e) ∷ []) (let it : 0 + at ≡ at = omega arith in it)
 
 -- the rows of several elements, of which each may have any number
-pub flat_more : {R : Type 0} (rows : Placed → List R) (off : ℕ) (es : List Element) (at : ℕ) (e : Element) → at < length es → e ≡ get_or es at e
-    → flat_map rows (placed off 0 (take (at + 1) es)) ≡ flat_map rows (placed off 0 (take at es)) ++ rows (off, at, e)
-flat_more rows off es at e low is =
-    ap (flat_map rows) (placed_more off es at e low is) ∙ flat_map-append rows (placed off 0 (take at es)) ((off, at, e) ∷ []) ∙ ap (λ l. flat_map rows (placed off 0 (take at es)) ++ l) (append-nil (rows (off, at, e)))
+pub flat_more : {R : Type 0} (rows : Placed → List R) (off first : ℕ) (es : List Element) (at : ℕ) (e : Element) → at < length es → e ≡ get_or es at e
+    → flat_map rows (placed off first (take (at + 1) es)) ≡ flat_map rows (placed off first (take at es)) ++ rows (off, first + at, e)
+flat_more rows off first es at e low is =
+    ap (flat_map rows) (placed_more off first es at e low is) ∙ flat_map-append rows (placed off first (take at es)) ((off, first + at, e) ∷ []) ∙ ap (λ l. flat_map rows (placed off first (take at es)) ++ l) (append-nil (rows (off, first + at, e)))
 
 pub parts-append : {A : Type 0} (off position number : ℕ) (xs : List A) (x : A) → parts off position number (xs ++ x ∷ []) ≡ parts off position number xs ++ record { off = off; position = position; number = number + length xs; item = x } ∷ []
 parts-append off position number [] x = ap (λ n. record { off = off; position = position; number = n; item = x } ∷ []) (let it : number ≡ number + 0 = omega arith in it)

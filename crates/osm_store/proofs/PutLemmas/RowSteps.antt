@@ -61,7 +61,7 @@ kept_then old mid new (t ∷ ts) tree before h = (λ apart. h.0 apart ∙ before
 gains_nothing : (rows : List Row) → Gains rows [] rows
 gains_nothing rows = rw append-nil (IsPermutation-refl (map (drop 1) rows))
 
-gains_then : (old mid new xs ys : List Row) → Gains old xs mid → Gains mid ys new → Gains old (xs ++ ys) new
+pub gains_then : (old mid new xs ys : List Row) → Gains old xs mid → Gains mid ys new → Gains old (xs ++ ys) new
 gains_then old mid new xs ys before h =
     subst (λ all. IsPermutation all (map (drop 1) new)) (append_assoc (map (drop 1) old) xs ys) (IsPermutation-trans _ _ _ (IsPermutation-append_left ys _ _ before) h)
 

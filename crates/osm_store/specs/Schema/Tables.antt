@@ -11,6 +11,10 @@ use Rattle.sqlite.specs.Table.{Table}
 use Rattle.sqlite.specs.Schema.{Schema}
 use Rattle.osm_store.specs.Schema.Bodies.{full_column, plain_table, meta, blob}
 
+-- the version of these tables
+abbrev pub table_version : ℕ
+table_version = 2
+
 -- a column that may be NULL
 abbrev pub free_column : List ℕ → Kind → Column
 free_column name kind = record { name = name; kind = kind; is_strict = true; not_null = false; default = Null; collation = Binary }

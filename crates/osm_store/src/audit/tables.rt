@@ -57,7 +57,7 @@ fn shows_element_rows<S: Alter>(
     ensures ours { IfErr result (λ fault. ¬ (IsForeign fault)) }
     ensures asks { JustAsks (state S.Store connection.old) (state S.Store connection.new) }
 {
-    let expected = element_rows(alloc, off, elements)?;
+    let expected = element_rows(alloc, off, 0, elements)?;
     answers(alloc, connection, SELECT_ELEMENTS, off, &expected)
 }
 
@@ -75,7 +75,7 @@ fn shows_tag_rows<S: Alter>(
     ensures ours { IfErr result (λ fault. ¬ (IsForeign fault)) }
     ensures asks { JustAsks (state S.Store connection.old) (state S.Store connection.new) }
 {
-    let expected = tag_rows(alloc, off, elements)?;
+    let expected = tag_rows(alloc, off, 0, elements)?;
     answers(alloc, connection, SELECT_TAGS, off, &expected)
 }
 
@@ -93,7 +93,7 @@ fn shows_link_rows<S: Alter>(
     ensures ours { IfErr result (λ fault. ¬ (IsForeign fault)) }
     ensures asks { JustAsks (state S.Store connection.old) (state S.Store connection.new) }
 {
-    let expected = link_rows(alloc, off, elements)?;
+    let expected = link_rows(alloc, off, 0, elements)?;
     answers(alloc, connection, SELECT_LINKS, off, &expected)
 }
 

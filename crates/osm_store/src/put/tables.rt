@@ -1,6 +1,6 @@
 //! A blob's elements in the layout of tables: all their rows are made, and then written.
 
-ghost use Rattle.std.specs.Prelude.{◌≡◌, ◌++◌, ◌<◌, ◌≤◌, ◌^◌, pos, List, map, OnOk, IfOk};
+ghost use Rattle.std.specs.Prelude.{◌≡◌, ◌++◌, ◌+◌, ◌<◌, ◌≤◌, ◌^◌, pos, List, map, length, OnOk, IfOk};
 ghost use Rattle.std.specs.List.{AllByRecursion};
 ghost use Rattle.sqlite.specs.State.{HasCleanDisk};
 ghost use Rattle.sqlite.specs.Held.{state};
@@ -68,19 +68,20 @@ fn element_row<'a>(off: u64, position: u64, element: &Element<'a>) -> ElementRow
     }
 }
 
-/// The rows of the table `element` for the elements of the blob at this offset, which is `MAX_OFFSET` at most. The only
-/// failure is that memory is refused.
+/// The rows of the table `element` for some elements of the blob at this offset, which is `MAX_OFFSET` at most; the first of
+/// them has the position `first` in the blob. The only failure is that memory is refused.
 pub fn element_rows<'a>(
     alloc: Global,
     off: u64,
+    first: u64,
     elements: &[Element<'a>],
 ) -> Result<Vec<ElementRow<'a>>, AllocError>
-    requires bounds { off ≤ MAX_OFFSET }
-    ensures { IfOk result (λ rows. map element_columns rows.items ≡ element_rows (placed off 0 elements.now)) }
+    requires bounds { (off ≤ MAX_OFFSET) × (first + length elements.now ≤ 2 ^ 63) }
+    ensures { IfOk result (λ rows. map element_columns rows.items ≡ element_rows (placed off first elements.now)) }
 {
     let mut rows = Vec::new(alloc);
-    for (position, element) in elements.iter().enumerate() {
-        rows.push(element_row(off, position as u64, element))?;
+    for (index, element) in elements.iter().enumerate() {
+        rows.push(element_row(off, first + index as u64, element))?;
     }
     Ok(rows)
 }
@@ -127,18 +128,19 @@ fn push_tags<'a>(
     push_pairs(rows, off, position, element.tags())
 }
 
-/// The rows of the table `tag` for the elements of the blob at this offset, as `element_rows`.
+/// The rows of the table `tag` for some elements of the blob at this offset, as `element_rows`.
 pub fn tag_rows<'a>(
     alloc: Global,
     off: u64,
+    first: u64,
     elements: &[Element<'a>],
 ) -> Result<Vec<TagRow<'a>>, AllocError>
-    requires bounds { off ≤ MAX_OFFSET }
-    ensures { IfOk result (λ rows. map tag_columns rows.items ≡ tag_rows (placed off 0 elements.now)) }
+    requires bounds { (off ≤ MAX_OFFSET) × (first + length elements.now ≤ 2 ^ 63) }
+    ensures { IfOk result (λ rows. map tag_columns rows.items ≡ tag_rows (placed off first elements.now)) }
 {
     let mut rows = Vec::new(alloc);
-    for (position, element) in elements.iter().enumerate() {
-        push_tags(&mut rows, off, position as u64, element)?;
+    for (index, element) in elements.iter().enumerate() {
+        push_tags(&mut rows, off, first + index as u64, element)?;
     }
     Ok(rows)
 }
@@ -220,18 +222,19 @@ fn push_links<'a>(
     }
 }
 
-/// The rows of the table `link` for the elements of the blob at this offset, as `element_rows`.
+/// The rows of the table `link` for some elements of the blob at this offset, as `element_rows`.
 pub fn link_rows<'a>(
     alloc: Global,
     off: u64,
+    first: u64,
     elements: &[Element<'a>],
 ) -> Result<Vec<LinkRow<'a>>, AllocError>
-    requires bounds { off ≤ MAX_OFFSET }
-    ensures { IfOk result (λ rows. map link_columns rows.items ≡ link_rows (placed off 0 elements.now)) }
+    requires bounds { (off ≤ MAX_OFFSET) × (first + length elements.now ≤ 2 ^ 63) }
+    ensures { IfOk result (λ rows. map link_columns rows.items ≡ link_rows (placed off first elements.now)) }
 {
     let mut rows = Vec::new(alloc);
-    for (position, element) in elements.iter().enumerate() {
-        push_links(&mut rows, off, position as u64, element)?;
+    for (index, element) in elements.iter().enumerate() {
+        push_links(&mut rows, off, first + index as u64, element)?;
     }
     Ok(rows)
 }
@@ -268,8 +271,8 @@ pub(crate) fn add_table_rows<S: Alter>(
     ensures can_store { OnOk result (AllByRecursion (CanStore Layout.Tables) elements.now) }
 {
     elements_in_range(elements);
-    let element_rows = element_rows(alloc, off, elements)?;
-    let tag_rows = tag_rows(alloc, off, elements)?;
-    let link_rows = link_rows(alloc, off, elements)?;
+    let element_rows = element_rows(alloc, off, 0, elements)?;
+    let tag_rows = tag_rows(alloc, off, 0, elements)?;
+    let link_rows = link_rows(alloc, off, 0, elements)?;
     write_table_rows(alloc, transaction, &element_rows, &tag_rows, &link_rows)
 }

@@ -15,6 +15,7 @@ ghost use Rattle.osm_store.specs.Schema.Bodies.{no_schema};
 use crate::fault::{StoreFault, fault_over_unknown};
 use crate::schema::Layout;
 use crate::schema::create::create_tables;
+use crate::schema::sql::{BODY_VERSION, TABLE_VERSION};
 use crate::schema::version::version;
 use sqlite::{Alter, Connection};
 use sqlite_schema::schema::Schema;
@@ -31,8 +32,8 @@ fn version_of(layout: Layout) -> i64
     ensures { result ≡ pos (version_of layout) }
 {
     match layout {
-        Layout::Bodies => 1,
-        Layout::Tables => 2,
+        Layout::Bodies => BODY_VERSION,
+        Layout::Tables => TABLE_VERSION,
     }
 }
 

@@ -30,6 +30,12 @@ pub const CREATE_LINK: &str =
 /// Finds elements by kind and id.
 pub const CREATE_ELEMENT_INDEX: &str = "CREATE INDEX element_by_id ON element (kind, id)";
 
+/// The version of the tables in the layout of bodies.
+pub(crate) const BODY_VERSION: i64 = 1;
+
+/// The version of the tables in the layout of tables.
+pub const TABLE_VERSION: i64 = 2;
+
 /// Names the layout of bodies.
 pub(crate) const INSERT_BODY_VERSION: &str = "INSERT INTO meta (version) VALUES (1)";
 

@@ -1,6 +1,8 @@
 //! Databases one of whose files stops at a call, what the next opening finds, and how it goes on.
 
+mod batches;
 mod below;
+mod copying;
 mod imports;
 mod openings;
 mod reads;
@@ -77,18 +79,67 @@ type Outcome = (Reached, Reached);
 /// What is done in a database.
 #[derive(Clone, Copy)]
 enum Work<'a> {
-    /// A new store is made, and the file delivered.
+    /// A new store is made and filled.
     Import,
-    /// A new store is made by SQL, and the file delivered to its trees.
+    /// A new store is made by SQL, and its trees are filled.
     ImportBelow,
     /// The store is opened, where there is one.
     Adopt,
     /// The store is opened and asked; these are the pieces of all that it tells.
     Ask(Question, &'a [&'a [u8]]),
-    /// It is seen what is held, and the file is delivered again.
+    /// It is seen what is held, and the store is filled again.
     GoOn,
     /// It is seen whether these are all rows.
     Show(&'a str),
+}
+
+/// What a store is filled with.
+trait Source {
+    /// Fills a new store. How far that came before a file stopped.
+    fn fill<K: Keeper>(&mut self, alloc: Global, store: &mut K) -> Option<Reached>;
+
+    /// How much of it these extents are.
+    fn extents_of(&self, extents: &[Extent]) -> Option<Reached>;
+
+    /// Whether a database, where so much is held, has the rows of that.
+    fn has_rows<S: Alter, L: KnownLayout>(
+        &self,
+        database: &mut Connection<S>,
+        held: Reached,
+    ) -> Option<bool>;
+
+    /// Whether a store that holds so much of it, filled again, takes the rest and then holds all.
+    fn goes_on<K: Keeper>(&mut self, alloc: Global, store: &mut K, held: Reached) -> Option<bool>;
+}
+
+/// The file of three frames, delivered.
+#[derive(Drop)]
+struct TaggedFile;
+
+impl Source for TaggedFile {
+    fn fill<K: Keeper>(&mut self, alloc: Global, store: &mut K) -> Option<Reached> {
+        let deliveries = deliveries_of(alloc, TAGGED_FILE).ok()?;
+        let answers = deliver_all(alloc, store, &deliveries).ok()?;
+        answered(&answers)
+    }
+
+    fn extents_of(&self, extents: &[Extent]) -> Option<Reached> {
+        extents_of(extents)
+    }
+
+    fn has_rows<S: Alter, L: KnownLayout>(
+        &self,
+        database: &mut Connection<S>,
+        held: Reached,
+    ) -> Option<bool> {
+        has_rows_of::<S, L>(database, held)
+    }
+
+    fn goes_on<K: Keeper>(&mut self, alloc: Global, store: &mut K, held: Reached) -> Option<bool> {
+        let deliveries = deliveries_of(alloc, TAGGED_FILE).ok()?;
+        let answers = deliver_all(alloc, store, &deliveries).ok()?;
+        Some(answers.as_slice() == wanted(held).as_slice() && is_whole(alloc, store)?)
+    }
 }
 
 /// The database in these files; or the files, where one of them stops or can't be used.
@@ -168,36 +219,34 @@ fn answered(answers: &[Answer]) -> Option<Reached> {
     }
 }
 
-/// Delivers the file. How far that was answered.
-fn delivered<K: Keeper>(alloc: Global, store: &mut K) -> Option<Reached> {
-    let deliveries = deliveries_of(alloc, TAGGED_FILE).ok()?;
-    let answers = deliver_all(alloc, store, &deliveries).ok()?;
-    answered(&answers)
-}
-
-/// Imports the file into a new store. How far that was answered, and the database.
-fn filled<S: Alter + Drop, L: StoreLayout>(
+/// Fills a new store. How far that came, and the database.
+fn filled<S: Alter + Drop, L: StoreLayout, F: Source>(
     alloc: Global,
     database: Connection<S>,
+    source: &mut F,
 ) -> Option<(Option<Reached>, Connection<S>)> {
     if !database.is_autocommit() {
         return None;
     }
     match BlobStore::<S, L>::create(database) {
-        Ok(mut store) => Some((delivered(alloc, &mut store), store.into_connection())),
+        Ok(mut store) => Some((source.fill(alloc, &mut store), store.into_connection())),
         Err((_, database)) => Some((Some(Reached::Database), database)),
     }
 }
 
-/// Imports the file into the trees of a new store. How far that was answered, and what they lie in.
-fn filled_below<S: Alter + Drop>(alloc: Global, database: Connection<S>) -> Option<(Reached, S)> {
+/// Fills the trees of a new store. How far that came, and what they lie in.
+fn filled_below<S: Alter + Drop, F: Source>(
+    alloc: Global,
+    database: Connection<S>,
+    source: &mut F,
+) -> Option<(Reached, S)> {
     if !database.is_autocommit() {
         return None;
     }
     match TableStore::create(database) {
         Ok(store) => {
             let mut trees = below(store);
-            Some((delivered(alloc, &mut trees)?, trees.into_store()))
+            Some((source.fill(alloc, &mut trees)?, trees.into_store()))
         }
         Err((_, database)) => Some((Reached::Database, database.into_store())),
     }
@@ -305,41 +354,43 @@ fn extents_of(extents: &[Extent]) -> Option<Reached> {
     }
 }
 
-/// What is held, where each extent and each row is of the file.
-fn held_by<S: Alter, L: KnownLayout>(
-    extents: &[Extent],
+/// Whether a database, where so much of the file is held, has the rows of that.
+fn has_rows_of<S: Alter, L: KnownLayout>(
     database: &mut Connection<S>,
-) -> Option<Reached> {
+    held: Reached,
+) -> Option<bool> {
     let rows = sum(database, L::COUNTS)?;
     let has_nodes = has_rows(database, L::NODES);
-    let held = extents_of(extents)?;
-    let are_its_rows = match held {
+    Some(match held {
         Reached::Store | Reached::Header => rows == 0,
         Reached::HeaderAndNodes => rows == 2 && has_nodes,
         _ => has_nodes && has_rows(database, L::TAGGED),
-    };
-    are_its_rows.then_some(held)
+    })
 }
 
-/// What a store holds, and its database.
-fn map<S: Alter + Drop, L: KnownLayout>(
+/// What a store holds, where each extent and each row is of its source; and its database.
+fn map<S: Alter + Drop, L: KnownLayout, F: Source>(
     alloc: Global,
     mut store: BlobStore<S, L>,
+    source: &F,
 ) -> Option<(Reached, Connection<S>)> {
-    let extents = store.extents(alloc).ok()?;
+    let held = source.extents_of(&store.extents(alloc).ok()?)?;
     let mut database = store.into_connection();
-    let held = held_by::<S, L>(&extents, &mut database)?;
+    if !source.has_rows::<S, L>(&mut database, held)? {
+        return None;
+    }
     Some((held, database))
 }
 
 /// What a database holds, and the store in it, which is made where there is none.
-fn found<S: Alter + Drop, L: KnownLayout>(
+fn found<S: Alter + Drop, L: KnownLayout, F: Source>(
     alloc: Global,
     database: Connection<S>,
+    source: &F,
 ) -> Option<(Reached, BlobStore<S, L>)> {
     match adopted::<S, L>(database)? {
         Ok(store) => {
-            let (held, database) = map(alloc, store)?;
+            let (held, database) = map(alloc, store, source)?;
             Some((held, adopted(database)?.ok()?))
         }
         Err((StoreFault::NotThisStore(None), database)) => {
@@ -362,41 +413,42 @@ fn wanted(held: Reached) -> [Answer; 3] {
     }
 }
 
-/// Whether the file, delivered again to a store that holds so much of it, is answered and held.
-fn goes_on<K: Keeper>(alloc: Global, store: &mut K, held: Reached) -> Option<bool> {
-    let deliveries = deliveries_of(alloc, TAGGED_FILE).ok()?;
-    let answers = deliver_all(alloc, store, &deliveries).ok()?;
+/// Whether a store holds the whole file and nothing else.
+fn is_whole<R: Reader>(alloc: Global, store: &mut R) -> Option<bool> {
+    let extents = store.extents(alloc).ok()?;
     let (result, lines) = exported(alloc, store, Form::Lines, None, false);
     Some(
-        answers.as_slice() == wanted(held).as_slice()
+        extents_of(&extents) == Some(Reached::All)
             && result == Ok(())
             && are_joined(&lines, &[LINES, TAGGED_LINES]),
     )
 }
 
-/// What a database held, if it goes on to hold the whole file; and the database.
-fn continued<S: Alter + Drop, L: KnownLayout>(
+/// What a database held, if it goes on to hold all; and the database.
+fn continued<S: Alter + Drop, L: KnownLayout, F: Source>(
     alloc: Global,
     database: Connection<S>,
+    source: &mut F,
 ) -> Option<(Option<Reached>, Connection<S>)> {
-    let (held, mut store) = found::<S, L>(alloc, database)?;
-    let is_whole = goes_on(alloc, &mut store, held)?;
+    let (held, mut store) = found::<S, L, F>(alloc, database, source)?;
+    let is_whole = source.goes_on(alloc, &mut store, held)?;
     Some((is_whole.then_some(held), store.into_connection()))
 }
 
 /// Does the work. How far that came, and what the database lies in; None where something else was answered than a stop
 /// explains.
-fn worked<S: Alter + Drop, L: KnownLayout>(
+fn worked<S: Alter + Drop, L: KnownLayout, F: Source>(
     alloc: Global,
     database: Connection<S>,
     work: Work<'_>,
+    source: &mut F,
 ) -> Option<(Reached, S)> {
     let (reached, database) = match work {
-        Work::ImportBelow => return filled_below(alloc, database),
-        Work::Import => filled::<S, L>(alloc, database)?,
+        Work::ImportBelow => return filled_below(alloc, database, source),
+        Work::Import => filled::<S, L, F>(alloc, database, source)?,
         Work::Adopt => entered::<S, L>(database)?,
         Work::Ask(question, pieces) => asked::<S, L>(alloc, database, question, pieces)?,
-        Work::GoOn => continued::<S, L>(alloc, database)?,
+        Work::GoOn => continued::<S, L, F>(alloc, database, source)?,
         Work::Show(rows) => shown::<S, L>(alloc, database, rows)?,
     };
     Some((reached?, database.into_store()))
@@ -420,10 +472,11 @@ fn closed<D: Disk + Drop>(
 /// The same in the database in these files, which are closed behind it. Each kind of work goes through here, since one
 /// function alone may hold the database itself: it takes long to prove. What only reads has one page in memory, so that it
 /// reads the files.
-fn session<L: KnownLayout>(
+fn session<L: KnownLayout, F: Source>(
     alloc: Global,
     files: Files<Fused>,
     work: Work<'_>,
+    source: &mut F,
 ) -> Option<(Reached, Files<Fused>)> {
     let cache_pages = match work {
         Work::Import | Work::ImportBelow | Work::GoOn | Work::Show(_) => 8,
@@ -431,20 +484,21 @@ fn session<L: KnownLayout>(
     };
     match opened(alloc, files, cache_pages) {
         Ok(database) => {
-            let (reached, store) = worked::<_, L>(alloc, database, work)?;
+            let (reached, store) = worked::<_, L, F>(alloc, database, work, source)?;
             Some(closed(store, reached, work))
         }
         Err(files) => Some((Reached::Nothing, files)),
     }
 }
 
-/// What the next opening finds in files after a stop, if it goes on to hold the whole file.
-fn found_after<L: KnownLayout>(
+/// What the next opening finds in files after a stop, if it goes on to hold all.
+fn found_after<L: KnownLayout, F: Source>(
     alloc: Global,
     files: Files<Fused>,
     unsynced: Unsynced,
+    source: &mut F,
 ) -> Option<Reached> {
     let files = after_stop(alloc, files, unsynced)?;
-    let (held, _) = session::<L>(alloc, files, Work::GoOn)?;
+    let (held, _) = session::<L, F>(alloc, files, Work::GoOn, source)?;
     Some(held)
 }

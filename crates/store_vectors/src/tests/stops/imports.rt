@@ -1,7 +1,10 @@
 //! An import that stops.
 
 use super::super::memory::KnownLayout;
-use super::{Outcome, Reached, STOPS, Stopped, Unsynced, Work, found_after, new_files, session};
+use super::{
+    Outcome, Reached, STOPS, Source, Stopped, TaggedFile, Unsynced, Work, found_after, new_files,
+    session,
+};
 use osm_store::{Bodies, Tables};
 use std::alloc::Global;
 use std::process::Abort;
@@ -32,27 +35,29 @@ const UNCHANGED_OR_DONE: [Outcome; 10] = [
 ];
 
 /// The outcome of a stop after so many calls, where the next opening goes on.
-fn outcome<L: KnownLayout>(
+pub(super) fn outcome<L: KnownLayout, F: Source>(
     alloc: Global,
-    stopped: Stopped,
-    unsynced: Unsynced,
+    stop: (Stopped, Unsynced),
     calls: u64,
+    source: &mut F,
 ) -> Option<Outcome> {
+    let (stopped, unsynced) = stop;
     let files = new_files(alloc, stopped, calls);
-    let (answered, files) = session::<L>(alloc, files, Work::Import)?;
-    Some((answered, found_after::<L>(alloc, files, unsynced)?))
+    let (answered, files) = session::<L, F>(alloc, files, Work::Import, source)?;
+    let found = found_after::<L, F>(alloc, files, unsynced, source)?;
+    Some((answered, found))
 }
 
 /// The outcomes, each once, of stops after no call, after one and so on, until an import is answered to its end.
 /// An error is the number of calls after which a stop has none; 400 where no import ends.
-fn outcomes<L: KnownLayout>(
+fn outcomes<L: KnownLayout, F: Source>(
     alloc: Global,
-    stopped: Stopped,
-    unsynced: Unsynced,
+    stop: (Stopped, Unsynced),
+    source: &mut F,
 ) -> Result<Vec<Outcome>, u64> {
     let mut outcomes = Vec::new(alloc);
     for calls in 0u64..400 {
-        let outcome = outcome::<L>(alloc, stopped, unsynced, calls).ok_or(calls)?;
+        let outcome = outcome::<L, F>(alloc, stop, calls, source).ok_or(calls)?;
         if !outcomes.contains(&outcome) {
             outcomes.push(outcome).map_err(|_| calls)?;
         }
@@ -65,26 +70,29 @@ fn outcomes<L: KnownLayout>(
 
 /// Tries each kind of stop. One alone leaves a call done that wasn't answered: where the commit was written and stays,
 /// and the sync after it failed.
-fn expect_outcomes<L: KnownLayout, R: Abort + Alloc<A = Global>>(rt: &R) {
-    for (stopped, unsynced) in STOPS {
-        let wanted = match (stopped, unsynced) {
+pub(super) fn expect_outcomes<L: KnownLayout, F: Source, R: Abort + Alloc<A = Global>>(
+    rt: &R,
+    source: &mut F,
+) {
+    for stop in STOPS {
+        let wanted = match stop {
             (Stopped::Log, Unsynced::Kept) => UNCHANGED_OR_DONE.as_slice(),
             _ => UNCHANGED.as_slice(),
         };
-        let outcomes = outcomes::<L>(rt.alloc(), stopped, unsynced);
+        let outcomes = outcomes::<L, F>(rt.alloc(), stop, source);
         assert!(rt;
             matches!(&outcomes, Ok(found) if found.as_slice() == wanted),
-            "{stopped:?} {unsynced:?} {outcomes:?}"
+            "{stop:?} {outcomes:?}"
         );
     }
 }
 
 #[test]
 fn stops_over_bodies(rt: HostRuntime) {
-    expect_outcomes::<Bodies, _>(&rt);
+    expect_outcomes::<Bodies, _, _>(&rt, &mut TaggedFile);
 }
 
 #[test]
 fn stops_over_tables(rt: HostRuntime) {
-    expect_outcomes::<Tables, _>(&rt);
+    expect_outcomes::<Tables, _, _>(&rt, &mut TaggedFile);
 }

@@ -2,8 +2,8 @@
 
 use super::super::memory::KnownLayout;
 use super::{
-    Fused, Outcome, Reached, STOPS, Stopped, Unsynced, Work, after_stop, copies, found_after,
-    new_files, session,
+    Fused, Outcome, Reached, STOPS, Stopped, TaggedFile, Unsynced, Work, after_stop, copies,
+    found_after, new_files, session,
 };
 use osm_store::{Bodies, Tables};
 use sqlite::Files;
@@ -27,8 +27,14 @@ fn outcome<L: KnownLayout>(
 ) -> Option<(Reached, Outcome)> {
     let (stopped, unsynced) = stop;
     let files = copies(alloc, files, stopped, calls)?;
-    let (opened, files) = session::<L>(alloc, files, Work::Adopt)?;
-    Some((opened, (held, found_after::<L>(alloc, files, unsynced)?)))
+    let (opened, files) = session::<L, _>(alloc, files, Work::Adopt, &mut TaggedFile)?;
+    Some((
+        opened,
+        (
+            held,
+            found_after::<L, _>(alloc, files, unsynced, &mut TaggedFile)?,
+        ),
+    ))
 }
 
 /// Adds the outcomes of stops inside an opening of these files, each once, until it doesn't stop.
@@ -60,10 +66,10 @@ fn left<L: KnownLayout>(
 ) -> Option<(Reached, Reached, Files<Fused>)> {
     let (stopped, unsynced) = stop;
     let files = new_files(alloc, stopped, calls);
-    let (answered, files) = session::<L>(alloc, files, Work::Import)?;
+    let (answered, files) = session::<L, _>(alloc, files, Work::Import, &mut TaggedFile)?;
     let files = after_stop(alloc, files, unsynced)?;
     let again = copies(alloc, &files, Stopped::Log, u64::MAX)?;
-    let (held, _) = session::<L>(alloc, again, Work::GoOn)?;
+    let (held, _) = session::<L, _>(alloc, again, Work::GoOn, &mut TaggedFile)?;
     Some((answered, held, files))
 }
 

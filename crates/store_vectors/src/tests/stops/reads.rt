@@ -5,8 +5,8 @@ use super::super::memory::KnownLayout;
 use super::super::questions::{Question, answer_to};
 use super::super::steps::are_joined;
 use super::{
-    Fused, Outcome, Reached, STOPS, Stopped, Unsynced, Work, copies, found_after, new_files,
-    opened, session,
+    Fused, Outcome, Reached, STOPS, Stopped, TaggedFile, Unsynced, Work, copies, found_after,
+    new_files, opened, session,
 };
 use osm_store::{Bodies, Tables};
 use osm_trees::TreeStore;
@@ -29,7 +29,7 @@ const QUESTIONS: &[(Question, &[&[u8]])] = &[
 /// The files of a store that holds the whole file.
 fn whole_files<L: KnownLayout>(alloc: Global) -> Option<Files<Fused>> {
     let files = new_files(alloc, Stopped::Log, u64::MAX);
-    let (reached, files) = session::<L>(alloc, files, Work::Import)?;
+    let (reached, files) = session::<L, _>(alloc, files, Work::Import, &mut TaggedFile)?;
     (reached == Reached::All).then_some(files)
 }
 
@@ -68,8 +68,11 @@ fn outcome<L: KnownLayout>(
 ) -> Option<Outcome> {
     let (stopped, unsynced) = stop;
     let files = copies(alloc, files, stopped, calls)?;
-    let (told, files) = session::<L>(alloc, files, work)?;
-    Some((told, found_after::<L>(alloc, files, unsynced)?))
+    let (told, files) = session::<L, _>(alloc, files, work, &mut TaggedFile)?;
+    Some((
+        told,
+        found_after::<L, _>(alloc, files, unsynced, &mut TaggedFile)?,
+    ))
 }
 
 /// Whether the next opening finds the whole file, wherever reads have stopped, and some stop falls into what is told. With

@@ -4,7 +4,7 @@ use Rattle.osm_store.specs.Rows.{HasBlock, body_row, placed}
 use Rattle.osm_store.specs.declared.schema.layout.Layout.TheVariants.{Bodies}
 use Rattle.osm_store.specs.Put.Steps.{AddsRows}
 use Rattle.osm_store.proofs.PutLemmas.RowSteps.{no_rows, one_more}
-use Rattle.osm_store.proofs.PutLemmas.Placing.{rows_more, all_more}
+use Rattle.osm_store.proofs.PutLemmas.Placing.{first_rows_more, all_more}
 use Rattle.osm_store.proofs.StepLemmas.{clean_at, stays, goes_on_then}
 use Rattle.osm_store.proofs.put.bodies.add_bodies.Goals as goal
 
@@ -27,7 +27,7 @@ loop-position-preserved g c =
     let at = c.loop-position.position in
     let e = c.index-elements-position.result in
     let low : c.loop-position.position < length c.args.elements.now = search rules in
-    let so_far = rows_more body_row c.args.off es at e low c.index-elements-position.is in
+    let so_far = first_rows_more body_row c.args.off es at e low c.index-elements-position.is in
     let step = c.in_ok-add_element.ensures.step in
     let before = clean_at g.S.Store now next step.goes_on in
     record {

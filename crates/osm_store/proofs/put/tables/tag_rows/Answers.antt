@@ -1,4 +1,4 @@
-use Rattle.std.proofs.Common.{◌++◌, ◌<◌, map, take, length, ◌∙◌, ap, sym, rules}
+use Rattle.std.proofs.Common.{◌+◌, ◌++◌, ◌<◌, map, take, length, ◌∙◌, ap, sym, rules}
 use Rattle.std.specs.Prelude.{flat_map}
 use Rattle.std.proofs.lemmas.List.{map-append}
 use Rattle.osm_store.specs.Rows.{placed}
@@ -6,12 +6,12 @@ use Rattle.osm_store.specs.TableRows.{tags_at, tag_row}
 use Rattle.osm_store.proofs.PutLemmas.Placing.{flat_more}
 use Rattle.osm_store.proofs.put.tables.tag_rows.Goals as goal
 
-pub loop-position-preserved : goal.loop-position-preserved
-loop-position-preserved c =
+pub loop-index-preserved : goal.loop-index-preserved
+loop-index-preserved c =
     let es = c.args.elements.now in
-    let at = c.loop-position.position in
-    let e = c.index-elements-position.result in
+    let at = c.loop-index.index in
+    let e = c.index-elements-index.result in
     let low : at < length es = search rules in
-    let before = flat_map tags_at (placed c.args.off 0 (take at es)) in
-    let here = tags_at (c.args.off, at, e) in
-    c.in_ok-push_tags.ensures ∙ ap (λ l. l ++ map tag_row here) c.loop-position.invariant ∙ sym (map-append tag_row before here) ∙ ap (map tag_row) (sym (flat_more tags_at c.args.off es at e low c.index-elements-position.is))
+    let before = flat_map tags_at (placed c.args.off c.args.first (take at es)) in
+    let here = tags_at (c.args.off, c.args.first + at, e) in
+    c.in_ok-push_tags.ensures ∙ ap (λ l. l ++ map tag_row here) c.loop-index.invariant ∙ sym (map-append tag_row before here) ∙ ap (map tag_row) (sym (flat_more tags_at c.args.off c.args.first es at e low c.index-elements-index.is))

@@ -4,5 +4,5 @@ use Rattle.osm_store.specs.TableRows.{tag_rows}
 use Rattle.osm_store.specs.Put.WrittenRows.{tag_columns}
 use Rattle.osm_store.proofs.put.tables.tag_rows.Given as goal
 
-abbrev pub invariant-loop-position : goal.invariant-loop-position
-invariant-loop-position l = map tag_columns l.rows.items ≡ tag_rows (placed l.off 0 (take l.position l.elements))
+abbrev pub invariant-loop-index : goal.invariant-loop-index
+invariant-loop-index l = map tag_columns l.rows.items ≡ tag_rows (placed l.off l.first (take l.index l.elements))
