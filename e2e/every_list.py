@@ -1,9 +1,10 @@
 #!/usr/bin/env python3
-"""Merges databases that hold some blobs of one file, in lists: every_list.py PBFROW FILE
+"""Merges databases that hold some blobs of one file, in lists: every_list.py PBFROW FILE [all]
 
 FILE has a header and a data blob. The file here has its header and that data blob four times, so five blobs; a database is
-made for each set of them. Each list of up to two databases, and of the lists of three some hundreds that are drawn, are
-merged into a new database: it has to count what it copied and what it held, and to hold the union, whatever the order.
+made for each set of them. Each list of up to two databases, and of the lists of three some hundreds that are drawn (with
+`all` each of the 29,791, which takes some minutes), are merged into a new database: it has to count what it copied and
+what it held, and to hold the union, whatever the order.
 """
 import itertools
 import os
@@ -55,7 +56,7 @@ def others(program, folder, lists):
 
 
 def main():
-    program, name = sys.argv[1:]
+    program, name, *words = sys.argv[1:]
     with open(name, "rb") as file:
         whole = file.read()
     frames = [whole[:47]] + [whole[47:]] * (BLOBS - 1)
@@ -65,7 +66,8 @@ def main():
     for held in sets:
         make(program, "lists-0", frames, places, held)
     lists = [it for size in (1, 2) for it in itertools.product(sets, repeat=size)]
-    lists += random.Random(7).sample(list(itertools.product(sets, repeat=3)), 300)
+    triples = list(itertools.product(sets, repeat=3))
+    lists += triples if words == ["all"] else random.Random(7).sample(triples, 300)
     workers = os.cpu_count()
     for worker in range(1, workers):
         shutil.copytree("lists-0", f"lists-{worker}")
