@@ -78,17 +78,17 @@ impl<'a, D: Databases> Openings<MeteredPart<'a, D>> for Parts<'a, D> {
     }
 }
 
-/// Asks a question of several databases that hold parts of one file, and answers the exit status. None is made.
-pub(crate) fn ask_parts<D: Databases>(
+/// Asks a question of several databases, and answers the exit status. The meter is told of their blobs.
+fn ask_metered<D: Databases>(
     rt: &HostRuntime,
     files: &D,
     names: &[&str],
     question: Question,
+    meter: &Meter,
 ) -> u8 {
-    let meter = Meter::new(rt, goes_by_blobs(question));
     let output = MeteredOutput {
         writer: io::writer(rt),
-        watcher: &meter,
+        watcher: meter,
     };
     let Ok(output) = BufWriter::new(rt.alloc(), output) else {
         return refuse_memory(&mut Outlet::new(io::writer(rt)), None);
@@ -98,10 +98,21 @@ pub(crate) fn ask_parts<D: Databases>(
         rt,
         files,
         names,
-        meter: &meter,
+        meter,
         failures: 0,
     };
     let count = names.len() as u64;
     let status = ask_in_turn(rt.alloc(), &mut parts, count, question, &mut out);
-    end(&mut out, &meter, status)
+    end(&mut out, meter, status)
+}
+
+/// Asks a question of several databases that hold parts of one file, and answers the exit status. None is made.
+pub(crate) fn ask_parts<D: Databases>(
+    rt: &HostRuntime,
+    files: &D,
+    names: &[&str],
+    question: Question,
+) -> u8 {
+    let meter = Meter::new(rt, goes_by_blobs(question));
+    ask_metered(rt, files, names, question, &meter)
 }
