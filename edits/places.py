@@ -148,7 +148,8 @@ class Goal:
 
     def is_promised(self):
         """Whether it is that of a clause, of a loop's invariant or of a condition, and not one of safety, as of an overflow."""
-        return re.search(r"^returns|^loop-.*-(init|preserved)|requires", self.name) is not None
+        # (a loop's goals begin with `loop`, or with its label where it has one)
+        return re.search(r"^returns|-(init|preserved)\b|requires", self.name) is not None
 
 
 def goals_in(said):
