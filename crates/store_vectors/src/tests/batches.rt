@@ -14,11 +14,18 @@ use std::test::*;
 /// How many elements a blob has, in turn.
 const SIZES: [u8; 7] = [0, 1, 31, 32, 33, 64, 65];
 
-/// 65 elements are 22 nodes, 22 ways and 21 relations.
+/// 65 elements are 22 nodes, 22 ways and 21 relations. Their rows stand in the order of the elements: of each three, which
+/// are a node, a way and a relation, the way has one tag and two links, the relation two and three.
 const ROWS_OF_65: &[CountedRows] = &[
     ("SELECT count(*) FROM element", 65),
     ("SELECT count(*) FROM tag", 64),
     ("SELECT count(*) FROM link", 107),
+    ("SELECT count(*) FROM element WHERE rowid = pos + 1", 65),
+    ("SELECT count(*) FROM tag WHERE rowid = pos + k", 64),
+    (
+        "SELECT count(*) FROM link WHERE rowid = pos / 3 * 5 + pos % 3 * 2 - 1 + k",
+        107,
+    ),
 ];
 
 fn no_info<'a>() -> Info<'a> {
