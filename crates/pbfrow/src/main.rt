@@ -46,6 +46,9 @@ const FAULTY: u8 = 1;
 /// The exit status for invalid arguments.
 const INVALID_ARGUMENTS: u8 = 2;
 
+/// How many bytes are taken once and given back: nearly the most, 32 MiB, by which glibc's limits grow.
+const KEPT_MEMORY: usize = 31 << 20;
+
 fn main(rt: HostRuntime) -> ExitCode {
     let status = match entered(rt) {
         Ok(status) => status,
@@ -54,8 +57,16 @@ fn main(rt: HostRuntime) -> ExitCode {
     ExitCode::from(status)
 }
 
+/// Takes memory and gives it back at once. From then on glibc's allocator keeps up to twice as much that is given back
+/// (mallopt(3), M_MMAP_THRESHOLD), and doesn't return that of each blob to the system, to take it anew for the next. Where
+/// it is refused nothing is lost.
+fn keep_memory(alloc: Global) {
+    let _given_back = Vec::<u8>::with_capacity(alloc, KEPT_MEMORY);
+}
+
 /// Runs the program with the words that it was started with, and answers the exit status.
 fn entered(rt: HostRuntime) -> io::Result<u8> {
+    keep_memory(rt.alloc());
     let words = match words_of(&rt) {
         Ok(words) => words,
         Err(error) => return refuse_words(&rt, error),
