@@ -1,0 +1,53 @@
+#!/usr/bin/env python3
+"""Kills imports, and says how long it takes to go on: killed.py PBFROW FILE DATABASE BLOBS..
+
+The file is imported into a new database, and killed (`kill -9`) once so many of its blobs are answered; the same import is
+run again, and killed at the next count. Prints a table: how large the database and its log were when it was killed, and the
+wall seconds of the import behind it to its first line, which says that a blob is held, and to the first blob that it stores.
+"""
+import os
+import subprocess
+import sys
+import time
+
+
+def size(path):
+    return os.path.getsize(path) if os.path.exists(path) else 0
+
+
+def import_up_to(words, blobs):
+    """Runs the import until so many blobs are answered. Seconds to the first line, and to the first blob that is stored."""
+    start = time.monotonic()
+    first = stored = None
+    with subprocess.Popen(words, stdout=subprocess.PIPE) as importing:
+        for answered, line in enumerate(importing.stdout, 1):
+            now = time.monotonic() - start
+            first = first or now
+            if b" stored " in line:
+                stored = stored or now
+            if answered >= blobs and stored:
+                break
+        importing.kill()
+    return first, stored
+
+
+def main():
+    program, file, database, *counts = sys.argv[1:]
+    words = [program, "import", file, database]
+    files = [database, f"{database}-wal"]
+    for it in [*files, f"{database}-journal"]:
+        if os.path.exists(it):
+            os.remove(it)
+    import_up_to(words, int(counts[0]))
+    print("| Killed behind | bytes of the database | bytes of its log | s to the first line | s to the first new blob |")
+    print("|---|---|---|---|---|")
+    for blobs, following in zip(counts, [*counts[1:], "0"]):
+        sizes = [size(it) for it in files]
+        first, stored = import_up_to(words, int(following))
+        print(f"| {blobs} blobs | {sizes[0]:,} | {sizes[1]:,} | {first:.2f} | {stored:.2f} |", flush=True)
+    for it in files:
+        os.remove(it)
+
+
+if __name__ == "__main__":
+    main()

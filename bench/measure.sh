@@ -1,0 +1,57 @@
+# What the scripts that measure the program share. Inputs and databases are made in $PBFROW_BENCH, by default
+# /tmp/pbfrow-bench. The scripts that read this have set $top, this repository.
+
+work=${PBFROW_BENCH:-/tmp/pbfrow-bench}
+runs=${PBFROW_RUNS:-5}
+mkdir -p "$work" && cd "$work" || exit 2
+"$top/pbfrow" --build-only || exit 1
+pbfrow=$top/crates/pbfrow/out/pbfrow
+[ -x /usr/bin/time ] || { echo "bench: /usr/bin/time isn't there (Debian's package time)" >&2; exit 2; }
+
+# measure NAME FILE COMMAND..: runs the command with the file as standard input.
+measure() {
+  local name=$1 file=$2 best="" line
+  shift 2
+  for _ in $(seq "$runs"); do
+    line=$(/usr/bin/time -f '%e %U %S %M' "$@" 2>&1 >/dev/null <"$file" | tail -n 1)
+    best=$(printf '%s\n%s\n' "$best" "$line" | sed '/^$/d' | sort -n | head -n 1)
+  done
+  set -- $best
+  awk -v name="$name" -v e="$1" -v u="$2" -v s="$3" -v m="$4" -v b="$(stat -c %s "$file")" \
+    'BEGIN { printf "| %s | %.2f | %.2f | %.0f | %.0f |\n", name, e, u + s, (e > 0 ? b / 1e6 / e : 0), m / 1024 }'
+}
+
+# mean NAME FILE COMMAND..: the mean processor time of fifteen runs with the file as standard input. One of a fifth of a second
+# is told too coarsely.
+mean() {
+  local name=$1 file=$2
+  shift 2
+  /usr/bin/time -f '%U %S' -o mean.txt sh -c 'for _ in 1 2 3 4 5 6 7 8 9 10 11 12 13 14 15; do "$@" < "$0" > /dev/null; done' "$file" "$@"
+  awk -v name="$name" '{ printf "| %s | %.3f |\n", name, ($1 + $2) / 15 }' mean.txt
+}
+
+table() {
+  printf '\n%s\n\n| Program | wall s | processor s | MB/s | peak MiB |\n|---|---|---|---|---|\n' "$1"
+}
+
+country=$top/data/liechtenstein-raw.osm.pbf
+copies=${PBFROW_COPIES:-16}
+extract=mosaic-$copies.osm.pbf
+
+# mosaic COPIES: makes the file of so many shifted copies of the extract.
+mosaic() {
+  [ -e "mosaic-$1.osm.pbf" ] || osmium cat --no-progress -f opl "$country" | python3 "$top/bench/mosaic.py" "$1" \
+    | osmium cat --no-progress -F opl - -f pbf,pbf_compression=none -o "mosaic-$1.osm.pbf"
+}
+
+# built NAME FLAG..: whether the peer of this name is there, compiled from bench/peers; what it needs may not be installed.
+built() {
+  local name=$1
+  shift
+  [ -x "$name" ] || g++ -O2 -std=c++17 -o "$name" "$top/bench/peers/$name.cpp" "$@" 2>/dev/null || { echo "not measured: $name doesn't compile here" >&2; return 1; }
+}
+
+# there NAME: whether this program is installed.
+there() {
+  command -v "$1" >/dev/null || { echo "not measured: $1 isn't installed" >&2; return 1; }
+}
