@@ -159,12 +159,9 @@ pub(crate) fn with_asking_commands<'a>(
     ensures shape { IfOk result (λ c. app_of c ≡ definitions.with_asking_commands (app_of command.entry)) }
     ensures local { IfOk result (λ c. (fields_of c).has_globals ≡ false) }
 {
-    let status = status_command(alloc)?;
-    let export = export_command(alloc)?;
-    let find = find_command(alloc)?;
-    let command = with_command(command, status)?;
-    let command = with_command(command, export)?;
-    with_command(command, find)
+    let command = with_command(command, status_command(alloc)?)?;
+    let command = with_command(command, export_command(alloc)?)?;
+    with_command(command, find_command(alloc)?)
 }
 
 fn form_of(matches: &ArgMatches, id: &str) -> Option<Form>

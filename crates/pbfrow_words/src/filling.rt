@@ -81,7 +81,6 @@ fn import_command<'a>(alloc: Global) -> Result<Command<'a>, AllocError>
     ensures shape { IfOk result (λ c. app_of c ≡ definitions.import_command) }
     ensures local { IfOk result (λ c. (fields_of c).has_globals ≡ false) }
 {
-    let from = offset_option(alloc, "from", "Start offset in FILE, in bytes");
     let command = new_command(
         alloc,
         "import",
@@ -90,9 +89,9 @@ fn import_command<'a>(alloc: Global) -> Result<Command<'a>, AllocError>
     );
     let command = with_argument(command, file(alloc))?;
     let command = with_argument(command, database(alloc))?;
+    let from = offset_option(alloc, "from", "Start offset in FILE, in bytes");
     let command = with_argument(command, from)?;
-    let at = at_option(alloc)?;
-    with_argument(command, at)
+    with_argument(command, at_option(alloc)?)
 }
 
 /// Where an import begins by its options. None if a number is above 2^62, or if clap let through both options.
@@ -147,10 +146,7 @@ pub(crate) fn with_filling_commands<'a>(
     ensures shape { IfOk result (λ c. app_of c ≡ definitions.with_filling_commands (app_of command.entry)) }
     ensures local { IfOk result (λ c. (fields_of c).has_globals ≡ false) }
 {
-    let import = import_command(alloc)?;
-    let migrate = migrate_command(alloc)?;
-    let merge = merge_command(alloc)?;
-    let command = with_command(command, import)?;
-    let command = with_command(command, migrate)?;
-    with_command(command, merge)
+    let command = with_command(command, import_command(alloc)?)?;
+    let command = with_command(command, migrate_command(alloc)?)?;
+    with_command(command, merge_command(alloc)?)
 }

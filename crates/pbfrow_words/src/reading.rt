@@ -73,10 +73,10 @@ pub(crate) fn with_reading_commands<'a>(
     ensures local { IfOk result (λ c. (fields_of c).has_globals ≡ false) }
 {
     let list = reading_command(alloc, "list", "List the frames of a PBF file", LIST_HELP)?;
-    let check = reading_command(alloc, "check", "Check the blobs of a PBF file", CHECK_HELP)?;
-    let show = reading_command(alloc, "show", "Print the contents of a PBF file", SHOW_HELP)?;
     let command = with_command(command, list)?;
+    let check = reading_command(alloc, "check", "Check the blobs of a PBF file", CHECK_HELP)?;
     let command = with_command(command, check)?;
+    let show = reading_command(alloc, "show", "Print the contents of a PBF file", SHOW_HELP)?;
     with_command(command, show)
 }
 

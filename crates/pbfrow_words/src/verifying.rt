@@ -31,7 +31,6 @@ fn verify_command<'a>(alloc: Global) -> Result<Command<'a>, AllocError>
     ensures shape { IfOk result (λ c. app_of c ≡ definitions.verify_command) }
     ensures local { IfOk result (λ c. (fields_of c).has_globals ≡ false) }
 {
-    let elements = flag(alloc, "elements", "Compare the elements as well");
     let command = new_command(
         alloc,
         "verify",
@@ -40,6 +39,7 @@ fn verify_command<'a>(alloc: Global) -> Result<Command<'a>, AllocError>
     );
     let command = with_argument(command, file(alloc))?;
     let command = with_argument(command, database(alloc))?;
+    let elements = flag(alloc, "elements", "Compare the elements as well");
     with_argument(command, elements)
 }
 

@@ -6,4 +6,4 @@ use Rattle.pbfrow_words.proofs.asking.with_asking_commands.Goals as goal
 pub returns-clause-shape : goal.returns-clause-shape
 returns-clause-shape c =
     made _ c.with_command-3.ensures.shape
-    (gained (c.in_ok-command-2.ensures.shape ∙ gained (c.in_ok-command.ensures.shape ∙ gained {x = app_of c.args.command} refl c.in_ok-status.ensures.shape) c.in_ok-export.ensures.shape) c.in_ok-find.ensures.shape)
+    (gained (c.in_ok-command-2.ensures.shape ∙ gained (c.in_ok-command.ensures.shape ∙ gained {x = app_of c.args.command} refl c.in_ok-status_command.ensures.shape) c.in_ok-export_command.ensures.shape) c.in_ok-find_command.ensures.shape)
