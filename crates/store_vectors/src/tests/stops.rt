@@ -21,8 +21,6 @@ use std::alloc::Global;
 
 type Fused = Fuse<Memory>;
 
-type Database = Connection<FileStore<Fused>>;
-
 /// Few pages in memory, and each log is copied before the next commit, so that each call of a store makes many calls
 /// of both files.
 const OPTIONS: Options = Options {
@@ -143,11 +141,11 @@ impl Source for TaggedFile {
 }
 
 /// The database in these files; or the files, where one of them stops or can't be used.
-fn opened(
+fn opened<D: Disk + Drop>(
     alloc: Global,
-    files: Files<Fused>,
+    files: Files<D>,
     cache_pages: usize,
-) -> Result<Database, Files<Fused>> {
+) -> Result<Connection<FileStore<D>>, Files<D>> {
     if !files.may_be_used() {
         return Err(files);
     }
@@ -472,12 +470,12 @@ fn closed<D: Disk + Drop>(
 /// The same in the database in these files, which are closed behind it. Each kind of work goes through here, since one
 /// function alone may hold the database itself: it takes long to prove. What only reads has one page in memory, so that it
 /// reads the files.
-fn session<L: KnownLayout, F: Source>(
+fn session<D: Disk + Drop, L: KnownLayout, F: Source>(
     alloc: Global,
-    files: Files<Fused>,
+    files: Files<D>,
     work: Work<'_>,
     source: &mut F,
-) -> Option<(Reached, Files<Fused>)> {
+) -> Option<(Reached, Files<D>)> {
     let cache_pages = match work {
         Work::Import | Work::ImportBelow | Work::GoOn | Work::Show(_) => 8,
         Work::Adopt | Work::Ask(..) => 1,
@@ -499,6 +497,6 @@ fn found_after<L: KnownLayout, F: Source>(
     source: &mut F,
 ) -> Option<Reached> {
     let files = after_stop(alloc, files, unsynced)?;
-    let (held, _) = session::<L, F>(alloc, files, Work::GoOn, source)?;
+    let (held, _) = session::<_, L, F>(alloc, files, Work::GoOn, source)?;
     Some(held)
 }

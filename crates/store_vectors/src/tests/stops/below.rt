@@ -8,6 +8,7 @@ use super::{
 use osm_store::{Reader, Tables};
 use osm_trees::{TreeStore, open_tables};
 use sqlite::{Alter, Files};
+use sqlite_disk::Disk;
 use std::alloc::Global;
 use std::process::Abort;
 use std::test::*;
@@ -63,11 +64,11 @@ fn continued_below<S: Alter + Drop, F: Source>(
 }
 
 /// What is found by the trees in these files, where there is a store. It goes on, and the files are closed.
-fn found_by_trees<F: Source>(
+fn found_by_trees<D: Disk + Drop, F: Source>(
     alloc: Global,
-    files: Files<Fused>,
+    files: Files<D>,
     source: &mut F,
-) -> Option<(Reached, Option<Files<Fused>>)> {
+) -> Option<(Reached, Option<Files<D>>)> {
     if !files.may_be_used() {
         return None;
     }
@@ -89,7 +90,7 @@ fn found_below<F: Source>(
 ) -> Option<Reached> {
     let (held, files) = found_by_trees(alloc, files, source)?;
     if let Some(files) = files {
-        session::<Tables, F>(alloc, files, Work::Show(rows), source)?;
+        session::<_, Tables, F>(alloc, files, Work::Show(rows), source)?;
     }
     Some(held)
 }
@@ -104,11 +105,11 @@ pub(super) fn outcome<F: Source>(
 ) -> Option<Outcome> {
     let (stopped, unsynced) = stop;
     let files = new_files(alloc, stopped, calls);
-    let (answered, files) = session::<Tables, F>(alloc, files, Work::ImportBelow, source)?;
+    let (answered, files) = session::<_, Tables, F>(alloc, files, Work::ImportBelow, source)?;
     let files = after_stop(alloc, files, unsynced)?;
     let again = copies(alloc, &files, Stopped::Log, u64::MAX)?;
-    let (by_sql, files) = session::<Tables, F>(alloc, files, Work::GoOn, source)?;
-    session::<Tables, F>(alloc, files, Work::Show(rows), source)?;
+    let (by_sql, files) = session::<_, Tables, F>(alloc, files, Work::GoOn, source)?;
+    session::<_, Tables, F>(alloc, files, Work::Show(rows), source)?;
     let by_trees = found_below(alloc, again, source, rows)?;
     (by_trees == by_sql).then_some((answered, by_sql))
 }

@@ -43,7 +43,7 @@ pub(super) fn outcome<L: KnownLayout, F: Source>(
 ) -> Option<Outcome> {
     let (stopped, unsynced) = stop;
     let files = new_files(alloc, stopped, calls);
-    let (answered, files) = session::<L, F>(alloc, files, Work::Import, source)?;
+    let (answered, files) = session::<_, L, F>(alloc, files, Work::Import, source)?;
     let found = found_after::<L, F>(alloc, files, unsynced, source)?;
     Some((answered, found))
 }

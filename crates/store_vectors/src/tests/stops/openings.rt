@@ -27,7 +27,7 @@ fn outcome<L: KnownLayout>(
 ) -> Option<(Reached, Outcome)> {
     let (stopped, unsynced) = stop;
     let files = copies(alloc, files, stopped, calls)?;
-    let (opened, files) = session::<L, _>(alloc, files, Work::Adopt, &mut TaggedFile)?;
+    let (opened, files) = session::<_, L, _>(alloc, files, Work::Adopt, &mut TaggedFile)?;
     Some((
         opened,
         (
@@ -66,10 +66,10 @@ fn left<L: KnownLayout>(
 ) -> Option<(Reached, Reached, Files<Fused>)> {
     let (stopped, unsynced) = stop;
     let files = new_files(alloc, stopped, calls);
-    let (answered, files) = session::<L, _>(alloc, files, Work::Import, &mut TaggedFile)?;
+    let (answered, files) = session::<_, L, _>(alloc, files, Work::Import, &mut TaggedFile)?;
     let files = after_stop(alloc, files, unsynced)?;
     let again = copies(alloc, &files, Stopped::Log, u64::MAX)?;
-    let (held, _) = session::<L, _>(alloc, again, Work::GoOn, &mut TaggedFile)?;
+    let (held, _) = session::<_, L, _>(alloc, again, Work::GoOn, &mut TaggedFile)?;
     Some((answered, held, files))
 }
 

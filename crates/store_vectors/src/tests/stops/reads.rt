@@ -11,6 +11,7 @@ use super::{
 use osm_store::{Bodies, Tables};
 use osm_trees::TreeStore;
 use sqlite::{Alter, Connection, Files};
+use sqlite_disk::Disk;
 use std::alloc::Global;
 use std::process::Abort;
 use std::test::*;
@@ -29,7 +30,7 @@ const QUESTIONS: &[(Question, &[&[u8]])] = &[
 /// The files of a store that holds the whole file.
 fn whole_files<L: KnownLayout>(alloc: Global) -> Option<Files<Fused>> {
     let files = new_files(alloc, Stopped::Log, u64::MAX);
-    let (reached, files) = session::<L, _>(alloc, files, Work::Import, &mut TaggedFile)?;
+    let (reached, files) = session::<_, L, _>(alloc, files, Work::Import, &mut TaggedFile)?;
     (reached == Reached::All).then_some(files)
 }
 
@@ -68,7 +69,7 @@ fn outcome<L: KnownLayout>(
 ) -> Option<Outcome> {
     let (stopped, unsynced) = stop;
     let files = copies(alloc, files, stopped, calls)?;
-    let (told, files) = session::<L, _>(alloc, files, work, &mut TaggedFile)?;
+    let (told, files) = session::<_, L, _>(alloc, files, work, &mut TaggedFile)?;
     Some((
         told,
         found_after::<L, _>(alloc, files, unsynced, &mut TaggedFile)?,
@@ -125,10 +126,17 @@ fn is_told_below<S: Alter + Drop>(alloc: Global, connection: Connection<S>) -> b
     true
 }
 
+/// The same of the database in these files.
+fn is_told_in<D: Disk + Drop>(alloc: Global, files: Files<D>) -> bool {
+    match opened(alloc, files, 8) {
+        Ok(database) => is_told_below(alloc, database),
+        Err(_) => false,
+    }
+}
+
 #[test]
 fn reads_below_sql(rt: HostRuntime) -> Result<(), Fail> {
     let files = whole_files::<Tables>(rt.alloc()).ok_or("no whole file")?;
-    let database = opened(rt.alloc(), files, 8).ok().ok_or("no database")?;
-    assert!(rt; is_told_below(rt.alloc(), database));
+    assert!(rt; is_told_in(rt.alloc(), files));
     Ok(())
 }
