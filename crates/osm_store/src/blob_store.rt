@@ -1,6 +1,6 @@
 //! A store of blobs over a connection, in either layout.
 
-ghost use Rattle.std.specs.Prelude.{◌≡◌, ◌≢◌, ◌⊎◌, ℤ, pos, Some, false, IsTrue, IfOk, IfErr, MatchResult};
+ghost use Rattle.std.specs.Prelude.{◌≡◌, ◌≢◌, ◌⊎◌, ℤ, pos, Some, None, false, IsTrue, IfOk, IfErr, MatchResult};
 ghost use Rattle.std.specs.FinMap.{empty};
 ghost use Rattle.sqlite.specs.State.{HasCleanDisk};
 ghost use Rattle.sqlite.specs.Held.{state};
@@ -10,6 +10,7 @@ ghost use Rattle.osm_store.specs.Held.{HeldMap};
 ghost use Rattle.osm_store.specs.LayoutHolding.{Holds, TablesHold};
 ghost use Rattle.osm_store.specs.Keeping.{IsForeign};
 ghost use Rattle.osm_store.specs.Schema.Layouts.{version_of};
+ghost use Rattle.osm_store.specs.Schema.Bodies.{no_schema};
 
 use crate::audit::{Audited, Counts, has_counts_of, has_rows_of};
 use crate::fault::{StoreFault, failures_after};
@@ -73,6 +74,8 @@ impl<S: Alter, L: StoreLayout> BlobStore<S, L> {
         ensures unharmed { IfErr result (λ e. HasCleanDisk (state S.Store e.1) → IsTrue (state S.Store e.1).is_open → (state S.Store e.1).now ≡ (state S.Store connection).now) }
         ensures autocommit { IfErr result (λ e. (state S.Store e.1).in_transaction ≡ false) }
         ensures unnamed { IfErr result (λ e. NamesNoVersion e.0) }
+        // a database that has a table, an index or a view, whosever it is, is left as it is
+        ensures occupied { (state S.Store connection).now.schema ≢ no_schema → MatchResult result (λ _. ⊥) (λ e. (e.0 ≡ StoreFault.NotThisStore None) × (e.1 ≡ connection)) }
         // a crash leaves what it could leave before, or the store that holds nothing
         ensures crash { IfErr result (λ e. HasCleanDisk (state S.Store e.1) → (db : _) → (state S.Store e.1).may_leave db → (state S.Store connection).may_leave db ⊎ TablesHold L.LAYOUT empty db) }
     {

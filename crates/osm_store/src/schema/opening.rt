@@ -1,6 +1,6 @@
 //! What a store is made of: tables in a database that had none, or tables that are there.
 
-ghost use Rattle.std.specs.Prelude.{◌≡◌, ◌≢◌, ◌⊎◌, ℤ, pos, Some, false, IsTrue, IfOk, IfErr, MatchResult};
+ghost use Rattle.std.specs.Prelude.{◌≡◌, ◌≢◌, ◌⊎◌, ℤ, pos, Some, None, false, IsTrue, IfOk, IfErr, MatchResult};
 ghost use Rattle.std.specs.FinMap.{empty};
 ghost use Rattle.sqlite.specs.State.{HasCleanDisk};
 ghost use Rattle.sqlite.specs.Held.{state};
@@ -48,6 +48,7 @@ pub(crate) fn create_store<S: Alter>(
     ensures unharmed { IfErr result (λ e. HasCleanDisk (state S.Store e.1) → IsTrue (state S.Store e.1).is_open → (state S.Store e.1).now ≡ (state S.Store connection).now) }
     ensures autocommit { IfErr result (λ e. (state S.Store e.1).in_transaction ≡ false) }
     ensures unnamed { IfErr result (λ e. NamesNoVersion e.0) }
+    ensures occupied { (state S.Store connection).now.schema ≢ no_schema → MatchResult result (λ _. ⊥) (λ e. (e.0 ≡ StoreFault.NotThisStore None) × (e.1 ≡ connection)) }
     // a crash leaves what it could leave before, or the store that holds nothing
     ensures crash { IfErr result (λ e. HasCleanDisk (state S.Store e.1) → (db : _) → (state S.Store e.1).may_leave db → (state S.Store connection).may_leave db ⊎ TablesHold layout empty db) }
 {
