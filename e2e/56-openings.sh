@@ -1,6 +1,6 @@
 #!/usr/bin/env bash
 # Files that are opened as a database and aren't a sound one of ours: status and find answer one line of a fault, or what
-# is right, and leave the file so that the next program can open it.
+# is right, and leave all files as they are. What stands in the way is told on standard error.
 . "$(dirname -- "${BASH_SOURCE[0]}")/begin.sh"
 . "$top/e2e/locks.sh"
 two=$top/data/two-nodes.osm.pbf
@@ -41,6 +41,25 @@ right() {
   expect "$1: find" 0 "$node" find "$2" n1
 }
 
+# asked NAME DATABASE: both commands end with a fault or with what the sound database holds, since they read no more of it
+# than they need; verify, which looks at all of it, finds what is wrong; and none of them has changed a file.
+asked() {
+  sha256sum "$2"* > sums.txt
+  printf '%s\n' "fault 65 Disk status 1" "fault 66 NotThisStore status 1" "blobs 2 end 84 gaps 0 status 0" > may
+  answers "$1: status" status "$2"
+  printf '%s\n' "fault 65 Disk status 1" "fault 66 NotThisStore status 1" "47 0 n 1 1000 -100 [] {} status 0" > may
+  answers "$1: find" find "$2" n1
+  "$pbfrow" verify "$two" "$2" --elements > got.txt 2> /dev/null
+  [ $? = 1 ] && pass "$1: verify" || fail "$1: verify"
+  sha256sum "$2"* | cmp -s - sums.txt && pass "$1: nothing is written" || fail "$1: nothing is written"
+}
+
+# told NAME TEXT: the last command with `expect` wrote this line alone on standard error.
+told() {
+  echo "pbfrow: $2" > want.txt
+  same "$1" stderr.txt want.txt
+}
+
 # overwritten BYTES NUMBER: a copy of the sound database, of which one page, counted from 0, has other bytes.
 overwritten() {
   cp sound.db damaged.db
@@ -51,13 +70,13 @@ pages=$(($(stat -c %s sound.db) / page))
 [ "$pages" -ge 10 ] && pass "a database has a page for each of its trees" || fail "a database has a page for each of its trees ($pages)"
 for number in $(seq 0 $((pages - 1))); do
   overwritten /dev/zero "$number"
-  faulty "page $number of zeros" damaged.db
+  asked "page $number of zeros" damaged.db
   # the same bytes in each run
   awk -v seed="$number" 'BEGIN { srand(seed); for (i = 0; i < 4096; i++) printf "%c", 1 + int(rand() * 126) }' > noise
   overwritten noise "$number"
-  faulty "page $number of noise" damaged.db
+  asked "page $number of noise" damaged.db
   overwritten sound.db "$number"
-  [ "$number" = 0 ] || faulty "page $number like page 0" damaged.db
+  [ "$number" = 0 ] || asked "page $number like page 0" damaged.db
 done
 
 for bytes in 2 100 $page $((page + 1)) $(((pages - 1) * page)) $((pages * page - 1)); do
@@ -129,7 +148,10 @@ rm -f damaged.db*
 if has python3; then
   lock_database sound.db
   expect "a database that another program has locked: status" 1 "fault 65 Disk${nl}" status sound.db
+  told "and why" "sound.db: in use by another program"
   expect "a database that another program has locked: find" 1 "fault 65 Disk${nl}" find sound.db n1
+  expect "a database that another program has locked: import" 1 "fault 65 Disk${nl}" import "$two" sound.db
+  told "and why" "sound.db: in use by another program"
   unlock_database
   right "the same when it is free again" sound.db
 else
@@ -144,18 +166,37 @@ if [ "$(id -u)" = 0 ] && has setpriv; then
   chmod 755 kept
   as_nobody() { setpriv --reuid 65534 --regid 65534 --clear-groups "$top/crates/pbfrow/out/pbfrow" "$@"; }
   if as_nobody --version > version.txt 2>&1; then
-    echo "fault 65 Disk" > want.txt
+    # asked_by_nobody NAME: another user, who may read the database and write nothing, gets what it holds, and no file is made
+    asked_by_nobody() {
+      as_nobody status kept/sound.db > got.txt 2> stderr.txt
+      printf '%s' "$held" > want.txt
+      same "$1: status" got.txt want.txt
+      as_nobody find kept/sound.db n1 > got.txt 2>> stderr.txt
+      printf '%s' "$node" > want.txt
+      same "$1: find" got.txt want.txt
+      as_nobody export kept/sound.db > got.txt 2>> stderr.txt
+      "$pbfrow" export sound.db > want.txt
+      same "$1: export" got.txt want.txt
+      as_nobody verify "$two" kept/sound.db --elements > got.txt 2>> stderr.txt
+      printf '%s' "blobs 2 missing 0 differs 0 extra 0$nl" > want.txt
+      same "$1: verify" got.txt want.txt
+      { [ ! -s stderr.txt ] && [ "$(ls kept)" = "$2" ]; } && pass "$1: no file is made" || fail "$1: no file is made ($(ls kept))"
+    }
     chmod 444 kept/sound.db
-    as_nobody status kept/sound.db > got.txt
-    same "a database that may not be written: status" got.txt want.txt
-    as_nobody find kept/sound.db n1 > got.txt
-    same "a database that may not be written: find" got.txt want.txt
+    asked_by_nobody "a database that may only be read" sound.db
     chmod 666 kept/sound.db
-    as_nobody status kept/sound.db > got.txt
-    same "a database in a folder that may not be written" got.txt want.txt
+    asked_by_nobody "a database in a folder that may not be written" sound.db
+    : > kept/sound.db-wal
+    asked_by_nobody "the same beside an empty log" "sound.db${nl}sound.db-wal"
+    rm kept/sound.db-wal
+    echo "fault 65 Disk" > fault.txt
+    as_nobody import "$two" kept/sound.db > got.txt 2> stderr.txt
+    same "an import into it" got.txt fault.txt
+    told "and why" "kept/sound.db: permission denied"
     chmod 000 kept/sound.db
-    as_nobody status kept/sound.db > got.txt
-    same "a database that may not be read" got.txt want.txt
+    as_nobody status kept/sound.db > got.txt 2> stderr.txt
+    same "a database that may not be read" got.txt fault.txt
+    told "and why" "kept/sound.db: permission denied"
     chmod 644 kept/sound.db
     right "the same, with the rights to it" kept/sound.db
   else
@@ -179,8 +220,27 @@ if has sqlite3; then
   sqlite3 mine.db "CREATE TABLE strange (a TEXT PRIMARY KEY, b) WITHOUT ROWID; INSERT INTO strange VALUES ('x', 1)"
   right "a table of one's own that has no rowid" mine.db
   sqlite3 mine.db "CREATE TRIGGER told AFTER INSERT ON element BEGIN DELETE FROM mine; END"
-  printf '%s\n' "fault 65 Disk status 1" > may
-  answers "a trigger on the table of elements: find" find mine.db n1
+  expect "a trigger on the table of elements: find" 1 "fault 65 Disk${nl}" find mine.db n1
+  told "and why" "mine.db: it has a trigger on one of pbfrow's tables"
+  expect "a trigger on the table of elements: import of what is held" 0 "0 held${nl}47 held${nl}blobs stored 0 held 2 bad 0 refused 0${nl}" import "$two" mine.db
+  told "and why" "mine.db: it has a trigger on one of pbfrow's tables"
+  sqlite3 mine.db "DROP TRIGGER told; CREATE TRIGGER told AFTER INSERT ON strange BEGIN DELETE FROM mine; END"
+  right "a trigger on a table of one's own" mine.db
+  if sqlite3 mine.db "DROP TRIGGER told; CREATE VIRTUAL TABLE words USING fts5 (word)" 2> got.txt; then
+    expect "a virtual table: status" 1 "fault 65 Disk${nl}" status mine.db
+    told "and why" "mine.db: it has a virtual table"
+  fi
+  rm -f mine.db*
+  cp sound.db mine.db
+  sqlite3 mine.db "PRAGMA journal_mode = DELETE; PRAGMA auto_vacuum = 1; VACUUM" > got.txt
+  expect "auto_vacuum: status" 1 "fault 65 Disk${nl}" status mine.db
+  told "and why" "mine.db: auto_vacuum is on: turn it off and run VACUUM, with sqlite3"
+  sqlite3 mine.db "PRAGMA auto_vacuum = 0; VACUUM"
+  right "the same, turned off" mine.db
+  printf 'x' > mine.db-journal
+  expect "a rollback journal: status" 1 "fault 65 Disk${nl}" status mine.db
+  told "and why" "mine.db: a rollback journal stands beside it: open it with sqlite3 first"
+  rm mine.db-journal
 
   rm -f other.db*
   sqlite3 other.db "CREATE TABLE place (name TEXT); INSERT INTO place VALUES ('Vaduz')"
@@ -216,11 +276,52 @@ fi
 rm -f blank.db*
 : > blank.db
 expect "an empty file: status" 1 "fault 66 NotThisStore${nl}" status blank.db
-rm -f blank.db*
-: > blank.db
+told "and why" "blank.db: not a database of pbfrow"
 expect "an empty file: find" 1 "fault 66 NotThisStore${nl}" find blank.db n1
+{ [ -e blank.db ] && [ ! -s blank.db ] && [ ! -e blank.db-wal ]; } && pass "it stays empty" || fail "it stays empty"
+mkfifo pipe.db
+for words in "status pipe.db" "find pipe.db n1" "export pipe.db" "import $two pipe.db" "merge new.db pipe.db" "merge pipe.db sound.db" "verify $two pipe.db"; do
+  # shellcheck disable=SC2086
+  timeout 20 "$pbfrow" $words > got.txt 2> stderr.txt
+  ended=$?
+  { [ "$ended" = 1 ] && grep -q '^pbfrow: pipe.db: not a regular file$' stderr.txt; } && pass "a pipe in the place of a database: $words" \
+    || fail "a pipe in the place of a database: $words (status $ended, $(cat stderr.txt))"
+done
+rm -f pipe.db new.db*
+expect "a folder in the place of a database" 1 "fault 65 Disk${nl}" status .
+told "and why" ".: not a regular file"
+expect "of several databases the one that fails is named" 1 "fault 66 NotThisStore${nl}" status sound.db nowhere.db
+told "and why" "nowhere.db: no such file"
 expect "no file: status" 1 "fault 66 NotThisStore${nl}" status nowhere.db
 expect "no file: find" 1 "fault 66 NotThisStore${nl}" find nowhere.db n1
 [ ! -e nowhere.db ] && [ ! -e nowhere.db-wal ] && pass "and no file is made" || fail "and no file is made"
-rm -f blank.db* sound.db* noise may
+
+# readers side by side, and none beside a writer
+rm -f busy.db* feed
+mkfifo feed
+"$pbfrow" import feed busy.db > busy.txt 2> stderr.txt &
+importing=$!
+exec 8> feed
+cat "$two" >&8
+for _ in $(seq 200); do [ "$(grep -c stored busy.txt)" = 2 ] && break; sleep 0.05; done
+expect "a reader beside an import" 1 "fault 65 Disk${nl}" status busy.db
+told "and why" "busy.db: in use by another program"
+expect "a second import beside it" 1 "fault 65 Disk${nl}" import "$two" busy.db
+exec 8>&-
+wait "$importing" && pass "the import goes on to its end" || fail "the import goes on to its end"
+right "a reader behind it" busy.db
+"$pbfrow" import "$country" whole.db > got.txt
+mkfifo slow
+"$pbfrow" export whole.db > slow &
+exporting=$!
+exec 9< slow
+IFS= read -r _ <&9
+right "a reader beside a reader of another database" busy.db
+expect "a reader beside a reader" 0 "$("$pbfrow" status whole.db)$nl" status whole.db
+expect "an import beside a reader" 1 "fault 65 Disk${nl}" import "$country" whole.db
+told "and why" "whole.db: in use by another program"
+cat <&9 > /dev/null
+exec 9<&-
+wait "$exporting" && pass "the reader comes to its end" || fail "the reader comes to its end"
+rm -f blank.db* sound.db* busy.db* whole.db* feed slow noise may
 counted

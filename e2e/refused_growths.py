@@ -9,7 +9,8 @@ of these ways:
 
 - as it ends with memory;
 - with 2, nothing on standard output, and `error: out of memory` on standard error: the arguments weren't read;
-- with 1 and, behind a front of the output, the line `fault 65 Memory` or `fault 65 Memory at OFFSET`.
+- with 1 and, behind a front of the output, the line `fault 65 Memory` or `fault 65 Memory at OFFSET`; on standard error
+  nothing, or the line that says of a database that memory was refused.
 
 After each run of an import, a migrate or a merge the same with memory has to end with 0, and the export to be whole. What
 is copied has to stay as it was. The counts of these ways are printed, and what went otherwise; the exit status is 1 if
@@ -27,6 +28,7 @@ from concurrent.futures import ThreadPoolExecutor
 
 AS_WITH_MEMORY, ARGUMENTS, FAULT = "as with memory", "with 2 and no output", "with the line of the fault"
 FAULT_LINE = re.compile(rb"fault 65 Memory(?: at (?:0|47|84))?\n\Z")
+REASON = re.compile(rb"(?:pbfrow: .*: (?:memory was refused|out of memory)\n)?")
 
 # Where the words of a command name databases, first the one that it fills or asks. All words of a merge do.
 DATABASES = {"import": [2], "verify": [2], "status": [1], "export": [1], "find": [1], "migrate": [2, 1]}
@@ -76,7 +78,7 @@ def way_of(got, wanted, is_text):
         return ARGUMENTS
     status, output, errors = got
     line = FAULT_LINE.search(output)
-    if status != 1 or errors or not line:
+    if status != 1 or not REASON.fullmatch(errors) or not line:
         return None
     front = output[:line.start()]
     ends_line = not front or front.endswith(b"\n")

@@ -36,7 +36,7 @@ pub record Wrote {S T : Type 0} (g : Ghosts S) (off : ℕ) (blob : Blob) (old ne
 
 -- what a keeper promises of a put, of this store
 abbrev pub AddsBelow : {S T : Type 0} → Ghosts S → ℕ → Blob → Reading S → Result T StoreFault → Reading S → Type 0
-AddsBelow g off blob old result new = Adds (λ r held. HoldsBelow Tables (g.view r.store) held) (λ r left. MayLeave g r.store left) (λ r. LeavesAMap g r.store) (λ r s. SameTrees (g.view r.store) (g.view s.store))
+AddsBelow g off blob old result new = Adds (λ r held. HoldsBelow Tables (g.view r.store) held) (λ r left. MayLeave (g.recovers r.store) left) (λ r. LeavesAMap (g.recovers r.store)) (λ r s. SameTrees (g.view r.store) (g.view s.store))
     (λ r. IsClean (g.view r.store)) (λ r. IsUsable (g.view r.store)) (λ r. r.failures) off blob old result new
 
 module _ {S : Type 0} (g : Ghosts S) (old new : Reading S) (off : ℕ) (blob : Blob) (order : off < blob.fin) (limit : blob.fin ≤ MAX_OFFSET) (digest : length blob.digest ≡ 32)
@@ -66,13 +66,13 @@ module _ {S : Type 0} (g : Ghosts S) (old new : Reading S) (off : ℕ) (blob : B
       only = λ other kept_too tables_too. one_map Tables other (with_blob held off blob) (g.view new.store).trees kept_too (kept stored) tables_too (tables stored (g.view new.store).trees puts);
     }
 
-    leaves_more : {r : Result (Unit {0}) StoreFault} → Written r → IsClean (g.view new.store) → (left : HeldMap) → MayLeave g new.store left → MayLeave g old.store left ⊎ (left ≡ with_blob held off blob)
+    leaves_more : {r : Result (Unit {0}) StoreFault} → Written r → IsClean (g.view new.store) → (left : HeldMap) → MayLeave (g.recovers new.store) left → MayLeave (g.recovers old.store) left ⊎ (left ≡ with_blob held off blob)
     leaves_more w clean left may = elim (w.crash clean may.trees may.left) [
       | inl before ↦ inl (record { kept = may.kept; trees = may.trees; left = before; tables = may.tables })
       | inr put ↦ inr (one_map Tables left (with_blob held off blob) may.trees may.kept (kept put.1) may.tables (tables put.1 may.trees put.2))
     ]
 
-    leaves_a_map : {r : Result (Unit {0}) StoreFault} → Written r → IsClean (g.view new.store) → LeavesAMap g new.store
+    leaves_a_map : {r : Result (Unit {0}) StoreFault} → Written r → IsClean (g.view new.store) → LeavesAMap (g.recovers new.store)
     leaves_a_map w clean db left = elim (w.crash clean db left) [
       | inl before ↦ leaves_held (g.view old.store) (g.recovers old.store) held holds settles shuts db before
       | inr put ↦ (with_blob held off blob, kept put.1, tables put.1 db put.2)
@@ -99,7 +99,7 @@ module _ {S : Type 0} (g : Ghosts S) (old new : Reading S) (off : ℕ) (blob : B
     | inr put ↦ absurd (closed (omega (arith, w.clean, clean), put.0))
   ]
 
-  shut_leaves : {r : Result (Unit {0}) StoreFault} → Written r → IsClean (g.view new.store) → ¬ (IsUsable (g.view old.store)) → (left : HeldMap) → MayLeave g new.store left → MayLeave g old.store left
+  shut_leaves : {r : Result (Unit {0}) StoreFault} → Written r → IsClean (g.view new.store) → ¬ (IsUsable (g.view old.store)) → (left : HeldMap) → MayLeave (g.recovers new.store) left → MayLeave (g.recovers old.store) left
   shut_leaves w clean closed left may = record { kept = may.kept; trees = may.trees; left = left_before w clean closed may.trees may.left; tables = may.tables }
 
   pub put_adds : (r : Result (Unit {0}) StoreFault) → Written r → new.failures ≡ failures_after r old.failures → AddsBelow g off blob old r new

@@ -1,4 +1,3 @@
-pub mod OpeningLemmas
 pub mod Columns
 pub mod Rest
 pub mod Prefix

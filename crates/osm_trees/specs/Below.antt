@@ -46,16 +46,16 @@ is_flagged row = is_int (column row 12)
 abbrev pub IsUsable : View → Type 0
 IsUsable v = IsClean v × (v.is_broken ≡ false)
 
--- a crash now may leave the rows of this map
-pub record MayLeave {S : Type 0} (g : Ghosts S) (store : S) (held : HeldMap) : Type 0 where
+-- of the trees that a crash may leave, some have the rows of this map
+pub record MayLeave (recovers : Trees → Type 0) (held : HeldMap) : Type 0 where
   pub kept : IsKept Tables held
   pub trees : Trees
-  pub left : g.recovers store trees
+  pub left : recovers trees
   pub tables : TablesHold Tables held trees
 
--- whatever a crash now leaves, the trees' rows are those of a map
-abbrev pub LeavesAMap : {S : Type 0} → Ghosts S → S → Type 0
-LeavesAMap g store = (db : Trees) → g.recovers store db → (left : HeldMap) × IsKept Tables left × TablesHold Tables left db
+-- whatever trees a crash leaves, their rows are those of a map
+abbrev pub LeavesAMap : (Trees → Type 0) → Type 0
+LeavesAMap recovers = (db : Trees) → recovers db → (left : HeldMap) × IsKept Tables left × TablesHold Tables left db
 
 -- the last commits have the same trees
 abbrev pub SameTrees : View → View → Type 0

@@ -22,10 +22,11 @@ reading_code {S} code = code_by (S × ℕ) (coded× code coded_ℕ) (λ r. (r.st
 
 -- the call has left the trees, and has counted its failure
 abbrev pub JustReads : {S T : Type 0} → Ghosts S → Reading S → Result T StoreFault → Reading S → Type 0
-JustReads g old result new = OnlyReads (λ r held. HoldsBelow Tables (g.view r.store) held) (λ r left. MayLeave g r.store left) (λ r. LeavesAMap g r.store) (λ r s. SameTrees (g.view r.store) (g.view s.store))
+JustReads g old result new = OnlyReads (λ r held. HoldsBelow Tables (g.view r.store) held) (λ r left. MayLeave (g.recovers r.store) left) (λ r. LeavesAMap (g.recovers r.store)) (λ r s. SameTrees (g.view r.store) (g.view s.store))
     (λ r. IsClean (g.view r.store)) (λ r. IsUsable (g.view r.store)) (λ r. r.failures) old result new
 
-open_of : (is_open is_broken : Bool) → (is_open ≡ false → IsTrue is_broken) → is_broken ≡ false → IsTrue is_open
+-- a store that isn't broken is open
+pub open_of : (is_open is_broken : Bool) → (is_open ≡ false → IsTrue is_broken) → is_broken ≡ false → IsTrue is_open
 open_of true is_broken shuts up = refl
 open_of false is_broken shuts up = sym up ∙ shuts refl
 

@@ -78,9 +78,9 @@ impl<S: Store> Reader for TreeStore<S> {
 
     ghost holds = { λ r held. HoldsBelow Tables (S.Store.view r.store) held };
 
-    ghost leaves = { λ r left. MayLeave S.Store r.store left };
+    ghost leaves = { λ r left. MayLeave (S.Store.recovers r.store) left };
 
-    ghost leaves_a_map = { λ r. LeavesAMap S.Store r.store };
+    ghost leaves_a_map = { λ r. LeavesAMap (S.Store.recovers r.store) };
 
     ghost same_tables = { λ r s. SameTrees (S.Store.view r.store) (S.Store.view s.store) };
 

@@ -3,9 +3,9 @@
 ghost use Rattle.std.specs.Prelude.{◌≤◌};
 
 use crate::FAULTY;
-use crate::databases::{Databases, close, opened, opened_or_made};
 use crate::meter::Meter;
 use crate::questions::{ask_one, goes_by_blobs};
+use osm_databases::databases::{Databases, close, opened, opened_or_made};
 use osm_import::{Inlet, Stop};
 use osm_store::{Keeper, Reader, StoreFault};
 use osm_trees::Opened;

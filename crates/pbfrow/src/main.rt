@@ -8,7 +8,6 @@ ghost use Rattle.pbfrow_words.specs.Words.{BeginsWithin, CutsSome};
 
 mod copying;
 mod database;
-mod databases;
 mod merging;
 mod meter;
 mod parts;
@@ -18,9 +17,10 @@ mod verifying;
 use clap::Error;
 use copying::copy;
 use database::{Query, ask, end, fill};
-use databases::{Databases, Files};
 use merging::merge;
 use meter::Meter;
+use osm_databases::databases::Databases;
+use osm_databases::files::{AskedFiles, FilledFiles};
 use osm_value::Outlet;
 use osm_verify::Depth;
 use parts::ask_parts;
@@ -105,7 +105,7 @@ fn refuse_words(rt: &HostRuntime, error: io::Error) -> io::Result<u8> {
 
 fn answer<'a>(rt: HostRuntime, words: &'a [&'a str]) -> io::Result<u8> {
     match read_words(rt.alloc(), words) {
-        Ok(words) => Ok(run(rt, &Files, words)),
+        Ok(words) => Ok(run(rt, words)),
         Err(error) => refuse(rt, error),
     }
 }
@@ -120,8 +120,8 @@ fn refuse(rt: HostRuntime, error: Error) -> io::Result<u8> {
     Ok(error.exit_code() as u8)
 }
 
-/// Runs a command, whose databases stand among these, and answers the exit status.
-fn run<D: Databases>(rt: HostRuntime, files: &D, words: Words) -> u8
+/// Runs a command, whose databases lie in files of this machine, and answers the exit status.
+fn run(rt: HostRuntime, words: Words) -> u8
     requires begins { BeginsWithin words }
     requires cuts { CutsSome words }
 {
@@ -132,19 +132,24 @@ fn run<D: Databases>(rt: HostRuntime, files: &D, words: Words) -> u8
             file,
             database,
             start,
-        } => fill(&rt, files, file, database, start_of(start)),
-        Words::Migrate { old, new } => copy(&rt, files, old, new),
-        Words::Merge { into, from } => merge(&rt, files, into, from.as_slice()),
+        } => fill(&rt, &FilledFiles, file, database, start_of(start)),
+        Words::Migrate { old, new } => copy(&rt, &FilledFiles, old, new),
+        Words::Merge { into, from } => merge(&rt, &FilledFiles, into, from.as_slice()),
         Words::Verify {
             file,
             database,
             elements,
-        } => compare(&rt, file, database, depth_of(elements)),
+        } => compare(&rt, &AskedFiles, file, database, depth_of(elements)),
         Words::Ask {
             databases,
             question,
-        } => ask_all(&rt, files, databases.as_slice(), question),
-        Words::Find { database, kind, id } => ask(&rt, files, database, Query::Element(kind, id)),
+        } => ask_all(&rt, &AskedFiles, databases.as_slice(), question),
+        Words::Find { database, kind, id } => ask(
+            &rt,
+            &AskedFiles,
+            database,
+            Query::Element(kind, id),
+        ),
     }
 }
 

@@ -4,9 +4,10 @@ ghost use Rattle.std.specs.Prelude.{◌≡◌, IfOk};
 ghost use Rattle.osm_trees.specs.Ways.{counted};
 
 use crate::database::end;
-use crate::databases::{Databases, OpenedStore, opened};
 use crate::meter::Meter;
 use crate::questions::{ask_in_turn, goes_by_blobs};
+use osm_databases::databases::{Databases, opened};
+use osm_databases::stores::OpenedStore;
 use osm_parts::Openings;
 use osm_store::{Reader, StoreFault};
 use osm_value::Outlet;

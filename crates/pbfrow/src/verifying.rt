@@ -1,61 +1,43 @@
 //! The command that compares a PBF file and a database: `verify`.
 
-ghost use Rattle.std.specs.Prelude.{◌≡◌, false};
-ghost use Rattle.sqlite.specs.Held.{state};
-
 use crate::database::{end, refuse};
-use crate::databases::{adopted, is_missing, unopened};
 use crate::meter::Meter;
-use osm_store::StoreFault;
+use osm_databases::databases::{Databases, source_of_rows};
 use osm_value::Outlet;
 use osm_verify::Depth;
 use pbfrow_commands::input::refuse_input;
 use pbfrow_commands::metered::{MeteredOutput, MeteredReader};
 use pbfrow_commands::report::refuse_memory;
 use pbfrow_commands::verify::verify;
-use sqlite::{Alter, Connection};
-use std::alloc::Global;
 use std::fs::File;
 use std::io;
 use std::io::{BufWriter, Read, Write};
 
-/// Compares what a reader gives with the store of a connection, and answers the exit status.
-fn compared<S: Alter + Drop, R: Read, W: Write>(
-    alloc: Global,
-    connection: Connection<S>,
-    input: &mut R,
-    depth: Depth,
-    meter: &Meter,
-    out: &mut Outlet<W>,
-) -> u8
-    requires { (state S.Store connection).in_transaction ≡ false }
-{
-    match adopted(connection) {
-        Ok(mut store) => verify(alloc, &mut store, input, depth, meter, out),
-        Err(fault) => refuse(out, fault),
-    }
-}
-
-/// Compares what a reader gives with a database file, and answers the exit status.
-fn compare_in<R: Read, W: Write>(
+/// Compares what a reader gives with a database, each page and row of which is looked at as it is opened, and answers the
+/// exit status.
+fn compare_in<D: Databases, R: Read, W: Write>(
     rt: &HostRuntime,
+    files: &D,
     input: &mut R,
     database: &str,
     depth: Depth,
     meter: &Meter,
     out: &mut Outlet<W>,
 ) -> u8 {
-    if is_missing(rt, database) {
-        return refuse(out, StoreFault::NotThisStore(None));
-    }
-    match Connection::open(rt, database) {
-        Ok(connection) => compared(rt.alloc(), connection, input, depth, meter, out),
-        Err(error) => refuse(out, unopened(error)),
+    match source_of_rows(rt, files, database) {
+        Ok(mut store) => verify(rt.alloc(), &mut store, input, depth, meter, out),
+        Err(fault) => refuse(out, fault),
     }
 }
 
 /// Compares a file with a database, and answers the exit status. If there is no database, none is made.
-pub(crate) fn compare(rt: &HostRuntime, file: &str, database: &str, depth: Depth) -> u8 {
+pub(crate) fn compare<D: Databases>(
+    rt: &HostRuntime,
+    files: &D,
+    file: &str,
+    database: &str,
+    depth: Depth,
+) -> u8 {
     let meter = Meter::new(rt, true);
     let output = MeteredOutput {
         writer: io::writer(rt),
@@ -72,7 +54,7 @@ pub(crate) fn compare(rt: &HostRuntime, file: &str, database: &str, depth: Depth
                 reader: input,
                 watcher: &meter,
             };
-            compare_in(rt, &mut input, database, depth, &meter, &mut out)
+            compare_in(rt, files, &mut input, database, depth, &meter, &mut out)
         }
         Err(_) => refuse_input(&mut out),
     };

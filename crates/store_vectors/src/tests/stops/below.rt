@@ -5,8 +5,9 @@ use super::{
     Fused, OPTIONS, Outcome, Reached, STOPS, Source, Stopped, TaggedFile, Unsynced, Work,
     after_stop, copies, new_files, session,
 };
+use osm_openings::open_checked_tables;
 use osm_store::{Reader, Tables};
-use osm_trees::{TreeStore, open_tables};
+use osm_trees::TreeStore;
 use sqlite::{Alter, Files};
 use sqlite_disk::Disk;
 use std::alloc::Global;
@@ -72,7 +73,7 @@ fn found_by_trees<D: Disk + Drop, F: Source>(
     if !files.may_be_used() {
         return None;
     }
-    match open_tables(alloc, files, OPTIONS).ok()? {
+    match open_checked_tables(alloc, files, OPTIONS).ok()? {
         Some(trees) => {
             let (held, trees) = continued_below(alloc, trees, source)?;
             Some((held, Some(trees.close())))

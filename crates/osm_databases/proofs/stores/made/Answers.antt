@@ -1,0 +1,38 @@
+use Rattle.std.proofs.Common.{◌≡◌, ◌∙◌, sym, ap, subst, IsTrue, arith}
+use Rattle.std.specs.FinMap.{empty}
+use Rattle.sqlite.specs.Effect.{Database}
+use Rattle.sqlite.specs.Held.{state}
+use Rattle.sqlite.specs.State.{HasCleanDisk}
+use Rattle.sqlite_trees.specs.Tree.{Trees}
+use Rattle.sqlite_trees.specs.View.{IsClean}
+use Rattle.osm_store.specs.declared.schema.layout.Layout.TheVariants.{Tables}
+use Rattle.osm_store.specs.Held.{HeldMap}
+use Rattle.osm_store.specs.LayoutHolding.{Holds, IsKept, TablesHold}
+use Rattle.osm_trees.specs.Below.{HoldsBelow}
+use Rattle.osm_trees.specs.Reading.{open_of}
+use Rattle.osm_databases.proofs.stores.made.Goals as goal
+
+pub returns-clause-empty : goal.returns-clause-empty
+returns-clause-empty g c =
+    let view = g.S.Store.view in
+    let old = c.into_connection.result.store in
+    let new = c.into_store-trees.result in
+    let made : c.new.result.store ≡ new = ap (λ r. r.store) c.new.ensures in
+    subst (λ s. IsClean (view s) → HoldsBelow Tables (view s) empty) (sym made) (λ clean.
+    let before : IsClean (view old) = omega (arith, clean, c.into_store-trees.ensures.quiet.clean) in
+    let holds : Holds Tables (state g.S.Store c.into_connection.result) empty =
+    subst (λ h. HasCleanDisk (state g.S.Store h) → Holds Tables (state g.S.Store h) empty) (sym c.into_connection.ensures) c.in-Ok.ensures.empty before in
+    let unbroken = sym (c.is_broken.ensures clean) ∙ c.if-is_broken.false in
+    let up = open_of _ _ (g.met.S.Store.broken_if_shut new) unbroken in
+    let undone = c.into_store-trees.ensures.undone in
+    let back : (view new).trees ≡ (view old).committed = (undone.undone up).0 in
+    let committed : (view new).committed ≡ (view old).committed = (undone.kept clean).committed up in
+    let same : (view old).trees ≡ (view new).trees = ap (λ (db : Database). db.trees) holds.settled ∙ sym back in
+    record {
+      clean = clean;
+      unbroken = unbroken;
+      settled = back ∙ sym committed;
+      kept = holds.kept;
+      tables = subst (TablesHold Tables empty) same holds.tables;
+      only = subst (λ (db : Trees). (other : HeldMap) → IsKept Tables other → TablesHold Tables other db → other ≡ empty) same holds.only;
+    })

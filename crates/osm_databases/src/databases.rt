@@ -1,0 +1,167 @@
+//! Where databases are opened, to be asked or to take blobs, and closed again. Those that are asked and those that are filled
+//! are different `Databases`, since the files of the first are read alone.
+
+ghost use Rattle.std.specs.Prelude.{◌≡◌, false, IfOk};
+ghost use Rattle.sqlite.specs.Held.{IsNew, state};
+ghost use Rattle.osm_trees.specs.Ways.{counted};
+
+use crate::reason::told_of;
+use crate::stores::{OpenedStore, adopted, adopted_or_made, taking_blobs};
+use osm_store::{BodyStore, StoreFault, TableStore};
+use osm_trees::{Opened, TreeStore};
+use sqlite::{Alter, Connection};
+
+/// Where databases are opened and closed. Their trees are named, and not what they lie in: so all that is done with them
+/// stands in generic code. Why a database can't be opened is told on standard error.
+pub trait Databases {
+    type Trees: Alter + Drop;
+
+    /// The trees of a database of this version. If it is anything else it is closed, and opening it by SQL says why.
+    fn trees(&self, rt: &HostRuntime, name: &str) -> Result<Option<Self::Trees>, StoreFault>;
+
+    /// A database that is opened by SQL.
+    fn connection(
+        &self,
+        rt: &HostRuntime,
+        name: &str,
+    ) -> Result<Connection<Self::Trees>, StoreFault>
+        ensures { IfOk result IsNew };
+
+    /// Closes a database. If it was written to, its log is copied into it; if that fails the log stays, and is read when the
+    /// database is next opened.
+    fn close(&self, trees: Self::Trees);
+}
+
+/// The store of a database that keeps elements in tables, by SQL, which looks at each page and row as it opens it. Nothing is
+/// written. Why it can't be opened is told on standard error.
+pub fn source_of_rows<D: Databases>(
+    rt: &HostRuntime,
+    databases: &D,
+    name: &str,
+) -> Result<TableStore<D::Trees>, StoreFault>
+    ensures { IfOk result (λ store. store.failures ≡ 0) }
+{
+    let connection = databases.connection(rt, name)?;
+    match adopted(connection) {
+        Ok(store) => Ok(store),
+        Err(fault) => Err(told_of(rt, name, fault)),
+    }
+}
+
+/// The store of a database that keeps elements as blocks, by SQL. Nothing is written. Why it can't be opened is told on
+/// standard error.
+pub fn source_of_blocks<D: Databases>(
+    rt: &HostRuntime,
+    databases: &D,
+    name: &str,
+) -> Result<BodyStore<D::Trees>, StoreFault>
+    ensures { IfOk result (λ store. store.failures ≡ 0) }
+{
+    let connection = databases.connection(rt, name)?;
+    match BodyStore::adopt(connection) {
+        Ok(store) => Ok(store),
+        Err((fault, _)) => Err(told_of(rt, name, fault)),
+    }
+}
+
+/// The store of a database that is asked, if it has one. A database of this version is read by its trees, and any other is
+/// opened by SQL, which says what it is. Why it can't be opened is told on standard error.
+pub fn opened<D: Databases>(
+    rt: &HostRuntime,
+    databases: &D,
+    name: &str,
+) -> Result<OpenedStore<D::Trees>, StoreFault>
+    ensures { IfOk result (λ reader. counted (λ trees. trees.failures) (λ store. store.failures) reader ≡ 0) }
+{
+    match databases.trees(rt, name)? {
+        Some(trees) => Ok(Opened::ByTrees(TreeStore::new(trees))),
+        None => Ok(Opened::BySql(source_of_rows(rt, databases, name)?)),
+    }
+}
+
+/// The store of a database of either version.
+#[derive(Drop)]
+pub enum AnyVersion<S: Alter> {
+    /// Elements are rows.
+    Tables(OpenedStore<S>),
+    /// Elements are blocks of bytes.
+    Blocks(BodyStore<S>),
+}
+
+/// The version whose databases keep elements as blocks.
+const BLOCKS: i64 = 1;
+
+/// The store that a connection has, of either version.
+fn adopted_of_any_version<S: Alter + Drop>(
+    connection: Connection<S>,
+) -> Result<AnyVersion<S>, StoreFault>
+    requires { (state S.Store connection).in_transaction ≡ false }
+{
+    let (fault, connection) = match TableStore::adopt(connection) {
+        Ok(store) => return Ok(AnyVersion::Tables(Opened::BySql(store))),
+        Err(other) => other,
+    };
+    if fault != StoreFault::NotThisStore(Some(BLOCKS)) {
+        return Err(fault);
+    }
+    match BodyStore::adopt(connection) {
+        Ok(store) => Ok(AnyVersion::Blocks(store)),
+        Err((fault, _)) => Err(fault),
+    }
+}
+
+/// The store of a database, of whichever version. Nothing is written. Why it can't be opened is told on standard error.
+pub fn opened_of_any_version<D: Databases>(
+    rt: &HostRuntime,
+    databases: &D,
+    name: &str,
+) -> Result<AnyVersion<D::Trees>, StoreFault> {
+    if let Some(trees) = databases.trees(rt, name)? {
+        return Ok(AnyVersion::Tables(Opened::ByTrees(TreeStore::new(trees))));
+    }
+    let connection = databases.connection(rt, name)?;
+    match adopted_of_any_version(connection) {
+        Ok(store) => Ok(store),
+        Err(fault) => Err(told_of(rt, name, fault)),
+    }
+}
+
+/// The store of a database that is to take blobs, by SQL; it is made where there is none.
+fn filled_by_sql<D: Databases>(
+    rt: &HostRuntime,
+    databases: &D,
+    name: &str,
+) -> Result<OpenedStore<D::Trees>, StoreFault>
+    ensures { IfOk result (λ store. counted (λ trees. trees.failures) (λ store. store.failures) store ≡ 0) }
+{
+    let connection = databases.connection(rt, name)?;
+    match adopted_or_made(connection) {
+        Ok(store) => Ok(store),
+        Err(fault) => Err(told_of(rt, name, fault)),
+    }
+}
+
+/// The store of a database that is to take blobs, which is made if there is none. A database of this version, and one that is
+/// made, is written by its trees; one with trees of another program is opened by SQL. Why it can't be opened is told on
+/// standard error.
+pub fn opened_or_made<D: Databases>(
+    rt: &HostRuntime,
+    databases: &D,
+    name: &str,
+) -> Result<OpenedStore<D::Trees>, StoreFault>
+    ensures { IfOk result (λ store. counted (λ trees. trees.failures) (λ store. store.failures) store ≡ 0) }
+{
+    let trees = databases.trees(rt, name)?;
+    match trees.and_then(taking_blobs) {
+        Some(trees) => Ok(Opened::ByTrees(TreeStore::new(trees))),
+        None => filled_by_sql(rt, databases, name),
+    }
+}
+
+/// Closes the database of a store that took blobs.
+pub fn close<D: Databases>(databases: &D, store: OpenedStore<D::Trees>) {
+    databases.close(match store {
+        Opened::ByTrees(store) => store.into_store(),
+        Opened::BySql(store) => store.into_connection().into_store(),
+    });
+}

@@ -1,0 +1,175 @@
+//! The files of this machine that a database lies in.
+
+ghost use Rattle.std.specs.Prelude.{◌≡◌, IsTrue, IfOk};
+ghost use Rattle.sqlite.specs.Held.{IsNew};
+ghost use Rattle.sqlite_wal.specs.Files.{image_at, seen_image};
+ghost use Rattle.osm_openings.specs.Presumed.{ArePresumedTables};
+
+use crate::databases::Databases;
+use crate::reason::{Reason, Refusal, tell, told};
+use crate::trees::{close_files, connection_in, obstacle_in, trees_in};
+use osm_openings::Obstacle;
+use osm_store::StoreFault;
+use pbfrow_files::{
+    OpenFault, ReadFile, ReadFrom, WriteFile, WriteFrom, open_to_read, open_to_write,
+};
+use sqlite::{Alter, Connection};
+use sqlite_disk::{Disk, Files, Start, Unknown};
+use sqlite_store::FileStore;
+
+/// Whether SQLite takes a name for that of a database in memory, or for a URI.
+fn names_no_file(name: &str) -> bool {
+    name == ":memory:" || name.starts_with("file:")
+}
+
+/// The log and the file of a database that held what `S` says, to be written. Those that are missing are made. Until the
+/// database is closed, no other of these calls opens it.
+pub fn files_to_write<S: Start>(
+    rt: &HostRuntime,
+    name: &str,
+    start: S,
+) -> Result<Files<WriteFrom<S>>, Refusal>
+    ensures log { IfOk result (λ files. IsTrue (⟦<WriteFrom<S> as Disk>⟧.is_usable files.log)) }
+    ensures db { IfOk result (λ files. IsTrue (⟦<WriteFrom<S> as Disk>⟧.is_usable files.db)) }
+    ensures image { IfOk result (λ files. seen_image ⟦<WriteFrom<S> as Disk>⟧ files.log files.db ≡ image_at S.Start) }
+{
+    if names_no_file(name) {
+        return Err(OpenFault::NotAFile.into());
+    }
+    match open_to_write(rt, name, start) {
+        Ok(files) => Ok(files),
+        // its folder, since a file would be made
+        Err(OpenFault::Missing) => Err(Refusal {
+            fault: StoreFault::Disk,
+            reason: Reason::File(OpenFault::Missing),
+        }),
+        Err(fault) => Err(fault.into()),
+    }
+}
+
+/// The same, to be read alone. None is made, and nothing is written.
+pub fn files_to_read<S: Start>(
+    rt: &HostRuntime,
+    name: &str,
+    start: S,
+) -> Result<Files<ReadFrom<S>>, Refusal>
+    ensures log { IfOk result (λ files. IsTrue (⟦<ReadFrom<S> as Disk>⟧.is_usable files.log)) }
+    ensures db { IfOk result (λ files. IsTrue (⟦<ReadFrom<S> as Disk>⟧.is_usable files.db)) }
+    ensures image { IfOk result (λ files. seen_image ⟦<ReadFrom<S> as Disk>⟧ files.log files.db ≡ image_at S.Start) }
+{
+    if names_no_file(name) {
+        return Err(OpenFault::NotAFile.into());
+    }
+    match open_to_read(rt, name, start) {
+        Ok(files) => Ok(files),
+        Err(fault) => Err(fault.into()),
+    }
+}
+
+/// The same of a file of whose bytes nothing is claimed. Why they can't be opened is told on standard error.
+fn written(rt: &HostRuntime, name: &str) -> Result<Files<WriteFile>, StoreFault>
+    ensures log { IfOk result (λ files. IsTrue (⟦<WriteFile as Disk>⟧.is_usable files.log)) }
+    ensures db { IfOk result (λ files. IsTrue (⟦<WriteFile as Disk>⟧.is_usable files.db)) }
+    ensures presumed { IfOk result (λ files. ArePresumedTables (seen_image ⟦<WriteFile as Disk>⟧ files.log files.db)) }
+{
+    told(rt, name, files_to_write(rt, name, Unknown))
+}
+
+/// The same, to be read alone.
+fn read_alone(rt: &HostRuntime, name: &str) -> Result<Files<ReadFile>, StoreFault>
+    ensures log { IfOk result (λ files. IsTrue (⟦<ReadFile as Disk>⟧.is_usable files.log)) }
+    ensures db { IfOk result (λ files. IsTrue (⟦<ReadFile as Disk>⟧.is_usable files.db)) }
+    ensures presumed { IfOk result (λ files. ArePresumedTables (seen_image ⟦<ReadFile as Disk>⟧ files.log files.db)) }
+{
+    told(rt, name, files_to_read(rt, name, Unknown))
+}
+
+/// What stands in the way of opening a database, if that can be told.
+fn obstacle_of(rt: &HostRuntime, name: &str) -> Option<Obstacle> {
+    let files = files_to_read(rt, name, Unknown).ok()?;
+    obstacle_in(rt, files)
+}
+
+/// What opening a database by SQL came to. If it isn't opened, what stands in the way is told, or else what SQL says. SQL
+/// opens one whose tables have a trigger, which is told too: a call that would run it fails.
+fn explained<S: Alter>(
+    rt: &HostRuntime,
+    name: &str,
+    obstacle: Option<Obstacle>,
+    opened: Result<Connection<S>, Refusal>,
+) -> Result<Connection<S>, StoreFault>
+    requires { IfOk opened IsNew }
+    ensures { IfOk result IsNew }
+{
+    if let Some(Obstacle::Trigger) = obstacle {
+        tell(rt, name, &Reason::Obstacle(Obstacle::Trigger));
+    }
+    match (opened, obstacle) {
+        (Ok(connection), _) => Ok(connection),
+        (Err(refusal), _) if refusal.fault == StoreFault::Memory => told(rt, name, Err(refusal)),
+        (Err(refusal), Some(Obstacle::Trigger)) => Err(refusal.fault),
+        (Err(refusal), Some(obstacle)) => {
+            tell(rt, name, &Reason::Obstacle(obstacle));
+            Err(refusal.fault)
+        }
+        (Err(refusal), None) => told(rt, name, Err(refusal)),
+    }
+}
+
+/// The databases in files of this machine that take blobs. One that is missing is made.
+pub struct FilledFiles;
+
+impl Databases for FilledFiles {
+    type Trees = FileStore<WriteFile>;
+
+    fn trees(
+        &self,
+        rt: &HostRuntime,
+        name: &str,
+    ) -> Result<Option<FileStore<WriteFile>>, StoreFault> {
+        let files = written(rt, name)?;
+        told(rt, name, trees_in(rt, files))
+    }
+
+    fn connection(
+        &self,
+        rt: &HostRuntime,
+        name: &str,
+    ) -> Result<Connection<FileStore<WriteFile>>, StoreFault> {
+        let obstacle = obstacle_of(rt, name);
+        let files = written(rt, name)?;
+        explained(rt, name, obstacle, connection_in(rt, files))
+    }
+
+    fn close(&self, trees: FileStore<WriteFile>) {
+        close_files(trees)
+    }
+}
+
+/// The databases in files of this machine that are only asked. None is made, and nothing is written to its files.
+pub struct AskedFiles;
+
+impl Databases for AskedFiles {
+    type Trees = FileStore<ReadFile>;
+
+    fn trees(
+        &self,
+        rt: &HostRuntime,
+        name: &str,
+    ) -> Result<Option<FileStore<ReadFile>>, StoreFault> {
+        let files = read_alone(rt, name)?;
+        told(rt, name, trees_in(rt, files))
+    }
+
+    fn connection(
+        &self,
+        rt: &HostRuntime,
+        name: &str,
+    ) -> Result<Connection<FileStore<ReadFile>>, StoreFault> {
+        let obstacle = obstacle_of(rt, name);
+        let files = read_alone(rt, name)?;
+        explained(rt, name, obstacle, connection_in(rt, files))
+    }
+
+    fn close(&self, _trees: FileStore<ReadFile>) {}
+}

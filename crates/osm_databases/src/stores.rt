@@ -1,0 +1,95 @@
+//! The store that a connection has, one that is made where there is none, and trees that take blobs.
+
+ghost use Rattle.std.specs.Prelude.{◌≡◌, ◌≢◌, false, ⊤, IsTrue, IfOk, IfSome};
+ghost use Rattle.std.specs.FinMap.{empty};
+ghost use Rattle.sqlite.specs.State.{HasCleanDisk};
+ghost use Rattle.sqlite.specs.Held.{state};
+ghost use Rattle.sqlite_trees.specs.View.{IsClean};
+ghost use Rattle.osm_store.specs.Held.{HeldMap};
+ghost use Rattle.osm_store.specs.declared.schema.layout.Layout.TheVariants.{Tables};
+ghost use Rattle.osm_store.specs.LayoutHolding.{Holds};
+ghost use Rattle.osm_store.specs.Load.Asking.{JustAsks};
+ghost use Rattle.osm_store.specs.Schema.Bodies.{no_schema};
+ghost use Rattle.osm_tree_writes.specs.Appending.{IsStoreAt, HasNoMoreIndexes, HasNoMoreTrees};
+ghost use Rattle.osm_trees.specs.Below.{HoldsBelow};
+ghost use Rattle.osm_trees.specs.Ways.{MatchOpened, counted};
+
+use osm_store::{StoreFault, TableStore};
+use osm_tree_writes::takes_blobs;
+use osm_trees::{Opened, TreeStore};
+use sqlite::{Alter, Connection};
+use sqlite_trees::store::Store;
+
+/// A store over the trees of its database, or by SQL.
+pub type OpenedStore<S> = Opened<TreeStore<S>, TableStore<S>>;
+
+/// The store that a connection has. It holds what the connection holds, and nothing has been written. A fault is that of
+/// `TableStore::adopt`.
+pub fn adopted<S: Alter + Drop>(connection: Connection<S>) -> Result<TableStore<S>, StoreFault>
+    requires { (state S.Store connection).in_transaction ≡ false }
+    ensures held { IfOk result (λ store. HasCleanDisk (state S.Store store.connection) → (held : HeldMap) → Holds Tables (state S.Store connection) held → Holds Tables (state S.Store store.connection) held) }
+    ensures asks { IfOk result (λ store. JustAsks (state S.Store connection) (state S.Store store.connection)) }
+    ensures failures { IfOk result (λ store. store.failures ≡ 0) }
+{
+    match TableStore::adopt(connection) {
+        Ok(store) => Ok(store),
+        Err((fault, _)) => Err(fault),
+    }
+}
+
+/// The trees of a store that is made in a database without tables. It holds no blob. Where the database has a table, an index
+/// or a view, whosever it is, nothing is written, and the fault is `NotThisStore(None)`; any other is that of
+/// `TableStore::create`.
+pub fn made<S: Alter + Drop>(connection: Connection<S>) -> Result<TreeStore<S>, StoreFault>
+    requires { (state S.Store connection).in_transaction ≡ false }
+    ensures empty { IfOk result (λ trees. IsClean (S.Store.view trees.store) → HoldsBelow Tables (S.Store.view trees.store) empty) }
+    ensures bare { (state S.Store connection).now.schema ≢ no_schema → result ≡ Err (StoreFault.NotThisStore None) }
+    ensures failures { IfOk result (λ trees. trees.failures ≡ 0) }
+{
+    let store = match TableStore::create(connection) {
+        Ok(store) => store,
+        Err((fault, _)) => return Err(fault),
+    };
+    let trees = store.into_connection().into_store();
+    if trees.is_broken() {
+        return Err(StoreFault::Disk);
+    }
+    Ok(TreeStore::new(trees))
+}
+
+/// The store that a connection has, by SQL; or, where it has no store and no table of anybody's, the trees of one that is
+/// made, numbered as this program makes them.
+pub fn adopted_or_made<S: Alter + Drop>(
+    connection: Connection<S>,
+) -> Result<OpenedStore<S>, StoreFault>
+    requires { (state S.Store connection).in_transaction ≡ false }
+    ensures made { IfOk result (λ opened. MatchOpened opened (λ trees. IsClean (S.Store.view trees.store) → HoldsBelow Tables (S.Store.view trees.store) empty) (λ _. ⊤)) }
+    ensures adopted { IfOk result (λ opened. MatchOpened opened (λ _. ⊤) (λ store. JustAsks (state S.Store connection) (state S.Store store.connection))) }
+    ensures held { IfOk result (λ opened. MatchOpened opened (λ _. ⊤)
+        (λ store. HasCleanDisk (state S.Store store.connection) → (held : HeldMap) → Holds Tables (state S.Store connection) held → Holds Tables (state S.Store store.connection) held)) }
+    ensures failures { IfOk result (λ opened. counted (λ trees. trees.failures) (λ store. store.failures) opened ≡ 0) }
+{
+    let (fault, connection) = match TableStore::adopt(connection) {
+        Ok(store) => return Ok(Opened::BySql(store)),
+        Err(refused) => refused,
+    };
+    if fault != StoreFault::NotThisStore(None) {
+        return Err(fault);
+    }
+    Ok(Opened::ByTrees(made(connection)?))
+}
+
+/// The trees, if a put can keep all that the database has: they are the tables of a store and their indexes, and nothing
+/// beside them. Where there is more they are dropped: an index of one's own on a table of the store has to be written too,
+/// which SQL does.
+pub fn taking_blobs<S: Store + Drop>(trees: S) -> Option<S>
+    ensures same { IfSome result (λ kept. kept ≡ trees) }
+    ensures store { IfSome result (λ kept. IsStoreAt (S.Store.view kept).shape × HasNoMoreIndexes (S.Store.view kept).shape) }
+    ensures whole { IsStoreAt (S.Store.view trees).shape → HasNoMoreTrees (S.Store.view trees).shape → result ≡ Some trees }
+{
+    if takes_blobs(&trees) {
+        Some(trees)
+    } else {
+        None
+    }
+}

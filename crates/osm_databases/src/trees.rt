@@ -1,0 +1,93 @@
+//! The trees of files, opened by their list or by SQL, and what stands in the way.
+
+ghost use Rattle.std.specs.Prelude.{IsTrue, IfOk, IfSome};
+ghost use Rattle.sqlite.specs.Held.{IsNew};
+ghost use Rattle.sqlite_store.specs.FileStore.{view};
+ghost use Rattle.sqlite_wal.specs.Files.{seen_image};
+ghost use Rattle.osm_openings.specs.Presumed.{ArePresumedTables, ReadsAs};
+
+use crate::reason::{Reason, Refusal};
+use osm_openings::{Obstacle, find_obstacle, open_tables};
+use osm_store::StoreFault;
+use pbfrow_files::OpenFault;
+use sqlite::{Connection, Error as SqlError, ErrorCode};
+use sqlite_disk::{Disk, Files};
+use sqlite_pager::Options;
+use sqlite_store::FileStore;
+use sqlite_trees::store::Store;
+use std::hash::{BuildHasher, RandomState};
+
+/// How many pages the log of a database grows to before they are copied into it: 64 MiB. Each blob waits for the disk once,
+/// and each copy several times, so one copy serves many blobs.
+const CHECKPOINT_FRAMES: usize = 16_384;
+
+/// How a database is opened.
+fn options(rt: &HostRuntime) -> Result<Options, Refusal> {
+    let random = match RandomState::new(rt) {
+        Ok(random) => random,
+        Err(error) => return Err(OpenFault::Io(error).into()),
+    };
+    let mut options = Options::new(random.hash_one(&0u8));
+    options.checkpoint_frames = CHECKPOINT_FRAMES;
+    Ok(options)
+}
+
+/// The trees of files that are a database of this version. They are what the files' bytes read as, if these are those of a
+/// sound database.
+pub fn trees_in<D: Disk + Drop>(
+    rt: &HostRuntime,
+    files: Files<D>,
+) -> Result<Option<FileStore<D>>, Refusal>
+    requires log { IsTrue (D.Disk.is_usable files.log) }
+    requires db { IsTrue (D.Disk.is_usable files.db) }
+    requires presumed { ArePresumedTables (seen_image D.Disk files.log files.db) }
+    ensures reads { IfOk result (λ found. IfSome found (λ store. IsTrue (view store).is_clean → ReadsAs (seen_image D.Disk files.log files.db) (view store).trees)) }
+{
+    let options = options(rt)?;
+    match open_tables(rt.alloc(), files, options) {
+        Ok(found) => Ok(found),
+        Err(refused) => Err(refused.into()),
+    }
+}
+
+/// Files, opened by SQL.
+pub fn connection_in<D: Disk + Drop>(
+    rt: &HostRuntime,
+    files: Files<D>,
+) -> Result<Connection<FileStore<D>>, Refusal>
+    requires log { IsTrue (D.Disk.is_usable files.log) }
+    requires db { IsTrue (D.Disk.is_usable files.db) }
+    ensures { IfOk result IsNew }
+{
+    let options = options(rt)?;
+    match Connection::open_files(rt.alloc(), files, options) {
+        Ok(connection) => Ok(connection),
+        Err((error, _)) => Err(unopened(error)),
+    }
+}
+
+/// Why SQL doesn't open a database: memory was refused, or any other cause.
+fn unopened(error: SqlError) -> Refusal {
+    match error {
+        SqlError::SqliteFailure(ErrorCode::OutOfMemory) => StoreFault::Memory.into(),
+        _ => Refusal {
+            fault: StoreFault::Disk,
+            reason: Reason::Sql(error),
+        },
+    }
+}
+
+/// What stands in the way of files, if that can be told.
+pub fn obstacle_in<D: Disk + Drop>(rt: &HostRuntime, files: Files<D>) -> Option<Obstacle>
+    requires log { IsTrue (D.Disk.is_usable files.log) }
+    requires db { IsTrue (D.Disk.is_usable files.db) }
+{
+    let options = options(rt).ok()?;
+    find_obstacle(rt.alloc(), files, options).ok()?
+}
+
+/// Copies the log into the database, if it can be copied, and closes both files.
+pub fn close_files<D: Disk + Drop>(mut trees: FileStore<D>) {
+    trees.rollback();
+    let _copied = trees.checkpoint();
+}

@@ -1,0 +1,4 @@
+pub mod Catalog
+pub mod Obstacles
+pub mod Presumed
+pub mod Tables

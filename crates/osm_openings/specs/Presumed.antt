@@ -1,0 +1,96 @@
+-- What is presumed of two files that are opened with most of their pages unread, and what the trees are that such files read as.
+use Rattle.std.specs.Prelude.{◌≡◌, ℕ, ◌<◌, Bool, true, List, map, length, All, IsTrue, slice_get, Some, None, if◌then◌else◌, codes}
+use Rattle.sqlite_value.specs.Order.{Row, column}
+use Rattle.sqlite_value.specs.Keys.{plain}
+use Rattle.sqlite_trees.specs.Sound.{is_word}
+use Rattle.sqlite_trees.specs.Tree.{Trees}
+use Rattle.sqlite_trees.specs.declared.schema.Object.{Object}
+use Rattle.sqlite_trees.specs.declared.store.Shape.{Shape}
+use Rattle.sqlite_trees.specs.declared.store.Shape.TheVariants.{Table, Pageless, FrozenTable, FrozenIndex}
+use Rattle.sqlite_pages.specs.PageMap.{PageMap}
+use Rattle.sqlite_pool.specs.File.{in_use}
+use Rattle.sqlite_pool.specs.Stored.{Recovers}
+use Rattle.sqlite_wal.specs.Format.{be32}
+use Rattle.sqlite_wal.specs.PageSize.{size_in_file}
+use Rattle.sqlite_wal.specs.Recovery.{Image, IsIgnored}
+use Rattle.sqlite_disk.specs.declared.Disk.{Ghosts}
+use Rattle.sqlite_store.specs.declared.catalog.Wanted.{Wanted}
+use Rattle.sqlite_store.specs.declared.store.open.Unopened.{Unopened}
+use Rattle.sqlite_store.specs.Catalog.{page_number}
+use Rattle.sqlite_store.specs.Db.{rows_at, IsFile}
+use Rattle.sqlite_store.specs.Joined.{joined}
+use Rattle.sqlite_store.specs.Listing.{listed_from, file_trees}
+use Rattle.sqlite_store.specs.Roots.{has_index_root}
+use Rattle.sqlite_store.specs.Unopened.{state_of, image, wanted_by}
+use Rattle.osm_openings.specs.Catalog.{unrooted, entry, listings, ListsFirst}
+use Rattle.osm_openings.specs.Tables.{table_listings}
+
+-- the shape in which a tree of another program is read
+abbrev pub foreign_shape : Row → Bool → Shape
+foreign_shape row has_index_root = if is_word (codes "view") (column row 1) then Pageless else (if has_index_root then FrozenIndex plain else FrozenTable)
+
+-- these are the shapes and the REAL columns of the trees of these rows, of which the first are those of the objects
+pub record AreLayouts (objects : List Object) (rows : List Row) (roots : List Bool) (layouts : List (Shape × ℕ)) : Type 0 where
+  pub len : length layouts ≡ length rows
+  pub first : (tree : ℕ) (o : Object) → tree < length rows → slice_get objects tree ≡ Some o → slice_get layouts tree ≡ Some (o.shape, o.reals)
+  pub others : (tree : ℕ) (row : Row) (root : Bool) → slice_get objects tree ≡ None → slice_get rows tree ≡ Some row → slice_get roots tree ≡ Some root → slice_get layouts tree ≡ Some (foreign_shape row root, 0)
+
+-- the rows of `sqlite_schema`
+abbrev pub schema_rows : ℕ → PageMap → List Row
+schema_rows size pages = rows_at size (in_use size pages) Table 1
+
+-- a row of `sqlite_schema` that has no root page is that of a view
+abbrev pub IsTreeOrView : Row → Type 0
+IsTreeOrView row = page_number (column row 4) ≡ 0 → is_word (codes "view") (column row 1) ≡ true
+
+-- Where `sqlite_schema` lists these objects first, and else trees and views, the pages are a sound database of each list of
+-- trees that says what it says.
+abbrev pub AreSound : List Object → ℕ → PageMap → Type 0
+AreSound objects size pages =
+    ListsFirst entry objects (map unrooted (schema_rows size pages)) → All IsTreeOrView (schema_rows size pages) → (schema : List Wanted) (layouts : List (Shape × ℕ))
+    → AreLayouts objects (map unrooted (schema_rows size pages)) (map (has_index_root (in_use size pages)) (schema_rows size pages)) layouts
+    → listed_from 0 schema ≡ joined (map unrooted (schema_rows size pages)) layouts
+    → IsFile size schema pages
+
+-- the size of a page that the files name, the log first
+pub record NamesSize (image : Image) (size : ℕ) : Type 0 where
+  pub by_log : ¬ (IsIgnored image.log) → size ≡ be32 image.log 8
+  pub by_file : IsIgnored image.log → size ≡ size_in_file image.db
+
+-- If the files recover to any pages, these are a sound database. Of an empty database file nothing is presumed.
+abbrev pub IsPresumed : List Object → Image → Type 0
+IsPresumed objects image = (size : ℕ) (pages : PageMap) → NamesSize image size → Recovers size image pages → AreSound objects size pages
+
+-- the same of each list of objects that are the trees of a store that keeps elements in tables
+abbrev pub ArePresumedTables : Image → Type 0
+ArePresumedTables image = (objects : List Object) → listings 0 objects ≡ table_listings → IsPresumed objects image
+
+-- the trees are those of a sound database, and are what the bytes of these files read as
+pub record ReadsAs (image : Image) (trees : Trees) : Type 0 where
+  pub size : ℕ
+  pub pages : PageMap
+  pub schema : List Wanted
+  pub names : NamesSize image size
+  pub found : Recovers size image pages
+  pub sound : ∥ IsFile size schema pages ∥₁
+  pub read : trees ≡ file_trees size schema pages
+
+-- the rows of `sqlite_schema`, none of which is in the way, and the kinds of the trees' root pages, as they were read of these files
+pub record ReadsRows {D : Type 0} {g : Ghosts D} (old new : Unopened D g) (rows : List Row) (roots : List Bool) : Type 0 where
+  pub pages : PageMap
+  pub clean : IsTrue (state_of old).is_clean
+  pub size : (state_of new).page_size ≡ (state_of old).page_size
+  pub found : Recovers (state_of old).page_size (image old) pages
+  pub again : Recovers (state_of new).page_size (image new) pages
+  pub trees : All IsTreeOrView (schema_rows (state_of old).page_size pages)
+  pub rows_are : rows ≡ map unrooted (schema_rows (state_of old).page_size pages)
+  pub roots_are : roots ≡ map (has_index_root (in_use (state_of old).page_size pages)) (schema_rows (state_of old).page_size pages)
+
+-- the files have a list of trees, of which these objects are the first, and hold a database of it if that is presumed
+pub record Lists {D : Type 0} {g : Ghosts D} (objects : List Object) (old new : Unopened D g) : Type 0 where
+  pub pages : PageMap
+  pub clean : IsTrue (state_of old).is_clean
+  pub size : (state_of new).page_size ≡ (state_of old).page_size
+  pub found : Recovers (state_of old).page_size (image old) pages
+  pub again : Recovers (state_of new).page_size (image new) pages
+  pub file : NamesSize (image old) (state_of old).page_size → IsPresumed objects (image old) → IsFile (state_of old).page_size (wanted_by new) pages

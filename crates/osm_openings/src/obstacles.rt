@@ -1,0 +1,101 @@
+//! What stands in the way of a database that can't be opened.
+
+ghost use Rattle.std.specs.Prelude.{◌≡◌, IsTrue};
+ghost use Rattle.osm_openings.specs.Obstacles.{binds_a_store, is_of_a_store, is_virtual_table};
+
+use crate::opening::page_size;
+use sqlite_disk::{Disk, Files};
+use sqlite_pager::{Options, Pager};
+use sqlite_store::{OpenError, Unopened};
+use sqlite_trees::sound::{bytes_of, is_virtual, is_word, same_name};
+use sqlite_value::row::Row;
+use std::alloc::{AllocError, Global};
+use thiserror::Error;
+
+/// What stands in the way of opening a database file.
+#[derive(Clone, Copy, Debug, PartialEq, Eq, Error)]
+pub enum Obstacle {
+    #[error("not a database of SQLite")]
+    NoDatabase,
+    #[error("auto_vacuum is on: turn it off and run VACUUM, with sqlite3")]
+    AutoVacuum,
+    #[error("it has a trigger on one of pbfrow's tables")]
+    Trigger,
+    #[error("it has a virtual table")]
+    VirtualTable,
+    #[error("damaged: its header, its log or its list of tables")]
+    Damaged,
+}
+
+/// Where the header has the greatest root page, which is 0 unless auto_vacuum is on (fileformat2.html, section 1.3).
+const LARGEST_ROOT: usize = 52;
+
+/// Whether the header of the database file says that auto_vacuum is on. A file that can't be read doesn't say so.
+fn is_auto_vacuumed<D: Disk>(db: &mut D) -> bool
+    requires { IsTrue (D.Disk.is_usable db.old) }
+    ensures usable { IsTrue (D.Disk.is_usable db.new) }
+    ensures seen { D.Disk.seen db.new ≡ D.Disk.seen db.old }
+{
+    let mut root = [0; 4];
+    db.read_at(LARGEST_ROOT, &mut root).is_ok() && root != [0; 4]
+}
+
+/// Whether this is the name of a table of a store.
+fn is_of_a_store(name: &[u8]) -> bool
+    ensures { result ≡ is_of_a_store name.now }
+{
+    same_name(name, b"meta")
+        || same_name(name, b"blob")
+        || same_name(name, b"element")
+        || same_name(name, b"tag")
+        || same_name(name, b"link")
+}
+
+/// Whether a row tells of a trigger on a table of a store.
+fn binds_a_store(row: &Row) -> bool
+    ensures { result ≡ binds_a_store row.now }
+{
+    is_word(b"trigger", row.get(1)) && is_of_a_store(bytes_of(row.get(3)))
+}
+
+/// Whether a row tells of a table without pages of its own.
+fn is_virtual_table(row: &Row) -> bool
+    ensures { result ≡ is_virtual_table row.now }
+{
+    is_word(b"table", row.get(1)) && is_virtual(row.get(1), row.get(5))
+}
+
+/// What stands in the way among the rows of `sqlite_schema`.
+fn obstacle_among(rows: &[Row]) -> Option<Obstacle> {
+    if rows.iter().any(binds_a_store) {
+        Some(Obstacle::Trigger)
+    } else if rows.iter().any(is_virtual_table) {
+        Some(Obstacle::VirtualTable)
+    } else {
+        None
+    }
+}
+
+/// What stands in the way of these files, if that can be told. They are closed, and nothing of them is changed.
+pub fn find_obstacle<D: Disk + Drop>(
+    alloc: Global,
+    mut files: Files<D>,
+    options: Options,
+) -> Result<Option<Obstacle>, AllocError>
+    requires log { IsTrue (D.Disk.is_usable files.log) }
+    requires db { IsTrue (D.Disk.is_usable files.db) }
+{
+    if is_auto_vacuumed(&mut files.db) {
+        return Ok(Some(Obstacle::AutoVacuum));
+    }
+    let Some(size) = page_size(alloc, &mut files)? else {
+        return Ok(Some(Obstacle::NoDatabase));
+    };
+    let pager = Pager::new(alloc, files, size, options)?;
+    let mut unopened = Unopened::new(alloc, pager, &[])?;
+    match unopened.read_catalog() {
+        Ok(rows) => Ok(obstacle_among(rows.as_slice())),
+        Err(OpenError::OutOfMemory) => Err(AllocError),
+        Err(_) => Ok(Some(Obstacle::Damaged)),
+    }
+}

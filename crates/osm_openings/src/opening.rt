@@ -1,0 +1,167 @@
+//! A database file, opened by the list of its trees alone, or with a look at each page and tree.
+
+ghost use Rattle.std.specs.Prelude.{◌≡◌, ◌<◌, ◌^◌, None, length, false, IsTrue, IfOk, IfSome};
+ghost use Rattle.sqlite_trees.specs.Objects.{catalog_tree, object_row};
+ghost use Rattle.sqlite_store.specs.FileStore.{view, is_shielded, IsReady};
+ghost use Rattle.sqlite_store.specs.Listing.{listed_from};
+ghost use Rattle.sqlite_store.specs.Unopened.{state_of, wanted_by, AreUsable};
+ghost use Rattle.sqlite_wal.specs.Files.{seen_image};
+ghost use Rattle.sqlite_wal.specs.PageSize.{bytes_of};
+ghost use Rattle.sqlite_wal.specs.Reads.{AreClean};
+ghost use Rattle.osm_openings.specs.Catalog.{ListsFirst};
+ghost use Rattle.osm_openings.specs.Presumed.{IsPresumed, NamesSize, ReadsRows, ReadsAs, Lists};
+
+use crate::catalog::{are_first, are_trees_and_views, layouts, without_roots};
+use sqlite_disk::{Disk, Files};
+use sqlite_pager::{Options, Pager};
+use sqlite_store::{FileStore, OpenError, Unopened};
+use sqlite_trees::schema::Object;
+use sqlite_value::row::Row;
+use sqlite_wal::{Error, PageSize, probe_first_page, probe_page_size};
+use std::alloc::{AllocError, Global};
+
+/// Bytes 20 to 23 of a database's header, where each of its pages ends in a sum of its bytes.
+const WITH_SUMS: u32 = 0x0840_2020;
+
+/// The size of the pages of a database whose pages have no sums.
+pub(crate) fn page_size<D: Disk>(
+    alloc: Global,
+    files: &mut Files<D>,
+) -> Result<Option<PageSize>, AllocError>
+    requires log { IsTrue (D.Disk.is_usable files.old.log) }
+    requires db { IsTrue (D.Disk.is_usable files.old.db) }
+    ensures log { IsTrue (D.Disk.is_usable files.new.log) }
+    ensures db { IsTrue (D.Disk.is_usable files.new.db) }
+    ensures same { IfOk result (λ found. IfSome found (λ _. seen_image D.Disk files.new.log files.new.db ≡ seen_image D.Disk files.old.log files.old.db)) }
+    ensures named { IfOk result (λ found. IfSome found (λ size. AreClean D.Disk files.new.log files.new.db → NamesSize (seen_image D.Disk files.old.log files.old.db) (bytes_of size))) }
+{
+    let Ok(Some(size)) = probe_page_size(files) else {
+        return Ok(None);
+    };
+    match probe_first_page(alloc, files, size) {
+        Ok((b'S', reserved)) if reserved != WITH_SUMS => Ok(Some(size)),
+        Ok(_) => Ok(None),
+        Err(Error::OutOfMemory) => Err(AllocError),
+        Err(_) => Ok(None),
+    }
+}
+
+/// What a failure to read means: memory was refused, or any other cause.
+fn unread<T>(error: OpenError) -> Result<Option<T>, AllocError>
+    ensures { IfOk result (λ found. found ≡ None) }
+{
+    match error {
+        OpenError::OutOfMemory => Err(AllocError),
+        _ => Ok(None),
+    }
+}
+
+/// The rows of `sqlite_schema` less their root pages, and whether each root page begins an index; none where a trigger or a
+/// virtual table stands among them.
+fn read_rows<D: Disk>(
+    alloc: Global,
+    files: &mut Unopened<D>,
+) -> Result<Option<(Vec<Row>, Vec<bool>)>, AllocError>
+    requires { AreUsable files.old }
+    ensures usable { IfOk result (λ found. IfSome found (λ _. AreUsable files.new)) }
+    ensures len { IfOk result (λ found. IfSome found (λ read. length read.1.items ≡ length read.0.items)) }
+    ensures read { IfOk result (λ found. IfSome found (λ read. IsTrue (state_of files.new).is_clean → ReadsRows files.old files.new read.0.items read.1.items)) }
+{
+    let entries = match files.read_catalog() {
+        Ok(entries) => entries,
+        Err(error) => return unread(error),
+    };
+    if !are_trees_and_views(entries.as_slice()) {
+        return Ok(None);
+    }
+    let roots = match files.index_roots(entries.as_slice()) {
+        Ok(roots) => roots,
+        Err(error) => return unread(error),
+    };
+    let rows = without_roots(alloc, entries.as_slice())?;
+    Ok(Some((rows, roots)))
+}
+
+/// Whether the files list these objects first, and no trigger or virtual table. They are then given the whole list.
+fn list<D: Disk>(
+    alloc: Global,
+    files: &mut Unopened<D>,
+    objects: &[Object<'_>],
+) -> Result<bool, AllocError>
+    requires usable { AreUsable files.old }
+    requires few { length objects.now < 2 ^ 32 }
+    ensures usable { IfOk result (λ found. IsTrue found → AreUsable files.new) }
+    ensures listed { IfOk result (λ found. IsTrue found → ListsFirst object_row objects.now (listed_from 0 (wanted_by files.new))) }
+    ensures lists { IfOk result (λ found. IsTrue found → IsTrue (state_of files.new).is_clean → Lists objects.now files.old files.new) }
+{
+    let Some((rows, roots)) = read_rows(alloc, files)? else {
+        return Ok(false);
+    };
+    if !are_first(alloc, objects, rows.as_slice())? {
+        return Ok(false);
+    }
+    let layouts = layouts(alloc, objects, rows.as_slice(), roots.as_slice())?;
+    files.list_schema(rows.as_slice(), layouts.as_slice())
+}
+
+/// The trees of the files, if they are a database that lists these objects first, so that each has its place among them as
+/// its number. If they aren't, the files are closed. No tree is read but the list: that the others are sound is presumed.
+pub(crate) fn open_listed<D: Disk + Drop>(
+    alloc: Global,
+    mut files: Files<D>,
+    options: Options,
+    objects: &[Object<'_>],
+) -> Result<Option<FileStore<D>>, AllocError>
+    requires log { IsTrue (D.Disk.is_usable files.log) }
+    requires db { IsTrue (D.Disk.is_usable files.db) }
+    requires few { length objects.now < 2 ^ 32 }
+    requires presumed { IsPresumed objects.now (seen_image D.Disk files.log files.db) }
+    ensures ready { IfOk result (λ found. IfSome found IsReady) }
+    ensures plain { IfOk result (λ found. IfSome found (λ store. IsTrue (view store).is_clean → (view store).has_sums ≡ false)) }
+    ensures listed { IfOk result (λ found. IfSome found (λ store. IsTrue (view store).is_clean → ListsFirst object_row objects.now ((view store).trees catalog_tree))) }
+    ensures reads { IfOk result (λ found. IfSome found (λ store. IsTrue (view store).is_clean → ReadsAs (seen_image D.Disk files.log files.db) (view store).trees)) }
+{
+    let Some(size) = page_size(alloc, &mut files)? else {
+        return Ok(None);
+    };
+    let pager = Pager::new(alloc, files, size, options)?;
+    let mut unopened = Unopened::new(alloc, pager, &[])?;
+    if !list(alloc, &mut unopened, objects)? {
+        return Ok(None);
+    }
+    match unopened.open_trusted() {
+        Ok(store) => Ok(Some(store)),
+        Err((error, _)) => unread(error),
+    }
+}
+
+/// The trees of the files, if they are a sound database that lists these objects first, so that each has its place among
+/// them as its number. If they aren't, the files are closed.
+pub(crate) fn open_checked<D: Disk + Drop>(
+    alloc: Global,
+    mut files: Files<D>,
+    options: Options,
+    objects: &[Object<'_>],
+) -> Result<Option<FileStore<D>>, AllocError>
+    requires log { IsTrue (D.Disk.is_usable files.log) }
+    requires db { IsTrue (D.Disk.is_usable files.db) }
+    requires few { length objects.now < 2 ^ 32 }
+    ensures ready { IfOk result (λ found. IfSome found IsReady) }
+    ensures plain { IfOk result (λ found. IfSome found (λ store. IsTrue (view store).is_clean → (view store).has_sums ≡ false)) }
+    ensures shielded { IfOk result (λ found. IfSome found (λ store. IsTrue (view store).is_clean → is_shielded store)) }
+    ensures listed { IfOk result (λ found. IfSome found (λ store. IsTrue (view store).is_clean → ListsFirst object_row objects.now ((view store).trees catalog_tree))) }
+    ensures reads { IfOk result (λ found. IfSome found (λ store. IsTrue (view store).is_clean → ReadsAs (seen_image D.Disk files.log files.db) (view store).trees)) }
+{
+    let Some(size) = page_size(alloc, &mut files)? else {
+        return Ok(None);
+    };
+    let pager = Pager::new(alloc, files, size, options)?;
+    let mut unopened = Unopened::new(alloc, pager, &[])?;
+    if !list(alloc, &mut unopened, objects)? {
+        return Ok(None);
+    }
+    match unopened.open_numbered() {
+        Ok(store) => Ok(Some(store)),
+        Err((error, _)) => unread(error),
+    }
+}

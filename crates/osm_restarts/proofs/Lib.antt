@@ -1,0 +1,18 @@
+pub mod PlaceLemmas
+pub mod ListedLemmas
+pub mod SchemaLemmas
+pub mod ObjectLemmas
+pub mod StableLemmas
+pub mod LayoutLemmas
+pub mod FoundLemmas
+pub mod PremiseLemmas
+mod Entries
+mod Events
+mod Held
+mod Members
+mod OneList
+mod Places
+mod SameTrees
+mod Sizes
+mod Twins
+mod Unused
