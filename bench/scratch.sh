@@ -1,4 +1,4 @@
-# What the programs share that the gate doesn't see (bench/store, e2e/calls): their sources end in .in, and a scratch
+# What the programs share that the gate doesn't see (bench/store, bench/hash, e2e/calls): their sources end in .in, and a scratch
 # repository has such a program beside copies of crates of this one, where rt proves and builds it. What is built of those
 # crates already is taken over. The scripts that read this have set $top, this repository, and $work, the scratch one.
 
@@ -23,7 +23,7 @@ placed() {
 prepared() {
   local program=$1 folder=$2 libraries=$3 it
   mkdir -p "$work/crates/$program" && cp "$top/HANDLES" "$work/" || return
-  grep -E "^(${libraries// /|}):" "$top/crates.txt" >"$work/crates.txt" || return
+  grep -E "^(${libraries// /|}):" "$top/crates.txt" >"$work/crates.txt" || [ -z "$libraries" ] || return
   echo "$program: $libraries $4" >>"$work/crates.txt"
   for it in $libraries; do copied "$it" || return; done
   rm -rf "$work/crates/$program/src" "$work/crates/$program/proofs"
