@@ -1,12 +1,11 @@
 -- Differences and the sums of fronts undo each other.
-use Rattle.std.proofs.Common.{◌≡◌, ℕ, ◌+◌, ◌<◌, ◌≤◌, List, [], ◌∷◌, ◌++◌, map, length, get_or, drop, Bool, true, false, ◌&&◌, refl, sym, ap, ◌∙◌, ℤ, pos, ◌+ℤ◌, ◌-ℤ◌, FitsSigned, arith, Some, None, not, append_assoc}
+use Rattle.std.proofs.Common.{◌≡◌, ℕ, ◌+◌, ◌<◌, ◌≤◌, List, [], ◌∷◌, ◌++◌, map, length, get_or, set, take, drop, subst, Bool, true, false, ◌&&◌, refl, sym, ap, ◌∙◌, ℤ, pos, ◌+ℤ◌, ◌-ℤ◌, FitsSigned, arith, Some, None, not, append_assoc}
 use Rattle.std.specs.List.{AllByRecursion, list_all}
 use Rattle.std.specs.Int.{w64}
 use Rattle.std.proofs.lemmas.Int.{ints}
-use Rattle.std.proofs.lemmas.List.{drop_more, drop_all, append-nil}
+use Rattle.std.proofs.lemmas.List.{drop_more, drop_all, take_all, take_more_set, drop-set-lt, append-nil}
 use Rattle.osm_block.specs.declared.fault.BlockFault.TheVariants as faults
 use Rattle.osm_block.specs.Phases.{when}
-use Rattle.pbf_wire.specs.Readings.{sint64}
 use Rattle.osm_block.specs.Differences.{differences_from, front_sums, fits_i64, Diff}
 
 -- each of the sums with a number added
@@ -82,34 +81,43 @@ AllByRecursion-push P [] x all here = (here, tt)
 AllByRecursion-push P (y ∷ xs) x all here = (all.0, AllByRecursion-push P xs x all.1 here)
 
 -- the sums of what is left, each added to the last, go on from the sums so far
-pub sums_left-step : (xs : List ℕ) (i : ℕ) (last : ℤ) → i < length xs →
-    onto last (front_sums (map sint64 (drop i xs))) ≡ (last +ℤ sint64 (get_or xs i 0)) ∷ onto (last +ℤ sint64 (get_or xs i 0)) (front_sums (map sint64 (drop (i + 1) xs)))
-sums_left-step xs i last h =
-    let d : ℤ = sint64 (get_or xs i 0) in
-    let cut : drop i xs ≡ get_or xs i 0 ∷ drop (i + 1) xs = drop_more xs i 0 h in
-    let fused : onto last (onto d (front_sums (map sint64 (drop (i + 1) xs)))) ≡ onto (last +ℤ d) (front_sums (map sint64 (drop (i + 1) xs))) = onto-onto last d _ in
-    ap (λ l. onto last (front_sums (map sint64 l))) cut ∙ ap (λ l. (last +ℤ d) ∷ l) fused
+sums_left-step : (xs : List ℤ) (i : ℕ) (last d : ℤ) → i < length xs →
+    onto last (front_sums (drop i xs)) ≡ (last +ℤ get_or xs i d) ∷ onto (last +ℤ get_or xs i d) (front_sums (drop (i + 1) xs))
+sums_left-step xs i last d h =
+    let e : ℤ = get_or xs i d in
+    let cut : drop i xs ≡ e ∷ drop (i + 1) xs = drop_more xs i d h in
+    let fused : onto last (onto e (front_sums (drop (i + 1) xs))) ≡ onto (last +ℤ e) (front_sums (drop (i + 1) xs)) = onto-onto last e _ in
+    ap (λ l. onto last (front_sums l)) cut ∙ ap (λ l. (last +ℤ e) ∷ l) fused
 
-pub step : (vs ws total : List ℤ) (xs : List ℕ) (i : ℕ) (last d value : ℤ) → i < length xs →
-    vs ++ onto last (front_sums (map sint64 (drop i xs))) ≡ total → ws ≡ vs ++ value ∷ [] → d ≡ sint64 (get_or xs i 0) → value ≡ last +ℤ d →
-    ws ++ onto value (front_sums (map sint64 (drop (i + 1) xs))) ≡ total
-step vs ws total xs i last d value h sums pushed delta sum =
-    let cut : onto last (front_sums (map sint64 (drop i xs))) ≡ (last +ℤ sint64 (get_or xs i 0)) ∷ onto (last +ℤ sint64 (get_or xs i 0)) (front_sums (map sint64 (drop (i + 1) xs))) = sums_left-step xs i last h in
-    let is : value ≡ last +ℤ sint64 (get_or xs i 0) = cc in
-    let regrouped : (vs ++ value ∷ []) ++ onto value (front_sums (map sint64 (drop (i + 1) xs))) ≡ vs ++ (value ∷ onto value (front_sums (map sint64 (drop (i + 1) xs)))) = append_assoc vs (value ∷ []) _ in
-    cc
+pub step : (xs total : List ℤ) (i : ℕ) (last d value : ℤ) → i < length xs →
+    take i xs ++ onto last (front_sums (drop i xs)) ≡ total → value ≡ last +ℤ get_or xs i d →
+    take (i + 1) (set xs i value) ++ onto value (front_sums (drop (i + 1) (set xs i value))) ≡ total
+step xs total i last d value h sums sum =
+    let rest : List ℤ = onto value (front_sums (drop (i + 1) xs)) in
+    let cut : onto last (front_sums (drop i xs)) ≡ (last +ℤ get_or xs i d) ∷ onto (last +ℤ get_or xs i d) (front_sums (drop (i + 1) xs)) = sums_left-step xs i last d h in
+    let next : (last +ℤ get_or xs i d) ∷ onto (last +ℤ get_or xs i d) (front_sums (drop (i + 1) xs)) ≡ value ∷ rest = ap (λ v. v ∷ onto v (front_sums (drop (i + 1) xs))) (sym sum) in
+    ap (λ l. l ++ onto value (front_sums (drop (i + 1) (set xs i value)))) (take_more_set xs i value h)
+    ∙ ap (λ l. (take i xs ++ value ∷ []) ++ onto value (front_sums l)) (drop-set-lt (i + 1) xs i value (omega arith))
+    ∙ append_assoc (take i xs) (value ∷ []) rest
+    ∙ sym (ap (λ l. take i xs ++ l) (cut ∙ next)) ∙ sums
 
-pub stop : (vs total : List ℤ) (xs : List ℕ) (i : ℕ) (last d : ℤ) → i < length xs →
-    vs ++ onto last (front_sums (map sint64 (drop i xs))) ≡ total → d ≡ sint64 (get_or xs i 0) → (FitsSigned w64 (last +ℤ d) → ⊥) → list_all fits_i64 total ≡ false
-stop vs total xs i last d h sums delta outside =
-    let cut : onto last (front_sums (map sint64 (drop i xs))) ≡ (last +ℤ sint64 (get_or xs i 0)) ∷ onto (last +ℤ sint64 (get_or xs i 0)) (front_sums (map sint64 (drop (i + 1) xs))) = sums_left-step xs i last h in
-    let no_here : fits_i64 (last +ℤ sint64 (get_or xs i 0)) ≡ false = ap (λ e. fits_i64 (last +ℤ e)) (sym delta) ∙ fits_i64-none (last +ℤ d) outside in
-    let whole : total ≡ vs ++ ((last +ℤ sint64 (get_or xs i 0)) ∷ onto (last +ℤ sint64 (get_or xs i 0)) (front_sums (map sint64 (drop (i + 1) xs)))) = sym sums ∙ ap (λ l. vs ++ l) cut in
-    ap (list_all fits_i64) whole ∙ list_all-stops fits_i64 vs _ _ no_here
+pub step-fits : (xs : List ℤ) (i : ℕ) (value : ℤ) → i < length xs → AllByRecursion (FitsSigned w64) (take i xs) → FitsSigned w64 value → AllByRecursion (FitsSigned w64) (take (i + 1) (set xs i value))
+step-fits xs i value h all here =
+    subst (AllByRecursion (FitsSigned w64)) (sym (take_more_set xs i value h)) (AllByRecursion-push (FitsSigned w64) _ _ all here)
 
-pub finish : (vs total : List ℤ) (xs : List ℕ) (i : ℕ) (last : ℤ) → length xs ≤ i → vs ++ onto last (front_sums (map sint64 (drop i xs))) ≡ total → vs ≡ total
-finish vs total xs i last over sums =
-    sym (append-nil vs) ∙ sym (ap (λ l. vs ++ onto last (front_sums (map sint64 l))) (drop_all i xs over)) ∙ sums
+pub stop : (xs total : List ℤ) (i : ℕ) (last d : ℤ) → i < length xs →
+    take i xs ++ onto last (front_sums (drop i xs)) ≡ total → (FitsSigned w64 (last +ℤ get_or xs i d) → ⊥) → list_all fits_i64 total ≡ false
+stop xs total i last d h sums outside =
+    let cut : onto last (front_sums (drop i xs)) ≡ (last +ℤ get_or xs i d) ∷ onto (last +ℤ get_or xs i d) (front_sums (drop (i + 1) xs)) = sums_left-step xs i last d h in
+    let whole : total ≡ take i xs ++ ((last +ℤ get_or xs i d) ∷ onto (last +ℤ get_or xs i d) (front_sums (drop (i + 1) xs))) = sym sums ∙ ap (λ l. take i xs ++ l) cut in
+    ap (list_all fits_i64) whole ∙ list_all-stops fits_i64 (take i xs) _ _ (fits_i64-none _ outside)
+
+pub finish : (xs total : List ℤ) (i : ℕ) (last : ℤ) → length xs ≤ i → take i xs ++ onto last (front_sums (drop i xs)) ≡ total → xs ≡ total
+finish xs total i last over sums =
+    sym (append-nil xs) ∙ sym (ap (λ l. l ++ []) (take_all i xs over)) ∙ sym (ap (λ l. take i xs ++ onto last (front_sums l)) (drop_all i xs over)) ∙ sums
+
+pub finish-fits : (xs : List ℤ) (i : ℕ) → length xs ≤ i → AllByRecursion (FitsSigned w64) (take i xs) → AllByRecursion (FitsSigned w64) xs
+finish-fits xs i over all = subst (AllByRecursion (FitsSigned w64)) (take_all i xs over) all
 
 pub list_all-fits : (vs : List ℤ) → AllByRecursion (FitsSigned w64) vs → list_all fits_i64 vs ≡ true
 list_all-fits [] h = refl

@@ -34,3 +34,4 @@ pub mod DenseComplete
 pub mod FaultlessElements
 pub mod FaultlessNodes
 pub mod Faultless
+pub mod SmallLemmas

@@ -1,6 +1,7 @@
 //! The numbers of an array of a message.
 
-ghost use Rattle.std.specs.Prelude.{◌≡◌, ◌++◌, OnOk, IfOk, None, []};
+ghost use Rattle.std.specs.Prelude.{◌≡◌, ◌+◌, ◌++◌, ◌<◌, ◌≤◌, length, take, OnOk, IfOk, IfSome, None, []};
+ghost use Rattle.std.specs.List.{AllByRecursion};
 ghost use Rattle.std.specs.Option.{option_or};
 ghost use Rattle.pbf_wire.specs.Field.{content_of};
 ghost use Rattle.pbf_wire.specs.Readings.{numbers, packed};
@@ -53,34 +54,103 @@ impl NumberArray {
     }
 }
 
-/// Appends the numbers of a packed payload, up to its first fault, which it answers.
+/// The first eight numbers, where each takes one byte.
+fn eight_small(bytes: &[u8]) -> Option<[u64; 8]>
+    ensures long { IfSome result (λ _. 8 ≤ length bytes.now) }
+    ensures bytes { IfSome result (λ numbers. numbers ≡ take 8 bytes.now) }
+    ensures small { IfSome result (λ numbers. AllByRecursion (λ n. n < 128) numbers) }
+{
+    if bytes.len() < 8 {
+        return None;
+    }
+    // No test of one byte waits for another, so that the compiler makes one of all.
+    let front = (bytes[0] < 128) & (bytes[1] < 128) & (bytes[2] < 128) & (bytes[3] < 128);
+    let back = (bytes[4] < 128) & (bytes[5] < 128) & (bytes[6] < 128) & (bytes[7] < 128);
+    if !(front & back) {
+        return None;
+    }
+    Some([
+        u64::from(bytes[0]),
+        u64::from(bytes[1]),
+        u64::from(bytes[2]),
+        u64::from(bytes[3]),
+        u64::from(bytes[4]),
+        u64::from(bytes[5]),
+        u64::from(bytes[6]),
+        u64::from(bytes[7]),
+    ])
+}
+
+/// How many numbers are gathered before they are appended to an array.
+const RUN: usize = 32;
+
+/// Appends the numbers that are gathered, unless eight more have room beside them. Answers how many are gathered then.
+#[inline(always)]
+fn room_for_eight(run: &[u64; RUN], count: usize, out: &mut Vec<u64>) -> Result<usize, AllocError>
+    requires { count ≤ 32 }
+    ensures room { IfOk result (λ left. left + 8 ≤ 32) }
+    ensures same { IfOk result (λ left. out.new.items ++ take left run.now ≡ out.old.items ++ take count run.now) }
+{
+    if count + 8 <= RUN {
+        return Ok(count);
+    }
+    out.extend_from_slice(&run[..count])?;
+    Ok(0)
+}
+
+/// Puts eight numbers behind those that are gathered.
+#[inline(always)]
+fn put_eight(run: &mut [u64; RUN], count: usize, numbers: &[u64; 8])
+    requires { count + 8 ≤ 32 }
+    ensures { take (count + 8) run.new ≡ take count run.old ++ numbers.now }
+{
+    run[count] = numbers[0];
+    run[count + 1] = numbers[1];
+    run[count + 2] = numbers[2];
+    run[count + 3] = numbers[3];
+    run[count + 4] = numbers[4];
+    run[count + 5] = numbers[5];
+    run[count + 6] = numbers[6];
+    run[count + 7] = numbers[7];
+}
+
+/// Appends the numbers of a packed payload, up to its first fault, which it answers. They are gathered beside the array, so
+/// that only each run of them, and no single one, asks whether the array has room.
 fn unpack(payload: &[u8], out: &mut Vec<u64>) -> Result<Option<WireFault>, AllocError>
     ensures fault { IfOk result (λ f. f ≡ packed payload.now) }
     ensures numbers { OnOk result (out.new.items ≡ out.old.items ++ numbers payload.now) }
 {
     // No number takes less than a byte.
     out.try_reserve(payload.len())?;
+    let mut run = [0; RUN];
+    let mut count = 0;
     let mut at = 0;
+    // Numbers of one byte stand beside each other. From here on they are looked for, eight at a time.
+    let mut next = 0;
     while at < payload.len() {
-        // Most numbers take one byte.
-        let byte = payload[at];
-        if byte < 128 {
-            out.push(u64::from(byte))?;
-            at += 1;
-        } else {
-            match read_number(&payload[at..]) {
-                Ok((number, len)) => {
-                    out.push(number)?;
-                    at += len;
-                }
-                Err(fault) => {
-                    return Ok(Some(WireFault {
-                        kind: fault.kind,
-                        at,
-                    }));
-                }
+        count = room_for_eight(&run, count, out)?;
+        if next <= at {
+            if let Some(numbers) = eight_small(&payload[at..]) {
+                put_eight(&mut run, count, &numbers);
+                count += 8;
+                at += 8;
+                continue;
+            }
+            next = at + 8;
+        }
+        match read_number(&payload[at..]) {
+            Ok((number, len)) => {
+                run[count] = number;
+                count += 1;
+                at += len;
+            }
+            Err(fault) => {
+                let kind = fault.kind;
+                out.extend_from_slice(&run[..count])?;
+                return Ok(Some(WireFault { kind, at }));
             }
         }
     }
+    out.extend_from_slice(&run[..count])?;
     Ok(None)
 }

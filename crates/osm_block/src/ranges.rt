@@ -1,7 +1,7 @@
 //! Tests of numbers by their ranges, and of indexes by the table.
 
-ghost use Rattle.std.specs.Prelude.{◌≡◌, ◌≤ℤ◌, ◌+ℤ◌, ◌-ℤ◌, ◌*ℤ◌, nat_lt, pos, negsuc, true, ◌%◌, ◌^◌};
-ghost use Rattle.std.specs.List.{list_all};
+ghost use Rattle.std.specs.Prelude.{◌≡◌, ◌<◌, ◌≤◌, ◌≤ℤ◌, ◌+ℤ◌, ◌-ℤ◌, ◌*ℤ◌, nat_lt, pos, negsuc, true, unsigned_abs, IsTrue, ◌%◌, ◌^◌};
+ghost use Rattle.std.specs.List.{list_all, AllByRecursion};
 ghost use Rattle.osm_value.specs.Ranges.{is_wide, is_version, is_uid, passes};
 ghost use Rattle.osm_block.specs.Block.{coordinate, time, version as version_of};
 ghost use Rattle.osm_block.specs.Phases.{coordinate_in_range};
@@ -14,11 +14,52 @@ const LEAST: i128 = -4_611_686_018_427_387_903;
 /// The greatest of them.
 const MOST: i128 = 4_611_686_018_427_387_903;
 
+/// Whether the numbers, without their signs, are all below 2^36, as those of a real map are. Several are tested at once.
+fn are_small(numbers: &[i64]) -> bool
+    ensures { IsTrue result → AllByRecursion (λ n. unsigned_abs n < 2 ^ 36) numbers.now }
+{
+    let mut bits = 0;
+    for number in numbers {
+        bits |= number.unsigned_abs();
+    }
+    bits < 1 << 36
+}
+
 /// Whether all of the numbers are ids, references or coordinates.
 pub(crate) fn all_wide(numbers: &[i64]) -> bool
     ensures { result ≡ list_all is_wide numbers.now }
 {
-    numbers.iter().all(|number| wide_in_range(*number))
+    are_small(numbers) || numbers.iter().all(|number| wide_in_range(*number))
+}
+
+/// Whether the units, their size and their offset are all so small that what they stand for is in the range. Those of a real
+/// map are.
+fn are_small_units(offset: i64, size: i32, units: &[i64]) -> bool
+    ensures offset { IsTrue result → unsigned_abs offset ≤ 2 ^ 60 }
+    ensures size { IsTrue result → unsigned_abs size ≤ 2 ^ 24 }
+    ensures units { IsTrue result → AllByRecursion (λ n. unsigned_abs n < 2 ^ 36) units.now }
+{
+    offset.unsigned_abs() <= 1 << 60 && size.unsigned_abs() <= 1 << 24 && are_small(units)
+}
+
+/// Whether all of the times are in the range.
+pub(crate) fn all_times(date_granularity: i32, units: &[i64]) -> bool
+    ensures { result ≡ list_all (λ t. is_wide (time date_granularity t)) units.now }
+{
+    are_small_units(0, date_granularity, units)
+        || units
+            .iter()
+            .all(|units| time_in_range(date_granularity, *units))
+}
+
+/// Whether all of the coordinates are in the range.
+pub(crate) fn all_coordinates(offset: i64, granularity: i32, units: &[i64]) -> bool
+    ensures { result ≡ list_all (coordinate_in_range offset granularity) units.now }
+{
+    are_small_units(offset, granularity, units)
+        || units
+            .iter()
+            .all(|units| coordinate_in_range(offset, granularity, *units))
 }
 
 /// Whether a table of that many texts has all of the indexes, which are numbers of 32 bits.

@@ -16,7 +16,7 @@ use super::fields::DenseFields;
 use crate::deltas::absolute;
 use crate::fault::BlockError;
 use crate::number_array::NumberArray;
-use crate::ranges::{all_wide, coordinate_in_range, time_in_range};
+use crate::ranges::{all_coordinates, all_times, all_wide};
 use crate::scale::Scale;
 use osm_value::version_in_range;
 use pbf_wire::to_i32;
@@ -130,29 +130,22 @@ fn uid_fits(uid: i64) -> bool
 fn all_versions(versions: &[i32]) -> bool
     ensures { result ≡ list_all (λ v. passes is_version (version_of v)) versions.now }
 {
-    versions.iter().all(|version| version_fits(*version))
+    // None of these tests stops at the first number that fails, so that several are tested at once.
+    let mut all = true;
+    for version in versions {
+        all &= version_fits(*version);
+    }
+    all
 }
 
 fn all_uids(uids: &[i64]) -> bool
     ensures { result ≡ list_all is_uid uids.now }
 {
-    uids.iter().all(|uid| uid_fits(*uid))
-}
-
-fn all_times(date_granularity: i32, units: &[i64]) -> bool
-    ensures { result ≡ list_all (λ t. is_wide (time date_granularity t)) units.now }
-{
-    units
-        .iter()
-        .all(|units| time_in_range(date_granularity, *units))
-}
-
-fn all_coordinates(offset: i64, granularity: i32, units: &[i64]) -> bool
-    ensures { result ≡ list_all (coordinate_in_range offset granularity) units.now }
-{
-    units
-        .iter()
-        .all(|units| coordinate_in_range(offset, granularity, *units))
+    let mut all = true;
+    for uid in uids {
+        all &= uid_fits(*uid);
+    }
+    all
 }
 
 /// Whether the numbers of the arrays are in their ranges.
@@ -170,12 +163,16 @@ pub(crate) fn arrays_in_range(scale: &Scale, arrays: &DenseArrays) -> bool
 fn is_user(index: i64, texts: usize) -> bool
     ensures { result ≡ is_index texts index }
 {
-    index >= 0 && (index as u64) < texts as u64
+    (index >= 0) & (index.cast_unsigned() < texts as u64)
 }
 
 /// Whether a table of that many texts has all of the users.
 pub(crate) fn all_users(users: &[i64], texts: usize) -> bool
     ensures { result ≡ list_all (is_index texts) users.now }
 {
-    users.iter().all(|user| is_user(*user, texts))
+    let mut all = true;
+    for user in users {
+        all &= is_user(*user, texts);
+    }
+    all
 }

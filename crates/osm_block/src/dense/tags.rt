@@ -44,6 +44,10 @@ pub(crate) fn node_tags<'a>(
     ensures texts { IfOk result (λ r. all_there (map (λ t. (t.0.now, t.1.now)) r.0.items) ≡ texts_at (map (λ t. t.now) table.now) (front_pairs (drop at keys_vals.now)).0) }
     ensures rest { IfOk result (λ r. drop r.1 keys_vals.now ≡ (front_pairs (drop at keys_vals.now)).1) }
 {
+    // Most nodes have no tags.
+    if keys_vals.len() - at >= 2 && keys_vals[at] == 0 {
+        return Ok((Vec::new(alloc), at + 1));
+    }
     let mut tags = Vec::with_capacity(alloc, pair_count(keys_vals, at))?;
     let mut index = at;
     while keys_vals.len() - index >= 2 {

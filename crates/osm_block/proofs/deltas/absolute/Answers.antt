@@ -1,28 +1,32 @@
-use Rattle.std.proofs.lemmas.Int.{to_z-of_z}
-use Rattle.std.proofs.Common.{rules, ◌∙◌, ◌≡◌, w64, FitsSigned, to_z, of_z}
-use Rattle.osm_block.proofs.DifferencesLemmas.{onto-zero, step, AllByRecursion-push, stop, finish, gives, stops}
+use Rattle.std.proofs.Common.{◌≡◌, ◌≤◌, ◌^◌, ◌∙◌, subst, ap, sym, arith, length, map, false, refl}
+use Rattle.std.proofs.lemmas.List.{take_at}
+use Rattle.std.specs.Prelude.{unsigned_abs}
+use Rattle.std.specs.List.{list_all, AllByRecursion}
+use Rattle.pbf_wire.specs.Readings.{sint64}
+use Rattle.osm_block.specs.Differences.{front_sums, fits_i64}
+use Rattle.osm_block.proofs.DifferencesLemmas.{gives, stops}
+use Rattle.osm_block.proofs.SmallLemmas.{small_differences}
 use Rattle.osm_block.proofs.deltas.absolute.Goals as goal
 
-pub loop-delta-init : goal.loop-delta-init
-loop-delta-init c = record {
-  sums = rw c.in_ok-values.ensures.items (onto-zero _);
-  fit = rw c.in_ok-values.ensures.items tt;
-}
+pub add_up_small-requires-clause-small : goal.add_up_small-requires-clause-small
+add_up_small-requires-clause-small c =
+    let are : c.deref_mut.result.now ≡ map sint64 c.args.deltas.now = c.deref_mut.ensures.value ∙ c.in_ok-values.ensures in
+    subst (AllByRecursion (λ d. unsigned_abs d ≤ 2 ^ 41)) (sym are) (small_differences c.args.deltas.now (c.if-are_small.ensures.small refl))
 
-pub loop-delta-preserved : goal.loop-delta-preserved
-loop-delta-preserved c =
-    let fits : FitsSigned w64 c.in-Some.value = rw c.in-Some.ensures.1 c.in-Some.ensures.0 in
-    let fits_delta : FitsSigned w64 c.unzigzag.result = search rules in
-    let value_is : to_z w64 (of_z w64 c.in-Some.value) ≡ c.in-Some.value = to_z-of_z w64 _ fits in
-    record {
-      sums = step _ _ _ _ _ _ _ _ c.loop-delta-test.true c.loop-delta.invariant.sums c.in_ok-push.ensures.items (to_z-of_z w64 _ fits_delta ∙ c.unzigzag.ensures.exact) (value_is ∙ c.in-Some.ensures.1);
-      fit = rw c.in_ok-push.ensures.items (AllByRecursion-push (FitsSigned w64) _ _ c.loop-delta.invariant.fit (rw value_is fits));
-    }
+pub returns-then-are_small : goal.returns-then-are_small
+returns-then-are_small c =
+    let are : c.deref_mut.result.now ≡ map sint64 c.args.deltas.now = c.deref_mut.ensures.value ∙ c.in_ok-values.ensures in
+    let long : length c.add_up_small.new.numbers ≡ c.in_ok-values.values.len = omega (arith, c.add_up_small.auto.numbers, c.deref_mut.ensures.len) in
+    rw (take_at c.add_up_small.new.numbers _ _ long) (gives _ _ (c.add_up_small.ensures.sums ∙ ap front_sums are) c.add_up_small.ensures.fit)
 
-pub returns-in-None : goal.returns-in-None
-returns-in-None c =
-    let fits : FitsSigned w64 c.unzigzag.result = search rules in
-    stops _ (stop _ _ _ _ _ _ c.loop-delta-test.true c.loop-delta.invariant.sums (to_z-of_z w64 _ fits ∙ c.unzigzag.ensures.exact) c.in-None.ensures)
+pub returns-then-add_up : goal.returns-then-add_up
+returns-then-add_up c =
+    let are : c.deref_mut-2.result.now ≡ map sint64 c.args.deltas.now = c.deref_mut-2.ensures.value ∙ c.in_ok-values.ensures in
+    let long : length c.add_up.new.numbers ≡ c.in_ok-values.values.len = omega (arith, c.add_up.auto.numbers, c.deref_mut-2.ensures.len) in
+    rw (take_at c.add_up.new.numbers _ _ long) (gives _ _ (c.if-add_up.ensures.sums refl ∙ ap front_sums are) (c.if-add_up.ensures.fit refl))
 
-pub returns : goal.returns
-returns c = gives _ _ (finish _ _ _ _ _ c.loop-delta-test.false c.loop-delta.invariant.sums) c.loop-delta.invariant.fit
+pub returns-else-add_up : goal.returns-else-add_up
+returns-else-add_up c =
+    let are : c.deref_mut-2.result.now ≡ map sint64 c.args.deltas.now = c.deref_mut-2.ensures.value ∙ c.in_ok-values.ensures in
+    let fails : list_all fits_i64 (front_sums (map sint64 c.args.deltas.now)) ≡ false = ap (λ l. list_all fits_i64 (front_sums l)) (sym are) ∙ sym c.if-add_up.ensures.fits in
+    stops _ fails

@@ -1,29 +1,44 @@
-use Rattle.std.proofs.Common.{rules, ◌≡◌, [], ◌∷◌, ◌++◌, ◌+◌, ◌<◌, get_or, length, sym, ap, ◌∙◌, Ok, arith, append-nil}
-use Rattle.std.proofs.lemmas.List.{take_rest}
+use Rattle.std.proofs.Common.{rules, ◌≡◌, ◌≤◌, List, ℕ, [], ◌∷◌, ◌++◌, ◌+◌, length, map, take, drop, sym, ap, ◌∙◌, Ok, arith, append-nil, append_assoc}
+use Rattle.std.proofs.lemmas.List.{take_rest, take_more_set, length-set, length-drop}
 use Rattle.pbf_wire.specs.Readings.{front, first_fault}
-use Rattle.osm_block.proofs.RowLemmas.{row_from, row_at_number, row_at_byte, row_at_fault, row_at_end, grown}
+use Rattle.osm_block.proofs.RowLemmas.{row_from, row_at_number, row_at_eight, row_at_fault, row_at_end, grown, grown_more, fault_behind}
 use Rattle.osm_block.proofs.number_array.unpack.Goals as goal
-
-pub loop-at-preserved-then-byte-lt128 : goal.loop-at-preserved-then-byte-lt128
-loop-at-preserved-then-byte-lt128 c =
-    let w = c.args.payload.now in
-    let inside : c.loop-at.at < length w = c.loop-at-test.true in
-    let e : row_from c.loop-at.at w ≡ Ok (get_or w c.loop-at.at 0) ∷ row_from (c.loop-at.at + 1) w = row_at_byte c.loop-at.at w inside c.if-byte-lt128.true in
-    record {
-      within = search rules;
-      so_far = grown _ _ _ _ _ _ (c.in_ok-push.ensures.items ∙ ap (λ n. c.loop-at.out.items ++ n ∷ []) c.from.ensures) e c.loop-at.invariant.so_far;
-      fault = sym (ap first_fault e) ∙ c.loop-at.invariant.fault;
-    }
 
 pub loop-at-preserved : goal.loop-at-preserved
 loop-at-preserved c =
     let w = c.args.payload.now in
+    let count : ℕ = c.in_ok-count.count in
+    let run : List ℕ = c.loop-at.run in
+    let out : List ℕ = c.room_for_eight.new.out.items in
     let e : row_from c.loop-at.at w ≡ Ok c.in-Ok.number ∷ row_from (c.loop-at.at + c.in-Ok.len) w =
     row_at_number c.loop-at.at w _ _ c.in-Ok.ensures.within.0 (rw take_rest at c.in-Ok.ensures.exact) in
+    let gathered : (out ++ take count run) ++ front (row_from c.loop-at.at w) ≡ _ = ap (λ l. l ++ front (row_from c.loop-at.at w)) c.in_ok-count.ensures.same ∙ c.loop-at.invariant.so_far in
+    let pushed : out ++ take (count + 1) _ ≡ (out ++ take count run) ++ c.in-Ok.number ∷ [] = ap (λ l. out ++ l) (take_more_set run count c.in-Ok.number (omega (arith, c.in_ok-count.ensures.room, c.loop-at.invariant.long))) ∙ sym (append_assoc out (take count run) _) in
     record {
       within = search rules;
-      so_far = grown _ _ _ _ _ _ c.in_ok-push-in-Ok.ensures.items e c.loop-at.invariant.so_far;
+      long = length-set run count c.in-Ok.number ∙ c.loop-at.invariant.long;
+      room = omega (arith, c.in_ok-count.ensures.room);
+      so_far = grown _ _ _ _ _ _ pushed e gathered;
       fault = sym (ap first_fault e) ∙ c.loop-at.invariant.fault;
+    }
+
+pub loop-at-preserved-in-Some : goal.loop-at-preserved-in-Some
+loop-at-preserved-in-Some c =
+    let w = c.args.payload.now in
+    let count : ℕ = c.in_ok-count.count in
+    let out : List ℕ = c.room_for_eight.new.out.items in
+    let numbers : List ℕ = c.in-Some.numbers in
+    let long : 8 ≤ length (drop c.loop-at.at w) = rw take_rest at c.in-Some.ensures.long in
+    let e : row_from c.loop-at.at w ≡ map Ok numbers ++ row_from (c.loop-at.at + 8) w =
+    row_at_eight numbers c.loop-at.at w long (rw take_rest at c.in-Some.ensures.bytes) c.in-Some.ensures.small in
+    let gathered : (out ++ take count c.loop-at.run) ++ front (row_from c.loop-at.at w) ≡ _ = ap (λ l. l ++ front (row_from c.loop-at.at w)) c.in_ok-count.ensures.same ∙ c.loop-at.invariant.so_far in
+    let pushed : out ++ take (count + 8) c.put_eight.new.run ≡ (out ++ take count c.loop-at.run) ++ numbers = ap (λ l. out ++ l) c.put_eight.ensures ∙ sym (append_assoc out (take count c.loop-at.run) numbers) in
+    record {
+      within = omega (arith, length-drop c.loop-at.at w);
+      long = c.put_eight.array_long;
+      room = omega (arith, c.in_ok-count.ensures.room);
+      so_far = grown_more _ _ _ _ _ _ pushed e gathered;
+      fault = sym (ap first_fault e ∙ fault_behind numbers _) ∙ c.loop-at.invariant.fault;
     }
 
 pub returns-in-Err-clause-fault : goal.returns-in-Err-clause-fault
@@ -35,7 +50,9 @@ pub returns-in-Err-clause-numbers : goal.returns-in-Err-clause-numbers
 returns-in-Err-clause-numbers c =
     let w = c.args.payload.now in
     let e = row_at_fault c.loop-at.at w c.in-Err.fault (omega arith) (rw take_rest at c.in-Err.ensures.exact) in
-    sym (append-nil c.loop-at.out.items) ∙ sym (ap (λ r. c.loop-at.out.items ++ front r) e) ∙ c.loop-at.invariant.so_far
+    let gathered : List ℕ = c.room_for_eight.new.out.items ++ take c.in_ok-count.count c.loop-at.run in
+    c.in_ok-extend_from_slice-in-Err.ensures.items ∙ sym (append-nil gathered) ∙ sym (ap (λ r. gathered ++ front r) e)
+    ∙ ap (λ l. l ++ front (row_from c.loop-at.at w)) c.in_ok-count.ensures.same ∙ c.loop-at.invariant.so_far
 
 pub returns-clause-fault : goal.returns-clause-fault
 returns-clause-fault c =
@@ -47,4 +64,5 @@ pub returns-clause-numbers : goal.returns-clause-numbers
 returns-clause-numbers c =
     let w = c.args.payload.now in
     let e : row_from c.loop-at.at w ≡ [] = row_at_end c.loop-at.at w (omega arith) in
-    sym (append-nil c.loop-at.out.items) ∙ sym (ap (λ r. c.loop-at.out.items ++ front r) e) ∙ c.loop-at.invariant.so_far
+    let gathered : List ℕ = c.loop-at.out.items ++ take c.loop-at.count c.loop-at.run in
+    c.in_ok-extend_from_slice.ensures.items ∙ sym (append-nil gathered) ∙ sym (ap (λ r. gathered ++ front r) e) ∙ c.loop-at.invariant.so_far

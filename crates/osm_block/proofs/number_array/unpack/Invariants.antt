@@ -1,4 +1,4 @@
-use Rattle.std.proofs.Common.{◌≡◌, ◌≤◌, ◌++◌, ◌-◌, length}
+use Rattle.std.proofs.Common.{◌≡◌, ◌≤◌, ◌++◌, ◌-◌, length, take}
 use Rattle.pbf_wire.specs.Readings.{front, first_fault, numbers, packed}
 use Rattle.osm_block.proofs.RowLemmas.{row_from}
 use Rattle.osm_block.proofs.number_array.unpack.Given as goal
@@ -6,7 +6,9 @@ use Rattle.osm_block.proofs.number_array.unpack.Given as goal
 abbrev pub invariant-loop-at : goal.invariant-loop-at
 invariant-loop-at l = record {
   within : l.at ≤ length l.payload;
-  so_far : l.out.items ++ front (row_from l.at l.payload) ≡ l.fn.out.items ++ numbers l.payload;
+  long : length l.run ≡ 32;
+  room : l.count ≤ 32;
+  so_far : (l.out.items ++ take l.count l.run) ++ front (row_from l.at l.payload) ≡ l.fn.out.items ++ numbers l.payload;
   fault : first_fault (row_from l.at l.payload) ≡ packed l.payload;
 }
 
