@@ -67,6 +67,15 @@ pub record AreReady (b : Context) (c : DenseArrays) : Type 0 where
   pub tags_in_table : list_all (is_index (length b.table)) (indexes_of (node_pairs (length c.ids.items) c.keys_vals.items)) ≡ true
   pub users_in_table : list_all (is_index (length b.table)) c.users.items ≡ true
 
+-- each node has all of an info but its visibility
+pub record HaveInfos (c : DenseArrays) : Type 0 where
+  pub versions : length c.versions.items ≡ length c.ids.items
+  pub timestamps : length c.timestamps.items ≡ length c.ids.items
+  pub changesets : length c.changesets.items ≡ length c.ids.items
+  pub uids : length c.uids.items ≡ length c.ids.items
+  pub users : length c.users.items ≡ length c.ids.items
+  pub visible : length c.visible.items ≡ 0
+
 -- what stands at an index of an array that may be empty
 abbrev pub at_index : {A B : Type 0} → ℕ → (A → Option B) → List A → ℕ → Option B
 at_index n meaning xs k = slice_index_or (values_for n (map meaning xs)) k None

@@ -10,11 +10,16 @@ ghost use Rattle.osm_block.specs.FieldsLeft.{numbers_in, fault_in};
 use pbf_wire::{Value, WireFault, read_number};
 use std::alloc::{AllocError, Global};
 
+/// How many numbers are gathered before they are appended to an array.
+const RUN: usize = 32;
+
 /// The numbers of an array, and the first fault of its packed payloads.
 #[derive(Drop)]
 pub struct NumberArray {
     pub numbers: Vec<u64>,
     pub fault: Option<WireFault>,
+    /// Where numbers of a payload are gathered before they are appended. What is left here means nothing.
+    run: [u64; RUN],
 }
 
 impl NumberArray {
@@ -25,6 +30,7 @@ impl NumberArray {
         NumberArray {
             numbers: Vec::new(alloc),
             fault: None,
+            run: [0; RUN],
         }
     }
 
@@ -45,7 +51,7 @@ impl NumberArray {
         match value {
             Value::Number(number) => self.numbers.push(number)?,
             Value::Bytes(payload) => {
-                let fault = unpack(payload, &mut self.numbers)?;
+                let fault = unpack(payload, &mut self.run, &mut self.numbers)?;
                 self.fault = self.fault.or(fault);
             }
             Value::Fixed64(_) | Value::Fixed32(_) => {}
@@ -81,9 +87,6 @@ fn eight_small(bytes: &[u8]) -> Option<[u64; 8]>
     ])
 }
 
-/// How many numbers are gathered before they are appended to an array.
-const RUN: usize = 32;
-
 /// Appends the numbers that are gathered, unless eight more have room beside them. Answers how many are gathered then.
 #[inline(always)]
 fn room_for_eight(run: &[u64; RUN], count: usize, out: &mut Vec<u64>) -> Result<usize, AllocError>
@@ -114,40 +117,43 @@ fn put_eight(run: &mut [u64; RUN], count: usize, numbers: &[u64; 8])
     run[count + 7] = numbers[7];
 }
 
-/// Appends the numbers of a packed payload, up to its first fault, which it answers. They are gathered beside the array, so
-/// that only each run of them, and no single one, asks whether the array has room.
-fn unpack(payload: &[u8], out: &mut Vec<u64>) -> Result<Option<WireFault>, AllocError>
+/// Appends the numbers of a packed payload, up to its first fault, which it answers. They are gathered in `run`, so that only
+/// each run of them, and no single one, asks whether the array has room.
+fn unpack(
+    payload: &[u8],
+    run: &mut [u64; RUN],
+    out: &mut Vec<u64>,
+) -> Result<Option<WireFault>, AllocError>
     ensures fault { IfOk result (λ f. f ≡ packed payload.now) }
     ensures numbers { OnOk result (out.new.items ≡ out.old.items ++ numbers payload.now) }
 {
     // No number takes less than a byte.
     out.try_reserve(payload.len())?;
-    let mut run = [0; RUN];
     let mut count = 0;
     let mut at = 0;
-    // Numbers of one byte stand beside each other. From here on they are looked for, eight at a time.
-    let mut next = 0;
     while at < payload.len() {
-        count = room_for_eight(&run, count, out)?;
-        if next <= at {
-            if let Some(numbers) = eight_small(&payload[at..]) {
-                put_eight(&mut run, count, &numbers);
-                count += 8;
-                at += 8;
-                continue;
-            }
-            next = at + 8;
+        count = room_for_eight(run, count, out)?;
+        // Numbers of one byte stand beside each other.
+        if let Some(numbers) = eight_small(&payload[at..]) {
+            put_eight(run, count, &numbers);
+            count += 8;
+            at += 8;
+            continue;
         }
-        match read_number(&payload[at..]) {
-            Ok((number, len)) => {
-                run[count] = number;
-                count += 1;
-                at += len;
-            }
-            Err(fault) => {
-                let kind = fault.kind;
-                out.extend_from_slice(&run[..count])?;
-                return Ok(Some(WireFault { kind, at }));
+        // No more than eight numbers begin in eight bytes.
+        let next = payload.len().min(at + 8);
+        while at < next {
+            match read_number(&payload[at..]) {
+                Ok((number, len)) => {
+                    run[count] = number;
+                    count += 1;
+                    at += len;
+                }
+                Err(fault) => {
+                    let kind = fault.kind;
+                    out.extend_from_slice(&run[..count])?;
+                    return Ok(Some(WireFault { kind, at }));
+                }
             }
         }
     }

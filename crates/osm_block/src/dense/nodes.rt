@@ -1,11 +1,11 @@
 //! Dense nodes, built from their arrays.
 
-ghost use Rattle.std.specs.Prelude.{◌≡◌, ◌*ℤ◌, ◌<◌, length, true, pos, IfOk, OnOk, Some, None, option_map, option_and_then, option_copied, slice_get, slice_index_or, map, ◌++◌};
+ghost use Rattle.std.specs.Prelude.{◌≡◌, ◌*ℤ◌, ◌<◌, length, true, pos, IsTrue, IfOk, OnOk, Some, None, option_map, option_and_then, option_copied, slice_get, slice_index_or, map, ◌++◌};
 ghost use Rattle.std.specs.List.{list_all};
 ghost use Rattle.osm_value.specs.Ranges.{is_wide, is_uid, passes, AreTags};
 ghost use Rattle.osm_block.specs.Phases.{is_index, coordinate_in_range};
 ghost use Rattle.osm_block.specs.Block.{coordinate, time, version as version_of, text_at};
-ghost use Rattle.osm_block.specs.Dense.{AreReady, InfoAt, NodeAt};
+ghost use Rattle.osm_block.specs.Dense.{AreReady, HaveInfos, InfoAt, NodeAt};
 ghost use Rattle.osm_block.specs.DenseRead.{AppendedNodes};
 ghost use Rattle.osm_block.specs.Fields.{context_of};
 
@@ -16,25 +16,60 @@ use crate::scale::Scale;
 use osm_value::{Element, Info, Node};
 use std::alloc::{AllocError, Global};
 
-fn version_at(versions: &[i32], index: usize) -> Option<i32>
+/// Whether each node has all of an info but its visibility, as in extracts without history.
+fn have_infos(arrays: &DenseArrays) -> bool
+    ensures { IsTrue result → HaveInfos arrays.now }
+{
+    let count = arrays.ids.len();
+    arrays.versions.len() == count
+        && arrays.timestamps.len() == count
+        && arrays.changesets.len() == count
+        && arrays.uids.len() == count
+        && arrays.users.len() == count
+        && arrays.visible.is_empty()
+}
+
+// Where `whole` is known to be true the array has a number for each node, and none is asked for in vain. These are inlined,
+// so that each loop over nodes has only what it needs.
+
+#[inline(always)]
+fn version_at(whole: bool, versions: &[i32], index: usize) -> Option<i32>
+    requires { IsTrue whole → index < length versions.now }
     ensures { result ≡ option_and_then version_of (slice_get versions.now index) }
 {
-    match versions.get(index) {
-        None | Some(-1) => None,
-        Some(version) => Some(*version),
+    let version = if whole {
+        Some(versions[index])
+    } else {
+        versions.get(index).copied()
+    };
+    match version {
+        Some(-1) => None,
+        other => other,
     }
 }
 
-fn number_at(numbers: &[i64], index: usize) -> Option<i64>
+#[inline(always)]
+fn number_at(whole: bool, numbers: &[i64], index: usize) -> Option<i64>
+    requires { IsTrue whole → index < length numbers.now }
     ensures { result ≡ slice_get numbers.now index }
 {
-    numbers.get(index).copied()
+    if whole {
+        Some(numbers[index])
+    } else {
+        numbers.get(index).copied()
+    }
 }
 
-fn flag_at(flags: &[bool], index: usize) -> Option<bool>
+#[inline(always)]
+fn flag_at(whole: bool, flags: &[bool], index: usize) -> Option<bool>
+    requires { IsTrue whole → length flags.now ≡ 0 }
     ensures { result ≡ slice_get flags.now index }
 {
-    flags.get(index).copied()
+    if whole {
+        None
+    } else {
+        flags.get(index).copied()
+    }
 }
 
 fn time_of(date_granularity: i32, units: Option<i64>) -> Option<i64>
@@ -68,17 +103,22 @@ fn user_of<'a>(table: &[&'a str], index: Option<i64>) -> Option<&'a str>
 }
 
 /// The info of the node at the index.
-fn info_at<'a>(scale: &Scale<'a>, arrays: &DenseArrays, index: usize) -> Info<'a>
+#[inline(always)]
+fn info_at<'a>(whole: bool, scale: &Scale<'a>, arrays: &DenseArrays, index: usize) -> Info<'a>
+    requires whole { IsTrue whole → HaveInfos arrays.now }
     requires ready { AreReady (context_of scale.now) arrays.now }
     requires within { index < length arrays.now.ids.items }
     ensures { InfoAt (context_of scale.now) arrays.now index result }
 {
-    let version = version_at(&arrays.versions, index);
-    let time = time_of(scale.date_granularity, number_at(&arrays.timestamps, index));
-    let changeset = number_at(&arrays.changesets, index);
-    let uid = uid_of(number_at(&arrays.uids, index));
-    let user = user_of(&scale.table, number_at(&arrays.users, index));
-    let visible = flag_at(&arrays.visible, index);
+    let version = version_at(whole, &arrays.versions, index);
+    let time = time_of(
+        scale.date_granularity,
+        number_at(whole, &arrays.timestamps, index),
+    );
+    let changeset = number_at(whole, &arrays.changesets, index);
+    let uid = uid_of(number_at(whole, &arrays.uids, index));
+    let user = user_of(&scale.table, number_at(whole, &arrays.users, index));
+    let visible = flag_at(whole, &arrays.visible, index);
     Info::new(version, time, changeset, uid, user, visible)
 }
 
@@ -92,12 +132,15 @@ fn coordinate_at(offset: i64, granularity: i32, units: &[i64], index: usize) -> 
 }
 
 /// The node at the index, with these tags.
+#[inline(always)]
 fn node_at<'a>(
+    whole: bool,
     scale: &Scale<'a>,
     arrays: &DenseArrays,
     index: usize,
     tags: Vec<(&'a str, &'a str)>,
 ) -> Node<'a>
+    requires whole { IsTrue whole → HaveInfos arrays.now }
     requires ready { AreReady (context_of scale.now) arrays.now }
     requires within { index < length arrays.now.ids.items }
     requires tags { AreTags (map (λ t. (t.0.now, t.1.now)) tags.items) }
@@ -105,10 +148,35 @@ fn node_at<'a>(
     ensures tags { result.tags ≡ map (λ t. (t.0.now, t.1.now)) tags.entry.items }
 {
     let ids: &[i64] = &arrays.ids;
-    let info = info_at(scale, arrays, index);
+    let info = info_at(whole, scale, arrays, index);
     let lat = coordinate_at(scale.lat_offset, scale.granularity, &arrays.lats, index);
     let lon = coordinate_at(scale.lon_offset, scale.granularity, &arrays.lons, index);
     Node::new(ids[index], lat, lon, tags, info)
+}
+
+/// Appends the nodes one by one.
+#[inline(always)]
+fn each_node<'a>(
+    whole: bool,
+    alloc: Global,
+    scale: &Scale<'a>,
+    arrays: &DenseArrays,
+    out: &mut Vec<Element<'a>>,
+) -> Result<(), AllocError>
+    requires whole { IsTrue whole → HaveInfos arrays.now }
+    requires ready { AreReady (context_of scale.now) arrays.now }
+    ensures { OnOk result (AppendedNodes (context_of scale.now) arrays.now out.old.items out.new.items) }
+{
+    let count = arrays.ids.len();
+    out.reserve(count)?;
+    let mut at = 0;
+    for index in 0..count {
+        let (tags, next) = node_tags(alloc, &scale.table, &arrays.keys_vals, at)?;
+        let node = node_at(whole, scale, arrays, index, tags);
+        out.push(Element::Node(node))?;
+        at = next;
+    }
+    Ok(())
 }
 
 /// Appends the nodes that the arrays stand for.
@@ -121,14 +189,9 @@ pub(crate) fn nodes_of<'a>(
     requires ready { AreReady (context_of scale.now) arrays.now }
     ensures { OnOk result (AppendedNodes (context_of scale.now) arrays.now out.old.items out.new.items) }
 {
-    let count = arrays.ids.len();
-    out.reserve(count)?;
-    let mut at = 0;
-    for index in 0..count {
-        let (tags, next) = node_tags(alloc, &scale.table, &arrays.keys_vals, at)?;
-        let node = node_at(scale, arrays, index, tags);
-        out.push(Element::Node(node))?;
-        at = next;
+    if have_infos(arrays) {
+        each_node(true, alloc, scale, arrays, out)
+    } else {
+        each_node(false, alloc, scale, arrays, out)
     }
-    Ok(())
 }

@@ -7,7 +7,7 @@ use Rattle.osm_block.specs.NodeTags.{front_pairs, pair_indexes}
 use Rattle.osm_block.specs.Phases.{is_index}
 use Rattle.osm_block.specs.DenseRead.{NodesRead}
 use Rattle.osm_block.proofs.DenseArrayLemmas.{so_far_begins, next_pairs, so_far_more, tags_are_in_range, users_along, appended_node}
-use Rattle.osm_block.proofs.dense.nodes.nodes_of.Goals as goal
+use Rattle.osm_block.proofs.dense.nodes.each_node.Goals as goal
 
 pub loop-index-init : goal.loop-index-init
 loop-index-init c = ([], sym (append-nil c.reserve.new.self.items), so_far_begins (context_of c.args.scale.now) c.args.arrays.now c.requires.ready)
