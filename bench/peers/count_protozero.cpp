@@ -1,45 +1,58 @@
-// Walks a PBF file of raw blobs by protozero and decodes every number of every element, without building anything.
+// Reads a PBF file of raw blobs, a blob at a time, decodes by protozero every number of every element that pbfrow keeps, adds
+// up differences, and counts. It builds no element, and tests neither texts nor ranges: a floor for what decoding costs.
 #include <cstdint>
 #include <cstdio>
-#include <fstream>
-#include <iterator>
-#include <protozero/pbf_message.hpp>
+#include <protozero/pbf_reader.hpp>
 #include <string>
-#include <vector>
 
 using protozero::data_view;
 using protozero::pbf_reader;
 
-static uint64_t nodes, ways, relations, numbers;
+static uint64_t blobs, nodes, ways, relations, tags;
 static int64_t total;
 
-template <typename Range> static uint64_t walk(Range range) {
+// Adds the numbers up, and says how many there are.
+template <typename Range> static uint64_t numbers(Range range) {
     uint64_t count = 0;
     for (auto value : range) { total += value; ++count; }
-    numbers += count;
     return count;
+}
+
+// The same of the numbers whose differences these are.
+template <typename Range> static uint64_t sums(Range range) {
+    uint64_t count = 0;
+    int64_t sum = 0;
+    for (auto difference : range) { sum += difference; total += sum; ++count; }
+    return count;
+}
+
+static void dense_info(pbf_reader info) {
+    while (info.next()) {
+        switch (info.tag()) {
+            case 1: numbers(info.get_packed_int32()); break;
+            case 2: case 3: sums(info.get_packed_sint64()); break;
+            case 4: case 5: sums(info.get_packed_sint32()); break;
+            default: info.skip();
+        }
+    }
 }
 
 static void dense(pbf_reader message) {
     while (message.next()) {
         switch (message.tag()) {
-            case 1: nodes += walk(message.get_packed_sint64()); break;
-            case 8: case 9: walk(message.get_packed_sint64()); break;
-            case 10: walk(message.get_packed_int32()); break;
-            case 5: {
-                pbf_reader info = message.get_message();
-                while (info.next()) {
-                    switch (info.tag()) {
-                        case 1: walk(info.get_packed_int32()); break;
-                        case 2: case 3: walk(info.get_packed_sint64()); break;
-                        case 4: case 5: walk(info.get_packed_sint32()); break;
-                        default: info.skip();
-                    }
-                }
-                break;
-            }
+            case 1: nodes += sums(message.get_packed_sint64()); break;
+            case 8: case 9: sums(message.get_packed_sint64()); break;
+            case 10: tags += numbers(message.get_packed_int32()); break;
+            case 5: dense_info(message.get_message()); break;
             default: message.skip();
         }
+    }
+}
+
+static void info(pbf_reader message) {
+    while (message.next()) {
+        if (message.tag() <= 5) total += message.get_int64();
+        else message.skip();
     }
 }
 
@@ -47,17 +60,12 @@ static void element(pbf_reader message, bool is_way) {
     while (message.next()) {
         switch (message.tag()) {
             case 1: total += message.get_int64(); break;
-            case 2: case 3: walk(message.get_packed_uint32()); break;
-            case 4: {
-                pbf_reader info = message.get_message();
-                while (info.next()) {
-                    if (info.tag() <= 5) total += info.get_int64(); else info.skip();
-                }
-                break;
-            }
-            case 8: if (is_way) walk(message.get_packed_sint64()); else walk(message.get_packed_int32()); break;
-            case 9: walk(message.get_packed_sint64()); break;
-            case 10: walk(message.get_packed_int32()); break;
+            case 2: tags += numbers(message.get_packed_uint32()); break;
+            case 3: numbers(message.get_packed_uint32()); break;
+            case 4: info(message.get_message()); break;
+            case 8: if (is_way) sums(message.get_packed_sint64()); else numbers(message.get_packed_int32()); break;
+            case 9: if (is_way) message.skip(); else sums(message.get_packed_sint64()); break;
+            case 10: if (is_way) message.skip(); else numbers(message.get_packed_enum()); break;
             default: message.skip();
         }
     }
@@ -74,34 +82,40 @@ static void group(pbf_reader message) {
     }
 }
 
+static void block(pbf_reader message) {
+    while (message.next()) {
+        if (message.tag() == 1) {
+            pbf_reader texts = message.get_message();
+            while (texts.next(1)) total += texts.get_view().size();
+        } else if (message.tag() == 2) group(message.get_message());
+        else message.skip();
+    }
+}
+
 int main(int argc, char* argv[]) {
     if (argc != 2) return 2;
-    std::ifstream file{argv[1], std::ios::binary};
-    const std::string bytes{std::istreambuf_iterator<char>(file), {}};
-    size_t at = 0;
-    while (at + 4 <= bytes.size()) {
-        auto byte = [&](size_t i) { return static_cast<uint32_t>(static_cast<unsigned char>(bytes[at + i])); };
-        const size_t header_length = byte(0) << 24 | byte(1) << 16 | byte(2) << 8 | byte(3);
-        pbf_reader header{data_view{bytes.data() + at + 4, header_length}};
+    std::FILE* file = std::fopen(argv[1], "rb");
+    if (!file) return 2;
+    unsigned char length[4];
+    std::string header, blob;
+    while (std::fread(length, 1, 4, file) == 4) {
+        header.resize(static_cast<uint32_t>(length[0]) << 24 | length[1] << 16 | length[2] << 8 | length[3]);
+        if (std::fread(&header[0], 1, header.size(), file) != header.size()) return 1;
         std::string type;
         size_t size = 0;
-        while (header.next()) {
-            if (header.tag() == 1) type = header.get_string();
-            else if (header.tag() == 3) size = header.get_int32();
-            else header.skip();
+        for (pbf_reader fields{header}; fields.next();) {
+            if (fields.tag() == 1) type = fields.get_string();
+            else if (fields.tag() == 3) size = fields.get_int32();
+            else fields.skip();
         }
-        pbf_reader blob{data_view{bytes.data() + at + 4 + header_length, size}};
-        if (type == "OSMData") {
-            while (blob.next()) {
-                if (blob.tag() != 1) { blob.skip(); continue; }
-                pbf_reader block{blob.get_view()};
-                while (block.next()) {
-                    if (block.tag() == 2) group(block.get_message());
-                    else block.skip();
-                }
-            }
+        blob.resize(size);
+        if (std::fread(&blob[0], 1, size, file) != size) return 1;
+        ++blobs;
+        if (type != "OSMData") continue;
+        for (pbf_reader fields{blob}; fields.next();) {
+            if (fields.tag() == 1) block(fields.get_message());
+            else fields.skip();
         }
-        at += 4 + header_length + size;
     }
-    std::printf("nodes %lu ways %lu relations %lu numbers %lu (%ld)\n", nodes, ways, relations, numbers, total);
+    std::printf("blobs %lu nodes %lu ways %lu relations %lu tags %lu (%ld)\n", blobs, nodes, ways, relations, tags, total);
 }

@@ -1,5 +1,5 @@
 -- Numbers that are small: the bits of all of them bound each, and their sums and products fit.
-use Rattle.std.proofs.Common.{◌≡◌, ℕ, ◌+◌, ◌*◌, ◌/◌, ◌%◌, ◌^◌, ◌<◌, ◌≤◌, ◌==◌, List, [], ◌∷◌, map, length, get_or, set, take, drop, subst, Bool, true, false, cond, ◌&&◌, refl, sym, ap, ◌∙◌, ℤ, pos, negsuc, ◌+ℤ◌, ◌*ℤ◌, FitsSigned, arith, bit_or}
+use Rattle.std.proofs.Common.{◌≡◌, ℕ, ◌+◌, ◌*◌, ◌/◌, ◌%◌, ◌^◌, ◌<◌, ◌≤◌, ◌==◌, List, [], ◌∷◌, map, length, get_or, set, take, drop, subst, true, false, cond, ◌&&◌, refl, sym, ap, ◌∙◌, ℤ, pos, negsuc, ◌+ℤ◌, ◌*ℤ◌, FitsSigned, arith, bit_or}
 use Rattle.std.specs.Prelude.{unsigned_abs}
 use Rattle.std.specs.List.{AllByRecursion, list_all}
 use Rattle.std.specs.Int.{w64}
@@ -9,7 +9,7 @@ use Rattle.std.proofs.lemmas.Nat.{le_or_l, le_or_r, mul-le}
 use Rattle.std.proofs.lemmas.List.{drop_more, take_all, take_more, drop-set-lt}
 use Rattle.pbf_wire.specs.Readings.{sint64}
 use Rattle.osm_value.specs.Ranges.{is_wide}
-use Rattle.osm_block.specs.Block.{coordinate, time}
+use Rattle.osm_block.specs.Block.{time}
 use Rattle.osm_block.specs.Phases.{coordinate_in_range}
 use Rattle.osm_block.proofs.DifferencesLemmas.{AllByRecursion-push}
 

@@ -11,7 +11,7 @@ use pbf_wire::{Value, WireFault, read_number};
 use std::alloc::{AllocError, Global};
 
 /// How many numbers are gathered before they are appended to an array.
-const RUN: usize = 32;
+const RUN: usize = 64;
 
 /// The numbers of an array, and the first fault of its packed payloads.
 #[derive(Drop)]
@@ -87,14 +87,14 @@ fn eight_small(bytes: &[u8]) -> Option<[u64; 8]>
     ])
 }
 
-/// Appends the numbers that are gathered, unless eight more have room beside them. Answers how many are gathered then.
+/// Appends the numbers that are gathered, unless sixteen more have room beside them. Answers how many are gathered then.
 #[inline(always)]
-fn room_for_eight(run: &[u64; RUN], count: usize, out: &mut Vec<u64>) -> Result<usize, AllocError>
-    requires { count ≤ 32 }
-    ensures room { IfOk result (λ left. left + 8 ≤ 32) }
+fn room_for_sixteen(run: &[u64; RUN], count: usize, out: &mut Vec<u64>) -> Result<usize, AllocError>
+    requires { count ≤ 64 }
+    ensures room { IfOk result (λ left. left + 16 ≤ 64) }
     ensures same { IfOk result (λ left. out.new.items ++ take left run.now ≡ out.old.items ++ take count run.now) }
 {
-    if count + 8 <= RUN {
+    if count + 16 <= RUN {
         return Ok(count);
     }
     out.extend_from_slice(&run[..count])?;
@@ -104,7 +104,7 @@ fn room_for_eight(run: &[u64; RUN], count: usize, out: &mut Vec<u64>) -> Result<
 /// Puts eight numbers behind those that are gathered.
 #[inline(always)]
 fn put_eight(run: &mut [u64; RUN], count: usize, numbers: &[u64; 8])
-    requires { count + 8 ≤ 32 }
+    requires { count + 8 ≤ 64 }
     ensures { take (count + 8) run.new ≡ take count run.old ++ numbers.now }
 {
     run[count] = numbers[0];
@@ -132,7 +132,7 @@ fn unpack(
     let mut count = 0;
     let mut at = 0;
     while at < payload.len() {
-        count = room_for_eight(run, count, out)?;
+        count = room_for_sixteen(run, count, out)?;
         // Numbers of one byte stand beside each other.
         if let Some(numbers) = eight_small(&payload[at..]) {
             put_eight(run, count, &numbers);
@@ -140,8 +140,8 @@ fn unpack(
             at += 8;
             continue;
         }
-        // No more than eight numbers begin in eight bytes.
-        let next = payload.len().min(at + 8);
+        // If one of them is longer, so are most, and no more than sixteen numbers begin in sixteen bytes.
+        let next = payload.len().min(at + 16);
         while at < next {
             match read_number(&payload[at..]) {
                 Ok((number, len)) => {

@@ -1,5 +1,5 @@
 use Rattle.std.proofs.lemmas.Int.{to_z-of_z}
-use Rattle.std.proofs.Common.{rules, ◌∙◌, ◌≡◌, ℤ, ◌+ℤ◌, ◌+◌, ◌*◌, ◌^◌, pos, get_or, ◌<◌, ◌≤◌, length, arith, w64, FitsSigned, to_z, of_z, sym, ap}
+use Rattle.std.proofs.Common.{◌∙◌, ◌≡◌, ℤ, ◌+ℤ◌, ◌+◌, ◌*◌, ◌^◌, pos, get_or, ◌<◌, ◌≤◌, length, arith, w64, FitsSigned, to_z, of_z, ap}
 use Rattle.std.specs.Prelude.{unsigned_abs}
 use Rattle.osm_block.proofs.DifferencesLemmas.{onto-zero, step, step-fits, finish, finish-fits}
 use Rattle.osm_block.proofs.SmallLemmas.{abs-sum, small_fits, small_at, small_behind}

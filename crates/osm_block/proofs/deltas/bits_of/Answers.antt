@@ -1,4 +1,4 @@
-use Rattle.std.proofs.Common.{◌<◌, ◌≤◌, length, arith}
+use Rattle.std.proofs.Common.{◌<◌, length, arith}
 use Rattle.osm_block.proofs.SmallLemmas.{bits_more, bits_of_all}
 use Rattle.osm_block.proofs.deltas.bits_of.Goals as goal
 

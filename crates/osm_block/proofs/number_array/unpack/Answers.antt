@@ -8,7 +8,7 @@ pub loop-at-preserved-in-Some : goal.loop-at-preserved-in-Some
 loop-at-preserved-in-Some c =
     let w = c.args.payload.now in
     let count : ℕ = c.in_ok-count.count in
-    let out : List ℕ = c.room_for_eight.new.out.items in
+    let out : List ℕ = c.room_for_sixteen.new.out.items in
     let numbers : List ℕ = c.in-Some.numbers in
     let long : 8 ≤ length (drop c.loop-at.at w) = rw take_rest at c.in-Some.ensures.long in
     let e : row_from c.loop-at.at w ≡ map Ok numbers ++ row_from (c.loop-at.at + 8) w =

@@ -4,7 +4,7 @@ use Rattle.std.proofs.lemmas.List.{map-append}
 use Rattle.osm_block.specs.Phases.{is_index}
 use Rattle.osm_block.proofs.TagsLemmas.{zero_from_bits, not_zero_from_bits}
 use Rattle.osm_block.proofs.NodeTagsLemmas.{front_at_zero, front_at_end, nothing_behind, next_in_table, pair_more, pairs_end, text_of_index, along_length}
-use Rattle.osm_block.proofs.dense.tags.node_tags.Goals as goal
+use Rattle.osm_block.proofs.dense.tags.some_tags.Goals as goal
 
 pub returns-then-key-eq0-clause-texts : goal.returns-then-key-eq0-clause-texts
 returns-then-key-eq0-clause-texts c =
