@@ -16,7 +16,7 @@ use Rattle.osm_store.specs.TableRows.{Part, element_row}
 use Rattle.osm_store.specs.Load.TableParts.{is_part_at}
 use Rattle.osm_store.proofs.ListLemmas.NumberOrder.{numbers_below, numbers_tied}
 use Rattle.osm_store.proofs.MapLemmas.PartLaws.{IsPartBefore}
-use Rattle.osm_trees.specs.Below.{starts}
+use Rattle.osm_tree_audits.specs.Finding.{starts}
 
 -- ---- keys of one number and of two
 
@@ -42,24 +42,3 @@ two_numbers m n i j e = ap is_eq (prefix_cmp-two (Int (pos m)) (Int i) e (Int (p
 
 pub two_naturals : (m n i j : ℕ) (e : Row) → starts (Int (pos n) ∷ Int (pos j) ∷ []) (Int (pos m) ∷ Int (pos i) ∷ e) ≡ ((m == n) && (i == j))
 two_naturals m n i j e = ap is_eq (prefix_cmp-two (Int (pos m)) (Int (pos i)) e (Int (pos n)) (Int (pos j))) ∙ then_tied _ _ ∙ ap₂ ◌&&◌ (number_tied m n) (number_tied i j)
-
--- ---- orders
-
-pub elements_rise : (a b : Placed) (e f : Row) → IsBefore a b → entry_cmp plain (Int (pos a.0) ∷ Int (pos a.1) ∷ e) (Int (pos b.0) ∷ Int (pos b.1) ∷ f) ≡ Less
-elements_rise a b e f (inl low) =
-    entry_cmp-plain (Int (pos a.0) ∷ Int (pos a.1) ∷ e) (Int (pos b.0) ∷ Int (pos b.1) ∷ f) ∙ ap (λ o. ordering_then o (ordering_then (value_cmp (Int (pos a.1)) (Int (pos b.1))) (row_cmp e f))) (numbers_below a.0 b.0 low)
-elements_rise a b e f (inr at) =
-    entry_cmp-plain (Int (pos a.0) ∷ Int (pos a.1) ∷ e) (Int (pos b.0) ∷ Int (pos b.1) ∷ f)
-    ∙ ap₂ (λ o p. ordering_then o (ordering_then p (row_cmp e f))) (numbers_tied a.0 b.0 at.0) (numbers_below a.1 b.1 at.1)
-
-pub parts_rise : {A : Type 0} (x y : Part A) → IsPartBefore x y → entry_cmp plain (Int (pos x.off) ∷ Int (pos x.position) ∷ Int (pos x.number) ∷ []) (Int (pos y.off) ∷ Int (pos y.position) ∷ Int (pos y.number) ∷ []) ≡ Less
-parts_rise x y (inl low) =
-    entry_cmp-plain (Int (pos x.off) ∷ Int (pos x.position) ∷ Int (pos x.number) ∷ []) (Int (pos y.off) ∷ Int (pos y.position) ∷ Int (pos y.number) ∷ [])
-    ∙ ap (λ o. ordering_then o (ordering_then (value_cmp (Int (pos x.position)) (Int (pos y.position))) (ordering_then (value_cmp (Int (pos x.number)) (Int (pos y.number))) Equal))) (numbers_below x.off y.off low)
-parts_rise x y (inr (off, inl low)) =
-    entry_cmp-plain (Int (pos x.off) ∷ Int (pos x.position) ∷ Int (pos x.number) ∷ []) (Int (pos y.off) ∷ Int (pos y.position) ∷ Int (pos y.number) ∷ [])
-    ∙ ap₂ (λ o p. ordering_then o (ordering_then p (ordering_then (value_cmp (Int (pos x.number)) (Int (pos y.number))) Equal))) (numbers_tied x.off y.off off) (numbers_below x.position y.position low)
-parts_rise x y (inr (off, inr (position, low))) =
-    entry_cmp-plain (Int (pos x.off) ∷ Int (pos x.position) ∷ Int (pos x.number) ∷ []) (Int (pos y.off) ∷ Int (pos y.position) ∷ Int (pos y.number) ∷ [])
-    ∙ ap₂ (λ o p. ordering_then o (ordering_then p (ordering_then (value_cmp (Int (pos x.number)) (Int (pos y.number))) Equal))) (numbers_tied x.off y.off off) (numbers_tied x.position y.position position)
-    ∙ ap (λ o. ordering_then Equal (ordering_then Equal (ordering_then o Equal))) (numbers_below x.number y.number low)

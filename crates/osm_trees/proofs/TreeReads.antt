@@ -29,22 +29,11 @@ use Rattle.osm_store.proofs.MapLemmas.PlacedLaws.{placed_in_rise}
 use Rattle.osm_store.proofs.MapLemmas.PartLaws.{IsPartBefore, all_parts_rise}
 use Rattle.osm_store.proofs.MapLemmas.TableHeld.{parts_of_blob}
 use Rattle.osm_store.proofs.MapLemmas.StoredElements.{all_stored}
-use Rattle.osm_trees.specs.Below.{Finds, is_flagged}
+use Rattle.osm_tree_audits.specs.Finding.{Finds}
+use Rattle.osm_tree_audits.proofs.Orders.{same_all, by_place, by_part, elements_rise, parts_rise}
+use Rattle.osm_trees.specs.Below.{is_flagged}
 use Rattle.osm_trees.proofs.Found.{found, in_order}
-use Rattle.osm_trees.proofs.Keys.{one_number, two_numbers, two_naturals, elements_rise, parts_rise}
-
-same_all : {A : Type 0} (xs : List A) → map (λ (x : A). x) xs ≡ xs
-same_all [] = refl
-same_all (x ∷ xs) = ap (λ l. x ∷ l) (same_all xs)
-
--- the key's columns, with the rowid and without it
-by_place : (r : Row) → map (column (drop 1 r)) (0 ∷ 1 ∷ []) ≡ map (column r) (1 ∷ 2 ∷ [])
-by_place [] = refl
-by_place (x ∷ r) = refl
-
-by_part : (r : Row) → map (column (drop 1 r)) (0 ∷ 1 ∷ 2 ∷ []) ≡ map (column r) (1 ∷ 2 ∷ 3 ∷ [])
-by_part [] = refl
-by_part (x ∷ r) = refl
+use Rattle.osm_trees.proofs.Keys.{one_number, two_numbers, two_naturals}
 
 by_kind : (r : Row) → map (column (drop 1 r)) (2 ∷ 3 ∷ []) ≡ map (column r) (3 ∷ 4 ∷ [])
 by_kind [] = refl
