@@ -1,5 +1,5 @@
 -- What an audit of the trees tells of the last commit, and of a held map.
-use Rattle.std.proofs.Common.{◌≡◌, ◌∙◌, ℕ, pos, Bool, IsTrue, List, [], ◌∷◌, map, filter, flat_map, drop, Result, Some, refl, sym, ap, subst, IsPermutation}
+use Rattle.std.proofs.Common.{◌≡◌, ◌∙◌, ℕ, pos, Bool, IsTrue, List, [], ◌∷◌, map, filter, flat_map, drop, Result, Some, refl, sym, ap, subst}
 use Rattle.std.specs.Prelude.{◌==◌, ◌↔◌, IfOk}
 use Rattle.std.specs.FinMap.{get}
 use Rattle.std.specs.List.{AllByRecursion}
@@ -43,7 +43,7 @@ told_counts v counts r is told = subst (λ (db : Trees). IfOk r (λ told. IsTrue
 -- ---- a held map
 
 -- a database of these trees
-of_tables : Trees → Database
+abbrev of_tables : Trees → Database
 of_tables db = record { schema = table_schema; trees = db }
 
 rowid_is : (off : ℕ) (e : Extent) → has_rowid (pos off) (extent_row e) ≡ (e.off == off)

@@ -1,21 +1,14 @@
 -- What the keys of the indexes of elements, tags and links find.
-use Rattle.std.proofs.Common.{◌≡◌, ◌⊎◌, inl, inr, ℕ, ℤ, pos, ◌<◌, ◌≤◌, ◌==◌, ◌&&◌, Bool, true, false, Less, Equal, Greater, Ordering, is_eq, List, [], ◌∷◌, map, filter, flat_map, length, drop, refl, sym, ap, ap₂, ◌∙◌, arith, int_cmp, IsPermutation}
+use Rattle.std.proofs.Common.{◌≡◌, ℕ, ℤ, pos, ◌==◌, ◌&&◌, Less, Equal, Greater, Ordering, is_eq, [], ◌∷◌, refl, ap, ap₂, ◌∙◌, arith}
 use Rattle.std.specs.Ordering.{ordering_then, int_eq}
 use Rattle.std.proofs.lemmas.Bool.Decides.{nat_tests}
 use Rattle.sqlite_value.specs.declared.value.Value.{Value}
 use Rattle.sqlite_value.specs.declared.value.Value.TheVariants.{Int}
-use Rattle.sqlite_value.specs.Order.{Row, column, value_cmp, row_cmp}
-use Rattle.sqlite_value.specs.Keys.{plain, first_key, by_key, later, entry_cmp, prefix_cmp}
-use Rattle.sqlite_value.proofs.KeyLemmas.{entry_cmp-plain, first_key-plain}
-use Rattle.sqlite_value.proofs.OrderLemmas.{value_cmp-Int, then-Equal}
+use Rattle.sqlite_value.specs.Order.{Row, value_cmp}
+use Rattle.sqlite_value.specs.Keys.{plain, by_key, prefix_cmp}
+use Rattle.sqlite_value.proofs.KeyLemmas.{first_key-plain}
+use Rattle.sqlite_value.proofs.OrderLemmas.{value_cmp-Int}
 use Rattle.sqlite_trees.proofs.TreeLemmas.{prefix_cmp-one}
-use Rattle.osm_value.specs.declared.element.MemberKind.{MemberKind}
-use Rattle.osm_value.specs.Elements.{kind_of_element, id_of_element}
-use Rattle.osm_store.specs.Rows.{Placed, IsBefore, element_code, is_in, is_of}
-use Rattle.osm_store.specs.TableRows.{Part, element_row}
-use Rattle.osm_store.specs.Load.TableParts.{is_part_at}
-use Rattle.osm_store.proofs.ListLemmas.NumberOrder.{numbers_below, numbers_tied}
-use Rattle.osm_store.proofs.MapLemmas.PartLaws.{IsPartBefore}
 use Rattle.osm_tree_audits.specs.Finding.{starts}
 
 -- ---- keys of one number and of two

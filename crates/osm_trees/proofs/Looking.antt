@@ -1,14 +1,12 @@
 -- Reads one after the other, and what they leave of a map.
-use Rattle.std.proofs.Common.{◌≡◌, ◌⊎◌, inl, inr, false, Bool, refl, sym, ap, subst, ◌∙◌, arith}
-use Rattle.sqlite_value.specs.Order.{Row}
+use Rattle.std.proofs.Common.{◌≡◌, false, sym, ap, subst, ◌∙◌, arith}
 use Rattle.sqlite_trees.specs.declared.store.Store.{Ghosts}
-use Rattle.sqlite_trees.specs.Tree.{Trees}
 use Rattle.sqlite_trees.specs.View.{View, IsClean, IsQuiet}
 use Rattle.sqlite_exec.specs.Calls.{OnlyReads}
 use Rattle.sqlite_rules.proofs.ViewLemmas.{still_quiet}
 use Rattle.osm_store.specs.declared.schema.layout.Layout.{Layout}
 use Rattle.osm_store.specs.Held.{HeldMap}
-use Rattle.osm_store.specs.LayoutHolding.{IsKept, TablesHold}
+use Rattle.osm_store.specs.LayoutHolding.{TablesHold}
 use Rattle.osm_tree_audits.proofs.Looking.{up_before}
 use Rattle.osm_trees.specs.Below.{HoldsBelow, Looks}
 
