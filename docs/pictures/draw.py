@@ -167,6 +167,7 @@ SAYS = {
     "osm_write": "writing blocks",
     "osm_store": "blobs in a database",
     "osm_tree_writes": "blobs put below SQL",
+    "osm_tree_audits": "rows of trees, told",
     "osm_trees": "blobs below SQL",
     "osm_openings": "files opened",
     "osm_databases": "which store it is",

@@ -1,12 +1,14 @@
 //! Where databases are opened, to be asked or to take blobs, and closed again. Those that are asked and those that are filled
 //! are different `Databases`, since the files of the first are read alone.
 
-ghost use Rattle.std.specs.Prelude.{◌≡◌, false, IfOk};
+ghost use Rattle.std.specs.Prelude.{◌≡◌, false, ⊤, IfOk, IfSome};
 ghost use Rattle.sqlite.specs.Held.{IsNew, state};
-ghost use Rattle.osm_trees.specs.Ways.{counted};
+ghost use Rattle.sqlite_trees.specs.View.{IsClean};
+ghost use Rattle.osm_trees.specs.Below.{IsIndexed};
+ghost use Rattle.osm_trees.specs.Ways.{MatchOpened, counted};
 
-use crate::reason::told_of;
-use crate::stores::{OpenedStore, adopted, adopted_or_made, taking_blobs};
+use crate::reason::{told, told_of};
+use crate::stores::{OpenedStore, adopted, adopted_or_made, taking_blobs, with_whole_indexes};
 use osm_store::{BodyStore, StoreFault, TableStore};
 use osm_trees::{Opened, TreeStore};
 use sqlite::{Alter, Connection};
@@ -30,6 +32,18 @@ pub trait Databases {
     /// Closes a database. If it was written to, its log is copied into it; if that fails the log stays, and is read when the
     /// database is next opened.
     fn close(&self, trees: Self::Trees);
+}
+
+/// Databases of which each page can be looked at as they are opened.
+pub trait CheckedDatabases: Databases {
+    /// The trees of a database of this version, each page and tree of which was looked at: nothing is written that isn't
+    /// committed. If it is anything else it is closed, and opening it by SQL says why.
+    fn checked_trees(
+        &self,
+        rt: &HostRuntime,
+        name: &str,
+    ) -> Result<Option<Self::Trees>, StoreFault>
+        ensures { IfOk result (λ found. IfSome found (λ trees. IsClean (Self.Trees.Store.view trees) → (Self.Trees.Store.view trees).trees ≡ (Self.Trees.Store.view trees).committed)) };
 }
 
 /// The store of a database that keeps elements in tables, by SQL, which looks at each page and row as it opens it. Nothing is
@@ -77,6 +91,26 @@ pub fn opened<D: Databases>(
         Some(trees) => Ok(Opened::ByTrees(TreeStore::new(trees))),
         None => Ok(Opened::BySql(source_of_rows(rt, databases, name)?)),
     }
+}
+
+/// The store of a database whose rows are to be compared, whatever these are. A database of this version is read by its
+/// trees: each page and each tree is looked at, and each index has one entry for each row. One with trees of another program
+/// is opened by SQL, which looks at them all, and holds what it looks at in memory. Nothing is written. Why it can't be
+/// opened is told on standard error.
+pub fn opened_checked<D: CheckedDatabases>(
+    rt: &HostRuntime,
+    databases: &D,
+    name: &str,
+) -> Result<OpenedStore<D::Trees>, StoreFault>
+    ensures failures { IfOk result (λ reader. counted (λ trees. trees.failures) (λ store. store.failures) reader ≡ 0) }
+    ensures indexed { IfOk result (λ reader. MatchOpened reader (λ trees. IsClean (D.Trees.Store.view trees.store) → IsIndexed (D.Trees.Store.view trees.store)) (λ _. ⊤)) }
+{
+    let found = databases.checked_trees(rt, name)?;
+    let Some(trees) = found.and_then(taking_blobs) else {
+        return Ok(Opened::BySql(source_of_rows(rt, databases, name)?));
+    };
+    let trees = told(rt, name, with_whole_indexes(rt.alloc(), trees))?;
+    Ok(Opened::ByTrees(TreeStore::new(trees)))
 }
 
 /// The store of a database of either version.

@@ -5,9 +5,9 @@ ghost use Rattle.sqlite.specs.Held.{IsNew};
 ghost use Rattle.sqlite_wal.specs.Files.{image_at, seen_image};
 ghost use Rattle.osm_openings.specs.Presumed.{ArePresumedTables};
 
-use crate::databases::Databases;
+use crate::databases::{CheckedDatabases, Databases};
 use crate::reason::{Reason, Refusal, tell, told};
-use crate::trees::{close_files, connection_in, obstacle_in, trees_in};
+use crate::trees::{checked_trees_in, close_files, connection_in, obstacle_in, trees_in};
 use osm_openings::Obstacle;
 use osm_store::StoreFault;
 use pbfrow_files::{
@@ -172,4 +172,15 @@ impl Databases for AskedFiles {
     }
 
     fn close(&self, _trees: FileStore<ReadFile>) {}
+}
+
+impl CheckedDatabases for AskedFiles {
+    fn checked_trees(
+        &self,
+        rt: &HostRuntime,
+        name: &str,
+    ) -> Result<Option<FileStore<ReadFile>>, StoreFault> {
+        let files = read_alone(rt, name)?;
+        told(rt, name, checked_trees_in(rt, files))
+    }
 }

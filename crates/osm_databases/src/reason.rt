@@ -5,6 +5,7 @@ ghost use Rattle.osm_databases.specs.Reasons.{fault_of_file};
 
 use osm_openings::Obstacle;
 use osm_store::StoreFault;
+use osm_tree_audits::StoreIndex;
 use pbfrow_files::OpenFault;
 use sqlite::Error as SqlError;
 use std::alloc::AllocError;
@@ -19,6 +20,8 @@ pub enum Reason {
     Obstacle(Obstacle),
     /// SQL can't open it, for any other cause.
     Sql(SqlError),
+    /// An index lacks the entry of a row, or has an entry of none.
+    Index(StoreIndex),
     /// It has no store, or one of another version, or a call of the store failed.
     Store(StoreFault),
 }
@@ -31,6 +34,10 @@ impl fmt::Display for Reason {
             Reason::Sql(error) => write!(
                 f,
                 "damaged, or not a database that pbfrow can read: {error}"
+            ),
+            Reason::Index(index) => write!(
+                f,
+                "damaged: its index {index} has not one entry for each row"
             ),
             Reason::Store(StoreFault::NotThisStore(None)) => f.write_str(
                 "not a database of pbfrow",

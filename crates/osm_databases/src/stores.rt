@@ -10,15 +10,20 @@ ghost use Rattle.osm_store.specs.declared.schema.layout.Layout.TheVariants.{Tabl
 ghost use Rattle.osm_store.specs.LayoutHolding.{Holds};
 ghost use Rattle.osm_store.specs.Load.Asking.{JustAsks};
 ghost use Rattle.osm_store.specs.Schema.Bodies.{no_schema};
+ghost use Rattle.sqlite_exec.specs.Calls.{OnlyReads};
 ghost use Rattle.osm_tree_writes.specs.Appending.{IsStoreAt, HasNoMoreIndexes, HasNoMoreTrees};
+ghost use Rattle.osm_tree_writes.specs.Putting.{IsIndexedStore};
 ghost use Rattle.osm_trees.specs.Below.{HoldsBelow};
 ghost use Rattle.osm_trees.specs.Ways.{MatchOpened, counted};
 
+use crate::reason::{Reason, Refusal};
 use osm_store::{StoreFault, TableStore};
+use osm_tree_audits::faulty_index;
 use osm_tree_writes::takes_blobs;
 use osm_trees::{Opened, TreeStore};
 use sqlite::{Alter, Connection};
 use sqlite_trees::store::Store;
+use std::alloc::Global;
 
 /// A store over the trees of its database, or by SQL.
 pub type OpenedStore<S> = Opened<TreeStore<S>, TableStore<S>>;
@@ -91,5 +96,22 @@ pub fn taking_blobs<S: Store + Drop>(trees: S) -> Option<S>
         Some(trees)
     } else {
         None
+    }
+}
+
+/// The trees, if each index of the store has one entry for each row of its table, and no other; they are dropped if not,
+/// and the fault is `Disk`. Of the rows nothing has to be known. Another fault is that of a read that has failed, or
+/// `Memory`. No more than one row and its entry are in memory.
+pub fn with_whole_indexes<S: Store + Drop>(alloc: Global, mut trees: S) -> Result<S, Refusal>
+    ensures whole { IfOk result (λ kept. IsClean (S.Store.view kept) → IsIndexedStore (S.Store.view kept).trees) }
+    ensures reads { IfOk result (λ kept. IsClean (S.Store.view kept) → OnlyReads (S.Store.view trees) (S.Store.view kept) × ((S.Store.view kept).is_broken ≡ false)) }
+{
+    match faulty_index(alloc, &mut trees) {
+        Ok(None) => Ok(trees),
+        Ok(Some(index)) => Err(Refusal {
+            fault: StoreFault::Disk,
+            reason: Reason::Index(index),
+        }),
+        Err(fault) => Err(fault.into()),
     }
 }

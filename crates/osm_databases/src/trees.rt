@@ -1,13 +1,13 @@
 //! The trees of files, opened by their list or by SQL, and what stands in the way.
 
-ghost use Rattle.std.specs.Prelude.{IsTrue, IfOk, IfSome};
+ghost use Rattle.std.specs.Prelude.{◌≡◌, IsTrue, IfOk, IfSome};
 ghost use Rattle.sqlite.specs.Held.{IsNew};
 ghost use Rattle.sqlite_store.specs.FileStore.{view};
 ghost use Rattle.sqlite_wal.specs.Files.{seen_image};
 ghost use Rattle.osm_openings.specs.Presumed.{ArePresumedTables, ReadsAs};
 
 use crate::reason::{Reason, Refusal};
-use osm_openings::{Obstacle, find_obstacle, open_tables};
+use osm_openings::{Obstacle, find_obstacle, open_checked_tables, open_tables};
 use osm_store::StoreFault;
 use pbfrow_files::OpenFault;
 use sqlite::{Connection, Error as SqlError, ErrorCode};
@@ -45,6 +45,23 @@ pub fn trees_in<D: Disk + Drop>(
 {
     let options = options(rt)?;
     match open_tables(rt.alloc(), files, options) {
+        Ok(found) => Ok(found),
+        Err(refused) => Err(refused.into()),
+    }
+}
+
+/// The same, with a look at each page and each tree, so that nothing is presumed of the files.
+pub fn checked_trees_in<D: Disk + Drop>(
+    rt: &HostRuntime,
+    files: Files<D>,
+) -> Result<Option<FileStore<D>>, Refusal>
+    requires log { IsTrue (D.Disk.is_usable files.log) }
+    requires db { IsTrue (D.Disk.is_usable files.db) }
+    ensures settled { IfOk result (λ found. IfSome found (λ store. IsTrue (view store).is_clean → (view store).trees ≡ (view store).committed)) }
+    ensures reads { IfOk result (λ found. IfSome found (λ store. IsTrue (view store).is_clean → ReadsAs (seen_image D.Disk files.log files.db) (view store).trees)) }
+{
+    let options = options(rt)?;
+    match open_checked_tables(rt.alloc(), files, options) {
         Ok(found) => Ok(found),
         Err(refused) => Err(refused.into()),
     }

@@ -7,6 +7,7 @@ use Rattle.std.specs.FinMap.{get, entries, find, get-entries}
 use Rattle.std.proofs.lemmas.Bool.Decides.{eqb_tells}
 use Rattle.sqlite.specs.Tree.{Trees}
 use Rattle.sqlite.specs.Effect.{Database}
+use Rattle.sqlite.specs.Schema.{Schema}
 use Rattle.sqlite.specs.State.{State}
 use Rattle.osm_store.specs.declared.schema.layout.Layout.{Layout}
 use Rattle.osm_store.specs.Held.{Blob, HeldMap, HaveFewTexts}
@@ -30,6 +31,13 @@ module _ (layout : Layout) (s : State) (held : HeldMap) (holds : Holds layout s 
 -- what is the same after one call and after the next is the same after both
 pub same_then : {T : Type 0} (first next last : T) → next ≡ first → last ≡ next → last ≡ first
 same_then first next last one two = two ∙ one
+
+-- the same commit has the same rows, of the same tables
+pub trees_after : (one other : Database) → other ≡ one → other.trees ≡ one.trees
+trees_after one other same = ap (λ (d : Database). d.trees) same
+
+pub schema_after : {schema : Schema} (one other : Database) → other ≡ one → one.schema ≡ schema → other.schema ≡ schema
+schema_after one other same is = ap (λ (d : Database). d.schema) same ∙ is
 
 -- over a clean disk a connection is open or isn't
 pub open_or_shut : (is_open : Bool) {IsClean : Type 0} → IsClean → (IsClean × IsTrue is_open) ⊎ ¬ (IsClean × IsTrue is_open)

@@ -6,21 +6,21 @@ mod extent;
 mod same;
 mod tables;
 
-ghost use Rattle.std.specs.Prelude.{◌≡◌, ◌↔◌, ◌<◌, ◌≤◌, Some, IsTrue, IfOk};
+ghost use Rattle.std.specs.Prelude.{◌≡◌, ◌↔◌, ◌<◌, ◌≤◌, ℕ, Some, IsTrue, IfOk};
 ghost use Rattle.std.specs.FinMap as map;
 ghost use Rattle.std.specs.List.{AllByRecursion};
-ghost use Rattle.sqlite.specs.Effect.{Database};
+ghost use Rattle.sqlite.specs.Tree.{Trees};
 ghost use Rattle.osm_store.specs.declared.schema.layout.Layout.{Layout as HowKept};
 ghost use Rattle.osm_store.specs.Audit.{ShowsBlob, ShowsCounts, AreCountable, IsPlain, counts_of, elements_held};
-ghost use Rattle.osm_store.specs.Held.{HeldMap};
+ghost use Rattle.osm_store.specs.Held.{Blob, HeldMap};
 ghost use Rattle.osm_store.specs.Keeping.{OnlyReads};
-ghost use Rattle.osm_store.specs.Schema.Layouts.{schema_of};
 
 use crate::fault::StoreFault;
 use crate::keeper::Reader;
 pub use counts::Counts;
 pub(crate) use counts::has_counts_of;
 pub(crate) use extent::has_rows_of;
+pub use same::have_columns;
 use osm_value::Element;
 use pbf_frame::{Kind, MAX_OFFSET};
 use std::alloc::Global;
@@ -31,8 +31,14 @@ pub trait Audited: Reader {
     /// How the store keeps elements.
     ghost layout: { HowKept };
 
-    /// The last commit: tables, and their rows.
-    ghost database: { Self → Database };
+    /// The tables are those of a store, and what rows are found by can be relied on.
+    ghost has_tables: { Self → Type 0 };
+
+    /// The rows of the last commit.
+    ghost trees: { Self → Trees };
+
+    /// The rows at an offset, in all tables, are those that `put` writes for this blob, and no others.
+    ghost has_rows: { Self → ℕ → Blob → Type 0 };
 
     /// Whether the rows at an offset, in all tables, are those that `put` writes for this blob, and no others: its bytes
     /// are those from `off` to `fin`, at most `MAX_OFFSET`, and `digest` is the SHA-256 of its frame (FIPS 180-4). What is
@@ -48,8 +54,8 @@ pub trait Audited: Reader {
     ) -> Result<bool, StoreFault>
         requires order { off < fin }
         requires limit { fin ≤ MAX_OFFSET }
-        ensures told { Self.is_honest self.new → (database self.old).schema ≡ schema_of layout
-            → IfOk result (λ told. IsTrue told ↔ ShowsBlob layout (database self.old).trees off (record { fin = fin; digest = digest.now; kind = kind; elements = elements.now })) }
+        ensures told { Self.is_honest self.new → has_tables self.old
+            → IfOk result (λ told. IsTrue told ↔ has_rows self.old off (record { fin = fin; digest = digest.now; kind = kind; elements = elements.now })) }
         // over a held map, where the elements are such as a put takes, it is whether the map has this blob there
         ensures held { (held : HeldMap) → Self.holds self.old held → Self.is_honest self.new → AllByRecursion IsPlain elements.now
             → IfOk result (λ told. IsTrue told ↔ (map.get held off ≡ Some (record { fin = fin; digest = digest.now; kind = kind; elements = elements.now }))) }
@@ -58,14 +64,20 @@ pub trait Audited: Reader {
 
     /// Whether each table has exactly so many rows. What is held stays, also after a fault, which is that of a read that
     /// has failed, or `Memory`.
-    fn has_counts(&mut self, counts: &Counts) -> Result<bool, StoreFault>
-        ensures told { Self.is_honest self.new → (database self.old).schema ≡ schema_of layout
-            → IfOk result (λ told. IsTrue told ↔ ShowsCounts layout (database self.old).trees counts.now) }
+    fn has_counts(&mut self, alloc: Global, counts: &Counts) -> Result<bool, StoreFault>
+        ensures told { Self.is_honest self.new → has_tables self.old
+            → IfOk result (λ told. IsTrue told ↔ ShowsCounts layout (trees self.old) counts.now) }
         // the tables of a held map have as many rows as the map
         ensures held { (held : HeldMap) → Self.holds self.old held → Self.is_honest self.new → counts.now ≡ counts_of (elements_held held) → AreCountable counts.now → IfOk result IsTrue }
         ensures opened { Self.is_honest self.new → IfOk result (λ _. Self.is_open self.new) }
         ensures reads { OnlyReads Self.holds Self.leaves Self.leaves_a_map Self.same_tables Self.is_honest Self.is_open Self.failures self.old result self.new };
 
-    /// A store with the same tables has the same last commit.
-    ghost same_database: { (one other : Self) → Self.same_tables one other → database other ≡ database one };
+    /// Of the rows of a blob, as `put` writes them, queries see this blob, and no other.
+    ghost shown: { (store : Self) (off : ℕ) (blob : Blob) → has_rows store off blob → ShowsBlob layout (trees store) off blob };
+
+    /// A store with the same tables has the same rows.
+    ghost same_trees: { (one other : Self) → Self.same_tables one other → trees other ≡ trees one };
+
+    /// And its tables are those of a store too.
+    ghost same_has_tables: { (one other : Self) → Self.same_tables one other → has_tables one → has_tables other };
 }

@@ -232,11 +232,19 @@ impl<S: Alter, L: StoreLayout> Keeper for BlobStore<S, L> {
 }
 
 impl<S: Alter, L: StoreLayout> Audited for BlobStore<S, L> {
+    ghost use Rattle.std.specs.Prelude.{◌≡◌};
     ghost use Rattle.sqlite.specs.Held.{state};
+    ghost use Rattle.osm_store.specs.Audit.{ShowsBlob};
+    ghost use Rattle.osm_store.specs.Schema.Layouts.{schema_of};
+    ghost use Rattle.osm_store.specs.StoreLaws.{trees_after, schema_after};
 
     ghost layout = { L.LAYOUT };
 
-    ghost database = { λ s. (state S.Store s.connection).committed };
+    ghost has_tables = { λ s. (state S.Store s.connection).committed.schema ≡ schema_of L.LAYOUT };
+
+    ghost trees = { λ s. (state S.Store s.connection).committed.trees };
+
+    ghost has_rows = { λ s off blob. ShowsBlob L.LAYOUT (state S.Store s.connection).committed.trees off blob };
 
     fn has_blob(
         &mut self,
@@ -259,11 +267,15 @@ impl<S: Alter, L: StoreLayout> Audited for BlobStore<S, L> {
         answer
     }
 
-    fn has_counts(&mut self, counts: &Counts) -> Result<bool, StoreFault> {
+    fn has_counts(&mut self, _alloc: Global, counts: &Counts) -> Result<bool, StoreFault> {
         let answer = has_counts_of(&mut self.connection, L::LAYOUT, counts);
         self.failures = failures_after(&answer, self.failures);
         answer
     }
 
-    ghost same_database = { λ one other same. same };
+    ghost shown = { λ s off blob has. has };
+
+    ghost same_trees = { λ one other same. trees_after _ _ same };
+
+    ghost same_has_tables = { λ one other same has. schema_after _ _ same has };
 }

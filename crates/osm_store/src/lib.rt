@@ -10,7 +10,7 @@ mod load;
 mod put;
 mod schema;
 
-pub use audit::{Audited, Counts};
+pub use audit::{Audited, Counts, have_columns};
 pub use blob_store::{BlobStore, BodyStore, TableStore};
 pub use fault::StoreFault;
 pub use keeper::{Extent, Keeper, Reader};

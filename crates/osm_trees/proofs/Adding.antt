@@ -122,7 +122,7 @@ module _ {S : Type 0} (g : Ghosts S) (old new : Reading S) (off : ℕ) (blob : B
     open_if = λ up. (omega (arith, w.clean, up.0), (w.unchanged up.0 up.1).0);
     ok = tt;
     err = λ clean up held holds can. holds_still held holds clean up.1 (w.unchanged clean up.1).1 (w.unchanged clean up.1).2;
-    same = λ clean up. (w.unchanged clean up.1).2;
+    same = λ clean up. let left = w.unchanged clean up.1 in record { committed = left.2; settled = λ settled. left.1 ∙ sym left.2 };
     crash = λ clean held left holds can may. leaves_more held holds can w clean left may;
     whole = λ clean held holds can. leaves_a_map held holds can w clean;
     own = λ held holds clean can. w.ours;

@@ -1,15 +1,17 @@
 -- Results that are said clause by clause, and reads as the reader promises them.
-use Rattle.std.proofs.Common.{◌≡◌, false, Result, Ok, Err, sym, subst, List, [], ◌∷◌, map, ap}
+use Rattle.std.proofs.Common.{◌≡◌, ◌∙◌, false, Result, Ok, Err, sym}
 use Rattle.std.specs.Prelude.{MatchResult, IfOk, IfErr, OnOk}
 use Rattle.sqlite_trees.specs.declared.store.Store.{Ghosts}
-use Rattle.sqlite_trees.specs.View.{IsClean}
+use Rattle.sqlite_trees.specs.View.{View, IsClean}
+use Rattle.sqlite_exec.specs.Calls.{OnlyReads}
 use Rattle.osm_store.specs.declared.fault.StoreFault.{StoreFault}
 use Rattle.osm_store.specs.declared.schema.layout.Layout.TheVariants.{Tables}
 use Rattle.osm_store.specs.Held.{HeldMap}
 use Rattle.osm_store.specs.Keeping.{IsForeign, failures_after}
-use Rattle.osm_trees.specs.Below.{HoldsBelow, Looks}
+use Rattle.osm_tree_audits.proofs.Looking.{up_before}
+use Rattle.osm_trees.specs.Below.{HoldsBelow, Looks, SameTrees}
 use Rattle.osm_trees.specs.Reading.{Reading, JustReads}
-use Rattle.osm_trees.proofs.Looking.{clean_before, up_before, same_commit, holds_after}
+use Rattle.osm_trees.proofs.Looking.{clean_before, same_commit, same_trees, holds_after}
 
 pub joined : {T E : Type 0} (r : Result T E) (P : T → Type 0) (Q : Type 0) (F : E → Type 0) → IfOk r P → OnOk r Q → IfErr r F → MatchResult r (λ x. P x × Q) F
 joined (Ok x) P Q F p q f = (p, q)
@@ -23,6 +25,22 @@ pub if_ok : {T E : Type 0} (P : T → Type 0) (Q : E → Type 0) (r : Result T E
 if_ok P Q (Ok x) h = h
 if_ok P Q (Err e) h = tt
 
+-- what is said of answers, and what is said of faults
+pub answered : {T E : Type 0} (P : Type 0) (F : E → Type 0) (r : Result T E) → OnOk r P → IfErr r F → MatchResult r (λ _. P) F
+answered P F (Ok x) p f = p
+answered P F (Err e) p f = f
+
+pub sound_of : {T E : Type 0} (A P : Type 0) (r : Result T E) → A → OnOk r (A → P) → OnOk r P
+sound_of A P (Ok x) a f = f a
+sound_of A P (Err e) a f = tt
+
+pub opened_of : {T E : Type 0} (A P : Type 0) (r : Result T E) → A → OnOk r (A → P) → IfOk r (λ _. A × P)
+opened_of A P (Ok x) a f = (a, f a)
+opened_of A P (Err e) a f = tt
+
+reads_same : (a b : View) → OnlyReads a b → SameTrees a b
+reads_same a b reads = record { committed = same_commit a b reads; settled = λ settled. same_trees a b reads ∙ settled ∙ sym (same_commit a b reads) }
+
 module _ {S T : Type 0} (g : Ghosts S) (old new : Reading S) (looks : Looks g old.store new.store) where
   -- what each call of the reader says of its answer and of the trees
   abbrev pub Answers : Result T StoreFault → Type 0
@@ -34,7 +52,7 @@ module _ {S T : Type 0} (g : Ghosts S) (old new : Reading S) (looks : Looks g ol
     open_if = λ up. (clean_before g old.store new.store looks up.0, up_before (g.view old.store) (g.view new.store) (looks.reads up.0 up.1) up.1);
     ok = λ clean held holds. let up = answers clean held holds in holds_after Tables (g.view old.store) (g.view new.store) held (looks.reads clean up) clean up holds;
     err = tt;
-    same = λ clean up. same_commit (g.view old.store) (g.view new.store) (looks.reads clean up.1);
+    same = λ clean up. reads_same (g.view old.store) (g.view new.store) (looks.reads clean up.1);
     crash = λ clean held may. record { kept = may.kept; trees = may.trees; left = looks.quiet.outcomes may.trees may.left; tables = may.tables };
     whole = λ clean all db left. all db (looks.quiet.outcomes db left);
     own = λ held holds clean. tt;
@@ -45,7 +63,7 @@ module _ {S T : Type 0} (g : Ghosts S) (old new : Reading S) (looks : Looks g ol
     open_if = λ up. (clean_before g old.store new.store looks up.0, up_before (g.view old.store) (g.view new.store) (looks.reads up.0 up.1) up.1);
     ok = tt;
     err = λ clean up held holds. holds_after Tables (g.view old.store) (g.view new.store) held (looks.reads clean up.1) clean up.1 holds;
-    same = λ clean up. same_commit (g.view old.store) (g.view new.store) (looks.reads clean up.1);
+    same = λ clean up. reads_same (g.view old.store) (g.view new.store) (looks.reads clean up.1);
     crash = λ clean held may. record { kept = may.kept; trees = may.trees; left = looks.quiet.outcomes may.trees may.left; tables = may.tables };
     whole = λ clean all db left. all db (looks.quiet.outcomes db left);
     own = λ held holds clean. answers clean held holds;

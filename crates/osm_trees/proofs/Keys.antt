@@ -1,22 +1,15 @@
 -- What the keys of the indexes of elements, tags and links find.
-use Rattle.std.proofs.Common.{◌≡◌, ◌⊎◌, inl, inr, ℕ, ℤ, pos, ◌<◌, ◌≤◌, ◌==◌, ◌&&◌, Bool, true, false, Less, Equal, Greater, Ordering, is_eq, List, [], ◌∷◌, map, filter, flat_map, length, drop, refl, sym, ap, ap₂, ◌∙◌, arith, int_cmp, IsPermutation}
+use Rattle.std.proofs.Common.{◌≡◌, ℕ, ℤ, pos, ◌==◌, ◌&&◌, Less, Equal, Greater, Ordering, is_eq, [], ◌∷◌, refl, ap, ap₂, ◌∙◌, arith}
 use Rattle.std.specs.Ordering.{ordering_then, int_eq}
 use Rattle.std.proofs.lemmas.Bool.Decides.{nat_tests}
 use Rattle.sqlite_value.specs.declared.value.Value.{Value}
 use Rattle.sqlite_value.specs.declared.value.Value.TheVariants.{Int}
-use Rattle.sqlite_value.specs.Order.{Row, column, value_cmp, row_cmp}
-use Rattle.sqlite_value.specs.Keys.{plain, first_key, by_key, later, entry_cmp, prefix_cmp}
-use Rattle.sqlite_value.proofs.KeyLemmas.{entry_cmp-plain, first_key-plain}
-use Rattle.sqlite_value.proofs.OrderLemmas.{value_cmp-Int, then-Equal}
+use Rattle.sqlite_value.specs.Order.{Row, value_cmp}
+use Rattle.sqlite_value.specs.Keys.{plain, by_key, prefix_cmp}
+use Rattle.sqlite_value.proofs.KeyLemmas.{first_key-plain}
+use Rattle.sqlite_value.proofs.OrderLemmas.{value_cmp-Int}
 use Rattle.sqlite_trees.proofs.TreeLemmas.{prefix_cmp-one}
-use Rattle.osm_value.specs.declared.element.MemberKind.{MemberKind}
-use Rattle.osm_value.specs.Elements.{kind_of_element, id_of_element}
-use Rattle.osm_store.specs.Rows.{Placed, IsBefore, element_code, is_in, is_of}
-use Rattle.osm_store.specs.TableRows.{Part, element_row}
-use Rattle.osm_store.specs.Load.TableParts.{is_part_at}
-use Rattle.osm_store.proofs.ListLemmas.NumberOrder.{numbers_below, numbers_tied}
-use Rattle.osm_store.proofs.MapLemmas.PartLaws.{IsPartBefore}
-use Rattle.osm_trees.specs.Below.{starts}
+use Rattle.osm_tree_audits.specs.Finding.{starts}
 
 -- ---- keys of one number and of two
 
@@ -42,24 +35,3 @@ two_numbers m n i j e = ap is_eq (prefix_cmp-two (Int (pos m)) (Int i) e (Int (p
 
 pub two_naturals : (m n i j : ℕ) (e : Row) → starts (Int (pos n) ∷ Int (pos j) ∷ []) (Int (pos m) ∷ Int (pos i) ∷ e) ≡ ((m == n) && (i == j))
 two_naturals m n i j e = ap is_eq (prefix_cmp-two (Int (pos m)) (Int (pos i)) e (Int (pos n)) (Int (pos j))) ∙ then_tied _ _ ∙ ap₂ ◌&&◌ (number_tied m n) (number_tied i j)
-
--- ---- orders
-
-pub elements_rise : (a b : Placed) (e f : Row) → IsBefore a b → entry_cmp plain (Int (pos a.0) ∷ Int (pos a.1) ∷ e) (Int (pos b.0) ∷ Int (pos b.1) ∷ f) ≡ Less
-elements_rise a b e f (inl low) =
-    entry_cmp-plain (Int (pos a.0) ∷ Int (pos a.1) ∷ e) (Int (pos b.0) ∷ Int (pos b.1) ∷ f) ∙ ap (λ o. ordering_then o (ordering_then (value_cmp (Int (pos a.1)) (Int (pos b.1))) (row_cmp e f))) (numbers_below a.0 b.0 low)
-elements_rise a b e f (inr at) =
-    entry_cmp-plain (Int (pos a.0) ∷ Int (pos a.1) ∷ e) (Int (pos b.0) ∷ Int (pos b.1) ∷ f)
-    ∙ ap₂ (λ o p. ordering_then o (ordering_then p (row_cmp e f))) (numbers_tied a.0 b.0 at.0) (numbers_below a.1 b.1 at.1)
-
-pub parts_rise : {A : Type 0} (x y : Part A) → IsPartBefore x y → entry_cmp plain (Int (pos x.off) ∷ Int (pos x.position) ∷ Int (pos x.number) ∷ []) (Int (pos y.off) ∷ Int (pos y.position) ∷ Int (pos y.number) ∷ []) ≡ Less
-parts_rise x y (inl low) =
-    entry_cmp-plain (Int (pos x.off) ∷ Int (pos x.position) ∷ Int (pos x.number) ∷ []) (Int (pos y.off) ∷ Int (pos y.position) ∷ Int (pos y.number) ∷ [])
-    ∙ ap (λ o. ordering_then o (ordering_then (value_cmp (Int (pos x.position)) (Int (pos y.position))) (ordering_then (value_cmp (Int (pos x.number)) (Int (pos y.number))) Equal))) (numbers_below x.off y.off low)
-parts_rise x y (inr (off, inl low)) =
-    entry_cmp-plain (Int (pos x.off) ∷ Int (pos x.position) ∷ Int (pos x.number) ∷ []) (Int (pos y.off) ∷ Int (pos y.position) ∷ Int (pos y.number) ∷ [])
-    ∙ ap₂ (λ o p. ordering_then o (ordering_then p (ordering_then (value_cmp (Int (pos x.number)) (Int (pos y.number))) Equal))) (numbers_tied x.off y.off off) (numbers_below x.position y.position low)
-parts_rise x y (inr (off, inr (position, low))) =
-    entry_cmp-plain (Int (pos x.off) ∷ Int (pos x.position) ∷ Int (pos x.number) ∷ []) (Int (pos y.off) ∷ Int (pos y.position) ∷ Int (pos y.number) ∷ [])
-    ∙ ap₂ (λ o p. ordering_then o (ordering_then p (ordering_then (value_cmp (Int (pos x.number)) (Int (pos y.number))) Equal))) (numbers_tied x.off y.off off) (numbers_tied x.position y.position position)
-    ∙ ap (λ o. ordering_then Equal (ordering_then Equal (ordering_then o Equal))) (numbers_below x.number y.number low)

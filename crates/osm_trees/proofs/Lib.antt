@@ -1,6 +1,4 @@
-pub mod Columns
 pub mod Rest
-pub mod Prefix
 pub mod Found
 pub mod Keys
 pub mod Looking
@@ -9,3 +7,4 @@ pub mod TreeReads
 pub mod Bridge
 pub mod Downward
 pub mod Adding
+pub mod Audits

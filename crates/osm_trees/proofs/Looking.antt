@@ -1,14 +1,13 @@
 -- Reads one after the other, and what they leave of a map.
-use Rattle.std.proofs.Common.{◌≡◌, ◌⊎◌, inl, inr, false, Bool, refl, sym, ap, subst, ◌∙◌, arith}
-use Rattle.sqlite_value.specs.Order.{Row}
+use Rattle.std.proofs.Common.{◌≡◌, false, sym, ap, subst, ◌∙◌, arith}
 use Rattle.sqlite_trees.specs.declared.store.Store.{Ghosts}
-use Rattle.sqlite_trees.specs.Tree.{Trees}
 use Rattle.sqlite_trees.specs.View.{View, IsClean, IsQuiet}
 use Rattle.sqlite_exec.specs.Calls.{OnlyReads}
 use Rattle.sqlite_rules.proofs.ViewLemmas.{still_quiet}
 use Rattle.osm_store.specs.declared.schema.layout.Layout.{Layout}
 use Rattle.osm_store.specs.Held.{HeldMap}
-use Rattle.osm_store.specs.LayoutHolding.{IsKept, TablesHold}
+use Rattle.osm_store.specs.LayoutHolding.{TablesHold}
+use Rattle.osm_tree_audits.proofs.Looking.{up_before}
 use Rattle.osm_trees.specs.Below.{HoldsBelow, Looks}
 
 pub read_then : (a b c : View) → OnlyReads a b → OnlyReads b c → OnlyReads a c
@@ -19,9 +18,6 @@ same_trees a b reads = ap (λ (v : View). v.trees) reads
 
 pub same_commit : (a b : View) → OnlyReads a b → b.committed ≡ a.committed
 same_commit a b reads = ap (λ (v : View). v.committed) reads
-
-pub up_before : (a b : View) → OnlyReads a b → b.is_broken ≡ false → a.is_broken ≡ false
-up_before a b reads up = sym (ap (λ (v : View). v.is_broken) reads) ∙ up
 
 pub up_after : (a b : View) → OnlyReads a b → a.is_broken ≡ false → b.is_broken ≡ false
 up_after a b reads up = ap (λ (v : View). v.is_broken) reads ∙ up

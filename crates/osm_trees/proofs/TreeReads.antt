@@ -1,10 +1,10 @@
 -- What the trees of a held map give by each index, and whether any of its rows has a flag.
-use Rattle.std.proofs.Common.{◌≡◌, ℕ, ℤ, pos, Bool, ◌||◌, ◌==◌, Some, None, Option, true, false, List, [], ◌∷◌, map, drop, refl, sym, ap, ap₂, ◌∙◌, arith, IsPermutation, IsSorted, All, subst}
+use Rattle.std.proofs.Common.{◌≡◌, ℕ, ℤ, pos, Bool, ◌||◌, ◌==◌, Some, None, Option, true, false, List, [], ◌∷◌, map, drop, refl, sym, ap, ap₂, ◌∙◌, arith, IsPermutation, IsSorted, subst}
 use Rattle.std.specs.Prelude.{filter, flat_map, is_some}
-use Rattle.std.specs.List.{AllByRecursion, list_any}
+use Rattle.std.specs.List.{list_any}
 use Rattle.std.proofs.lemmas.List.Elements.{All-from_recursion}
 use Rattle.std.proofs.lemmas.List.Sorted.{IsPermutation-trans, list_any-IsPermutation}
-use Rattle.sqlite_value.specs.declared.value.Value.TheVariants.{Null, Int}
+use Rattle.sqlite_value.specs.declared.value.Value.TheVariants.{Int}
 use Rattle.sqlite_value.specs.Order.{Row, column}
 use Rattle.sqlite_value.specs.Keys.{plain, entry_cmp}
 use Rattle.sqlite_value.proofs.KeyLemmas.{entry_cmp_total}
@@ -13,7 +13,6 @@ use Rattle.sqlite_trees.specs.Tree.{Trees}
 use Rattle.sqlite_trees.specs.View.{is_int}
 use Rattle.sqlite_trees.proofs.ListLemmas.{all-filter, ascending-filter, ascending-map, ascending_weaker}
 use Rattle.osm_value.specs.declared.element.MemberKind.{MemberKind}
-use Rattle.osm_value.specs.Value.{Text, MemberValue}
 use Rattle.osm_value.specs.Elements.{tags_of_element, kind_of_element, id_of_element, info_of_element}
 use Rattle.osm_store.specs.declared.load.tables.rows.TableRows.{TableRows}
 use Rattle.osm_store.specs.declared.schema.layout.Layout.TheVariants.{Tables}
@@ -23,28 +22,17 @@ use Rattle.osm_store.specs.LayoutHolding.{IsKept, TablesHold}
 use Rattle.osm_store.specs.Load.TableAnswers.{AreRowsOf}
 use Rattle.osm_store.specs.Load.TableParts.{is_part_at, IsAlone}
 use Rattle.osm_store.specs.Rows.{Placed, IsBefore, element_code, is_in, is_of, placed_in}
-use Rattle.osm_store.specs.TableRows.{Part, flag, element_row, element_rows, tags_at, tag_row, tag_rows, links_of, links_at, link_row, link_rows}
+use Rattle.osm_store.specs.TableRows.{flag, element_row, element_rows, tags_at, tag_row, tag_rows, links_of, links_at, link_row, link_rows}
 use Rattle.osm_store.proofs.ListLemmas.SortedLists.{sorted_is}
 use Rattle.osm_store.proofs.MapLemmas.PlacedLaws.{placed_in_rise}
 use Rattle.osm_store.proofs.MapLemmas.PartLaws.{IsPartBefore, all_parts_rise}
 use Rattle.osm_store.proofs.MapLemmas.TableHeld.{parts_of_blob}
 use Rattle.osm_store.proofs.MapLemmas.StoredElements.{all_stored}
-use Rattle.osm_trees.specs.Below.{Finds, is_flagged}
+use Rattle.osm_tree_audits.specs.Finding.{Finds}
+use Rattle.osm_tree_audits.proofs.Orders.{same_all, by_place, by_part, elements_rise, parts_rise}
+use Rattle.osm_trees.specs.Below.{is_flagged}
 use Rattle.osm_trees.proofs.Found.{found, in_order}
-use Rattle.osm_trees.proofs.Keys.{one_number, two_numbers, two_naturals, elements_rise, parts_rise}
-
-same_all : {A : Type 0} (xs : List A) → map (λ (x : A). x) xs ≡ xs
-same_all [] = refl
-same_all (x ∷ xs) = ap (λ l. x ∷ l) (same_all xs)
-
--- the key's columns, with the rowid and without it
-by_place : (r : Row) → map (column (drop 1 r)) (0 ∷ 1 ∷ []) ≡ map (column r) (1 ∷ 2 ∷ [])
-by_place [] = refl
-by_place (x ∷ r) = refl
-
-by_part : (r : Row) → map (column (drop 1 r)) (0 ∷ 1 ∷ 2 ∷ []) ≡ map (column r) (1 ∷ 2 ∷ 3 ∷ [])
-by_part [] = refl
-by_part (x ∷ r) = refl
+use Rattle.osm_trees.proofs.Keys.{one_number, two_numbers, two_naturals}
 
 by_kind : (r : Row) → map (column (drop 1 r)) (2 ∷ 3 ∷ []) ≡ map (column r) (3 ∷ 4 ∷ [])
 by_kind [] = refl

@@ -10,7 +10,8 @@ use Rattle.osm_store.specs.declared.schema.layout.Layout.TheVariants.{Tables}
 use Rattle.osm_store.specs.Held.{HeldMap}
 use Rattle.osm_store.specs.Keeping.{OnlyReads}
 use Rattle.osm_store.specs.LayoutHolding.{IsKept, TablesHold}
-use Rattle.osm_trees.specs.Below.{HoldsBelow, IsUsable, MayLeave, LeavesAMap, SameTrees}
+use Rattle.osm_tree_writes.specs.Putting.{IsIndexedStore}
+use Rattle.osm_trees.specs.Below.{HoldsBelow, IsUsable, MayLeave, LeavesAMap, SameTrees, IsIndexed}
 
 pub record Reading (S : Type 0) : Type 0 where
   pub store : S
@@ -24,6 +25,19 @@ reading_code {S} code = code_by (S × ℕ) (coded× code coded_ℕ) (λ r. (r.st
 abbrev pub JustReads : {S T : Type 0} → Ghosts S → Reading S → Result T StoreFault → Reading S → Type 0
 JustReads g old result new = OnlyReads (λ r held. HoldsBelow Tables (g.view r.store) held) (λ r left. MayLeave (g.recovers r.store) left) (λ r. LeavesAMap (g.recovers r.store)) (λ r s. SameTrees (g.view r.store) (g.view s.store))
     (λ r. IsClean (g.view r.store)) (λ r. IsUsable (g.view r.store)) (λ r. r.failures) old result new
+
+-- one store has the trees that it has, and what is the same after one call and after the next is the same after both
+pub same_self : (v : View) → SameTrees v v
+same_self v = record { committed = refl; settled = λ settled. settled }
+
+pub same_next : (first next last : View) → SameTrees first next → SameTrees next last → SameTrees first last
+same_next first next last one two = record { committed = two.committed ∙ one.committed; settled = λ settled. two.settled (one.settled settled) }
+
+-- the same commit has the same indexes
+pub indexed_after : (one other : View) → SameTrees one other → IsIndexed one → IsIndexed other
+indexed_after one other same is =
+    let settled = same.settled is.settled in
+    record { settled = settled; indexed = subst IsIndexedStore (is.settled ∙ sym same.committed ∙ sym settled) is.indexed }
 
 -- a store that isn't broken is open
 pub open_of : (is_open is_broken : Bool) → (is_open ≡ false → IsTrue is_broken) → is_broken ≡ false → IsTrue is_open

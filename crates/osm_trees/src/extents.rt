@@ -14,15 +14,13 @@ ghost use Rattle.osm_trees.specs.Below.{HoldsBelow, Looks};
 
 use crate::row::extent_of;
 use osm_store::{Extent, StoreFault, are_apart};
+use osm_tree_audits::trees::BLOBS;
 use osm_tree_writes::fault_of;
 use pbf_frame::MAX_OFFSET;
 use sqlite_trees::store::{Direction, Shape, Store};
 use sqlite_value::row::Row;
 use sqlite_value::value::ValueRef;
 use std::alloc::{AllocError, Global};
-
-/// The tree of the table of blobs.
-const BLOBS: u32 = 1;
 
 /// The extents that the rows of the tree stand for.
 fn read_extents<S: Store>(alloc: Global, store: &mut S) -> Result<Vec<Extent>, StoreFault>

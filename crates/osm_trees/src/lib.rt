@@ -3,7 +3,6 @@
 
 mod extents;
 mod history;
-mod keyed;
 pub mod laws;
 mod load;
 mod parts;

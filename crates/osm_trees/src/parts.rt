@@ -11,28 +11,17 @@ ghost use Rattle.osm_store.specs.Load.TableAnswers.{AreRowsOf};
 ghost use Rattle.osm_store.specs.Load.TableParts.{IsAlone};
 ghost use Rattle.osm_store.specs.Rows.{Placed, is_in, placed_in};
 ghost use Rattle.osm_store.specs.TableRows.{element_row, tags_at, tag_row, links_at, link_row};
-ghost use Rattle.osm_trees.specs.Below.{HoldsBelow, Looks, Finds};
+ghost use Rattle.osm_tree_audits.specs.Finding.{Finds};
+ghost use Rattle.osm_trees.specs.Below.{HoldsBelow, Looks};
 
-use crate::keyed::rows_with;
 use osm_store::StoreFault;
+use osm_tree_audits::rows_with;
+use osm_tree_audits::trees::{ELEMENT_KEY, ELEMENTS, LINK_KEY, LINKS, TAG_KEY, TAGS};
 use sqlite::Row;
 use sqlite_trees::store::Store;
 use sqlite_value::row;
 use sqlite_value::value::ValueRef;
 use std::alloc::{AllocError, Global};
-
-/// The trees of the tables of elements, of tags and of links, and those of the indexes of their primary keys.
-pub(crate) const ELEMENTS: u32 = 2;
-
-const ELEMENT_KEY: u32 = 3;
-
-const TAGS: u32 = 4;
-
-const TAG_KEY: u32 = 5;
-
-const LINKS: u32 = 6;
-
-const LINK_KEY: u32 = 7;
 
 /// The key of all rows at an offset.
 fn offset_key(alloc: Global, off: u64) -> Result<row::Row, AllocError>

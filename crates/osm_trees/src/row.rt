@@ -1,6 +1,6 @@
 //! What a row of a tree stands for.
 
-ghost use Rattle.std.specs.Prelude.{◌≡◌, ℕ, List, drop, pos, length, OnOk, IfSome, Some};
+ghost use Rattle.std.specs.Prelude.{◌≡◌, ℕ, List, pos, length, IfSome, Some};
 ghost use Rattle.sqlite_value.specs.declared.value.Value.TheVariants.{Int, Blob as Octets};
 ghost use Rattle.sqlite_value.specs.Order.{column};
 ghost use Rattle.pbf_frame.specs.declared.kind.Kind.{Kind as BlobKind};
@@ -13,18 +13,6 @@ use osm_store::Extent;
 use pbf_frame::{Kind, MAX_OFFSET};
 use sqlite_value::row::Row;
 use sqlite_value::value::ValueRef;
-use std::alloc::AllocError;
-
-/// Copies what follows the rowid.
-pub(crate) fn copy_columns(row: &Row, columns: &mut Row) -> Result<(), AllocError>
-    ensures { OnOk result (columns.new ≡ drop 1 row.now) }
-{
-    columns.clear();
-    for at in 1..row.len() {
-        columns.push(row.get(at))?;
-    }
-    Ok(())
-}
 
 /// A natural number in a column.
 fn natural(row: &Row, at: usize) -> Option<u64>

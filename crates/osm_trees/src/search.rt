@@ -15,9 +15,10 @@ ghost use Rattle.osm_store.specs.Rows.{Placed, element_code, is_of, placed_in};
 ghost use Rattle.osm_store.specs.TableRows.{element_rows, tag_rows, link_rows};
 ghost use Rattle.osm_trees.specs.Below.{HoldsBelow, Looks};
 
-use crate::keyed::rows_with;
-use crate::parts::{ELEMENTS, parts_of};
+use crate::parts::parts_of;
 use osm_store::{StoreFault, element_code};
+use osm_tree_audits::rows_with;
+use osm_tree_audits::trees::{ELEMENT_BY_ID, ELEMENTS};
 use osm_value::MemberKind;
 use sqlite::Row;
 use sqlite_exec::work::FromRow;
@@ -26,9 +27,6 @@ use sqlite_value::keys::Order;
 use sqlite_value::row;
 use sqlite_value::value::ValueRef;
 use std::alloc::{AllocError, Global};
-
-/// The tree of the index of elements by kind and id.
-const ELEMENT_BY_ID: u32 = 8;
 
 /// The key of the elements of this kind and id.
 fn id_key(alloc: Global, kind: MemberKind, id: i64) -> Result<row::Row, AllocError>

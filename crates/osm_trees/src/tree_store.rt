@@ -6,7 +6,8 @@ ghost use Rattle.osm_store.specs.Keeping.{failures_after};
 use crate::extents::{all_extents, touched_extents};
 use crate::history::any_flag;
 use crate::load::{find_elements, load_blob};
-use osm_store::{Extent, Found, Keeper, Loaded, Reader, StoreFault};
+use osm_store::{Audited, Counts, Extent, Found, Keeper, Loaded, Reader, StoreFault};
+use osm_tree_audits::{has_row_counts, has_rows_of};
 use osm_tree_writes::put_blob;
 use osm_value::{Element, MemberKind};
 use pbf_frame::Kind;
@@ -69,12 +70,11 @@ fn failures_after<T>(answer: &Result<T, StoreFault>, failures: u64) -> u64
 }
 
 impl<S: Store> Reader for TreeStore<S> {
-    ghost use Rattle.std.specs.Prelude.{refl};
     ghost use Rattle.sqlite_trees.specs.View.{IsClean};
     ghost use Rattle.osm_store.specs.declared.schema.layout.Layout.TheVariants.{Tables};
-    ghost use Rattle.osm_store.specs.StoreLaws.{few_texts_of, same_then};
+    ghost use Rattle.osm_store.specs.StoreLaws.{few_texts_of};
     ghost use Rattle.osm_trees.specs.Below.{HoldsBelow, IsUsable, MayLeave, LeavesAMap, SameTrees};
-    ghost use Rattle.osm_trees.specs.Reading.{leaves_held_alone, leaves_held, usable_or_not};
+    ghost use Rattle.osm_trees.specs.Reading.{leaves_held_alone, leaves_held, usable_or_not, same_self, same_next};
 
     ghost holds = { λ r held. HoldsBelow Tables (S.Store.view r.store) held };
 
@@ -133,9 +133,9 @@ impl<S: Store> Reader for TreeStore<S> {
 
     ghost open_or_shut = { λ r clean. usable_or_not _ clean };
 
-    ghost same_tables_self = { λ r. refl };
+    ghost same_tables_self = { λ r. same_self _ };
 
-    ghost same_tables_then = { λ first next last one two. same_then _ _ _ one two };
+    ghost same_tables_then = { λ first next last one two. same_next _ _ _ one two };
 
     ghost leaves_held = { λ r held holds. leaves_held _ _ held holds (λ db up there. S.settled r.store db up there) (S.broken_if_shut r.store) };
 
@@ -165,4 +165,55 @@ impl<S: Store> Keeper for TreeStore<S> {
         self.failures = failures_after(&answer, self.failures);
         answer
     }
+}
+
+/// Rows are found by the indexes, so these have to be whole, as `osm_tree_audits::faulty_index` finds.
+impl<S: Store> Audited for TreeStore<S> {
+    ghost use Rattle.osm_store.specs.declared.schema.layout.Layout.TheVariants.{Tables};
+    ghost use Rattle.osm_store.specs.Keeping.{extent_of};
+    ghost use Rattle.osm_tree_audits.specs.Auditing.{KeepsBlob};
+    ghost use Rattle.osm_trees.specs.Below.{IsIndexed};
+    ghost use Rattle.osm_tree_audits.proofs.Shown.{blob_shown};
+    ghost use Rattle.osm_trees.specs.Reading.{indexed_after};
+
+    ghost layout = { Tables };
+
+    ghost has_tables = { λ r. IsIndexed (S.Store.view r.store) };
+
+    ghost trees = { λ r. (S.Store.view r.store).committed };
+
+    ghost has_rows = { λ r off blob. KeepsBlob (S.Store.view r.store).committed (extent_of (off, blob)) blob.elements };
+
+    fn has_blob(
+        &mut self,
+        alloc: Global,
+        off: u64,
+        fin: u64,
+        digest: &[u8; 32],
+        kind: Kind,
+        elements: &[Element],
+    ) -> Result<bool, StoreFault> {
+        let wanted = Extent {
+            off,
+            fin,
+            digest: *digest,
+            kind,
+            n: elements.len() as u64,
+        };
+        let answer = has_rows_of(alloc, &mut self.store, &wanted, elements);
+        self.failures = failures_after(&answer, self.failures);
+        answer
+    }
+
+    fn has_counts(&mut self, alloc: Global, counts: &Counts) -> Result<bool, StoreFault> {
+        let answer = has_row_counts(alloc, &mut self.store, counts);
+        self.failures = failures_after(&answer, self.failures);
+        answer
+    }
+
+    ghost shown = { λ r off blob has. blob_shown _ off blob has };
+
+    ghost same_trees = { λ one other same. same.committed };
+
+    ghost same_has_tables = { λ one other same has. indexed_after _ _ same has };
 }

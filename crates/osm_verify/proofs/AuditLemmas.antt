@@ -21,7 +21,7 @@ use Rattle.osm_import.proofs.FilesLemmas.{entry-same}
 use Rattle.osm_import.proofs.GoodLaws.{frame-filled}
 use Rattle.osm_verify.specs.declared.comparing.Depth.TheVariants.{Elements}
 use Rattle.osm_verify.specs.Agreements.{IsSame}
-use Rattle.osm_verify.specs.Audits.{AreEntries, IsShown, AuditedShowsImport}
+use Rattle.osm_verify.specs.Audits.{AreEntries, IsEntryOf, AuditedShowsImport}
 use Rattle.osm_verify.proofs.LawLemmas.{exact-is-one}
 
 frame-long : (off : ℕ) (frame : List ℕ) (blob : Blob) → IsEntry off frame blob → 4 ≤ length frame
@@ -32,12 +32,15 @@ true-and true b p q = q
 true-and false b p q = absurd p
 
 -- what is told of the rows of a frame's entry is told of the frame
-pub shown-told : (layout : Layout) (db : Trees) (off : ℕ) (frame : List ℕ) (blob : Blob) (elements : List Element) (T : Type 0) → IsEntry off frame blob → blob.elements ≡ elements → T ↔ ShowsBlob layout db off blob
-    → T ↔ IsShown layout db off frame elements
-shown-told layout db off frame blob elements T entry are told = (
+pub shown-told : (P : Blob → Type 0) (off : ℕ) (frame : List ℕ) (blob : Blob) (elements : List Element) (T : Type 0) → IsEntry off frame blob → blob.elements ≡ elements → T ↔ P blob → T ↔ IsEntryOf P off frame elements
+shown-told P off frame blob elements T entry are told = (
   (λ t. record { entry = blob; is_entry = entry; elements_are = are; so = told.0 t }),
-  (λ s. told.1 (subst (λ (b : Blob). ShowsBlob layout db off b) (entry-same off frame s.entry blob s.is_entry entry) s.so)),
+  (λ s. told.1 (subst P (entry-same off frame s.entry blob s.is_entry entry) s.so)),
 )
+
+-- what is so of a frame's entry implies what it implies
+pub entry-weaker : (P Q : Blob → Type 0) (off : ℕ) (frame : List ℕ) (elements : List Element) → ((blob : Blob) → P blob → Q blob) → IsEntryOf P off frame elements → IsEntryOf Q off frame elements
+entry-weaker P Q off frame elements weaker is = record { entry = is.entry; is_entry = is.is_entry; elements_are = is.elements_are; so = weaker is.entry is.so }
 
 -- what a held map is told to have at a frame's offset
 pub held-told : (held : HeldMap) (off : ℕ) (frame : List ℕ) (blob : Blob) (T : Type 0) → IsEntry off frame blob → T ↔ (get held off ≡ Some blob) → T ↔ IsSame Elements held off frame

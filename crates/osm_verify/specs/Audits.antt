@@ -1,6 +1,5 @@
 -- What it comes to that a database has the rows of each frame of a file, and no others, whatever else was said of it.
 use Rattle.std.specs.Prelude.{◌≡◌, ℕ, ◌+◌, List, [], ◌∷◌, length}
-pub use Rattle.sqlite.specs.Effect.{Database}
 pub use Rattle.sqlite.specs.Tree.{Trees}
 use Rattle.osm_value.specs.declared.element.Element.{Element}
 use Rattle.osm_store.specs.declared.schema.layout.Layout.{Layout}

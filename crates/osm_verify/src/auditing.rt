@@ -3,12 +3,11 @@
 ghost use Rattle.std.specs.Prelude.{◌≡◌, ◌↔◌, ◌≤◌, IsTrue, IfOk, IfErr};
 ghost use Rattle.osm_store.specs.Held.{HeldMap};
 ghost use Rattle.osm_store.specs.Keeping.{IsForeign};
-ghost use Rattle.osm_store.specs.Schema.Layouts.{schema_of};
 ghost use Rattle.osm_import.specs.Good.{IsGood};
 ghost use Rattle.osm_import.specs.Step.{HasCause};
 ghost use Rattle.osm_import.specs.Stores.{Rereads};
 ghost use Rattle.osm_verify.specs.Agreements.{IsSame};
-ghost use Rattle.osm_verify.specs.Audits.{IsShown};
+ghost use Rattle.osm_verify.specs.Audits.{IsEntryOf, IsShown};
 ghost use Rattle.osm_verify.specs.declared.comparing.Depth.TheVariants.{Elements};
 
 use osm_import::Good;
@@ -20,7 +19,8 @@ use std::alloc::Global;
 /// Whether the rows that a store's tables have at the offset `off`, in bytes, of a file are those that an import of the good
 /// frame there, of these bytes, writes, and no others. What is held stays.
 ///
-/// Of the rows nothing has to be known, but the tables have to be those of a store. An error is that of a read of the store
+/// Of the rows nothing has to be known, but the tables have to be those of a store, and their indexes, where rows are found by
+/// them, whole (`has_tables`). An error is that of a read of the store
 /// that has failed, or `Memory` where memory was refused. Over an honest disk, where the store holds a map, it is never
 /// `NotThisStore`.
 pub fn has_frame<K: Audited>(
@@ -31,8 +31,11 @@ pub fn has_frame<K: Audited>(
     good: &Good<'_>,
 ) -> Result<bool, StoreFault>
     requires { IsGood off bytes.now good.now.kind good.now.elements.items }
-    ensures told { K.is_honest store.new → (K.database store.old).schema ≡ schema_of K.layout
-        → IfOk result (λ told. IsTrue told ↔ IsShown K.layout (K.database store.old).trees off bytes.now good.now.elements.items) }
+    ensures told { K.is_honest store.new → K.has_tables store.old
+        → IfOk result (λ told. IsTrue told ↔ IsEntryOf (K.has_rows store.old off) off bytes.now good.now.elements.items) }
+    // and so queries see them
+    ensures shown { K.is_honest store.new → K.has_tables store.old
+        → IfOk result (λ told. IsTrue told → IsShown K.layout (K.trees store.old) off bytes.now good.now.elements.items) }
     // over a held map, it is whether the map has the frame's blob there
     ensures held { (held : HeldMap) → K.holds store.old held → K.is_honest store.new → IfOk result (λ told. IsTrue told ↔ IsSame Elements held off bytes.now) }
     ensures same { K.is_honest store.new → K.is_open store.new → K.same_tables store.old store.new }

@@ -4,7 +4,6 @@ ghost use Rattle.std.specs.Prelude.{◌≡◌, ◌==◌, ◌+◌, ◌<◌, ◌�
 ghost use Rattle.sha2.specs.Sha256.{sha256};
 ghost use Rattle.osm_store.specs.Held.{HeldMap};
 ghost use Rattle.osm_store.specs.Keeping.{IsForeign, extents_of};
-ghost use Rattle.osm_store.specs.Schema.Layouts.{schema_of};
 ghost use Rattle.osm_import.specs.Good.{IsGood};
 ghost use Rattle.osm_import.specs.Step.{HasCause};
 ghost use Rattle.osm_import.specs.Stores.{Rereads};
@@ -81,8 +80,8 @@ pub fn compare<K: Audited>(
 ) -> Result<Agreement, StoreFault>
     requires { IsGood off bytes.now good.now.kind good.now.elements.items }
     ensures compared { (held : HeldMap) → K.holds store.old held → K.is_honest store.new → IfOk result (IsAgreement depth held off bytes.now) }
-    ensures shown { K.is_honest store.new → K.is_open store.new → (K.database store.old).schema ≡ schema_of K.layout → depth ≡ Depth.Elements
-        → IfOk result (λ agreement. agreement ≡ Agreement.Same → IsShown K.layout (K.database store.old).trees off bytes.now good.now.elements.items) }
+    ensures shown { K.is_honest store.new → K.is_open store.new → K.has_tables store.old → depth ≡ Depth.Elements
+        → IfOk result (λ agreement. agreement ≡ Agreement.Same → IsShown K.layout (K.trees store.old) off bytes.now good.now.elements.items) }
     ensures same { K.is_honest store.new → K.is_open store.new → K.same_tables store.old store.new }
     ensures rereads { Rereads K.Reader store.old result store.new }
     ensures own { (held : HeldMap) → K.holds store.old held → K.is_honest store.new → IfErr result (λ fault. ¬ (IsForeign fault)) }

@@ -2,7 +2,8 @@
 
 use crate::database::{end, refuse};
 use crate::meter::Meter;
-use osm_databases::databases::{Databases, source_of_rows};
+use osm_databases::databases::{CheckedDatabases, opened_checked};
+use osm_trees::Opened;
 use osm_value::Outlet;
 use osm_verify::Depth;
 use pbfrow_commands::input::refuse_input;
@@ -13,9 +14,9 @@ use std::fs::File;
 use std::io;
 use std::io::{BufWriter, Read, Write};
 
-/// Compares what a reader gives with a database, each page and row of which is looked at as it is opened, and answers the
+/// Compares what a reader gives with a database, each page and index of which is looked at as it is opened, and answers the
 /// exit status.
-fn compare_in<D: Databases, R: Read, W: Write>(
+fn compare_in<D: CheckedDatabases, R: Read, W: Write>(
     rt: &HostRuntime,
     files: &D,
     input: &mut R,
@@ -24,14 +25,17 @@ fn compare_in<D: Databases, R: Read, W: Write>(
     meter: &Meter,
     out: &mut Outlet<W>,
 ) -> u8 {
-    match source_of_rows(rt, files, database) {
-        Ok(mut store) => verify(rt.alloc(), &mut store, input, depth, meter, out),
+    match opened_checked(rt, files, database) {
+        Ok(Opened::ByTrees(mut store)) => {
+            verify(rt.alloc(), &mut store, input, depth, meter, out)
+        }
+        Ok(Opened::BySql(mut store)) => verify(rt.alloc(), &mut store, input, depth, meter, out),
         Err(fault) => refuse(out, fault),
     }
 }
 
 /// Compares a file with a database, and answers the exit status. If there is no database, none is made.
-pub(crate) fn compare<D: Databases>(
+pub(crate) fn compare<D: CheckedDatabases>(
     rt: &HostRuntime,
     files: &D,
     file: &str,

@@ -16,7 +16,6 @@ use Rattle.osm_value.specs.declared.element.Element.{Element}
 use Rattle.osm_store.specs.Audit.{AreCountable, ShowsCounts, counts_of as counts_of_rows, elements_held}
 use Rattle.osm_store.specs.Held.{HeldMap, IsApart}
 use Rattle.osm_store.specs.Keeping.{extents_of}
-use Rattle.osm_store.specs.Schema.Layouts.{schema_of}
 use Rattle.osm_store.specs.declared.audit.counts.Counts.{Counts as Rows}
 use Rattle.osm_store.specs.declared.fault.StoreFault.{StoreFault}
 use Rattle.osm_store.specs.declared.keeper.Extent.{Extent}
@@ -33,7 +32,7 @@ use Rattle.osm_import.specs.declared.stream.fault.Stop.{Stop}
 use Rattle.osm_import.specs.declared.stream.fault.Stop.TheVariants.{Frame, NoHeaderFirst, WriteFailed, Store, ReadFailed, BlobLimit}
 use Rattle.osm_import.specs.declared.stream.fault.StreamFault.{StreamFault}
 use Rattle.osm_verify.specs.Agreements.{begins}
-use Rattle.osm_verify.specs.Audits.{Database, Trees, AreEntries, AreShown}
+use Rattle.osm_verify.specs.Audits.{Trees, AreEntries, AreShown}
 use Rattle.osm_verify.specs.Laws.{AreSame, AreAlone, IsExact}
 use Rattle.osm_verify.specs.declared.comparing.Depth.{Depth}
 use Rattle.osm_verify.specs.declared.comparing.Depth.TheVariants.{Elements}
@@ -394,10 +393,10 @@ reads-more before trusted layout db depth left was now at w c d r s blobs p weak
     }
 
 -- at the end of the input
-pub seen-whole : (before is_open : Type 0) (layout : Layout) (first last : Database) (depth : Depth) (left : Known) (now : Reading) (counts : Counts) (rows : Rows) (blobs : List (Part Compared)) (close : Close)
-    → Reads before layout first.trees depth left now counts rows blobs → IsAtEnd now.left → first.schema ≡ schema_of layout → (is_open → before) → (is_open → last ≡ first)
-    → HasCountedRows is_open layout last depth counts rows close → HasSeenInput layout first.trees depth left counts close
-seen-whole before is_open layout first last depth left now counts rows blobs (Whole extras) so_far ended schema trust there counted = (
+pub seen-whole : (before is_open has_tables : Type 0) (layout : Layout) (first last : Trees) (depth : Depth) (left : Known) (now : Reading) (counts : Counts) (rows : Rows) (blobs : List (Part Compared)) (close : Close)
+    → Reads before layout first depth left now counts rows blobs → IsAtEnd now.left → (is_open → before) → (is_open → (last ≡ first) × has_tables)
+    → HasCountedRows is_open has_tables layout last depth counts rows close → HasSeenInput layout first depth left counts close
+seen-whole before is_open has_tables layout first last depth left now counts rows blobs (Whole extras) so_far ended trust there counted = (
   blobs,
   record {
     found = so_far.found;
@@ -408,12 +407,11 @@ seen-whole before is_open layout first last depth left now counts rows blobs (Wh
     shown = λ deep agreed none few.
         let told = counted deep agreed none (subst (λ (r : Rows). AreCountable r) (sym so_far.rows_are) few) in
         let same = there told.0 in
-        let shown = told.1 (ap (λ (d : Database). d.schema) same ∙ schema) in
-        (so_far.seen (trust told.0), subst (λ (r : Rows). ShowsCounts layout first.trees r) so_far.rows_are (subst (λ (d : Database). ShowsCounts layout d.trees rows) same shown));
+        (so_far.seen (trust told.0), subst (λ (r : Rows). ShowsCounts layout first r) so_far.rows_are (subst (λ (db : Trees). ShowsCounts layout db rows) same.0 (told.1 same.1)));
   },
 )
-seen-whole before is_open layout first last depth left now counts rows blobs (Early stop) so_far ended schema trust there counted = tt
-seen-whole before is_open layout first last depth left now counts rows blobs Unwritten so_far ended schema trust there counted = tt
+seen-whole before is_open has_tables layout first last depth left now counts rows blobs (Early stop) so_far ended trust there counted = tt
+seen-whole before is_open has_tables layout first last depth left now counts rows blobs Unwritten so_far ended trust there counted = tt
 
 pub shown-at-zero : (layout : Layout) (db : Trees) (left : Known) (c : Counts) (close : Close) (failed : Bool) (status : ℕ) → HasSeenInput layout db Elements left c close → is_whole close ≡ true
     → ((blobs : List (Part Compared)) → c ≡ counts_of blobs 0 → status ≡ status_of (is_agreed close blobs) failed) → status ≡ 0

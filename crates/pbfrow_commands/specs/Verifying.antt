@@ -10,7 +10,6 @@ use Rattle.osm_value.specs.declared.element.Element.{Element}
 use Rattle.osm_store.specs.Audit.{AreCountable, ShowsCounts, counts_of as counts_of_rows}
 use Rattle.osm_store.specs.Held.{HeldMap}
 use Rattle.osm_store.specs.Keeping.{IsForeign, extents_of}
-use Rattle.osm_store.specs.Schema.Layouts.{schema_of}
 use Rattle.osm_store.specs.declared.audit.counts.Counts.{Counts as Rows}
 use Rattle.osm_store.specs.declared.fault.StoreFault.{StoreFault}
 use Rattle.osm_store.specs.declared.keeper.Extent.{Extent}
@@ -25,7 +24,7 @@ use Rattle.osm_import.specs.declared.stream.fault.Stop.{Stop}
 use Rattle.osm_import.specs.declared.stream.fault.Stop.TheVariants.{Frame, NoHeaderFirst, Store}
 use Rattle.osm_import.specs.declared.stream.fault.StreamFault.{StreamFault}
 use Rattle.osm_verify.specs.Agreements.{IsAgreement, begins}
-use Rattle.osm_verify.specs.Audits.{Database, Trees, IsEntryOf, AreEntries, IsShown, ShowsImport}
+use Rattle.osm_verify.specs.Audits.{Trees, IsEntryOf, AreEntries, IsShown, ShowsImport}
 use Rattle.osm_verify.specs.declared.comparing.Depth.{Depth}
 use Rattle.osm_verify.specs.declared.comparing.Depth.TheVariants.{Elements}
 use Rattle.osm_verify.specs.declared.comparing.Agreement.{Agreement}
@@ -212,11 +211,11 @@ pub record VerifiesInput (depth : Depth) (held : HeldMap) (left written_old writ
 -- ---- whatever rows the tables have
 
 -- where by elements all was found alike and nothing more, and SQL can count so many rows, the tables have so many
-abbrev pub HasCountedRows : Type 0 → Layout → Database → Depth → Counts → Rows → Close → Type 0
-HasCountedRows is_open layout db depth counts rows (Whole extras) =
-    depth ≡ Elements → agree counts ≡ true → extras.items ≡ [] → AreCountable rows → is_open × (db.schema ≡ schema_of layout → ShowsCounts layout db.trees rows)
-HasCountedRows is_open layout db depth counts rows (Early stop) = Unit {0}
-HasCountedRows is_open layout db depth counts rows Unwritten = Unit {0}
+abbrev pub HasCountedRows : Type 0 → Type 0 → Layout → Trees → Depth → Counts → Rows → Close → Type 0
+HasCountedRows is_open has_tables layout db depth counts rows (Whole extras) =
+    depth ≡ Elements → agree counts ≡ true → extras.items ≡ [] → AreCountable rows → is_open × (has_tables → ShowsCounts layout db rows)
+HasCountedRows is_open has_tables layout db depth counts rows (Early stop) = Unit {0}
+HasCountedRows is_open has_tables layout db depth counts rows Unwritten = Unit {0}
 
 -- The whole input is these frames, so counted, with these extents behind. Where by elements all was found alike and nothing
 -- more, and SQL can count their rows, the rows at the offset of each are those of its blob, and the tables have no more.

@@ -8,7 +8,6 @@ ghost use Rattle.osm_value.specs.declared.element.Element.{Element as ElementVal
 ghost use Rattle.osm_store.specs.Audit.{AreCountable, ShowsCounts, counts_of as counts_of_rows, elements_held};
 ghost use Rattle.osm_store.specs.Held.{HeldMap};
 ghost use Rattle.osm_store.specs.Keeping.{IsForeign, extents_of};
-ghost use Rattle.osm_store.specs.Schema.Layouts.{schema_of};
 ghost use Rattle.osm_import.specs.Files.{IsFile};
 ghost use Rattle.osm_import.specs.Good.{IsFrame};
 ghost use Rattle.osm_import.specs.Step.{HasCause};
@@ -167,8 +166,8 @@ pub fn verify<K: Audited, R: Read, P: Watcher, W: Write>(
         → IfSome (R.remaining input.old) (λ bytes. (frames : List (List ℕ)) × IsFile bytes frames × IsExact depth held frames) }
     // At 0 by elements, whatever rows the tables have had: they are such as an import of the input writes, and no others. That
     // leaves out an input of more rows than SQL can count.
-    ensures shown { K.is_honest store.new → (K.database store.old).schema ≡ schema_of K.layout → depth ≡ Depth.Elements → result ≡ 0
-        → IfSome (R.remaining input.old) (λ bytes. (frames : List (List ℕ)) × IsFile bytes frames × ShowsFile K.layout (K.database store.old).trees frames) }
+    ensures shown { K.is_honest store.new → K.has_tables store.old → depth ≡ Depth.Elements → result ≡ 0
+        → IfSome (R.remaining input.old) (λ bytes. (frames : List (List ℕ)) × IsFile bytes frames × ShowsFile K.layout (K.trees store.old) frames) }
     ensures stays { Stays K.Reader store.old store.new }
 {
     let mut counts = Counts::NONE;
@@ -190,7 +189,7 @@ fn compare_blobs<K: Audited, R: Read, P: Watcher, W: Write>(
     ensures told { (held : HeldMap) → K.holds store.old held → K.is_honest store.new
         → (blobs : List (Part Compared)) × ComparesBlobs depth held (R.remaining input.old) (W.contents out.old.writer) (W.contents out.new.writer) out.new.has_failed (K.failures store.old) (K.failures store.new) blobs result
         × (counts.new ≡ counts_of blobs 0) }
-    ensures seen { K.is_honest store.new → (K.database store.old).schema ≡ schema_of K.layout → HasSeenInput K.layout (K.database store.old).trees depth (R.remaining input.old) counts.new result }
+    ensures seen { K.is_honest store.new → K.has_tables store.old → HasSeenInput K.layout (K.trees store.old) depth (R.remaining input.old) counts.new result }
     ensures stays { Stays K.Reader store.old store.new }
 {
     let mut frames = match FrameReader::new(alloc, 0, Inlet::new(input)) {
@@ -233,7 +232,7 @@ fn close_whole<K: Audited>(
     ensures extras { (held : HeldMap) → K.holds store.old held → K.is_honest store.new
         → (depth ≡ Depth.Elements → agree counts.now ≡ true → filter (begins end LAST) (extents_of held) ≡ [] → rows.now ≡ counts_of_rows (elements_held held))
         → IsClosing held end (K.failures store.old) (K.failures store.new) result }
-    ensures shown { K.is_honest store.new → HasCountedRows (K.is_open store.new) K.layout (K.database store.old) depth counts.now rows.now result }
+    ensures shown { K.is_honest store.new → HasCountedRows (K.is_open store.new) (K.has_tables store.old) K.layout (K.trees store.old) depth counts.now rows.now result }
     ensures same { K.is_honest store.new → K.is_open store.new → K.same_tables store.old store.new }
     ensures stays { Stays K.Reader store.old store.new }
     ensures counted { K.failures store.old ≤ K.failures store.new }
@@ -245,7 +244,7 @@ fn close_whole<K: Audited>(
     if !are_alike(depth, counts, &extras) {
         return Close::Whole(extras);
     }
-    match has_rows(store, rows) {
+    match has_rows(alloc, store, rows) {
         Ok(true) => Close::Whole(extras),
         Ok(false) => Close::broken(StoreFault::NotThisStore(None), end),
         Err(fault) => Close::broken(fault, end),
@@ -260,10 +259,10 @@ fn are_alike(depth: Depth, counts: &Counts, extras: &[Extent]) -> bool
 }
 
 /// Whether the tables have so many rows, or SQL can't count so many, as on no disk.
-fn has_rows<K: Audited>(store: &mut K, rows: &Rows) -> Result<bool, StoreFault>
+fn has_rows<K: Audited>(alloc: Global, store: &mut K, rows: &Rows) -> Result<bool, StoreFault>
     ensures held { (held : HeldMap) → K.holds store.old held → K.is_honest store.new → rows.now ≡ counts_of_rows (elements_held held) → IfOk result IsTrue }
     ensures shown { K.is_honest store.new → AreCountable rows.now
-        → IfOk result (λ told. K.is_open store.new × (IsTrue told → (K.database store.old).schema ≡ schema_of K.layout → ShowsCounts K.layout (K.database store.old).trees rows.now)) }
+        → IfOk result (λ told. K.is_open store.new × (IsTrue told → K.has_tables store.old → ShowsCounts K.layout (K.trees store.old) rows.now)) }
     ensures same { K.is_honest store.new → K.is_open store.new → K.same_tables store.old store.new }
     ensures rereads { Rereads K.Reader store.old result store.new }
     ensures own { (held : HeldMap) → K.holds store.old held → K.is_honest store.new → IfErr result (λ fault. ¬ (IsForeign fault)) }
@@ -273,7 +272,7 @@ fn has_rows<K: Audited>(store: &mut K, rows: &Rows) -> Result<bool, StoreFault>
     if !rows.are_countable() {
         return Ok(true);
     }
-    store.has_counts(rows)
+    store.has_counts(alloc, rows)
 }
 
 /// Compares a blob, counts it and its rows, writes its lines, and answers the offset behind it. At an error the counts stay,
@@ -298,7 +297,7 @@ fn compare_blob<K: Audited, S: Sink>(
     ensures seen { OnOk result ((p : Part Compared) × (p.bytes ≡ bytes.now) × IsPart p × HasOwnElements at p
         × ((blobs : List (Part Compared)) → counts.old ≡ counts_of blobs 0 → counts.new ≡ counts_of (blobs ++ p ∷ []) 0)
         × CountsMore rows.old p.found.elements rows.new
-        × (K.is_honest store.new → K.is_open store.new → (K.database store.old).schema ≡ schema_of K.layout → HasSeen K.layout (K.database store.old).trees depth at p)) }
+        × (K.is_honest store.new → K.is_open store.new → K.has_tables store.old → HasSeen K.layout (K.trees store.old) depth at p)) }
     ensures same { K.is_honest store.new → K.is_open store.new → K.same_tables store.old store.new }
     ensures end { IfOk result (λ end. end ≡ at + length bytes.now) }
     ensures err { OnErr result ((out.new ≡ out.old) × (counts.new ≡ counts.old)) }
@@ -331,7 +330,7 @@ fn inspect<K: Audited>(
     ensures found { IfOk result (λ finding. (elements : List ElementValue) × HasElements at bytes.now finding.verdict elements × CountsMore rows.old elements rows.new
         × ((held : HeldMap) → K.holds store.old held → K.is_honest store.new
         → IsCompared depth held at bytes.now (record { verdict = finding.verdict; extras = finding.extras.items; elements = elements }))
-        × (K.is_honest store.new → K.is_open store.new → (K.database store.old).schema ≡ schema_of K.layout → IsSeen K.layout (K.database store.old).trees depth at bytes.now finding.verdict elements)) }
+        × (K.is_honest store.new → K.is_open store.new → K.has_tables store.old → IsSeen K.layout (K.trees store.old) depth at bytes.now finding.verdict elements)) }
     ensures same { K.is_honest store.new → K.is_open store.new → K.same_tables store.old store.new }
     ensures rereads { Rereads K.Reader store.old result store.new }
     ensures own { (held : HeldMap) → K.holds store.old held → K.is_honest store.new → IfErr result (λ fault. ¬ (IsForeign fault)) }
@@ -372,7 +371,7 @@ fn judge<K: Audited>(
     requires { IsFrame bytes.now }
     ensures judged { IfOk result (λ verdict. (elements : List ElementValue) × HasElements at bytes.now verdict elements × CountsMore rows.old elements rows.new
         × ((held : HeldMap) → K.holds store.old held → K.is_honest store.new → IsComparison depth held at bytes.now verdict)
-        × (K.is_honest store.new → K.is_open store.new → (K.database store.old).schema ≡ schema_of K.layout → IsSeen K.layout (K.database store.old).trees depth at bytes.now verdict elements)) }
+        × (K.is_honest store.new → K.is_open store.new → K.has_tables store.old → IsSeen K.layout (K.trees store.old) depth at bytes.now verdict elements)) }
     ensures same { K.is_honest store.new → K.is_open store.new → K.same_tables store.old store.new }
     ensures rereads { Rereads K.Reader store.old result store.new }
     ensures own { (held : HeldMap) → K.holds store.old held → K.is_honest store.new → IfErr result (λ fault. ¬ (IsForeign fault)) }

@@ -45,7 +45,7 @@ use Rattle.osm_store.proofs.MapLemmas.TableHeld.{has_tables, parts_of_blob}
 
 -- ---- the rows of a table at an offset
 
-filter_same : {X : Type 0} (p q : X → Bool) → ((x : X) → p x ≡ q x) → (xs : List X) → filter p xs ≡ filter q xs
+pub filter_same : {X : Type 0} (p q : X → Bool) → ((x : X) → p x ≡ q x) → (xs : List X) → filter p xs ≡ filter q xs
 filter_same p q same [] = refl
 filter_same p q same (x ∷ xs) = elim (cases_Bool (q x)) [
   | inl passes ↦ rw (same x ∙ passes, passes) (ap (λ l. x ∷ l) (filter_same p q same xs))
@@ -58,13 +58,13 @@ module _ {X : Type 0} (row : X → Row) (of : X → ℕ) (first : (x : X) → co
       filter-map (is_at off) row xs
       ∙ ap (map row) (filter_same (λ x. is_at off (row x)) (λ x. of x == off) (λ x. ap (λ v. is_true (binary (Compare Eq Binary) v (Int (pos off)))) (first x) ∙ same_number (of x) off) xs)
 
-  shown_at : (table : List Row) (xs own : List X) → IsPermutation table (map row xs) → filter (λ x. of x == off) xs ≡ own → HasAt off (map row own) table
+  pub shown_at : (table : List Row) (xs own : List X) → IsPermutation table (map row xs) → filter (λ x. of x == off) xs ≡ own → HasAt off (map row own) table
   shown_at table xs own same is =
       subst (λ rows. IsPermutation rows (filter (is_at off) table)) (at_offset xs ∙ ap (map row) is) (IsPermutation-sym _ _ (IsPermutation-filter (is_at off) table (map row xs) same))
 
 -- ---- the entry at an offset
 
-abbrev entry_at : ℕ → Option Blob → List Entry
+abbrev pub entry_at : ℕ → Option Blob → List Entry
 entry_at off (Some blob) = (off, blob) ∷ []
 entry_at off None = []
 
@@ -92,7 +92,7 @@ entries_at (e ∷ es) off up =
           rest ∙ entries_at es off up.1 ∙ sym (ap (entry_at off) (known ∙ ap (λ b. cond b (Some e.1) (find nat_cmp off es)) test))
     ]
 
-extents_at : (held : HeldMap) (off : ℕ) → filter (λ (e : Extent). e.off == off) (extents_of held) ≡ map extent_of (entry_at off (get held off))
+pub extents_at : (held : HeldMap) (off : ℕ) → filter (λ (e : Extent). e.off == off) (extents_of held) ≡ map extent_of (entry_at off (get held off))
 extents_at held off =
     filter-map (λ (e : Extent). e.off == off) extent_of (entries held)
     ∙ ap (map extent_of) (entries_at (entries held) off (entries_rise held) ∙ sym (ap (entry_at off) (get-entries held off)))

@@ -68,8 +68,8 @@ fn has_columns<R: TableRow>(alloc: Global, row: &Row, expected: &R) -> Result<bo
     Ok(has_values(row, &values))
 }
 
-/// Whether rows have what others are to write, in the same order.
-pub(crate) fn have_columns<R: TableRow>(
+/// Whether rows have what others are to write, in the same order. An error is `Memory`.
+pub fn have_columns<R: TableRow>(
     alloc: Global,
     rows: &[Row],
     expected: &[R],

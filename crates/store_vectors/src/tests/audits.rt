@@ -1,14 +1,22 @@
 //! Whether a store has the rows of blobs and no others, over rows as they were put and over rows that statements over its
-//! connection have changed.
+//! connection have changed, by SQL and by its trees; and whether the indexes of trees are whole.
 
 use super::fixtures::{NOTHING, PLACED_HEADER, PLACED_NODES, PLACED_WAYS, THREE_WAYS, TWO_NODES};
-use super::memory::{BodiesInMemory, NewSqlStore, TablesInMemory};
+use super::memory::{BodiesInMemory, NewSqlStore, TablesInMemory, below};
 use super::spoiled::{FIVE_BLOBS, RELATION_AT_137, WAY_AT_203};
 use super::steps::followed;
 use super::tables::{RELATION, WAY};
 use osm_block::read_block;
 use osm_store::{Audited, Counts, Extent, StoreFault};
+use osm_tree_audits::trees::{ELEMENT_BY_ID, ELEMENT_KEY, ELEMENTS, LINK_KEY, TAG_KEY};
+use osm_tree_audits::{StoreIndex, faulty_index};
+use osm_trees::TreeStore;
 use osm_value::Element;
+use sqlite::MemStore;
+use sqlite_trees::store::{Direction, Shape, Store};
+use sqlite_value::keys::Order;
+use sqlite_value::row::Row;
+use sqlite_value::value::ValueRef;
 use std::alloc::Global;
 use std::process::Abort;
 use std::test::*;
@@ -89,7 +97,7 @@ impl Asked {
     fn is_there<K: Audited>(&self, alloc: Global, store: &mut K) -> Result<bool, StoreFault> {
         match self {
             Asked::Blob(extent, block) => has_block(alloc, store, extent, block),
-            Asked::Rows(counts) => store.has_counts(counts),
+            Asked::Rows(counts) => store.has_counts(alloc, counts),
         }
     }
 }
@@ -111,20 +119,15 @@ fn has_block<K: Audited>(
 }
 
 /// Expects the five blobs as they were put, and no others.
-fn expect_all<K: NewSqlStore, R: Abort + Alloc<A = Global>>(
-    rt: &R,
-    layout: &str,
-) -> Result<(), Fail> {
-    let mut store: K = followed(rt, layout, FIVE_BLOBS)?;
+fn expect_all<K: Audited, R: Abort + Alloc<A = Global>>(rt: &R, way: &str, store: &mut K) {
     for (number, asked) in ALL_ASKED.iter().enumerate() {
-        let answer = asked.is_there(rt.alloc(), &mut store);
-        assert_eq!(rt; answer, Ok(true), "{number} over {layout}");
+        let answer = asked.is_there(rt.alloc(), store);
+        assert_eq!(rt; answer, Ok(true), "{number} over {way}");
     }
     for (number, asked) in OTHERS.iter().enumerate() {
-        let answer = asked.is_there(rt.alloc(), &mut store);
-        assert_eq!(rt; answer, Ok(false), "other {number} over {layout}");
+        let answer = asked.is_there(rt.alloc(), store);
+        assert_eq!(rt; answer, Ok(false), "other {number} over {way}");
     }
-    Ok(())
 }
 
 /// Expects that each is there as it was put, and isn't once the rows are changed.
@@ -144,10 +147,28 @@ fn expect_changes<K: NewSqlStore, R: Abort + Alloc<A = Global>>(
     Ok(())
 }
 
+/// The same over the trees of a store of tables, once the rows are changed.
+fn expect_changes_below<R: Abort + Alloc<A = Global>>(
+    rt: &R,
+    table: &[Changed],
+) -> Result<(), Fail> {
+    for (sql, asked) in table {
+        let store: TablesInMemory = followed(rt, "tables", FIVE_BLOBS)?;
+        let mut trees = below(store.changed(sql).ok_or("a store")?);
+        let after = asked.is_there(rt.alloc(), &mut trees);
+        assert_eq!(rt; after, Ok(false), "{sql} over trees");
+    }
+    Ok(())
+}
+
 #[test]
 fn rows_as_they_were_put(rt: HostRuntime) -> Result<(), Fail> {
-    expect_all::<BodiesInMemory, _>(&rt, "bodies")?;
-    expect_all::<TablesInMemory, _>(&rt, "tables")
+    let mut bodies: BodiesInMemory = followed(&rt, "bodies", FIVE_BLOBS)?;
+    expect_all(&rt, "bodies", &mut bodies);
+    let mut tables: TablesInMemory = followed(&rt, "tables", FIVE_BLOBS)?;
+    expect_all(&rt, "tables", &mut tables);
+    expect_all(&rt, "trees", &mut below(tables));
+    Ok(())
 }
 
 /// A changed digest, an end or a kind, and a blob more.
@@ -168,7 +189,8 @@ fn changed_extents(rt: HostRuntime) -> Result<(), Fail> {
         ),
     ];
     expect_changes::<BodiesInMemory, _>(&rt, "bodies", TABLE)?;
-    expect_changes::<TablesInMemory, _>(&rt, "tables", TABLE)
+    expect_changes::<TablesInMemory, _>(&rt, "tables", TABLE)?;
+    expect_changes_below(&rt, TABLE)
 }
 
 /// Bodies more, fewer and others, at a held blob and at an offset of none.
@@ -248,7 +270,8 @@ fn changed_tables(rt: HostRuntime) -> Result<(), Fail> {
             ALL_ROWS,
         ),
     ];
-    expect_changes::<TablesInMemory, _>(&rt, "tables", TABLE)
+    expect_changes::<TablesInMemory, _>(&rt, "tables", TABLE)?;
+    expect_changes_below(&rt, TABLE)
 }
 
 /// The counts of blobs are those of their elements, one blob after the other.
@@ -260,5 +283,101 @@ fn counts_of_blobs(rt: HostRuntime) -> Result<(), Fail> {
         counts.add(&elements);
     }
     assert_eq!(rt; counts, ALL_COUNTS);
+    Ok(())
+}
+
+/// The trees of the five blobs.
+fn five_blobs<R: Abort + Alloc<A = Global>>(rt: &R) -> Result<MemStore, Fail> {
+    let store: TablesInMemory = followed(rt, "tables", FIVE_BLOBS)?;
+    Ok(store.into_connection().into_store())
+}
+
+/// Takes the first entry from an index, and leaves its row.
+fn take_entry<S: Store>(alloc: Global, trees: &mut S, index: u32) -> Option<()> {
+    let mut entry = Row::new(alloc);
+    trees.seek(0, index, &entry, Direction::Forward).ok()?;
+    if !trees.next(0, &mut entry).ok()? || trees.shape(index) != Shape::Index(Order::PLAIN) {
+        return None;
+    }
+    trees.remove(index, &entry).ok()?;
+    trees.commit().ok()
+}
+
+/// Adds an entry of no row to an index.
+fn add_entry<S: Store>(alloc: Global, trees: &mut S, index: u32) -> Option<()> {
+    let mut entry = Row::new(alloc);
+    for number in [1000, 0, 0, 99] {
+        entry.push(ValueRef::Int(number)).ok()?;
+    }
+    if trees.shape(index) != Shape::Index(Order::PLAIN) {
+        return None;
+    }
+    trees.insert(index, &entry).ok()?;
+    trees.commit().ok()
+}
+
+/// Writes the first row of the table of elements again, up to this place, with this id.
+fn write_element<S: Store>(alloc: Global, trees: &mut S, end: usize, id: i64) -> Option<()> {
+    let mut row = Row::new(alloc);
+    trees.seek(0, ELEMENTS, &row, Direction::Forward).ok()?;
+    if !trees.next(0, &mut row).ok()? || trees.shape(ELEMENTS) != Shape::Table {
+        return None;
+    }
+    let mut other = Row::new(alloc);
+    for at in 0..row.len().min(end) {
+        let value = if at == 4 { ValueRef::Int(id) } else { row.get(at) };
+        other.push(value).ok()?;
+    }
+    if !matches!(other.get(0), ValueRef::Int(_)) {
+        return None;
+    }
+    trees.put(ELEMENTS, &other).ok()?;
+    trees.commit().ok()
+}
+
+const INDEXES: [(u32, StoreIndex); 4] = [
+    (ELEMENT_KEY, StoreIndex::ElementKey),
+    (TAG_KEY, StoreIndex::TagKey),
+    (LINK_KEY, StoreIndex::LinkKey),
+    (ELEMENT_BY_ID, StoreIndex::ElementById),
+];
+
+#[test]
+fn whole_indexes(rt: HostRuntime) -> Result<(), Fail> {
+    let mut trees = five_blobs(&rt)?;
+    assert_eq!(rt; faulty_index(rt.alloc(), &mut trees), Ok(None));
+    Ok(())
+}
+
+/// Each index in turn without an entry, with one too many, and with that of another row.
+#[test]
+fn faulty_indexes(rt: HostRuntime) -> Result<(), Fail> {
+    let alloc = rt.alloc();
+    for (tree, index) in INDEXES {
+        let mut trees = five_blobs(&rt)?;
+        take_entry(alloc, &mut trees, tree).ok_or("an entry")?;
+        assert_eq!(rt; faulty_index(alloc, &mut trees), Ok(Some(index)), "one less");
+        let mut trees = five_blobs(&rt)?;
+        add_entry(alloc, &mut trees, tree).ok_or("an entry")?;
+        assert_eq!(rt; faulty_index(alloc, &mut trees), Ok(Some(index)), "one more");
+    }
+    let mut trees = five_blobs(&rt)?;
+    write_element(alloc, &mut trees, 13, 5).ok_or("a row")?;
+    let found = faulty_index(alloc, &mut trees);
+    assert_eq!(rt; found, Ok(Some(StoreIndex::ElementById)), "another id");
+    Ok(())
+}
+
+/// A row that lacks its last value, which is NULL: a query can't tell, and the trees can.
+#[test]
+fn a_shorter_row(rt: HostRuntime) -> Result<(), Fail> {
+    let alloc = rt.alloc();
+    for (end, same) in [(13, true), (12, false)] {
+        let mut trees = five_blobs(&rt)?;
+        write_element(alloc, &mut trees, end, 1).ok_or("a row")?;
+        assert_eq!(rt; faulty_index(alloc, &mut trees), Ok(None));
+        let answer = NODES_AT_47.is_there(alloc, &mut TreeStore::new(trees));
+        assert_eq!(rt; answer, Ok(same), "up to {end}");
+    }
     Ok(())
 }

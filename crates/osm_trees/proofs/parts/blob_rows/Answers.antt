@@ -1,6 +1,4 @@
-use Rattle.std.proofs.Common.{◌≡◌, ◌∙◌, arith, subst, pos, [], ◌∷◌}
-use Rattle.sqlite_value.specs.declared.value.Value.TheVariants.{Int}
-use Rattle.sqlite_value.specs.Order.{Row}
+use Rattle.std.proofs.Common.{arith}
 use Rattle.sqlite_trees.specs.View.{IsClean}
 use Rattle.osm_store.specs.declared.schema.layout.Layout.TheVariants.{Tables}
 use Rattle.osm_store.specs.Rows.{is_in}

@@ -2,7 +2,7 @@ use Rattle.std.proofs.Common.{arith, subst}
 use Rattle.sqlite_value.specs.Order.{Row}
 use Rattle.sqlite_trees.specs.Tree.{Trees}
 use Rattle.sqlite_trees.specs.View.{IsClean}
-use Rattle.osm_trees.specs.Below.{Finds}
+use Rattle.osm_tree_audits.specs.Finding.{Finds}
 use Rattle.osm_trees.proofs.Looking.{looks_of, looks_then, same_trees}
 use Rattle.osm_trees.proofs.parts.parts_with.Goals as goal
 

@@ -1,6 +1,6 @@
 use Rattle.std.proofs.Common.{◌≡◌, ◌≢◌, ◌==◌, ◌∙◌, true, false, true≢false, Some, None, ap, subst, sym, rules}
 use Rattle.std.specs.Prelude.{find}
-use Rattle.sqlite.specs.Effect.{Database}
+use Rattle.sqlite.specs.Tree.{Trees}
 use Rattle.osm_store.specs.declared.keeper.Extent.{Extent}
 use Rattle.osm_verify.specs.Agreements.{IsSame}
 use Rattle.osm_verify.specs.Audits.{IsShown}
@@ -52,26 +52,25 @@ returns-clause-compared g c = λ held holds honest.
 -- ---- whatever rows the tables have
 
 pub returns-in-None-clause-shown : goal.returns-in-None-clause-shown
-returns-in-None-clause-shown g c = λ honest up schema deep same. absurd (cc)
+returns-in-None-clause-shown g c = λ honest up tables deep same. absurd (cc)
 
 pub returns-then-not-is_extent_of-clause-shown : goal.returns-then-not-is_extent_of-clause-shown
-returns-then-not-is_extent_of-clause-shown g c = λ honest up schema deep same. absurd (cc)
+returns-then-not-is_extent_of-clause-shown g c = λ honest up tables deep same. absurd (cc)
 
 pub returns-then-eq-clause-shown : goal.returns-then-eq-clause-shown
-returns-then-eq-clause-shown g c = λ honest up schema deep same.
+returns-then-eq-clause-shown g c = λ honest up tables deep same.
     let shallow : c.args.depth ≡ Extents = search rules in
     let bad : Extents ≡ Elements = sym shallow ∙ deep in absurd (cc)
 
 pub returns-then-branch-clause-shown : goal.returns-then-branch-clause-shown
-returns-then-branch-clause-shown g c = λ honest up schema deep same.
+returns-then-branch-clause-shown g c = λ honest up tables deep same.
     let K = g.K.Audited in
     let asked = c.in_ok-has_frame.ensures in
     let first = c.in_ok-touched.ensures.reads.same (asked.rereads.stays.honest honest) (asked.rereads.stays.open_if up) in
-    let there = g.met.K.Audited.same_database _ _ first in
-    subst (λ (db : Database). IsShown K.layout db.trees c.args.off c.args.bytes.now c.args.good.now.elements.items) there ((asked.told honest (ap (λ (db : Database). db.schema) there ∙ schema)).0 c.if-branch.true)
+    subst (λ (db : Trees). IsShown K.layout db c.args.off c.args.bytes.now c.args.good.now.elements.items) (g.met.K.Audited.same_trees _ _ first) (asked.shown honest (g.met.K.Audited.same_has_tables _ _ first tables) c.if-branch.true)
 
 pub returns-clause-shown : goal.returns-clause-shown
-returns-clause-shown g c = λ honest up schema deep same. absurd (cc)
+returns-clause-shown g c = λ honest up tables deep same. absurd (cc)
 
 pub returns-then-branch-clause-same : goal.returns-then-branch-clause-same
 returns-then-branch-clause-same g c = λ honest up.

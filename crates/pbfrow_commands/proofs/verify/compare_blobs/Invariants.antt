@@ -1,6 +1,5 @@
 use Rattle.std.proofs.Common.{◌≡◌, ◌≤◌, ◌-◌, List}
 use Rattle.osm_store.specs.Held.{HeldMap}
-use Rattle.osm_store.specs.Schema.Layouts.{schema_of}
 use Rattle.pbfrow_commands.specs.Verifying.{Compared, HasCompared, compared_lines, counts_of, rows_of}
 use Rattle.pbfrow_commands.specs.Walks.{Part}
 use Rattle.pbfrow_commands.proofs.VerifyLemmas.{Reads}
@@ -24,7 +23,7 @@ invariant-loop-frames g l =
           → (blobs : List (Part Compared)) × Going (HasCompared l.depth held) compared_lines (g.R.Read.remaining l.fn.input) l.frames (g.W.Write.contents l.fn.out.writer) (g.W.Write.contents l.out.writer) l.out.has_failed blobs
           × (l.counts ≡ counts_of blobs 0) × (l.rows ≡ rows_of blobs);
       same : K.is_honest l.store → K.is_open l.store → K.same_tables l.fn.store l.store;
-      reads : (blobs : List (Part Compared)) × Reads (K.is_honest l.store × K.is_open l.store × ((A.database l.fn.store).schema ≡ schema_of A.layout)) A.layout (A.database l.fn.store).trees l.depth (g.R.Read.remaining l.fn.input) l.frames l.counts l.rows blobs;
+      reads : (blobs : List (Part Compared)) × Reads (K.is_honest l.store × K.is_open l.store × A.has_tables l.fn.store) A.layout (A.trees l.fn.store) l.depth (g.R.Read.remaining l.fn.input) l.frames l.counts l.rows blobs;
     }
 
 -- each frame ends at 2^62 at most

@@ -14,8 +14,8 @@ returns-clause-exact g c = λ held holds honest zero.
     exact-at-zero c.args.depth held _ _ _ _ _ _ _ (g.met.K.Reader.is_apart _ held holds) (returns-clause-verified g c held holds honest) zero
 
 pub returns-clause-shown : goal.returns-clause-shown
-returns-clause-shown g c = λ honest schema deep zero.
+returns-clause-shown g c = λ honest tables deep zero.
     let A = g.K.Audited in
-    let db = (A.database c.args.store.now).trees in
-    let seen = subst (λ (d : Depth). HasSeenInput A.layout db d (g.R.Read.remaining c.args.input.now) c.compare_blobs-close.new.counts c.compare_blobs-close.result) deep (c.compare_blobs-close.ensures.seen honest schema) in
+    let db = A.trees c.args.store.now in
+    let seen = subst (λ (d : Depth). HasSeenInput A.layout db d (g.R.Read.remaining c.args.input.now) c.compare_blobs-close.new.counts c.compare_blobs-close.result) deep (c.compare_blobs-close.ensures.seen honest tables) in
     shown-at-zero A.layout db _ c.compare_blobs-close.new.counts c.compare_blobs-close.result _ _ seen (c.finish.ensures.whole zero) c.finish.ensures.status zero

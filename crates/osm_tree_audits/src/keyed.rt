@@ -1,13 +1,12 @@
 //! The rows of a table that an index finds by the first columns of its entries.
 
-ghost use Rattle.std.specs.Prelude.{◌≡◌, ◌∷◌, [], false, filter, flat_map, IfOk, IfErr, OnOk};
+ghost use Rattle.std.specs.Prelude.{◌≡◌, ◌∷◌, [], false, drop, IfOk, IfErr, OnOk};
 ghost use Rattle.sqlite_trees.specs.View.{IsClean, IsQuiet, StayLive};
 ghost use Rattle.sqlite_exec.specs.Calls.{OnlyReads};
 ghost use Rattle.sqlite_exec.specs.Plan.{resolved};
 ghost use Rattle.osm_store.specs.Keeping.{IsForeign};
-ghost use Rattle.osm_trees.specs.Below.{Finds};
+ghost use Rattle.osm_tree_audits.specs.Finding.{Finds};
 
-use crate::row::copy_columns;
 use osm_store::StoreFault;
 use osm_tree_writes::fault_of;
 use sqlite_exec::work::FromRow;
@@ -15,8 +14,19 @@ use sqlite_trees::store::{Direction, Shape, Store};
 use sqlite_value::keys::Order;
 use sqlite_value::row::Row;
 use sqlite_value::value::ValueRef;
-use std::alloc::Global;
+use std::alloc::{AllocError, Global};
 use std::cmp::Ordering;
+
+/// Copies what follows the rowid.
+fn copy_columns(row: &Row, columns: &mut Row) -> Result<(), AllocError>
+    ensures { OnOk result (columns.new ≡ drop 1 row.now) }
+{
+    columns.clear();
+    for at in 1..row.len() {
+        columns.push(row.get(at))?;
+    }
+    Ok(())
+}
 
 /// The row that an entry of an index names after its columns.
 fn row_of<S: Store>(
@@ -47,8 +57,9 @@ fn row_of<S: Store>(
 }
 
 /// The rows of the table whose entries in the index begin with this key, without their rowids, in the index's order.
-/// A fault is `Disk` where the trees are no such table and index.
-pub(crate) fn rows_with<S: Store, R: FromRow>(
+/// An entry names a row by the number behind its columns, of which there are `width`. No more rows than these are in memory.
+/// A fault is that of a read that has failed, `Memory`, or `Disk` where the trees are no such table and index.
+pub fn rows_with<S: Store, R: FromRow>(
     alloc: Global,
     store: &mut S,
     index: u32,

@@ -6,7 +6,7 @@ use Rattle.sqlite_value.specs.Keys.{plain, prefix_cmp}
 use Rattle.sqlite_trees.specs.Tree.{from_key}
 use Rattle.sqlite_trees.proofs.ListLemmas.{all_weaker, filter_none}
 use Rattle.sqlite_trees.proofs.TreeLemmas.{AtMost, IsSortedTree, prefix_cmp_follows}
-use Rattle.osm_trees.specs.Below.{starts}
+use Rattle.osm_tree_audits.specs.Finding.{starts}
 
 pub from_starts : (key : Row) (es : List Row) → filter (starts key) (from_key plain key es) ≡ filter (starts key) es
 from_starts key [] = refl

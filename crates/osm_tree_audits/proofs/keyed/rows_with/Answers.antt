@@ -6,10 +6,10 @@ use Rattle.sqlite_trees.proofs.TreeLemmas.{sorted_shape, IsSortedTree}
 use Rattle.sqlite_value.specs.Keys.{plain}
 use Rattle.sqlite_exec.specs.Plan.{resolved}
 use Rattle.sqlite_exec.proofs.CheckLemmas.{stepped, ended}
-use Rattle.osm_trees.proofs.Looking.{up_before}
-use Rattle.osm_trees.proofs.Prefix.{from_starts, sorted_from, passed, picked, done_above, done_all}
-use Rattle.osm_trees.proofs.keyed.rows_with.Goals as goal
-use Rattle.osm_trees.proofs.keyed.rows_with.Goals.{in-Less, in-Equal+in_ok-row_of-in-Equal+in_ok-copy_columns-in-Equal+in_ok-from_row-in-Equal+in_ok-push-in-Equal}
+use Rattle.osm_tree_audits.proofs.Looking.{up_before}
+use Rattle.osm_tree_audits.proofs.Prefix.{from_starts, sorted_from, passed, picked, done_above, done_all}
+use Rattle.osm_tree_audits.proofs.keyed.rows_with.Goals as goal
+use Rattle.osm_tree_audits.proofs.keyed.rows_with.Goals.{in-Less, in-Equal+in_ok-row_of-in-Equal+in_ok-copy_columns-in-Equal+in_ok-from_row-in-Equal+in_ok-push-in-Equal}
 
 pub rows-init : goal.rows-init
 rows-init g c = (

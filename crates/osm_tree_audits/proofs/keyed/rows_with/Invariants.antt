@@ -1,13 +1,13 @@
-use Rattle.std.proofs.Common.{◌≡◌, ◌++◌, false, map, filter, flat_map, drop, IsSome}
+use Rattle.std.proofs.Common.{◌≡◌, ◌++◌, false, filter, IsSome}
 use Rattle.sqlite_trees.specs.View.{IsClean, IsQuiet}
 use Rattle.sqlite_trees.proofs.TreeLemmas.{IsSortedTree}
 use Rattle.sqlite_value.specs.Keys.{plain}
 use Rattle.sqlite_exec.specs.Calls.{OnlyReads}
 use Rattle.sqlite_exec.specs.Loops.{left_of}
 use Rattle.sqlite_exec.specs.Plan.{resolved}
-use Rattle.osm_trees.specs.Below.{starts}
-use Rattle.osm_trees.proofs.Prefix.{shown_of}
-use Rattle.osm_trees.proofs.keyed.rows_with.Given as goal
+use Rattle.osm_tree_audits.specs.Finding.{starts}
+use Rattle.osm_tree_audits.proofs.Prefix.{shown_of}
+use Rattle.osm_tree_audits.proofs.keyed.rows_with.Given as goal
 
 abbrev pub invariant-rows : goal.invariant-rows
 invariant-rows g l =

@@ -1,0 +1,9 @@
+pub mod Looking
+pub mod Columns
+pub mod Prefix
+pub mod Found
+pub mod Orders
+pub mod AtOffset
+pub mod Walks
+pub mod Shown
+pub mod Whole

@@ -1,0 +1,4 @@
+pub mod Finding
+pub mod Auditing
+pub mod Walking
+pub mod Indexes

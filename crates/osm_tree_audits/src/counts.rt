@@ -1,0 +1,85 @@
+//! How many rows the tables of a store have.
+
+ghost use Rattle.std.specs.Prelude.{◌≡◌, ◌↔◌, ◌<◌, ◌-◌, ◌^◌, false, length, IsTrue, IfOk, IfErr, OnOk};
+ghost use Rattle.sqlite_trees.specs.View.{IsClean, IsQuiet};
+ghost use Rattle.sqlite_exec.specs.Calls.{OnlyReads};
+ghost use Rattle.osm_store.specs.Audit.{HasCount, ShowsCounts};
+ghost use Rattle.osm_store.specs.declared.schema.layout.Layout.TheVariants.{Tables};
+ghost use Rattle.osm_store.specs.Keeping.{IsForeign};
+
+use crate::trees::{BLOBS, ELEMENTS, LINKS, TAGS};
+use osm_store::{Counts, StoreFault};
+use osm_tree_writes::fault_of;
+use sqlite_trees::store::{Direction, Store};
+use sqlite_value::row::Row;
+use std::alloc::Global;
+
+/// SQL counts fewer rows than this.
+const MOST_ROWS: u64 = 9_223_372_036_854_775_807;
+
+/// How many rows or entries a tree has.
+pub(crate) fn count<S: Store>(alloc: Global, store: &mut S, tree: u32) -> Result<u64, StoreFault>
+    ensures count { IfOk result (λ n. IsClean (S.Store.view store.new) → n ≡ length ((S.Store.view store.old).trees tree)) }
+    ensures sound { OnOk result (IsClean (S.Store.view store.new) → (S.Store.view store.new).is_broken ≡ false) }
+    ensures reads { IsClean (S.Store.view store.new) → (S.Store.view store.new).is_broken ≡ false → OnlyReads (S.Store.view store.old) (S.Store.view store.new) }
+    ensures ours { IfErr result (λ fault. ¬ (IsForeign fault)) }
+    ensures quiet { IsQuiet S.Store.view S.Store.faults S.Store.recovers S.Store.is_shielded store.old store.new }
+{
+    let mut row = Row::new(alloc);
+    if let Err(error) = store.seek(0, tree, &row, Direction::Forward) {
+        return Err(fault_of(error));
+    }
+    let mut count = 0u64;
+    'rows: for _ in 0..u64::MAX {
+        match store.next(0, &mut row) {
+            Ok(true) => {}
+            Ok(false) => return Ok(count),
+            Err(error) => return Err(fault_of(error)),
+        }
+        count = count.checked_add(1).ok_or(StoreFault::Memory)?;
+    }
+    // No sound store has this many rows.
+    Err(StoreFault::Memory)
+}
+
+/// Whether a tree has so many rows, which are fewer than SQL can count.
+fn has_count<S: Store>(
+    alloc: Global,
+    store: &mut S,
+    tree: u32,
+    expected: u64,
+) -> Result<bool, StoreFault>
+    ensures told { IfOk result (λ told. IsClean (S.Store.view store.new) → (IsTrue told ↔ HasCount ((S.Store.view store.old).trees tree) expected)) }
+    ensures sound { OnOk result (IsClean (S.Store.view store.new) → (S.Store.view store.new).is_broken ≡ false) }
+    ensures reads { IsClean (S.Store.view store.new) → (S.Store.view store.new).is_broken ≡ false → OnlyReads (S.Store.view store.old) (S.Store.view store.new) }
+    ensures ours { IfErr result (λ fault. ¬ (IsForeign fault)) }
+    ensures quiet { IsQuiet S.Store.view S.Store.faults S.Store.recovers S.Store.is_shielded store.old store.new }
+{
+    let found = count(alloc, store, tree)?;
+    Ok(found == expected && expected < MOST_ROWS)
+}
+
+/// Whether each table of a store has exactly so many rows, fewer than SQL can count. No more than one row is in memory. A
+/// fault is that of a read that has failed, or `Memory`.
+pub fn has_row_counts<S: Store>(
+    alloc: Global,
+    store: &mut S,
+    counts: &Counts,
+) -> Result<bool, StoreFault>
+    ensures told { IfOk result (λ told. IsClean (S.Store.view store.new) → (IsTrue told ↔ ShowsCounts Tables (S.Store.view store.old).trees counts.now)) }
+    ensures sound { OnOk result (IsClean (S.Store.view store.new) → (S.Store.view store.new).is_broken ≡ false) }
+    ensures reads { IsClean (S.Store.view store.new) → (S.Store.view store.new).is_broken ≡ false → OnlyReads (S.Store.view store.old) (S.Store.view store.new) }
+    ensures ours { IfErr result (λ fault. ¬ (IsForeign fault)) }
+    ensures quiet { IsQuiet S.Store.view S.Store.faults S.Store.recovers S.Store.is_shielded store.old store.new }
+{
+    if !has_count(alloc, store, BLOBS, counts.blobs)? {
+        return Ok(false);
+    }
+    if !has_count(alloc, store, ELEMENTS, counts.elements)? {
+        return Ok(false);
+    }
+    if !has_count(alloc, store, TAGS, counts.tags)? {
+        return Ok(false);
+    }
+    has_count(alloc, store, LINKS, counts.links)
+}

@@ -1,0 +1,225 @@
+//! Whether each index of a store has one entry for each row of its table, and no other.
+
+ghost use Rattle.std.specs.Prelude.{◌≡◌, ◌↔◌, false, length, map, All, Contains, IsSome, IsTrue, IfOk, IfErr, OnOk, MatchOption};
+ghost use Rattle.sqlite_trees.specs.View.{IsClean, IsQuiet, StayLive};
+ghost use Rattle.sqlite_sql.specs.Catalog.{entry_of, IsIndexOf};
+ghost use Rattle.sqlite_exec.specs.Calls.{OnlyReads};
+ghost use Rattle.sqlite_exec.specs.Loops.{left_of};
+ghost use Rattle.osm_store.specs.Keeping.{IsForeign};
+ghost use Rattle.osm_tree_writes.specs.Putting.{IsIndexedStore};
+ghost use Rattle.osm_tree_audits.specs.Indexes.{IsWhole};
+ghost use Rattle.osm_tree_audits.specs.Walking.{IsNext, AreAmong};
+
+use crate::counts::count;
+use crate::trees::{ELEMENT_BY_ID, ELEMENT_KEY, ELEMENTS, LINK_KEY, LINKS, TAG_KEY, TAGS};
+use osm_store::StoreFault;
+use osm_tree_writes::fault_of;
+use sqlite_trees::store::{Direction, Shape, Store};
+use sqlite_value::keys::Order;
+use sqlite_value::row::Row;
+use std::alloc::{AllocError, Global};
+use std::fmt;
+
+/// An index of a store.
+#[derive(Clone, Copy, Debug, PartialEq, Eq)]
+pub enum StoreIndex {
+    /// That of the primary key of the table of elements.
+    ElementKey,
+    /// That of the primary key of the table of tags.
+    TagKey,
+    /// That of the primary key of the table of links.
+    LinkKey,
+    /// Elements by kind and id.
+    ElementById,
+}
+
+impl fmt::Display for StoreIndex {
+    /// Its name in `sqlite_schema`.
+    fn fmt<W: fmt::Write>(&self, f: &mut fmt::Formatter<W>) -> fmt::Result {
+        f.write_str(match self {
+            StoreIndex::ElementKey => "sqlite_autoindex_element_1",
+            StoreIndex::TagKey => "sqlite_autoindex_tag_1",
+            StoreIndex::LinkKey => "sqlite_autoindex_link_1",
+            StoreIndex::ElementById => "element_by_id",
+        })
+    }
+}
+
+/// Writes a row's entry in an index over `entry`.
+fn make_entry(entry: &mut Row, columns: &[usize], row: &Row) -> Result<(), AllocError>
+    ensures { OnOk result (entry.new ≡ entry_of columns.now row.now) }
+{
+    entry.clear();
+    for at in columns {
+        entry.push(row.get(*at))?;
+    }
+    entry.push(row.get(0))
+}
+
+/// Whether the cursor 1 gives this entry next. It moves on.
+fn next_is<S: Store>(store: &mut S, entry: &Row, found: &mut Row) -> Result<bool, StoreFault>
+    requires { IsSome ((S.Store.view store.old).cursors 1) }
+    ensures told { IfOk result (λ told. IsClean (S.Store.view store.new) → (IsTrue told ↔ IsNext (S.Store.view store.old) entry.now)) }
+    ensures left { OnOk result (IsClean (S.Store.view store.new) → AreAmong (left_of (S.Store.view store.old) 1) (left_of (S.Store.view store.new) 1)) }
+    ensures rows { OnOk result (IsClean (S.Store.view store.new) → (S.Store.view store.new).cursors 0 ≡ (S.Store.view store.old).cursors 0) }
+    ensures stay { OnOk result (StayLive (S.Store.view store.old) (S.Store.view store.new)) }
+    ensures sound { OnOk result (IsClean (S.Store.view store.new) → (S.Store.view store.new).is_broken ≡ false) }
+    ensures reads { IsClean (S.Store.view store.new) → (S.Store.view store.new).is_broken ≡ false → OnlyReads (S.Store.view store.old) (S.Store.view store.new) }
+    ensures ours { IfErr result (λ fault. ¬ (IsForeign fault)) }
+    ensures quiet { IsQuiet S.Store.view S.Store.faults S.Store.recovers S.Store.is_shielded store.old store.new }
+{
+    match store.next(1, found) {
+        Ok(true) => Ok(found.is_same(entry)),
+        Ok(false) => Ok(false),
+        Err(error) => Err(fault_of(error)),
+    }
+}
+
+/// Whether an index has this entry. The cursor 1 is left behind it.
+fn seek_is<S: Store>(
+    store: &mut S,
+    tree: u32,
+    entry: &Row,
+    found: &mut Row,
+) -> Result<bool, StoreFault>
+    requires { IsClean (S.Store.view store.old) → (S.Store.view store.old).shape tree ≡ Shape.Index Order.PLAIN }
+    ensures told { IfOk result (λ told. IsClean (S.Store.view store.new) → (IsTrue told ↔ Contains ((S.Store.view store.old).trees tree) entry.now)) }
+    ensures left { OnOk result (IsClean (S.Store.view store.new) → AreAmong ((S.Store.view store.old).trees tree) (left_of (S.Store.view store.new) 1)) }
+    ensures rows { OnOk result (IsClean (S.Store.view store.new) → (S.Store.view store.new).cursors 0 ≡ (S.Store.view store.old).cursors 0) }
+    ensures stay { OnOk result (StayLive (S.Store.view store.old) (S.Store.view store.new)) }
+    ensures sound { OnOk result (IsClean (S.Store.view store.new) → (S.Store.view store.new).is_broken ≡ false) }
+    ensures reads { IsClean (S.Store.view store.new) → (S.Store.view store.new).is_broken ≡ false → OnlyReads (S.Store.view store.old) (S.Store.view store.new) }
+    ensures ours { IfErr result (λ fault. ¬ (IsForeign fault)) }
+    ensures quiet { IsQuiet S.Store.view S.Store.faults S.Store.recovers S.Store.is_shielded store.old store.new }
+{
+    if let Err(error) = store.seek(1, tree, entry, Direction::Forward) {
+        return Err(fault_of(error));
+    }
+    next_is(store, entry, found)
+}
+
+/// Whether an index, of whose entries the cursor 1 has some left, has this entry. Where it isn't the next one it is sought:
+/// rows that were written in the order of an index cost no search.
+fn has_entry<S: Store>(
+    store: &mut S,
+    tree: u32,
+    entry: &Row,
+    found: &mut Row,
+) -> Result<bool, StoreFault>
+    requires shaped { IsClean (S.Store.view store.old) → (S.Store.view store.old).shape tree ≡ Shape.Index Order.PLAIN }
+    requires live { IsSome ((S.Store.view store.old).cursors 1) }
+    ensures told { IfOk result (λ told. IsClean (S.Store.view store.new) → AreAmong ((S.Store.view store.old).trees tree) (left_of (S.Store.view store.old) 1) → (IsTrue told ↔ Contains ((S.Store.view store.old).trees tree) entry.now)) }
+    ensures left { OnOk result (IsClean (S.Store.view store.new) → AreAmong ((S.Store.view store.old).trees tree) (left_of (S.Store.view store.old) 1) → AreAmong ((S.Store.view store.old).trees tree) (left_of (S.Store.view store.new) 1)) }
+    ensures rows { OnOk result (IsClean (S.Store.view store.new) → (S.Store.view store.new).cursors 0 ≡ (S.Store.view store.old).cursors 0) }
+    ensures stay { OnOk result (StayLive (S.Store.view store.old) (S.Store.view store.new)) }
+    ensures sound { OnOk result (IsClean (S.Store.view store.new) → (S.Store.view store.new).is_broken ≡ false) }
+    ensures reads { IsClean (S.Store.view store.new) → (S.Store.view store.new).is_broken ≡ false → OnlyReads (S.Store.view store.old) (S.Store.view store.new) }
+    ensures ours { IfErr result (λ fault. ¬ (IsForeign fault)) }
+    ensures quiet { IsQuiet S.Store.view S.Store.faults S.Store.recovers S.Store.is_shielded store.old store.new }
+{
+    if next_is(store, entry, found)? {
+        return Ok(true);
+    }
+    seek_is(store, tree, entry, found)
+}
+
+/// How many rows a table has, if an index has an entry for each.
+fn count_entered<S: Store>(
+    alloc: Global,
+    store: &mut S,
+    table: u32,
+    tree: u32,
+    columns: &[usize],
+) -> Result<Option<u64>, StoreFault>
+    requires index { IsClean (S.Store.view store.old) → (S.Store.view store.old).shape tree ≡ Shape.Index Order.PLAIN }
+    requires table { IsClean (S.Store.view store.old) → (S.Store.view store.old).shape table ≡ Shape.Table }
+    ensures told { IfOk result (λ counted. IsClean (S.Store.view store.new)
+        → MatchOption counted (¬ (All (Contains ((S.Store.view store.old).trees tree)) (map (entry_of columns.now) ((S.Store.view store.old).trees table))))
+        (λ n. (n ≡ length ((S.Store.view store.old).trees table)) × All (Contains ((S.Store.view store.old).trees tree)) (map (entry_of columns.now) ((S.Store.view store.old).trees table)))) }
+    ensures sound { OnOk result (IsClean (S.Store.view store.new) → (S.Store.view store.new).is_broken ≡ false) }
+    ensures reads { IsClean (S.Store.view store.new) → (S.Store.view store.new).is_broken ≡ false → OnlyReads (S.Store.view store.old) (S.Store.view store.new) }
+    ensures ours { IfErr result (λ fault. ¬ (IsForeign fault)) }
+    ensures quiet { IsQuiet S.Store.view S.Store.faults S.Store.recovers S.Store.is_shielded store.old store.new }
+{
+    let mut row = Row::new(alloc);
+    let mut entry = Row::new(alloc);
+    let mut found = Row::new(alloc);
+    if let Err(error) = store.seek(1, tree, &entry, Direction::Forward) {
+        return Err(fault_of(error));
+    }
+    if let Err(error) = store.seek(0, table, &row, Direction::Forward) {
+        return Err(fault_of(error));
+    }
+    let mut count = 0u64;
+    'rows: for _ in 0..u64::MAX {
+        match store.next(0, &mut row) {
+            Ok(true) => {}
+            Ok(false) => return Ok(Some(count)),
+            Err(error) => return Err(fault_of(error)),
+        }
+        make_entry(&mut entry, columns, &row)?;
+        if !has_entry(store, tree, &entry, &mut found)? {
+            return Ok(None);
+        }
+        count = count.checked_add(1).ok_or(StoreFault::Memory)?;
+    }
+    // No sound store has this many rows.
+    Err(StoreFault::Memory)
+}
+
+/// Whether an index has one entry for each row of its table, and no other. A fault is `Disk` where the trees are no such
+/// table and index.
+fn is_indexed<S: Store>(
+    alloc: Global,
+    store: &mut S,
+    table: u32,
+    tree: u32,
+    columns: &[usize],
+) -> Result<bool, StoreFault>
+    ensures told { IfOk result (λ told. IsClean (S.Store.view store.new) → (IsTrue told ↔ IsIndexOf columns.now ((S.Store.view store.old).trees table) ((S.Store.view store.old).trees tree))) }
+    ensures sound { OnOk result (IsClean (S.Store.view store.new) → (S.Store.view store.new).is_broken ≡ false) }
+    ensures reads { IsClean (S.Store.view store.new) → (S.Store.view store.new).is_broken ≡ false → OnlyReads (S.Store.view store.old) (S.Store.view store.new) }
+    ensures ours { IfErr result (λ fault. ¬ (IsForeign fault)) }
+    ensures quiet { IsQuiet S.Store.view S.Store.faults S.Store.recovers S.Store.is_shielded store.old store.new }
+{
+    if store.shape(tree) != Shape::Index(Order::PLAIN) || store.shape(table) != Shape::Table {
+        return Err(StoreFault::Disk);
+    }
+    let Some(rows) = count_entered(alloc, store, table, tree, columns)? else {
+        return Ok(false);
+    };
+    let entries = count(alloc, store, tree)?;
+    Ok(rows == entries)
+}
+
+/// The first index of a store that has not one entry for each row of its table, and no other, if there is one; whatever
+/// rows there are. No more than one row and its entry are in memory. A fault is that of a read that has failed, `Memory`,
+/// or `Disk` where the trees have no such tables and indexes.
+///
+/// The walk over an index goes on while its next entry is that of the table's next row; else the entry is sought. So an index
+/// in the order of its table costs two walks, and one in another order a search for each row.
+pub fn faulty_index<S: Store>(
+    alloc: Global,
+    store: &mut S,
+) -> Result<Option<StoreIndex>, StoreFault>
+    ensures told { IfOk result (λ found. IsClean (S.Store.view store.new)
+        → MatchOption found (IsIndexedStore (S.Store.view store.old).trees) (λ index. ¬ (IsWhole (S.Store.view store.old).trees index))) }
+    ensures sound { OnOk result (IsClean (S.Store.view store.new) → (S.Store.view store.new).is_broken ≡ false) }
+    ensures reads { IsClean (S.Store.view store.new) → (S.Store.view store.new).is_broken ≡ false → OnlyReads (S.Store.view store.old) (S.Store.view store.new) }
+    ensures ours { IfErr result (λ fault. ¬ (IsForeign fault)) }
+    ensures quiet { IsQuiet S.Store.view S.Store.faults S.Store.recovers S.Store.is_shielded store.old store.new }
+{
+    if !is_indexed(alloc, store, ELEMENTS, ELEMENT_KEY, &[1, 2])? {
+        return Ok(Some(StoreIndex::ElementKey));
+    }
+    if !is_indexed(alloc, store, TAGS, TAG_KEY, &[1, 2, 3])? {
+        return Ok(Some(StoreIndex::TagKey));
+    }
+    if !is_indexed(alloc, store, LINKS, LINK_KEY, &[1, 2, 3])? {
+        return Ok(Some(StoreIndex::LinkKey));
+    }
+    if !is_indexed(alloc, store, ELEMENTS, ELEMENT_BY_ID, &[3, 4])? {
+        return Ok(Some(StoreIndex::ElementById));
+    }
+    Ok(None)
+}

@@ -1,0 +1,15 @@
+//! The rows of a store's trees, whatever these have: those that an index finds, and whether rows and indexes are those of
+//! certain blobs.
+#![tactic(auto)]
+
+mod counts;
+mod indexes;
+mod keyed;
+pub mod laws;
+mod rows;
+pub mod trees;
+
+pub use counts::has_row_counts;
+pub use indexes::{StoreIndex, faulty_index};
+pub use keyed::rows_with;
+pub use rows::has_rows_of;
