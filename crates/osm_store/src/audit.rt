@@ -20,9 +20,9 @@ use crate::keeper::Reader;
 pub use counts::Counts;
 pub(crate) use counts::has_counts_of;
 pub(crate) use extent::has_rows_of;
-pub use same::have_columns;
 use osm_value::Element;
 use pbf_frame::{Kind, MAX_OFFSET};
+pub use same::have_columns;
 use std::alloc::Global;
 
 /// A store whose tables may have any rows, as those of a database that other programs have written to. What is said here
