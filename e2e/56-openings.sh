@@ -241,6 +241,10 @@ if has sqlite3; then
   expect "a rollback journal: status" 1 "fault 65 Disk${nl}" status mine.db
   told "and why" "mine.db: a rollback journal stands beside it: open it with sqlite3 first"
   rm mine.db-journal
+  rm -f mine.db*
+  printf 'Some text, which is longer than the part of a header that names the size of a page.' > mine.db
+  expect "a text: status" 1 "fault 65 Disk${nl}" status mine.db
+  told "and why" "mine.db: not a database of SQLite"
 
   rm -f other.db*
   sqlite3 other.db "CREATE TABLE place (name TEXT); INSERT INTO place VALUES ('Vaduz')"

@@ -85,12 +85,12 @@ pub fn find_obstacle<D: Disk + Drop>(
     requires log { IsTrue (D.Disk.is_usable files.log) }
     requires db { IsTrue (D.Disk.is_usable files.db) }
 {
-    if is_auto_vacuumed(&mut files.db) {
-        return Ok(Some(Obstacle::AutoVacuum));
-    }
     let Some(size) = page_size(alloc, &mut files)? else {
         return Ok(Some(Obstacle::NoDatabase));
     };
+    if is_auto_vacuumed(&mut files.db) {
+        return Ok(Some(Obstacle::AutoVacuum));
+    }
     let pager = Pager::new(alloc, files, size, options)?;
     let mut unopened = Unopened::new(alloc, pager, &[])?;
     match unopened.read_catalog() {
