@@ -325,7 +325,11 @@ fn write_element<S: Store>(alloc: Global, trees: &mut S, end: usize, id: i64) ->
     }
     let mut other = Row::new(alloc);
     for at in 0..row.len().min(end) {
-        let value = if at == 4 { ValueRef::Int(id) } else { row.get(at) };
+        let value = if at == 4 {
+            ValueRef::Int(id)
+        } else {
+            row.get(at)
+        };
         other.push(value).ok()?;
     }
     if !matches!(other.get(0), ValueRef::Int(_)) {
@@ -356,10 +360,18 @@ fn faulty_indexes(rt: HostRuntime) -> Result<(), Fail> {
     for (tree, index) in INDEXES {
         let mut trees = five_blobs(&rt)?;
         take_entry(alloc, &mut trees, tree).ok_or("an entry")?;
-        assert_eq!(rt; faulty_index(alloc, &mut trees), Ok(Some(index)), "one less");
+        assert_eq!(rt;
+            faulty_index(alloc, &mut trees),
+            Ok(Some(index)),
+            "one less"
+        );
         let mut trees = five_blobs(&rt)?;
         add_entry(alloc, &mut trees, tree).ok_or("an entry")?;
-        assert_eq!(rt; faulty_index(alloc, &mut trees), Ok(Some(index)), "one more");
+        assert_eq!(rt;
+            faulty_index(alloc, &mut trees),
+            Ok(Some(index)),
+            "one more"
+        );
     }
     let mut trees = five_blobs(&rt)?;
     write_element(alloc, &mut trees, 13, 5).ok_or("a row")?;

@@ -13,7 +13,7 @@ use super::memory::{KnownLayout, below, has_rows, number, rows_of};
 use super::questions::{Question, answer_to};
 use super::steps::are_joined;
 use osm_import::{Answer, ExportFault, deliver_all};
-use osm_store::{BlobStore, Extent, Keeper, Reader, StoreFault, StoreLayout, TableStore};
+use osm_store::{BlobStore, Extent, Keeper, Reader, StoreFault, StoreLayout, TableStore, Tables};
 use osm_value::Form;
 use sqlite::{Alter, Connection, FileStore, Files, Options};
 use sqlite_disk::{Crash, Disk, Fuse, Memory};
@@ -23,7 +23,7 @@ type Fused = Fuse<Memory>;
 
 /// Few pages in memory, and each log is copied before the next commit, so that each call of a store makes many calls
 /// of both files.
-const OPTIONS: Options = Options {
+pub(super) const OPTIONS: Options = Options {
     cache_pages: 8,
     spill_pages: 2,
     checkpoint_frames: 1,
@@ -141,7 +141,7 @@ impl Source for TaggedFile {
 }
 
 /// The database in these files; or the files, where one of them stops or can't be used.
-fn opened<D: Disk + Drop>(
+pub(super) fn opened<D: Disk + Drop>(
     alloc: Global,
     files: Files<D>,
     cache_pages: usize,
@@ -412,7 +412,7 @@ fn wanted(held: Reached) -> [Answer; 3] {
 }
 
 /// Whether a store holds the whole file and nothing else.
-fn is_whole<R: Reader>(alloc: Global, store: &mut R) -> Option<bool> {
+pub(super) fn is_whole<R: Reader>(alloc: Global, store: &mut R) -> Option<bool> {
     let extents = store.extents(alloc).ok()?;
     let (result, lines) = exported(alloc, store, Form::Lines, None, false);
     Some(
@@ -487,6 +487,26 @@ fn session<D: Disk + Drop, L: KnownLayout, F: Source>(
         }
         Err(files) => Some((Reached::Nothing, files)),
     }
+}
+
+/// The files of a new store of this layout that was filled by SQL.
+pub(super) fn filled_by_sql<D: Disk + Drop, L: KnownLayout>(
+    alloc: Global,
+    files: Files<D>,
+) -> Option<Files<D>> {
+    let (reached, files) = session::<_, L, _>(alloc, files, Work::Import, &mut TaggedFile)?;
+    (reached == Reached::All).then_some(files)
+}
+
+/// The files of a new store that was filled by its trees, with the log copied.
+pub(super) fn filled_by_trees<D: Disk + Drop>(alloc: Global, files: Files<D>) -> Option<Files<D>> {
+    let (reached, files) = session::<_, Tables, _>(
+        alloc,
+        files,
+        Work::ImportBelow,
+        &mut TaggedFile,
+    )?;
+    (reached == Reached::Copied).then_some(files)
 }
 
 /// What the next opening finds in files after a stop, if it goes on to hold all.
