@@ -91,6 +91,16 @@ again by_xargs
 [ $? = 0 ] && pass "xargs ends with 0 after one that was killed" || fail "xargs ends with 0 after one that was killed"
 scheduled "parts imported by xargs"
 
+# a file that isn't there, and one that was cut between two frames of the last range
+read -r from to < <(tail -n 1 ranges.txt)
+cut=$("$pbfrow" list "$country" | awk -v from="$from" '$1 > from { print $1; exit }')
+head -c "$cut" "$country" > cut.osm.pbf
+for file in missing.osm.pbf cut.osm.pbf; do
+  "$import_part" "$file" "$from" "$to" > got.txt 2> stderr.txt
+  [ $? = 1 ] && pass "a part of $file isn't taken for whole" || fail "a part of $file isn't taken for whole"
+done
+rm -f part-* cut.osm.pbf
+
 if has make; then
   timeout -s KILL 0.5 make -j 4 -f "$top/examples/parts.mk" FILE="$country" N=4 PBFROW="$program" > got.txt 2> stderr.txt
   again by_make
