@@ -38,11 +38,7 @@ pub trait Databases {
 pub trait CheckedDatabases: Databases {
     /// The trees of a database of this version, each page and tree of which was looked at: nothing is written that isn't
     /// committed. If it is anything else it is closed, and opening it by SQL says why.
-    fn checked_trees(
-        &self,
-        rt: &HostRuntime,
-        name: &str,
-    ) -> Result<Option<Self::Trees>, StoreFault>
+    fn checked_trees(&self, rt: &HostRuntime, name: &str) -> Result<Option<Self::Trees>, StoreFault>
         ensures { IfOk result (λ found. IfSome found (λ trees. IsClean (Self.Trees.Store.view trees) → (Self.Trees.Store.view trees).trees ≡ (Self.Trees.Store.view trees).committed)) };
 }
 
