@@ -2,6 +2,7 @@
 
 ghost use Rattle.std.specs.Prelude.{◌≡◌, IsTrue, IfOk, IfSome};
 ghost use Rattle.sqlite.specs.Held.{IsNew};
+ghost use Rattle.sqlite_trees.specs.View.{IsClean};
 ghost use Rattle.sqlite_store.specs.FileStore.{view};
 ghost use Rattle.sqlite_wal.specs.Files.{seen_image};
 ghost use Rattle.osm_openings.specs.Presumed.{ArePresumedTables, ReadsAs};
@@ -57,7 +58,7 @@ pub fn checked_trees_in<D: Disk + Drop>(
 ) -> Result<Option<FileStore<D>>, Refusal>
     requires log { IsTrue (D.Disk.is_usable files.log) }
     requires db { IsTrue (D.Disk.is_usable files.db) }
-    ensures settled { IfOk result (λ found. IfSome found (λ store. IsTrue (view store).is_clean → (view store).trees ≡ (view store).committed)) }
+    ensures settled { IfOk result (λ found. IfSome found (λ store. IsClean (view store) → (view store).trees ≡ (view store).committed)) }
     ensures reads { IfOk result (λ found. IfSome found (λ store. IsTrue (view store).is_clean → ReadsAs (seen_image D.Disk files.log files.db) (view store).trees)) }
 {
     let options = options(rt)?;
