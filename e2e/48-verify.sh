@@ -126,7 +126,19 @@ if has sqlite3; then
   changes "a tag in no blob" "INSERT INTO tag (off, pos, k, key, val) VALUES (99, 0, 0, 'a', 'b')" - "$behind"
   changes "a member in no blob" "INSERT INTO link (off, pos, k, kind, ref, role) VALUES (99, 0, 0, 0, 1, '')" - "$behind"
   changes "an element in no blob" "INSERT INTO element (off, pos, kind, id, lat, lon) VALUES (99, 0, 0, 1, 2, 3)" - "$behind"
-  changes "a blob at a negative offset" "INSERT INTO blob VALUES (-5, 0, zeroblob(32), 2, 0)" - "$behind"
+  # the extents that share a byte with the first blob are looked for downward, and this row is none
+  changes "a blob at a negative offset" "INSERT INTO blob VALUES (-5, 0, zeroblob(32), 2, 0)" "fault 66 NotThisStore at 0" - "fault 66 NotThisStore at 0"
+  # a row that changes while an index isn't in the list of trees, so that its entry stays
+  cp few.db changed.db
+  list="type, name, tbl_name, rootpage, sql"
+  sqlite3 changed.db "PRAGMA writable_schema = ON; CREATE TEMP TABLE kept AS SELECT rowid AS at, $list FROM sqlite_schema WHERE name = 'element_by_id';
+    DELETE FROM sqlite_schema WHERE name = 'element_by_id'; PRAGMA writable_schema = RESET; UPDATE element SET id = id + 1 $node;
+    PRAGMA writable_schema = ON; INSERT INTO sqlite_schema (rowid, $list) SELECT * FROM kept" > sqlite.txt
+  echo "pbfrow: changed.db: damaged: its index element_by_id has not one entry for each row" > want.txt
+  for depth in "" --elements; do
+    expect "verify${depth:+ $depth} of a row that an index lacks" 1 "fault 65 Disk${nl}" verify few.osm.pbf changed.db $depth
+    same "and it says which" stderr.txt want.txt
+  done
 else
   skip "verify of databases that were changed" "sqlite3 isn't installed"
 fi
