@@ -113,37 +113,40 @@ const STRANGER: &str = "CREATE TABLE place (name TEXT); INSERT INTO place VALUES
 const COUNT_PLACES: &str = "SELECT count(*) FROM place WHERE name = 'Vaduz'";
 
 /// What comes of adopting, of making, and of either.
-const OF_CONTENTS: &[(Content, [Outcome; 3])] = &[
-    (
-        Content::Nothing,
-        [
+fn expected(content: Content) -> [Outcome; 3] {
+    match content {
+        Content::Nothing => [
             NO_STORE,
             Ok((Way::ByTrees, Held::Nothing)),
             Ok((Way::ByTrees, Held::Nothing)),
         ],
-    ),
-    (
-        Content::Rows,
-        [
+        Content::Rows => [
             Ok((Way::BySql, Held::All)),
             NO_STORE,
             Ok((Way::BySql, Held::All)),
         ],
-    ),
-    (Content::Blocks, [OF_BLOCKS, NO_STORE, OF_BLOCKS]),
-    (Content::Stranger, [NO_STORE, NO_STORE, NO_STORE]),
-];
+        Content::Blocks => [OF_BLOCKS, NO_STORE, OF_BLOCKS],
+        Content::Stranger => [NO_STORE, NO_STORE, NO_STORE],
+    }
+}
 
 #[test]
 fn adopted_and_made_stores(rt: HostRuntime) -> Result<(), Fail> {
+    const CONTENTS: &[Content] = &[
+        Content::Nothing,
+        Content::Rows,
+        Content::Blocks,
+        Content::Stranger,
+    ];
     let alloc = rt.alloc();
-    for (content, wanted) in OF_CONTENTS {
-        let outcomes = [
-            adopts(alloc, connection_with(alloc, *content)?),
-            makes(alloc, connection_with(alloc, *content)?),
-            adopts_or_makes(alloc, connection_with(alloc, *content)?),
-        ];
-        assert!(rt; outcomes == *wanted, "{content:?} {outcomes:?}");
+    for content in CONTENTS {
+        let [adopting, making, either] = expected(*content);
+        let adopted = adopts(alloc, connection_with(alloc, *content)?);
+        assert!(rt; adopted == adopting, "{content:?} {adopted:?}");
+        let made = makes(alloc, connection_with(alloc, *content)?);
+        assert!(rt; made == making, "{content:?} {made:?}");
+        let opened = adopts_or_makes(alloc, connection_with(alloc, *content)?);
+        assert!(rt; opened == either, "{content:?} {opened:?}");
     }
     Ok(())
 }
