@@ -316,26 +316,39 @@ fn add_entry<S: Store>(alloc: Global, trees: &mut S, index: u32) -> Option<()> {
     trees.commit().ok()
 }
 
+/// The first row of the table of elements.
+fn first_element<S: Store>(alloc: Global, trees: &mut S) -> Option<Row> {
+    let start = Row::new(alloc);
+    trees.seek(0, ELEMENTS, &start, Direction::Forward).ok()?;
+    let mut row = Row::new(alloc);
+    if trees.next(0, &mut row).ok()? {
+        Some(row)
+    } else {
+        None
+    }
+}
+
+/// A row of the table of elements up to this place, with this id.
+fn changed_element(alloc: Global, row: &Row, end: usize, id: i64) -> Option<Row> {
+    let mut changed = Row::new(alloc);
+    for at in 0..row.len().min(end) {
+        if at == 4 {
+            changed.push(ValueRef::Int(id)).ok()?;
+        } else {
+            changed.push(row.get(at)).ok()?;
+        }
+    }
+    Some(changed)
+}
+
 /// Writes the first row of the table of elements again, up to this place, with this id.
 fn write_element<S: Store>(alloc: Global, trees: &mut S, end: usize, id: i64) -> Option<()> {
-    let mut row = Row::new(alloc);
-    trees.seek(0, ELEMENTS, &row, Direction::Forward).ok()?;
-    if !trees.next(0, &mut row).ok()? || trees.shape(ELEMENTS) != Shape::Table {
+    let row = first_element(alloc, trees)?;
+    let changed = changed_element(alloc, &row, end, id)?;
+    if trees.shape(ELEMENTS) != Shape::Table || !matches!(changed.get(0), ValueRef::Int(_)) {
         return None;
     }
-    let mut other = Row::new(alloc);
-    for at in 0..row.len().min(end) {
-        let value = if at == 4 {
-            ValueRef::Int(id)
-        } else {
-            row.get(at)
-        };
-        other.push(value).ok()?;
-    }
-    if !matches!(other.get(0), ValueRef::Int(_)) {
-        return None;
-    }
-    trees.put(ELEMENTS, &other).ok()?;
+    trees.put(ELEMENTS, &changed).ok()?;
     trees.commit().ok()
 }
 
