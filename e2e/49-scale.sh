@@ -91,9 +91,9 @@ again by_xargs
 [ $? = 0 ] && pass "xargs ends with 0 after one that was killed" || fail "xargs ends with 0 after one that was killed"
 scheduled "parts imported by xargs"
 
-# a file that isn't there, and one that was cut between two frames of the last range
-read -r from to < <(tail -n 1 ranges.txt)
-cut=$("$pbfrow" list "$country" | awk -v from="$from" '$1 > from { print $1; exit }')
+# a file that isn't there, and one that was cut between two frames of the first range
+read -r from to < <(head -n 1 ranges.txt)
+cut=$("$pbfrow" list "$country" | awk -v to="$to" '$1 < to { last = $1 } END { print last }')
 head -c "$cut" "$country" > cut.osm.pbf
 for file in missing.osm.pbf cut.osm.pbf; do
   "$import_part" "$file" "$from" "$to" > got.txt 2> stderr.txt
