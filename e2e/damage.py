@@ -76,63 +76,77 @@ def digest(folder):
     return found
 
 
+class Wrong(Exception):
+    """What no command may do, whatever is damaged."""
+
+
+def ended(program, words):
+    """Runs a command, which has to end by itself, with 0, or with 1 and the line of a fault."""
+    try:
+        ran = run([program, *words])
+    except subprocess.TimeoutExpired:
+        raise Wrong(f"{words} didn't end") from None
+    if ran.returncode not in (0, 1):
+        raise Wrong(f"{words} ended with {ran.returncode}: {ran.stderr[-300:]}")
+    if ran.returncode == 1 and not ran.stdout.strip():
+        raise Wrong(f"{words} ended with 1 and said nothing")
+    return ran
+
+
+def damaged(whole, number):
+    """A copy of the database with damage of its number's kind, and for every fifth number with a log of noise. Its path, or
+    None where nothing came out damaged."""
+    rng = random.Random(number)
+    data = bytearray(whole)
+    KINDS[number % len(KINDS)](data, rng)
+    if bytes(data) == whole:
+        return None
+    shutil.rmtree("damaged", ignore_errors=True)
+    os.mkdir("damaged")
+    database = "damaged/a.db"
+    with open(database, "wb") as file:
+        file.write(data)
+    if number % 5 == 4:
+        with open(f"{database}-wal", "wb") as file:
+            file.write(rng.randbytes(rng.choice([10, 32, 5000])))
+    return database
+
+
+def judged(program, name, database, right):
+    """The status of `verify --elements`, once every command has been run on the database."""
+    before = digest("damaged")
+    for words in (["status", database], ["find", database, "n1"], ["export", database], ["verify", name, database]):
+        ended(program, words)
+    status = ended(program, ["verify", name, database, "--elements"]).returncode
+    if digest("damaged") != before:
+        raise Wrong("a database that was only asked has changed")
+    if status == 0:
+        if run([program, "export", database]).stdout != right:
+            raise Wrong("verify found nothing, and the export differs")
+        sqlite3 = ["sqlite3", "-readonly", f"file:{database}?immutable=1", "PRAGMA integrity_check"]
+        if shutil.which("sqlite3") and run(sqlite3).stdout.strip() != b"ok":
+            raise Wrong("verify found nothing, and sqlite3 finds it damaged")
+    ended(program, ["import", name, database])
+    return status
+
+
 def main():
     program, name, sound, count = sys.argv[1:]
     with open(sound, "rb") as file:
         whole = file.read()
     right = run([program, "export", sound]).stdout
-    has_sqlite = shutil.which("sqlite3") is not None
-    found = {"0": 0, "1": 0}
+    found = [0, 0]
     for number in range(int(count)):
-        rng = random.Random(number)
-        data = bytearray(whole)
-        kind = KINDS[number % len(KINDS)]
-        kind(data, rng)
-        if bytes(data) == whole:
+        database = damaged(whole, number)
+        if database is None:
             continue
-        shutil.rmtree("damaged", ignore_errors=True)
-        os.mkdir("damaged")
-        database = "damaged/a.db"
-        with open(database, "wb") as file:
-            file.write(data)
-        if number % 5 == 4:
-            with open(f"{database}-wal", "wb") as file:
-                file.write(rng.randbytes(rng.choice([10, 32, 5000])))
-        before = digest("damaged")
-        what = f"{number} ({kind.__name__})"
-        for words in (["status", database], ["find", database, "n1"], ["export", database], ["verify", name, database], ["verify", name, database, "--elements"]):
-            try:
-                ran = run([program, *words])
-            except subprocess.TimeoutExpired:
-                print(f"{what}: {words} didn't end")
-                return 1
-            if ran.returncode not in (0, 1):
-                print(f"{what}: {words} ended with {ran.returncode}: {ran.stderr[-300:]}")
-                return 1
-            if ran.returncode == 1 and not ran.stdout.strip():
-                print(f"{what}: {words} ended with 1 and said nothing")
-                return 1
-        if digest("damaged") != before:
-            print(f"{what}: a database that was only asked has changed")
-            return 1
-        found[str(ran.returncode)] += 1
-        if ran.returncode == 0:
-            if run([program, "export", database]).stdout != right:
-                print(f"{what}: verify found nothing, and the export differs")
-                return 1
-            if has_sqlite and run(["sqlite3", "-readonly", f"file:{database}?immutable=1", "PRAGMA integrity_check"]).stdout.strip() != b"ok":
-                print(f"{what}: verify found nothing, and sqlite3 finds it damaged")
-                return 1
         try:
-            ran = run([program, "import", name, database])
-        except subprocess.TimeoutExpired:
-            print(f"{what}: import didn't end")
-            return 1
-        if ran.returncode not in (0, 1):
-            print(f"{what}: import ended with {ran.returncode}: {ran.stderr[-300:]}")
+            found[judged(program, name, database, right)] += 1
+        except Wrong as wrong:
+            print(f"{number} ({KINDS[number % len(KINDS)].__name__}): {wrong}")
             return 1
     shutil.rmtree("damaged", ignore_errors=True)
-    print(f"{found['1']} damaged databases in which verify found something, {found['0']} in which nothing differs")
+    print(f"{found[1]} damaged databases in which verify found something, {found[0]} in which nothing differs")
     return 0
 
 
