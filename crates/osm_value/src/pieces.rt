@@ -1,12 +1,13 @@
 //! Bytes, numbers and texts written to a sink. Each call goes on where a sink has failed and then writes nothing,
 //! so that one look at the sink after the last call suffices.
 
-ghost use Rattle.std.specs.Prelude.{◌≡◌, ◌<◌, ◌≤◌, drop};
+ghost use Rattle.std.specs.Prelude.{◌≡◌, ◌<◌};
 ghost use Rattle.std.specs.Fmt.{decimal, signed_decimal};
 ghost use Rattle.osm_value.specs.Sink.{Writes};
 ghost use Rattle.osm_value.specs.Escape.{is_escaped, escaped, hex_digit};
 
 use crate::sink::Sink;
+use itoa::Buffer;
 
 /// Writes all of the piece. Where the sink has failed nothing is written, and where it fails a front of the piece went
 /// out; `failed` tells of both.
@@ -33,37 +34,16 @@ pub fn put<S: Sink>(sink: &mut S, piece: &[u8])
 pub fn put_number<S: Sink>(sink: &mut S, number: i64)
     ensures { Writes (S.written sink.old) (S.has_failed sink.old) (S.written sink.new) (S.has_failed sink.new) (signed_decimal number) }
 {
-    if number < 0 {
-        put(sink, b"-");
-        put_digits(sink, number.unsigned_abs());
-    } else {
-        put_digits(sink, number as u64);
-    }
+    let mut text = Buffer::new();
+    put(sink, text.format(number).as_bytes());
 }
 
 /// Writes a number that isn't negative in decimal, 1 to 20 digits. A sink that fails is met as by `put`.
 pub fn put_digits<S: Sink>(sink: &mut S, number: u64)
     ensures { Writes (S.written sink.old) (S.has_failed sink.old) (S.written sink.new) (S.has_failed sink.new) (decimal number) }
 {
-    let mut digits = [0u8; 20];
-    let start = fill_digits(number, &mut digits);
-    put(sink, &digits[start..]);
-}
-
-/// Writes the digits of a number at the end, and says where they begin.
-fn fill_digits(number: u64, digits: &mut [u8; 20]) -> usize
-    ensures begins { result ≤ 20 }
-    ensures digits { drop result digits.new ≡ decimal number }
-{
-    let mut at = 19;
-    let mut rest = number;
-    while rest >= 10 && at > 0 {
-        digits[at] = 48 + (rest % 10) as u8;
-        rest /= 10;
-        at -= 1;
-    }
-    digits[at] = 48 + (rest % 10) as u8;
-    at
+    let mut digits = Buffer::new();
+    put(sink, digits.format(number).as_bytes());
 }
 
 /// Writes a text. Each byte that separates or isn't printed is `%` and two upper-case hexadecimal digits: those below
