@@ -21,7 +21,7 @@ pub(crate) fn optional_unzigzag(number: Option<u64>) -> Option<i64>
     }
 }
 
-/// Adds to each number the sum of those before it. Or says that one of the sums doesn't fit.
+/// Adds to each number the sum of those before it, or answers false where one of the sums doesn't fit.
 fn add_up(numbers: &mut [i64]) -> bool
     ensures sums { IsTrue result → numbers.new ≡ front_sums numbers.old }
     ensures fit { IsTrue result → AllByRecursion (FitsSigned w64) numbers.new }
