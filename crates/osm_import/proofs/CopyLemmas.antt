@@ -1,8 +1,9 @@
 -- From the copies of single blobs to the copy of a map.
-use Rattle.std.proofs.Common.{◌≡◌, ◌≢◌, ◌⊎◌, ℕ, suc, zero, ◌+◌, ◌<◌, ◌≤◌, true, List, [], ◌∷◌, ◌++◌, map, length, take, get_or, Option, Some, None, Ok, Err, cond, is_some, add-one, refl, sym, ◌∙◌, ap, subst, inl, inr, arith}
+use Rattle.std.proofs.Common.{◌≡◌, ◌≢◌, ◌⊎◌, ℕ, suc, zero, ◌+◌, ◌<◌, ◌≤◌, true, List, [], ◌∷◌, ◌++◌, map, length, take, get_or, Option, Result, Some, None, Ok, Err, cond, is_some, add-one, refl, sym, ◌∙◌, ap, subst, inl, inr, arith}
 use Rattle.std.specs.FinMap as finite
 use Rattle.std.specs.FinMap.{get, insert, entries, get-entries, entries_sorted, is_sorted}
 use Rattle.std.specs.Ordering.{nat_cmp}
+use Rattle.std.specs.Prelude.{IfErr}
 use Rattle.std.proofs.lemmas.Bool.Decides.{eqb_tells}
 use Rattle.std.proofs.lemmas.List.{take_all, take_more, length-map}
 use Rattle.osm_store.specs.Held.{Blob, HeldMap, IsFree, IsApart}
@@ -15,6 +16,8 @@ use Rattle.osm_import.specs.Step.{HasCause}
 use Rattle.osm_import.specs.declared.answer.Conflict.TheVariants.{Differs, Overlap}
 use Rattle.osm_import.specs.declared.copy.CopyFault.{CopyFault}
 use Rattle.osm_import.specs.declared.copy.CopyFault.TheVariants.{Refused, Store}
+use Rattle.osm_import.specs.declared.copy.CopyStop.{CopyStop}
+use Rattle.osm_import.specs.declared.copy.CopyCounts.{CopyCounts}
 use Rattle.osm_import.specs.declared.copy.BlobCopy.{BlobCopy}
 use Rattle.osm_import.specs.declared.copy.BlobCopy.TheVariants.{Added, AlreadyHeld}
 use Rattle.osm_import.specs.Copies.{IsMerged, IsUnited, IsUnitedBelow, IsMet, held_among, IsCopyStep, CopiesBlob, Stops, FaultIsCaused}
@@ -322,3 +325,9 @@ held_by source held middle after extents i x blob AlreadyHeld are within is m ap
       let below = front_below (entries source) (true-of _ (entries_sorted source)) i x (subst (λ (xs : List Extent). i < length xs) are within) (is ∙ ap (λ (xs : List Extent). get_or xs i x) are) x.off blob (sym (get-entries source x.off) ∙ of) in
       let low : x.off < x.off = below.0 (subst (λ (xs : List Extent). IsAt (take i xs) x.off) are taken) in absurd (omega arith)
 ]
+
+-- a copy that stopped at a blob of the source stopped there or at 0
+pub reached_at : (source : HeldMap) (result : Result CopyCounts CopyStop) → IfErr result (λ (stop : CopyStop). (blob : Blob) × (get source stop.off ≡ Some blob))
+    → IfErr result (λ (stop : CopyStop). (stop.off ≡ 0) ⊎ ((blob : Blob) × (get source stop.off ≡ Some blob)))
+reached_at source (Ok counts) at = tt
+reached_at source (Err stop) at = inr at

@@ -70,7 +70,7 @@ group-in-range b es g h = joins-in-range (λ (xs : List Element) (m : Message). 
 block-in-range : (es : List Element) (w : List ℕ) → Block es w → AreInRange es
 block-in-range es w h = joins-in-range (GroupOf (context (fields w))) (group-in-range (context (fields w))) es (each (fields w) 2) h.elements_are
 
-elements-in-range : (kind : Kind) (blob : List ℕ) (es : List Element) → HasElements kind blob es → AreInRange es
+pub elements-in-range : (kind : Kind) (blob : List ℕ) (es : List Element) → HasElements kind blob es → AreInRange es
 elements-in-range OsmData blob es h = block-in-range es h.0 h.2
 elements-in-range OsmHeader blob es h = subst AreInRange (sym h.3) tt
 elements-in-range Other blob es h = subst AreInRange (sym h) tt

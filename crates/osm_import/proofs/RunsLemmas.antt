@@ -8,7 +8,7 @@ use Rattle.osm_store.specs.Held.{Blob, HeldMap}
 use Rattle.osm_store.specs.HeldLaws.{get-insert_here, get-insert_other, get-insert_cases}
 use Rattle.osm_import.specs.Deliveries.{DeliveryValue}
 use Rattle.osm_import.specs.Files.{AreFrames, AreOfFile, IsHeldOfFile, IsFrameAt}
-use Rattle.osm_import.specs.Runs.{IsRun, IsStored, IsRefused, IsFault, IsStoredIn, IsGoodIn, IsUnion, AreStoredOnce, IsNone, IsImport, HaveCauses, AreOwn, Runs, LeavesAfter}
+use Rattle.osm_import.specs.Runs.{IsRun, IsStored, IsRefused, IsFault, IsStoredIn, IsGoodIn, IsUnion, AreStoredOnce, IsNone, IsImport, HaveCauses, AreOwn, IsFirstFaultOwn, Runs, LeavesAfter}
 use Rattle.osm_import.specs.Step.{IsStep, IsEntry, IsOwn, CrashLeaves, Delivers, FaultHasCause}
 use Rattle.osm_import.specs.declared.answer.Answer.{Answer}
 use Rattle.osm_import.specs.declared.answer.Answer.TheVariants.{Stored, AlreadyHeld, Bad, Refused, Fault}
@@ -206,16 +206,11 @@ delivers-step open_now holds held off bytes (Bad fault) delivers is_open = deliv
 delivers-step open_now holds held off bytes (Refused Differs) delivers is_open = delivers
 delivers-step open_now holds held off bytes (Refused Overlap) delivers is_open = delivers
 
-pub cause-wider : (first before now later : ℕ) (answer : Answer) → first ≤ before → now ≤ later → FaultHasCause before now answer → FaultHasCause first later answer
-cause-wider first before now later (Fault fault) l r cause = elim cause [ inl memory ↦ inl memory | inr rest ↦ elim rest [ inl rose ↦ inr (inl (omega arith)) | inr full ↦ inr (inr (omega arith)) ] ]
-cause-wider first before now later (Stored count) l r cause = tt
-cause-wider first before now later AlreadyHeld l r cause = tt
-cause-wider first before now later (Bad fault) l r cause = tt
-cause-wider first before now later (Refused reason) l r cause = tt
-
-pub causes-push : (first now later : ℕ) (rs : List Answer) (a : Answer) → now ≤ later → HaveCauses first now rs → FaultHasCause first later a → HaveCauses first later (rs ++ a ∷ [])
-causes-push first now later [] a l causes cause = (cause, tt)
-causes-push first now later (x ∷ rs) a l causes cause = (cause-wider first first now later x (omega arith) l causes.0, causes-push first now later rs a l causes.1 cause)
+pub causes-push : (first now later : ℕ) (rs : List Answer) (a : Answer) → now ≤ later → HaveCauses first now rs → FaultHasCause now later a → HaveCauses first later (rs ++ a ∷ [])
+causes-push first now later [] a l causes cause =
+    let own : (first ≤ later) × FaultHasCause first later a = subst (λ (n : ℕ). (n ≤ later) × FaultHasCause n later a) causes (l, cause) in
+    (later, own.0, own.1, refl)
+causes-push first now later (x ∷ rs) a l causes cause = (causes.0, causes.1, causes.2, causes-push causes.0 now later rs a l causes.3 cause)
 
 -- one more turn of a loop over deliveries
 pub runs-more : (holds_then holds_now : HeldMap → Type 0) (open_now : Type 0) (start : HeldMap) (ds : List DeliveryValue) (i : ℕ) (d item : DeliveryValue) (rs items : List Answer) (a : Answer)
@@ -294,6 +289,19 @@ none-push P (r ∷ rs) a none last = (none.0, none-push P rs a none.1 last)
 pub own-push : (rs : List Answer) (a : Answer) → AreOwn rs → IsOwn a → AreOwn (rs ++ a ∷ [])
 own-push [] a all own = (own, tt)
 own-push (r ∷ rs) a all own = (all.0, own-push rs a all.1 own)
+
+-- one more answer, of which it is known behind answers without a fault
+pub first-own-push : (rs : List Answer) (a : Answer) → IsFirstFaultOwn rs → (IsNone IsFault rs → IsOwn a) → IsFirstFaultOwn (rs ++ a ∷ [])
+first-own-push [] (Fault fault) first own = own tt
+first-own-push [] (Stored count) first own = tt
+first-own-push [] AlreadyHeld first own = tt
+first-own-push [] (Bad fault) first own = tt
+first-own-push [] (Refused reason) first own = tt
+first-own-push (Fault fault ∷ rs) a first own = first
+first-own-push (Stored count ∷ rs) a first own = first-own-push rs a first (λ none. own ((λ h. h), none))
+first-own-push (AlreadyHeld ∷ rs) a first own = first-own-push rs a first (λ none. own ((λ h. h), none))
+first-own-push (Bad fault ∷ rs) a first own = first-own-push rs a first (λ none. own ((λ h. h), none))
+first-own-push (Refused reason ∷ rs) a first own = first-own-push rs a first (λ none. own ((λ h. h), none))
 
 -- where no answer is a fault
 pub own-sound : (rs : List Answer) → IsNone IsFault rs → AreOwn rs

@@ -3,11 +3,11 @@ use Rattle.std.proofs.Common.{◌≡◌, ◌⊎◌, ℕ, List, [], ◌∷◌, �
 use Rattle.osm_store.specs.Held.{HeldMap}
 use Rattle.osm_store.specs.declared.keeper.Reader.{Ghosts}
 use Rattle.osm_import.specs.Deliveries.{DeliveryValue}
-use Rattle.osm_import.specs.Runs.{IsFault, IsNone}
+use Rattle.osm_import.specs.Runs.{IsFault, IsNone, IsStored}
 use Rattle.osm_import.specs.Stores.{Takes, TakesOne}
 use Rattle.osm_import.specs.declared.answer.Answer.{Answer}
 use Rattle.osm_import.specs.declared.answer.Answer.TheVariants.{Stored, AlreadyHeld, Bad, Refused, Fault}
-use Rattle.osm_import.proofs.RunsLemmas.{run-push, delivers-step, delivers-sound, causes-push, cause-wider, own-push, none-push, none-split, leaves-run, leaves-fault}
+use Rattle.osm_import.proofs.RunsLemmas.{run-push, delivers-step, delivers-sound, causes-push, own-push, none-push, none-split, leaves-run, leaves-fault}
 use Rattle.osm_import.proofs.StreamLists.{delivery_of}
 
 abbrev pub fault-or-not : (a : Answer) → IsFault a ⊎ ¬ (IsFault a)
@@ -19,14 +19,15 @@ fault-or-not (Refused conflict) = inr (λ h. h)
 
 pub took-none : {S : Type 0} (store : Ghosts S)
     → ((s : S) (held left : HeldMap) → store.holds s held → store.leaves s left → left ≡ held) → ((s : S) (held : HeldMap) → store.holds s held → store.leaves_a_map s)
-    → (s : S) → Takes store s s [] []
-took-none store settled has_map s = record {
+    → ((s : S) → store.same_tables s s) → (s : S) → Takes store s s [] []
+took-none store settled has_map self s = record {
   run = λ held is honest is_open_now. (held, refl, is);
   unbroken = λ held is honest none. (held, refl, is);
   crash = λ held is honest left it. settled s held left is it;
   whole = λ held is honest. has_map s held is;
   own = λ held is honest. tt;
-  causes = tt;
+  causes = refl;
+  same = λ honest is_open none. self s;
   honest = λ h. h;
   open_if = λ h. h;
   counted = omega arith;
@@ -34,10 +35,11 @@ took-none store settled has_map s = record {
 
 pub took-more : {S : Type 0} (store : Ghosts S)
     → ((s : S) (held left : HeldMap) → store.holds s held → store.leaves s left → left ≡ held)
+    → ((first next last : S) → store.same_tables first next → store.same_tables next last → store.same_tables first last)
     → (old mid new : S) (ds : List DeliveryValue) (rs : List Answer) (off : ℕ) (bytes : List ℕ) (a : Answer) → IsNone IsFault rs
     → Takes store old mid ds rs → TakesOne store mid new off bytes a
     → Takes store old new (ds ++ delivery_of off bytes ∷ []) (rs ++ a ∷ [])
-took-more store settled old mid new ds rs off bytes a sound all one = record {
+took-more store settled joined old mid new ds rs off bytes a sound all one = record {
   run = λ held is honest is_open_now.
       (let before = all.unbroken held is (one.honest honest) sound in
       let step = delivers-step (store.is_open new) (store.holds new) before.0 off bytes a (one.step before.0 before.2 honest) is_open_now in
@@ -56,7 +58,8 @@ took-more store settled old mid new ds rs off bytes a sound all one = record {
       ]);
   whole = λ held is honest. (let before = all.unbroken held is (one.honest honest) sound in one.whole before.0 before.2 honest);
   own = λ held is honest. (let before = all.unbroken held is (one.honest honest) sound in own-push rs a (all.own held is (one.honest honest)) (one.own before.0 before.2 honest));
-  causes = causes-push (store.failures old) (store.failures mid) (store.failures new) rs a one.counted all.causes (cause-wider (store.failures old) (store.failures mid) (store.failures new) (store.failures new) a all.counted (omega arith) one.cause);
+  causes = causes-push (store.failures old) (store.failures mid) (store.failures new) rs a one.counted all.causes one.cause;
+  same = λ honest is_open none. (let parts = none-split IsStored rs a none in joined old mid new (all.same (one.honest honest) (one.open_if is_open) parts.0) (one.same honest is_open parts.1));
   honest = λ h. all.honest (one.honest h);
   open_if = λ h. all.open_if (one.open_if h);
   counted = (let x = all.counted in let y = one.counted in omega arith);

@@ -1,5 +1,5 @@
 -- Any list of deliveries, and what the store holds after it.
-use Rattle.std.specs.Prelude.{◌≡◌, ◌⊎◌, ◌↔◌, ℕ, List, [], ◌∷◌, Some}
+use Rattle.std.specs.Prelude.{◌≡◌, ◌⊎◌, ◌↔◌, ◌≤◌, ℕ, List, [], ◌∷◌, Some}
 use Rattle.std.specs.FinMap.{get}
 use Rattle.osm_store.specs.Held.{Blob, HeldMap}
 use Rattle.osm_import.specs.Deliveries.{DeliveryValue}
@@ -73,10 +73,11 @@ Runs holds start deliveries answers = (held : HeldMap) × IsRun start deliveries
 abbrev pub Imports : (HeldMap → Type 0) → List (List ℕ) → HeldMap → List DeliveryValue → List Answer → Type 0
 Imports holds frames start deliveries answers = (held : HeldMap) × IsImport frames start deliveries answers held × holds held
 
--- each fault among the answers has a cause
+-- Each fault among the answers has a cause of its own: the store's failures rise from the one number to the other, delivery
+-- by delivery, and a fault that isn't refused memory takes a rise in its own.
 abbrev pub HaveCauses : ℕ → ℕ → List Answer → Type 0
-HaveCauses before now [] = Unit {0}
-HaveCauses before now (answer ∷ answers) = FaultHasCause before now answer × HaveCauses before now answers
+HaveCauses before now [] = now ≡ before
+HaveCauses before now (answer ∷ answers) = (next : ℕ) × (before ≤ next) × FaultHasCause before next answer × HaveCauses next now answers
 
 -- What a crash may leave after deliveries up to the first fault: the map after the answered ones, and after a fault
 -- alone that map with the entry of the delivery at fault.
@@ -104,6 +105,12 @@ pub record StaysShut (could_leave leaves : HeldMap → Type 0) (left_a_map leave
   pub unstored : ¬ (IsStored answer)
   pub crash : (left : HeldMap) → leaves left → could_leave left
   pub whole : left_a_map → leaves_a_map
+
+-- the first fault among the answers, if there is one, doesn't say that the tables are another store's
+abbrev pub IsFirstFaultOwn : List Answer → Type 0
+IsFirstFaultOwn [] = Unit {0}
+IsFirstFaultOwn (Fault fault ∷ answers) = IsOwn (Fault fault)
+IsFirstFaultOwn (_ ∷ answers) = IsFirstFaultOwn answers
 
 -- no fault among the answers says that the tables are another store's
 abbrev pub AreOwn : List Answer → Type 0

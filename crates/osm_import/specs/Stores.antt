@@ -4,16 +4,17 @@ use Rattle.osm_store.specs.Held.{HeldMap}
 use Rattle.osm_store.specs.declared.keeper.Reader.{Ghosts}
 use Rattle.osm_import.specs.Deliveries.{DeliveryValue}
 use Rattle.osm_import.specs.Step.{Delivers, CrashLeaves, FaultHasCause, IsOwn}
-use Rattle.osm_import.specs.Runs.{Runs, LeavesAfter, HaveCauses, AreOwn, IsFault, IsNone}
+use Rattle.osm_import.specs.Runs.{Runs, LeavesAfter, HaveCauses, AreOwn, IsFault, IsNone, IsStored}
 use Rattle.osm_import.specs.declared.answer.Answer.{Answer}
 
--- what one delivery has done
+-- what one delivery has done; where nothing is stored, the tables are as they were, whatever rows they have
 pub record TakesOne {S : Type 0} (store : Ghosts S) (old new : S) (off : ℕ) (bytes : List ℕ) (answer : Answer) : Type 0 where
   pub step : (held : HeldMap) → store.holds old held → store.is_honest new → Delivers (store.is_open new) (store.holds new) held off bytes answer
   pub crash : (held : HeldMap) → store.holds old held → store.is_honest new → CrashLeaves (store.leaves new) held off bytes
   pub whole : (held : HeldMap) → store.holds old held → store.is_honest new → store.leaves_a_map new
   pub own : (held : HeldMap) → store.holds old held → store.is_honest new → IsOwn answer
   pub cause : FaultHasCause (store.failures old) (store.failures new) answer
+  pub same : store.is_honest new → store.is_open new → ¬ (IsStored answer) → store.same_tables old new
   pub honest : store.is_honest new → store.is_honest old
   pub open_if : store.is_open new → store.is_open old
   pub counted : store.failures old ≤ store.failures new
@@ -27,6 +28,7 @@ pub record Takes {S : Type 0} (store : Ghosts S) (old new : S) (deliveries : Lis
   pub whole : (held : HeldMap) → store.holds old held → store.is_honest new → store.leaves_a_map new
   pub own : (held : HeldMap) → store.holds old held → store.is_honest new → AreOwn replies
   pub causes : HaveCauses (store.failures old) (store.failures new) replies
+  pub same : store.is_honest new → store.is_open new → IsNone IsStored replies → store.same_tables old new
   pub honest : store.is_honest new → store.is_honest old
   pub open_if : store.is_open new → store.is_open old
   pub counted : store.failures old ≤ store.failures new

@@ -1,6 +1,6 @@
 //! Copies of held blobs from one store into another.
 
-ghost use Rattle.std.specs.Prelude.{◌≡◌, ◌<◌, ◌≤◌, ◌^◌, ℕ, Some, All};
+ghost use Rattle.std.specs.Prelude.{◌≡◌, ◌⊎◌, ◌<◌, ◌≤◌, ◌^◌, ℕ, Some, All, IfOk, IfErr};
 ghost use Rattle.std.specs.FinMap.{get};
 ghost use Rattle.osm_store.specs.Held.{Blob, HeldMap};
 ghost use Rattle.osm_store.specs.Keeping.{IsRange, extent_of, extents_of};
@@ -110,6 +110,7 @@ fn copy_blob<F: Reader, T: Keeper>(
     ensures cause { BlobHasCause (F.failures from.old) (F.failures from.new) (T.failures to.old) (T.failures to.new) result }
     ensures honest { T.is_honest to.new → T.is_honest to.old }
     ensures open_if { T.is_open to.new → T.is_open to.old }
+    ensures same { T.is_honest to.new → T.is_open to.new → IfOk result (λ answer. answer ≡ BlobCopy.AlreadyHeld → T.same_tables to.old to.new) }
     ensures counted { (F.failures from.old ≤ F.failures from.new) × (T.failures to.old ≤ T.failures to.new) }
 {
     let touched = to.extents_touching(alloc, extent.off, extent.fin)?;
@@ -151,10 +152,12 @@ fn copy_blobs<F: Reader, T: Keeper>(
         → CrashLeavesSome (T.leaves to.new) source held result }
     ensures whole { (source held : HeldMap) → F.holds from.old source → F.is_honest from.new → T.holds to.old held → T.is_honest to.new → extents.now ≡ extents_of source → T.leaves_a_map to.new }
     ensures own { (source held : HeldMap) → F.holds from.old source → F.is_honest from.new → T.holds to.old held → T.is_honest to.new → extents.now ≡ extents_of source → IsOwnCopy result }
+    ensures reached { (source : HeldMap) → extents.now ≡ extents_of source → IfErr result (λ stop. (blob : Blob) × (get source stop.off ≡ Some blob)) }
     ensures source { Rereads F.Reader from.old result from.new }
     ensures cause { CopyHasCause (F.failures from.old) (F.failures from.new) (T.failures to.old) (T.failures to.new) result }
     ensures honest { T.is_honest to.new → T.is_honest to.old }
     ensures open_if { T.is_open to.new → T.is_open to.old }
+    ensures same { T.is_honest to.new → T.is_open to.new → IfOk result (λ counts. counts.copied ≡ 0 → T.same_tables to.old to.new) }
     ensures counted { (F.failures from.old ≤ F.failures from.new) × (T.failures to.old ≤ T.failures to.new) }
 {
     let mut copied = 0;
@@ -195,6 +198,10 @@ pub fn copy_held<F: Reader, T: Keeper>(
     ensures copies { (source held : HeldMap) → F.holds from.old source → F.is_honest from.new → T.holds to.old held → T.is_honest to.new
         → Copies (T.is_open to.new) (T.holds to.new) source held result }
 
+    // It stops at a blob of the first store, or at 0 before the first.
+    ensures reached { (source : HeldMap) → F.holds from.old source → F.is_honest from.new
+        → IfErr result (λ stop. (stop.off ≡ 0) ⊎ ((blob : Blob) × (get source stop.off ≡ Some blob))) }
+
     // What a crash may leave now.
     ensures crash { (source held : HeldMap) → F.holds from.old source → F.is_honest from.new → T.holds to.old held → T.is_honest to.new
         → CrashLeavesSome (T.leaves to.new) source held result }
@@ -208,6 +215,9 @@ pub fn copy_held<F: Reader, T: Keeper>(
     ensures cause { CopyHasCause (F.failures from.old) (F.failures from.new) (T.failures to.old) (T.failures to.new) result }
     ensures honest { T.is_honest to.new → T.is_honest to.old }
     ensures open_if { T.is_open to.new → T.is_open to.old }
+
+    // Where nothing is copied the other's tables are as they were, whatever rows they have.
+    ensures same { T.is_honest to.new → T.is_open to.new → IfOk result (λ counts. counts.copied ≡ 0 → T.same_tables to.old to.new) }
 {
     let extents = match from.extents(alloc) {
         Ok(extents) => extents,

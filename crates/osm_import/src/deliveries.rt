@@ -3,7 +3,7 @@
 ghost use Rattle.std.specs.Prelude.{◌≡◌, ◌⊎◌, ℕ, List, length, IfOk, OnErr, vec_len};
 ghost use Rattle.osm_store.specs.Held.{HeldMap};
 ghost use Rattle.osm_import.specs.Files.{AreFrames, AreOfFile, IsHeldOfFile};
-ghost use Rattle.osm_import.specs.Runs.{Runs, Imports, HaveCauses, AreOwn, LeavesAfterAll, IsNone, IsStored, IsFault};
+ghost use Rattle.osm_import.specs.Runs.{Runs, Imports, HaveCauses, AreOwn, IsFirstFaultOwn, LeavesAfterAll, IsNone, IsStored, IsFault};
 
 use crate::answer::Answer;
 use crate::delivery::deliver;
@@ -67,7 +67,8 @@ pub fn deliver_all<K: Keeper>(
         → IfOk result (λ answers. LeavesAfterAll (K.leaves keeper.new) held deliveries.now answers.items) }
     ensures whole { (held : HeldMap) → K.holds keeper.old held → K.is_honest keeper.new → K.leaves_a_map keeper.new }
 
-    // Why faults are answered.
+    // Why faults are answered: each has a cause of its own, and the first never says that the tables are another store's.
+    ensures first_own { (held : HeldMap) → K.holds keeper.old held → K.is_honest keeper.new → IfOk result (λ answers. IsFirstFaultOwn answers.items) }
     ensures own { (held : HeldMap) → K.holds keeper.old held → K.is_honest keeper.new
         → IfOk result (λ answers. K.is_open keeper.new ⊎ IsNone IsFault answers.items → AreOwn answers.items) }
     ensures cause { IfOk result (λ answers. HaveCauses (K.failures keeper.old) (K.failures keeper.new) answers.items) }

@@ -1,7 +1,7 @@
 //! What a delivery is: a good blob, or its first fault.
 
 ghost use Rattle.std.specs.Prelude.{◌≡◌, ℕ, List, [], length, Some, Ok, IfOk, IfErr, OnOk, MatchOption};
-ghost use Rattle.pbf_frame.specs.Frame.{whole_at};
+ghost use Rattle.pbf_frame.specs.Frame.{Found, whole_at};
 ghost use Rattle.pbf_frame.specs.View.{found};
 ghost use Rattle.pbf_frame.specs.declared.kind.Kind.TheVariants.{OsmHeader, OsmData};
 ghost use Rattle.osm_import.specs.Good.{IsGood, HasElements, HasHeader};
@@ -175,6 +175,7 @@ pub fn examine_frame<'a>(
 pub fn examine(alloc: Global, off: u64, bytes: &[u8]) -> Result<Good<'_>, ExamineFault>
     ensures good { IfOk result (λ good. IsGood off bytes.now good.kind good.elements.items) }
     ensures length { IfOk result (λ good. good.length ≡ length bytes.now) }
+    ensures header { (frame : Found) → whole_at bytes.now ≡ Ok frame → IfOk result (λ good. HasHeader frame.kind frame.blob good.header) }
     ensures bad { IfErr result (IsFinding off bytes.now) }
 {
     match whole_frame(bytes) {

@@ -1,6 +1,6 @@
 //! The copy of a store of the first layout into one of the second.
 
-ghost use Rattle.std.specs.Prelude.{IsTrue};
+ghost use Rattle.std.specs.Prelude.{IsTrue, OnOk};
 ghost use Rattle.sqlite.specs.State.{HasCleanDisk};
 ghost use Rattle.sqlite.specs.Held.{state};
 ghost use Rattle.osm_store.specs.Held.{HeldMap};
@@ -40,9 +40,13 @@ pub fn migrate<S: Alter + Drop, T: Alter + Drop>(
     ensures whole { (source held : HeldMap) → Holds Bodies (state S.Store old.old.connection) source → HasCleanDisk (state S.Store old.new.connection)
         → Holds Tables (state T.Store new.old.connection) held → HasCleanDisk (state T.Store new.new.connection) → LeavesAMap Tables (state T.Store new.new.connection) }
 
-    // What the old store holds stays.
+    // What the old store holds stays, at `Ok` whatever else is known of it, and a crash leaves what it could leave before.
     ensures source { (source : HeldMap) → Holds Bodies (state S.Store old.old.connection) source → HasCleanDisk (state S.Store old.new.connection)
         → IsTrue (state S.Store old.new.connection).is_open → Holds Bodies (state S.Store old.new.connection) source }
+    ensures source_ok { (source : HeldMap) → Holds Bodies (state S.Store old.old.connection) source → HasCleanDisk (state S.Store old.new.connection)
+        → OnOk result (Holds Bodies (state S.Store old.new.connection) source) }
+    ensures source_crash { (source : HeldMap) → MayLeave Bodies (state S.Store old.new.connection) source → HasCleanDisk (state S.Store old.new.connection)
+        → MayLeave Bodies (state S.Store old.old.connection) source }
 
     // Why a fault is answered.
     ensures own { (source held : HeldMap) → Holds Bodies (state S.Store old.old.connection) source → HasCleanDisk (state S.Store old.new.connection)

@@ -18,6 +18,7 @@ loop-extent-init g c = record {
   honest = λ h. h;
   open_if = λ h. h;
   counted = omega arith;
+  same = λ honest is_open none. g.met.T.Reader.same_tables_self c.args.to.now;
   merged = λ source held from_holds from_honest holds honest are. (held, merged_none (λ off. IsAt [] off) source held (λ off none. none), holds, refl);
 }
 
@@ -41,6 +42,12 @@ loop-extent-preserved g c =
       honest = λ h. inv.honest (made.honest h);
       open_if = λ h. inv.open_if (made.open_if h);
       counted = omega (arith, inv.counted, made.counted.1);
+      same = λ honest is_open none. elim c.match-answer.branch [
+        | in-Added w ↦ absurd (let more = w.copied-is in omega (arith, none, more))
+        | in-AlreadyHeld w ↦ (let known = w.in-AlreadyHeld.is in let kept = w.copied-is in
+            g.met.T.Reader.same_tables_then c.args.to.now c.loop-extent.to c.copy_blob.new.to (inv.same (made.honest honest) (made.open_if is_open) (omega (arith, none, kept)))
+            (made.same honest is_open known))
+      ];
       merged = λ source held from_holds from_honest holds honest are.
           let before = inv.merged source held from_holds (made.source.stays.honest from_honest) holds (made.honest honest) are in
           let is = read-is c.args.extents.now c.loop-extent.extent-index _ _ (omega arith) in
@@ -127,3 +134,9 @@ returns-clause-crash g c = λ source held from_holds from_honest holds honest ar
 pub returns-clause-whole : goal.returns-clause-whole
 returns-clause-whole g c = λ source held from_holds from_honest holds honest are.
     let made = c.loop-extent.invariant.merged source held from_holds from_honest holds honest are in g.met.T.Reader.leaves_held _ made.0 made.2
+
+pub returns-in-Err-clause-reached : goal.returns-in-Err-clause-reached
+returns-in-Err-clause-reached g c = λ source are.
+    let is = read-is c.args.extents.now c.loop-extent.extent-index _ _ (omega arith) in
+    let at = at_blob source c.args.extents.now c.loop-extent.extent-index _ are (omega arith) is in
+    (at.blob, at.found)

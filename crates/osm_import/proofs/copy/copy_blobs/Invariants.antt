@@ -21,6 +21,7 @@ invariant-loop-extent g l =
       honest : T.is_honest l.to → T.is_honest l.fn.to;
       open_if : T.is_open l.to → T.is_open l.fn.to;
       counted : T.failures l.fn.to ≤ T.failures l.to;
+      same : T.is_honest l.to → T.is_open l.to → l.copied ≡ 0 → T.same_tables l.fn.to l.to;
       merged : (source held : HeldMap) → F.holds l.fn.from source → F.is_honest l.from → T.holds l.fn.to held → T.is_honest l.to → l.extents ≡ extents_of source
           → (after : HeldMap) × IsMerged (λ off. IsAt (take l.extent-index l.extents) off) source held after × T.holds l.to after × (l.held ≡ held_among held (take l.extent-index (entries source)));
     }

@@ -1,7 +1,7 @@
-use Rattle.std.proofs.Common.{◌<◌, arith, sym, subst}
+use Rattle.std.proofs.Common.{◌<◌, ◌∙◌, arith, sym, subst, inl, refl}
 use Rattle.osm_store.specs.Held.{HeldMap}
 use Rattle.osm_import.specs.Copies.{IsUnitedBelow}
-use Rattle.osm_import.proofs.CopyLemmas.{merged_none}
+use Rattle.osm_import.proofs.CopyLemmas.{merged_none, reached_at}
 use Rattle.osm_import.proofs.copy.copy_held.Goals as goal
 
 pub returns-in-Err-clause-copies : goal.returns-in-Err-clause-copies
@@ -10,3 +10,10 @@ returns-in-Err-clause-copies g c = λ source held from_holds from_honest holds h
 pub returns-in-Err-clause-crash : goal.returns-in-Err-clause-crash
 returns-in-Err-clause-crash g c = λ source held from_holds from_honest holds honest left leaves.
     (0, subst (λ (h : HeldMap). IsUnitedBelow 0 source held h) (sym (g.met.T.Reader.settled _ held left holds leaves)) (merged_none (λ off. off < 0) source held (λ off low. omega arith)))
+
+pub returns-in-Err-clause-reached : goal.returns-in-Err-clause-reached
+returns-in-Err-clause-reached g c = λ source from_holds from_honest. inl refl
+
+pub returns-clause-reached : goal.returns-clause-reached
+returns-clause-reached g c = λ source from_holds from_honest.
+    reached_at source c.copy_blobs.result (c.copy_blobs.ensures.reached source (c.deref.ensures.value ∙ c.in-Ok.ensures.all source from_holds (c.copy_blobs.ensures.source.stays.honest from_honest)))

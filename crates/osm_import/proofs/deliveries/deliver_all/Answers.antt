@@ -1,8 +1,8 @@
 use Rattle.std.proofs.Common.{◌≡◌, ◌++◌, ◌∷◌, [], List, take, refl, sym, subst, inl, inr, arith, rules}
 use Rattle.std.proofs.lemmas.Grind.{common_steps}
 use Rattle.osm_import.specs.declared.answer.Answer.{Answer}
-use Rattle.osm_import.specs.Runs.{AreOwn, Runs, IsNone, IsStored, IsFault}
-use Rattle.osm_import.proofs.RunsLemmas.{run-imports, cause-wider, causes-push, runs-more, runs-step, runs-all, none-split, delivers-sound, own-push, own-sound}
+use Rattle.osm_import.specs.Runs.{AreOwn, IsFirstFaultOwn, Runs, IsNone, IsStored, IsFault}
+use Rattle.osm_import.proofs.RunsLemmas.{run-imports, causes-push, first-own-push, runs-more, runs-step, runs-all, none-split, delivers-sound, own-push, own-sound}
 use Rattle.osm_import.proofs.ShutLemmas.{come-more-at, come-all, come-leaves, come-leaves_a_map}
 use Rattle.osm_import.proofs.deliveries.deliver_all.Goals as goal
 
@@ -13,7 +13,8 @@ loop-delivery-init g c = record {
   honest = λ h. h;
   open_if = λ h. h;
   counted = omega arith;
-  caused = rw c.in_ok-answers.ensures.items tt;
+  caused = rw c.in_ok-answers.ensures.items refl;
+  first_own = λ held holds honest. rw c.in_ok-answers.ensures.items tt;
   own = λ held holds honest is_open. rw c.in_ok-answers.ensures.items tt;
   run = λ held holds honest is_open. rw c.in_ok-answers.ensures.items (held, refl, holds);
   unbroken = λ held holds honest sound. rw c.in_ok-answers.ensures.items (held, refl, holds);
@@ -33,12 +34,14 @@ loop-delivery-preserved g c =
       honest = λ h. inv.honest (made.honest h);
       open_if = λ h. inv.open_if (made.open_if h);
       counted = omega (arith, inv.counted, made.counted);
-      caused = rw pushed (causes-push (K.failures c.args.keeper.now) (K.failures c.loop-delivery.keeper) (K.failures c.deliver.new.keeper) c.loop-delivery.answers.items c.deliver.result made.counted inv.caused
-          (cause-wider (K.failures c.args.keeper.now) (K.failures c.loop-delivery.keeper) (K.failures c.deliver.new.keeper) (K.failures c.deliver.new.keeper) c.deliver.result inv.counted (omega arith) made.cause));
+      caused = rw pushed (causes-push (K.failures c.args.keeper.now) (K.failures c.loop-delivery.keeper) (K.failures c.deliver.new.keeper) c.loop-delivery.answers.items c.deliver.result made.counted inv.caused made.cause);
       own = λ held holds honest is_open.
           (let so_far = inv.run held holds (made.honest honest) (made.open_if is_open) in
           subst (λ (rs : List Answer). AreOwn rs) (sym pushed) (own-push c.loop-delivery.answers.items c.deliver.result
           (inv.own held holds (made.honest honest) (made.open_if is_open)) (made.own so_far.0 so_far.2 honest)));
+      first_own = λ held holds honest.
+          subst (λ (rs : List Answer). IsFirstFaultOwn rs) (sym pushed) (first-own-push c.loop-delivery.answers.items c.deliver.result (inv.first_own held holds (made.honest honest))
+          (λ none. let so_far = inv.unbroken held holds (made.honest honest) none in made.own so_far.0 so_far.2 honest));
       run = λ held holds honest is_open.
           runs-more (K.holds c.loop-delivery.keeper) (K.holds c.deliver.new.keeper) (K.is_open c.deliver.new.keeper) held c.args.deliveries.now c.loop-delivery.delivery-index _ c.delivery-item.result
           c.loop-delivery.answers.items c.push.new.self.items c.deliver.result (omega arith) c.delivery.view_is c.delivery-item.is pushed
@@ -63,6 +66,7 @@ loop-delivery-preserved g c =
             whole = made.whole;
             own = made.own;
             cause = made.cause;
+            same = made.same;
             honest = made.honest;
             open_if = made.open_if;
             counted = made.counted;

@@ -1,7 +1,7 @@
 use Rattle.std.proofs.Common.{◌≡◌, ◌≤◌, length, take, vec_len}
 use Rattle.std.specs.Prelude.{vec_capacity}
 use Rattle.osm_store.specs.Held.{HeldMap}
-use Rattle.osm_import.specs.Runs.{Runs, HaveCauses, AreOwn, IsNone, IsStored, IsFault}
+use Rattle.osm_import.specs.Runs.{Runs, HaveCauses, AreOwn, IsFirstFaultOwn, IsNone, IsStored, IsFault}
 use Rattle.osm_import.proofs.ShutLemmas.{HasCome}
 use Rattle.osm_import.proofs.deliveries.deliver_all.Given as goal
 
@@ -16,6 +16,7 @@ invariant-loop-delivery g l =
       counted : K.failures l.fn.keeper ≤ K.failures l.keeper;
       caused : HaveCauses (K.failures l.fn.keeper) (K.failures l.keeper) l.answers.items;
       own : (held : HeldMap) → K.holds l.fn.keeper held → K.is_honest l.keeper → K.is_open l.keeper → AreOwn l.answers.items;
+      first_own : (held : HeldMap) → K.holds l.fn.keeper held → K.is_honest l.keeper → IsFirstFaultOwn l.answers.items;
       run : (held : HeldMap) → K.holds l.fn.keeper held → K.is_honest l.keeper → K.is_open l.keeper → Runs (K.holds l.keeper) held (take l.delivery-index l.deliveries) l.answers.items;
       unbroken : (held : HeldMap) → K.holds l.fn.keeper held → K.is_honest l.keeper → IsNone IsFault l.answers.items
           → Runs (K.holds l.keeper) held (take l.delivery-index l.deliveries) l.answers.items;

@@ -27,6 +27,7 @@ returns g c =
         whole = made.whole;
         own = made.own;
         cause = made.cause;
+        same = made.same;
         honest = made.honest;
         open_if = made.open_if;
         counted = made.counted;

@@ -19,7 +19,7 @@ use Rattle.osm_import.proofs.stream.run.import_stream.Goals as goal
 pub returns-in_default-clause-streams : goal.returns-in_default-clause-streams
 returns-in_default-clause-streams g c =
     never-begun c.args.from c.args.max_blobs (g.R.Source.bytes_left c.args.reader.now) (g.S.Sink.written c.args.out.now) (g.R.Source.has_failed c.args.reader.now) (g.S.Sink.has_failed c.args.out.now)
-    (Takes g.K.Reader c.args.keeper.now c.args.keeper.now) (took-none g.K.Reader g.met.K.Reader.settled g.met.K.Reader.leaves_held c.args.keeper.now)
+    (Takes g.K.Reader c.args.keeper.now c.args.keeper.now) (took-none g.K.Reader g.met.K.Reader.settled g.met.K.Reader.leaves_held g.met.K.Reader.same_tables_self c.args.keeper.now)
 
 pub loop-blobs-init : goal.loop-blobs-init
 loop-blobs-init g c =
@@ -28,7 +28,7 @@ loop-blobs-init g c =
     subst (λ (piece : List ℕ). InStream c.args.from 0 c.new-framer.result left (prepend_known piece left) written written (summary_of [] c.args.from) (Takes g.K.Reader c.args.keeper.now c.args.keeper.now)) (sym c.in-Ok.ensures)
     (stream-begins c.args.from left written c.new-framer.result (summary_of [] c.args.from) (Takes g.K.Reader c.args.keeper.now c.args.keeper.now)
     (ap (λ (f : Framing). f.offset) c.new-framer.ensures) (ap (λ (f : Framing). f.rest) c.new-framer.ensures) c.requires refl
-    (took-none g.K.Reader g.met.K.Reader.settled g.met.K.Reader.leaves_held c.args.keeper.now))
+    (took-none g.K.Reader g.met.K.Reader.settled g.met.K.Reader.leaves_held g.met.K.Reader.same_tables_self c.args.keeper.now))
 
 pub loop-blobs-preserved : goal.loop-blobs-preserved
 loop-blobs-preserved g c =
@@ -37,7 +37,7 @@ loop-blobs-preserved g c =
     (input_behind g.R.Source c.loop-blobs.piece c.import_frame.new.piece c.loop-blobs.reader c.import_frame.new.reader) (output g.S.Sink c.loop-blobs.out c.import_frame.new.out) c.loop-blobs.summary c.add.new.self
     (Takes g.K.Reader c.args.keeper.now c.loop-blobs.keeper) (Takes g.K.Reader c.args.keeper.now c.import_frame.new.keeper) (TakesOne g.K.Reader c.loop-blobs.keeper c.import_frame.new.keeper)
     c.in-Ok-Some.blob c.loop-blobs.invariant one
-    (λ ds rs off bytes a sound all step. took-more g.K.Reader g.met.K.Reader.settled c.args.keeper.now c.loop-blobs.keeper c.import_frame.new.keeper ds rs off bytes a sound all step)
+    (λ ds rs off bytes a sound all step. took-more g.K.Reader g.met.K.Reader.settled g.met.K.Reader.same_tables_then c.args.keeper.now c.loop-blobs.keeper c.import_frame.new.keeper ds rs off bytes a sound all step)
     c.add.ensures
 
 pub returns-in-Ok-None-clause-streams : goal.returns-in-Ok-None-clause-streams
@@ -61,7 +61,7 @@ returns-in-Err-clause-streams g c =
     (Takes g.K.Reader c.args.keeper.now c.loop-blobs.keeper) (Takes g.K.Reader c.args.keeper.now c.import_frame.new.keeper) (TakesOne g.K.Reader c.loop-blobs.keeper c.import_frame.new.keeper)
     (c.import_frame.new.keeper ≡ c.loop-blobs.keeper) c.in-Err.fault c.loop-blobs.invariant c.in-Err.ensures.step
     (λ ds rs same took. subst (λ (k : g.row.K.Denot). Takes g.K.Reader c.args.keeper.now k ds rs) (sym same) took)
-    (λ ds rs off bytes a sound all step. took-more g.K.Reader g.met.K.Reader.settled c.args.keeper.now c.loop-blobs.keeper c.import_frame.new.keeper ds rs off bytes a sound all step)
+    (λ ds rs off bytes a sound all step. took-more g.K.Reader g.met.K.Reader.settled g.met.K.Reader.same_tables_then c.args.keeper.now c.loop-blobs.keeper c.import_frame.new.keeper ds rs off bytes a sound all step)
     (omega arith) c.in-Err.ensures.spent
 
 pub returns-in-Ok-true-clause-streams : goal.returns-in-Ok-true-clause-streams
