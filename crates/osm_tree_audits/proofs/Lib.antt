@@ -7,3 +7,4 @@ pub mod AtOffset
 pub mod Walks
 pub mod Shown
 pub mod Whole
+pub mod Reaching

@@ -31,7 +31,7 @@ not_tied Less h = refl
 not_tied Equal h = absurd (true≢false (sym h))
 not_tied Greater h = refl
 
-none_above : (key e : Row) (es : List Row) → IsSortedTree plain (e ∷ es) → prefix_cmp plain e key ≡ Greater → filter (starts key) (e ∷ es) ≡ []
+pub none_above : (key e : Row) (es : List Row) → IsSortedTree plain (e ∷ es) → prefix_cmp plain e key ≡ Greater → filter (starts key) (e ∷ es) ≡ []
 none_above key e es up t =
     let first = ap is_gt t in
     filter_none (starts key) (e ∷ es) (

@@ -1,6 +1,6 @@
 //! Whether each index of a store has one entry for each row of its table, and no other.
 
-ghost use Rattle.std.specs.Prelude.{◌≡◌, ◌↔◌, false, length, map, All, Contains, IsSome, IsTrue, IfOk, IfErr, OnOk, MatchOption};
+ghost use Rattle.std.specs.Prelude.{◌≡◌, ◌↔◌, ◌∷◌, [], false, length, map, All, Contains, IsSome, IsTrue, IfOk, IfErr, OnOk, MatchOption};
 ghost use Rattle.sqlite_trees.specs.View.{IsClean, IsQuiet, StayLive};
 ghost use Rattle.sqlite_sql.specs.Catalog.{entry_of, IsIndexOf};
 ghost use Rattle.sqlite_exec.specs.Calls.{OnlyReads};
@@ -16,6 +16,7 @@ use osm_store::StoreFault;
 use osm_tree_writes::fault_of;
 use sqlite_trees::store::{Direction, Shape, Store};
 use sqlite_value::keys::Order;
+use sqlite_value::order::is_same;
 use sqlite_value::row::Row;
 use std::alloc::{AllocError, Global};
 use std::fmt;
@@ -167,6 +168,120 @@ fn count_entered<S: Store>(
     Err(StoreFault::Memory)
 }
 
+/// The same as `is_indexed`, by a search for each entry that isn't the next one.
+fn has_each_entry<S: Store>(
+    alloc: Global,
+    store: &mut S,
+    table: u32,
+    tree: u32,
+    columns: &[usize],
+) -> Result<bool, StoreFault>
+    requires index { IsClean (S.Store.view store.old) → (S.Store.view store.old).shape tree ≡ Shape.Index Order.PLAIN }
+    requires table { IsClean (S.Store.view store.old) → (S.Store.view store.old).shape table ≡ Shape.Table }
+    ensures told { IfOk result (λ told. IsClean (S.Store.view store.new) → (IsTrue told ↔ IsIndexOf columns.now ((S.Store.view store.old).trees table) ((S.Store.view store.old).trees tree))) }
+    ensures sound { OnOk result (IsClean (S.Store.view store.new) → (S.Store.view store.new).is_broken ≡ false) }
+    ensures reads { IsClean (S.Store.view store.new) → (S.Store.view store.new).is_broken ≡ false → OnlyReads (S.Store.view store.old) (S.Store.view store.new) }
+    ensures ours { IfErr result (λ fault. ¬ (IsForeign fault)) }
+    ensures quiet { IsQuiet S.Store.view S.Store.faults S.Store.recovers S.Store.is_shielded store.old store.new }
+{
+    let Some(rows) = count_entered(alloc, store, table, tree, columns)? else {
+        return Ok(false);
+    };
+    let entries = count(alloc, store, tree)?;
+    Ok(rows == entries)
+}
+
+/// Whether an entry of an index is that of a row.
+fn is_entry_of(entry: &Row, columns: &[usize], row: &Row) -> bool
+    ensures { IsTrue result ↔ (entry.now ≡ entry_of columns.now row.now) }
+{
+    if entry.len() != columns.len() + 1 {
+        return false;
+    }
+    for at in 0..columns.len() {
+        if !is_same(entry.get(at), row.get(columns[at])) {
+            return false;
+        }
+    }
+    is_same(entry.get(columns.len()), row.get(0))
+}
+
+/// Whether the cursor 1 gives the entry of this row next. It moves on.
+fn next_is_of<S: Store>(
+    store: &mut S,
+    columns: &[usize],
+    row: &Row,
+    found: &mut Row,
+) -> Result<bool, StoreFault>
+    requires { IsSome ((S.Store.view store.old).cursors 1) }
+    ensures told { IfOk result (λ told. IsClean (S.Store.view store.new) → IsTrue told → (left_of (S.Store.view store.old) 1 ≡ entry_of columns.now row.now ∷ left_of (S.Store.view store.new) 1)) }
+    ensures rows { OnOk result (IsClean (S.Store.view store.new) → (S.Store.view store.new).cursors 0 ≡ (S.Store.view store.old).cursors 0) }
+    ensures stay { OnOk result (StayLive (S.Store.view store.old) (S.Store.view store.new)) }
+    ensures sound { OnOk result (IsClean (S.Store.view store.new) → (S.Store.view store.new).is_broken ≡ false) }
+    ensures reads { IsClean (S.Store.view store.new) → (S.Store.view store.new).is_broken ≡ false → OnlyReads (S.Store.view store.old) (S.Store.view store.new) }
+    ensures ours { IfErr result (λ fault. ¬ (IsForeign fault)) }
+    ensures quiet { IsQuiet S.Store.view S.Store.faults S.Store.recovers S.Store.is_shielded store.old store.new }
+{
+    match store.next(1, found) {
+        Ok(true) => Ok(is_entry_of(found, columns, row)),
+        Ok(false) => Ok(false),
+        Err(error) => Err(fault_of(error)),
+    }
+}
+
+/// Whether the cursor 1 has no more to give.
+fn has_ended<S: Store>(store: &mut S, found: &mut Row) -> Result<bool, StoreFault>
+    requires { IsSome ((S.Store.view store.old).cursors 1) }
+    ensures told { IfOk result (λ told. IsClean (S.Store.view store.new) → IsTrue told → (left_of (S.Store.view store.old) 1 ≡ [])) }
+    ensures sound { OnOk result (IsClean (S.Store.view store.new) → (S.Store.view store.new).is_broken ≡ false) }
+    ensures reads { IsClean (S.Store.view store.new) → (S.Store.view store.new).is_broken ≡ false → OnlyReads (S.Store.view store.old) (S.Store.view store.new) }
+    ensures ours { IfErr result (λ fault. ¬ (IsForeign fault)) }
+    ensures quiet { IsQuiet S.Store.view S.Store.faults S.Store.recovers S.Store.is_shielded store.old store.new }
+{
+    match store.next(1, found) {
+        Ok(more) => Ok(!more),
+        Err(error) => Err(fault_of(error)),
+    }
+}
+
+/// Whether the entries of an index are those of its table's rows, in the order of these. Two walks tell, side by side.
+fn is_in_step<S: Store>(
+    alloc: Global,
+    store: &mut S,
+    table: u32,
+    tree: u32,
+    columns: &[usize],
+) -> Result<bool, StoreFault>
+    requires index { IsClean (S.Store.view store.old) → (S.Store.view store.old).shape tree ≡ Shape.Index Order.PLAIN }
+    requires table { IsClean (S.Store.view store.old) → (S.Store.view store.old).shape table ≡ Shape.Table }
+    ensures told { IfOk result (λ told. IsClean (S.Store.view store.new) → IsTrue told → (map (entry_of columns.now) ((S.Store.view store.old).trees table) ≡ (S.Store.view store.old).trees tree)) }
+    ensures sound { OnOk result (IsClean (S.Store.view store.new) → (S.Store.view store.new).is_broken ≡ false) }
+    ensures reads { IsClean (S.Store.view store.new) → (S.Store.view store.new).is_broken ≡ false → OnlyReads (S.Store.view store.old) (S.Store.view store.new) }
+    ensures ours { IfErr result (λ fault. ¬ (IsForeign fault)) }
+    ensures quiet { IsQuiet S.Store.view S.Store.faults S.Store.recovers S.Store.is_shielded store.old store.new }
+{
+    let mut row = Row::new(alloc);
+    let mut found = Row::new(alloc);
+    if let Err(error) = store.seek(1, tree, &found, Direction::Forward) {
+        return Err(fault_of(error));
+    }
+    if let Err(error) = store.seek(0, table, &row, Direction::Forward) {
+        return Err(fault_of(error));
+    }
+    'rows: for _ in 0..u64::MAX {
+        match store.next(0, &mut row) {
+            Ok(true) => {}
+            Ok(false) => return has_ended(store, &mut found),
+            Err(error) => return Err(fault_of(error)),
+        }
+        if !next_is_of(store, columns, &row, &mut found)? {
+            return Ok(false);
+        }
+    }
+    // No sound store has this many rows.
+    Err(StoreFault::Memory)
+}
+
 /// Whether an index has one entry for each row of its table, and no other. A fault is `Disk` where the trees are no such
 /// table and index.
 fn is_indexed<S: Store>(
@@ -185,19 +300,19 @@ fn is_indexed<S: Store>(
     if store.shape(tree) != Shape::Index(Order::PLAIN) || store.shape(table) != Shape::Table {
         return Err(StoreFault::Disk);
     }
-    let Some(rows) = count_entered(alloc, store, table, tree, columns)? else {
-        return Ok(false);
-    };
-    let entries = count(alloc, store, tree)?;
-    Ok(rows == entries)
+    if is_in_step(alloc, store, table, tree, columns)? {
+        return Ok(true);
+    }
+    has_each_entry(alloc, store, table, tree, columns)
 }
 
 /// The first index of a store that has not one entry for each row of its table, and no other, if there is one; whatever
 /// rows there are. No more than one row and its entry are in memory. A fault is that of a read that has failed, `Memory`,
 /// or `Disk` where the trees have no such tables and indexes.
 ///
-/// The walk over an index goes on while its next entry is that of the table's next row; else the entry is sought. So an index
-/// in the order of its table costs two walks, and one in another order a search for each row.
+/// An index in the order of its table costs two walks side by side. In one that is in another order the walk over the index
+/// goes on while its next entry is that of the table's next row, else the entry is sought, and at last all entries are
+/// counted.
 pub fn faulty_index<S: Store>(
     alloc: Global,
     store: &mut S,

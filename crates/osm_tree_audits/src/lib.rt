@@ -6,8 +6,10 @@ mod counts;
 mod indexes;
 mod keyed;
 pub mod laws;
+mod matching;
 mod rows;
 pub mod trees;
+mod walk;
 
 pub use counts::has_row_counts;
 pub use indexes::{StoreIndex, faulty_index};

@@ -13,16 +13,15 @@ ghost use Rattle.osm_tree_writes.specs.Putting.{IsIndexedStore};
 ghost use Rattle.osm_tree_audits.specs.Finding.{Finds};
 ghost use Rattle.osm_tree_audits.specs.Auditing.{KeepsAt, KeepsBlob};
 
-use crate::keyed::rows_with;
+use crate::matching::finds_all;
 use crate::trees::{BLOBS, ELEMENT_KEY, ELEMENTS, LINK_KEY, LINKS, TAG_KEY, TAGS};
-use osm_store::{
-    Extent, StoreFault, TableRow, blob_code, element_rows, have_columns, link_rows, tag_rows,
-};
+use crate::walk::begin_walk;
+use osm_store::{Extent, StoreFault, TableRow, blob_code, element_rows, link_rows, tag_rows};
 use osm_tree_writes::fault_of;
 use osm_value::Element;
 use pbf_frame::MAX_OFFSET;
-use sqlite::Row;
 use sqlite_trees::store::{Shape, Store};
+use sqlite_value::keys::Order;
 use sqlite_value::row;
 use sqlite_value::value::ValueRef;
 use std::alloc::{AllocError, Global};
@@ -55,9 +54,12 @@ fn finds_columns<S: Store, R: TableRow>(
     ensures ours { IfErr result (λ fault. ¬ (IsForeign fault)) }
     ensures quiet { IsQuiet S.Store.view S.Store.faults S.Store.recovers S.Store.is_shielded store.old store.new }
 {
+    if store.shape(index) != Shape::Index(Order::PLAIN) || store.shape(table) != Shape::Table {
+        return Err(StoreFault::Disk);
+    }
     let key = offset_key(alloc, off)?;
-    let rows: Vec<Row> = rows_with(alloc, store, index, table, width, &key)?;
-    have_columns(alloc, &rows, expected)
+    begin_walk(alloc, store, index, table, &key)?;
+    finds_all(alloc, store, table, width, &key, expected)
 }
 
 /// Whether the table of elements has the rows of these elements at the offset, and no others.

@@ -3,7 +3,7 @@ use Rattle.std.proofs.lemmas.Bool.{eqb-true}
 use Rattle.sqlite_trees.specs.declared.store.Shape.TheVariants.{Table}
 use Rattle.sqlite_trees.specs.View.{View, IsClean, IsShaped}
 use Rattle.sqlite_exec.proofs.CheckLemmas as lemma
-use Rattle.osm_tree_audits.proofs.indexes.is_indexed.Goals as goal
+use Rattle.osm_tree_audits.proofs.indexes.has_each_entry.Goals as goal
 
 pub returns-in_default-clause-told : goal.returns-in_default-clause-told
 returns-in_default-clause-told g c clean =

@@ -1,0 +1,89 @@
+//! Whether the rows that an index finds are those that others write. Each is compared as the walk comes to it, so that no
+//! more than one is in memory.
+
+ghost use Rattle.std.specs.Prelude.{◌≡◌, ◌↔◌, false, drop, map, IsSome, IsTrue, IfOk, IfErr, OnOk};
+ghost use Rattle.sqlite.specs.Value.{owned};
+ghost use Rattle.sqlite.specs.Values.{bound, bound_value};
+ghost use Rattle.sqlite_trees.specs.View.{IsClean, IsQuiet};
+ghost use Rattle.sqlite_exec.specs.Calls.{OnlyReads};
+ghost use Rattle.osm_store.specs.Keeping.{IsForeign};
+ghost use Rattle.osm_tree_audits.specs.Walking.{IsWalk, reached};
+
+use crate::walk::next_row;
+use osm_store::{StoreFault, TableRow};
+use sqlite_trees::store::Store;
+use sqlite_value::order::is_same;
+use sqlite_value::row::Row;
+use sqlite_value::value::ValueRef;
+use std::alloc::Global;
+
+/// Whether a value is what `sqlite` keeps of another, which is NULL for a NaN.
+fn is_kept(found: ValueRef<'_>, value: ValueRef<'_>) -> bool
+    ensures { IsTrue result ↔ (owned found.entry ≡ bound_value (owned value.entry)) }
+{
+    match value {
+        ValueRef::Null => is_same(found, value),
+        ValueRef::Int(_) => is_same(found, value),
+        ValueRef::Real(number) => {
+            if number.is_nan() {
+                is_same(found, ValueRef::Null)
+            } else {
+                is_same(found, value)
+            }
+        }
+        ValueRef::Text(_) => is_same(found, value),
+        ValueRef::Blob(_) => is_same(found, value),
+    }
+}
+
+/// Whether a row has exactly these values behind its rowid.
+fn has_values(row: &Row, values: &[ValueRef<'_>]) -> bool
+    ensures { IsTrue result ↔ (drop 1 row.now ≡ bound values.now) }
+{
+    if row.len().saturating_sub(1) != values.len() {
+        return false;
+    }
+    for at in 0..values.len() {
+        if !is_kept(row.get(at + 1), values[at]) {
+            return false;
+        }
+    }
+    true
+}
+
+/// Whether the rows that a walk finds from where it is, of those whose entries begin with `key`, are those that others write,
+/// in the same order. An entry names its row by the number behind its columns, of which there are `width`.
+pub(crate) fn finds_all<'v, S: Store, R: TableRow>(
+    alloc: Global,
+    store: &mut S,
+    table: u32,
+    width: usize,
+    key: &Row,
+    expected: &'v [R],
+) -> Result<bool, StoreFault>
+    requires entries { IsSome ((S.Store.view store.old).cursors 0) }
+    requires rows { IsSome ((S.Store.view store.old).cursors 1) }
+    ensures told { IfOk result (λ told. IsClean (S.Store.view store.new) → IsWalk (S.Store.view store.old) table
+        → (IsTrue told ↔ (reached (S.Store.view store.old) table width key.now ≡ map R.columns expected.now))) }
+    ensures sound { OnOk result (IsClean (S.Store.view store.new) → (S.Store.view store.new).is_broken ≡ false) }
+    ensures reads { IsClean (S.Store.view store.new) → (S.Store.view store.new).is_broken ≡ false → OnlyReads (S.Store.view store.old) (S.Store.view store.new) }
+    ensures ours { IfErr result (λ fault. ¬ (IsForeign fault)) }
+    ensures quiet { IsQuiet S.Store.view S.Store.faults S.Store.recovers S.Store.is_shielded store.old store.new }
+{
+    let mut entry = Row::new(alloc);
+    let mut found = Row::new(alloc);
+    let mut row = Row::new(alloc);
+    let mut values = Vec::new(alloc);
+    for at in 0..expected.len() {
+        if !next_row(store, table, width, key, &mut entry, &mut found, &mut row)? {
+            return Ok(false);
+        }
+        values.clear();
+        expected[at].push_values(&mut values)?;
+        if !has_values(&row, &values) {
+            return Ok(false);
+        }
+    }
+    let more = next_row(store, table, width, key, &mut entry, &mut found, &mut row)?;
+    Ok(!more)
+}
