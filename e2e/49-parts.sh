@@ -16,7 +16,7 @@ size=$(stat -c %s "$country")
 parts=0
 while read -r from to; do
   parts=$((parts + 1))
-  tail -c +$((from + 1)) "$country" | head -c $((to - from)) | "$pbfrow" import /dev/stdin "part-$parts.db" --at "$from" > "part-$parts.txt"
+  tail -c +$((from + 1)) "$country" | head -c $((to - from)) | "$pbfrow" import /dev/stdin "part-$parts.db" --at "$from" --to "$to" > "part-$parts.txt"
 done < plan.txt
 [ "$parts" = 4 ] && pass "a plan of four parts" || fail "a plan of four parts"
 sha256sum part-?.db > sums.txt

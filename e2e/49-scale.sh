@@ -99,6 +99,9 @@ for file in missing.osm.pbf cut.osm.pbf; do
   "$import_part" "$file" "$from" "$to" > got.txt 2> stderr.txt
   [ $? = 1 ] && pass "a part of $file isn't taken for whole" || fail "a part of $file isn't taken for whole"
 done
+[ "$(tail -n 1 got.txt)" = "fault 68 ReadFailed at $cut" ] && pass "which is told where the file ends" || fail "which is told where the file ends"
+xargs -P 4 -L 1 "$import_part" cut.osm.pbf < ranges.txt > got.txt 2> stderr.txt
+[ $? = 123 ] && pass "xargs tells parts of a file that was cut" || fail "xargs tells parts of a file that was cut"
 rm -f part-* cut.osm.pbf
 
 if has make; then
@@ -109,6 +112,16 @@ if has make; then
   grep -q import_part got.txt && fail "a third make imports nothing" || pass "a third make imports nothing"
   expect "parts imported and merged by make" 0 "$whole" verify "$country" whole.db --elements
   rm -f part-* whole.* plan plan.mk*
+
+  # a file that is cut between two frames of the first range once the plan stands
+  cp "$country" short.osm.pbf
+  by_make_short() { make -k -j 4 -f "$top/examples/parts.mk" FILE=short.osm.pbf N=4 PBFROW="$program" "$@"; }
+  by_make_short plan.mk > got.txt 2> stderr.txt
+  truncate -s "$cut" short.osm.pbf
+  touch -d '1 hour ago' short.osm.pbf
+  by_make_short > got.txt 2> stderr.txt
+  [ $? != 0 ] && [ -z "$(ls part-*.done whole.* 2> /dev/null)" ] && pass "make marks no part of a file that was cut" || fail "make marks no part of a file that was cut"
+  rm -f part-* whole.* plan plan.mk* short.osm.pbf
 else
   skip "parts imported by make" "make isn't installed"
 fi
@@ -117,6 +130,8 @@ if has parallel && parallel --version 2> /dev/null | grep -q '^GNU parallel'; th
   parallel -j 4 --retries 3 --colsep ' ' "$import_part" "$country" < ranges.txt > got.txt 2> stderr.txt
   [ $? = 0 ] && pass "GNU parallel ends with 0" || fail "GNU parallel ends with 0"
   scheduled "parts imported by GNU parallel"
+  parallel -j 4 --colsep ' ' "$import_part" missing.osm.pbf < ranges.txt > got.txt 2> stderr.txt
+  [ $? = 4 ] && pass "GNU parallel tells four parts of a file that isn't there" || fail "GNU parallel tells four parts of a file that isn't there"
 else
   skip "parts imported by GNU parallel" "it isn't installed"
 fi

@@ -8,9 +8,9 @@ from distributed import Client
 
 
 def import_part(span, file, folder, pbfrow):
-    """Feeds one range to pbfrow. If this worker dies its pipe is closed, so that pbfrow ends, and another worker goes on."""
+    """Feeds one range to pbfrow. If this worker dies its pipe is closed, so that pbfrow ends (with 1, before the range's end), and another worker goes on."""
     start, end = span
-    command = [pbfrow, "import", "/dev/stdin", f"part-{start}.db", "--at", str(start)]
+    command = [pbfrow, "import", "/dev/stdin", f"part-{start}.db", "--at", str(start), "--to", str(end)]
     time.sleep(0.5)  # a pbfrow whose worker has died may still have the database
     with open(file, "rb") as source, subprocess.Popen(command, cwd=folder, stdin=subprocess.PIPE, stdout=subprocess.DEVNULL) as importer:
         for at in range(start, end, 1 << 20):

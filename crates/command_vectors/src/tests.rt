@@ -1,6 +1,7 @@
 mod ask;
 mod check;
 mod import;
+mod import_to;
 mod list;
 mod merge;
 mod metered;

@@ -1,6 +1,6 @@
 //! The commands on one database: they open it and write the answer to standard output.
 
-ghost use Rattle.std.specs.Prelude.{◌≤◌};
+ghost use Rattle.std.specs.Prelude.{◌<◌, ◌≤◌, IfSome};
 
 use crate::FAULTY;
 use crate::meter::Meter;
@@ -12,7 +12,7 @@ use osm_trees::Opened;
 use osm_value::{MemberKind, Outlet};
 use pbf_frame::MAX_OFFSET;
 use pbfrow_commands::find::find;
-use pbfrow_commands::import::{Start, import};
+use pbfrow_commands::import::{Start, import, import_to, seek_start};
 use pbfrow_commands::metered::{BlobLines, MeteredOutput, MeteredReader};
 use pbfrow_commands::report::{put_fault_at, put_store_fault, refuse_memory};
 use pbfrow_words::Question;
@@ -46,17 +46,23 @@ pub(crate) fn end<W: Write>(out: &mut Outlet<W>, meter: &Meter, status: u8) -> u
     }
 }
 
-/// Imports what a reader gives into a store, and answers the exit status.
+/// Imports what a reader gives into a store, all of it or what stands before an offset, and answers the exit status.
 fn imported<R: Read + Drop, K: Keeper, W: Write>(
     alloc: Global,
-    reader: R,
+    mut reader: R,
     store: &mut K,
     start: Start,
+    to: Option<u64>,
     out: &mut Outlet<W>,
 ) -> u8
-    requires { start.at ≤ MAX_OFFSET }
+    requires begins { start.at ≤ MAX_OFFSET }
+    requires drops { start.dropped ≤ start.at }
+    requires ends { IfSome to (λ n. (start.at < n) × (n ≤ MAX_OFFSET)) }
 {
-    import(alloc, &mut Inlet::new(reader), store, start, out)
+    match to {
+        None => import(alloc, &mut Inlet::new(reader), store, start, out),
+        Some(to) => import_to(alloc, &mut reader, store, start, to, out),
+    }
 }
 
 /// Asks a store, and answers the exit status.
@@ -80,32 +86,49 @@ fn fill_from<D: Databases, R: Read + Drop, W: Write>(
     reader: R,
     database: &str,
     start: Start,
+    to: Option<u64>,
     out: &mut Outlet<W>,
 ) -> u8
-    requires { start.at ≤ MAX_OFFSET }
+    requires begins { start.at ≤ MAX_OFFSET }
+    requires drops { start.dropped ≤ start.at }
+    requires ends { IfSome to (λ n. (start.at < n) × (n ≤ MAX_OFFSET)) }
 {
     let mut store = match opened_or_made(rt, files, database) {
         Ok(store) => store,
         Err(fault) => return refuse(out, fault),
     };
     let status = match &mut store {
-        Opened::ByTrees(store) => imported(rt.alloc(), reader, store, start, out),
-        Opened::BySql(store) => imported(rt.alloc(), reader, store, start, out),
+        Opened::ByTrees(store) => imported(rt.alloc(), reader, store, start, to, out),
+        Opened::BySql(store) => imported(rt.alloc(), reader, store, start, to, out),
     };
     close(files, store);
     status
 }
 
-/// Imports a file, or a part of one, into a database, and answers the exit status. If the file can't be
-/// opened, no database is made.
+/// How many bytes of its input an import reads at most.
+fn most_bytes(start: Start, to: Option<u64>) -> u64
+    requires drops { start.dropped ≤ start.at }
+    requires ends { IfSome to (λ n. start.at < n) }
+{
+    match to {
+        None => u64::MAX,
+        Some(to) => start.dropped + (to - start.at),
+    }
+}
+
+/// Imports a file, or a part of one, into a database, and answers the exit status. Of a file that can seek nothing but the
+/// last byte before the start is read and dropped. If the file can't be opened, no database is made.
 pub(crate) fn fill<D: Databases>(
     rt: &HostRuntime,
     files: &D,
     file: &str,
     database: &str,
     start: Start,
+    to: Option<u64>,
 ) -> u8
-    requires { start.at ≤ MAX_OFFSET }
+    requires begins { start.at ≤ MAX_OFFSET }
+    requires drops { start.dropped ≤ start.at }
+    requires ends { IfSome to (λ n. (start.at < n) × (n ≤ MAX_OFFSET)) }
 {
     let meter = Meter::new(rt, true);
     let lines = BlobLines {
@@ -120,17 +143,19 @@ pub(crate) fn fill<D: Databases>(
         return refuse_memory(&mut Outlet::new(io::writer(rt)), Some(start.at));
     };
     let mut out = Outlet::new(lines);
-    let Ok(input) = File::open(rt, file) else {
+    let Ok(mut input) = File::open(rt, file) else {
         let fault = Stop::ReadFailed;
         put_fault_at(&mut out, fault.number(), fault.name(), start.at);
         return FAULTY;
     };
-    meter.measure(&input);
+    let all = start.dropped;
+    let start = seek_start(&mut input, start);
+    meter.measure_part(&input, all - start.dropped, most_bytes(start, to));
     let reader = MeteredReader {
         reader: input,
         watcher: &meter,
     };
-    let status = fill_from(rt, files, reader, database, start, &mut out);
+    let status = fill_from(rt, files, reader, database, start, to, &mut out);
     meter.erase();
     status
 }

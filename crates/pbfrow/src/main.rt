@@ -4,7 +4,7 @@
 
 ghost use Rattle.std.specs.Prelude.{◌≡◌, ◌<◌, ◌≤◌, if◌then◌else◌};
 ghost use Rattle.pbfrow_words.specs.Filling.{begins_at, drops};
-ghost use Rattle.pbfrow_words.specs.Words.{BeginsWithin, CutsSome};
+ghost use Rattle.pbfrow_words.specs.Words.{BeginsWithin, CutsSome, EndsWithin};
 
 mod copying;
 mod database;
@@ -123,6 +123,7 @@ fn refuse(rt: HostRuntime, error: Error) -> io::Result<u8> {
 /// Runs a command, whose databases lie in files of this machine, and answers the exit status.
 fn run(rt: HostRuntime, words: Words) -> u8
     requires begins { BeginsWithin words }
+    requires ends { EndsWithin words }
     requires cuts { CutsSome words }
 {
     match words {
@@ -132,7 +133,8 @@ fn run(rt: HostRuntime, words: Words) -> u8
             file,
             database,
             start,
-        } => fill(&rt, &FilledFiles, file, database, start_of(start)),
+            to,
+        } => fill(&rt, &FilledFiles, file, database, start_of(start), to),
         Words::Migrate { old, new } => copy(&rt, &FilledFiles, old, new),
         Words::Merge { into, from } => merge(&rt, &FilledFiles, into, from.as_slice()),
         Words::Verify {
@@ -166,6 +168,7 @@ fn ask_all<D: Databases>(rt: &HostRuntime, files: &D, names: &[&str], question: 
 fn start_of(start: pbfrow_words::Start) -> Start
     ensures dropped { result.dropped ≡ drops start }
     ensures at { result.at ≡ begins_at start }
+    ensures before { result.dropped ≤ result.at }
 {
     match start {
         pbfrow_words::Start::Skip(count) => Start {

@@ -61,9 +61,15 @@ impl<'a> Meter<'a> {
 
     /// Takes the size from a regular file. A pipe has none.
     pub(crate) fn measure(&self, file: &File) {
+        self.measure_part(file, 0, u64::MAX);
+    }
+
+    /// Takes the size of the part of a regular file that is read: what stands behind the bytes that were skipped, and of
+    /// that so many at most.
+    pub(crate) fn measure_part(&self, file: &File, skipped: u64, most: u64) {
         if let Ok(metadata) = file.metadata() {
             if metadata.is_file() {
-                self.see_size(metadata.len());
+                self.see_size(metadata.len().saturating_sub(skipped).min(most));
             }
         }
     }

@@ -119,6 +119,15 @@ is-none n h = grind (arith, nat_tests)
 pub none-bad : (summary : Summary) (failed : Bool) (status : ℕ) → status ≡ import_status (Ok summary) failed → status ≡ 0 → summary.bad ≡ 0
 none-bad summary failed status is zero = is-none summary.bad (zero-first (summary.bad == 0) (summary.refused == 0) (not failed) status is zero)
 
+zero-second : (b c d : Bool) (n : ℕ) → n ≡ cond ((b && c) && d) 0 1 → n ≡ 0 → c ≡ true
+zero-second true true d n is zero = refl
+zero-second true false d n is zero = absurd (omega arith)
+zero-second false true d n is zero = refl
+zero-second false false d n is zero = absurd (omega arith)
+
+pub none-refused : (summary : Summary) (failed : Bool) (status : ℕ) → status ≡ import_status (Ok summary) failed → status ≡ 0 → summary.refused ≡ 0
+none-refused summary failed status is zero = is-none summary.refused (zero-second (summary.bad == 0) (summary.refused == 0) (not failed) status is zero)
+
 -- no blob was bad
 pub file-held : (holds : HeldMap → Type 0) (file : List ℕ) (start : HeldMap) (summary : Summary) → summary.bad ≡ 0 → ImportsFile holds file start summary → HoldsFile holds file start
 file-held holds file start summary none h = (h.0, h.1, λ of_file. h.2 of_file none)

@@ -1,12 +1,14 @@
 -- What the command `import` does: to its input, its output and the store.
-use Rattle.std.specs.Prelude.{◌≡◌, ◌⊎◌, ℕ, ◌<◌, ◌==◌, ◌&&◌, not, if◌then◌else◌, Bool, true, List, length, Result, Ok, Err}
+use Rattle.std.specs.Prelude.{◌≡◌, ◌≢◌, ◌⊎◌, ℕ, ◌+◌, ◌-◌, ◌<◌, ◌≤◌, ◌==◌, ◌&&◌, not, if◌then◌else◌, Bool, true, false, List, [], ◌∷◌, ◌++◌, length, take, option_map, Result, Ok, Err}
+use Rattle.pbf_frame.specs.Parts.{is_cut}
 use Rattle.std.specs.Io.KnownBytes.{Consumes, IsAtEnd}
 use Rattle.osm_value.specs.Sink.{Wrote}
 use Rattle.osm_store.specs.Held.{HeldMap}
 use Rattle.osm_import.specs.Deliveries.{DeliveryValue}
 use Rattle.osm_import.specs.Exports.{Known}
-use Rattle.osm_import.specs.Files.{IsFile, IsHeldOfFile}
+use Rattle.osm_import.specs.Files.{AreFrames, IsFile, IsHeldOfFile, joined}
 use Rattle.osm_import.specs.Flows.{Input, Output}
+use Rattle.osm_import.specs.Step.{IsHeldAlready}
 use Rattle.osm_import.specs.Streams.{Streams, TilesFile}
 use Rattle.osm_import.specs.declared.answer.Answer.{Answer}
 use Rattle.osm_import.specs.declared.stream.summary.Summary.{Summary}
@@ -56,3 +58,53 @@ import_status (Err stop) sink_failed = 1
 -- tiles it
 abbrev pub HoldsFile : (HeldMap → Type 0) → List ℕ → HeldMap → Type 0
 HoldsFile holds file start = (frames : List (List ℕ)) × IsFile file frames × (IsHeldOfFile frames start → TilesFile holds file frames)
+
+-- ---- an input that has to reach an offset
+
+-- of known bytes the first so many
+abbrev pub front_of : ℕ → Known → Known
+front_of count = option_map (take count)
+
+-- an import stops with this fault where its input ends too early
+abbrev pub ends_input : Stop → Bool
+ends_input (Frame fault) = is_cut fault
+ends_input NoHeaderFirst = true
+ends_input WriteFailed = false
+ends_input (Store fault) = false
+ends_input ReadFailed = false
+ends_input BlobLimit = false
+
+-- a read failed, at the offset `to` or before it
+abbrev pub EndsBefore : ℕ → Result Summary StreamFault → Type 0
+EndsBefore to told = (at : ℕ) × (at ≤ to) × (told ≡ Err (record { fault = ReadFailed; at = at }))
+
+-- What is told of an import whose input has to reach the offset `to`: that it ended well only where its last frame ends
+-- there; and where it ended early that a read failed.
+abbrev pub IsTold : ℕ → Result Summary StreamFault → Result Summary StreamFault → Type 0
+IsTold to (Ok summary) told = ((summary.next ≡ to) × (told ≡ Ok summary)) ⊎ ((summary.next ≢ to) × EndsBefore to told)
+IsTold to (Err stop) told = (told ≡ Err stop) ⊎ ((ends_input stop.fault ≡ true) × EndsBefore to told)
+
+-- the import of what of the input stands before an offset, what is told of it, and the exit status
+abbrev pub ImportsRange : ℕ → ℕ → ℕ → Known → Output → Type 0 → (List DeliveryValue → List Answer → Type 0) → ℕ → Type 0
+ImportsRange dropped from to bytes output Same Took status = (outcome told : Result Summary StreamFault) × (source : Input) × (listed : Known)
+    × (source.before ≡ front_of (dropped + (to - from)) bytes) × Imports dropped from source (record output { after = listed }) Same Took outcome × IsTold to outcome told
+    × EndsLine listed output.after output.has_failed told × (status ≡ import_status told output.has_failed)
+
+-- each of these frames, one behind the other from this offset on, is held at its offset, by its digest
+abbrev pub AreHeld : HeldMap → ℕ → List (List ℕ) → Type 0
+AreHeld held off [] = Unit {0}
+AreHeld held off (frame ∷ frames) = IsHeldAlready held off frame × AreHeld held (off + length frame) frames
+
+-- Every byte from an offset on and before another is in a frame that is held: whole frames follow one another from the one
+-- to the other, each is held at its offset, and they are what stands in the input behind the bytes that were dropped.
+pub record HoldsRange (holds : HeldMap → Type 0) (dropped from to : ℕ) (input : Known) : Type 0 where
+  pub held : HeldMap
+  pub is_held : holds held
+  pub frames : List (List ℕ)
+  pub whole : AreFrames frames
+  pub reach : from + length (joined frames) ≡ to
+  pub all : AreHeld held from frames
+  pub skipped : List ℕ
+  pub behind : length skipped ≡ dropped
+  pub rest : Known
+  pub read : Consumes input rest (skipped ++ joined frames)

@@ -1,23 +1,24 @@
 //! The command `import`: the blobs of a file go into a store.
 
-ghost use Rattle.std.specs.Prelude.{◌≡◌, ◌≤◌, List, ℕ, Some, Ok, Result, OnOk, OnErr, IfOk};
+ghost use Rattle.std.specs.Prelude.{◌≡◌, ◌≤◌, ◌<◌, ◌+◌, ◌-◌, List, ℕ, Some, Ok, Result, OnOk, OnErr, IfOk, IfSome, take};
 ghost use Rattle.std.specs.FinMap.{empty};
 ghost use Rattle.osm_store.specs.Held.{HeldMap};
 ghost use Rattle.osm_import.specs.Exports.{Known};
-ghost use Rattle.osm_import.specs.Flows.{input, output};
+ghost use Rattle.osm_import.specs.Flows.{Input, input, output};
 ghost use Rattle.osm_import.specs.Stores.{Takes};
 ghost use Rattle.osm_import.specs.Merges.{ImportsPart};
 ghost use Rattle.osm_import.specs.Streams.{ImportsFile};
 ghost use Rattle.osm_import.specs.declared.stream.summary.Summary.{Summary as SummaryValue};
 ghost use Rattle.osm_import.specs.declared.stream.fault.StreamFault.{StreamFault as StreamFaultValue};
-ghost use Rattle.pbfrow_commands.specs.Importing.{Skips, IsShort, Imports, EndsLine, EndsStop, import_status, HoldsFile};
+ghost use Rattle.pbfrow_commands.specs.Importing.{Skips, IsShort, Imports, ImportsRange, EndsBefore, EndsLine, EndsStop, import_status, HoldsFile, HoldsRange, IsTold, ends_input, front_of};
 
 use crate::report::{put_fault_at, put_summary};
-use osm_import::{Source, Stop, StreamFault, Summary, import_stream};
+use osm_import::{Inlet, Source, Stop, StreamFault, Summary, import_stream};
 use osm_store::Keeper;
 use osm_value::Sink;
-use pbf_frame::MAX_OFFSET;
+use pbf_frame::{FrameFault, MAX_OFFSET};
 use std::alloc::Global;
+use std::io::{Read, Seek, SeekFrom};
 
 /// The most blobs that one import may store.
 const MAX_BLOBS: u32 = 4_294_967_295;
@@ -131,6 +132,118 @@ pub fn import<R: Source, K: Keeper, S: Sink>(
         → result ≡ 0 → ImportsPart (K.holds store.new) start.at piece }
 {
     match import_from(alloc, reader, store, start, out) {
+        Ok(summary) => finish(out, &summary),
+        Err(stop) => {
+            put_stop(out, stop);
+            1
+        }
+    }
+}
+
+/// Moves an input that stands at its first byte, and can seek, to the last of the bytes that an import drops, so that those
+/// before it aren't read. That one is read: a seek also goes behind the end of a file. Answers what is left to drop, all
+/// of it where the input can't seek.
+pub fn seek_start<S: Seek>(input: &mut S, start: Start) -> Start
+    ensures at { result.at ≡ start.at }
+    ensures dropped { result.dropped ≤ start.dropped }
+    ensures stands { S.stream_position input.old ≡ Some 0 → IfSome (S.stream_position input.new) (λ place. place + result.dropped ≡ start.dropped) }
+{
+    if start.dropped > 1 {
+        if let Ok(_) = input.seek(SeekFrom::Start(start.dropped - 1)) {
+            return Start {
+                dropped: 1,
+                at: start.at,
+            };
+        }
+    }
+    start
+}
+
+/// Whether an import stops with this fault where its input ends too early.
+fn ends_input(fault: Stop) -> bool
+    ensures { result ≡ ends_input fault }
+{
+    match fault {
+        Stop::NoHeaderFirst => true,
+        Stop::Frame(fault) => matches!(
+            fault,
+            FrameFault::LengthCut | FrameFault::HeaderCut | FrameFault::BlobCut
+        ),
+        _ => false,
+    }
+}
+
+/// What is told of an input that ended so many bytes before `to`: a read failed where it ended.
+fn ended_before(to: u64, lacking: u64) -> Result<Summary, StreamFault>
+    ensures { EndsBefore to result }
+{
+    Err(StreamFault {
+        fault: Stop::ReadFailed,
+        at: to.saturating_sub(lacking),
+    })
+}
+
+/// What is told of an import whose input has to reach as far as `to`, and lacked so many bytes of that.
+fn reached(
+    outcome: Result<Summary, StreamFault>,
+    to: u64,
+    lacking: u64,
+) -> Result<Summary, StreamFault>
+    ensures { IsTold to outcome result }
+{
+    match outcome {
+        Ok(summary) if summary.next == to => Ok(summary),
+        Ok(_) => ended_before(to, lacking),
+        Err(stop) if lacking > 0 && ends_input(stop.fault) => ended_before(to, lacking),
+        Err(stop) => Err(stop),
+    }
+}
+
+/// Imports the blobs of a reader that stand before the offset `to` of the file, from which on nothing is read.
+fn import_before<R: Read, K: Keeper, S: Sink>(
+    alloc: Global,
+    reader: &mut R,
+    store: &mut K,
+    start: Start,
+    to: u64,
+    out: &mut S,
+) -> Result<Summary, StreamFault>
+    requires drops { start.dropped ≤ start.at }
+    requires begins { start.at < to }
+    requires ends { to ≤ MAX_OFFSET }
+    ensures imports { (outcome : Result SummaryValue StreamFaultValue) × (source : Input) × (source.before ≡ front_of (start.dropped + (to - start.at)) (R.remaining reader.old))
+        × Imports start.dropped start.at source (output S.Sink out.old out.new) (store.new ≡ store.old) (Takes K.Reader store.old store.new) outcome × IsTold to outcome result }
+    ensures part { (piece : List ℕ) → front_of (start.dropped + (to - start.at)) (R.remaining reader.old) ≡ Some piece → start.dropped ≡ 0 → K.holds store.old empty → K.is_honest store.new
+        → IfOk result (λ _. ImportsPart (K.holds store.new) start.at piece) }
+{
+    let mut front = reader.take(start.dropped + (to - start.at));
+    let outcome = import_from(alloc, &mut Inlet::new(&mut front), store, start, out);
+    reached(outcome, to, front.limit())
+}
+
+/// Imports the blobs of a reader that has to end at the offset `to` of the file, or go on behind it, as `import` does one
+/// that ends anywhere. No byte at or behind `to` is read; a frame that reaches behind it is cut there, and nothing of it
+/// is stored. Where the reader ends before `to`, that is `ReadFailed` at the offset where it ended.
+///
+/// If it answers 0, every byte from the start to `to` is in a frame that is held: whole frames, each held at its offset,
+/// follow one another from the one to the other, and where the reader's bytes are known they are these frames.
+pub fn import_to<R: Read, K: Keeper, S: Sink>(
+    alloc: Global,
+    reader: &mut R,
+    store: &mut K,
+    start: Start,
+    to: u64,
+    out: &mut S,
+) -> u8
+    requires drops { start.dropped ≤ start.at }
+    requires begins { start.at < to }
+    requires ends { to ≤ MAX_OFFSET }
+    ensures imports { ImportsRange start.dropped start.at to (R.remaining reader.old) (output S.Sink out.old out.new) (store.new ≡ store.old) (Takes K.Reader store.old store.new) result }
+    ensures whole { (held : HeldMap) → K.holds store.old held → K.is_honest store.new → result ≡ 0 → HoldsRange (K.holds store.new) start.dropped start.at to (R.remaining reader.old) }
+    ensures part { (bytes : List ℕ) → R.remaining reader.old ≡ Some bytes → start.dropped ≡ 0 → K.holds store.old empty → K.is_honest store.new
+        → result ≡ 0 → ImportsPart (K.holds store.new) start.at (take (to - start.at) bytes) }
+{
+    match import_before(alloc, reader, store, start, to, out) {
         Ok(summary) => finish(out, &summary),
         Err(stop) => {
             put_stop(out, stop);

@@ -1,5 +1,5 @@
 -- The commands that fill a database, as clap's model of a command has them.
-use Rattle.std.specs.Prelude.{◌≡◌, ℕ, Option, Some, None, false, codes}
+use Rattle.std.specs.Prelude.{◌≡◌, ◌<◌, ℕ, Option, Some, None, false, codes}
 use Rattle.clap.specs.Words.{App, Rule, Text, new_app, with_rule, with_subcommand}
 use Rattle.pbfrow_words.specs.Arguments.{IsNumber, offset_option, required_argument, required_arguments}
 use Rattle.pbfrow_words.specs.declared.filling.Start.{Start}
@@ -10,8 +10,8 @@ abbrev pub at_option : Rule
 at_option = record (offset_option (codes "at")) { is_free = false }
 
 abbrev pub import_command : App
-import_command = with_rule (with_rule (with_rule (with_rule (new_app (codes "import"))
-    (required_argument (codes "FILE"))) (required_argument (codes "DB"))) (offset_option (codes "from"))) at_option
+import_command = with_rule (with_rule (with_rule (with_rule (with_rule (new_app (codes "import"))
+    (required_argument (codes "FILE"))) (required_argument (codes "DB"))) (offset_option (codes "from"))) at_option) (offset_option (codes "to"))
 
 abbrev pub migrate_command : App
 migrate_command = with_rule (with_rule (new_app (codes "migrate"))
@@ -43,3 +43,8 @@ begins_at (At n) = n
 abbrev pub IsStart : Start → Option Text → Option Text → Type 0
 IsStart (Skip n) from at = (at ≡ None) × IsSkipped n from
 IsStart (At n) from at = (from ≡ None) × IsNumber (Some n) at
+
+-- Where the input of an import has to end by what was given with `to`: behind its start.
+abbrev pub IsEnd : Start → Option ℕ → Option Text → Type 0
+IsEnd start None given = given ≡ None
+IsEnd start (Some n) given = (begins_at start < n) × IsNumber (Some n) given

@@ -1,9 +1,9 @@
 -- The program with its commands, as clap's model of a command has it, and what a command says of the matches.
-use Rattle.std.specs.Prelude.{◌≡◌, ◌<◌, ◌≤◌, List, Some, true, codes, map}
+use Rattle.std.specs.Prelude.{◌≡◌, ◌<◌, ◌≤◌, List, Some, IfSome, true, codes, map}
 use Rattle.clap.specs.Words.{App, Row, Text, all_of, first_of, new_app, one_of}
 use Rattle.pbfrow_words.specs.Arguments.{IsFlag, text_of}
 use Rattle.pbfrow_words.specs.Asking.{Asks, IsElementOf, with_asking_commands}
-use Rattle.pbfrow_words.specs.Filling.{IsStart, begins_at, with_filling_commands}
+use Rattle.pbfrow_words.specs.Filling.{IsEnd, IsStart, begins_at, with_filling_commands}
 use Rattle.pbfrow_words.specs.Ranges.{IsCount, with_ranges}
 use Rattle.pbfrow_words.specs.Reading.{Reads, with_reading_commands}
 use Rattle.pbfrow_words.specs.Verifying.{with_verify}
@@ -24,9 +24,10 @@ abbrev pub Says : Words → Text → List Row → Type 0
 Says (command.Read reading file) name rows = Reads reading name × (text_of file ≡ first_of (codes "FILE") rows)
 Says (command.Ranges file count) name rows = (name ≡ codes "ranges")
     × (Some file.now ≡ first_of (codes "FILE") rows) × IsCount count (one_of (codes "N") rows)
-Says (command.Import file database start) name rows = (name ≡ codes "import")
+Says (command.Import file database start to) name rows = (name ≡ codes "import")
     × (Some file.now ≡ first_of (codes "FILE") rows)
     × (Some database.now ≡ first_of (codes "DB") rows) × IsStart start (one_of (codes "from") rows) (one_of (codes "at") rows)
+    × IsEnd start to (one_of (codes "to") rows)
 Says (command.Migrate old new) name rows = (name ≡ codes "migrate")
     × (Some old.now ≡ first_of (codes "OLD") rows) × (Some new.now ≡ first_of (codes "NEW") rows)
 Says (command.Merge into from) name rows = (name ≡ codes "merge")
@@ -40,8 +41,13 @@ Says (command.Find database kind id) name rows = (name ≡ codes "find")
 
 -- an import begins at 2^62 at most
 abbrev pub BeginsWithin : Words → Type 0
-BeginsWithin (command.Import file database start) = begins_at start ≤ 4611686018427387904
+BeginsWithin (command.Import file database start to) = begins_at start ≤ 4611686018427387904
 BeginsWithin _ = Unit {0}
+
+-- an import that has to end somewhere ends behind its start, and at 2^62 at most
+abbrev pub EndsWithin : Words → Type 0
+EndsWithin (command.Import file database start to) = IfSome to (λ n. (begins_at start < n) × (n ≤ 4611686018427387904))
+EndsWithin _ = Unit {0}
 
 -- a file is cut into one range or more
 abbrev pub CutsSome : Words → Type 0

@@ -33,14 +33,13 @@ pub enum Question {
 
 const STATUS_HELP: &str =
     "Prints 'gap FROM TO' for each byte range of the file that no held blob covers,
-up to --size or, without it, up to the greatest end of a held blob; and last
-'blobs B end N gaps G'.
+and last 'blobs B end N gaps G'. Without --size, blobs that are missing at the
+end of the file go unnoticed.
 
 Several databases that hold blobs of one file, in any order, are read one after
 the other, as if one held all of it; a blob that several hold counts once. They
-may not hold different blobs at one offset (fault 63), nor one that begins inside
-another (fault 64), nor so many in turn that they change more than twice as often
-as there are databases (fault 71).
+may not hold different blobs at one offset (fault 63), nor blobs that overlap
+(fault 64). If their blobs are too interleaved (fault 71), merge them first.
 
 Exit status: 0 if the databases were read, else 1.
 
@@ -51,8 +50,8 @@ Examples:
 const EXPORT_HELP: &str =
     "Writes the elements of all held blobs to standard output, in the order of the
 file. Nothing is written if a blob is missing (fault 67) or ends past --size
-(fault 70); without --size the greatest end of a held blob counts, so blobs that
-are missing at the end of the file aren't noticed.
+(fault 70). Without --size, blobs that are missing at the end of the file go
+unnoticed.
 
 Several databases that hold blobs of one file, in any order, are read one after
 the other, as if one held all of it: each of them once, and once more for each run

@@ -4,7 +4,7 @@ ghost use Rattle.std.specs.Prelude.{◌≡◌, false, IfOk, IfSome, codes};
 ghost use Rattle.clap.specs.Words.{app_of, found_of, one_of, rows_of, rule_of};
 ghost use Rattle.clap.specs.declared.builder.command.Command.TheViews.{out-Command as fields_of};
 ghost use Rattle.pbfrow_words.specs.Filling as definitions;
-ghost use Rattle.pbfrow_words.specs.Filling.{IsStart};
+ghost use Rattle.pbfrow_words.specs.Filling.{IsEnd, IsStart, begins_at};
 
 use crate::arguments::{
     database, file, new_command, number_of, offset_option, required_argument, required_arguments,
@@ -30,17 +30,24 @@ its end, it prints 'blobs stored S held H bad B refused R'.
 
 A blob is stored whole or not at all, even if the run is killed or the machine
 stops: run the same import again to complete it. Blobs may come in any order,
-over any number of runs. With --from the first N bytes of FILE are read and
-dropped, and a blob has to begin there. With --at nothing is dropped: FILE is a
-part that begins with a blob, at offset N of the whole. 'pbfrow ranges' cuts a
-file into such parts.
+over any number of runs.
 
-Exit status: 0 if all blobs are held, else 1.
+With --from the import begins behind the first N bytes of FILE, where a blob has
+to begin; they are dropped, and not read if FILE isn't a pipe. With --at nothing
+is dropped: FILE is a part that begins with a blob, at offset N of the whole.
+With --to it reads no byte at or behind offset N of the whole, and an input that
+ends before N is 'fault 68 ReadFailed' at the offset where it ended. So exit
+status 0 says that every byte from the start to N is in a blob that is held,
+also behind a pipe whose first command may fail. 'pbfrow ranges' cuts a file
+into such parts.
+
+Exit status: 0 if all blobs are held, and the input reached N of --to, else 1.
 
 Examples:
   pbfrow import berlin.osm.pbf berlin.db
-  pbfrow import berlin.osm.pbf berlin.db --from 1048576
-  tail -c +1048577 berlin.osm.pbf | pbfrow import /dev/stdin part.db --at 1048576";
+  pbfrow import berlin.osm.pbf part.db --from 1048576 --to 2097152
+  curl -r 1048576-2097151 https://example.org/berlin.osm.pbf |
+    pbfrow import /dev/stdin part.db --at 1048576 --to 2097152";
 
 const MIGRATE_HELP: &str =
     "OLD is a database that an earlier pbfrow made, which this one answers with
@@ -91,7 +98,13 @@ fn import_command<'a>(alloc: Global) -> Result<Command<'a>, AllocError>
     let command = with_argument(command, database(alloc))?;
     let from = offset_option(alloc, "from", "Start offset in FILE, in bytes");
     let command = with_argument(command, from)?;
-    with_argument(command, at_option(alloc)?)
+    let command = with_argument(command, at_option(alloc)?)?;
+    let to = offset_option(
+        alloc,
+        "to",
+        "Offset at which the input has to end, in bytes",
+    );
+    with_argument(command, to)
 }
 
 /// Where an import begins by its options. None if a number is above 2^62, or if clap let through both options.
@@ -103,6 +116,28 @@ pub(crate) fn start_of(matches: &ArgMatches) -> Option<Start>
         (Some(from), None) => Some(Start::Skip(from)),
         (None, Some(at)) => Some(Start::At(at)),
         (Some(_), Some(_)) => None,
+    }
+}
+
+/// The offset in the file at which an import begins.
+fn offset_of(start: Start) -> u64
+    ensures { result ≡ begins_at start }
+{
+    match start {
+        Start::Skip(count) => count,
+        Start::At(at) => at,
+    }
+}
+
+/// The offset at which the input of an import has to end, `Some(None)` if none is given, and none if it isn't behind the
+/// start or is above 2^62.
+pub(crate) fn end_of(matches: &ArgMatches, start: Start) -> Option<Option<u64>>
+    ensures { IfSome result (λ to. IsEnd start to (one_of (codes "to") (rows_of (found_of matches.now)))) }
+{
+    match number_of(matches, "to")? {
+        Some(to) if to > offset_of(start) => Some(Some(to)),
+        Some(_) => None,
+        None => Some(None),
     }
 }
 

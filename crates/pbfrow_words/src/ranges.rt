@@ -28,8 +28,7 @@ Exit status: 0 if the whole file is frames, else 1.
 
 Example, on four processors:
   pbfrow ranges berlin.osm.pbf 4 | xargs -P 4 -L 1 sh -c \\
-    'tail -c +$(($0 + 1)) berlin.osm.pbf | head -c $(($1 - $0)) |
-     pbfrow import /dev/stdin part-$0.db --at $0'";
+    'pbfrow import berlin.osm.pbf part-$0.db --from $0 --to $1'";
 
 fn count_argument<'a>(alloc: Global) -> Arg<'a>
     ensures rule { rule_of result ≡ definitions.count_argument }

@@ -3,11 +3,11 @@
 ghost use Rattle.std.specs.Prelude.{◌≡◌, false, IfOk, IfSome, IsSomeAnd, map, codes};
 ghost use Rattle.clap.specs.Words.{app_of, found_of, rows_of, subcommand_of, subcommand_rows_of};
 ghost use Rattle.clap.specs.declared.builder.command.Command.TheViews.{out-Command as fields_of};
-ghost use Rattle.pbfrow_words.specs.Words.{BeginsWithin, CutsSome, Says, program};
+ghost use Rattle.pbfrow_words.specs.Words.{BeginsWithin, CutsSome, EndsWithin, Says, program};
 
 use crate::arguments::{flag_of, text_of, texts_of};
 use crate::asking::{Question, element_of, question_of, with_asking_commands};
-use crate::filling::{Start, start_of, with_filling_commands};
+use crate::filling::{Start, end_of, start_of, with_filling_commands};
 use crate::ranges::{count_of, with_ranges};
 use crate::reading::{Reading, reading_of, with_reading_commands};
 use crate::verifying::with_verify;
@@ -16,9 +16,9 @@ use clap::{ArgMatches, Command, Error};
 use osm_value::MemberKind;
 use std::alloc::{AllocError, Global};
 
-/// The message for an invalid ELEMENT or FORM, which clap takes for plain text.
+/// The message for an invalid ELEMENT or FORM, which clap takes for plain text, and for an end that isn't behind the start.
 const UNREADABLE: &str =
-    "ELEMENT must be n, w or r followed by an id, such as w-2, and FORM must be lines or pbf";
+    "ELEMENT must be n, w or r followed by an id, such as w-2, FORM must be lines or pbf, and --to must be above the start";
 
 /// A command with its arguments. A `file`, a `database`, each of `databases`, and those that are `old` and `new`, `into` and `from`, are paths.
 #[derive(Debug, Drop, PartialEq, Eq)]
@@ -38,6 +38,8 @@ pub enum Words<'a> {
         file: &'a str,
         database: &'a str,
         start: Start,
+        /// The offset at which the input has to end, above that of the start and at most 2^62.
+        to: Option<u64>,
     },
     Migrate {
         old: &'a str,
@@ -111,10 +113,12 @@ fn ranges_of<'a>(matches: &ArgMatches<'a>) -> Option<Words<'a>>
 fn import_of<'a>(matches: &ArgMatches<'a>) -> Option<Words<'a>>
     ensures { IfSome result (λ w. Says w (codes "import") (rows_of (found_of matches.now))) }
 {
+    let start = start_of(matches)?;
     Some(Words::Import {
         file: text_of(matches, "FILE")?,
         database: text_of(matches, "DB")?,
-        start: start_of(matches)?,
+        start,
+        to: end_of(matches, start)?,
     })
 }
 
@@ -235,6 +239,7 @@ fn entered_words<'a>(
 pub fn read_words<'a>(alloc: Global, words: &'a [&'a str]) -> Result<Words<'a>, Error>
     ensures named { IfOk result (λ w. IsSomeAnd (subcommand_of program (map (λ s. s.now) words.entry.now)) (λ p. Says w p.0 p.1)) }
     ensures within { IfOk result BeginsWithin }
+    ensures ends { IfOk result EndsWithin }
     ensures some { IfOk result CutsSome }
 {
     let mut command = program(alloc)?;

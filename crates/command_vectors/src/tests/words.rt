@@ -34,6 +34,20 @@ static IMPORT_AT_TOO_FAR: [&str; 6] = ["pbfrow", "import", "F", "D", "--at", "46
 
 static IMPORT_FROM_AND_AT: [&str; 8] = ["pbfrow", "import", "F", "D", "--from", "47", "--at", "47"];
 
+static IMPORT_TO: [&str; 8] = ["pbfrow", "import", "F", "D", "--at", "47", "--to", "48"];
+
+static IMPORT_FROM_TO: [&str; 8] = ["pbfrow", "import", "F", "D", "--to", "84", "--from", "47"];
+
+static IMPORT_TO_ALONE: [&str; 6] = ["pbfrow", "import", "F", "D", "--to", "84"];
+
+static IMPORT_TO_NOTHING: [&str; 6] = ["pbfrow", "import", "F", "D", "--to", "0"];
+
+static IMPORT_TO_ITS_START: [&str; 8] = ["pbfrow", "import", "F", "D", "--at", "47", "--to", "47"];
+
+static IMPORT_TO_BEFORE: [&str; 8] = ["pbfrow", "import", "F", "D", "--from", "47", "--to", "46"];
+
+static IMPORT_TO_TOO_FAR: [&str; 6] = ["pbfrow", "import", "F", "D", "--to", "4611686018427387905"];
+
 static RANGES: [&str; 4] = ["pbfrow", "ranges", "F", "4294967295"];
 
 static RANGES_NONE: [&str; 4] = ["pbfrow", "ranges", "F", "0"];
@@ -116,7 +130,8 @@ fn words_of_import(rt: HostRuntime) {
             Ok(Words::Import {
                 file: "F",
                 database: "D",
-                start: Start::Skip(47)
+                start: Start::Skip(47),
+                to: None
             })
         )
     );
@@ -126,7 +141,8 @@ fn words_of_import(rt: HostRuntime) {
             Ok(Words::Import {
                 file: "F",
                 database: "D",
-                start: Start::Skip(0)
+                start: Start::Skip(0),
+                to: None
             })
         )
     );
@@ -142,12 +158,39 @@ fn words_of_import_of_a_part(rt: HostRuntime) {
             Ok(Words::Import {
                 file: "F",
                 database: "D",
-                start: Start::At(47)
+                start: Start::At(47),
+                to: None
             })
         )
     );
     assert!(rt; read_words(rt.alloc(), IMPORT_AT_TOO_FAR.as_slice()).is_err());
     assert!(rt; read_words(rt.alloc(), IMPORT_FROM_AND_AT.as_slice()).is_err());
+}
+
+fn expect_import_to<R: Abort + Alloc<A = Global>>(
+    rt: &R,
+    words: &'static [&'static str],
+    start: Start,
+    to: u64,
+) {
+    let expected = Words::Import {
+        file: "F",
+        database: "D",
+        start,
+        to: Some(to),
+    };
+    assert!(rt; read_words(rt.alloc(), words).ok() == Some(expected));
+}
+
+#[test]
+fn words_of_import_to_an_offset(rt: HostRuntime) {
+    expect_import_to(&rt, IMPORT_TO.as_slice(), Start::At(47), 48);
+    expect_import_to(&rt, IMPORT_FROM_TO.as_slice(), Start::Skip(47), 84);
+    expect_import_to(&rt, IMPORT_TO_ALONE.as_slice(), Start::Skip(0), 84);
+    assert!(rt; read_words(rt.alloc(), IMPORT_TO_NOTHING.as_slice()).is_err());
+    assert!(rt; read_words(rt.alloc(), IMPORT_TO_ITS_START.as_slice()).is_err());
+    assert!(rt; read_words(rt.alloc(), IMPORT_TO_BEFORE.as_slice()).is_err());
+    assert!(rt; read_words(rt.alloc(), IMPORT_TO_TOO_FAR.as_slice()).is_err());
 }
 
 #[test]
