@@ -1,14 +1,18 @@
 //! Where databases are opened, to be asked or to take blobs, and closed again. Those that are asked and those that are filled
 //! are different `Databases`, since the files of the first are read alone.
 
-ghost use Rattle.std.specs.Prelude.{◌≡◌, false, ⊤, IfOk, IfSome};
+ghost use Rattle.std.specs.Prelude.{◌≡◌, false, ⊤, take, Some, IfOk, IfSome};
 ghost use Rattle.sqlite.specs.Held.{IsNew, state};
+ghost use Rattle.sqlite_trees.specs.Objects.{catalog_tree};
 ghost use Rattle.sqlite_trees.specs.View.{IsClean};
-ghost use Rattle.osm_trees.specs.Below.{IsIndexed};
+ghost use Rattle.osm_openings.specs.Tables.{table_listings};
+ghost use Rattle.osm_trees.specs.Below.{IsChecked};
 ghost use Rattle.osm_trees.specs.Ways.{MatchOpened, counted};
+ghost use Rattle.osm_tree_writes.specs.Appending.{IsStoreAt};
+ghost use Rattle.osm_databases.specs.Checked.{IsOfVersion};
 
 use crate::reason::{told, told_of};
-use crate::stores::{OpenedStore, adopted, adopted_or_made, taking_blobs, with_whole_indexes};
+use crate::stores::{OpenedStore, adopted, adopted_or_made, checked, taking_blobs};
 use osm_store::{BodyStore, StoreFault, TableStore};
 use osm_trees::{Opened, TreeStore};
 use sqlite::{Alter, Connection};
@@ -36,10 +40,11 @@ pub trait Databases {
 
 /// Databases of which each page can be looked at as they are opened.
 pub trait CheckedDatabases: Databases {
-    /// The trees of a database of this version, each page and tree of which was looked at: nothing is written that isn't
-    /// committed. If it is anything else it is closed, and opening it by SQL says why.
+    /// The trees of a database of this version, each page and tree of which was looked at: the first of them are those of a
+    /// store, and nothing is written that isn't committed. If it is anything else it is closed, and opening it by SQL says
+    /// why.
     fn checked_trees(&self, rt: &HostRuntime, name: &str) -> Result<Option<Self::Trees>, StoreFault>
-        ensures { IfOk result (λ found. IfSome found (λ trees. IsClean (Self.Trees.Store.view trees) → (Self.Trees.Store.view trees).trees ≡ (Self.Trees.Store.view trees).committed)) };
+        ensures { IfOk result (λ found. IfSome found (λ trees. IsClean (Self.Trees.Store.view trees) → IsOfVersion (Self.Trees.Store.view trees))) };
 }
 
 /// The store of a database that keeps elements in tables, by SQL, which looks at each page and row as it opens it. Nothing is
@@ -89,24 +94,36 @@ pub fn opened<D: Databases>(
     }
 }
 
+/// The trees that were found, if they are those of a store and stand alone, so that they take blobs.
+fn found_taking_blobs<S: Alter + Drop>(found: Option<S>) -> Option<S>
+    ensures same { IfSome result (λ kept. found ≡ Some kept) }
+    ensures store { IfSome result (λ kept. IsStoreAt (S.Store.view kept).shape) }
+{
+    match found {
+        Some(trees) => taking_blobs(trees),
+        None => None,
+    }
+}
+
 /// The store of a database whose rows are to be compared, whatever these are. A database of this version is read by its
 /// trees: each page and each tree is looked at, and each index has one entry for each row. One with trees of another program
-/// is opened by SQL, which looks at them all, and holds what it looks at in memory. Nothing is written. Why it can't be
-/// opened is told on standard error.
+/// that have to be written with the store's is opened by SQL, which looks at them all, and holds what it looks at in memory.
+/// Nothing is written. Why it can't be opened is told on standard error.
 pub fn opened_checked<D: CheckedDatabases>(
     rt: &HostRuntime,
     databases: &D,
     name: &str,
 ) -> Result<OpenedStore<D::Trees>, StoreFault>
     ensures failures { IfOk result (λ reader. counted (λ trees. trees.failures) (λ store. store.failures) reader ≡ 0) }
-    ensures indexed { IfOk result (λ reader. MatchOpened reader (λ trees. IsClean (D.Trees.Store.view trees.store) → IsIndexed (D.Trees.Store.view trees.store)) (λ _. ⊤)) }
+    ensures checked { IfOk result (λ reader. MatchOpened reader
+        (λ trees. IsClean (D.Trees.Store.view trees.store) → IsChecked (D.Trees.Store.view trees.store) × (take 9 ((D.Trees.Store.view trees.store).trees catalog_tree) ≡ table_listings)) (λ _. ⊤)) }
 {
     let found = databases.checked_trees(rt, name)?;
-    let Some(trees) = found.and_then(taking_blobs) else {
+    let Some(trees) = found_taking_blobs(found) else {
         return Ok(Opened::BySql(source_of_rows(rt, databases, name)?));
     };
-    let trees = told(rt, name, with_whole_indexes(rt.alloc(), trees))?;
-    Ok(Opened::ByTrees(TreeStore::new(trees)))
+    let store = told(rt, name, checked(rt.alloc(), trees))?;
+    Ok(Opened::ByTrees(store))
 }
 
 /// The store of a database of either version.

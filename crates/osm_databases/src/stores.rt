@@ -1,9 +1,10 @@
 //! The store that a connection has, one that is made where there is none, and trees that take blobs.
 
-ghost use Rattle.std.specs.Prelude.{◌≡◌, ◌≢◌, false, ⊤, IsTrue, IfOk, IfSome};
+ghost use Rattle.std.specs.Prelude.{◌≡◌, ◌≢◌, false, ⊤, take, IsTrue, IfOk, IfSome};
 ghost use Rattle.std.specs.FinMap.{empty};
 ghost use Rattle.sqlite.specs.State.{HasCleanDisk};
 ghost use Rattle.sqlite.specs.Held.{state};
+ghost use Rattle.sqlite_trees.specs.Objects.{catalog_tree};
 ghost use Rattle.sqlite_trees.specs.View.{IsClean};
 ghost use Rattle.osm_store.specs.Held.{HeldMap};
 ghost use Rattle.osm_store.specs.declared.schema.layout.Layout.TheVariants.{Tables};
@@ -13,8 +14,10 @@ ghost use Rattle.osm_store.specs.Schema.Bodies.{no_schema};
 ghost use Rattle.sqlite_exec.specs.Calls.{OnlyReads};
 ghost use Rattle.osm_tree_writes.specs.Appending.{IsStoreAt, HasNoMoreIndexes, HasNoMoreTrees};
 ghost use Rattle.osm_tree_writes.specs.Putting.{IsIndexedStore};
-ghost use Rattle.osm_trees.specs.Below.{HoldsBelow};
+ghost use Rattle.osm_trees.specs.Below.{HoldsBelow, IsChecked};
 ghost use Rattle.osm_trees.specs.Ways.{MatchOpened, counted};
+ghost use Rattle.osm_openings.specs.Tables.{table_listings};
+ghost use Rattle.osm_databases.specs.Checked.{IsOfVersion};
 
 use crate::reason::{Reason, Refusal};
 use osm_store::{StoreFault, TableStore};
@@ -114,4 +117,15 @@ pub fn with_whole_indexes<S: Store + Drop>(alloc: Global, mut trees: S) -> Resul
         }),
         Err(fault) => Err(fault.into()),
     }
+}
+
+/// The store of trees that are those of a store of this version, if each of its indexes has one entry for each row of its
+/// table, and no other. A fault is that of `with_whole_indexes`.
+pub(crate) fn checked<S: Store + Drop>(alloc: Global, trees: S) -> Result<TreeStore<S>, Refusal>
+    ensures failures { IfOk result (λ reader. reader.failures ≡ 0) }
+    ensures checked { IfOk result (λ reader. IsClean (S.Store.view reader.store) → (IsClean (S.Store.view trees) → IsOfVersion (S.Store.view trees)) → IsStoreAt (S.Store.view trees).shape
+        → IsChecked (S.Store.view reader.store) × (take 9 ((S.Store.view reader.store).trees catalog_tree) ≡ table_listings)) }
+{
+    let kept = with_whole_indexes(alloc, trees)?;
+    Ok(TreeStore::new(kept))
 }

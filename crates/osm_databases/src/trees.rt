@@ -6,6 +6,7 @@ ghost use Rattle.sqlite_trees.specs.View.{IsClean};
 ghost use Rattle.sqlite_store.specs.FileStore.{view};
 ghost use Rattle.sqlite_wal.specs.Files.{seen_image};
 ghost use Rattle.osm_openings.specs.Presumed.{ArePresumedTables, ReadsAs};
+ghost use Rattle.osm_databases.specs.Checked.{IsOfVersion};
 
 use crate::reason::{Reason, Refusal};
 use osm_openings::{Obstacle, find_obstacle, open_checked_tables, open_tables};
@@ -58,7 +59,7 @@ pub fn checked_trees_in<D: Disk + Drop>(
 ) -> Result<Option<FileStore<D>>, Refusal>
     requires log { IsTrue (D.Disk.is_usable files.log) }
     requires db { IsTrue (D.Disk.is_usable files.db) }
-    ensures settled { IfOk result (λ found. IfSome found (λ store. IsClean (view store) → (view store).trees ≡ (view store).committed)) }
+    ensures version { IfOk result (λ found. IfSome found (λ store. IsClean (view store) → IsOfVersion (view store))) }
     ensures reads { IfOk result (λ found. IfSome found (λ store. IsTrue (view store).is_clean → ReadsAs (seen_image D.Disk files.log files.db) (view store).trees)) }
 {
     let options = options(rt)?;

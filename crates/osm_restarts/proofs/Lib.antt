@@ -16,3 +16,5 @@ mod SameTrees
 mod Sizes
 mod Twins
 mod Unused
+mod StoreList
+mod VerifiedLemmas

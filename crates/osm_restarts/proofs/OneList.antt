@@ -28,11 +28,11 @@ use Rattle.osm_restarts.proofs.Twins.{AreTwins, same_lists}
 use Rattle.osm_restarts.proofs.Unused.{no_page_0}
 
 -- the row describes the table, and has a text or none
-abbrev IsOfTable : Row → Table → Type 0
+abbrev pub IsOfTable : Row → Table → Type 0
 IsOfTable row t = Describes row t.tree (codes "table") t.name t.name 1 (table_reals t) × IsWords (column row 4)
 
 -- the row describes the index of the table, and has a text or none
-abbrev IsOfIndex : Row → Index → Table → Type 0
+abbrev pub IsOfIndex : Row → Index → Table → Type 0
 IsOfIndex row i t = Describes row i.tree (codes "index") i.name t.name (2 + 8 * i.order.digits) (index_reals (table_reals t) i.columns) × IsWords (column row 4)
 
 -- the table has a row of the list
@@ -56,31 +56,31 @@ row_of_index : (i : Index) (t : Table) (sql : Value) → i.tree < 65536 → 2 �
 row_of_index i t sql low plain none words =
     (record { low = low; id = refl; kind_is = refl; name_is = refl; owner_is = refl; shape_is = plain; reals_are = none; fits = omega arith }, words)
 
-of_meta : IsOfTable (table_listing 0 (codes "meta") CREATE_META.now) meta
+pub of_meta : IsOfTable (table_listing 0 (codes "meta") CREATE_META.now) meta
 of_meta = row_of_table meta CREATE_META.now (omega arith) refl
 
-of_blob : IsOfTable (table_listing 1 (codes "blob") CREATE_BLOB.now) blob
+pub of_blob : IsOfTable (table_listing 1 (codes "blob") CREATE_BLOB.now) blob
 of_blob = row_of_table blob CREATE_BLOB.now (omega arith) refl
 
-of_element : IsOfTable (table_listing 2 (codes "element") CREATE_ELEMENT.now) element
+pub of_element : IsOfTable (table_listing 2 (codes "element") CREATE_ELEMENT.now) element
 of_element = row_of_table element CREATE_ELEMENT.now (omega arith) refl
 
-of_tag : IsOfTable (table_listing 4 (codes "tag") CREATE_TAG.now) tag
+pub of_tag : IsOfTable (table_listing 4 (codes "tag") CREATE_TAG.now) tag
 of_tag = row_of_table tag CREATE_TAG.now (omega arith) refl
 
-of_link : IsOfTable (table_listing 6 (codes "link") CREATE_LINK.now) link
+pub of_link : IsOfTable (table_listing 6 (codes "link") CREATE_LINK.now) link
 of_link = row_of_table link CREATE_LINK.now (omega arith) refl
 
-of_element_key : IsOfIndex (index_listing 3 (codes "sqlite_autoindex_element_1") (codes "element") Null) element_key element
+pub of_element_key : IsOfIndex (index_listing 3 (codes "sqlite_autoindex_element_1") (codes "element") Null) element_key element
 of_element_key = row_of_index element_key element Null (omega arith) refl refl tt
 
-of_tag_key : IsOfIndex (index_listing 5 (codes "sqlite_autoindex_tag_1") (codes "tag") Null) tag_key tag
+pub of_tag_key : IsOfIndex (index_listing 5 (codes "sqlite_autoindex_tag_1") (codes "tag") Null) tag_key tag
 of_tag_key = row_of_index tag_key tag Null (omega arith) refl refl tt
 
-of_link_key : IsOfIndex (index_listing 7 (codes "sqlite_autoindex_link_1") (codes "link") Null) link_key link
+pub of_link_key : IsOfIndex (index_listing 7 (codes "sqlite_autoindex_link_1") (codes "link") Null) link_key link
 of_link_key = row_of_index link_key link Null (omega arith) refl refl tt
 
-of_element_by_id : IsOfIndex (index_listing 8 (codes "element_by_id") (codes "element") (Text CREATE_ELEMENT_INDEX.now)) element_by_id element
+pub of_element_by_id : IsOfIndex (index_listing 8 (codes "element_by_id") (codes "element") (Text CREATE_ELEMENT_INDEX.now)) element_by_id element
 of_element_by_id = row_of_index element_by_id element (Text CREATE_ELEMENT_INDEX.now) (omega arith) refl refl tt
 
 all_tables : AllByRecursion HasRow table_schema.tables

@@ -1,6 +1,8 @@
-//! Laws of a restart: what a crash may leave of a store in files can be opened, and holds a map that the crash may leave.
+//! Laws of a restart: what a crash may leave of a store in files can be opened, and holds a map that the crash may leave. And what
+//! `verify` passes holds the map of an import.
 #![tactic(auto)]
 
 pub mod history;
 pub mod premise;
 pub mod restart;
+pub mod verified;

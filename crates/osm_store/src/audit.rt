@@ -37,8 +37,8 @@ pub trait Audited: Reader {
     /// The rows of the last commit.
     ghost trees: { Self → Trees };
 
-    /// The rows at an offset, in all tables, are those that `put` writes for this blob, and no others.
-    ghost has_rows: { Self → ℕ → Blob → Type 0 };
+    /// The rows that tables have at an offset, in all of them, are those that `put` writes for this blob, and no others.
+    ghost has_rows: { Trees → ℕ → Blob → Type 0 };
 
     /// Whether the rows at an offset, in all tables, are those that `put` writes for this blob, and no others: its bytes
     /// are those from `off` to `fin`, at most `MAX_OFFSET`, and `digest` is the SHA-256 of its frame (FIPS 180-4). What is
@@ -55,7 +55,7 @@ pub trait Audited: Reader {
         requires order { off < fin }
         requires limit { fin ≤ MAX_OFFSET }
         ensures told { Self.is_honest self.new → has_tables self.old
-            → IfOk result (λ told. IsTrue told ↔ has_rows self.old off (record { fin = fin; digest = digest.now; kind = kind; elements = elements.now })) }
+            → IfOk result (λ told. IsTrue told ↔ has_rows (trees self.old) off (record { fin = fin; digest = digest.now; kind = kind; elements = elements.now })) }
         // over a held map, where the elements are such as a put takes, it is whether the map has this blob there
         ensures held { (held : HeldMap) → Self.holds self.old held → Self.is_honest self.new → AllByRecursion IsPlain elements.now
             → IfOk result (λ told. IsTrue told ↔ (map.get held off ≡ Some (record { fin = fin; digest = digest.now; kind = kind; elements = elements.now }))) }
@@ -73,7 +73,7 @@ pub trait Audited: Reader {
         ensures reads { OnlyReads Self.holds Self.leaves Self.leaves_a_map Self.same_tables Self.is_honest Self.is_open Self.failures self.old result self.new };
 
     /// Of the rows of a blob, as `put` writes them, queries see this blob, and no other.
-    ghost shown: { (store : Self) (off : ℕ) (blob : Blob) → has_rows store off blob → ShowsBlob layout (trees store) off blob };
+    ghost shown: { (db : Trees) (off : ℕ) (blob : Blob) → has_rows db off blob → ShowsBlob layout db off blob };
 
     /// A store with the same tables has the same rows.
     ghost same_trees: { (one other : Self) → Self.same_tables one other → trees other ≡ trees one };

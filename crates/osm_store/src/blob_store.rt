@@ -244,7 +244,7 @@ impl<S: Alter, L: StoreLayout> Audited for BlobStore<S, L> {
 
     ghost trees = { λ s. (state S.Store s.connection).committed.trees };
 
-    ghost has_rows = { λ s off blob. ShowsBlob L.LAYOUT (state S.Store s.connection).committed.trees off blob };
+    ghost has_rows = { λ db off blob. ShowsBlob L.LAYOUT db off blob };
 
     fn has_blob(
         &mut self,
@@ -273,7 +273,7 @@ impl<S: Alter, L: StoreLayout> Audited for BlobStore<S, L> {
         answer
     }
 
-    ghost shown = { λ s off blob has. has };
+    ghost shown = { λ db off blob has. has };
 
     ghost same_trees = { λ one other same. trees_after _ _ same };
 

@@ -1,5 +1,5 @@
 -- When the trees of a store hold a map, with no word of SQL, and what a read leaves of them.
-use Rattle.std.specs.Prelude.{◌≡◌, Bool, false}
+use Rattle.std.specs.Prelude.{◌≡◌, Bool, false, [], ◌∷◌}
 use Rattle.sqlite_value.specs.Order.{Row, column}
 use Rattle.sqlite_trees.specs.declared.store.Store.{Ghosts}
 use Rattle.sqlite_trees.specs.Tree.{Trees}
@@ -9,6 +9,8 @@ use Rattle.osm_store.specs.declared.schema.layout.Layout.{Layout}
 use Rattle.osm_store.specs.declared.schema.layout.Layout.TheVariants.{Tables}
 use Rattle.osm_store.specs.Held.{HeldMap}
 use Rattle.osm_store.specs.LayoutHolding.{IsKept, TablesHold}
+use Rattle.osm_store.specs.Rows.{version_row}
+use Rattle.osm_tree_writes.specs.Appending.{IsStoreAt}
 use Rattle.osm_tree_writes.specs.Putting.{IsIndexedStore}
 
 -- the store can go on, nothing is written, and its trees' rows are those of this map and of no other
@@ -53,3 +55,11 @@ pub record SameTrees (old new : View) : Type 0 where
 pub record IsIndexed (v : View) : Type 0 where
   pub settled : v.trees ≡ v.committed
   pub indexed : IsIndexedStore v.trees
+
+-- the store can go on, nothing is written, the trees have the shapes of those of a store, which is of this version, and each
+-- index has one entry for each row of its table
+pub record IsChecked (v : View) : Type 0 where
+  pub unbroken : v.is_broken ≡ false
+  pub indexed : IsIndexed v
+  pub shaped : IsStoreAt v.shape
+  pub version : v.trees 0 ≡ version_row Tables ∷ []

@@ -182,7 +182,7 @@ impl<S: Store> Audited for TreeStore<S> {
 
     ghost trees = { λ r. (S.Store.view r.store).committed };
 
-    ghost has_rows = { λ r off blob. KeepsBlob (S.Store.view r.store).committed (extent_of (off, blob)) blob.elements };
+    ghost has_rows = { λ db off blob. KeepsBlob db (extent_of (off, blob)) blob.elements };
 
     fn has_blob(
         &mut self,
@@ -211,7 +211,7 @@ impl<S: Store> Audited for TreeStore<S> {
         answer
     }
 
-    ghost shown = { λ r off blob has. blob_shown _ off blob has };
+    ghost shown = { blob_shown };
 
     ghost same_trees = { λ one other same. same.committed };
 

@@ -21,10 +21,10 @@ use Rattle.osm_import.proofs.FilesLemmas.{entry-same}
 use Rattle.osm_import.proofs.GoodLaws.{frame-filled}
 use Rattle.osm_verify.specs.declared.comparing.Depth.TheVariants.{Elements}
 use Rattle.osm_verify.specs.Agreements.{IsSame}
-use Rattle.osm_verify.specs.Audits.{AreEntries, IsEntryOf, AuditedShowsImport}
+use Rattle.osm_verify.specs.Audits.{AreEntries, IsEntryOf, AuditedShowsImport, KeepsImport}
 use Rattle.osm_verify.proofs.LawLemmas.{exact-is-one}
 
-frame-long : (off : ℕ) (frame : List ℕ) (blob : Blob) → IsEntry off frame blob → 4 ≤ length frame
+pub frame-long : (off : ℕ) (frame : List ℕ) (blob : Blob) → IsEntry off frame blob → 4 ≤ length frame
 frame-long off frame blob entry = frame-filled entry.good.type_name entry.good.blob frame entry.good.placed.frame
 
 true-and : (a b : Bool) → T a → T b → T (a && b)
@@ -165,3 +165,20 @@ audited-shows-import layout db frames audited =
       shown = shows_map layout db held (subst (AllByRecursion (λ (e : ℕ × Blob). ShowsBlob layout db e.0 e.1)) (sym (map-entries (ShowsBlob layout db) frames audited.blobs audited.shown)) (shown-all (ShowsBlob layout db) 0 frames audited.blobs audited.shown))
           (subst (λ (blobs : List (List Element)). ShowsCounts layout db (counts_of blobs)) (sym (map-elements (ShowsBlob layout db) frames audited.blobs audited.shown)) audited.counted);
     }
+
+-- what is so of each entry implies what it implies
+pub entries-weaker : (P Q : ℕ → Blob → Type 0) → ((off : ℕ) (blob : Blob) → P off blob → Q off blob) → (start : ℕ) (frames : List (List ℕ)) (blobs : List (List Element)) → AreEntries P start frames blobs → AreEntries Q start frames blobs
+entries-weaker P Q weaker start [] [] all = tt
+entries-weaker P Q weaker start [] (elements ∷ blobs) all = absurd all
+entries-weaker P Q weaker start (frame ∷ frames) [] all = absurd all
+entries-weaker P Q weaker start (frame ∷ frames) (elements ∷ blobs) all =
+    (entry-weaker (P start) (Q start) start frame elements (weaker start) all.0, entries-weaker P Q weaker (start + length frame) frames blobs all.1)
+
+-- what is so of each entry is so of each blob of what an import of the frames comes to
+pub audited-keeps-import : (P : ℕ → Blob → Type 0) (layout : Layout) (db : Trees) (frames : List (List ℕ)) (blobs : List (List Element)) → AreEntries P 0 frames blobs → ShowsCounts layout db (counts_of blobs) → KeepsImport P layout db frames
+audited-keeps-import P layout db frames blobs each counted = record {
+  held = map-of P frames blobs each;
+  imported = map-imported P frames blobs each;
+  kept = subst (AllByRecursion (λ (e : ℕ × Blob). P e.0 e.1)) (sym (map-entries P frames blobs each)) (shown-all P 0 frames blobs each);
+  counted = subst (λ (all : List (List Element)). ShowsCounts layout db (counts_of all)) (sym (map-elements P frames blobs each)) counted;
+}

@@ -32,7 +32,7 @@ same-at depth held start (first ∷ rest) same off frame stands = elim stands [
   | inr later ↦ same-at depth held (start + length first) rest same.1 off frame later
 ]
 
-good-stands : (start : ℕ) (frames : List (List ℕ)) (off : ℕ) (blob : Blob) → IsGoodIn (placed_from start frames) off blob → (frame : List ℕ) × StandsAt start frames off frame × IsEntry off frame blob
+pub good-stands : (start : ℕ) (frames : List (List ℕ)) (off : ℕ) (blob : Blob) → IsGoodIn (placed_from start frames) off blob → (frame : List ℕ) × StandsAt start frames off frame × IsEntry off frame blob
 good-stands start [] off blob good = absurd good
 good-stands start (first ∷ rest) off blob good = elim good [
   | inl (here, entry) ↦ (first, inl (here, refl), entry)

@@ -3,3 +3,4 @@ pub mod Beginning
 pub mod LawLemmas
 pub mod AuditLemmas
 pub mod TellLemmas
+pub mod KeptLemmas

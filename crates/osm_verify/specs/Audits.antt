@@ -1,9 +1,11 @@
 -- What it comes to that a database has the rows of each frame of a file, and no others, whatever else was said of it.
 use Rattle.std.specs.Prelude.{◌≡◌, ℕ, ◌+◌, List, [], ◌∷◌, length}
 pub use Rattle.sqlite.specs.Tree.{Trees}
+use Rattle.std.specs.List.{AllByRecursion}
+use Rattle.std.specs.FinMap.{entries}
 use Rattle.osm_value.specs.declared.element.Element.{Element}
 use Rattle.osm_store.specs.declared.schema.layout.Layout.{Layout}
-use Rattle.osm_store.specs.Audit.{ShowsBlob, ShowsCounts, ShowsMap, counts_of}
+use Rattle.osm_store.specs.Audit.{ShowsBlob, ShowsCounts, ShowsMap, counts_of, elements_held}
 use Rattle.osm_store.specs.Held.{Blob, HeldMap}
 use Rattle.osm_import.specs.Merges.{IsImported, placed_from}
 use Rattle.osm_import.specs.Step.{IsEntry}
@@ -45,3 +47,11 @@ pub record ShowsImport (layout : Layout) (db : Trees) (frames : List (List ℕ))
 
 abbrev pub AuditedShowsImport : Type 0
 AuditedShowsImport = (layout : Layout) (db : Trees) (frames : List (List ℕ)) → IsAudited layout db frames → ShowsImport layout db frames
+
+-- the rows at each offset of the map that an import of these frames to a new store comes to are those of its blob, where this is
+-- said of rows at an offset, and the tables have no more rows than these
+pub record KeepsImport (has_rows : ℕ → Blob → Type 0) (layout : Layout) (db : Trees) (frames : List (List ℕ)) : Type 0 where
+  pub held : HeldMap
+  pub imported : IsImported (placed_from 0 frames) held
+  pub kept : AllByRecursion (λ (entry : ℕ × Blob). has_rows entry.0 entry.1) (entries held)
+  pub counted : ShowsCounts layout db (counts_of (elements_held held))

@@ -32,7 +32,7 @@ pub fn has_frame<K: Audited>(
 ) -> Result<bool, StoreFault>
     requires { IsGood off bytes.now good.now.kind good.now.elements.items }
     ensures told { K.is_honest store.new → K.has_tables store.old
-        → IfOk result (λ told. IsTrue told ↔ IsEntryOf (K.has_rows store.old off) off bytes.now good.now.elements.items) }
+        → IfOk result (λ told. IsTrue told ↔ IsEntryOf (K.has_rows (K.trees store.old) off) off bytes.now good.now.elements.items) }
     // and so queries see them
     ensures shown { K.is_honest store.new → K.has_tables store.old
         → IfOk result (λ told. IsTrue told → IsShown K.layout (K.trees store.old) off bytes.now good.now.elements.items) }

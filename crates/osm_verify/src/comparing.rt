@@ -8,7 +8,7 @@ ghost use Rattle.osm_import.specs.Good.{IsGood};
 ghost use Rattle.osm_import.specs.Step.{HasCause};
 ghost use Rattle.osm_import.specs.Stores.{Rereads};
 ghost use Rattle.osm_verify.specs.Agreements.{IsAgreement, IsExtentOf, Tells, begins};
-ghost use Rattle.osm_verify.specs.Audits.{IsShown};
+ghost use Rattle.osm_verify.specs.Audits.{IsEntryOf};
 
 use crate::auditing::has_frame;
 use osm_import::Good;
@@ -80,8 +80,8 @@ pub fn compare<K: Audited>(
 ) -> Result<Agreement, StoreFault>
     requires { IsGood off bytes.now good.now.kind good.now.elements.items }
     ensures compared { (held : HeldMap) → K.holds store.old held → K.is_honest store.new → IfOk result (IsAgreement depth held off bytes.now) }
-    ensures shown { K.is_honest store.new → K.is_open store.new → K.has_tables store.old → depth ≡ Depth.Elements
-        → IfOk result (λ agreement. agreement ≡ Agreement.Same → IsShown K.layout (K.trees store.old) off bytes.now good.now.elements.items) }
+    ensures rows { K.is_honest store.new → K.is_open store.new → K.has_tables store.old → depth ≡ Depth.Elements
+        → IfOk result (λ agreement. agreement ≡ Agreement.Same → IsEntryOf (K.has_rows (K.trees store.old) off) off bytes.now good.now.elements.items) }
     ensures same { K.is_honest store.new → K.is_open store.new → K.same_tables store.old store.new }
     ensures rereads { Rereads K.Reader store.old result store.new }
     ensures own { (held : HeldMap) → K.holds store.old held → K.is_honest store.new → IfErr result (λ fault. ¬ (IsForeign fault)) }

@@ -3,6 +3,7 @@ pub mod CommandTexts
 pub mod ExportLemmas
 pub mod FindLemmas
 pub mod ImportLemmas
+pub mod ImportRanges
 pub mod Judging
 pub mod ListLemmas
 pub mod ListingLaws

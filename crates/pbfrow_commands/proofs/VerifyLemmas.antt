@@ -13,8 +13,8 @@ use Rattle.pbf_frame.specs.declared.fault.FrameFault.{FrameFault}
 use Rattle.pbf_frame.specs.declared.part.TheConstants.{MAX_OFFSET}
 use Rattle.osm_value.specs.Sink.{Writes}
 use Rattle.osm_value.specs.declared.element.Element.{Element}
-use Rattle.osm_store.specs.Audit.{AreCountable, ShowsCounts, counts_of as counts_of_rows, elements_held}
-use Rattle.osm_store.specs.Held.{HeldMap, IsApart}
+use Rattle.osm_store.specs.Audit.{AreCountable, ShowsBlob, ShowsCounts, counts_of as counts_of_rows, elements_held}
+use Rattle.osm_store.specs.Held.{Blob, HeldMap, IsApart}
 use Rattle.osm_store.specs.Keeping.{extents_of}
 use Rattle.osm_store.specs.declared.audit.counts.Counts.{Counts as Rows}
 use Rattle.osm_store.specs.declared.fault.StoreFault.{StoreFault}
@@ -32,13 +32,13 @@ use Rattle.osm_import.specs.declared.stream.fault.Stop.{Stop}
 use Rattle.osm_import.specs.declared.stream.fault.Stop.TheVariants.{Frame, NoHeaderFirst, WriteFailed, Store, ReadFailed, BlobLimit}
 use Rattle.osm_import.specs.declared.stream.fault.StreamFault.{StreamFault}
 use Rattle.osm_verify.specs.Agreements.{begins}
-use Rattle.osm_verify.specs.Audits.{Trees, AreEntries, AreShown}
+use Rattle.osm_verify.specs.Audits.{Trees, AreEntries}
 use Rattle.osm_verify.specs.Laws.{AreSame, AreAlone, IsExact}
 use Rattle.osm_verify.specs.declared.comparing.Depth.{Depth}
 use Rattle.osm_verify.specs.declared.comparing.Depth.TheVariants.{Elements}
 use Rattle.osm_verify.specs.declared.comparing.Agreement.{Agreement}
 use Rattle.osm_verify.specs.declared.comparing.Agreement.TheVariants.{Same, Missing, Differs}
-use Rattle.osm_verify.proofs.AuditLemmas.{audited-shows-import, imported-elements}
+use Rattle.osm_verify.proofs.AuditLemmas.{audited-keeps-import, audited-shows-import, entries-weaker, imported-elements}
 use Rattle.osm_verify.proofs.LawLemmas.{verified-is-exact}
 use Rattle.pbfrow_commands.specs.Checking.{capped}
 use Rattle.pbfrow_commands.specs.CommandLines.{stop_line}
@@ -336,12 +336,12 @@ own-entries at (p ∷ ps) found zero =
     let first = first-same p ps zero in
     (subst (λ (v : Comparison). HasElements at p.bytes v p.found.elements) first.0 found.1, own-entries (at + length p.bytes) ps found.2 first.2)
 
-seen-entries : (layout : Layout) (db : Trees) (at : ℕ) (ps : List (Part Compared)) → AreFound (HasSeen layout db Elements) at ps → AllZero ps → AreShown layout db at (frames_of ps) (elements_of ps)
+seen-entries : (P : ℕ → Blob → Type 0) (at : ℕ) (ps : List (Part Compared)) → AreFound (HasSeen P Elements) at ps → AllZero ps → AreEntries P at (frames_of ps) (elements_of ps)
 unfolding frames_of
-seen-entries layout db at [] found zero = tt
-seen-entries layout db at (p ∷ ps) found zero =
+seen-entries P at [] found zero = tt
+seen-entries P at (p ∷ ps) found zero =
     let first = first-same p ps zero in
-    (found.1 refl first.0, seen-entries layout db (at + length p.bytes) ps found.2 first.2)
+    (found.1 refl first.0, seen-entries P (at + length p.bytes) ps found.2 first.2)
 
 -- where all frames are held alike and nothing else is held, the counts of their rows are those of the map
 rows-alike : (held : HeldMap) (ps : List (Part Compared)) → IsApart held → AreFound (HasCompared Elements held) 0 ps → AllZero ps → filter (begins (0 + length (joined ps)) MAX_OFFSET) (extents_of held) ≡ []
@@ -362,24 +362,24 @@ rows-held depth held ps end c rows apart found here counted rows_are deep agreed
 -- ---- whatever rows they have
 
 -- The frames so far, so counted; where the store can be trusted, they are found alike only where their rows are there.
-pub record Reads (trusted : Type 0) (layout : Layout) (db : Trees) (depth : Depth) (left : Known) (now : Reading) (counts : Counts) (rows : Rows) (blobs : List (Part Compared)) : Type 0 where
+pub record Reads (trusted : Type 0) (P : ℕ → Blob → Type 0) (depth : Depth) (left : Known) (now : Reading) (counts : Counts) (rows : Rows) (blobs : List (Part Compared)) : Type 0 where
   pub found : AreFound HasOwnElements 0 blobs
   pub stands : now.offset ≡ length (joined blobs)
   pub read : Consumes left now.left (joined blobs)
   pub counted : counts ≡ counts_of blobs 0
   pub rows_are : rows ≡ rows_of blobs
-  pub seen : trusted → AreFound (HasSeen layout db depth) 0 blobs
+  pub seen : trusted → AreFound (HasSeen P depth) 0 blobs
 
-pub reads-none : (trusted : Type 0) (layout : Layout) (db : Trees) (depth : Depth) (left : Known) (now : Reading) (counts : Counts) (rows : Rows) → now.offset ≡ 0 → now.left ≡ left → counts ≡ counts_of [] 0 → rows ≡ rows_of []
-    → Reads trusted layout db depth left now counts rows []
-reads-none trusted layout db depth left now counts rows here same counted rows_are =
+pub reads-none : (trusted : Type 0) (P : ℕ → Blob → Type 0) (depth : Depth) (left : Known) (now : Reading) (counts : Counts) (rows : Rows) → now.offset ≡ 0 → now.left ≡ left → counts ≡ counts_of [] 0 → rows ≡ rows_of []
+    → Reads trusted P depth left now counts rows []
+reads-none trusted P depth left now counts rows here same counted rows_are =
     record { found = tt; stands = here; read = subst (λ (o : Known). Consumes left o []) (sym same) (Consumes-nil left); counted = counted; rows_are = rows_are; seen = λ trust. tt }
 
-pub reads-more : (before trusted : Type 0) (layout : Layout) (db : Trees) (depth : Depth) (left : Known) (was now : Reading) (at : ℕ) (w : List ℕ) (c d : Counts) (r s : Rows) (blobs : List (Part Compared)) (p : Part Compared)
-    → (trusted → before) → Reads before layout db depth left was c r blobs → GivesFrame was now at w → p.bytes ≡ w → IsPart p → HasOwnElements at p
-    → ((bs : List (Part Compared)) → c ≡ counts_of bs 0 → d ≡ counts_of (bs ++ p ∷ []) 0) → CountsMore r p.found.elements s → (trusted → HasSeen layout db depth at p)
-    → Reads trusted layout db depth left now d s (blobs ++ p ∷ [])
-reads-more before trusted layout db depth left was now at w c d r s blobs p weaker so_far gives bytes is own counts rows seen =
+pub reads-more : (before trusted : Type 0) (P : ℕ → Blob → Type 0) (depth : Depth) (left : Known) (was now : Reading) (at : ℕ) (w : List ℕ) (c d : Counts) (r s : Rows) (blobs : List (Part Compared)) (p : Part Compared)
+    → (trusted → before) → Reads before P depth left was c r blobs → GivesFrame was now at w → p.bytes ≡ w → IsPart p → HasOwnElements at p
+    → ((bs : List (Part Compared)) → c ≡ counts_of bs 0 → d ≡ counts_of (bs ++ p ∷ []) 0) → CountsMore r p.found.elements s → (trusted → HasSeen P depth at p)
+    → Reads trusted P depth left now d s (blobs ++ p ∷ [])
+reads-more before trusted P depth left was now at w c d r s blobs p weaker so_far gives bytes is own counts rows seen =
     let here : at ≡ length (joined blobs) = gives.here ∙ so_far.stands in
     let there : at ≡ 0 + length (joined blobs) = here ∙ sym (zero-add (length (joined blobs))) in
     record {
@@ -389,14 +389,14 @@ reads-more before trusted layout db depth left was now at w c d r s blobs p weak
           (Consumes-trans left was.left now.left (joined blobs) p.bytes so_far.read (subst (λ (v : List ℕ). Consumes was.left now.left v) (sym bytes) gives.read));
       counted = counts blobs so_far.counted;
       rows_are = rows-push blobs p r s rows so_far.rows_are;
-      seen = λ trust. found-push (HasSeen layout db depth) 0 blobs p (so_far.seen (weaker trust)) is (subst (λ k. HasSeen layout db depth k p) there (seen trust));
+      seen = λ trust. found-push (HasSeen P depth) 0 blobs p (so_far.seen (weaker trust)) is (subst (λ k. HasSeen P depth k p) there (seen trust));
     }
 
 -- at the end of the input
-pub seen-whole : (before is_open has_tables : Type 0) (layout : Layout) (first last : Trees) (depth : Depth) (left : Known) (now : Reading) (counts : Counts) (rows : Rows) (blobs : List (Part Compared)) (close : Close)
-    → Reads before layout first depth left now counts rows blobs → IsAtEnd now.left → (is_open → before) → (is_open → (last ≡ first) × has_tables)
-    → HasCountedRows is_open has_tables layout last depth counts rows close → HasSeenInput layout first depth left counts close
-seen-whole before is_open has_tables layout first last depth left now counts rows blobs (Whole extras) so_far ended trust there counted = (
+pub seen-whole : (before is_open has_tables : Type 0) (P : ℕ → Blob → Type 0) (layout : Layout) (first last : Trees) (depth : Depth) (left : Known) (now : Reading) (counts : Counts) (rows : Rows) (blobs : List (Part Compared)) (close : Close)
+    → Reads before P depth left now counts rows blobs → IsAtEnd now.left → (is_open → before) → (is_open → (last ≡ first) × has_tables)
+    → HasCountedRows is_open has_tables layout last depth counts rows close → HasSeenInput P layout first depth left counts close
+seen-whole before is_open has_tables P layout first last depth left now counts rows blobs (Whole extras) so_far ended trust there counted = (
   blobs,
   record {
     found = so_far.found;
@@ -410,29 +410,31 @@ seen-whole before is_open has_tables layout first last depth left now counts row
         (so_far.seen (trust told.0), subst (λ (r : Rows). ShowsCounts layout first r) so_far.rows_are (subst (λ (db : Trees). ShowsCounts layout db rows) same.0 (told.1 same.1)));
   },
 )
-seen-whole before is_open has_tables layout first last depth left now counts rows blobs (Early stop) so_far ended trust there counted = tt
-seen-whole before is_open has_tables layout first last depth left now counts rows blobs Unwritten so_far ended trust there counted = tt
+seen-whole before is_open has_tables P layout first last depth left now counts rows blobs (Early stop) so_far ended trust there counted = tt
+seen-whole before is_open has_tables P layout first last depth left now counts rows blobs Unwritten so_far ended trust there counted = tt
 
-pub shown-at-zero : (layout : Layout) (db : Trees) (left : Known) (c : Counts) (close : Close) (failed : Bool) (status : ℕ) → HasSeenInput layout db Elements left c close → is_whole close ≡ true
+pub shown-at-zero : (P : ℕ → Blob → Type 0) (layout : Layout) (db : Trees) (shows : (off : ℕ) (blob : Blob) → P off blob → ShowsBlob layout db off blob) (left : Known) (c : Counts) (close : Close) (failed : Bool) (status : ℕ) → HasSeenInput P layout db Elements left c close → is_whole close ≡ true
     → ((blobs : List (Part Compared)) → c ≡ counts_of blobs 0 → status ≡ status_of (is_agreed close blobs) failed) → status ≡ 0
-    → IfSome left (λ bytes. (frames : List (List ℕ)) × IsFile bytes frames × ShowsFile layout db frames)
-shown-at-zero layout db left c (Early stop) failed status seen whole line zero = absurd (false≢true whole)
-shown-at-zero layout db left c Unwritten failed status seen whole line zero = absurd (false≢true whole)
-shown-at-zero layout db left c (Whole extras) failed status seen whole line zero =
+    → IfSome left (λ bytes. (frames : List (List ℕ)) × IsFile bytes frames × ShowsFile P layout db frames)
+shown-at-zero P layout db shows left c (Early stop) failed status seen whole line zero = absurd (false≢true whole)
+shown-at-zero P layout db shows left c Unwritten failed status seen whole line zero = absurd (false≢true whole)
+shown-at-zero P layout db shows left c (Whole extras) failed status seen whole line zero =
     let blobs = seen.0 in
     let h = seen.1 in
     let well = status-zero (is_agreed (Whole extras) blobs) failed status (line blobs h.counted) zero in
     let all = agreed-all blobs (length extras.items) well.0 in
     let none : extras.items ≡ [] = nil_from_length extras.items all.none in
     let agreed : agree c ≡ true = ap agree (h.counted ∙ ap (counts_of blobs) (sym all.none)) ∙ well.0 in
-    Consumes-whole left h.behind (joined blobs) (λ bytes. (frames : List (List ℕ)) × IsFile bytes frames × ShowsFile layout db frames) h.read h.ended (
+    Consumes-whole left h.behind (joined blobs) (λ bytes. (frames : List (List ℕ)) × IsFile bytes frames × ShowsFile P layout db frames) h.read h.ended (
       frames_of blobs,
       record { some = some-frames blobs all.some; whole = frames-whole HasOwnElements 0 blobs h.found; is_joined = frames-joined blobs },
       record {
         blobs = elements_of blobs;
         are = own-entries 0 blobs h.found all.zeros;
+        kept = λ few. let shown = h.shown refl agreed none few in audited-keeps-import P layout db (frames_of blobs) (elements_of blobs) (seen-entries P 0 blobs shown.0 all.zeros) shown.1;
         imported = λ few.
             let shown = h.shown refl agreed none few in
-            audited-shows-import layout db (frames_of blobs) (record { blobs = elements_of blobs; shown = seen-entries layout db 0 blobs shown.0 all.zeros; counted = shown.1 });
+            audited-shows-import layout db (frames_of blobs)
+            (record { blobs = elements_of blobs; shown = entries-weaker P (ShowsBlob layout db) shows 0 (frames_of blobs) (elements_of blobs) (seen-entries P 0 blobs shown.0 all.zeros); counted = shown.1 });
       },
     )

@@ -8,7 +8,7 @@ use Rattle.pbf_frame.specs.declared.part.TheConstants.{MAX_OFFSET}
 use Rattle.osm_value.specs.Sink.{Wrote}
 use Rattle.osm_value.specs.declared.element.Element.{Element}
 use Rattle.osm_store.specs.Audit.{AreCountable, ShowsCounts, counts_of as counts_of_rows}
-use Rattle.osm_store.specs.Held.{HeldMap}
+use Rattle.osm_store.specs.Held.{Blob, HeldMap}
 use Rattle.osm_store.specs.Keeping.{IsForeign, extents_of}
 use Rattle.osm_store.specs.declared.audit.counts.Counts.{Counts as Rows}
 use Rattle.osm_store.specs.declared.fault.StoreFault.{StoreFault}
@@ -24,7 +24,7 @@ use Rattle.osm_import.specs.declared.stream.fault.Stop.{Stop}
 use Rattle.osm_import.specs.declared.stream.fault.Stop.TheVariants.{Frame, NoHeaderFirst, Store}
 use Rattle.osm_import.specs.declared.stream.fault.StreamFault.{StreamFault}
 use Rattle.osm_verify.specs.Agreements.{IsAgreement, begins}
-use Rattle.osm_verify.specs.Audits.{Trees, IsEntryOf, AreEntries, IsShown, ShowsImport}
+use Rattle.osm_verify.specs.Audits.{Trees, IsEntryOf, AreEntries, KeepsImport, ShowsImport}
 use Rattle.osm_verify.specs.declared.comparing.Depth.{Depth}
 use Rattle.osm_verify.specs.declared.comparing.Depth.TheVariants.{Elements}
 use Rattle.osm_verify.specs.declared.comparing.Agreement.{Agreement}
@@ -73,12 +73,13 @@ HasCompared depth held at p = IsCompared depth held at p.bytes p.found
 abbrev pub HasOwnElements : ℕ → Part Compared → Type 0
 HasOwnElements at p = HasElements at p.bytes p.found.verdict p.found.elements
 
--- whatever rows the tables have: by elements a frame is found alike only where the rows at its offset are its blob's
-abbrev pub IsSeen : Layout → Trees → Depth → ℕ → List ℕ → Comparison → List Element → Type 0
-IsSeen layout db depth at w verdict elements = depth ≡ Elements → verdict ≡ Ok Same → IsShown layout db at w elements
+-- whatever rows the tables have: by elements a frame is found alike only where the rows at its offset are its blob's, as is said
+-- of rows at an offset
+abbrev pub IsSeen : (ℕ → Blob → Type 0) → Depth → ℕ → List ℕ → Comparison → List Element → Type 0
+IsSeen has_rows depth at w verdict elements = depth ≡ Elements → verdict ≡ Ok Same → IsEntryOf (has_rows at) at w elements
 
-abbrev pub HasSeen : Layout → Trees → Depth → ℕ → Part Compared → Type 0
-HasSeen layout db depth at p = IsSeen layout db depth at p.bytes p.found.verdict p.found.elements
+abbrev pub HasSeen : (ℕ → Blob → Type 0) → Depth → ℕ → Part Compared → Type 0
+HasSeen has_rows depth at p = IsSeen has_rows depth at p.bytes p.found.verdict p.found.elements
 
 -- ---- its lines
 
@@ -219,22 +220,23 @@ HasCountedRows is_open has_tables layout db depth counts rows Unwritten = Unit {
 
 -- The whole input is these frames, so counted, with these extents behind. Where by elements all was found alike and nothing
 -- more, and SQL can count their rows, the rows at the offset of each are those of its blob, and the tables have no more.
-pub record HasSeenWhole (layout : Layout) (db : Trees) (depth : Depth) (left : Known) (counts : Counts) (blobs : List (Part Compared)) (extras : List Extent) : Type 0 where
+pub record HasSeenWhole (has_rows : ℕ → Blob → Type 0) (layout : Layout) (db : Trees) (depth : Depth) (left : Known) (counts : Counts) (blobs : List (Part Compared)) (extras : List Extent) : Type 0 where
   pub found : AreFound HasOwnElements 0 blobs
   pub behind : Known
   pub read : Consumes left behind (joined blobs)
   pub ended : IsAtEnd behind
   pub counted : counts ≡ counts_of blobs 0
-  pub shown : depth ≡ Elements → agree counts ≡ true → extras ≡ [] → AreCountable (rows_of blobs) → AreFound (HasSeen layout db depth) 0 blobs × ShowsCounts layout db (rows_of blobs)
+  pub shown : depth ≡ Elements → agree counts ≡ true → extras ≡ [] → AreCountable (rows_of blobs) → AreFound (HasSeen has_rows depth) 0 blobs × ShowsCounts layout db (rows_of blobs)
 
-abbrev pub HasSeenInput : Layout → Trees → Depth → Known → Counts → Close → Type 0
-HasSeenInput layout db depth left counts (Whole extras) = (blobs : List (Part Compared)) × HasSeenWhole layout db depth left counts blobs extras.items
-HasSeenInput layout db depth left counts (Early stop) = Unit {0}
-HasSeenInput layout db depth left counts Unwritten = Unit {0}
+abbrev pub HasSeenInput : (ℕ → Blob → Type 0) → Layout → Trees → Depth → Known → Counts → Close → Type 0
+HasSeenInput has_rows layout db depth left counts (Whole extras) = (blobs : List (Part Compared)) × HasSeenWhole has_rows layout db depth left counts blobs extras.items
+HasSeenInput has_rows layout db depth left counts (Early stop) = Unit {0}
+HasSeenInput has_rows layout db depth left counts Unwritten = Unit {0}
 
--- these are the elements of the frames; and where SQL can count their rows, queries see in the tables the rows of what an
--- import of the frames to a new store comes to, and no others
-pub record ShowsFile (layout : Layout) (db : Trees) (frames : List (List ℕ)) : Type 0 where
+-- these are the elements of the frames; and where SQL can count their rows, the tables have the rows of what an import of the
+-- frames to a new store comes to, as is said of rows at an offset, and no others, and queries see these there
+pub record ShowsFile (has_rows : ℕ → Blob → Type 0) (layout : Layout) (db : Trees) (frames : List (List ℕ)) : Type 0 where
   pub blobs : List (List Element)
   pub are : AreEntries (λ off blob. Unit {0}) 0 frames blobs
+  pub kept : AreCountable (counts_of_rows blobs) → KeepsImport has_rows layout db frames
   pub imported : AreCountable (counts_of_rows blobs) → ShowsImport layout db frames

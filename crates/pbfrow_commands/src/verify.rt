@@ -164,10 +164,10 @@ pub fn verify<K: Audited, R: Read, P: Watcher, W: Write>(
     // At 0 the input is a file of good blobs, and the store holds what an import of it comes to.
     ensures exact { (held : HeldMap) → K.holds store.old held → K.is_honest store.new → result ≡ 0
         → IfSome (R.remaining input.old) (λ bytes. (frames : List (List ℕ)) × IsFile bytes frames × IsExact depth held frames) }
-    // At 0 by elements, whatever rows the tables have had: they are such as an import of the input writes, and no others. That
-    // leaves out an input of more rows than SQL can count.
+    // At 0 by elements, whatever rows the tables have had: they are those that an import of the input writes (`has_rows`), and
+    // no others, and queries see these. That leaves out an input of more rows than SQL can count.
     ensures shown { K.is_honest store.new → K.has_tables store.old → depth ≡ Depth.Elements → result ≡ 0
-        → IfSome (R.remaining input.old) (λ bytes. (frames : List (List ℕ)) × IsFile bytes frames × ShowsFile K.layout (K.trees store.old) frames) }
+        → IfSome (R.remaining input.old) (λ bytes. (frames : List (List ℕ)) × IsFile bytes frames × ShowsFile (K.has_rows (K.trees store.old)) K.layout (K.trees store.old) frames) }
     ensures stays { Stays K.Reader store.old store.new }
 {
     let mut counts = Counts::NONE;
@@ -189,7 +189,7 @@ fn compare_blobs<K: Audited, R: Read, P: Watcher, W: Write>(
     ensures told { (held : HeldMap) → K.holds store.old held → K.is_honest store.new
         → (blobs : List (Part Compared)) × ComparesBlobs depth held (R.remaining input.old) (W.contents out.old.writer) (W.contents out.new.writer) out.new.has_failed (K.failures store.old) (K.failures store.new) blobs result
         × (counts.new ≡ counts_of blobs 0) }
-    ensures seen { K.is_honest store.new → K.has_tables store.old → HasSeenInput K.layout (K.trees store.old) depth (R.remaining input.old) counts.new result }
+    ensures seen { K.is_honest store.new → K.has_tables store.old → HasSeenInput (K.has_rows (K.trees store.old)) K.layout (K.trees store.old) depth (R.remaining input.old) counts.new result }
     ensures stays { Stays K.Reader store.old store.new }
 {
     let mut frames = match FrameReader::new(alloc, 0, Inlet::new(input)) {
@@ -297,7 +297,7 @@ fn compare_blob<K: Audited, S: Sink>(
     ensures seen { OnOk result ((p : Part Compared) × (p.bytes ≡ bytes.now) × IsPart p × HasOwnElements at p
         × ((blobs : List (Part Compared)) → counts.old ≡ counts_of blobs 0 → counts.new ≡ counts_of (blobs ++ p ∷ []) 0)
         × CountsMore rows.old p.found.elements rows.new
-        × (K.is_honest store.new → K.is_open store.new → K.has_tables store.old → HasSeen K.layout (K.trees store.old) depth at p)) }
+        × (K.is_honest store.new → K.is_open store.new → K.has_tables store.old → HasSeen (K.has_rows (K.trees store.old)) depth at p)) }
     ensures same { K.is_honest store.new → K.is_open store.new → K.same_tables store.old store.new }
     ensures end { IfOk result (λ end. end ≡ at + length bytes.now) }
     ensures err { OnErr result ((out.new ≡ out.old) × (counts.new ≡ counts.old)) }
@@ -330,7 +330,7 @@ fn inspect<K: Audited>(
     ensures found { IfOk result (λ finding. (elements : List ElementValue) × HasElements at bytes.now finding.verdict elements × CountsMore rows.old elements rows.new
         × ((held : HeldMap) → K.holds store.old held → K.is_honest store.new
         → IsCompared depth held at bytes.now (record { verdict = finding.verdict; extras = finding.extras.items; elements = elements }))
-        × (K.is_honest store.new → K.is_open store.new → K.has_tables store.old → IsSeen K.layout (K.trees store.old) depth at bytes.now finding.verdict elements)) }
+        × (K.is_honest store.new → K.is_open store.new → K.has_tables store.old → IsSeen (K.has_rows (K.trees store.old)) depth at bytes.now finding.verdict elements)) }
     ensures same { K.is_honest store.new → K.is_open store.new → K.same_tables store.old store.new }
     ensures rereads { Rereads K.Reader store.old result store.new }
     ensures own { (held : HeldMap) → K.holds store.old held → K.is_honest store.new → IfErr result (λ fault. ¬ (IsForeign fault)) }
@@ -371,7 +371,7 @@ fn judge<K: Audited>(
     requires { IsFrame bytes.now }
     ensures judged { IfOk result (λ verdict. (elements : List ElementValue) × HasElements at bytes.now verdict elements × CountsMore rows.old elements rows.new
         × ((held : HeldMap) → K.holds store.old held → K.is_honest store.new → IsComparison depth held at bytes.now verdict)
-        × (K.is_honest store.new → K.is_open store.new → K.has_tables store.old → IsSeen K.layout (K.trees store.old) depth at bytes.now verdict elements)) }
+        × (K.is_honest store.new → K.is_open store.new → K.has_tables store.old → IsSeen (K.has_rows (K.trees store.old)) depth at bytes.now verdict elements)) }
     ensures same { K.is_honest store.new → K.is_open store.new → K.same_tables store.old store.new }
     ensures rereads { Rereads K.Reader store.old result store.new }
     ensures own { (held : HeldMap) → K.holds store.old held → K.is_honest store.new → IfErr result (λ fault. ¬ (IsForeign fault)) }

@@ -18,7 +18,7 @@ returns-clause-told g c honest tables =
     let blob : Blob = record { fin = off + length bytes; digest = c.digest-digest.result; kind = c.args.good.now.kind; elements = c.deref-2.result.now } in
     let good : IsGood off bytes c.args.good.now.kind c.deref-2.result.now = subst (λ (es : List Element). IsGood off bytes c.args.good.now.kind es) (sym c.deref-2.ensures.value) c.requires in
     let entry : IsEntry off bytes blob = record { good = good; ends = refl; digested = c.digest-digest.ensures } in
-    IfOk-weaker c.has_blob.result _ _ (λ b told. shown-told (g.K.Audited.has_rows c.args.store.now off) off bytes blob c.args.good.now.elements.items (IsTrue b) entry c.deref-2.ensures.value told) (c.has_blob.ensures.told honest tables)
+    IfOk-weaker c.has_blob.result _ _ (λ b told. shown-told (g.K.Audited.has_rows (g.K.Audited.trees c.args.store.now) off) off bytes blob c.args.good.now.elements.items (IsTrue b) entry c.deref-2.ensures.value told) (c.has_blob.ensures.told honest tables)
 
 pub returns-clause-shown : goal.returns-clause-shown
 returns-clause-shown g c honest tables =
@@ -26,7 +26,7 @@ returns-clause-shown g c honest tables =
     let off = c.args.off in
     let elements = c.args.good.now.elements.items in
     IfOk-weaker c.has_blob.result _ _
-    (λ b told yes. entry-weaker (A.has_rows c.args.store.now off) (ShowsBlob A.layout (A.trees c.args.store.now) off) off c.args.bytes.now elements (λ blob has. g.met.K.Audited.shown c.args.store.now off blob has) (told.0 yes))
+    (λ b told yes. entry-weaker (A.has_rows (A.trees c.args.store.now) off) (ShowsBlob A.layout (A.trees c.args.store.now) off) off c.args.bytes.now elements (λ blob has. g.met.K.Audited.shown (A.trees c.args.store.now) off blob has) (told.0 yes))
     (returns-clause-told g c honest tables)
 
 pub returns-clause-held : goal.returns-clause-held

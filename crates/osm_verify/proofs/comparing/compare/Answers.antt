@@ -3,7 +3,7 @@ use Rattle.std.specs.Prelude.{find}
 use Rattle.sqlite.specs.Tree.{Trees}
 use Rattle.osm_store.specs.declared.keeper.Extent.{Extent}
 use Rattle.osm_verify.specs.Agreements.{IsSame}
-use Rattle.osm_verify.specs.Audits.{IsShown}
+use Rattle.osm_verify.specs.Audits.{IsEntryOf}
 use Rattle.osm_verify.specs.declared.comparing.Depth.{Depth}
 use Rattle.osm_verify.specs.declared.comparing.Depth.TheVariants.{Extents, Elements}
 use Rattle.osm_verify.proofs.HeldThere.{held-at, missing-at, other-extent, same-extent, same-deep, other-deep}
@@ -51,26 +51,26 @@ returns-clause-compared g c = λ held holds honest.
 
 -- ---- whatever rows the tables have
 
-pub returns-in-None-clause-shown : goal.returns-in-None-clause-shown
-returns-in-None-clause-shown g c = λ honest up tables deep same. absurd (cc)
+pub returns-in-None-clause-rows : goal.returns-in-None-clause-rows
+returns-in-None-clause-rows g c = λ honest up tables deep same. absurd (cc)
 
-pub returns-then-not-is_extent_of-clause-shown : goal.returns-then-not-is_extent_of-clause-shown
-returns-then-not-is_extent_of-clause-shown g c = λ honest up tables deep same. absurd (cc)
+pub returns-then-not-is_extent_of-clause-rows : goal.returns-then-not-is_extent_of-clause-rows
+returns-then-not-is_extent_of-clause-rows g c = λ honest up tables deep same. absurd (cc)
 
-pub returns-then-eq-clause-shown : goal.returns-then-eq-clause-shown
-returns-then-eq-clause-shown g c = λ honest up tables deep same.
+pub returns-then-eq-clause-rows : goal.returns-then-eq-clause-rows
+returns-then-eq-clause-rows g c = λ honest up tables deep same.
     let shallow : c.args.depth ≡ Extents = search rules in
     let bad : Extents ≡ Elements = sym shallow ∙ deep in absurd (cc)
 
-pub returns-then-branch-clause-shown : goal.returns-then-branch-clause-shown
-returns-then-branch-clause-shown g c = λ honest up tables deep same.
+pub returns-then-branch-clause-rows : goal.returns-then-branch-clause-rows
+returns-then-branch-clause-rows g c = λ honest up tables deep same.
     let K = g.K.Audited in
     let asked = c.in_ok-has_frame.ensures in
     let first = c.in_ok-touched.ensures.reads.same (asked.rereads.stays.honest honest) (asked.rereads.stays.open_if up) in
-    subst (λ (db : Trees). IsShown K.layout db c.args.off c.args.bytes.now c.args.good.now.elements.items) (g.met.K.Audited.same_trees _ _ first) (asked.shown honest (g.met.K.Audited.same_has_tables _ _ first tables) c.if-branch.true)
+    subst (λ (db : Trees). IsEntryOf (K.has_rows db c.args.off) c.args.off c.args.bytes.now c.args.good.now.elements.items) (g.met.K.Audited.same_trees _ _ first) ((asked.told honest (g.met.K.Audited.same_has_tables _ _ first tables)).0 c.if-branch.true)
 
-pub returns-clause-shown : goal.returns-clause-shown
-returns-clause-shown g c = λ honest up tables deep same. absurd (cc)
+pub returns-clause-rows : goal.returns-clause-rows
+returns-clause-rows g c = λ honest up tables deep same. absurd (cc)
 
 pub returns-then-branch-clause-same : goal.returns-then-branch-clause-same
 returns-then-branch-clause-same g c = λ honest up.

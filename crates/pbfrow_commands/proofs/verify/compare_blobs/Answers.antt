@@ -30,7 +30,7 @@ loop-frames-init g c =
       limit = omega arith;
       going = λ held holds honest. ([], going-none (HasCompared c.args.depth held) compared_lines left (g.W.Write.contents c.args.out.now.writer) c.in-Ok.frames c.args.out.now.has_failed here same, c.requires, refl);
       same = λ honest up. g.met.K.Reader.same_tables_self _;
-      reads = ([], reads-none _ _ _ _ left _ _ _ here same c.requires refl);
+      reads = ([], reads-none _ _ _ left _ _ _ here same c.requires refl);
     }
 
 pub returns-in_default-clause-told : goal.returns-in_default-clause-told
@@ -90,16 +90,16 @@ loop-frames-preserved g c =
           let before = inv.reads in
           let blobs = before.0 in
           let db = A.trees first in
-          let so_far = subst (λ (r : Reading). Reads (K.is_honest c.loop-frames.store × K.is_open c.loop-frames.store × A.has_tables first) A.layout db c.args.depth (g.R.Read.remaining c.args.input.now) r c.loop-frames.counts c.loop-frames.rows blobs)
+          let so_far = subst (λ (r : Reading). Reads (K.is_honest c.loop-frames.store × K.is_open c.loop-frames.store × A.has_tables first) (A.has_rows db) c.args.depth (g.R.Read.remaining c.args.input.now) r c.loop-frames.counts c.loop-frames.rows blobs)
           (sym fine.frames) before.1 in
           let told = ok.seen in
           let p = told.0 in (
             blobs ++ p ∷ [],
-            reads-more _ (K.is_honest c.compare_blob.new.store × K.is_open c.compare_blob.new.store × A.has_tables first) A.layout db c.args.depth _ was now c.in-Ok-Some.at c.in-Ok-Some.bytes.now _ _ _ _ blobs p
+            reads-more _ (K.is_honest c.compare_blob.new.store × K.is_open c.compare_blob.new.store × A.has_tables first) (A.has_rows db) c.args.depth _ was now c.in-Ok-Some.at c.in-Ok-Some.bytes.now _ _ _ _ blobs p
                 (λ trust. (stays.honest trust.0, stays.open_if trust.1, trust.2)) so_far gives told.1 told.2 told.3 told.4 told.5
                 (λ trust.
                 let same = inv.same (stays.honest trust.0) (stays.open_if trust.1) in
-                subst (λ (db : Trees). HasSeen A.layout db c.args.depth c.in-Ok-Some.at p) (g.met.K.Audited.same_trees _ _ same) (told.6 trust.0 trust.1 (g.met.K.Audited.same_has_tables _ _ same trust.2))),
+                subst (λ (db : Trees). HasSeen (A.has_rows db) c.args.depth c.in-Ok-Some.at p) (g.met.K.Audited.same_trees _ _ same) (told.6 trust.0 trust.1 (g.met.K.Audited.same_has_tables _ _ same trust.2))),
           );
     }
 
@@ -182,7 +182,7 @@ returns-in-Err-next-clause-told g c = λ held holds honest.
 pub returns-in-Err-compare_blob-clause-seen : goal.returns-in-Err-compare_blob-clause-seen
 returns-in-Err-compare_blob-clause-seen g c = λ honest tables.
     let A = g.K.Audited in
-    subst (λ (close : Close). HasSeenInput A.layout (A.trees c.args.store.now) c.args.depth (g.R.Read.remaining c.args.input.now) c.compare_blob.new.counts close) (sym c.broken.ensures) tt
+    subst (λ (close : Close). HasSeenInput (A.has_rows (A.trees c.args.store.now)) A.layout (A.trees c.args.store.now) c.args.depth (g.R.Read.remaining c.args.input.now) c.compare_blob.new.counts close) (sym c.broken.ensures) tt
 
 pub returns-in-Ok-None-clause-seen : goal.returns-in-Ok-None-clause-seen
 returns-in-Ok-None-clause-seen g c = λ honest tables.
@@ -195,10 +195,10 @@ returns-in-Ok-None-clause-seen g c = λ honest tables.
     let now = c.next.follows.lender-at-none in
     let first = c.args.store.now in
     let before = inv.reads in
-    let so_far = subst (λ (r : Reading). Reads (K.is_honest c.loop-frames.store × K.is_open c.loop-frames.store × A.has_tables first) A.layout (A.trees first) c.args.depth (g.R.Read.remaining c.args.input.now) r c.loop-frames.counts c.loop-frames.rows before.0)
+    let so_far = subst (λ (r : Reading). Reads (K.is_honest c.loop-frames.store × K.is_open c.loop-frames.store × A.has_tables first) (A.has_rows (A.trees first)) c.args.depth (g.R.Read.remaining c.args.input.now) r c.loop-frames.counts c.loop-frames.rows before.0)
     (sym fine.frames) before.1 in
     let ends : ReadsFrame was now (Ok None) = rw (c.in-Ok-None.is, c.in-Ok-None.field-0-is) at c.next.follows.holds-at-none in
-    seen-whole _ (K.is_open c.close_whole.new.store) (A.has_tables c.loop-frames.store) A.layout (A.trees first) (A.trees c.loop-frames.store) c.args.depth _ was _ _ before.0 c.close_whole.result so_far ends.0
+    seen-whole _ (K.is_open c.close_whole.new.store) (A.has_tables c.loop-frames.store) (A.has_rows (A.trees first)) A.layout (A.trees first) (A.trees c.loop-frames.store) c.args.depth _ was _ _ before.0 c.close_whole.result so_far ends.0
     (λ up. (stays.honest honest, stays.open_if up, tables))
     (λ up.
     let same = inv.same (stays.honest honest) (stays.open_if up) in

@@ -23,7 +23,7 @@ invariant-loop-frames g l =
           → (blobs : List (Part Compared)) × Going (HasCompared l.depth held) compared_lines (g.R.Read.remaining l.fn.input) l.frames (g.W.Write.contents l.fn.out.writer) (g.W.Write.contents l.out.writer) l.out.has_failed blobs
           × (l.counts ≡ counts_of blobs 0) × (l.rows ≡ rows_of blobs);
       same : K.is_honest l.store → K.is_open l.store → K.same_tables l.fn.store l.store;
-      reads : (blobs : List (Part Compared)) × Reads (K.is_honest l.store × K.is_open l.store × A.has_tables l.fn.store) A.layout (A.trees l.fn.store) l.depth (g.R.Read.remaining l.fn.input) l.frames l.counts l.rows blobs;
+      reads : (blobs : List (Part Compared)) × Reads (K.is_honest l.store × K.is_open l.store × A.has_tables l.fn.store) (A.has_rows (A.trees l.fn.store)) l.depth (g.R.Read.remaining l.fn.input) l.frames l.counts l.rows blobs;
     }
 
 -- each frame ends at 2^62 at most

@@ -18,5 +18,5 @@ returns-in-Ok-compare-clause-judged g c =
       entry,
       subst (λ (es : List Element). CountsMore c.args.rows.now es c.add.new.self) c.deref.ensures.value c.add.ensures,
       c.in-Ok-compare.ensures.compared,
-      (λ honest up tables deep same. (let is : c.in-Ok-compare.agreement ≡ Same = cc in c.in-Ok-compare.ensures.shown honest up tables deep is)),
+      (λ honest up tables deep same. (let is : c.in-Ok-compare.agreement ≡ Same = cc in c.in-Ok-compare.ensures.rows honest up tables deep is)),
     )

@@ -17,5 +17,5 @@ pub returns-clause-shown : goal.returns-clause-shown
 returns-clause-shown g c = λ honest tables deep zero.
     let A = g.K.Audited in
     let db = A.trees c.args.store.now in
-    let seen = subst (λ (d : Depth). HasSeenInput A.layout db d (g.R.Read.remaining c.args.input.now) c.compare_blobs-close.new.counts c.compare_blobs-close.result) deep (c.compare_blobs-close.ensures.seen honest tables) in
-    shown-at-zero A.layout db _ c.compare_blobs-close.new.counts c.compare_blobs-close.result _ _ seen (c.finish.ensures.whole zero) c.finish.ensures.status zero
+    let seen = subst (λ (d : Depth). HasSeenInput (A.has_rows db) A.layout db d (g.R.Read.remaining c.args.input.now) c.compare_blobs-close.new.counts c.compare_blobs-close.result) deep (c.compare_blobs-close.ensures.seen honest tables) in
+    shown-at-zero (A.has_rows db) A.layout db (g.met.K.Audited.shown db) _ c.compare_blobs-close.new.counts c.compare_blobs-close.result _ _ seen (c.finish.ensures.whole zero) c.finish.ensures.status zero

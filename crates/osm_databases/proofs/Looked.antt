@@ -1,0 +1,38 @@
+-- What trees are after reads that found each index whole.
+use Rattle.std.proofs.Common.{◌≡◌, ◌∙◌, false, take, [], ◌∷◌, IsTrue, Option, Some, None, sym, ap, subst}
+use Rattle.std.specs.Prelude.{IfSome}
+use Rattle.sqlite_trees.specs.Objects.{catalog_tree}
+use Rattle.sqlite_trees.specs.Tree.{Trees}
+use Rattle.sqlite_trees.specs.View.{View, doubt, IsClean}
+use Rattle.sqlite_trees.proofs.Doubt.{clean_of}
+use Rattle.sqlite_exec.specs.Calls.{OnlyReads}
+use Rattle.osm_store.specs.declared.schema.layout.Layout.TheVariants.{Tables}
+use Rattle.osm_store.specs.Rows.{version_row}
+use Rattle.osm_tree_writes.specs.Appending.{IsStoreAt}
+use Rattle.osm_tree_writes.specs.Putting.{IsIndexedStore}
+use Rattle.osm_trees.specs.Below.{IsChecked}
+use Rattle.osm_openings.specs.Tables.{table_listings}
+use Rattle.osm_databases.specs.Checked.{IsOfVersion}
+
+pub checked_after : (old new : View) → OnlyReads old new → new.is_broken ≡ false → IsIndexedStore new.trees → IsClean new → (IsClean old → IsOfVersion old) → IsStoreAt old.shape
+    → IsChecked new × (take 9 (new.trees catalog_tree) ≡ table_listings)
+checked_after old new reads unbroken indexed clean found shaped =
+    let same = ap (λ (v : View). v.trees) reads in
+    let known = found (ap (λ (v : View). doubt v.is_clean) (sym reads) ∙ clean) in (
+      record {
+        unbroken = unbroken;
+        indexed = record { settled = same ∙ known.settled ∙ sym (ap (λ (v : View). v.committed) reads); indexed = indexed };
+        shaped = subst IsStoreAt (sym (ap (λ (v : View). v.shape) reads)) shaped;
+        version = ap (λ (trees : Trees). trees 0) same ∙ known.version;
+      },
+      ap (λ (trees : Trees). take 9 (trees catalog_tree)) same ∙ known.listed,
+    )
+
+pub found_of_version : {X : Type 0} (view : X → View) (found : Option X) → IfSome found (λ x. IsTrue (view x).is_clean → ((view x).is_broken ≡ false) × ((view x).trees ≡ (view x).committed))
+    → IfSome found (λ x. IsTrue (view x).is_clean → take 9 ((view x).trees catalog_tree) ≡ table_listings) → IfSome found (λ x. IsTrue (view x).is_clean → (view x).trees 0 ≡ version_row Tables ∷ [])
+    → IfSome found (λ x. IsClean (view x) → IsOfVersion (view x))
+found_of_version view None ready listed version = tt
+found_of_version view (Some x) ready listed version = λ clean.
+    let now = clean_of _ clean in
+    let up = ready now in
+    record { unbroken = up.0; settled = up.1; listed = listed now; version = version now }

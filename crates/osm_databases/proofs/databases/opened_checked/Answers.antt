@@ -1,0 +1,12 @@
+use Rattle.std.proofs.Common.{◌≡◌, Option, subst}
+use Rattle.std.specs.Prelude.{IfSome}
+use Rattle.sqlite_trees.specs.View.{IsClean}
+use Rattle.osm_databases.specs.Checked.{IsOfVersion}
+use Rattle.osm_databases.specs.declared.reason.Refusal.{Refusal}
+use Rattle.osm_databases.proofs.Told.{told_of}
+use Rattle.osm_databases.proofs.databases.opened_checked.Goals as goal
+
+pub returns-clause-checked : goal.returns-clause-checked
+returns-clause-checked g c = λ clean.
+    let version = subst (λ (o : Option g.row.D-Trees.Denot). IfSome o (λ trees. IsClean (g.D.Trees.Store.view trees) → IsOfVersion (g.D.Trees.Store.view trees))) c.in-Some.ensures.same c.in_ok-found.ensures in
+    told_of (λ (refusal : Refusal). refusal.fault) _ _ _ _ c.told.ensures c.in_ok-store.was c.checked.ensures.checked clean version c.in-Some.ensures.store

@@ -1,0 +1,14 @@
+-- What is known of the trees of a database each page of which was looked at.
+use Rattle.std.specs.Prelude.{◌≡◌, false, [], ◌∷◌, take}
+use Rattle.sqlite_trees.specs.Objects.{catalog_tree}
+use Rattle.sqlite_trees.specs.View.{View}
+use Rattle.osm_store.specs.declared.schema.layout.Layout.TheVariants.{Tables}
+use Rattle.osm_store.specs.Rows.{version_row}
+use Rattle.osm_openings.specs.Tables.{table_listings}
+
+-- the store can go on, nothing is written, and its first trees are those of a store of this version
+pub record IsOfVersion (v : View) : Type 0 where
+  pub unbroken : v.is_broken ≡ false
+  pub settled : v.trees ≡ v.committed
+  pub listed : take 9 (v.trees catalog_tree) ≡ table_listings
+  pub version : v.trees 0 ≡ version_row Tables ∷ []
