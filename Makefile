@@ -2,10 +2,17 @@
 # make gate-time: what the last run of the gate here took, by crate, and what passes the budget. make e2e: the built program
 # on files. make edits: says which goal refuses each must-fail edit. make refused-growths: public calls with each growth of
 # memory refused in turn. make bench: measures the program, and draws the tables as bars (out/bars-*.svg). make install: the
-# program and its manual page under PREFIX.
-.PHONY: all test gate gate-time quick e2e edits refused-growths bench install clean
+# built program, its manual page, documents and completions under PREFIX; make uninstall takes them back. make dist: packages
+# of the built program, in out/dist.
+.PHONY: all test gate gate-time quick e2e edits refused-growths bench built install uninstall dist clean
 
 PREFIX ?= /usr/local
+bindir ?= $(PREFIX)/bin
+mandir ?= $(PREFIX)/share/man
+docdir ?= $(PREFIX)/share/doc/pbfrow
+bashdir ?= $(PREFIX)/share/bash-completion/completions
+zshdir ?= $(PREFIX)/share/zsh/site-functions
+fishdir ?= $(PREFIX)/share/fish/vendor_completions.d
 SHELL := bash
 
 all:
@@ -36,11 +43,28 @@ bench: all
 	set -o pipefail; bench/run | tee out/bench.md
 	bench/bars.py out/bench.md out
 
-install: all
-	install -d "$(DESTDIR)$(PREFIX)/bin" "$(DESTDIR)$(PREFIX)/share/man/man1"
-	install -m 755 crates/pbfrow/out/pbfrow "$(DESTDIR)$(PREFIX)/bin/pbfrow"
-	docs/manual > crates/pbfrow/out/pbfrow.1
-	install -m 644 crates/pbfrow/out/pbfrow.1 "$(DESTDIR)$(PREFIX)/share/man/man1/pbfrow.1"
+# The proofs take long and run what they build, so they aren't for root: the program has to be there.
+built:
+	@./pbfrow --is-current || { echo "the program isn't built, or a source is newer: run make first, and not as root" >&2; exit 1; }
+
+install: built
+	install -d $(addprefix "$(DESTDIR)",$(bindir) $(mandir)/man1 $(docdir)/examples $(bashdir) $(zshdir) $(fishdir))
+	install -m 755 crates/pbfrow/out/pbfrow "$(DESTDIR)$(bindir)/pbfrow"
+	docs/manual | gzip -9n > "$(DESTDIR)$(mandir)/man1/pbfrow.1.gz"
+	package/completions bash > "$(DESTDIR)$(bashdir)/pbfrow"
+	package/completions zsh > "$(DESTDIR)$(zshdir)/_pbfrow"
+	package/completions fish > "$(DESTDIR)$(fishdir)/pbfrow.fish"
+	install -m 644 LICENSE-MIT LICENSE-APACHE docs/GUIDE.md docs/SCHEMA.md docs/SCALE.md "$(DESTDIR)$(docdir)"
+	package/notices > "$(DESTDIR)$(docdir)/NOTICES"
+	install -m 755 examples/import_part examples/dask_import.py "$(DESTDIR)$(docdir)/examples"
+	install -m 644 examples/parts.mk "$(DESTDIR)$(docdir)/examples"
+
+uninstall:
+	rm -f $(addprefix "$(DESTDIR)",$(bindir)/pbfrow $(mandir)/man1/pbfrow.1.gz $(bashdir)/pbfrow $(zshdir)/_pbfrow $(fishdir)/pbfrow.fish)
+	rm -rf "$(DESTDIR)$(docdir)"
+
+dist: built
+	package/dist
 
 clean:
 	rm -rf out crates/*/out
