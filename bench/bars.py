@@ -46,7 +46,8 @@ def draw(measure, rows, path):
         y = TOP + number * ROW
         ours = name.startswith("pbfrow")
         width = max(1, round(BARS * seconds / longest))
-        picture.text("title" if ours else "text", LEFT, y + 14, name, 12, bold=ours)
+        # where a program's source lies, which stands in brackets, has no room beside the bars
+        picture.text("title" if ours else "text", LEFT, y + 14, name.partition(" (")[0], 12, bold=ours)
         picture.box("in-head" if ours else "card", LEFT + NAMES, y + 2, width, ROW - 9, 2)
         picture.text("dim", LEFT + NAMES + width + 7, y + 14, f"{seconds:.2f}", 12)
     picture.save(path)

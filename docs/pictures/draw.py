@@ -171,7 +171,7 @@ SAYS = {
     "osm_trees": "blobs below SQL",
     "osm_openings": "files opened",
     "osm_databases": "which store it is",
-    "osm_restarts": "laws of a restart",
+    "osm_restarts": "laws of stores in files",
     "pbfrow_files": "files, read or written",
     "osm_import": "imports, gaps, exports",
     "osm_parts": "parts of one file",
@@ -192,11 +192,16 @@ def read_crates():
     lines = [line.split(":") for line in said if line.strip()]
     own = [name for name, _ in lines]
     below = {name: [word for word in words.split() if word in own] for name, words in lines}
-    kit = {name: [word for word in words.split() if word not in own and word not in UNNAMED] for name, words in lines}
-    return below, {name: [word for word in words if not any(word.startswith(other + "_") for other in words)] for name, words in kit.items()}
+    kit = {name: [family(word) for word in words.split() if word not in own and word not in UNNAMED] for name, words in lines}
+    return below, {name: list(dict.fromkeys(words)) for name, words in kit.items()}
 
 
-BOX, TALL, MARGIN, TOP = 196, 50, 20, 76
+def family(library):
+    """The library that one of the kit's is a part of."""
+    return "sqlite" if library.startswith("sqlite_") else library
+
+
+BOX, TALL, MARGIN, TOP = 216, 50, 20, 76
 INCH = 72  # what a length is in that dot takes and gives in inches
 
 
@@ -224,7 +229,7 @@ def draw_crates():
         "; ".join(f"{upper} depends on {lower}" for _, upper, lower, *_ in edges),
     )
     picture.text("dim", MARGIN, 32, "Arrows lead to the crates that a crate builds on; what follows from other arrows is left out.", 13)
-    picture.text("dim", MARGIN, 52, "Dashed boxes hold only tests. + names a library of the kit.", 13)
+    picture.text("dim", MARGIN, 52, "Dashed boxes hold only tests. + names a library of the kit, sqlite with its parts.", 13)
     for _, _, _, count, *points in edges:
         ends = [point(*points[number : number + 2]) for number in range(0, 2 * int(count), 2)]
         picture.arrow("edge", f"M{ends[0]} C{' '.join(ends[1:])}")
