@@ -5,7 +5,7 @@ ghost use Rattle.std.specs.Prelude.{◌≡◌, false, ⊤, take, Some, IfOk, IfS
 ghost use Rattle.sqlite.specs.Held.{IsNew, state};
 ghost use Rattle.sqlite_trees.specs.Objects.{catalog_tree};
 ghost use Rattle.sqlite_trees.specs.View.{IsClean};
-ghost use Rattle.osm_openings.specs.Tables.{table_listings};
+ghost use Rattle.osm_tree_writes.specs.Tables.{table_listings};
 ghost use Rattle.osm_trees.specs.Below.{IsChecked};
 ghost use Rattle.osm_trees.specs.Ways.{MatchOpened, counted};
 ghost use Rattle.osm_tree_writes.specs.Appending.{IsStoreAt};
@@ -94,21 +94,24 @@ pub fn opened<D: Databases>(
     }
 }
 
-/// The trees that were found, if they are those of a store and stand alone, so that they take blobs.
-fn found_taking_blobs<S: Alter + Drop>(found: Option<S>) -> Option<S>
-    ensures same { IfSome result (λ kept. found ≡ Some kept) }
-    ensures store { IfSome result (λ kept. IsStoreAt (S.Store.view kept).shape) }
+/// The trees that were found, if a put can keep all that the database has.
+fn found_taking_blobs<S: Alter + Drop>(
+    rt: &HostRuntime,
+    name: &str,
+    found: Option<S>,
+) -> Result<Option<S>, StoreFault>
+    ensures { IfOk result (λ taking. IfSome taking (λ kept. found ≡ Some kept)) }
 {
     match found {
-        Some(trees) => taking_blobs(trees),
-        None => None,
+        Some(trees) => told(rt, name, taking_blobs(rt.alloc(), trees)),
+        None => Ok(None),
     }
 }
 
 /// The store of a database whose rows are to be compared, whatever these are. A database of this version is read by its
-/// trees: each page and each tree is looked at, and each index has one entry for each row. One with trees of another program
-/// that have to be written with the store's is opened by SQL, which looks at them all, and holds what it looks at in memory.
-/// Nothing is written. Why it can't be opened is told on standard error.
+/// trees: each page and each tree is looked at, and each index of the store has one entry for each row. One of whose tables
+/// somebody has made another index is opened by SQL, which looks at that too, and holds what it looks at in memory. Nothing
+/// is written. Why it can't be opened is told on standard error.
 pub fn opened_checked<D: CheckedDatabases>(
     rt: &HostRuntime,
     databases: &D,
@@ -119,7 +122,7 @@ pub fn opened_checked<D: CheckedDatabases>(
         (λ trees. IsClean (D.Trees.Store.view trees.store) → IsChecked (D.Trees.Store.view trees.store) × (take 9 ((D.Trees.Store.view trees.store).trees catalog_tree) ≡ table_listings)) (λ _. ⊤)) }
 {
     let found = databases.checked_trees(rt, name)?;
-    let Some(trees) = found_taking_blobs(found) else {
+    let Some(trees) = found_taking_blobs(rt, name, found)? else {
         return Ok(Opened::BySql(source_of_rows(rt, databases, name)?));
     };
     let store = told(rt, name, checked(rt.alloc(), trees))?;
@@ -189,8 +192,8 @@ fn filled_by_sql<D: Databases>(
 }
 
 /// The store of a database that is to take blobs, which is made if there is none. A database of this version, and one that is
-/// made, is written by its trees; one with trees of another program is opened by SQL. Why it can't be opened is told on
-/// standard error.
+/// made, is written by its trees; one of whose tables somebody has made another index is opened by SQL. Why it can't be
+/// opened is told on standard error.
 pub fn opened_or_made<D: Databases>(
     rt: &HostRuntime,
     databases: &D,
@@ -198,8 +201,8 @@ pub fn opened_or_made<D: Databases>(
 ) -> Result<OpenedStore<D::Trees>, StoreFault>
     ensures { IfOk result (λ store. counted (λ trees. trees.failures) (λ store. store.failures) store ≡ 0) }
 {
-    let trees = databases.trees(rt, name)?;
-    match trees.and_then(taking_blobs) {
+    let found = databases.trees(rt, name)?;
+    match found_taking_blobs(rt, name, found)? {
         Some(trees) => Ok(Opened::ByTrees(TreeStore::new(trees))),
         None => filled_by_sql(rt, databases, name),
     }

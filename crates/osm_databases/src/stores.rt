@@ -1,10 +1,9 @@
 //! The store that a connection has, one that is made where there is none, and trees that take blobs.
 
-ghost use Rattle.std.specs.Prelude.{◌≡◌, ◌≢◌, false, ⊤, take, IsTrue, IfOk, IfSome};
+ghost use Rattle.std.specs.Prelude.{◌≡◌, ◌≢◌, false, ⊤, take, IfOk, IfSome};
 ghost use Rattle.std.specs.FinMap.{empty};
 ghost use Rattle.sqlite.specs.State.{HasCleanDisk};
 ghost use Rattle.sqlite.specs.Held.{state};
-ghost use Rattle.sqlite_trees.specs.Objects.{catalog_tree};
 ghost use Rattle.sqlite_trees.specs.View.{IsClean};
 ghost use Rattle.osm_store.specs.Held.{HeldMap};
 ghost use Rattle.osm_store.specs.declared.schema.layout.Layout.TheVariants.{Tables};
@@ -12,11 +11,13 @@ ghost use Rattle.osm_store.specs.LayoutHolding.{Holds};
 ghost use Rattle.osm_store.specs.Load.Asking.{JustAsks};
 ghost use Rattle.osm_store.specs.Schema.Bodies.{no_schema};
 ghost use Rattle.sqlite_exec.specs.Calls.{OnlyReads};
-ghost use Rattle.osm_tree_writes.specs.Appending.{IsStoreAt, HasNoMoreIndexes, HasNoMoreTrees};
+ghost use Rattle.sqlite_trees.specs.Objects.{catalog_tree};
+ghost use Rattle.osm_tree_writes.specs.Appending.{IsStoreAt};
+ghost use Rattle.osm_tree_writes.specs.Beside.{HasNoAddedIndex};
 ghost use Rattle.osm_tree_writes.specs.Putting.{IsIndexedStore};
 ghost use Rattle.osm_trees.specs.Below.{HoldsBelow, IsChecked};
 ghost use Rattle.osm_trees.specs.Ways.{MatchOpened, counted};
-ghost use Rattle.osm_openings.specs.Tables.{table_listings};
+ghost use Rattle.osm_tree_writes.specs.Tables.{table_listings};
 ghost use Rattle.osm_databases.specs.Checked.{IsOfVersion};
 
 use crate::reason::{Reason, Refusal};
@@ -87,18 +88,20 @@ pub fn adopted_or_made<S: Alter + Drop>(
     Ok(Opened::ByTrees(made(connection)?))
 }
 
-/// The trees, if a put can keep all that the database has: they are the tables of a store and their indexes, and nothing
-/// beside them. Where there is more they are dropped: an index of one's own on a table of the store has to be written too,
-/// which SQL does.
-pub fn taking_blobs<S: Store + Drop>(trees: S) -> Option<S>
-    ensures same { IfSome result (λ kept. kept ≡ trees) }
-    ensures store { IfSome result (λ kept. IsStoreAt (S.Store.view kept).shape × HasNoMoreIndexes (S.Store.view kept).shape) }
-    ensures whole { IsStoreAt (S.Store.view trees).shape → HasNoMoreTrees (S.Store.view trees).shape → result ≡ Some trees }
+/// The trees, if a put can keep all that the database has: nobody has added an index to a table of the store, which would
+/// have to be written too. Where there is one they are dropped, and SQL writes it. Views, and tables of other names with
+/// their indexes, are left as they are. A fault is `Memory`.
+pub fn taking_blobs<S: Alter + Drop>(alloc: Global, trees: S) -> Result<Option<S>, Refusal>
+    ensures same { IfOk result (λ found. IfSome found (λ kept. kept ≡ trees)) }
+    ensures store { IfOk result (λ found. IfSome found (λ kept. IsStoreAt (S.Store.view kept).shape)) }
+    ensures indexed { IfOk result (λ found. IfSome found (λ kept. IsClean (S.Store.view kept) → HasNoAddedIndex ((S.Store.view kept).trees catalog_tree))) }
+    ensures whole { IfOk result (λ found. IsStoreAt (S.Store.view trees).shape → IsClean (S.Store.view trees) → HasNoAddedIndex ((S.Store.view trees).trees catalog_tree) → found ≡ Some trees) }
 {
-    if takes_blobs(&trees) {
-        Some(trees)
+    let takes_blobs = takes_blobs(alloc, &trees)?;
+    if takes_blobs {
+        Ok(Some(trees))
     } else {
-        None
+        Ok(None)
     }
 }
 

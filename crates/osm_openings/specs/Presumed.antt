@@ -23,7 +23,7 @@ use Rattle.sqlite_store.specs.Listing.{listed_from, file_trees}
 use Rattle.sqlite_store.specs.Roots.{has_index_root}
 use Rattle.sqlite_store.specs.Unopened.{state_of, image, wanted_by}
 use Rattle.osm_openings.specs.Catalog.{unrooted, entry, listings, ListsFirst}
-use Rattle.osm_openings.specs.Tables.{table_listings}
+use Rattle.osm_tree_writes.specs.Tables.{table_listings}
 
 -- the shape in which a tree of another program is read
 abbrev pub foreign_shape : Row → Bool → Shape

@@ -22,7 +22,7 @@ use Rattle.sqlite_store.specs.Catalog.{fits_shape, wanted_of}
 use Rattle.sqlite_store.specs.Listing.{listed_from}
 use Rattle.osm_store.specs.Schema.Tables.{element, tag, link, element_key, tag_key, link_key, element_by_id, table_schema}
 use Rattle.osm_openings.specs.Catalog.{listings}
-use Rattle.osm_openings.specs.Tables.{table_listings}
+use Rattle.osm_tree_writes.specs.Tables.{table_listings}
 use Rattle.osm_restarts.proofs.PlaceLemmas.{all_at}
 use Rattle.osm_restarts.proofs.ListedLemmas.{listed_at}
 use Rattle.osm_restarts.proofs.SchemaLemmas.{Knows, HasPages, HasOnly}

@@ -23,7 +23,7 @@ use Rattle.sqlite_store.specs.Listing.{listed_from, file_trees}
 use Rattle.sqlite_store.specs.Roots.{has_index_root}
 use Rattle.osm_store.specs.Schema.Tables.{table_schema}
 use Rattle.osm_openings.specs.Catalog.{listings}
-use Rattle.osm_openings.specs.Tables.{table_listings}
+use Rattle.osm_tree_writes.specs.Tables.{table_listings}
 use Rattle.osm_openings.specs.Presumed.{AreSound, NamesSize, ArePresumedTables}
 use Rattle.osm_restarts.specs.Left.{ListsAStore}
 use Rattle.osm_restarts.proofs.FoundLemmas.{file_found}

@@ -1,6 +1,6 @@
 //! That a history of deliveries goes on over what a crash left.
 
-ghost use Rattle.std.specs.Prelude.{◌≡◌, ℕ, false, List, [], ◌∷◌, ◌++◌};
+ghost use Rattle.std.specs.Prelude.{◌≡◌, ℕ, false, List, [], ◌∷◌, ◌++◌, take};
 ghost use Rattle.std.specs.FinMap.{empty};
 ghost use Rattle.sqlite_trees.specs.Objects.{catalog_tree};
 ghost use Rattle.sqlite_trees.specs.View.{IsClean};
@@ -10,7 +10,7 @@ ghost use Rattle.osm_store.specs.declared.schema.layout.Layout.TheVariants.{Tabl
 ghost use Rattle.osm_store.specs.Held.{HeldMap};
 ghost use Rattle.osm_trees.specs.Below.{HoldsBelow, LeavesAMap, MayLeave};
 ghost use Rattle.osm_openings.specs.Presumed.{ReadsAs};
-ghost use Rattle.osm_openings.specs.Tables.{table_listings};
+ghost use Rattle.osm_tree_writes.specs.Tables.{table_listings};
 ghost use Rattle.osm_import.specs.declared.answer.Answer.{Answer};
 ghost use Rattle.osm_import.specs.Deliveries.{DeliveryValue};
 ghost use Rattle.osm_import.specs.Files.{AreFrames, IsFrameAt};
@@ -34,7 +34,7 @@ pub fn a_restart_goes_on<D: Disk, E: Disk>(before: &FileStore<D>, after: &FileSt
         → LeavesEvents (MayLeave (recovers before.now)) held delivery answer
         → (view before.now).has_sums ≡ false → LeavesAMap (recovers before.now) → (image : Image) → (state before.now).may_leave image
         → IsClean (view after.now) → (view after.now).is_broken ≡ false → (view after.now).trees ≡ (view after.now).committed
-        → ReadsAs image (view after.now).trees → (view after.now).trees catalog_tree ≡ table_listings
+        → ReadsAs image (view after.now).trees → take 9 ((view after.now).trees catalog_tree) ≡ table_listings
         → (left : HeldMap) × HoldsBelow Tables (view after.now) left × IsRestartable frames (events ++ broken delivery ∷ []) left }
 {
     a_restart_holds_what_was_left(before, after);
@@ -56,7 +56,7 @@ pub fn deliver_before_a_restart<D: Disk, E: Disk>(
         → HoldsBelow Tables (view keeper.store) held → IsClean (view result) → (view result).has_sums ≡ false
         → (image : Image) → (state result).may_leave image
         → IsClean (view after.now) → (view after.now).is_broken ≡ false → (view after.now).trees ≡ (view after.now).committed
-        → ReadsAs image (view after.now).trees → (view after.now).trees catalog_tree ≡ table_listings
+        → ReadsAs image (view after.now).trees → take 9 ((view after.now).trees catalog_tree) ≡ table_listings
         → (left : HeldMap) × HoldsBelow Tables (view after.now) left × IsRestartable frames (events ++ broken (record { off = off; bytes = bytes.now }) ∷ []) left }
 {
     let _answer = deliver(alloc, &mut keeper, off, bytes);

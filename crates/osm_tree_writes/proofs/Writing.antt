@@ -7,7 +7,6 @@ use Rattle.std.proofs.lemmas.List.Concat.{flat_map-append}
 use Rattle.std.proofs.lemmas.List.Sorted.{IsPermutation-refl}
 use Rattle.sqlite_value.specs.Order.{Row}
 use Rattle.sqlite_trees.specs.Tree.{Trees, put_row, with_tree}
-use Rattle.sqlite_trees.specs.Objects.{catalog_tree}
 use Rattle.sqlite_trees.specs.View.{View, IsShaped, IsOrdered, SetsTree}
 use Rattle.sqlite_trees.specs.declared.store.Shape.{Shape}
 use Rattle.sqlite_exec.specs.Calls.{OnlyReads}
@@ -68,7 +67,7 @@ module _ (v0 v1 v2 v3 : View) (ps : List Placed) (e : Appends ELEMENTS (element_
   pub appended : WritesElements v0 v3 ps
   appended = record {
     sound = e.sound;
-    catalog = all_three catalog_tree (omega arith) (omega arith) (omega arith) (omega arith) (omega arith) (omega arith) (omega arith);
+    others = λ t behind. all_three t (λ e. omega arith) (λ e. omega arith) (λ e. omega arith) (λ e. omega arith) (λ e. omega arith) (λ e. omega arith) (λ e. omega arith);
     meta = all_three 0 (omega arith) (omega arith) (omega arith) (omega arith) (omega arith) (omega arith) (omega arith);
     blob = all_three 1 (omega arith) (omega arith) (omega arith) (omega arith) (omega arith) (omega arith) (omega arith);
     elements = (
@@ -97,7 +96,7 @@ module _ (v0 v1 v2 v3 : View) (ps : List Placed) (e : Appends ELEMENTS (element_
 pub written_more : (a b c : View) (ps qs : List Placed) → WritesElements a b ps → WritesElements b c qs → WritesElements a c (ps ++ qs)
 written_more a b c ps qs one two = record {
   sound = one.sound;
-  catalog = two.catalog ∙ one.catalog;
+  others = λ t behind. two.others t behind ∙ one.others t behind;
   meta = two.meta ∙ one.meta;
   blob = two.blob ∙ one.blob;
   elements = (
@@ -149,7 +148,7 @@ module _ (v0 v1 v2 : View) (extent : Extent) (ps : List Placed) (sets : SetsTree
   written at ordered = record {
     sound = sets.sound;
     puts = record {
-      catalog = w.catalog ∙ set_other catalog_tree (omega arith);
+      others = λ t behind. w.others t behind ∙ set_other t (λ e. omega arith);
       meta = w.meta ∙ set_other 0 (omega arith);
       blob = w.blob ∙ set_here;
       elements = (

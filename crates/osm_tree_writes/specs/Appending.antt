@@ -1,13 +1,13 @@
 -- What rows that are put behind the last one of a table make of its tree and of its indexes.
-use Rattle.std.specs.Prelude.{◌≡◌, ◌≢◌, ◌<◌, ◌≤◌, ◌^◌, ℕ, zero, suc, ◌+◌, ℤ, false, List, [], ◌∷◌, ◌++◌, map, drop, Option, Some, None}
+use Rattle.std.specs.Prelude.{◌≡◌, ◌≢◌, ℕ, zero, suc, ◌+◌, ℤ, false, List, [], ◌∷◌, ◌++◌, map, drop, Option, Some, None}
 use Rattle.std.specs.List.{AllByRecursion}
 use Rattle.std.specs.declared.cmp.Ordering.TheVariants.{Less}
 use Rattle.sqlite_value.specs.declared.value.Value.TheVariants.{Int}
 use Rattle.sqlite_value.specs.Order.{Row, value_cmp}
 use Rattle.sqlite_value.specs.Keys.{plain}
 use Rattle.sqlite_trees.specs.declared.store.Shape.{Shape}
-use Rattle.sqlite_trees.specs.declared.store.Shape.TheVariants.{Absent, Table, Index}
-use Rattle.sqlite_trees.specs.Tree.{rowid, IsIndexShape}
+use Rattle.sqlite_trees.specs.declared.store.Shape.TheVariants.{Table, Index}
+use Rattle.sqlite_trees.specs.Tree.{rowid}
 use Rattle.sqlite_trees.specs.View.{View}
 use Rattle.sqlite_sql.specs.Catalog.{IsIndexOf}
 use Rattle.osm_tree_writes.specs.declared.layout.IndexTree.{IndexTree}
@@ -40,14 +40,6 @@ IsTableAt shapes t = (shapes t.tree ≡ Table) × AllByRecursion (IsIndexAt shap
 -- the trees have the tables of a store, and their indexes
 abbrev pub IsStoreAt : (ℕ → Shape) → Type 0
 IsStoreAt shapes = (shapes 1 ≡ Table) × IsTableAt shapes ELEMENTS × IsTableAt shapes TAGS × IsTableAt shapes LINKS
-
--- no index stands behind the trees of a store
-abbrev pub HasNoMoreIndexes : (ℕ → Shape) → Type 0
-HasNoMoreIndexes shapes = (t : ℕ) → 9 ≤ t → t < 2 ^ 32 → ¬ IsIndexShape (shapes t)
-
--- no tree stands behind those of a store
-abbrev pub HasNoMoreTrees : (ℕ → Shape) → Type 0
-HasNoMoreTrees shapes = (t : ℕ) → 9 ≤ t → shapes t ≡ Absent
 
 -- the table and each index have a tree of their own
 abbrev pub IsApart : TableTree → Type 0

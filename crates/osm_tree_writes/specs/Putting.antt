@@ -1,5 +1,5 @@
 -- What a put makes of the trees, whatever these held before.
-use Rattle.std.specs.Prelude.{◌≡◌, false, List}
+use Rattle.std.specs.Prelude.{◌≡◌, ◌≤◌, ℕ, false, List, [], ◌∷◌, map}
 use Rattle.std.specs.List.{AllByRecursion}
 use Rattle.sqlite_trees.specs.declared.store.Shape.TheVariants.{Table}
 use Rattle.sqlite_trees.specs.Tree.{Trees, put_row}
@@ -7,11 +7,18 @@ use Rattle.sqlite_trees.specs.Objects.{catalog_tree}
 use Rattle.sqlite_trees.specs.View.{View, IsShaped}
 use Rattle.sqlite_sql.specs.Catalog.{IsIndexOf}
 use Rattle.sqlite_schema.specs.declared.schema.Index.{Index}
+use Rattle.sqlite_schema.specs.Rules.{Obeys}
 use Rattle.osm_store.specs.declared.keeper.Extent.{Extent}
+use Rattle.osm_store.specs.declared.schema.layout.Layout.{Layout}
 use Rattle.osm_store.specs.declared.schema.layout.Layout.TheVariants.{Tables}
+use Rattle.osm_store.specs.Schema.Layouts.{schema_of}
 use Rattle.osm_store.specs.Schema.Tables.{table_schema}
-use Rattle.osm_store.specs.Rows.{Placed, extent_row}
+use Rattle.osm_store.specs.Held.{HeldMap}
+use Rattle.osm_store.specs.Keeping.{extents_of}
+use Rattle.osm_store.specs.LayoutHolding.{HoldElements}
+use Rattle.osm_store.specs.Rows.{Placed, extent_row, placed_in, version_row}
 use Rattle.osm_store.specs.Put.Steps.{GainsElements}
+use Rattle.osm_tree_writes.specs.Beside.{HasAStore}
 
 -- each index of a store has one entry for each row of its table
 abbrev pub IsIndexedStore : Trees → Type 0
@@ -21,9 +28,22 @@ IsIndexedStore db = AllByRecursion (λ (i : Index). IsIndexOf i.columns (db i.ta
 abbrev pub AreTables : Trees → Type 0
 AreTables db = IsShaped Table (db 2) × IsShaped Table (db 4) × IsShaped Table (db 6)
 
+-- The trees of a store have exactly the rows that the map stands for, and obey its schema, whatever else is listed behind
+-- them, and whatever that holds.
+pub record TreesHold (layout : Layout) (held : HeldMap) (db : Trees) : Type 0 where
+  pub lists : HasAStore layout (db catalog_tree)
+  pub obeys : Obeys (schema_of layout) db
+  pub meta : db 0 ≡ version_row layout ∷ []
+  pub blob : db 1 ≡ map extent_row (extents_of held)
+  pub elements : HoldElements layout (placed_in held) db
+
+-- no tree behind those of a store has changed, nor the list of all
+abbrev pub KeepsOthers : Trees → Trees → Type 0
+KeepsOthers old new = (t : ℕ) → 9 ≤ t → new t ≡ old t
+
 -- the trees have the rows of one blob more, and the indexes, if they had an entry for each row, have one for each still
 pub record PutsBelow (old new : Trees) (extent : Extent) (added : List Placed) : Type 0 where
-  pub catalog : new catalog_tree ≡ old catalog_tree
+  pub others : KeepsOthers old new
   pub meta : new 0 ≡ old 0
   pub blob : new 1 ≡ put_row (extent_row extent) (old 1)
   pub elements : GainsElements Tables added old new
@@ -33,7 +53,7 @@ pub record PutsBelow (old new : Trees) (extent : Extent) (added : List Placed) :
 -- the rows of these elements are written, and nothing is committed
 pub record WritesElements (old new : View) (added : List Placed) : Type 0 where
   pub sound : old.is_broken ≡ false
-  pub catalog : new.trees catalog_tree ≡ old.trees catalog_tree
+  pub others : KeepsOthers old.trees new.trees
   pub meta : new.trees 0 ≡ old.trees 0
   pub blob : new.trees 1 ≡ old.trees 1
   pub elements : GainsElements Tables added old.trees new.trees

@@ -26,9 +26,6 @@ pub(crate) struct TableTree {
     pub(crate) by_id: Option<IndexTree>,
 }
 
-/// How many trees a store has: five tables and four indexes.
-pub(crate) const TREES: u64 = 9;
-
 /// The tree of the table of blobs.
 pub(crate) const BLOBS: u32 = 1;
 

@@ -2,6 +2,7 @@
 #![tactic(auto)]
 
 mod append;
+mod beside;
 mod fault;
 mod free;
 pub mod laws;
@@ -9,5 +10,6 @@ mod layout;
 mod put;
 mod rowid;
 
+pub use beside::is_of_a_store;
 pub use fault::fault_of;
 pub use put::{put_blob, takes_blobs};

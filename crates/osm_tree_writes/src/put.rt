@@ -1,25 +1,28 @@
 //! A blob's rows, put into the trees in one transaction.
 
-ghost use Rattle.std.specs.Prelude.{◌≡◌, ◌⊎◌, ◌+◌, ◌<◌, ◌≤◌, ◌^◌, ℕ, false, length, IsTrue, OnOk, OnErr, IfOk, IfErr};
+ghost use Rattle.std.specs.Prelude.{◌≡◌, ◌↔◌, ◌⊎◌, ◌+◌, ◌<◌, ◌≤◌, ◌^◌, ℕ, false, length, IsTrue, OnOk, OnErr, IfOk, IfErr};
 ghost use Rattle.std.specs.List.{AllByRecursion};
 ghost use Rattle.sqlite_trees.specs.declared.store.Shape.TheVariants.{Table};
+ghost use Rattle.sqlite_trees.specs.Objects.{catalog_tree};
 ghost use Rattle.sqlite_trees.specs.Tree.{Trees, put_row};
 ghost use Rattle.sqlite_trees.specs.View.{doubt, IsClean, IsQuiet, KeepsSchema, KeepsCommitted, SetsTree};
 ghost use Rattle.osm_value.specs.Elements.{IsElement};
 ghost use Rattle.osm_store.specs.Keeping.{IsForeign};
 ghost use Rattle.osm_store.specs.Rows.{placed, extent_row};
-ghost use Rattle.osm_tree_writes.specs.Appending.{HasNoMoreIndexes, HasNoMoreTrees, IsStoreAt};
+ghost use Rattle.osm_tree_writes.specs.Appending.{IsStoreAt};
+ghost use Rattle.osm_tree_writes.specs.Beside.{HasNoAddedIndex};
 ghost use Rattle.osm_tree_writes.specs.Putting.{PutsBelow, Writes, WritesElements};
 
 use crate::append::{append_rows, put_table_row};
+use crate::beside::has_added_index;
 use crate::fault::fault_of;
 use crate::free::are_places_free;
-use crate::layout::{BLOBS, ELEMENTS, LINKS, TAGS, TREES, has_table};
+use crate::layout::{BLOBS, ELEMENTS, LINKS, TAGS, has_table};
 use osm_store::{Extent, StoreFault, blob_code, element_rows, link_rows, tag_rows};
 use osm_value::Element;
 use osm_value::laws::elements_in_range;
 use pbf_frame::MAX_OFFSET;
-use sqlite_trees::store::{Shape, Store};
+use sqlite_trees::store::{Alter, Shape, Store};
 use sqlite_value::row::Row;
 use sqlite_value::value::ValueRef;
 use std::alloc::{AllocError, Global};
@@ -27,18 +30,26 @@ use std::alloc::{AllocError, Global};
 /// Of how many elements the rows are made at once.
 const AT_ONCE: usize = 64;
 
-/// Whether a put can write to these trees: they have the tables of a store and their indexes, and nothing beside them. An
-/// index of somebody's own would lack the entries of the rows that a put writes.
-pub fn takes_blobs<S: Store>(store: &S) -> bool
-    ensures store { IsTrue result → IsStoreAt (S.Store.view store.now).shape }
-    ensures alone { IsTrue result → HasNoMoreIndexes (S.Store.view store.now).shape }
-    ensures whole { IsStoreAt (S.Store.view store.now).shape → HasNoMoreTrees (S.Store.view store.now).shape → IsTrue result }
+/// Whether the trees have the tables of a store and their indexes.
+fn has_tables<S: Store>(store: &S) -> bool
+    ensures { IsTrue result ↔ IsStoreAt (S.Store.view store.now).shape }
 {
-    store.tree_count() == TREES
-        && store.shape(BLOBS) == Shape::Table
+    store.shape(BLOBS) == Shape::Table
         && has_table(store, &ELEMENTS)
         && has_table(store, &TAGS)
         && has_table(store, &LINKS)
+}
+
+/// Whether a put can write to these trees: they have the tables of a store and their indexes, and no other index of these
+/// tables, which would lack the entries of the rows that a put writes. Views, and tables of other names with their indexes,
+/// may stand beside them.
+pub fn takes_blobs<S: Alter>(alloc: Global, store: &S) -> Result<bool, AllocError>
+    ensures store { IfOk result (λ takes. IsTrue takes → IsStoreAt (S.Store.view store.now).shape) }
+    ensures indexed { IfOk result (λ takes. IsTrue takes → IsClean (S.Store.view store.now) → HasNoAddedIndex ((S.Store.view store.now).trees catalog_tree)) }
+    ensures whole { IfOk result (λ takes. IsStoreAt (S.Store.view store.now).shape → IsClean (S.Store.view store.now) → HasNoAddedIndex ((S.Store.view store.now).trees catalog_tree) → IsTrue takes) }
+{
+    let has_added_index = has_added_index(alloc, store)?;
+    Ok(has_tables(store) && !has_added_index)
 }
 
 /// The row of the table of blobs.
@@ -124,7 +135,7 @@ fn append_elements<S: Store>(
 }
 
 /// Writes the rows of a blob, and commits nothing.
-fn write_rows<S: Store>(
+fn write_rows<S: Alter>(
     alloc: Global,
     store: &mut S,
     extent: &Extent,
@@ -133,13 +144,14 @@ fn write_rows<S: Store>(
     requires bounds { (extent.now.off ≤ MAX_OFFSET) × (extent.now.fin ≤ MAX_OFFSET) × (extent.now.n < 2 ^ 63) }
     ensures written { OnOk result (IsClean (S.Store.view store.new) → Writes (S.Store.view store.old) (S.Store.view store.new) extent.now (placed extent.now.off 0 elements.now)) }
     ensures can_store { OnOk result (AllByRecursion IsElement elements.now) }
-    ensures alone { OnOk result (HasNoMoreIndexes (S.Store.view store.old).shape) }
+    ensures indexed { OnOk result (IsClean (S.Store.view store.old) → HasNoAddedIndex ((S.Store.view store.old).trees catalog_tree)) }
     ensures kept { IsClean (S.Store.view store.new) → OnErr result (KeepsCommitted (S.Store.view store.old) (S.Store.view store.new)) }
     ensures ours { IfErr result (λ fault. ¬ (IsForeign fault)) }
     ensures quiet { IsQuiet S.Store.view S.Store.faults S.Store.recovers S.Store.is_shielded store.old store.new }
 {
     elements_in_range(elements);
-    if !takes_blobs(store) {
+    let takes_blobs = takes_blobs(alloc, store)?;
+    if !takes_blobs {
         return Err(StoreFault::Disk);
     }
     let are_free = are_places_free(alloc, store, extent.off)?;
@@ -150,11 +162,11 @@ fn write_rows<S: Store>(
     append_elements(alloc, store, extent.off, elements)
 }
 
-/// One transaction adds the rows of a blob and of its elements, or nothing. A fault is `Memory`, `Full` where there is no
-/// room, and else `Disk`, as where the trees take no blobs (`takes_blobs`) or have
-/// rows at the blob's offset that are those of no blob; what was committed before stays. Trees that have
-/// to be opened again take nothing.
-pub fn put_blob<S: Store>(
+/// One transaction adds the rows of a blob and of its elements, or nothing. No tree behind those of a store is touched. A
+/// fault is `Memory`, `Full` where there is no room, and else `Disk`, as where the trees take no blobs (`takes_blobs`) or
+/// have rows at the blob's offset that are those of no blob; what was committed before stays. Trees that have to be opened
+/// again take nothing.
+pub fn put_blob<S: Alter>(
     alloc: Global,
     store: &mut S,
     extent: &Extent,
@@ -163,7 +175,7 @@ pub fn put_blob<S: Store>(
     requires bounds { (extent.now.off ≤ MAX_OFFSET) × (extent.now.fin ≤ MAX_OFFSET) × (extent.now.n < 2 ^ 63) }
     ensures added { IsClean (S.Store.view store.new) → OnOk result (PutsBelow (S.Store.view store.old).trees (S.Store.view store.new).trees extent.now (placed extent.now.off 0 elements.now)) }
     ensures can_store { OnOk result (AllByRecursion IsElement elements.now) }
-    ensures alone { OnOk result (HasNoMoreIndexes (S.Store.view store.old).shape) }
+    ensures indexed { OnOk result (IsClean (S.Store.view store.old) → HasNoAddedIndex ((S.Store.view store.old).trees catalog_tree)) }
     ensures committed { IsClean (S.Store.view store.new) → OnOk result (((S.Store.view store.old).is_broken ≡ false) × ((S.Store.view store.new).is_broken ≡ false) × ((S.Store.view store.new).committed ≡ (S.Store.view store.new).trees)) }
     ensures unchanged { IsClean (S.Store.view store.new) → (S.Store.view store.new).is_broken ≡ false
         → OnErr result (((S.Store.view store.old).is_broken ≡ false) × ((S.Store.view store.new).trees ≡ (S.Store.view store.old).committed) × ((S.Store.view store.new).committed ≡ (S.Store.view store.old).committed)) }

@@ -11,12 +11,11 @@ use Rattle.osm_store.specs.declared.fault.StoreFault.{StoreFault}
 use Rattle.osm_store.specs.declared.schema.layout.Layout.TheVariants.{Tables}
 use Rattle.osm_store.specs.Held.{Blob, HeldMap}
 use Rattle.osm_store.specs.Keeping.{Adds, IsAddable, IsForeign, extent_of, failures_after, with_blob}
-use Rattle.osm_store.specs.LayoutHolding.{IsBlob, IsKept, TablesHold}
+use Rattle.osm_store.specs.LayoutHolding.{IsBlob, IsKept}
 use Rattle.osm_store.specs.Rows.{placed}
-use Rattle.osm_store.proofs.MapLemmas.OneMap.{one_map}
 use Rattle.osm_store.proofs.MapLemmas.OneMore.{kept_more}
-use Rattle.osm_tree_writes.specs.Putting.{PutsBelow}
-use Rattle.osm_tree_writes.proofs.Obeying.{hold_with}
+use Rattle.osm_tree_writes.specs.Putting.{PutsBelow, TreesHold}
+use Rattle.osm_tree_writes.proofs.Obeying.{hold_with, one_map_below}
 use Rattle.osm_trees.specs.Below.{HoldsBelow, IsUsable, MayLeave, LeavesAMap, SameTrees}
 use Rattle.osm_trees.specs.Reading.{Reading, leaves_held}
 
@@ -52,7 +51,7 @@ module _ {S : Type 0} (g : Ghosts S) (old new : Reading S) (off : ℕ) (blob : B
     kept : AllByRecursion IsElement blob.elements → IsKept Tables (with_blob held off blob)
     kept stored = kept_more held off blob Tables holds.kept can.free order limit (blob_is stored)
 
-    tables : AllByRecursion IsElement blob.elements → (db : Trees) → Puts off blob (g.view old.store).trees db → TablesHold Tables (with_blob held off blob) db
+    tables : AllByRecursion IsElement blob.elements → (db : Trees) → Puts off blob (g.view old.store).trees db → TreesHold Tables (with_blob held off blob) db
     tables stored db puts = hold_with held off blob holds.kept can order limit (blob_is stored) (g.view old.store).trees db holds.tables puts
 
     holds_more : IsClean (g.view new.store) → AllByRecursion IsElement blob.elements → Puts off blob (g.view old.store).trees (g.view new.store).trees → (g.view new.store).is_broken ≡ false
@@ -63,13 +62,13 @@ module _ {S : Type 0} (g : Ghosts S) (old new : Reading S) (off : ℕ) (blob : B
       settled = sym committed;
       kept = kept stored;
       tables = tables stored (g.view new.store).trees puts;
-      only = λ other kept_too tables_too. one_map Tables other (with_blob held off blob) (g.view new.store).trees kept_too (kept stored) tables_too (tables stored (g.view new.store).trees puts);
+      only = λ other kept_too tables_too. one_map_below Tables other (with_blob held off blob) (g.view new.store).trees kept_too (kept stored) tables_too (tables stored (g.view new.store).trees puts);
     }
 
     leaves_more : {r : Result (Unit {0}) StoreFault} → Written r → IsClean (g.view new.store) → (left : HeldMap) → MayLeave (g.recovers new.store) left → MayLeave (g.recovers old.store) left ⊎ (left ≡ with_blob held off blob)
     leaves_more w clean left may = elim (w.crash clean may.trees may.left) [
       | inl before ↦ inl (record { kept = may.kept; trees = may.trees; left = before; tables = may.tables })
-      | inr put ↦ inr (one_map Tables left (with_blob held off blob) may.trees may.kept (kept put.1) may.tables (tables put.1 may.trees put.2))
+      | inr put ↦ inr (one_map_below Tables left (with_blob held off blob) may.trees may.kept (kept put.1) may.tables (tables put.1 may.trees put.2))
     ]
 
     leaves_a_map : {r : Result (Unit {0}) StoreFault} → Written r → IsClean (g.view new.store) → LeavesAMap (g.recovers new.store)
@@ -88,8 +87,8 @@ module _ {S : Type 0} (g : Ghosts S) (old new : Reading S) (off : ℕ) (blob : B
         unbroken = unbroken;
         settled = trees ∙ sym committed;
         kept = holds.kept;
-        tables = subst (TablesHold Tables held) (sym same) holds.tables;
-        only = λ other kept tables. holds.only other kept (subst (TablesHold Tables other) same tables);
+        tables = subst (TreesHold Tables held) (sym same) holds.tables;
+        only = λ other kept tables. holds.only other kept (subst (TreesHold Tables other) same tables);
       }
 
   -- what is left after a put into a store that can't go on was left before

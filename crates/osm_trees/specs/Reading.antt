@@ -9,8 +9,8 @@ use Rattle.osm_store.specs.declared.fault.StoreFault.{StoreFault}
 use Rattle.osm_store.specs.declared.schema.layout.Layout.TheVariants.{Tables}
 use Rattle.osm_store.specs.Held.{HeldMap}
 use Rattle.osm_store.specs.Keeping.{OnlyReads}
-use Rattle.osm_store.specs.LayoutHolding.{IsKept, TablesHold}
-use Rattle.osm_tree_writes.specs.Putting.{IsIndexedStore}
+use Rattle.osm_store.specs.LayoutHolding.{IsKept}
+use Rattle.osm_tree_writes.specs.Putting.{IsIndexedStore, TreesHold}
 use Rattle.osm_trees.specs.Below.{HoldsBelow, IsUsable, MayLeave, LeavesAMap, SameTrees, IsIndexed}
 
 pub record Reading (S : Type 0) : Type 0 where
@@ -49,11 +49,11 @@ module _ (v : View) (recovers : Trees → Type 0) (held : HeldMap) (holds : Hold
   left_is : (db : Trees) → recovers db → db ≡ v.trees
   left_is db left = settles db (open_of _ _ shuts holds.unbroken) left ∙ sym holds.settled
 
-  pub leaves_held_alone : (left : HeldMap) → IsKept Tables left → (db : Trees) → recovers db → TablesHold Tables left db → left ≡ held
-  leaves_held_alone left kept db may tables = holds.only left kept (subst (TablesHold Tables left) (left_is db may) tables)
+  pub leaves_held_alone : (left : HeldMap) → IsKept Tables left → (db : Trees) → recovers db → TreesHold Tables left db → left ≡ held
+  leaves_held_alone left kept db may tables = holds.only left kept (subst (TreesHold Tables left) (left_is db may) tables)
 
-  pub leaves_held : (db : Trees) → recovers db → (left : HeldMap) × IsKept Tables left × TablesHold Tables left db
-  leaves_held db may = (held, holds.kept, subst (TablesHold Tables held) (sym (left_is db may)) holds.tables)
+  pub leaves_held : (db : Trees) → recovers db → (left : HeldMap) × IsKept Tables left × TreesHold Tables left db
+  leaves_held db may = (held, holds.kept, subst (TreesHold Tables held) (sym (left_is db may)) holds.tables)
 
 -- the store can go on or can't
 pub usable_or_not : (is_broken : Bool) {IsHonest : Type 0} → IsHonest → (IsHonest × (is_broken ≡ false)) ⊎ ¬ (IsHonest × (is_broken ≡ false))

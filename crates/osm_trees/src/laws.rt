@@ -1,10 +1,13 @@
 //! What holds of a connection, and so of its trees.
 
 ghost use Rattle.std.specs.Prelude.{◌≡◌, false};
+ghost use Rattle.sqlite_trees.specs.Objects.{catalog_tree};
+ghost use Rattle.sqlite_catalog.specs.Listing.{Lists};
 ghost use Rattle.sqlite.specs.Held.{state};
 ghost use Rattle.sqlite.specs.State.{HasCleanDisk, IsLive, Opens};
 ghost use Rattle.osm_store.specs.declared.schema.layout.Layout.{Layout};
 ghost use Rattle.osm_store.specs.declared.schema.layout.Layout.TheVariants.{Tables};
+ghost use Rattle.osm_store.specs.Schema.Tables.{table_schema};
 ghost use Rattle.osm_store.specs.Held.{HeldMap};
 ghost use Rattle.osm_store.specs.LayoutHolding.{Holds};
 ghost use Rattle.osm_trees.specs.Below.{HoldsBelow};
@@ -22,13 +25,14 @@ pub fn holds_below<S: Alter>(connection: &Connection<S>)
     let _connection = connection;
 }
 
-/// A connection that was opened over the trees that a tree store has committed holds what the tree store holds.
+/// A connection that was opened over the trees that a tree store has committed holds what the tree store holds, where its
+/// list of objects is that of a store alone.
 pub fn a_connection_holds_the_same<T: Store, S: Alter>(
     before: &TreeStore<T>,
     connection: &Connection<S>,
 )
     ensures { (held : HeldMap) → HoldsBelow Tables (T.Store.view before.now.store) held → HasCleanDisk (state S.Store connection.now) → Opens (state S.Store connection.now) → IsLive (state S.Store connection.now)
-        → (state S.Store connection.now).now.trees ≡ (T.Store.view before.now.store).committed → Holds Tables (state S.Store connection.now) held }
+        → (state S.Store connection.now).now.trees ≡ (T.Store.view before.now.store).committed → Lists ((T.Store.view before.now.store).committed catalog_tree) table_schema → Holds Tables (state S.Store connection.now) held }
 {
     let _before = before;
     holds_again(connection);

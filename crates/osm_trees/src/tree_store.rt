@@ -11,7 +11,7 @@ use osm_tree_audits::{has_row_counts, has_rows_of};
 use osm_tree_writes::put_blob;
 use osm_value::{Element, MemberKind};
 use pbf_frame::Kind;
-use sqlite_trees::store::Store;
+use sqlite_trees::store::{Alter, Store};
 use std::alloc::Global;
 use std::marker::Model;
 
@@ -144,7 +144,7 @@ impl<S: Store> Reader for TreeStore<S> {
     ghost has_few_texts = { λ r held holds. few_texts_of Tables held holds.kept };
 }
 
-impl<S: Store> Keeper for TreeStore<S> {
+impl<S: Alter> Keeper for TreeStore<S> {
     fn put(
         &mut self,
         alloc: Global,

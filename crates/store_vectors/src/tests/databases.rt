@@ -170,7 +170,8 @@ fn the_rows_of_a_stranger_stay(rt: HostRuntime) -> Result<(), Fail> {
 
 /// What a store holds whose trees take blobs.
 fn held_if_taking<S: Alter + Drop>(alloc: Global, connection: Connection<S>) -> Option<Held> {
-    let mut store = TreeStore::new(taking_blobs(connection.into_store())?);
+    let trees = taking_blobs(alloc, connection.into_store()).ok()?;
+    let mut store = TreeStore::new(trees?);
     Some(held_by(alloc, &mut store))
 }
 
@@ -181,6 +182,14 @@ fn trees_that_take_blobs(rt: HostRuntime) -> Result<(), Fail> {
     let mut indexed = connection_with(rt.alloc(), Content::Rows)?;
     indexed.execute("CREATE INDEX mine ON tag (key, val)", &[])?;
     assert_eq!(rt; held_if_taking(rt.alloc(), indexed), None);
+    let mut beside = connection_with(rt.alloc(), Content::Rows)?;
+    beside.execute(
+        "CREATE VIEW node AS SELECT * FROM element WHERE kind = 0",
+        &[],
+    )?;
+    beside.execute("CREATE TABLE mine (name TEXT)", &[])?;
+    beside.execute("CREATE INDEX mine_by_name ON mine (name)", &[])?;
+    assert_eq!(rt; held_if_taking(rt.alloc(), beside), Some(Held::All));
     Ok(())
 }
 

@@ -6,8 +6,9 @@ use Rattle.sqlite.specs.State.{HasCleanDisk}
 use Rattle.sqlite_trees.specs.Tree.{Trees}
 use Rattle.sqlite_trees.specs.View.{IsClean}
 use Rattle.osm_store.specs.declared.schema.layout.Layout.TheVariants.{Tables}
-use Rattle.osm_store.specs.Held.{HeldMap}
-use Rattle.osm_store.specs.LayoutHolding.{Holds, IsKept, TablesHold}
+use Rattle.osm_store.specs.LayoutHolding.{Holds}
+use Rattle.osm_tree_writes.specs.Putting.{TreesHold}
+use Rattle.osm_tree_writes.proofs.Obeying.{one_map_below, trees_of}
 use Rattle.osm_trees.specs.Below.{HoldsBelow}
 use Rattle.osm_trees.specs.Reading.{open_of}
 use Rattle.osm_databases.proofs.stores.made.Goals as goal
@@ -28,11 +29,12 @@ returns-clause-empty g c =
     let back : (view new).trees ≡ (view old).committed = (undone.undone up).0 in
     let committed : (view new).committed ≡ (view old).committed = (undone.kept clean).committed up in
     let same : (view old).trees ≡ (view new).trees = ap (λ (db : Database). db.trees) holds.settled ∙ sym back in
+    let held : TreesHold Tables empty (view new).trees = subst (TreesHold Tables empty) same (trees_of Tables empty (view old).trees holds.tables) in
     record {
       clean = clean;
       unbroken = unbroken;
       settled = back ∙ sym committed;
       kept = holds.kept;
-      tables = subst (TablesHold Tables empty) same holds.tables;
-      only = subst (λ (db : Trees). (other : HeldMap) → IsKept Tables other → TablesHold Tables other db → other ≡ empty) same holds.only;
+      tables = held;
+      only = λ other kept tables. one_map_below Tables other empty (view new).trees kept holds.kept tables held;
     })
