@@ -18,6 +18,7 @@ use Rattle.osm_block.specs.Reads.{Says}
 use Rattle.osm_block.specs.Phases.{first, when, is_index, coordinate_in_range, fits_ids, deltas_of, tags_phases, dense_phases, message_phases, wire_phases}
 use Rattle.osm_block.proofs.IndexesLemmas.{and_left}
 use Rattle.osm_block.proofs.DifferencesLemmas.{Diff-are_sums, list_all-fits}
+use Rattle.osm_block.proofs.TagsLemmas.{empty_fits}
 use Rattle.osm_block.proofs.Unique.{pairs_of-joined}
 use Rattle.osm_block.proofs.WayComplete.{all_indexes_there}
 use Rattle.osm_block.proofs.ReadingLemmas.{first-append_none}
@@ -92,7 +93,7 @@ abbrev judged_pairs : ℕ → Option (List (List Pair)) → Type 0
 judged_pairs texts o = first (when (is_none o) faults.TagsUneven ∷ when (not (list_all (is_index texts) (indexes_of (unwrap_or o [])))) faults.BadIndex ∷ []) ≡ None
 
 pairs_hold : (texts n : ℕ) (kv : List ℤ) (ts : List (List Pair)) → pairs_of n kv ≡ Some ts → list_all (is_index texts) (indexes_of ts) ≡ true → first (tags_phases n texts kv) ≡ None
-pairs_hold texts n [] ts e h = refl
+pairs_hold texts n [] ts e h = empty_fits n texts
 pairs_hold texts n (k ∷ kv) ts e h =
     let fine : judged_pairs texts (Some ts) = ap (λ b. first (when (not b) faults.BadIndex ∷ [])) h in
     subst (judged_pairs texts) (sym e) fine
@@ -100,7 +101,7 @@ pairs_hold texts n (k ∷ kv) ts e h =
 tags_hold : (table : List Text) (n : ℕ) (kv : List ℤ) (ns : List NodeValue) (ts : List (List Pair)) → length ts ≡ n → Tags ts kv → map (λ n. all_there n.tags) ns ≡ map (texts_at table) ts → first (tags_phases n (length table) kv) ≡ None
 tags_hold table n kv ns ts len (inl h) e =
     pairs_hold (length table) n kv ts (ap (λ m. pairs_of m kv) (sym len) ∙ ap (pairs_of (length ts)) h.0 ∙ pairs_of-joined ts h.1) (tags_there table ns ts e)
-tags_hold table n kv ns ts len (inr h) e = ap (λ l. first (tags_phases n (length table) l)) h.0
+tags_hold table n kv ns ts len (inr h) e = ap (λ l. first (tags_phases n (length table) l)) h.0 ∙ empty_fits n (length table)
 
 -- ---- users
 

@@ -9,6 +9,7 @@ pub mod HeadLemmas
 pub mod BlockLemmas
 pub mod DifferencesLemmas
 pub mod TagsLemmas
+pub mod TagsStand
 pub mod TextsLemmas
 pub mod IndexesLemmas
 pub mod PhaseLemmas

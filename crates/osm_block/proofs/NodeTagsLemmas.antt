@@ -108,7 +108,7 @@ mapped : {A B : Type 0} (f : A → B) (o : Option A) (y : B) → option_map f o 
 mapped f None y e = absurd cc
 mapped f (Some x) y e = (x, refl, some_one (f x) y e)
 
-record ArePairs (n : ℕ) (kv : List ℤ) (ts : List (List Pair)) : Type 0 where
+pub record ArePairs (n : ℕ) (kv : List ℤ) (ts : List (List Pair)) : Type 0 where
   pub read : node_pairs n kv ≡ ts
   pub spelled : kv ≡ flat_map pairs_and_zero ts
   pub keys : AllByRecursion KeysAreNotZero ts
@@ -126,7 +126,7 @@ pair_on n k v kv (ps ∷ us) ts differs h e =
     } in
     subst (ArePairs (suc n) (k ∷ v ∷ kv)) e made
 
-are_pairs : (n : ℕ) (kv : List ℤ) (ts : List (List Pair)) → pairs_of n kv ≡ Some ts → ArePairs n kv ts
+pub are_pairs : (n : ℕ) (kv : List ℤ) (ts : List (List Pair)) → pairs_of n kv ≡ Some ts → ArePairs n kv ts
 are_pairs zero [] ts e = subst (ArePairs zero []) (some_one [] ts e) (record { read = refl; spelled = refl; keys = tt })
 are_pairs zero (k ∷ kv) ts e = absurd cc
 are_pairs (suc n) [] ts e = absurd cc

@@ -1,5 +1,5 @@
 -- How the phases of an array of tags follow from those of what is left of it.
-use Rattle.std.proofs.Common.{◌≡◌, ◌≢◌, ℕ, zero, suc, ◌+◌, ◌-◌, ◌<◌, List, [], ◌∷◌, Bool, true, false, not, ◌&&◌, refl, sym, ap, ◌∙◌, ℤ, pos, negsuc, arith, Option, Some, None, length, drop, get_or, ◌≤◌}
+use Rattle.std.proofs.Common.{◌≡◌, ◌≢◌, ℕ, zero, suc, ◌+◌, ◌-◌, ◌<◌, List, [], ◌∷◌, replicate, Bool, true, false, not, ◌&&◌, refl, sym, ap, ◌∙◌, ℤ, pos, negsuc, arith, Option, Some, None, length, drop, get_or, ◌≤◌}
 use Rattle.std.proofs.lemmas.List.{drop_more, drop_all}
 use Rattle.std.proofs.lemmas.Int.{ints}
 use Rattle.std.proofs.Common.{FitsSigned, of_z, w32}
@@ -7,7 +7,7 @@ use Rattle.std.specs.Prelude.{option_map, is_none, unwrap_or}
 use Rattle.std.specs.List.{list_all}
 use Rattle.osm_block.specs.declared.fault.BlockFault.TheVariants as faults
 use Rattle.osm_block.specs.DenseTags.{Pair, pairs_of, indexes_of, with_pair}
-use Rattle.osm_block.specs.Phases.{Phase, first, when, is_index}
+use Rattle.osm_block.specs.Phases.{Phase, first, when, is_index, tags_phases}
 
 -- the phase that stands, where these are the pairs of the nodes that are left, and b says that no index so far was bad
 abbrev pub stands : Bool → ℕ → Option (List (List Pair)) → Phase
@@ -26,6 +26,19 @@ pair_step : (b : Bool) (texts : ℕ) (p : Pair) (ts : Option (List (List Pair)))
 pair_step b texts p None = refl
 pair_step b texts p (Some []) = ap (λ c. first (when (not c) faults.BadIndex ∷ [])) (regroup b (is_index texts p.0) (is_index texts p.1) true)
 pair_step b texts p (Some (ps ∷ us)) = ap (λ c. first (when (not c) faults.BadIndex ∷ [])) (regroup b (is_index texts p.0) (is_index texts p.1) (list_all (is_index texts) (indexes_of (ps ∷ us))))
+
+-- ---- an empty array
+
+no_indexes : (n : ℕ) → indexes_of (replicate n []) ≡ []
+no_indexes zero = refl
+no_indexes (suc n) = no_indexes n
+
+pub empty_fits : (n texts : ℕ) → first (tags_phases n texts []) ≡ None
+empty_fits n texts = ap (λ l. first (when (not (list_all (is_index texts) l)) faults.BadIndex ∷ [])) (no_indexes n)
+
+pub nothing_fits : (n texts : ℕ) (kv : List ℤ) → length kv ≡ 0 → first (tags_phases n texts kv) ≡ None
+nothing_fits n texts [] none = empty_fits n texts
+nothing_fits n texts (k ∷ kv) none = absurd (omega arith)
 
 -- ---- the loop's steps
 

@@ -1,14 +1,16 @@
 //! What holds of the definitions, over all inputs.
 
-ghost use Rattle.std.specs.Prelude.{◌≡◌, ℕ, ℤ, List, None};
+ghost use Rattle.std.specs.Prelude.{◌≡◌, ◌↔◌, ℕ, ℤ, List, length, Some, None};
 ghost use Rattle.std.specs.List.{AllByRecursion};
 ghost use Rattle.osm_value.specs.declared.element.Element.{Element};
 ghost use Rattle.osm_value.specs.Elements.{info_of_element};
 ghost use Rattle.osm_block.specs.Block.{Block};
 ghost use Rattle.osm_block.specs.EarlierBlock as earlier;
+ghost use Rattle.osm_block.specs.DenseTags.{Pair, Tags, pairs_for};
+ghost use Rattle.osm_block.specs.declared.fault.BlockFault.TheVariants.{TagsUneven};
 ghost use Rattle.osm_block.specs.Differences.{Diff};
 ghost use Rattle.osm_block.specs.Faultless.{FaultlessBlocksSay};
-ghost use Rattle.osm_block.specs.Phases.{fault};
+ghost use Rattle.osm_block.specs.Phases.{fault, first, tags_phases};
 
 /// A block says one list of elements.
 pub fn one_list_of_elements()
@@ -18,6 +20,13 @@ pub fn one_list_of_elements()
 /// Differences are those of one list of numbers.
 pub fn one_list_of_numbers()
     ensures { (us vs ds : List ℤ) → Diff us ds → Diff vs ds → us ≡ vs }
+{}
+
+/// The tags that are read for n dense nodes are those of the one list of n nodes that stands to the array, and the
+/// array is uneven (fault 51) exactly where no list of n nodes stands to it.
+pub fn uneven_tags_stand_to_no_nodes()
+    ensures read { (n : ℕ) (kv : List ℤ) (ts : List (List Pair)) → (pairs_for n kv ≡ Some ts) ↔ ((length ts ≡ n) × Tags ts kv) }
+    ensures uneven { (n texts : ℕ) (kv : List ℤ) → (first (tags_phases n texts kv) ≡ Some TagsUneven) ↔ ((ts : List (List Pair)) → length ts ≡ n → Tags ts kv → ⊥) }
 {}
 
 /// A block that decodes to some elements has no fault.

@@ -3,6 +3,7 @@ mod blocks;
 mod changed;
 mod encoding;
 mod failing;
+mod first_faults;
 mod framers;
 mod frames;
 mod header;
@@ -11,8 +12,10 @@ mod values;
 mod wire;
 mod writing;
 
+use osm_block::{BlockError, BlockFault, read_block};
 use osm_value::{Element, Info, Outlet, write_line};
 use std::alloc::Global;
+use std::process::Abort;
 use std::test::*;
 
 /// The lines of elements.
@@ -26,4 +29,15 @@ fn lines_of(rt: &impl Alloc<A = Global>, elements: &[Element]) -> Result<Vec<u8>
 
 fn nothing_known<'a>() -> Info<'a> {
     Info::new(None, None, None, None, None, None)
+}
+
+/// Each block is refused with this fault, which has this number.
+fn expect_faults(rt: &(impl Abort + Alloc<A = Global>), rows: &[(&str, &[u8], BlockFault, u8)]) {
+    for (name, block, fault, number) in rows {
+        let error = read_block(rt.alloc(), block).err().expect(rt, name);
+        assert!(rt;
+            error == BlockError::Fault(*fault) && error.number() == *number,
+            "{name}"
+        );
+    }
 }

@@ -28,3 +28,4 @@ pub mod NumberLengths
 pub mod GroupNoLonger
 pub mod OneNoLonger
 pub mod WrittenRead
+pub mod EarlierBlocks

@@ -1,4 +1,5 @@
 pub mod Canon
+pub mod EarlierCanon
 pub mod Cutter
 pub mod Write
 pub mod Texts

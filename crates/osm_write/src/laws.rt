@@ -1,12 +1,15 @@
 //! What the canonical block promises to its readers: theorems, with no code.
 
-ghost use Rattle.std.specs.Prelude.{ℕ, ◌≤◌, List, length, Result};
+ghost use Rattle.std.specs.Prelude.{◌≡◌, ℕ, ◌≤◌, List, length, Result, None};
+ghost use Rattle.std.specs.List.{AllByRecursion};
 ghost use Rattle.osm_value.specs.declared.element.Element.{Element};
+ghost use Rattle.osm_value.specs.Elements.{info_of_element};
 ghost use Rattle.osm_block.specs.declared.fault.BlockError.{BlockError};
 ghost use Rattle.osm_block.specs.Block.{Block};
 ghost use Rattle.osm_block.specs.Phases.{Gives, fault};
 ghost use Rattle.osm_write.specs.declared.block.TheConstants.{MAX_BLOCK_LEN};
 ghost use Rattle.osm_write.specs.Canon.{canon};
+ghost use Rattle.osm_write.specs.EarlierCanon as earlier;
 ghost use Rattle.osm_write.specs.Laws.{ReadsBack, IsReadOnly, FewTexts, FirstIsNoLonger, IsGiven, SaysAlone, AnswersThem};
 
 /// The canonical block of a list of elements says that list: for elements inside their ranges,
@@ -43,4 +46,9 @@ pub fn what_is_written_is_read()
     ensures says { (es : List Element) (block : List ℕ) → IsGiven es block → SaysAlone es block }
     ensures read { (es : List Element) (block : List ℕ) (answer : Result (List Element) BlockError) → IsGiven es block
         → Gives (λ fs. Block fs block) (fault block) answer → AnswersThem es answer }
+{}
+
+/// Elements without flags of visibility have the canonical block that they had before flags were written.
+pub fn earlier_canonical_blocks_are_the_same()
+    ensures { (es : List Element) → AllByRecursion (λ e. (info_of_element e).visible ≡ None) es → earlier.canon es ≡ canon es }
 {}

@@ -1,6 +1,6 @@
 //! Blocks and the elements that they say, as lines, or their first faults.
 
-use super::lines_of;
+use super::{expect_faults, lines_of};
 use crate::vectors::*;
 use osm_block::{BlockError, BlockFault, read_block};
 use pbf_wire::{WireFault, WireFaultKind};
@@ -165,17 +165,6 @@ fn flags_of_visibility(rt: HostRuntime) -> Result<(), Fail> {
             ("a relation", &VISIBLE_RELATION_BLOCK, "r 9 () [x=1] {}\n"),
         ],
     )
-}
-
-/// Each block is refused with this fault, which has this number.
-fn expect_faults(rt: &(impl Abort + Alloc<A = Global>), rows: &[(&str, &[u8], BlockFault, u8)]) {
-    for (name, block, fault, number) in rows {
-        let error = read_block(rt.alloc(), block).err().expect(rt, name);
-        assert!(rt;
-            error == BlockError::Fault(*fault) && error.number() == *number,
-            "{name}"
-        );
-    }
 }
 
 #[test]

@@ -1,7 +1,10 @@
-use Rattle.std.proofs.Common.{rules, ◌+◌, get_or, pos, FitsSigned, w32}
-use Rattle.osm_block.proofs.TagsLemmas.{none_left_stops, zero_goes_on, single_stops, pair_goes_on, zero_from_bits, not_zero_from_bits}
+use Rattle.std.proofs.Common.{rules, ◌+◌, get_or, pos, FitsSigned, w32, eqb-true, sym, ◌∙◌}
+use Rattle.osm_block.proofs.TagsLemmas.{nothing_fits, none_left_stops, zero_goes_on, single_stops, pair_goes_on, zero_from_bits, not_zero_from_bits}
 use Rattle.std.proofs.lemmas.Int.{to_z-of_z}
 use Rattle.osm_block.proofs.tags.check_tags.Goals as goal
+
+pub returns-then-is_empty : goal.returns-then-is_empty
+returns-then-is_empty c = nothing_fits _ _ _ (eqb-true _ 0 (sym c.is_empty.ensures ∙ c.if-is_empty.true))
 
 pub returns-then-left-eq0 : goal.returns-then-left-eq0
 returns-then-left-eq0 c = none_left_stops _ _ _ _ _ _ c.loop-at-test.true c.loop-at.invariant c.if-left-eq0.true
