@@ -8,3 +8,4 @@ pub mod StoredElements
 pub mod SameElements
 pub mod OneElement
 pub mod OneMap
+pub mod EarlierLaws

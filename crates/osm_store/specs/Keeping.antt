@@ -38,7 +38,7 @@ IsForeign (NotThisStore found) = Unit {0}
 IsForeign _ = ⊥
 
 -- the call has kept what the store holds, if it can go on, and what a crash may leave, and has counted its failure
-pub record OnlyReads {S T : Type 0} (holds leaves : S → HeldMap → Type 0) (leaves_a_map : S → Type 0) (same_tables : S → S → Type 0) (is_honest is_open : S → Type 0) (failures : S → ℕ) (old : S) (result : Result T StoreFault) (new : S) : Type 0 where
+pub record OnlyReads {S T : Type 0} (holds leaves : S → HeldMap → Type 0) (leaves_a_map is_alone : S → Type 0) (same_tables : S → S → Type 0) (is_honest is_open : S → Type 0) (failures : S → ℕ) (old : S) (result : Result T StoreFault) (new : S) : Type 0 where
   pub honest : is_honest new → is_honest old
   pub open_if : is_open new → is_open old
   pub ok : OnOk result (is_honest new → (held : HeldMap) → holds old held → holds new held)
@@ -46,6 +46,7 @@ pub record OnlyReads {S T : Type 0} (holds leaves : S → HeldMap → Type 0) (l
   pub same : is_honest new → is_open new → same_tables old new
   pub crash : is_honest new → (held : HeldMap) → leaves new held → leaves old held
   pub whole : is_honest new → leaves_a_map old → leaves_a_map new
+  pub alone : is_honest new → is_alone old → is_alone new
   pub own : (held : HeldMap) → holds old held → is_honest new → IfErr result (λ fault. ¬ (IsForeign fault))
   pub counted : failures new ≡ failures_after result (failures old)
 
@@ -60,7 +61,7 @@ pub record IsAddable (held : HeldMap) (off : ℕ) (blob : Blob) : Type 0 where
 
 -- the call adds the blob at a free place, or has failed. A crash leaves what it left before or the new map. A store that
 -- has to be opened again takes nothing, and a crash leaves nothing new
-pub record Adds {S T : Type 0} (holds leaves : S → HeldMap → Type 0) (leaves_a_map : S → Type 0) (same_tables : S → S → Type 0) (is_honest is_open : S → Type 0) (failures : S → ℕ) (off : ℕ) (blob : Blob) (old : S) (result : Result T StoreFault) (new : S) : Type 0 where
+pub record Adds {S T : Type 0} (holds leaves : S → HeldMap → Type 0) (leaves_a_map is_alone : S → Type 0) (same_tables : S → S → Type 0) (is_honest is_open : S → Type 0) (failures : S → ℕ) (off : ℕ) (blob : Blob) (old : S) (result : Result T StoreFault) (new : S) : Type 0 where
   pub honest : is_honest new → is_honest old
   pub open_if : is_open new → is_open old
   pub ok : OnOk result (is_honest new → (held : HeldMap) → holds old held → IsAddable held off blob → holds new (with_blob held off blob))
@@ -68,6 +69,7 @@ pub record Adds {S T : Type 0} (holds leaves : S → HeldMap → Type 0) (leaves
   pub same : is_honest new → is_open new → OnErr result (same_tables old new)
   pub crash : is_honest new → (held left : HeldMap) → holds old held → IsAddable held off blob → leaves new left → leaves old left ⊎ (left ≡ with_blob held off blob)
   pub whole : is_honest new → (held : HeldMap) → holds old held → IsAddable held off blob → leaves_a_map new
+  pub alone : is_honest new → (held : HeldMap) → holds old held → IsAddable held off blob → is_alone old → is_alone new
   pub own : (held : HeldMap) → holds old held → is_honest new → IsAddable held off blob → IfErr result (λ fault. ¬ (IsForeign fault))
   pub was_open : is_honest new → OnOk result (is_open old)
   pub shut : is_honest new → ¬ (is_open old) → (left : HeldMap) → leaves new left → leaves old left

@@ -11,6 +11,7 @@ pub mod RowExamples
 pub mod Flags
 pub mod Faults
 pub mod LayoutHolding
+pub mod EarlierRows
 pub mod Store
 pub mod StoreLaws
 pub mod Audit

@@ -2,5 +2,6 @@
 pub mod Bodies
 pub mod Tables
 pub mod Layouts
+pub mod Named
 pub mod Over
 pub mod Making

@@ -11,6 +11,7 @@ ghost use Rattle.osm_store.specs.LayoutHolding.{Holds, TablesHold};
 ghost use Rattle.osm_store.specs.Keeping.{IsForeign};
 ghost use Rattle.osm_store.specs.Schema.Layouts.{version_of};
 ghost use Rattle.osm_store.specs.Schema.Bodies.{no_schema};
+ghost use Rattle.osm_store.specs.Schema.Named.{HasTables};
 
 use crate::audit::{Audited, Counts, has_counts_of, has_rows_of};
 use crate::fault::{StoreFault, failures_after};
@@ -89,16 +90,17 @@ impl<S: Alter, L: StoreLayout> BlobStore<S, L> {
         }
     }
 
-    /// The store that the database holds. Only its version is read.
+    /// The store that the database holds. No row is read but its version.
     ///
     /// A fault hands the connection back. It is `NotThisStore` with the version where that is another one,
-    /// and `NotThisStore(None)` where the database isn't a store.
+    /// and `NotThisStore(None)` where the database isn't a store, or lacks one of its tables or of their columns.
     pub fn adopt(connection: Connection<S>) -> Result<BlobStore<S, L>, (StoreFault, Connection<S>)>
         requires { (state S.Store connection).in_transaction ≡ false }
         ensures held { (held : HeldMap) → Holds L.LAYOUT (state S.Store connection) held
             → MatchResult result (λ store. HasCleanDisk (state S.Store store.connection) → Holds L.LAYOUT (state S.Store store.connection) held) (λ e. HasCleanDisk (state S.Store e.1) → ¬ (IsForeign e.0)) }
         ensures asks { MatchResult result (λ store. JustAsks (state S.Store connection) (state S.Store store.connection)) (λ e. JustAsks (state S.Store connection) (state S.Store e.1)) }
         ensures failures { IfOk result (λ store. store.failures ≡ 0) }
+        ensures tables { IfOk result (λ store. HasTables L.LAYOUT (state S.Store store.connection).now.schema) }
         ensures ours { IfOk result (λ store. HasCleanDisk (state S.Store store.connection) → NamesVersion (state S.Store connection) (state S.Store store.connection) (pos (version_of L.LAYOUT))) }
         ensures other { IfErr result (λ e. (found : ℤ) → e.0 ≡ StoreFault.NotThisStore (Some found) → (found ≢ pos (version_of L.LAYOUT)) × (HasCleanDisk (state S.Store e.1) → NamesVersion (state S.Store connection) (state S.Store e.1) found)) }
         ensures autocommit { IfErr result (λ e. (state S.Store e.1).in_transaction ≡ false) }
@@ -145,6 +147,9 @@ impl<S: Alter, L: StoreLayout> Reader for BlobStore<S, L> {
     ghost leaves = { λ s left. MayLeave L.LAYOUT (state S.Store s.connection) left };
 
     ghost leaves_a_map = { λ s. LeavesAMap L.LAYOUT (state S.Store s.connection) };
+
+    // tables that hold a map are listed alone
+    ghost is_alone = { λ s. LeavesAMap L.LAYOUT (state S.Store s.connection) };
 
     ghost same_tables = { λ s t. SameTables (state S.Store s.connection) (state S.Store t.connection) };
 

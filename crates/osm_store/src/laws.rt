@@ -10,6 +10,7 @@ ghost use Rattle.sqlite.specs.Steps.{over_memory};
 ghost use Rattle.sqlite.specs.Tree.{Trees};
 ghost use Rattle.osm_store.specs.RowExamples.{a_node, a_way, a_relation, no_values};
 ghost use Rattle.osm_store.specs.TableRows.{element_rows, tag_rows, link_rows};
+ghost use Rattle.osm_store.specs.EarlierRows as earlier;
 ghost use Rattle.osm_store.specs.Audit.{ShowsBlob, ShowsCounts, ShowsMap, counts_of};
 ghost use Rattle.osm_store.specs.Held.{Blob, HeldMap};
 ghost use Rattle.osm_store.specs.Keeping.{IsForeign};
@@ -23,6 +24,13 @@ use sqlite::{Alter, Connection, MemStore};
 /// The rows of a map are those of no other map.
 pub fn rows_of_one_map()
     ensures { (layout : Layout) (one other : HeldMap) (db : Trees) → IsKept layout one → IsKept layout other → TablesHold layout one db → TablesHold layout other db → one ≡ other }
+{}
+
+/// What was stored before flags of visibility were read and written holds the same map: in either layout the rows that the
+/// map stood for then are those that it stands for now.
+pub fn earlier_rows_hold_the_same()
+    ensures kept { (layout : Layout) (held : HeldMap) → earlier.IsKept layout held → IsKept layout held }
+    ensures same { (layout : Layout) (held : HeldMap) (db : Trees) → earlier.IsKept layout held → earlier.TablesHold layout held db → TablesHold layout held db }
 {}
 
 /// Where the rows at each offset of a map are those of its blob there, and no table has more rows than all these, queries

@@ -5,6 +5,7 @@ mod create;
 mod layout;
 mod opening;
 pub(crate) mod sql;
+mod tables;
 mod version;
 
 pub(crate) use layout::Layout;

@@ -29,19 +29,19 @@ use Rattle.osm_store.specs.declared.schema.layout.Layout.{Layout}
 use Rattle.osm_store.specs.declared.schema.layout.Layout.TheVariants.{Bodies, Tables}
 use Rattle.osm_store.specs.Held.{Blob, HeldMap}
 use Rattle.osm_store.specs.Keeping.{extent_of, extents_of}
-use Rattle.osm_store.specs.LayoutHolding.{Holds, IsBlob, IsKept, TablesHold}
-use Rattle.osm_store.specs.Rows.{Placed, IsBefore, IsStored, placed, placed_in, body_row, extent_columns, blob_code}
+use Rattle.osm_store.specs.LayoutHolding.{HoldElements, Holds, IsBlob, IsKept}
+use Rattle.osm_store.specs.Rows.{Placed, IsBefore, IsStored, placed, placed_in, body_row, extent_columns, extent_row, blob_code}
 use Rattle.osm_store.specs.Schema.Layouts.{schema_of}
 use Rattle.osm_store.specs.TableRows.{element_row, tags_at, tag_row, tag_rows, links_at, links_of, link_row, link_rows}
 use Rattle.osm_store.proofs.AuditLemmas.AllRows.{count_elements, count_parts}
 use Rattle.osm_store.proofs.ListLemmas.CompareLemmas.{same_number}
 use Rattle.osm_store.proofs.LoadLemmas.ReadLemmas.{ascending_among}
-use Rattle.osm_store.proofs.MapLemmas.HeldLemmas.{has_extents, has_elements, placed_at, elements_of}
+use Rattle.osm_store.proofs.MapLemmas.HeldLemmas.{extents_among, elements_among, placed_at, elements_of}
 use Rattle.osm_store.proofs.MapLemmas.OneMap.{body_before, element_before, rises, tags_rise, links_rise, same_rows, same_bodies, same_kind, same_blob}
 use Rattle.osm_store.proofs.MapLemmas.PlacedLaws.{Entry, all_held, by_position, entries_rise, here}
 use Rattle.osm_store.proofs.MapLemmas.SameElements.{same_tables}
 use Rattle.osm_store.proofs.MapLemmas.StoredElements.{stored_both}
-use Rattle.osm_store.proofs.MapLemmas.TableHeld.{has_tables, parts_of_blob}
+use Rattle.osm_store.proofs.MapLemmas.TableHeld.{tables_among, parts_of_blob}
 
 -- ---- the rows of a table at an offset
 
@@ -99,16 +99,21 @@ extents_at held off =
 
 -- ---- what a map shows
 
-module _ (db : Database) (held : HeldMap) (off : ℕ) where
-  extent_shown : (layout : Layout) → db.schema ≡ schema_of layout → TablesHold layout held db.trees → HasAt off (map extent_columns (map extent_of (entry_at off (get held off)))) (seen (0 ∷ 2 ∷ 3 ∷ 4 ∷ 5 ∷ []) (db.trees 1))
-  extent_shown layout schema tables =
-      shown_at extent_columns (λ (e : Extent). e.off) (λ e. refl) off (seen (0 ∷ 2 ∷ 3 ∷ 4 ∷ 5 ∷ []) (db.trees 1)) (extents_of held) _ (has_extents layout db held schema tables).rows (extents_at held off)
+-- the tables have the rows of the map, whatever else the trees are
+pub record HasRowsOf (layout : Layout) (held : HeldMap) (db : Trees) : Type 0 where
+  pub blob : db 1 ≡ map extent_row (extents_of held)
+  pub elements : HoldElements layout (placed_in held) db
 
-  elements_shown : (layout : Layout) (blob : Blob) → db.schema ≡ schema_of layout → TablesHold layout held db.trees → get held off ≡ Some blob → ShowElementsAt layout off (placed off 0 blob.elements) db.trees
+module _ (db : Database) (held : HeldMap) (off : ℕ) where
+  extent_shown : (layout : Layout) → db.schema ≡ schema_of layout → HasRowsOf layout held db.trees → HasAt off (map extent_columns (map extent_of (entry_at off (get held off)))) (seen (0 ∷ 2 ∷ 3 ∷ 4 ∷ 5 ∷ []) (db.trees 1))
+  extent_shown layout schema tables =
+      shown_at extent_columns (λ (e : Extent). e.off) (λ e. refl) off (seen (0 ∷ 2 ∷ 3 ∷ 4 ∷ 5 ∷ []) (db.trees 1)) (extents_of held) _ (extents_among layout db held schema tables.blob).rows (extents_at held off)
+
+  elements_shown : (layout : Layout) (blob : Blob) → db.schema ≡ schema_of layout → HasRowsOf layout held db.trees → get held off ≡ Some blob → ShowElementsAt layout off (placed off 0 blob.elements) db.trees
   elements_shown Bodies blob schema tables is =
-      shown_at body_row (λ (p : Placed). p.0) (λ p. refl) off (seen (1 ∷ 2 ∷ 3 ∷ 4 ∷ 5 ∷ []) (db.trees 2)) (placed_in held) _ (has_elements db held schema tables).rows (placed_at held off blob is)
+      shown_at body_row (λ (p : Placed). p.0) (λ p. refl) off (seen (1 ∷ 2 ∷ 3 ∷ 4 ∷ 5 ∷ []) (db.trees 2)) (placed_in held) _ (elements_among db held schema tables.elements).rows (placed_at held off blob is)
   elements_shown Tables blob schema tables is =
-      let has = has_tables db held schema tables in
+      let has = tables_among db held schema tables.elements in
       let here = placed_at held off blob is in (
         shown_at element_row (λ (p : Placed). p.0) (λ p. refl) off (seen (1 ∷ 2 ∷ 3 ∷ 4 ∷ 5 ∷ 6 ∷ 7 ∷ 8 ∷ 9 ∷ 10 ∷ 11 ∷ 12 ∷ []) (db.trees 2)) (placed_in held) _ has.elements here,
         shown_at tag_row (λ x. x.off) (λ x. refl) off (seen (1 ∷ 2 ∷ 3 ∷ 4 ∷ 5 ∷ []) (db.trees 4)) (flat_map tags_at (placed_in held)) _ has.tags
@@ -118,7 +123,7 @@ module _ (db : Database) (held : HeldMap) (off : ℕ) where
       )
 
 -- the rows at the offset of a held blob are its rows
-pub held_shown : (layout : Layout) (db : Database) (held : HeldMap) → db.schema ≡ schema_of layout → TablesHold layout held db.trees → (off : ℕ) (blob : Blob) → get held off ≡ Some blob → ShowsBlob layout db.trees off blob
+pub held_shown : (layout : Layout) (db : Database) (held : HeldMap) → db.schema ≡ schema_of layout → HasRowsOf layout held db.trees → (off : ℕ) (blob : Blob) → get held off ≡ Some blob → ShowsBlob layout db.trees off blob
 held_shown layout db held schema tables off blob is = record {
   extent = subst (λ o. HasAt off (map extent_columns (map extent_of (entry_at off o))) (seen (0 ∷ 2 ∷ 3 ∷ 4 ∷ 5 ∷ []) (db.trees 1))) is (extent_shown db held off layout schema tables);
   elements = elements_shown db held off layout blob schema tables is;
@@ -183,7 +188,7 @@ stored_at layout held kept off blob is =
     stored_both layout blob.elements kept_blob.can_store kept_blob.few_texts
 
 -- where the rows at an offset are those of a blob, the map has that blob there
-pub shown_held : (layout : Layout) (db : Database) (held : HeldMap) → db.schema ≡ schema_of layout → TablesHold layout held db.trees → IsKept layout held → (off : ℕ) (blob : Blob) → AllByRecursion IsPlain blob.elements
+pub shown_held : (layout : Layout) (db : Database) (held : HeldMap) → db.schema ≡ schema_of layout → HasRowsOf layout held db.trees → IsKept layout held → (off : ℕ) (blob : Blob) → AllByRecursion IsPlain blob.elements
     → ShowsBlob layout db.trees off blob → get held off ≡ Some blob
 shown_held layout db held schema tables kept off blob plain shown = elim (get held off) as (λ o. get held off ≡ o → get held off ≡ Some blob) [
   | Some found ↦ λ is.
@@ -208,14 +213,14 @@ uncapped : (n many : ℕ) → many ≡ n → min n (2 ^ 64 - 1) < 2 ^ 63 - 1 →
 uncapped n many is low = (omega (arith, is, low), low)
 
 -- each table has as many rows as the map
-pub held_counted : (layout : Layout) (db : Database) (held : HeldMap) → db.schema ≡ schema_of layout → TablesHold layout held db.trees → AreCountable (counts_of (elements_held held)) → ShowsCounts layout db.trees (counts_of (elements_held held))
+pub held_counted : (layout : Layout) (db : Database) (held : HeldMap) → db.schema ≡ schema_of layout → HasRowsOf layout held db.trees → AreCountable (counts_of (elements_held held)) → ShowsCounts layout db.trees (counts_of (elements_held held))
 held_counted Bodies db held schema tables few = (
-  uncapped _ _ (seen_many extent_columns (0 ∷ 2 ∷ 3 ∷ 4 ∷ 5 ∷ []) (db.trees 1) (extents_of held) (has_extents Bodies db held schema tables).rows ∙ length-map (entries held) extent_of ∙ sym (length-map (entries held) _)) few.blobs,
-  uncapped _ _ (seen_many body_row (1 ∷ 2 ∷ 3 ∷ 4 ∷ 5 ∷ []) (db.trees 2) (placed_in held) (has_elements db held schema tables).rows ∙ count_elements (entries held)) few.elements,
+  uncapped _ _ (seen_many extent_columns (0 ∷ 2 ∷ 3 ∷ 4 ∷ 5 ∷ []) (db.trees 1) (extents_of held) (extents_among Bodies db held schema tables.blob).rows ∙ length-map (entries held) extent_of ∙ sym (length-map (entries held) _)) few.blobs,
+  uncapped _ _ (seen_many body_row (1 ∷ 2 ∷ 3 ∷ 4 ∷ 5 ∷ []) (db.trees 2) (placed_in held) (elements_among db held schema tables.elements).rows ∙ count_elements (entries held)) few.elements,
 )
 held_counted Tables db held schema tables few =
-    let has = has_tables db held schema tables in (
-      uncapped _ _ (seen_many extent_columns (0 ∷ 2 ∷ 3 ∷ 4 ∷ 5 ∷ []) (db.trees 1) (extents_of held) (has_extents Tables db held schema tables).rows ∙ length-map (entries held) extent_of ∙ sym (length-map (entries held) _)) few.blobs,
+    let has = tables_among db held schema tables.elements in (
+      uncapped _ _ (seen_many extent_columns (0 ∷ 2 ∷ 3 ∷ 4 ∷ 5 ∷ []) (db.trees 1) (extents_of held) (extents_among Tables db held schema tables.blob).rows ∙ length-map (entries held) extent_of ∙ sym (length-map (entries held) _)) few.blobs,
       uncapped _ _ (seen_many element_row (1 ∷ 2 ∷ 3 ∷ 4 ∷ 5 ∷ 6 ∷ 7 ∷ 8 ∷ 9 ∷ 10 ∷ 11 ∷ 12 ∷ []) (db.trees 2) (placed_in held) has.elements ∙ count_elements (entries held)) few.elements,
       uncapped _ _ (seen_many tag_row (1 ∷ 2 ∷ 3 ∷ 4 ∷ 5 ∷ []) (db.trees 4) (flat_map tags_at (placed_in held)) has.tags ∙ count_parts tags_of_element (entries held)) few.tags,
       uncapped _ _ (seen_many link_row (1 ∷ 2 ∷ 3 ∷ 4 ∷ 5 ∷ 6 ∷ []) (db.trees 6) (flat_map links_at (placed_in held)) has.links ∙ count_parts links_of (entries held)) few.links,
@@ -230,8 +235,8 @@ module _ (layout : Layout) (s : State) (held : HeldMap) (holds : Holds layout s 
   pub has_schema : s.committed.schema ≡ schema_of layout
   has_schema = ap (λ (d : Database). d.schema) still ∙ holds.schema
 
-  tables : TablesHold layout held s.committed.trees
-  tables = subst (λ (d : Database). TablesHold layout held d.trees) holds.settled holds.tables
+  tables : HasRowsOf layout held s.committed.trees
+  tables = subst (λ (d : Database). HasRowsOf layout held d.trees) holds.settled (record { blob = holds.tables.blob; elements = holds.tables.elements })
 
   pub shows_held : (off : ℕ) (blob : Blob) → get held off ≡ Some blob → ShowsBlob layout s.committed.trees off blob
   shows_held = held_shown layout s.committed held has_schema tables

@@ -21,7 +21,7 @@ use Rattle.osm_store.specs.declared.schema.layout.Layout.{Layout}
 use Rattle.osm_store.specs.declared.schema.layout.Layout.TheVariants.{Bodies}
 use Rattle.osm_store.specs.Schema.Layouts.{schema_of, version_of}
 use Rattle.osm_store.specs.Schema.Bodies.{body_schema}
-use Rattle.osm_store.specs.LayoutHolding.{TablesHold}
+use Rattle.osm_store.specs.LayoutHolding.{HoldElements, TablesHold}
 use Rattle.osm_store.proofs.MapLemmas.PlacedLaws.{Entry, within, entries_rise, placed_in_rise, here, by_position}
 use Rattle.osm_store.proofs.ListLemmas.NestedLists.{nested_at}
 use Rattle.osm_store.proofs.LoadLemmas.ReadLemmas.{columns_at, HasExtents, HasElements, HasVersion}
@@ -35,12 +35,16 @@ blob_shown (e ∷ extents) = ap (λ rows. extent_columns e ∷ rows) (blob_shown
 extents_rise : (held : HeldMap) → IsAscending (λ (a b : Extent). a.off < b.off) (extents_of held)
 extents_rise held = ascending-map _ extent_of (entries held) (entries_rise held)
 
-pub has_extents : (layout : Layout) (db : Database) (held : HeldMap) → db.schema ≡ schema_of layout → TablesHold layout held db.trees → HasExtents layout db (extents_of held)
-has_extents layout db held schema tables = record {
+-- whatever else the trees are
+pub extents_among : (layout : Layout) (db : Database) (held : HeldMap) → db.schema ≡ schema_of layout → db.trees 1 ≡ map extent_row (extents_of held) → HasExtents layout db (extents_of held)
+extents_among layout db held schema blob = record {
   schema = schema;
-  rows = IsPermutation-same _ _ (ap (map (columns_at (0 ∷ 2 ∷ 3 ∷ 4 ∷ 5 ∷ []))) tables.blob ∙ blob_shown (extents_of held));
+  rows = IsPermutation-same _ _ (ap (map (columns_at (0 ∷ 2 ∷ 3 ∷ 4 ∷ 5 ∷ []))) blob ∙ blob_shown (extents_of held));
   ascending = extents_rise held;
 }
+
+pub has_extents : (layout : Layout) (db : Database) (held : HeldMap) → db.schema ≡ schema_of layout → TablesHold layout held db.trees → HasExtents layout db (extents_of held)
+has_extents layout db held schema tables = extents_among layout db held schema tables.blob
 
 five : (row : Row) → length row ≡ 5 → map (column row) (0 ∷ 1 ∷ 2 ∷ 3 ∷ 4 ∷ []) ≡ row
 five [] e = absurd (cc)
@@ -64,14 +68,17 @@ each_five : (ps : List Placed) → AllByRecursion (λ (row : Row). length row �
 each_five [] = tt
 each_five (p ∷ ps) = (refl, each_five ps)
 
-pub has_elements : (db : Database) (held : HeldMap) → db.schema ≡ body_schema → TablesHold Bodies held db.trees → HasElements db (placed_in held)
-has_elements db held schema tables =
-    let fives = all_from_map (λ (row : Row). length row ≡ 5) (drop 1) (db.trees 2) (all-permutation _ (map body_row (placed_in held)) (map (drop 1) (db.trees 2)) tables.elements (each_five (placed_in held))) in
+pub elements_among : (db : Database) (held : HeldMap) → db.schema ≡ body_schema → HoldElements Bodies (placed_in held) db.trees → HasElements db (placed_in held)
+elements_among db held schema elements =
+    let fives = all_from_map (λ (row : Row). length row ≡ 5) (drop 1) (db.trees 2) (all-permutation _ (map body_row (placed_in held)) (map (drop 1) (db.trees 2)) elements (each_five (placed_in held))) in
     record {
       schema = schema;
-      rows = subst (λ rows. IsPermutation rows (map body_row (placed_in held))) (sym (all_dropped (db.trees 2) fives)) (IsPermutation-sym _ _ tables.elements);
+      rows = subst (λ rows. IsPermutation rows (map body_row (placed_in held))) (sym (all_dropped (db.trees 2) fives)) (IsPermutation-sym _ _ elements);
       ascending = placed_in_rise held;
     }
+
+pub has_elements : (db : Database) (held : HeldMap) → db.schema ≡ body_schema → TablesHold Bodies held db.trees → HasElements db (placed_in held)
+has_elements db held schema tables = elements_among db held schema tables.elements
 
 pub has_version : (layout : Layout) (db : Database) (held : HeldMap) → db.schema ≡ schema_of layout → TablesHold layout held db.trees → HasVersion layout db (pos (version_of layout))
 has_version layout db held schema tables = record { schema = schema; rows = IsPermutation-same _ _ (ap (map (columns_at (0 ∷ []))) tables.meta) }

@@ -180,6 +180,11 @@ same_entries (e ∷ es) (f ∷ fs) extents elements =
     let both = same_front e.0 0 e.1.elements f.1.elements _ _ same.n there in
     ap₂ ◌∷◌ (same_entry e f same.off (same_blob e.1 f.1 same.fin same.digest same.kind both.0)) (same_entries es fs tail both.1)
 
+-- whatever else the trees are
+pub one_map_of : (layout : Layout) (one other : HeldMap) (db : Trees) → IsKept layout one → IsKept layout other → db 1 ≡ map extent_row (map extent_of (entries one)) → db 1 ≡ map extent_row (map extent_of (entries other))
+    → HoldElements layout (placed_in one) db → HoldElements layout (placed_in other) db → one ≡ other
+one_map_of layout one other db kept kept_too blob blob_too elements elements_too =
+    same_entries_map one other (same_entries (entries one) (entries other) (sym blob ∙ blob_too) (same_placed layout one other db kept kept_too elements elements_too))
+
 pub one_map : (layout : Layout) (one other : HeldMap) (db : Trees) → IsKept layout one → IsKept layout other → TablesHold layout one db → TablesHold layout other db → one ≡ other
-one_map layout one other db kept kept_too tables tables_too =
-    same_entries_map one other (same_entries (entries one) (entries other) (sym tables.blob ∙ tables_too.blob) (same_placed layout one other db kept kept_too tables.elements tables_too.elements))
+one_map layout one other db kept kept_too tables tables_too = one_map_of layout one other db kept kept_too tables.blob tables_too.blob tables.elements tables_too.elements

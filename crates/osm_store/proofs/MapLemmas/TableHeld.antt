@@ -15,7 +15,7 @@ use Rattle.osm_store.specs.Held.{HeldMap}
 use Rattle.osm_store.specs.Schema.Tables.{table_schema}
 use Rattle.osm_store.specs.Rows.{Placed, placed_in, is_in}
 use Rattle.osm_store.specs.TableRows.{Part, element_row, tags_at, tag_row, links_at, link_row}
-use Rattle.osm_store.specs.LayoutHolding.{HasRows, TablesHold}
+use Rattle.osm_store.specs.LayoutHolding.{HasRows, HoldElements, TablesHold}
 use Rattle.osm_store.proofs.MapLemmas.PlacedLaws.{placed_in_rise}
 use Rattle.osm_store.proofs.MapLemmas.PartLaws.{parts_own, parts_in}
 use Rattle.osm_store.proofs.LoadLemmas.ReadLemmas.{columns_at}
@@ -57,14 +57,18 @@ whole_links : (xs : List (Part MemberValue)) → AllByRecursion (λ (r : Row). m
 whole_links [] = tt
 whole_links (x ∷ xs) = (refl, whole_links xs)
 
-pub has_tables : (db : Database) (held : HeldMap) → db.schema ≡ table_schema → TablesHold Tables held db.trees → HasTables db (placed_in held)
-has_tables db held schema tables = record {
+-- whatever else the trees are
+pub tables_among : (db : Database) (held : HeldMap) → db.schema ≡ table_schema → HoldElements Tables (placed_in held) db.trees → HasTables db (placed_in held)
+tables_among db held schema elements = record {
   schema = schema;
-  elements = seen twelve_places twelve_shown (λ x r. refl) (λ e. cc) (map element_row (placed_in held)) (db.trees 2) (whole_elements (placed_in held)) tables.elements.0;
-  tags = seen five_places five_shown (λ x r. refl) (λ e. cc) (map tag_row (flat_map tags_at (placed_in held))) (db.trees 4) (whole_tags (flat_map tags_at (placed_in held))) tables.elements.1;
-  links = seen six_places six_shown (λ x r. refl) (λ e. cc) (map link_row (flat_map links_at (placed_in held))) (db.trees 6) (whole_links (flat_map links_at (placed_in held))) tables.elements.2;
+  elements = seen twelve_places twelve_shown (λ x r. refl) (λ e. cc) (map element_row (placed_in held)) (db.trees 2) (whole_elements (placed_in held)) elements.0;
+  tags = seen five_places five_shown (λ x r. refl) (λ e. cc) (map tag_row (flat_map tags_at (placed_in held))) (db.trees 4) (whole_tags (flat_map tags_at (placed_in held))) elements.1;
+  links = seen six_places six_shown (λ x r. refl) (λ e. cc) (map link_row (flat_map links_at (placed_in held))) (db.trees 6) (whole_links (flat_map links_at (placed_in held))) elements.2;
   ascending = placed_in_rise held;
 }
+
+pub has_tables : (db : Database) (held : HeldMap) → db.schema ≡ table_schema → TablesHold Tables held db.trees → HasTables db (placed_in held)
+has_tables db held schema tables = tables_among db held schema tables.elements
 
 -- ---- the parts of one blob
 

@@ -11,11 +11,13 @@ ghost use Rattle.osm_store.specs.LayoutHolding.{Holds, TablesHold};
 ghost use Rattle.osm_store.specs.Keeping.{IsForeign};
 ghost use Rattle.osm_store.specs.Schema.Layouts.{version_of};
 ghost use Rattle.osm_store.specs.Schema.Bodies.{no_schema};
+ghost use Rattle.osm_store.specs.Schema.Named.{HasTables};
 
 use crate::fault::{StoreFault, fault_over_unknown};
 use crate::schema::Layout;
 use crate::schema::create::create_tables;
 use crate::schema::sql::{BODY_VERSION, TABLE_VERSION};
+use crate::schema::tables::has_tables;
 use crate::schema::version::version;
 use sqlite::{Alter, Connection};
 use sqlite_schema::schema::Schema;
@@ -61,7 +63,8 @@ pub(crate) fn create_store<S: Alter>(
     }
 }
 
-/// The connection, if its tables name the version of the layout. Nothing else is read.
+/// The connection, if its tables name the version of the layout, and it has each of the layout's tables with each of their
+/// columns. No other row is read.
 pub(crate) fn adopt_store<S: Alter>(
     mut connection: Connection<S>,
     layout: Layout,
@@ -71,16 +74,19 @@ pub(crate) fn adopt_store<S: Alter>(
         → MatchResult result (λ found. HasCleanDisk (state S.Store found) → Holds layout (state S.Store found) held) (λ e. HasCleanDisk (state S.Store e.1) → ¬ (IsForeign e.0)) }
     ensures asks { MatchResult result (λ found. JustAsks (state S.Store connection) (state S.Store found)) (λ e. JustAsks (state S.Store connection) (state S.Store e.1)) }
     ensures settled { IfOk result (λ found. (state S.Store found).in_transaction ≡ false) }
+    ensures tables { IfOk result (λ found. HasTables layout (state S.Store found).now.schema) }
     ensures ours { IfOk result (λ found. HasCleanDisk (state S.Store found) → NamesVersion (state S.Store connection) (state S.Store found) (pos (version_of layout))) }
     ensures other { IfErr result (λ e. (found : ℤ) → e.0 ≡ StoreFault.NotThisStore (Some found) → (found ≢ pos (version_of layout)) × (HasCleanDisk (state S.Store e.1) → NamesVersion (state S.Store connection) (state S.Store e.1) found)) }
     ensures autocommit { IfErr result (λ e. (state S.Store e.1).in_transaction ≡ false) }
 {
     match version(&mut connection) {
         Ok(found) => {
-            if found == version_of(layout) {
+            if found != version_of(layout) {
+                Err((StoreFault::NotThisStore(Some(found)), connection))
+            } else if has_tables(connection.schema(), layout) {
                 Ok(connection)
             } else {
-                Err((StoreFault::NotThisStore(Some(found)), connection))
+                Err((StoreFault::NotThisStore(None), connection))
             }
         }
         Err(fault) => Err((fault, connection)),
