@@ -11,7 +11,7 @@ use Rattle.osm_store.specs.Rows.{version_row}
 use Rattle.osm_tree_writes.specs.Appending.{IsStoreAt}
 use Rattle.osm_tree_writes.specs.Putting.{IsIndexedStore}
 use Rattle.osm_trees.specs.Below.{IsChecked}
-use Rattle.osm_openings.specs.Tables.{table_listings}
+use Rattle.osm_tree_writes.specs.Tables.{table_listings}
 use Rattle.osm_databases.specs.Checked.{IsOfVersion}
 
 pub checked_after : (old new : View) → OnlyReads old new → new.is_broken ≡ false → IsIndexedStore new.trees → IsClean new → (IsClean old → IsOfVersion old) → IsStoreAt old.shape

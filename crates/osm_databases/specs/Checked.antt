@@ -4,7 +4,7 @@ use Rattle.sqlite_trees.specs.Objects.{catalog_tree}
 use Rattle.sqlite_trees.specs.View.{View}
 use Rattle.osm_store.specs.declared.schema.layout.Layout.TheVariants.{Tables}
 use Rattle.osm_store.specs.Rows.{version_row}
-use Rattle.osm_openings.specs.Tables.{table_listings}
+use Rattle.osm_tree_writes.specs.Tables.{table_listings}
 
 -- the store can go on, nothing is written, and its first trees are those of a store of this version
 pub record IsOfVersion (v : View) : Type 0 where

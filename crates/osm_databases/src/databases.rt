@@ -5,17 +5,23 @@ ghost use Rattle.std.specs.Prelude.{◌≡◌, false, ⊤, take, Some, IfOk, IfS
 ghost use Rattle.sqlite.specs.Held.{IsNew, state};
 ghost use Rattle.sqlite_trees.specs.Objects.{catalog_tree};
 ghost use Rattle.sqlite_trees.specs.View.{IsClean};
-ghost use Rattle.osm_openings.specs.Tables.{table_listings};
+ghost use Rattle.osm_tree_writes.specs.Tables.{table_listings};
 ghost use Rattle.osm_trees.specs.Below.{IsChecked};
 ghost use Rattle.osm_trees.specs.Ways.{MatchOpened, counted};
 ghost use Rattle.osm_tree_writes.specs.Appending.{IsStoreAt};
 ghost use Rattle.osm_databases.specs.Checked.{IsOfVersion};
 
 use crate::reason::{told, told_of};
-use crate::stores::{OpenedStore, adopted, adopted_or_made, checked, taking_blobs};
+use crate::stores::{
+    OpenedStore, adopted, adopted_or_made, checked, taking_blobs, without_added_indexes,
+};
+use osm_added_indexes::{is_added_index, is_of_a_store, plain_index};
 use osm_store::{BodyStore, StoreFault, TableStore};
 use osm_trees::{Opened, TreeStore};
 use sqlite::{Alter, Connection};
+use sqlite_schema::schema::Schema;
+use sqlite_trees::sound::bytes_of;
+use std::str::from_utf8;
 
 /// Where databases are opened and closed. Their trees are named, and not what they lie in: so all that is done with them
 /// stands in generic code. Why a database can't be opened is told on standard error.
@@ -47,6 +53,20 @@ pub trait CheckedDatabases: Databases {
         ensures { IfOk result (λ found. IfSome found (λ trees. IsClean (Self.Trees.Store.view trees) → IsOfVersion (Self.Trees.Store.view trees))) };
 }
 
+/// Whether a trigger binds one of pbfrow's tables, which SQL then keeps as it is and doesn't show.
+fn binds_a_table(schema: &Schema) -> bool {
+    schema.views.as_slice().iter().any(|view| view.is_bound && is_of_a_store(view.name.as_slice()))
+}
+
+/// The fault of a database in which SQL finds no store. Where a trigger binds one of its tables, which is told as it is opened,
+/// that is `Disk`; any other is told now.
+fn refused(rt: &HostRuntime, name: &str, is_bound: bool, fault: StoreFault) -> StoreFault {
+    if is_bound && fault == StoreFault::NotThisStore(None) {
+        return StoreFault::Disk;
+    }
+    told_of(rt, name, fault)
+}
+
 /// The store of a database that keeps elements in tables, by SQL, which looks at each page and row as it opens it. Nothing is
 /// written. Why it can't be opened is told on standard error.
 pub fn source_of_rows<D: Databases>(
@@ -57,9 +77,10 @@ pub fn source_of_rows<D: Databases>(
     ensures { IfOk result (λ store. store.failures ≡ 0) }
 {
     let connection = databases.connection(rt, name)?;
+    let is_bound = binds_a_table(connection.schema());
     match adopted(connection) {
         Ok(store) => Ok(store),
-        Err(fault) => Err(told_of(rt, name, fault)),
+        Err(fault) => Err(refused(rt, name, is_bound, fault)),
     }
 }
 
@@ -94,21 +115,68 @@ pub fn opened<D: Databases>(
     }
 }
 
-/// The trees that were found, if they are those of a store and stand alone, so that they take blobs.
-fn found_taking_blobs<S: Alter + Drop>(found: Option<S>) -> Option<S>
-    ensures same { IfSome result (λ kept. found ≡ Some kept) }
-    ensures store { IfSome result (λ kept. IsStoreAt (S.Store.view kept).shape) }
+/// Says on standard error which indexes somebody has added to the tables of the store that a put doesn't keep, and what to do.
+fn tell_of_refused_indexes<S: Alter>(
+    rt: &HostRuntime,
+    name: &str,
+    trees: &S,
+) -> Result<(), StoreFault> {
+    let objects = trees.objects(rt.alloc())?;
+    for row in objects.as_slice() {
+        let kept = plain_index(rt.alloc(), row)?;
+        if kept.is_none() && is_added_index(row) {
+            tell_of_refused_index(rt, name, bytes_of(row.get(2)));
+        }
+    }
+    Ok(())
+}
+
+/// Says so of the index of this name. A line that can't be written there is left out.
+fn tell_of_refused_index(rt: &HostRuntime, name: &str, index: &[u8]) {
+    if let Ok(index) = from_utf8(index) {
+        let _written = eprintln!(rt;
+            "pbfrow: {name}: index {index} is UNIQUE, of an expression, with WHERE, or on blob or meta, so the database is opened by SQL, if that can: drop the index with sqlite3 to go on without"
+        );
+    }
+}
+
+/// The trees that were found, if a put can keep all that the database has.
+fn found_taking_blobs<S: Alter + Drop>(
+    rt: &HostRuntime,
+    name: &str,
+    found: Option<S>,
+) -> Result<Option<S>, StoreFault>
+    ensures same { IfOk result (λ taking. IfSome taking (λ kept. found ≡ Some kept)) }
+    ensures store { IfOk result (λ taking. IfSome taking (λ kept. IsStoreAt (S.Store.view kept).shape)) }
 {
     match found {
-        Some(trees) => taking_blobs(trees),
-        None => None,
+        Some(trees) => {
+            tell_of_refused_indexes(rt, name, &trees)?;
+            told(rt, name, taking_blobs(rt.alloc(), trees))
+        }
+        None => Ok(None),
+    }
+}
+
+/// The trees that were found, if nobody has added an index to a table of the store.
+fn found_without_added_indexes<S: Alter + Drop>(
+    rt: &HostRuntime,
+    name: &str,
+    found: Option<S>,
+) -> Result<Option<S>, StoreFault>
+    ensures same { IfOk result (λ bare. IfSome bare (λ kept. found ≡ Some kept)) }
+    ensures store { IfOk result (λ bare. IfSome bare (λ kept. IsStoreAt (S.Store.view kept).shape)) }
+{
+    match found {
+        Some(trees) => told(rt, name, without_added_indexes(rt.alloc(), trees)),
+        None => Ok(None),
     }
 }
 
 /// The store of a database whose rows are to be compared, whatever these are. A database of this version is read by its
-/// trees: each page and each tree is looked at, and each index has one entry for each row. One with trees of another program
-/// that have to be written with the store's is opened by SQL, which looks at them all, and holds what it looks at in memory.
-/// Nothing is written. Why it can't be opened is told on standard error.
+/// trees: each page and each tree is looked at, and each index of the store has one entry for each row. One of whose tables
+/// somebody has made another index is opened by SQL, which looks at that too, and holds what it looks at in memory. Nothing
+/// is written. Why it can't be opened is told on standard error.
 pub fn opened_checked<D: CheckedDatabases>(
     rt: &HostRuntime,
     databases: &D,
@@ -119,7 +187,7 @@ pub fn opened_checked<D: CheckedDatabases>(
         (λ trees. IsClean (D.Trees.Store.view trees.store) → IsChecked (D.Trees.Store.view trees.store) × (take 9 ((D.Trees.Store.view trees.store).trees catalog_tree) ≡ table_listings)) (λ _. ⊤)) }
 {
     let found = databases.checked_trees(rt, name)?;
-    let Some(trees) = found_taking_blobs(found) else {
+    let Some(trees) = found_without_added_indexes(rt, name, found)? else {
         return Ok(Opened::BySql(source_of_rows(rt, databases, name)?));
     };
     let store = told(rt, name, checked(rt.alloc(), trees))?;
@@ -167,9 +235,10 @@ pub fn opened_of_any_version<D: Databases>(
         return Ok(AnyVersion::Tables(Opened::ByTrees(TreeStore::new(trees))));
     }
     let connection = databases.connection(rt, name)?;
+    let is_bound = binds_a_table(connection.schema());
     match adopted_of_any_version(connection) {
         Ok(store) => Ok(store),
-        Err(fault) => Err(told_of(rt, name, fault)),
+        Err(fault) => Err(refused(rt, name, is_bound, fault)),
     }
 }
 
@@ -182,15 +251,16 @@ fn filled_by_sql<D: Databases>(
     ensures { IfOk result (λ store. counted (λ trees. trees.failures) (λ store. store.failures) store ≡ 0) }
 {
     let connection = databases.connection(rt, name)?;
+    let is_bound = binds_a_table(connection.schema());
     match adopted_or_made(connection) {
         Ok(store) => Ok(store),
-        Err(fault) => Err(told_of(rt, name, fault)),
+        Err(fault) => Err(refused(rt, name, is_bound, fault)),
     }
 }
 
 /// The store of a database that is to take blobs, which is made if there is none. A database of this version, and one that is
-/// made, is written by its trees; one with trees of another program is opened by SQL. Why it can't be opened is told on
-/// standard error.
+/// made, is written by its trees; one of whose tables somebody has made an index that a put doesn't keep is opened by SQL.
+/// Why it can't be opened is told on standard error.
 pub fn opened_or_made<D: Databases>(
     rt: &HostRuntime,
     databases: &D,
@@ -198,8 +268,8 @@ pub fn opened_or_made<D: Databases>(
 ) -> Result<OpenedStore<D::Trees>, StoreFault>
     ensures { IfOk result (λ store. counted (λ trees. trees.failures) (λ store. store.failures) store ≡ 0) }
 {
-    let trees = databases.trees(rt, name)?;
-    match trees.and_then(taking_blobs) {
+    let found = databases.trees(rt, name)?;
+    match found_taking_blobs(rt, name, found)? {
         Some(trees) => Ok(Opened::ByTrees(TreeStore::new(trees))),
         None => filled_by_sql(rt, databases, name),
     }

@@ -1,10 +1,9 @@
 //! The store that a connection has, one that is made where there is none, and trees that take blobs.
 
-ghost use Rattle.std.specs.Prelude.{◌≡◌, ◌≢◌, false, ⊤, take, IsTrue, IfOk, IfSome};
+ghost use Rattle.std.specs.Prelude.{◌≡◌, ◌≢◌, false, ⊤, take, IfOk, IfSome};
 ghost use Rattle.std.specs.FinMap.{empty};
 ghost use Rattle.sqlite.specs.State.{HasCleanDisk};
 ghost use Rattle.sqlite.specs.Held.{state};
-ghost use Rattle.sqlite_trees.specs.Objects.{catalog_tree};
 ghost use Rattle.sqlite_trees.specs.View.{IsClean};
 ghost use Rattle.osm_store.specs.Held.{HeldMap};
 ghost use Rattle.osm_store.specs.declared.schema.layout.Layout.TheVariants.{Tables};
@@ -12,14 +11,17 @@ ghost use Rattle.osm_store.specs.LayoutHolding.{Holds};
 ghost use Rattle.osm_store.specs.Load.Asking.{JustAsks};
 ghost use Rattle.osm_store.specs.Schema.Bodies.{no_schema};
 ghost use Rattle.sqlite_exec.specs.Calls.{OnlyReads};
-ghost use Rattle.osm_tree_writes.specs.Appending.{IsStoreAt, HasNoMoreIndexes, HasNoMoreTrees};
+ghost use Rattle.sqlite_trees.specs.Objects.{catalog_tree};
+ghost use Rattle.osm_added_indexes.specs.Added.{HasNoAddedIndex};
+ghost use Rattle.osm_tree_writes.specs.Appending.{IsStoreAt, TakeBlobs};
 ghost use Rattle.osm_tree_writes.specs.Putting.{IsIndexedStore};
-ghost use Rattle.osm_trees.specs.Below.{HoldsBelow, IsChecked};
+ghost use Rattle.osm_trees.specs.Below.{HoldsBelow, IsChecked, StandsAlone};
 ghost use Rattle.osm_trees.specs.Ways.{MatchOpened, counted};
-ghost use Rattle.osm_openings.specs.Tables.{table_listings};
+ghost use Rattle.osm_tree_writes.specs.Tables.{table_listings};
 ghost use Rattle.osm_databases.specs.Checked.{IsOfVersion};
 
 use crate::reason::{Reason, Refusal};
+use osm_added_indexes::has_added_index;
 use osm_store::{StoreFault, TableStore};
 use osm_tree_audits::faulty_index;
 use osm_tree_writes::takes_blobs;
@@ -45,12 +47,13 @@ pub fn adopted<S: Alter + Drop>(connection: Connection<S>) -> Result<TableStore<
     }
 }
 
-/// The trees of a store that is made in a database without tables. It holds no blob. Where the database has a table, an index
+/// The trees of a store that is made in a database without tables. It holds no blob, and no object stands beside its own. Where the database has a table, an index
 /// or a view, whosever it is, nothing is written, and the fault is `NotThisStore(None)`; any other is that of
 /// `TableStore::create`.
 pub fn made<S: Alter + Drop>(connection: Connection<S>) -> Result<TreeStore<S>, StoreFault>
     requires { (state S.Store connection).in_transaction ≡ false }
     ensures empty { IfOk result (λ trees. IsClean (S.Store.view trees.store) → HoldsBelow Tables (S.Store.view trees.store) empty) }
+    ensures alone { IfOk result (λ trees. IsClean (S.Store.view trees.store) → StandsAlone (S.Store.view trees.store) (S.Store.recovers trees.store)) }
     ensures bare { (state S.Store connection).now.schema ≢ no_schema → result ≡ Err (StoreFault.NotThisStore None) }
     ensures failures { IfOk result (λ trees. trees.failures ≡ 0) }
 {
@@ -71,7 +74,7 @@ pub fn adopted_or_made<S: Alter + Drop>(
     connection: Connection<S>,
 ) -> Result<OpenedStore<S>, StoreFault>
     requires { (state S.Store connection).in_transaction ≡ false }
-    ensures made { IfOk result (λ opened. MatchOpened opened (λ trees. IsClean (S.Store.view trees.store) → HoldsBelow Tables (S.Store.view trees.store) empty) (λ _. ⊤)) }
+    ensures made { IfOk result (λ opened. MatchOpened opened (λ trees. IsClean (S.Store.view trees.store) → HoldsBelow Tables (S.Store.view trees.store) empty × StandsAlone (S.Store.view trees.store) (S.Store.recovers trees.store)) (λ _. ⊤)) }
     ensures adopted { IfOk result (λ opened. MatchOpened opened (λ _. ⊤) (λ store. JustAsks (state S.Store connection) (state S.Store store.connection))) }
     ensures held { IfOk result (λ opened. MatchOpened opened (λ _. ⊤)
         (λ store. HasCleanDisk (state S.Store store.connection) → (held : HeldMap) → Holds Tables (state S.Store connection) held → Holds Tables (state S.Store store.connection) held)) }
@@ -87,18 +90,38 @@ pub fn adopted_or_made<S: Alter + Drop>(
     Ok(Opened::ByTrees(made(connection)?))
 }
 
-/// The trees, if a put can keep all that the database has: they are the tables of a store and their indexes, and nothing
-/// beside them. Where there is more they are dropped: an index of one's own on a table of the store has to be written too,
-/// which SQL does.
-pub fn taking_blobs<S: Store + Drop>(trees: S) -> Option<S>
-    ensures same { IfSome result (λ kept. kept ≡ trees) }
-    ensures store { IfSome result (λ kept. IsStoreAt (S.Store.view kept).shape × HasNoMoreIndexes (S.Store.view kept).shape) }
-    ensures whole { IsStoreAt (S.Store.view trees).shape → HasNoMoreTrees (S.Store.view trees).shape → result ≡ Some trees }
+/// The trees, if a put can keep all that the database has: each index that somebody has added to a table of the store is one
+/// of columns of the table of elements, of tags or of links (`osm_added_indexes::plain_index`). Where there is another they are
+/// dropped, and SQL writes it. Views, and tables of other names with their indexes, are left as they are. A fault is
+/// `Memory`.
+pub fn taking_blobs<S: Alter + Drop>(alloc: Global, trees: S) -> Result<Option<S>, Refusal>
+    ensures same { IfOk result (λ found. IfSome found (λ kept. kept ≡ trees)) }
+    ensures store { IfOk result (λ found. IfSome found (λ kept. IsStoreAt (S.Store.view kept).shape)) }
+    ensures indexed { IfOk result (λ found. IfSome found (λ kept. IsClean (S.Store.view kept) → TakeBlobs (S.Store.view kept).shape ((S.Store.view kept).trees catalog_tree))) }
+    ensures whole { IfOk result (λ found. IsClean (S.Store.view trees) → TakeBlobs (S.Store.view trees).shape ((S.Store.view trees).trees catalog_tree) → found ≡ Some trees) }
 {
-    if takes_blobs(&trees) {
-        Some(trees)
+    let takes_blobs = takes_blobs(alloc, &trees)?;
+    if takes_blobs {
+        Ok(Some(trees))
     } else {
-        None
+        Ok(None)
+    }
+}
+
+/// The trees, if they have the tables of a store and nobody has added an index to one of these; else they are dropped. A
+/// fault is `Memory`.
+pub fn without_added_indexes<S: Alter + Drop>(alloc: Global, trees: S) -> Result<Option<S>, Refusal>
+    ensures same { IfOk result (λ found. IfSome found (λ kept. kept ≡ trees)) }
+    ensures store { IfOk result (λ found. IfSome found (λ kept. IsStoreAt (S.Store.view kept).shape)) }
+    ensures indexed { IfOk result (λ found. IfSome found (λ kept. IsClean (S.Store.view kept) → HasNoAddedIndex ((S.Store.view kept).trees catalog_tree))) }
+    ensures whole { IfOk result (λ found. IsStoreAt (S.Store.view trees).shape → IsClean (S.Store.view trees) → HasNoAddedIndex ((S.Store.view trees).trees catalog_tree) → found ≡ Some trees) }
+{
+    let takes_blobs = takes_blobs(alloc, &trees)?;
+    let has_added_index = has_added_index(alloc, &trees)?;
+    if takes_blobs && !has_added_index {
+        Ok(Some(trees))
+    } else {
+        Ok(None)
     }
 }
 

@@ -37,6 +37,7 @@ fn deliver_good<K: Keeper>(
         → Delivers (K.is_open keeper.new) (K.holds keeper.new) held off bytes.now result }
     ensures crash { (held : HeldMap) → K.holds keeper.old held → K.is_honest keeper.new → CrashLeaves (K.leaves keeper.new) held off bytes.now }
     ensures whole { (held : HeldMap) → K.holds keeper.old held → K.is_honest keeper.new → K.leaves_a_map keeper.new }
+    ensures alone { (held : HeldMap) → K.holds keeper.old held → K.is_honest keeper.new → K.is_alone keeper.old → K.is_alone keeper.new }
     ensures own { (held : HeldMap) → K.holds keeper.old held → K.is_honest keeper.new → IsOwn result }
     ensures cause { FaultHasCause (K.failures keeper.old) (K.failures keeper.new) result }
     ensures honest { K.is_honest keeper.new → K.is_honest keeper.old }
@@ -86,6 +87,7 @@ pub fn deliver<K: Keeper>(alloc: Global, keeper: &mut K, off: u64, bytes: &[u8])
     ensures events { (held : HeldMap) → K.holds keeper.old held → K.is_honest keeper.new
         → LeavesEvents (K.leaves keeper.new) held (record { off = off; bytes = bytes.now }) result }
     ensures whole { (held : HeldMap) → K.holds keeper.old held → K.is_honest keeper.new → K.leaves_a_map keeper.new }
+    ensures alone { (held : HeldMap) → K.holds keeper.old held → K.is_honest keeper.new → K.is_alone keeper.old → K.is_alone keeper.new }
 
     // Why a fault is answered.
     ensures own { (held : HeldMap) → K.holds keeper.old held → K.is_honest keeper.new → IsOwn result }

@@ -1,4 +1,3 @@
 pub mod Catalog
 pub mod Obstacles
 pub mod Presumed
-pub mod Tables

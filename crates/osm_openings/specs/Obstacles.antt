@@ -1,11 +1,8 @@
 -- What stands in the way of opening a database.
-use Rattle.std.specs.Prelude.{Bool, List, ℕ, ◌&&◌, ◌||◌, codes}
+use Rattle.std.specs.Prelude.{Bool, ◌&&◌, codes}
 use Rattle.sqlite_value.specs.Order.{Row, column, bytes}
-use Rattle.sqlite_trees.specs.Sound.{is_word, is_virtual, same_name}
-
--- the name of a table of a store, in any case
-abbrev pub is_of_a_store : List ℕ → Bool
-is_of_a_store name = same_name name (codes "meta") || same_name name (codes "blob") || same_name name (codes "element") || same_name name (codes "tag") || same_name name (codes "link")
+use Rattle.sqlite_trees.specs.Sound.{is_word, is_virtual}
+use Rattle.osm_added_indexes.specs.Added.{is_of_a_store}
 
 -- the row of `sqlite_schema` tells of a trigger on such a table
 abbrev pub binds_a_store : Row → Bool

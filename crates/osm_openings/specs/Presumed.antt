@@ -1,12 +1,12 @@
 -- What is presumed of two files that are opened with most of their pages unread, and what the trees are that such files read as.
-use Rattle.std.specs.Prelude.{◌≡◌, ℕ, ◌<◌, Bool, true, List, map, length, All, IsTrue, slice_get, Some, None, if◌then◌else◌, codes}
+use Rattle.std.specs.Prelude.{◌≡◌, ℕ, ◌<◌, Bool, true, List, map, length, All, IsTrue, slice_get, Option, Some, None, if◌then◌else◌, codes}
 use Rattle.sqlite_value.specs.Order.{Row, column}
 use Rattle.sqlite_value.specs.Keys.{plain}
 use Rattle.sqlite_trees.specs.Sound.{is_word}
 use Rattle.sqlite_trees.specs.Tree.{Trees}
 use Rattle.sqlite_trees.specs.declared.schema.Object.{Object}
 use Rattle.sqlite_trees.specs.declared.store.Shape.{Shape}
-use Rattle.sqlite_trees.specs.declared.store.Shape.TheVariants.{Table, Pageless, FrozenTable, FrozenIndex}
+use Rattle.sqlite_trees.specs.declared.store.Shape.TheVariants.{Table, Index, Pageless, FrozenTable, FrozenIndex}
 use Rattle.sqlite_pages.specs.PageMap.{PageMap}
 use Rattle.sqlite_pool.specs.File.{in_use}
 use Rattle.sqlite_pool.specs.Stored.{Recovers}
@@ -22,12 +22,19 @@ use Rattle.sqlite_store.specs.Joined.{joined}
 use Rattle.sqlite_store.specs.Listing.{listed_from, file_trees}
 use Rattle.sqlite_store.specs.Roots.{has_index_root}
 use Rattle.sqlite_store.specs.Unopened.{state_of, image, wanted_by}
+use Rattle.sqlite_schema.specs.declared.schema.Index.{Index as Added}
+use Rattle.osm_added_indexes.specs.Added.{plain_index}
 use Rattle.osm_openings.specs.Catalog.{unrooted, entry, listings, ListsFirst}
-use Rattle.osm_openings.specs.Tables.{table_listings}
+use Rattle.osm_tree_writes.specs.Tables.{table_listings}
 
--- the shape in which a tree of another program is read
+-- the order of an index that a put keeps is that which its text asks; any other is read as it is, and never written
+abbrev pub index_shape : Option Added → Shape
+index_shape None = FrozenIndex plain
+index_shape (Some index) = Index index.order
+
+-- the shape of a tree that is none of a store's own
 abbrev pub foreign_shape : Row → Bool → Shape
-foreign_shape row has_index_root = if is_word (codes "view") (column row 1) then Pageless else (if has_index_root then FrozenIndex plain else FrozenTable)
+foreign_shape row has_index_root = if is_word (codes "view") (column row 1) then Pageless else (if has_index_root then index_shape (plain_index row) else FrozenTable)
 
 -- these are the shapes and the REAL columns of the trees of these rows, of which the first are those of the objects
 pub record AreLayouts (objects : List Object) (rows : List Row) (roots : List Bool) (layouts : List (Shape × ℕ)) : Type 0 where

@@ -5,8 +5,10 @@ ghost use Rattle.sqlite_trees.specs.declared.schema.Object.{Object as Listed};
 ghost use Rattle.osm_openings.specs.Catalog.{unrooted, entry, ListsFirst};
 ghost use Rattle.sqlite_store.specs.Catalog.{page_number};
 ghost use Rattle.sqlite_value.specs.Order.{column};
-ghost use Rattle.osm_openings.specs.Presumed.{foreign_shape, AreLayouts, IsTreeOrView};
+ghost use Rattle.osm_added_indexes.specs.Added.{plain_index};
+ghost use Rattle.osm_openings.specs.Presumed.{foreign_shape, index_shape, AreLayouts, IsTreeOrView};
 
+use osm_added_indexes::plain_index;
 use sqlite_trees::schema::Object;
 use sqlite_trees::sound::is_word;
 use sqlite_trees::store::Shape;
@@ -101,27 +103,43 @@ pub(crate) fn are_trees_and_views(rows: &[Row]) -> bool
     rows.iter().all(is_tree_or_view)
 }
 
-/// The shape of a tree of another program, which is read as it is and never written.
-fn foreign_shape(row: &Row, has_index_root: bool) -> Shape
-    ensures { result ≡ foreign_shape row.now has_index_root }
+/// The shape of an index: it is written if a put keeps it, and else read as it is.
+fn index_shape(alloc: Global, row: &Row) -> Result<Shape, AllocError>
+    ensures { IfOk result (λ shape. shape ≡ index_shape (plain_index row.now)) }
+{
+    match plain_index(alloc, row)? {
+        Some(index) => Ok(Shape::Index(index.order)),
+        None => Ok(Shape::FrozenIndex(Order::PLAIN)),
+    }
+}
+
+/// The shape of a tree that is none of a store's own: one of another program is read as it is and never written.
+fn foreign_shape(alloc: Global, row: &Row, has_index_root: bool) -> Result<Shape, AllocError>
+    ensures { IfOk result (λ shape. shape ≡ foreign_shape row.now has_index_root) }
 {
     if is_word(b"view", row.get(1)) {
-        Shape::Pageless
+        Ok(Shape::Pageless)
     } else if has_index_root {
-        Shape::FrozenIndex(Order::PLAIN)
+        index_shape(alloc, row)
     } else {
-        Shape::FrozenTable
+        Ok(Shape::FrozenTable)
     }
 }
 
 /// The shape and the REAL columns of the tree with this number, whose row this is.
-fn layout(objects: &[Object<'_>], tree: usize, row: &Row, has_index_root: bool) -> (Shape, u64)
-    ensures first { (o : Listed) → slice_get objects.now tree ≡ Some o → result ≡ (o.shape, o.reals) }
-    ensures other { slice_get objects.now tree ≡ None → result ≡ (foreign_shape row.now has_index_root, 0) }
+fn layout(
+    alloc: Global,
+    objects: &[Object<'_>],
+    tree: usize,
+    row: &Row,
+    has_index_root: bool,
+) -> Result<(Shape, u64), AllocError>
+    ensures first { IfOk result (λ layout. (o : Listed) → slice_get objects.now tree ≡ Some o → layout ≡ (o.shape, o.reals)) }
+    ensures other { IfOk result (λ layout. slice_get objects.now tree ≡ None → layout ≡ (foreign_shape row.now has_index_root, 0)) }
 {
     match objects.get(tree) {
-        Some(object) => (object.shape, object.reals),
-        None => (foreign_shape(row, has_index_root), 0),
+        Some(object) => Ok((object.shape, object.reals)),
+        None => Ok((foreign_shape(alloc, row, has_index_root)?, 0)),
     }
 }
 
@@ -139,7 +157,7 @@ pub(crate) fn layouts(
 {
     let mut all = Vec::new(alloc);
     for tree in 0..rows.len() {
-        all.push(layout(objects, tree, &rows[tree], has_index_root[tree]))?;
+        all.push(layout(alloc, objects, tree, &rows[tree], has_index_root[tree])?)?;
     }
     Ok(all)
 }

@@ -1,13 +1,14 @@
 //! What stands in the way of a database that can't be opened.
 
 ghost use Rattle.std.specs.Prelude.{◌≡◌, IsTrue};
-ghost use Rattle.osm_openings.specs.Obstacles.{binds_a_store, is_of_a_store, is_virtual_table};
+ghost use Rattle.osm_openings.specs.Obstacles.{binds_a_store, is_virtual_table};
 
 use crate::opening::page_size;
+use osm_added_indexes::is_of_a_store;
 use sqlite_disk::{Disk, Files};
 use sqlite_pager::{Options, Pager};
 use sqlite_store::{OpenError, Unopened};
-use sqlite_trees::sound::{bytes_of, is_virtual, is_word, same_name};
+use sqlite_trees::sound::{bytes_of, is_virtual, is_word};
 use sqlite_value::row::Row;
 use std::alloc::{AllocError, Global};
 use thiserror::Error;
@@ -38,17 +39,6 @@ fn is_auto_vacuumed<D: Disk>(db: &mut D) -> bool
 {
     let mut root = [0; 4];
     db.read_at(LARGEST_ROOT, &mut root).is_ok() && root != [0; 4]
-}
-
-/// Whether this is the name of a table of a store.
-fn is_of_a_store(name: &[u8]) -> bool
-    ensures { result ≡ is_of_a_store name.now }
-{
-    same_name(name, b"meta")
-        || same_name(name, b"blob")
-        || same_name(name, b"element")
-        || same_name(name, b"tag")
-        || same_name(name, b"link")
 }
 
 /// Whether a row tells of a trigger on a table of a store.

@@ -4,7 +4,7 @@ ghost use Rattle.std.specs.Prelude.{◌≡◌, ◌<◌, ◌^◌, None, length, f
 ghost use Rattle.sqlite_trees.specs.Objects.{catalog_tree, object_row};
 ghost use Rattle.sqlite_store.specs.FileStore.{view, is_shielded, IsReady};
 ghost use Rattle.sqlite_store.specs.Listing.{listed_from};
-ghost use Rattle.sqlite_store.specs.Unopened.{state_of, wanted_by, AreUsable};
+ghost use Rattle.sqlite_store.specs.Unopened.{files_of, state_of, wanted_by, AreUsable};
 ghost use Rattle.sqlite_wal.specs.Files.{seen_image};
 ghost use Rattle.sqlite_wal.specs.PageSize.{bytes_of};
 ghost use Rattle.sqlite_wal.specs.Reads.{AreClean};
@@ -44,6 +44,25 @@ pub(crate) fn page_size<D: Disk>(
         Err(Error::OutOfMemory) => Err(AllocError),
         Err(_) => Ok(None),
     }
+}
+
+/// The files as they are before they are opened: no tree of theirs is known, and their pages end in no sums.
+fn unopened<D: Disk + Drop>(
+    alloc: Global,
+    files: Files<D>,
+    size: PageSize,
+    options: Options,
+) -> Result<Unopened<D>, AllocError>
+    requires log { IsTrue (D.Disk.is_usable files.log) }
+    requires db { IsTrue (D.Disk.is_usable files.db) }
+    ensures files { IfOk result (λ it. files_of it ≡ (files.log, files.db)) }
+    ensures usable { IfOk result AreUsable }
+    ensures size { IfOk result (λ it. (state_of it).page_size ≡ bytes_of size) }
+    ensures honest { IfOk result (λ it. IsTrue (state_of it).is_clean → AreClean D.Disk files.log files.db) }
+{
+    let pager = Pager::new(alloc, files, size, options)?;
+    let unopened = Unopened::new(alloc, pager, &[])?;
+    Ok(unopened)
 }
 
 /// What a failure to read means: memory was refused, or any other cause.
@@ -124,8 +143,7 @@ pub(crate) fn open_listed<D: Disk + Drop>(
     let Some(size) = page_size(alloc, &mut files)? else {
         return Ok(None);
     };
-    let pager = Pager::new(alloc, files, size, options)?;
-    let mut unopened = Unopened::new(alloc, pager, &[])?;
+    let mut unopened = unopened(alloc, files, size, options)?;
     if !list(alloc, &mut unopened, objects)? {
         return Ok(None);
     }
@@ -155,8 +173,7 @@ pub(crate) fn open_checked<D: Disk + Drop>(
     let Some(size) = page_size(alloc, &mut files)? else {
         return Ok(None);
     };
-    let pager = Pager::new(alloc, files, size, options)?;
-    let mut unopened = Unopened::new(alloc, pager, &[])?;
+    let mut unopened = unopened(alloc, files, size, options)?;
     if !list(alloc, &mut unopened, objects)? {
         return Ok(None);
     }

@@ -10,7 +10,7 @@ ghost use Rattle.osm_store.specs.declared.schema.layout.Layout.{Layout};
 ghost use Rattle.osm_store.specs.Rows.{version_row};
 ghost use Rattle.osm_openings.specs.Catalog.{listings};
 ghost use Rattle.osm_openings.specs.Presumed.{ArePresumedTables, ReadsAs};
-ghost use Rattle.osm_openings.specs.Tables.{table_listing, index_listing, table_listings};
+ghost use Rattle.osm_tree_writes.specs.Tables.{table_listing, index_listing, table_listings};
 
 use crate::opening::{open_checked, open_listed};
 use crate::version::has_only;

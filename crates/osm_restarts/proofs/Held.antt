@@ -1,5 +1,6 @@
 -- A store that is opened after a crash has one of the maps that the crash may leave.
-use Rattle.std.proofs.Common.{◌≡◌, ◌∙◌, false, refl, sym, subst, ap}
+use Rattle.std.proofs.Common.{◌≡◌, ◌∙◌, false, refl, sym, subst, ap, inr}
+use Rattle.std.specs.Prelude.{take}
 use Rattle.std.proofs.Math.Logic.{∥∥₁_elim}
 use Rattle.sqlite_disk.specs.declared.Disk.{Ghosts}
 use Rattle.sqlite_wal.specs.Recovery.{Image}
@@ -9,25 +10,24 @@ use Rattle.sqlite_trees.specs.Objects.{catalog_tree}
 use Rattle.sqlite_trees.specs.Props.{Trees-set}
 use Rattle.sqlite_trees.specs.Tree.{Trees}
 use Rattle.sqlite_trees.specs.View.{View, IsClean}
-use Rattle.sqlite_catalog.specs.Listing.{Lists}
 use Rattle.sqlite_store.specs.Db.{IsFile}
 use Rattle.sqlite_store.specs.Listing.{listed_from, file_trees}
 use Rattle.sqlite_store.specs.declared.store.FileStore.{FileStore}
 use Rattle.sqlite_store.specs.FileStore.{state, view, schema_in, reading, recovers}
 use Rattle.osm_store.specs.declared.schema.layout.Layout.TheVariants.{Tables}
 use Rattle.osm_store.specs.Held.{HeldMap}
-use Rattle.osm_store.specs.LayoutHolding.{TablesHold}
-use Rattle.osm_store.specs.Schema.Tables.{table_schema}
-use Rattle.osm_store.proofs.MapLemmas.OneMap.{one_map}
+use Rattle.osm_tree_writes.specs.Beside.{HasAStore}
+use Rattle.osm_tree_writes.specs.Tables.{table_listings}
+use Rattle.osm_tree_writes.proofs.Obeying.{one_map_below}
 use Rattle.osm_trees.specs.Below.{HoldsBelow, LeavesAMap, MayLeave}
 use Rattle.osm_openings.specs.Presumed.{ReadsAs}
-use Rattle.osm_openings.specs.Tables.{table_listings}
 use Rattle.osm_openings.proofs.OpeningLemmas.{listed_in, same_pages}
-use Rattle.osm_restarts.proofs.OneList.{one_database}
+use Rattle.osm_restarts.proofs.NineTrees.{own_trees, hold_again}
+use Rattle.osm_restarts.proofs.OneList.{one_store}
 use Rattle.osm_restarts.proofs.Sizes.{names_size}
 
 module _ {D : Type 0} {g : Ghosts D} (it : FileStore D g) (v : View) (plain : (view it).has_sums ≡ false) (image : Image) (may : (state it).may_leave image)
-    (reads : ReadsAs image v.trees) (lists : v.trees catalog_tree ≡ table_listings) where
+    (reads : ReadsAs image v.trees) (lists : take 9 (v.trees catalog_tree) ≡ table_listings) where
   size_is : reads.size ≡ (state it).page_size
   size_is = names_size it plain image may reads.size reads.names
 
@@ -41,24 +41,24 @@ module _ {D : Type 0} {g : Ghosts D} (it : FileStore D g) (v : View) (plain : (v
   may_be_left : recovers it left
   may_be_left = (image, reads.pages, may, ∣ found ∣₁, refl)
 
-  lists_own : listed_from 0 reads.schema ≡ table_listings
-  lists_own = sym (listed_in reads.size reads.schema reads.pages) ∙ ap (λ (trees : Trees). trees catalog_tree) (sym reads.read) ∙ lists
+  first_own : take 9 (listed_from 0 reads.schema) ≡ table_listings
+  first_own = ap (take 9) (sym (listed_in reads.size reads.schema reads.pages) ∙ ap (λ (trees : Trees). trees catalog_tree) (sym reads.read)) ∙ lists
 
-  reads_same : Lists (left catalog_tree) table_schema → left ≡ v.trees
+  reads_same : HasAStore Tables (left catalog_tree) → own_trees left ≡ own_trees v.trees
   reads_same listed =
       ∥∥₁_elim it.safe (Trees-set _ _) (λ all.
       let there = all image may in
       let pages : there.0 ≡ reads.pages = same_pages (state it).page_size image there.0 reads.pages there.1 found in
       ∥∥₁_elim there.2 (Trees-set _ _) (λ ours. ∥∥₁_elim reads.sound (Trees-set _ _) (λ file.
-      one_database (state it).page_size (schema_in it reads.pages) reads.schema reads.pages
+      one_store (state it).page_size (schema_in it reads.pages) reads.schema reads.pages
       (subst (λ (p : PageMap). IsFile (state it).page_size (schema_in it p) p) pages ours.file) (subst (λ n. IsFile n reads.schema reads.pages) size_is file)
-      (subst (λ rows. Lists rows table_schema) (listed_in (state it).page_size (schema_in it reads.pages) reads.pages) listed) lists_own
-      ∙ ap (λ n. file_trees n reads.schema reads.pages) (sym size_is) ∙ sym reads.read)))
+      (subst (HasAStore Tables) (listed_in (state it).page_size (schema_in it reads.pages) reads.pages) listed) first_own
+      ∙ ap own_trees (ap (λ n. file_trees n reads.schema reads.pages) (sym size_is) ∙ sym reads.read))))
 
   pub restart_holds : LeavesAMap (recovers it) → IsClean v → v.is_broken ≡ false → v.trees ≡ v.committed → (held : HeldMap) × MayLeave (recovers it) held × HoldsBelow Tables v held
   restart_holds leaves clean unbroken settled =
       let (held, kept, tables) = leaves left may_be_left in
-      let now = subst (TablesHold Tables held) (reads_same tables.sound.lists) tables in (
+      let now = hold_again held left v.trees (reads_same tables.lists) (inr lists) tables in (
         held,
         record { kept = kept; trees = left; left = may_be_left; tables = tables },
         record {
@@ -67,6 +67,6 @@ module _ {D : Type 0} {g : Ghosts D} (it : FileStore D g) (v : View) (plain : (v
           settled = settled;
           kept = kept;
           tables = now;
-          only = λ other kept_too tables_too. one_map Tables other held v.trees kept_too kept tables_too now;
+          only = λ other kept_too tables_too. one_map_below Tables other held v.trees kept_too kept tables_too now;
         },
       )

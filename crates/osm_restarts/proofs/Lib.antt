@@ -9,12 +9,11 @@ pub mod PremiseLemmas
 mod Entries
 mod Events
 mod Held
-mod Members
+mod NineTrees
 mod OneList
 mod Places
 mod SameTrees
 mod Sizes
 mod Twins
 mod Unused
-mod StoreList
 mod VerifiedLemmas

@@ -16,15 +16,17 @@ use Rattle.sqlite_trees.specs.Sound.{begins, same_name, is_word, is_virtual}
 use Rattle.sqlite_schema.specs.declared.schema.Table.{Table as SqlTable}
 use Rattle.sqlite_schema.specs.declared.schema.Index.{Index as SqlIndex}
 use Rattle.osm_store.specs.Schema.Bodies.{meta, blob}
-use Rattle.sqlite_catalog.specs.Listing.{Describes, is_table_row, is_view_row, is_index_row, IsTableRow, IsIndexRow, IsViewRow, AreListed, Lists}
+use Rattle.sqlite_catalog.specs.Listing.{Describes, is_table_row, is_view_row, is_index_row, IsTableRow, IsIndexRow, IsViewRow, AreListed}
 use Rattle.sqlite_store.specs.declared.catalog.Wanted.{Wanted}
 use Rattle.sqlite_store.specs.Catalog.{fits_shape, wanted_of}
 use Rattle.sqlite_store.specs.Listing.{listed_from}
 use Rattle.osm_store.specs.Schema.Tables.{element, tag, link, element_key, tag_key, link_key, element_by_id, table_schema}
 use Rattle.osm_openings.specs.Catalog.{listings}
-use Rattle.osm_openings.specs.Tables.{table_listings}
+use Rattle.osm_tree_writes.specs.Beside.{ListsAlone}
+use Rattle.osm_tree_writes.specs.Tables.{table_listings}
 use Rattle.osm_restarts.proofs.PlaceLemmas.{all_at}
 use Rattle.osm_restarts.proofs.ListedLemmas.{listed_at}
+use Rattle.osm_restarts.proofs.OneList.{numbered}
 use Rattle.osm_restarts.proofs.SchemaLemmas.{Knows, HasPages, HasOnly}
 
 -- ---- the rows of objects
@@ -139,12 +141,16 @@ own_row rows listed k row at = elim (cases_Bool (is_table_row row)) [
   ]
 ]
 
+own_listing : (k : ℕ) (row : Row) → slice_get table_listings k ≡ Some row → IsOwn row
+own_listing k row at = record { tree = k; own = row; at = at; id = numbered k row at; name = refl; code = refl }
+
 -- a list that lists a store of tables, or nothing, has no other tree than these
-pub only_own : (objects : List Object) (schema : List Wanted) → listings 0 objects ≡ table_listings → Lists (listed_from 0 schema) table_schema ⊎ (listed_from 0 schema ≡ []) → HasOnly objects schema
+pub only_own : (objects : List Object) (schema : List Wanted) → listings 0 objects ≡ table_listings → ListsAlone (listed_from 0 schema) ⊎ (listed_from 0 schema ≡ []) → HasOnly objects schema
 only_own objects schema are lists t w there present =
     let l = listed_at 0 schema t w there present in
     known (elim lists [
-      | inl some ↦ own_row (listed_from 0 schema) some.listed l.0 _ l.1
+      | inl (inl some) ↦ own_row (listed_from 0 schema) some.listed l.0 _ l.1
+      | inl (inr same) ↦ own_listing l.0 _ (ap (λ (rows : List Row). slice_get rows l.0) (sym same) ∙ l.1)
       | inr none ↦ absurd (none-some _ (ap (λ (rows : List Row). slice_get rows l.0) (sym none) ∙ l.1))
     ])
   where

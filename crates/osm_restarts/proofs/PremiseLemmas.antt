@@ -11,7 +11,6 @@ use Rattle.sqlite_pool.specs.StoredLaws.{recovers_once}
 use Rattle.sqlite_pool.proofs.ProbeLemmas.{size_by_log, size_by_file}
 use Rattle.sqlite_pool.proofs.ResealLemmas.{adopts_of}
 use Rattle.sqlite_wal.specs.Recovery.{Image, IsIgnored}
-use Rattle.sqlite_catalog.specs.Listing.{Lists}
 use Rattle.sqlite_store.specs.declared.catalog.Wanted.{Wanted}
 use Rattle.sqlite_store.specs.Db.{IsFile}
 use Rattle.sqlite_disk.specs.declared.Disk.{Ghosts}
@@ -21,9 +20,9 @@ use Rattle.sqlite_store.specs.FileStore.{state, recovers, schema_in}
 use Rattle.sqlite_store.specs.Listed.{catalog_rows}
 use Rattle.sqlite_store.specs.Listing.{listed_from, file_trees}
 use Rattle.sqlite_store.specs.Roots.{has_index_root}
-use Rattle.osm_store.specs.Schema.Tables.{table_schema}
 use Rattle.osm_openings.specs.Catalog.{listings}
-use Rattle.osm_openings.specs.Tables.{table_listings}
+use Rattle.osm_tree_writes.specs.Beside.{ListsAlone}
+use Rattle.osm_tree_writes.specs.Tables.{table_listings}
 use Rattle.osm_openings.specs.Presumed.{AreSound, NamesSize, ArePresumedTables}
 use Rattle.osm_restarts.specs.Left.{ListsAStore}
 use Rattle.osm_restarts.proofs.FoundLemmas.{file_found}
@@ -50,13 +49,13 @@ one_size image size other pages found large plain sound names =
 
 -- the pages are a database of each list of trees that says what theirs says
 pub sound_again : (objects : List Object) → listings 0 objects ≡ table_listings → (size : ℕ) (schema : List Wanted) (pages : PageMap)
-    → Lists (listed_from 0 schema) table_schema ⊎ (listed_from 0 schema ≡ []) → IsFile size schema pages → AreSound objects size pages
+    → ListsAlone (listed_from 0 schema) ⊎ (listed_from 0 schema ≡ []) → IsFile size schema pages → AreSound objects size pages
 sound_again objects are size schema pages lists file first trees new layouts laid listed =
     relisted objects size pages (has_index_root (in_use size pages)) layouts schema new
     (record { first = first; trees = trees; laid = laid; lists = listed; only = only_own objects schema are lists; sized = have_pages objects are; known = file.db.known }) file
 
 pub presumed_again : (objects : List Object) → listings 0 objects ≡ table_listings → (image : Image) (size : ℕ) (schema : List Wanted) (pages : PageMap) → Recovers size image pages → 504 ≤ size
-    → is_summed size ≡ false → Lists (listed_from 0 schema) table_schema ⊎ (listed_from 0 schema ≡ []) → IsFile size schema pages
+    → is_summed size ≡ false → ListsAlone (listed_from 0 schema) ⊎ (listed_from 0 schema ≡ []) → IsFile size schema pages
     → (other : ℕ) (others : PageMap) → NamesSize image other → Recovers other image others → AreSound objects other others
 presumed_again objects are image size schema pages found large plain lists file other others names again =
     let same : size ≡ other = sym (one_size image size other pages found large plain file.sound names) in
@@ -81,5 +80,5 @@ module _ {D : Type 0} {g : Ghosts D} (it : FileStore D g) where
       file_found other new others (∥∥₁_map (file_left image may) (λ left.
       let pages = left.0 in
       let schema = schema_in it pages in
-      let read = subst (λ rows. Lists rows table_schema ⊎ (rows ≡ [])) (catalog_rows bytes schema (in_use bytes pages)) (lists (file_trees bytes schema pages) (image, pages, may, ∣ left.1 ∣₁, refl)) in
+      let read = subst (λ rows. ListsAlone rows ⊎ (rows ≡ [])) (catalog_rows bytes schema (in_use bytes pages)) (lists (file_trees bytes schema pages) (image, pages, may, ∣ left.1 ∣₁, refl)) in
       presumed_again objects are image bytes schema pages left.1 large_enough plain read left.2 other others names again first trees new layouts laid listed))

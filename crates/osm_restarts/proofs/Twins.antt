@@ -1,4 +1,4 @@
--- Lists of the trees of one file that agree but for their SQL texts are one list.
+-- Rows of two lists of the trees of one file that agree but for their SQL texts are one row.
 use Rattle.std.proofs.Common.{◌≡◌, ◌⊎◌, ℕ, ◌+◌, ◌*◌, List, [], pos, true, sym, subst, ap, ◌∙◌, inl, inr, arith, is_eq, Less}
 use Rattle.std.specs.Prelude.{None}
 use Rattle.std.proofs.lemmas.Cmp.{tied_back}
@@ -21,7 +21,6 @@ use Rattle.sqlite_store.specs.Catalog.{same_value, is_plain}
 use Rattle.sqlite_store.specs.Db.{rows_at, IsDb}
 use Rattle.sqlite_store.specs.Listing.{listed_from}
 use Rattle.sqlite_store.proofs.ListingLemmas.{listing_shaped}
-use Rattle.osm_restarts.proofs.Members.{same_members}
 use Rattle.osm_restarts.proofs.Places.{placed}
 use Rattle.osm_restarts.proofs.Entries.{equal_is, IsWords, same_words, entry_parts, one_named, has_entry, in_order}
 
@@ -51,7 +50,7 @@ alike : (k l : ℕ) (a b : Row) (s t : Shape) (x y : ℕ) → k ≡ l → column
 alike k l a b s t x y place kind name owner sql shape reals = rw (place, kind, name, owner, sql, shape, reals)
 
 module _ {size : ℕ} {a b : List Wanted} {pages : PageMap} (none : pages 0 ≡ None) (mine : IsDb size a pages) (theirs : IsDb size b pages) where
-  same_row : (r q : Row) → Has (listed_from 0 a) r → Has (listed_from 0 b) q → AreTwins r q → r ≡ q
+  pub same_row : (r q : Row) → Has (listed_from 0 a) r → Has (listed_from 0 b) q → AreTwins r q → r ≡ q
   same_row r q here there twins =
       let entries = rows_at size pages Table 1 in
       let p = placed 0 a r here in
@@ -84,11 +83,3 @@ module _ {size : ℕ} {a b : List Wanted} {pages : PageMap} (none : pages 0 ≡ 
     where
       turned : (x y : Value) → same_value x y ≡ true → same_value y x ≡ true
       turned x y same = ap is_eq (tied_back value_cmp_total x y (equal_is _ same))
-
-  pub same_lists : ((r : Row) → Has (listed_from 0 a) r → (q : Row) × Has (listed_from 0 b) q × AreTwins r q)
-      → ((q : Row) → Has (listed_from 0 b) q → (r : Row) × Has (listed_from 0 a) r × AreTwins r q) → listed_from 0 a ≡ listed_from 0 b
-  same_lists to from =
-      same_members (λ r q. value_cmp (rowid r) (rowid q) ≡ Less) (λ r q p up. let back = value_cmp_total.antisymm (rowid r) (rowid q) in let no : Less ≡ ordering_reverse Less = sym p ∙ back ∙ ap ordering_reverse up in cc)
-      (listed_from 0 a) (listed_from 0 b) (listing_shaped 0 a).0 (listing_shaped 0 b).0
-      (λ r here. let t = to r here in subst (Has (listed_from 0 b)) (sym (same_row r t.0 here t.1 t.2)) t.1)
-      (λ q there. let t = from q there in subst (Has (listed_from 0 a)) (same_row t.0 q t.1 there t.2) t.1)

@@ -2,9 +2,8 @@
 use Rattle.std.specs.Prelude.{◌≡◌, ◌⊎◌, []}
 use Rattle.sqlite_trees.specs.Tree.{Trees}
 use Rattle.sqlite_trees.specs.Objects.{catalog_tree}
-use Rattle.sqlite_catalog.specs.Listing.{Lists}
-use Rattle.osm_store.specs.Schema.Tables.{table_schema}
+use Rattle.osm_tree_writes.specs.Beside.{ListsAlone}
 
--- the trees list those of a store that keeps elements in tables, or none
+-- the trees list those of a store that keeps elements in tables, and nothing else, or none
 abbrev pub ListsAStore : Trees → Type 0
-ListsAStore db = Lists (db catalog_tree) table_schema ⊎ (db catalog_tree ≡ [])
+ListsAStore db = ListsAlone (db catalog_tree) ⊎ (db catalog_tree ≡ [])

@@ -4,7 +4,6 @@ ghost use Rattle.std.specs.Prelude.{◌≡◌, false};
 ghost use Rattle.sqlite_trees.specs.Tree.{Trees};
 ghost use Rattle.sqlite_store.specs.FileStore.{state, view, recovers};
 ghost use Rattle.sqlite_wal.specs.Recovery.{Image};
-ghost use Rattle.osm_trees.specs.Below.{LeavesAMap};
 ghost use Rattle.osm_openings.specs.Presumed.{ArePresumedTables};
 ghost use Rattle.osm_restarts.specs.Left.{ListsAStore};
 
@@ -12,11 +11,11 @@ use sqlite_disk::Disk;
 use sqlite_store::FileStore;
 
 /// Whatever a crash may leave of the files of a store, its opening may presume of them what it presumes, as long as no pages
-/// end in sums. That holds of a store that was being made and of one that holds a map, between any two calls and where one
-/// was broken off.
+/// end in sums, and what is left lists the trees of a store and nothing else, or no tree at all: that of a store that was being
+/// made, and of one that stands alone (`StandsAlone`), between any two calls and where one was broken off, since each call
+/// keeps it so. Of a database that lists somebody's own tables or views behind them nothing is said here.
 pub fn what_is_left_may_be_opened<D: Disk>(store: &FileStore<D>)
-    ensures listed { (view store.now).has_sums ≡ false → ((db : Trees) → recovers store.now db → ListsAStore db) → (image : Image) → (state store.now).may_leave image → ArePresumedTables image }
-    ensures held { (view store.now).has_sums ≡ false → LeavesAMap (recovers store.now) → (image : Image) → (state store.now).may_leave image → ArePresumedTables image }
+    ensures { (view store.now).has_sums ≡ false → ((db : Trees) → recovers store.now db → ListsAStore db) → (image : Image) → (state store.now).may_leave image → ArePresumedTables image }
 {
     let _store = store;
 }

@@ -1,26 +1,29 @@
 -- A row that comes after all others, and its entries in the indexes.
-use Rattle.std.proofs.Common.{◌≡◌, ◌≢◌, ℕ, ◌+◌, ◌<◌, ℤ, pos, ◌+ℤ◌, true, false, IsTrue, List, [], ◌∷◌, ◌++◌, map, take, drop, length, take_all, get_or, Option, None, Some, Result, IfOk, refl, sym, ap, ◌∙◌, subst, eq-eqb, ne_eqb, Less, arith}
+use Rattle.std.proofs.Common.{◌≡◌, ◌≢◌, ℕ, ◌+◌, ◌<◌, ℤ, pos, ◌+ℤ◌, true, false, IsTrue, List, [], ◌∷◌, ◌++◌, map, take, drop, length, take_all, append-nil, get_or, Option, None, Some, Result, IfOk, refl, sym, ap, ◌∙◌, subst, inl, inr, if◌then◌else◌, ◌==◌, eq-eqb, ne_eqb, Less, arith}
 use Rattle.std.specs.List.{AllByRecursion}
 use Rattle.std.specs.Cmp.{int_cmp_is}
 use Rattle.std.specs.Option.{ok_or, SomeIff}
+use Rattle.std.proofs.lemmas.Bool.{cases_eq}
 use Rattle.std.proofs.lemmas.Int.{ints}
-use Rattle.std.proofs.lemmas.List.{append_assoc, map-append, length-append, take_more}
+use Rattle.std.proofs.lemmas.List.{append_assoc, drop_more, map-append, length-append, take_more}
 use Rattle.sqlite_value.specs.declared.value.Value.TheVariants.{Int}
 use Rattle.sqlite_value.specs.declared.keys.Order.{Order}
 use Rattle.sqlite_value.specs.Order.{Row, value_cmp}
 use Rattle.sqlite_value.specs.Keys.{plain}
 use Rattle.sqlite_value.proofs.OrderLemmas.{value_cmp_total, value_cmp-Int}
 use Rattle.sqlite_trees.specs.declared.store.Shape.TheVariants.{Table}
-use Rattle.sqlite_trees.specs.Tree.{Trees, rowid, IsTable, put_row, insert_entry, with_tree}
+use Rattle.sqlite_trees.specs.Tree.{Trees, rowid, IsAscending, IsTable, put_row, insert_entry, with_tree}
 use Rattle.sqlite_trees.specs.View.{View, is_int, IsShaped, SetsTree, OnlyWrites}
-use Rattle.sqlite_trees.proofs.ListLemmas.{all_weaker, all-append, all_both}
+use Rattle.sqlite_trees.proofs.ListLemmas.{all_of, all_weaker, all-append, all_both}
 use Rattle.sqlite_trees.proofs.TreeLemmas.{IsShaped-put_row}
 use Rattle.sqlite_sql.specs.Catalog.{entry_of, IsIndexOf}
+use Rattle.sqlite_schema.specs.declared.schema.Index.{Index as AddedIndex}
+use Rattle.sqlite_exec.specs.Calls.{OnlyReads}
 use Rattle.sqlite_exec.specs.Write.{IsLast}
 use Rattle.sqlite_exec.proofs.WriteLemmas.{one_more_entry}
 use Rattle.osm_tree_writes.specs.declared.layout.IndexTree.{IndexTree}
 use Rattle.osm_tree_writes.specs.declared.layout.TableTree.{TableTree}
-use Rattle.osm_tree_writes.specs.Appending.{columns_of, indexes_of, IsAfter, IsApart, Appends}
+use Rattle.osm_tree_writes.specs.Appending.{columns_of, indexes_of, with_entries, IsAfter, IsApart, IsApartOf, IsNoIndex, KeepIndexed, Appends, PutsEntries}
 
 -- ---- the rowids
 
@@ -156,20 +159,21 @@ module _ (tree : ℕ) (key : IndexTree) (row : Row) (next : ℤ) (columns : Row)
   enters_index i new table this was = rw (table, this) (indexed_last plain (columns_of i) (old.trees tree) (old.trees i.tree) row whole was)
 
   appended_one : (new : View) → new ≡ keyed
-      → Appends (record { tree = tree; key = key; by_id = None }) (columns ∷ []) old new × (new.trees tree ≡ old.trees tree ++ row ∷ [])
+      → Appends (record { tree = tree; key = key; by_id = None }) [] (columns ∷ []) old new × (new.trees tree ≡ old.trees tree ++ row ∷ [])
   appended_one new same = rw same (
     record {
       sound = puts.sound;
       rows = more_rows (keyed.trees tree) table_keyed;
       indexed = (enters_index key keyed table_keyed key_keyed, tt);
-      others = λ t other also. others_keyed t other also.0;
+      more_indexed = tt;
+      others = λ t other also none. others_keyed t other also.0;
       rest = writes_keyed;
     },
     table_keyed,
   )
 
   appended_both : (i : IndexTree) (new : View) → Enters i row keyed new → i.tree ≢ tree → i.tree ≢ key.tree
-      → Appends (record { tree = tree; key = key; by_id = Some i }) (columns ∷ []) old new × (new.trees tree ≡ old.trees tree ++ row ∷ [])
+      → Appends (record { tree = tree; key = key; by_id = Some i }) [] (columns ∷ []) old new × (new.trees tree ≡ old.trees tree ++ row ∷ [])
   appended_both i new enters not_table not_key =
       let table : new.trees tree ≡ old.trees tree ++ row ∷ [] = set_other keyed new i.tree _ enters tree (λ e. not_table (sym e)) ∙ table_keyed in
       let first : new.trees key.tree ≡ insert_entry plain (entry_of (columns_of key) row) (old.trees key.tree) = set_other keyed new i.tree _ enters key.tree (λ e. not_key (sym e)) ∙ key_keyed in
@@ -179,7 +183,8 @@ module _ (tree : ℕ) (key : IndexTree) (row : Row) (next : ℤ) (columns : Row)
           sound = puts.sound;
           rows = more_rows (new.trees tree) table;
           indexed = (enters_index key new table first, (enters_index i new table second, tt));
-          others = λ t other also. set_other keyed new i.tree _ enters t (λ e. also.1.0 (sym e)) ∙ others_keyed t other also.0;
+          more_indexed = tt;
+          others = λ t other also none. set_other keyed new i.tree _ enters t (λ e. also.1.0 (sym e)) ∙ others_keyed t other also.0;
           rest = writes_then old keyed new writes_keyed (set_writes keyed new i.tree _ enters);
         },
         table,
@@ -187,29 +192,154 @@ module _ (tree : ℕ) (key : IndexTree) (row : Row) (next : ℤ) (columns : Row)
 
 pub appended_row : (table : TableTree) (row : Row) (next : ℤ) (columns : Row) (old put keyed new : View) → IsApart table → row ≡ Int next ∷ columns → IsShaped Table (old.trees table.tree) → IsAfter next (old.trees table.tree)
     → SetsTree old put table.tree (put_row row) → Enters table.key row put keyed → EntersOther table.by_id row keyed new
-    → Appends table (columns ∷ []) old new × (new.trees table.tree ≡ old.trees table.tree ++ row ∷ [])
+    → Appends table [] (columns ∷ []) old new × (new.trees table.tree ≡ old.trees table.tree ++ row ∷ [])
 appended_row table row next columns old put keyed new apart is shaped after puts keys = go table.by_id apart
   where
     go : (other : Option IndexTree) → IsApart (record table { by_id = other }) → EntersOther other row keyed new
-        → Appends (record table { by_id = other }) (columns ∷ []) old new × (new.trees table.tree ≡ old.trees table.tree ++ row ∷ [])
+        → Appends (record table { by_id = other }) [] (columns ∷ []) old new × (new.trees table.tree ≡ old.trees table.tree ++ row ∷ [])
     go None apart enters = appended_one table.tree table.key row next columns is old put keyed shaped after puts keys apart.0.0 new enters
     go (Some i) apart enters = appended_both table.tree table.key row next columns is old put keyed shaped after puts keys apart.0.0 i new enters apart.0.1.0 apart.1.0
 
+-- ---- its entries in indexes of somebody's own
+
+pub kept_more : (more : List AddedIndex) (a b c : Trees) → KeepIndexed more a b → KeepIndexed more b c → KeepIndexed more a c
+kept_more more a b c = all_both (λ (i : AddedIndex). IsIndexOf i.columns (a i.table) (a i.tree) → IsIndexOf i.columns (b i.table) (b i.tree))
+    (λ (i : AddedIndex). IsIndexOf i.columns (b i.table) (b i.tree) → IsIndexOf i.columns (c i.table) (c i.tree))
+    (λ (i : AddedIndex). IsIndexOf i.columns (a i.table) (a i.tree) → IsIndexOf i.columns (c i.table) (c i.tree)) (λ i first second was. second (first was)) more
+
+module _ (table : ℕ) (r : Row) where
+  -- the index after an edit of it, where it is of the table
+  abbrev Edited : AddedIndex → Trees → Trees → Type 0
+  Edited i db new = (i.table ≡ table → new i.tree ≡ insert_entry i.order (entry_of i.columns r) (db i.tree)) × (i.table ≢ table → new i.tree ≡ db i.tree)
+
+  abbrev edits : List AddedIndex → Trees → Trees
+  edits is db = with_entries table r is db
+
+  abbrev one_edit : AddedIndex → Trees → Trees
+  one_edit i db = if i.table == table then with_tree db i.tree (insert_entry i.order (entry_of i.columns r) (db i.tree)) else db
+
+  one_edit_other : (i : AddedIndex) (db : Trees) (t : ℕ) → i.tree ≢ t → one_edit i db t ≡ db t
+  one_edit_other i db t apart = elim (cases_eq i.table table) [
+    | inl same ↦ rw (eq-eqb _ _ same) (with_other db i.tree t _ (λ e. apart (sym e)))
+    | inr other ↦ rw (ne_eqb _ _ other) refl
+  ]
+
+  one_edit_same : (i : AddedIndex) (db : Trees) → Edited i db (one_edit i db)
+  one_edit_same i db = (λ same. rw (eq-eqb _ _ same) (with_same db i.tree _), λ other. rw (ne_eqb _ _ other) refl)
+
+  edits_other : (is : List AddedIndex) (db : Trees) (t : ℕ) → IsNoIndex is t → edits is db t ≡ db t
+  edits_other [] db t none = refl
+  edits_other (i ∷ is) db t none = edits_other is (one_edit i db) t none.1 ∙ one_edit_other i db t none.0
+
+  edits_each : (is : List AddedIndex) (db : Trees) → IsAscending (λ (i j : AddedIndex). i.tree ≢ j.tree) is → AllByRecursion (λ (i : AddedIndex). Edited i db (edits is db)) is
+  edits_each [] db apart = tt
+  edits_each (i ∷ is) db apart =
+      let kept = edits_other is (one_edit i db) i.tree (all_weaker (λ (j : AddedIndex). i.tree ≢ j.tree) (λ (j : AddedIndex). j.tree ≢ i.tree) (λ j h e. h (sym e)) is apart.0) in (
+        (λ same. kept ∙ (one_edit_same i db).0 same, λ other. kept ∙ (one_edit_same i db).1 other),
+        all_both (λ (j : AddedIndex). i.tree ≢ j.tree) (λ (j : AddedIndex). Edited j (one_edit i db) (edits is (one_edit i db))) (λ (j : AddedIndex). Edited j db (edits is (one_edit i db)))
+            (λ j h e. (λ same. e.0 same ∙ ap (insert_entry j.order (entry_of j.columns r)) (one_edit_other i db j.tree h), λ other. e.1 other ∙ one_edit_other i db j.tree h))
+            is apart.0 (edits_each is (one_edit i db) apart.1),
+      )
+
+-- what is left begins with the next index
+pub next_index : (more : List AddedIndex) (at : ℕ) (i : AddedIndex) → at < length more → i ≡ get_or more at i → drop at more ≡ i ∷ drop (at + 1) more
+next_index more at i within is = drop_more more at i within ∙ ap (λ (j : AddedIndex). j ∷ drop (at + 1) more) (sym is)
+
+-- an entry is put into the next index, if it is of the table
+pub with_entry : (table : ℕ) (r : Row) (i : AddedIndex) (is : List AddedIndex) (db : Trees) → i.table ≡ table
+    → with_entries table r is (with_tree db i.tree (insert_entry i.order (entry_of i.columns r) (db i.tree))) ≡ with_entries table r (i ∷ is) db
+with_entry table r i is db same = rw (eq-eqb _ _ same) refl
+
+pub without_entry : (table : ℕ) (r : Row) (i : AddedIndex) (is : List AddedIndex) (db : Trees) → i.table ≢ table → with_entries table r is db ≡ with_entries table r (i ∷ is) db
+without_entry table r i is db other = rw (ne_eqb _ _ other) refl
+
+module _ (table : TableTree) (more : List AddedIndex) (row : Row) (columns : Row) (old mid new : View) (apart : IsApartOf table more) (shaped : IsShaped Table (old.trees table.tree ++ row ∷ []))
+    (own : Appends table [] (columns ∷ []) old mid) (now : mid.trees table.tree ≡ old.trees table.tree ++ row ∷ []) (goes : PutsEntries more table.tree row mid new) where
+  trees_are : new.trees ≡ edits table.tree row more mid.trees
+  trees_are = ap (λ (v : View). v.trees) goes
+
+  same_at : (t : ℕ) → IsNoIndex more t → new.trees t ≡ mid.trees t
+  same_at t none = ap (λ (ts : Trees). ts t) trees_are ∙ edits_other table.tree row more mid.trees t none
+
+  table_now : new.trees table.tree ≡ old.trees table.tree ++ row ∷ []
+  table_now = same_at table.tree (all_weaker _ (λ (i : AddedIndex). i.tree ≢ table.tree) (λ i h. h.0) more apart.trees) ∙ now
+
+  mid_other : (t : ℕ) → t ≢ table.tree → AllByRecursion (λ (k : IndexTree). k.tree ≢ t) (indexes_of table) → mid.trees t ≡ old.trees t
+  mid_other t other also = own.others t other also tt
+
+  stays : (i : AddedIndex) → (i.tree ≢ table.tree) × AllByRecursion (λ (k : IndexTree). k.tree ≢ i.tree) (indexes_of table)
+      → (IsNoIndex more i.table × AllByRecursion (λ (k : IndexTree). k.tree ≢ i.table) (indexes_of table)) × Edited table.tree row i mid.trees new.trees
+      → IsIndexOf i.columns (old.trees i.table) (old.trees i.tree) → IsIndexOf i.columns (new.trees i.table) (new.trees i.tree)
+  stays i a b was =
+      let tree_kept : mid.trees i.tree ≡ old.trees i.tree = mid_other i.tree a.0 a.1 in
+      elim (cases_eq i.table table.tree) [
+        | inl same ↦
+            let entries : new.trees i.tree ≡ insert_entry i.order (entry_of i.columns row) (old.trees i.tree) = b.1.0 same ∙ ap (insert_entry i.order (entry_of i.columns row)) tree_kept in
+            let before : IsIndexOf i.columns (old.trees table.tree) (old.trees i.tree) = subst (λ t. IsIndexOf i.columns (old.trees t) (old.trees i.tree)) same was in
+            subst (λ t. IsIndexOf i.columns (new.trees t) (new.trees i.tree)) (sym same)
+            (rw (table_now, entries) (indexed_last i.order i.columns (old.trees table.tree) (old.trees i.tree) row shaped before))
+        | inr other ↦
+            let entries : new.trees i.tree ≡ old.trees i.tree = b.1.1 other ∙ tree_kept in
+            let rows : new.trees i.table ≡ old.trees i.table = same_at i.table b.0.0 ∙ mid_other i.table other b.0.1 in
+            rw (rows, entries) was
+      ]
+
+  edited : AllByRecursion (λ (i : AddedIndex). Edited table.tree row i mid.trees new.trees) more
+  edited = subst (λ (ts : Trees). AllByRecursion (λ (i : AddedIndex). Edited table.tree row i mid.trees ts) more) (sym trees_are) (edits_each table.tree row more mid.trees apart.apart)
+
+  own_kept : (i : IndexTree) → AllByRecursion (λ (m : AddedIndex). m.tree ≢ i.tree) more → StaysIndexed old mid table.tree i → StaysIndexed old new table.tree i
+  own_kept i none step was = rw (table_now ∙ sym now, same_at i.tree none) (step was)
+
+  all_apart : (is : List IndexTree) (ms : List AddedIndex) → AllByRecursion (λ (m : AddedIndex). AllByRecursion (λ (k : IndexTree). k.tree ≢ m.tree) is) ms
+      → AllByRecursion (λ (k : IndexTree). AllByRecursion (λ (m : AddedIndex). m.tree ≢ k.tree) ms) is
+  all_apart [] ms h = tt
+  all_apart (k ∷ is) ms h = (all_weaker _ (λ (m : AddedIndex). m.tree ≢ k.tree) (λ m all e. all.0 (sym e)) ms h, all_apart is ms (all_weaker _ (λ (m : AddedIndex). AllByRecursion (λ (k : IndexTree). k.tree ≢ m.tree) is) (λ m all. all.1) ms h))
+
+  pub appended_more : Appends table more (columns ∷ []) old new × (new.trees table.tree ≡ old.trees table.tree ++ row ∷ [])
+  appended_more = (
+    record {
+      sound = own.sound;
+      rows = ap (map (drop 1)) (table_now ∙ sym now) ∙ own.rows;
+      indexed = all_both (λ (k : IndexTree). AllByRecursion (λ (m : AddedIndex). m.tree ≢ k.tree) more) (StaysIndexed old mid table.tree) (StaysIndexed old new table.tree) own_kept (indexes_of table)
+          (all_apart (indexes_of table) more (all_weaker _ (λ (m : AddedIndex). AllByRecursion (λ (k : IndexTree). k.tree ≢ m.tree) (indexes_of table)) (λ m h. h.1) more apart.trees)) own.indexed;
+      more_indexed = all_both _ _ (λ (i : AddedIndex). IsIndexOf i.columns (old.trees i.table) (old.trees i.tree) → IsIndexOf i.columns (new.trees i.table) (new.trees i.tree)) stays more apart.trees
+          (all_both _ (λ (i : AddedIndex). Edited table.tree row i mid.trees new.trees) (λ (i : AddedIndex). (IsNoIndex more i.table × AllByRecursion (λ (k : IndexTree). k.tree ≢ i.table) (indexes_of table)) × Edited table.tree row i mid.trees new.trees)
+          (λ i a b. (a, b)) more apart.tables edited);
+      others = λ t other also none. same_at t none ∙ mid_other t other also;
+      rest = writes_then old mid new own.rest (goes ∙ ap (λ (ts : Trees). record mid { trees = ts; cursors = new.cursors }) (sym trees_are));
+    },
+    table_now,
+  )
+
 -- ---- rows one after the other
 
-appends_then : (table : TableTree) (first second : List Row) (a b c : View) → Appends table first a b → Appends table second b c → Appends table (first ++ second) a c
-appends_then table first second a b c one two = record {
+-- nothing is appended by a read
+pub appends_nothing : (table : TableTree) (more : List AddedIndex) (old new : View) → old.is_broken ≡ false → OnlyReads old new → Appends table more [] old new
+appends_nothing table more old new sound reads =
+    let same : new.trees ≡ old.trees = ap (λ (v : View). v.trees) reads in
+    record {
+      sound = sound;
+      rows = rw (same, append-nil) refl;
+      indexed = all_of (StaysIndexed old new table.tree) (λ i was. rw same was) (indexes_of table);
+      more_indexed = all_of (λ (i : AddedIndex). IsIndexOf i.columns (old.trees i.table) (old.trees i.tree) → IsIndexOf i.columns (new.trees i.table) (new.trees i.tree)) (λ i was. rw same was) more;
+      others = λ t other also none. ap (λ (ts : Trees). ts t) same;
+      rest = reads ∙ ap (λ (ts : Trees). record old { trees = ts; cursors = new.cursors }) (sym same);
+    }
+
+appends_then : (table : TableTree) (more : List AddedIndex) (first second : List Row) (a b c : View) → Appends table more first a b → Appends table more second b c → Appends table more (first ++ second) a c
+appends_then table more first second a b c one two = record {
   sound = one.sound;
   rows = two.rows ∙ ap (λ (rows : List Row). rows ++ second) one.rows ∙ append_assoc (map (drop 1) (a.trees table.tree)) first second;
   indexed = kept_indexed a b c table.tree (indexes_of table) one.indexed two.indexed;
-  others = λ t other also. two.others t other also ∙ one.others t other also;
+  more_indexed = kept_more more a.trees b.trees c.trees one.more_indexed two.more_indexed;
+  others = λ t other also none. two.others t other also none ∙ one.others t other also none;
   rest = writes_then a b c one.rest two.rest;
 }
 
 -- the rows before a place are put, and then the row there
-pub appends_next : {R : Type 0} (columns : R → Row) (rows : List R) (i : ℕ) (row : R) (table : TableTree) (old mid new : View) → i < length rows → row ≡ get_or rows i row
-    → Appends table (map columns (take i rows)) old mid → Appends table (columns row ∷ []) mid new → Appends table (map columns (take (i + 1) rows)) old new
-appends_next columns rows i row table old mid new within is before step =
+pub appends_next : {R : Type 0} (columns : R → Row) (rows : List R) (i : ℕ) (row : R) (table : TableTree) (more : List AddedIndex) (old mid new : View) → i < length rows → row ≡ get_or rows i row
+    → Appends table more (map columns (take i rows)) old mid → Appends table more (columns row ∷ []) mid new → Appends table more (map columns (take (i + 1) rows)) old new
+appends_next columns rows i row table more old mid new within is before step =
     let all : map columns (take (i + 1) rows) ≡ map columns (take i rows) ++ columns row ∷ [] =
     ap (map columns) (take_more rows i row within) ∙ map-append columns (take i rows) (get_or rows i row ∷ []) ∙ ap (λ r. map columns (take i rows) ++ columns r ∷ []) (sym is) in
-    rw all (appends_then table _ _ old mid new before step)
+    rw all (appends_then table more _ _ old mid new before step)

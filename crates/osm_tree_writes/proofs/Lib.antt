@@ -3,3 +3,4 @@ pub mod AppendLemmas
 pub mod RowKeys
 pub mod Obeying
 pub mod Writing
+pub mod ToKeep

@@ -1,5 +1,5 @@
 -- Trees that hold a map obey the schema of a store, and those that a put adds a blob to hold the map with it.
-use Rattle.std.proofs.Common.{◌≡◌, ◌<◌, ◌≤◌, ℕ, ℤ, true, not, ◌&&◌, List, [], ◌∷◌, map, drop, Option, Some, None, refl, sym, ap, subst, ◌∙◌}
+use Rattle.std.proofs.Common.{◌≡◌, ◌<◌, ◌≤◌, ℕ, ℤ, true, not, ◌&&◌, List, [], ◌∷◌, map, drop, Option, Some, None, refl, sym, ap, subst, inl, ◌∙◌}
 use Rattle.std.specs.Prelude.{flat_map}
 use Rattle.std.specs.List.{AllByRecursion}
 use Rattle.std.specs.FinMap.{entries}
@@ -20,7 +20,10 @@ use Rattle.pbf_frame.specs.declared.part.TheConstants.{MAX_OFFSET}
 use Rattle.osm_value.specs.Value.{Text, MemberValue}
 use Rattle.osm_value.specs.Elements.{info_of_element}
 use Rattle.osm_store.specs.declared.keeper.Extent.{Extent}
-use Rattle.osm_store.specs.declared.schema.layout.Layout.TheVariants.{Tables}
+use Rattle.osm_store.specs.declared.schema.layout.Layout.{Layout}
+use Rattle.osm_store.specs.declared.schema.layout.Layout.TheVariants.{Bodies, Tables}
+use Rattle.osm_store.specs.Schema.Layouts.{schema_of}
+use Rattle.sqlite_trees.specs.Objects.{catalog_tree}
 use Rattle.osm_store.specs.Held.{Blob, HeldMap}
 use Rattle.osm_store.specs.Keeping.{IsAddable, extent_of, extents_of, with_blob}
 use Rattle.osm_store.specs.LayoutHolding.{IsBlob, IsKept, HasRows, HoldElements, TablesHold}
@@ -28,10 +31,11 @@ use Rattle.osm_store.specs.Rows.{Placed, extent_row, placed, placed_in, version_
 use Rattle.osm_store.specs.Schema.Bodies.{meta, blob as blobs}
 use Rattle.osm_store.specs.Schema.Tables.{element, tag, link, table_schema}
 use Rattle.osm_store.specs.TableRows.{Part, element_row, element_rows, flag, lat_of, lon_of, link_row, link_rows, links_at, tag_row, tag_rows, tags_at}
-use Rattle.osm_store.proofs.MapLemmas.OneMap.{element_before, rises, tags_rise, links_rise}
+use Rattle.osm_store.proofs.MapLemmas.OneMap.{element_before, rises, tags_rise, links_rise, one_map_of}
 use Rattle.osm_store.proofs.MapLemmas.OneMore.{unheld, inserted, kept_more, more_elements, put_entry}
 use Rattle.osm_store.proofs.MapLemmas.PlacedLaws.{IsBefore, placed_in_rise}
-use Rattle.osm_tree_writes.specs.Putting.{AreTables, IsIndexedStore, PutsBelow}
+use Rattle.osm_tree_writes.specs.Beside.{HasAStore}
+use Rattle.osm_tree_writes.specs.Putting.{AreTables, IsIndexedStore, PutsBelow, TreesHold}
 use Rattle.osm_tree_writes.proofs.RowKeys.{no_clashes}
 
 -- ---- rows of one table
@@ -164,7 +168,7 @@ module _ (held : HeldMap) (off : ℕ) (blob : Blob) (kept : IsKept Tables held) 
   kept_with = kept_more held off blob Tables kept addable.free order limit is
 
   -- and the trees that the put leaves hold it
-  pub hold_with : (old new : Trees) → TablesHold Tables held old → PutsBelow old new (extent_of (off, blob)) (placed off 0 blob.elements) → TablesHold Tables (with_blob held off blob) new
+  pub hold_with : (old new : Trees) → TreesHold Tables held old → PutsBelow old new (extent_of (off, blob)) (placed off 0 blob.elements) → TreesHold Tables (with_blob held off blob) new
   hold_with old new holds puts =
       let is_meta = puts.meta ∙ holds.meta in
       let in_place = put_entry off blob (entries held) (unheld held off blob Tables kept addable.free order) in
@@ -172,11 +176,26 @@ module _ (held : HeldMap) (off : ℕ) (blob : Blob) (kept : IsKept Tables held) 
       let is_blob = puts.blob ∙ ap (put_row (extent_row (extent_of (off, blob)))) holds.blob ∙ in_place ∙ more in
       let has = more_elements held off blob Tables kept addable.free order Tables old new holds.elements puts.elements in
       record {
-        sound = record {
-          lists = subst (λ rows. Lists rows table_schema) (sym puts.catalog) holds.sound.lists;
-          obeys = obey (with_blob held off blob) new is_meta is_blob has puts.tables (puts.indexed holds.sound.obeys.indexed);
-        };
+        lists = subst (HasAStore Tables) (sym (puts.catalog)) holds.lists;
+        obeys = obey (with_blob held off blob) new is_meta is_blob has puts.tables (puts.indexed holds.obeys.indexed);
         meta = is_meta;
         blob = is_blob;
         elements = has;
       }
+
+-- no other map has these rows
+pub one_map_below : (layout : Layout) (one other : HeldMap) (db : Trees) → IsKept layout one → IsKept layout other → TreesHold layout one db → TreesHold layout other db → one ≡ other
+one_map_below layout one other db kept kept_too trees trees_too = one_map_of layout one other db kept kept_too trees.blob trees_too.blob trees.elements trees_too.elements
+
+-- a list of the trees of a store alone is one of them
+lists_alone : (layout : Layout) (rows : List Row) → Lists rows (schema_of layout) → HasAStore layout rows
+lists_alone Bodies rows lists = lists
+lists_alone Tables rows lists = inl lists
+
+-- what the tables of a connection hold, its trees hold
+pub trees_of : (layout : Layout) (held : HeldMap) (db : Trees) → TablesHold layout held db → TreesHold layout held db
+trees_of layout held db tables = record { lists = lists_alone layout (db catalog_tree) tables.sound.lists; obeys = tables.sound.obeys; meta = tables.meta; blob = tables.blob; elements = tables.elements }
+
+-- and the other way round, where the list of objects is that of a store alone
+pub tables_of : (layout : Layout) (held : HeldMap) (db : Trees) → Lists (db catalog_tree) (schema_of layout) → TreesHold layout held db → TablesHold layout held db
+tables_of layout held db lists trees = record { sound = record { lists = lists; obeys = trees.obeys }; meta = trees.meta; blob = trees.blob; elements = trees.elements }

@@ -1,3 +1,5 @@
 pub mod Appending
+pub mod Beside
 pub mod Faults
 pub mod Putting
+pub mod Tables

@@ -1,5 +1,5 @@
 -- What a put makes of the trees, whatever these held before.
-use Rattle.std.specs.Prelude.{◌≡◌, false, List}
+use Rattle.std.specs.Prelude.{◌≡◌, ◌≤◌, ℕ, false, List, [], ◌∷◌, map}
 use Rattle.std.specs.List.{AllByRecursion}
 use Rattle.sqlite_trees.specs.declared.store.Shape.TheVariants.{Table}
 use Rattle.sqlite_trees.specs.Tree.{Trees, put_row}
@@ -7,11 +7,20 @@ use Rattle.sqlite_trees.specs.Objects.{catalog_tree}
 use Rattle.sqlite_trees.specs.View.{View, IsShaped}
 use Rattle.sqlite_sql.specs.Catalog.{IsIndexOf}
 use Rattle.sqlite_schema.specs.declared.schema.Index.{Index}
+use Rattle.sqlite_schema.specs.Rules.{Obeys}
 use Rattle.osm_store.specs.declared.keeper.Extent.{Extent}
+use Rattle.osm_store.specs.declared.schema.layout.Layout.{Layout}
 use Rattle.osm_store.specs.declared.schema.layout.Layout.TheVariants.{Tables}
+use Rattle.osm_store.specs.Schema.Layouts.{schema_of}
 use Rattle.osm_store.specs.Schema.Tables.{table_schema}
-use Rattle.osm_store.specs.Rows.{Placed, extent_row}
+use Rattle.osm_store.specs.Held.{HeldMap}
+use Rattle.osm_store.specs.Keeping.{extents_of}
+use Rattle.osm_store.specs.LayoutHolding.{HoldElements}
+use Rattle.osm_store.specs.Rows.{Placed, extent_row, placed_in, version_row}
 use Rattle.osm_store.specs.Put.Steps.{GainsElements}
+use Rattle.osm_added_indexes.specs.Added.{plain_indexes}
+use Rattle.osm_tree_writes.specs.Appending.{IsNoIndex, KeepIndexed}
+use Rattle.osm_tree_writes.specs.Beside.{HasAStore}
 
 -- each index of a store has one entry for each row of its table
 abbrev pub IsIndexedStore : Trees → Type 0
@@ -21,27 +30,49 @@ IsIndexedStore db = AllByRecursion (λ (i : Index). IsIndexOf i.columns (db i.ta
 abbrev pub AreTables : Trees → Type 0
 AreTables db = IsShaped Table (db 2) × IsShaped Table (db 4) × IsShaped Table (db 6)
 
--- the trees have the rows of one blob more, and the indexes, if they had an entry for each row, have one for each still
-pub record PutsBelow (old new : Trees) (extent : Extent) (added : List Placed) : Type 0 where
+-- The trees of a store have exactly the rows that the map stands for, and obey its schema, whatever else is listed behind
+-- them, and whatever that holds.
+pub record TreesHold (layout : Layout) (held : HeldMap) (db : Trees) : Type 0 where
+  pub lists : HasAStore layout (db catalog_tree)
+  pub obeys : Obeys (schema_of layout) db
+  pub meta : db 0 ≡ version_row layout ∷ []
+  pub blob : db 1 ≡ map extent_row (extents_of held)
+  pub elements : HoldElements layout (placed_in held) db
+
+-- no tree behind those of a store has changed but these indexes
+abbrev pub KeepOthers : List Index → Trees → Trees → Type 0
+KeepOthers more old new = (t : ℕ) → 9 ≤ t → IsNoIndex more t → new t ≡ old t
+
+-- The trees have the rows of one blob more, and the indexes of a store, if they had an entry for each row, have one for each
+-- still. So has each of these indexes that somebody has added.
+pub record PutsRows (more : List Index) (old new : Trees) (extent : Extent) (added : List Placed) : Type 0 where
+  pub others : KeepOthers more old new
   pub catalog : new catalog_tree ≡ old catalog_tree
   pub meta : new 0 ≡ old 0
   pub blob : new 1 ≡ put_row (extent_row extent) (old 1)
   pub elements : GainsElements Tables added old new
   pub indexed : IsIndexedStore old → IsIndexedStore new
+  pub more_indexed : KeepIndexed more old new
   pub tables : AreTables new
 
+-- the same of all indexes that somebody has added, as the list of objects tells of them
+abbrev pub PutsBelow : Trees → Trees → Extent → List Placed → Type 0
+PutsBelow old new = PutsRows (plain_indexes (old catalog_tree)) old new
+
 -- the rows of these elements are written, and nothing is committed
-pub record WritesElements (old new : View) (added : List Placed) : Type 0 where
+pub record WritesElements (more : List Index) (old new : View) (added : List Placed) : Type 0 where
   pub sound : old.is_broken ≡ false
+  pub others : KeepOthers more old.trees new.trees
   pub catalog : new.trees catalog_tree ≡ old.trees catalog_tree
   pub meta : new.trees 0 ≡ old.trees 0
   pub blob : new.trees 1 ≡ old.trees 1
   pub elements : GainsElements Tables added old.trees new.trees
   pub indexed : IsIndexedStore old.trees → IsIndexedStore new.trees
+  pub more_indexed : KeepIndexed more old.trees new.trees
   pub rest : new ≡ record old { trees = new.trees; cursors = new.cursors }
 
 -- the rows of a blob are written, and nothing is committed
-pub record Writes (old new : View) (extent : Extent) (added : List Placed) : Type 0 where
+pub record Writes (more : List Index) (old new : View) (extent : Extent) (added : List Placed) : Type 0 where
   pub sound : old.is_broken ≡ false
-  pub puts : PutsBelow old.trees new.trees extent added
+  pub puts : PutsRows more old.trees new.trees extent added
   pub rest : new ≡ record old { trees = new.trees; cursors = new.cursors }

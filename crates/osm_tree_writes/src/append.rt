@@ -5,17 +5,18 @@ ghost use Rattle.sqlite_value.specs.declared.value.Value.TheVariants.{Int};
 ghost use Rattle.sqlite_value.specs.Keys.{plain};
 ghost use Rattle.sqlite_trees.specs.declared.store.Shape.TheVariants.{Table};
 ghost use Rattle.sqlite_trees.specs.Tree.{rowid, put_row, insert_entry};
-ghost use Rattle.sqlite_trees.specs.View.{IsClean, IsQuiet, KeepsSchema, KeepsCommitted, SetsTree, is_int};
+ghost use Rattle.sqlite_trees.specs.View.{IsClean, IsQuiet, KeepsSchema, KeepsCommitted, OnlyWrites, SetsTree, is_int};
 ghost use Rattle.sqlite_sql.specs.Catalog.{entry_of};
 ghost use Rattle.sqlite.specs.Values.{bound};
 ghost use Rattle.osm_store.specs.Keeping.{IsForeign};
-ghost use Rattle.osm_tree_writes.specs.Appending.{columns_of, IsAfter, IsApart, IsIndexAt, IsTableAt, Appends};
+ghost use Rattle.osm_tree_writes.specs.Appending.{columns_of, AreIndexesAt, IsAfter, IsApart, IsApartOf, IsIndexAt, IsTableAt, Appends, PutsEntries};
 
 use crate::fault::fault_of;
 use crate::layout::{IndexTree, TableTree};
 use crate::rowid::next_rowid;
 use osm_store::{StoreFault, TableRow};
-use sqlite_trees::store::Store;
+use sqlite_schema::schema::Index;
+use sqlite_trees::store::{Shape, Store};
 use sqlite_value::row::Row;
 use sqlite_value::value::ValueRef;
 use std::alloc::{AllocError, Global};
@@ -69,8 +70,60 @@ pub(crate) fn put_table_row<S: Store>(
     store.put(table, row).map_err(fault_of)
 }
 
-/// Puts a row behind the last one of a table, with its entries.
-fn append_row<S: Store>(
+/// Writes a row's entry in an index of these columns over `entry`.
+fn make_entry_of(entry: &mut Row, columns: &[usize], row: &Row) -> Result<(), AllocError>
+    ensures { OnOk result (entry.new ≡ entry_of columns.now row.now) }
+{
+    entry.clear();
+    for at in columns {
+        entry.push(row.get(*at))?;
+    }
+    entry.push(row.get(0))
+}
+
+/// Puts a row's entry into an index that somebody has added.
+fn put_entry_of<S: Store>(
+    store: &mut S,
+    added: &Index,
+    row: &Row,
+    entry: &mut Row,
+) -> Result<(), StoreFault>
+    requires { IsClean (S.Store.view store.old) → (S.Store.view store.old).shape added.now.tree ≡ Shape.Index added.now.order }
+    ensures ok { OnOk result (IsClean (S.Store.view store.new) → SetsTree (S.Store.view store.old) (S.Store.view store.new) added.now.tree (insert_entry added.now.order (entry_of added.now.columns row.now))) }
+    ensures kept { IsClean (S.Store.view store.new) → OnErr result (KeepsCommitted (S.Store.view store.old) (S.Store.view store.new)) }
+    ensures schema { KeepsSchema (S.Store.view store.old) (S.Store.view store.new) }
+    ensures ours { IfErr result (λ fault. ¬ (IsForeign fault)) }
+    ensures quiet { IsQuiet S.Store.view S.Store.faults S.Store.recovers S.Store.is_shielded store.old store.new }
+{
+    make_entry_of(entry, added.columns.as_slice(), row)?;
+    store.insert(added.tree, entry).map_err(fault_of)
+}
+
+/// Puts a row's entries into those of these indexes that are of its table.
+fn put_entries<S: Store>(
+    store: &mut S,
+    table: u32,
+    more: &[Index],
+    row: &Row,
+    entry: &mut Row,
+) -> Result<(), StoreFault>
+    requires { IsClean (S.Store.view store.old) → AreIndexesAt (S.Store.view store.old).shape more.now }
+    ensures ok { OnOk result (IsClean (S.Store.view store.new) → PutsEntries more.now table row.now (S.Store.view store.old) (S.Store.view store.new)) }
+    ensures kept { IsClean (S.Store.view store.new) → OnErr result (KeepsCommitted (S.Store.view store.old) (S.Store.view store.new)) }
+    ensures schema { KeepsSchema (S.Store.view store.old) (S.Store.view store.new) }
+    ensures ours { IfErr result (λ fault. ¬ (IsForeign fault)) }
+    ensures quiet { IsQuiet S.Store.view S.Store.faults S.Store.recovers S.Store.is_shielded store.old store.new }
+{
+    for index in more {
+        if index.table == table {
+            put_entry_of(store, index, row, entry)?;
+        }
+    }
+    Ok(())
+}
+
+/// Puts a row behind the last one of a table, with its entries in the indexes of a store.
+fn append_own<S: Store>(
     store: &mut S,
     table: &TableTree,
     row: &Row,
@@ -80,7 +133,8 @@ fn append_row<S: Store>(
     requires apart { IsApart table.now }
     requires keyed { IsTrue (is_int (rowid row.now)) }
     ensures appended { OnOk result (IsClean (S.Store.view store.new) → (next : _) (columns : _) → row.now ≡ Int next ∷ columns → IsAfter next ((S.Store.view store.old).trees table.now.tree)
-        → Appends table.now (columns ∷ []) (S.Store.view store.old) (S.Store.view store.new) × ((S.Store.view store.new).trees table.now.tree ≡ (S.Store.view store.old).trees table.now.tree ++ row.now ∷ [])) }
+        → Appends table.now [] (columns ∷ []) (S.Store.view store.old) (S.Store.view store.new) × ((S.Store.view store.new).trees table.now.tree ≡ (S.Store.view store.old).trees table.now.tree ++ row.now ∷ [])) }
+    ensures frame { OnOk result (IsClean (S.Store.view store.new) → OnlyWrites (S.Store.view store.old) (S.Store.view store.new)) }
     ensures kept { IsClean (S.Store.view store.new) → OnErr result (KeepsCommitted (S.Store.view store.old) (S.Store.view store.new)) }
     ensures schema { KeepsSchema (S.Store.view store.old) (S.Store.view store.new) }
     ensures ours { IfErr result (λ fault. ¬ (IsForeign fault)) }
@@ -92,6 +146,30 @@ fn append_row<S: Store>(
         Some(index) => put_entry(store, index, row, entry),
         None => Ok(()),
     }
+}
+
+/// Puts a row behind the last one of a table, with its entries in the indexes of a store, and in those that somebody has added.
+fn append_row<S: Store>(
+    store: &mut S,
+    table: &TableTree,
+    more: &[Index],
+    row: &Row,
+    entry: &mut Row,
+) -> Result<(), StoreFault>
+    requires shaped { IsClean (S.Store.view store.old) → IsTableAt (S.Store.view store.old).shape table.now }
+    requires more { IsClean (S.Store.view store.old) → AreIndexesAt (S.Store.view store.old).shape more.now }
+    requires apart { IsApart table.now }
+    requires apart_of { IsApartOf table.now more.now }
+    requires keyed { IsTrue (is_int (rowid row.now)) }
+    ensures appended { OnOk result (IsClean (S.Store.view store.new) → (next : _) (columns : _) → row.now ≡ Int next ∷ columns → IsAfter next ((S.Store.view store.old).trees table.now.tree)
+        → Appends table.now more.now (columns ∷ []) (S.Store.view store.old) (S.Store.view store.new) × ((S.Store.view store.new).trees table.now.tree ≡ (S.Store.view store.old).trees table.now.tree ++ row.now ∷ [])) }
+    ensures kept { IsClean (S.Store.view store.new) → OnErr result (KeepsCommitted (S.Store.view store.old) (S.Store.view store.new)) }
+    ensures schema { KeepsSchema (S.Store.view store.old) (S.Store.view store.new) }
+    ensures ours { IfErr result (λ fault. ¬ (IsForeign fault)) }
+    ensures quiet { IsQuiet S.Store.view S.Store.faults S.Store.recovers S.Store.is_shielded store.old store.new }
+{
+    append_own(store, table, row, entry)?;
+    put_entries(store, table.tree, more, row, entry)
 }
 
 /// Writes a row with this rowid. A NaN is written as NULL, as `sqlite` writes it.
@@ -114,11 +192,14 @@ pub(crate) fn append_rows<S: Store, R: TableRow>(
     alloc: Global,
     store: &mut S,
     table: &TableTree,
+    more: &[Index],
     rows: &[R],
 ) -> Result<(), StoreFault>
     requires shaped { IsClean (S.Store.view store.old) → IsTableAt (S.Store.view store.old).shape table.now }
+    requires more { IsClean (S.Store.view store.old) → AreIndexesAt (S.Store.view store.old).shape more.now }
     requires apart { IsApart table.now }
-    ensures appended { OnOk result (IsClean (S.Store.view store.new) → Appends table.now (map R.columns rows.now) (S.Store.view store.old) (S.Store.view store.new)) }
+    requires apart_of { IsApartOf table.now more.now }
+    ensures appended { OnOk result (IsClean (S.Store.view store.new) → Appends table.now more.now (map R.columns rows.now) (S.Store.view store.old) (S.Store.view store.new)) }
     ensures kept { IsClean (S.Store.view store.new) → OnErr result (KeepsCommitted (S.Store.view store.old) (S.Store.view store.new)) }
     ensures schema { KeepsSchema (S.Store.view store.old) (S.Store.view store.new) }
     ensures ours { IfErr result (λ fault. ¬ (IsForeign fault)) }
@@ -132,7 +213,7 @@ pub(crate) fn append_rows<S: Store, R: TableRow>(
         values.clear();
         written.push_values(&mut values)?;
         make_row(&mut row, rowid, &values)?;
-        append_row(store, table, &row, &mut entry)?;
+        append_row(store, table, more, &row, &mut entry)?;
         let Some(next) = rowid.checked_add(1) else {
             return Err(StoreFault::Full);
         };

@@ -8,9 +8,9 @@ ghost use Rattle.osm_store.specs.declared.schema.layout.Layout.TheVariants.{Tabl
 ghost use Rattle.osm_store.specs.Schema.Tables.{table_schema};
 ghost use Rattle.osm_store.specs.Held.{Blob, HeldMap};
 ghost use Rattle.osm_store.specs.Keeping.{IsAddable, extent_of, extents_of, with_blob};
-ghost use Rattle.osm_store.specs.LayoutHolding.{IsBlob, IsKept, HoldElements, TablesHold};
+ghost use Rattle.osm_store.specs.LayoutHolding.{IsBlob, IsKept, HoldElements};
 ghost use Rattle.osm_store.specs.Rows.{extent_row, placed, placed_in, version_row};
-ghost use Rattle.osm_tree_writes.specs.Putting.{AreTables, IsIndexedStore, PutsBelow};
+ghost use Rattle.osm_tree_writes.specs.Putting.{AreTables, IsIndexedStore, PutsBelow, TreesHold};
 
 /// Trees that have the rows of a map, and in each index an entry for each row, obey the schema of a store: each value has its
 /// column's type, none is missing, and no key comes twice.
@@ -19,9 +19,9 @@ pub fn rows_of_a_map_obey_the_schema()
         → AreTables db → IsIndexedStore db → Obeys table_schema db }
 {}
 
-/// Trees that hold a map, and to which the rows of a blob are added that the map can take, hold the map with the blob, as a
-/// sound database.
+/// Trees that hold a map, and to which the rows of a blob are added that the map can take, hold the map with the blob, and
+/// obey the schema of a store, whatever else the database has beside them.
 pub fn a_put_adds_the_blob()
     ensures { (held : HeldMap) (old new : Trees) (off : _) (blob : Blob) → IsKept Tables held → IsAddable held off blob → off < blob.fin → blob.fin ≤ MAX_OFFSET → IsBlob Tables blob
-        → TablesHold Tables held old → PutsBelow old new (extent_of (off, blob)) (placed off 0 blob.elements) → TablesHold Tables (with_blob held off blob) new }
+        → TreesHold Tables held old → PutsBelow old new (extent_of (off, blob)) (placed off 0 blob.elements) → TreesHold Tables (with_blob held off blob) new }
 {}

@@ -1,8 +1,9 @@
 //! The trees of a table and of its indexes.
 
-ghost use Rattle.std.specs.Prelude.{◌↔◌, IsTrue};
-ghost use Rattle.osm_tree_writes.specs.Appending.{IsIndexAt, IsTableAt};
+ghost use Rattle.std.specs.Prelude.{◌≡◌, ◌⊎◌, ◌↔◌, ◌<◌, ◌≤◌, ◌^◌, IsTrue};
+ghost use Rattle.osm_tree_writes.specs.Appending.{IsIndexAt, IsTableAt, RiseFrom};
 
+use sqlite_schema::schema::Index;
 use sqlite_trees::store::{Shape, Store};
 use sqlite_value::keys::Order;
 
@@ -26,8 +27,8 @@ pub(crate) struct TableTree {
     pub(crate) by_id: Option<IndexTree>,
 }
 
-/// How many trees a store has: five tables and four indexes.
-pub(crate) const TREES: u64 = 9;
+/// How many trees a store has.
+const TREES: u64 = 9;
 
 /// The tree of the table of blobs.
 pub(crate) const BLOBS: u32 = 1;
@@ -82,4 +83,36 @@ pub(crate) fn has_table<S: Store>(store: &S, table: &TableTree) -> bool
         None => true,
     };
     has_rest && has_index(store, table.key) && store.shape(table.tree) == Shape::Table
+}
+
+/// Whether a tree is that of the table of elements, of tags or of links.
+fn has_elements(table: u32) -> bool
+    ensures { IsTrue result ↔ ((table ≡ 2) ⊎ ((table ≡ 4) ⊎ (table ≡ 6))) }
+{
+    table == 2 || table == 4 || table == 6
+}
+
+/// Whether the trees have this index that somebody has added, from this number on and over a table of elements.
+fn is_behind<S: Store>(store: &S, low: u64, index: &Index) -> bool
+    ensures { IsTrue result ↔ ((low ≤ index.now.tree) × (index.now.tree < 2 ^ 32) × ((index.now.table ≡ 2) ⊎ ((index.now.table ≡ 4) ⊎ (index.now.table ≡ 6))) × ((S.Store.view store.now).shape index.now.tree ≡ Shape.Index index.now.order)) }
+{
+    let tree = index.tree;
+    store.shape(tree) == Shape::Index(index.order)
+        && u64::from(tree) >= low
+        && has_elements(index.table)
+}
+
+/// Whether the trees have these indexes that somebody has added, each behind those before and behind the trees of a
+/// store, over tables of elements.
+pub(crate) fn has_more<S: Store>(store: &S, more: &[Index]) -> bool
+    ensures { IsTrue result ↔ RiseFrom (S.Store.view store.now).shape TREES more.now }
+{
+    let mut low = TREES;
+    for index in more {
+        if !is_behind(store, low, index) {
+            return false;
+        }
+        low = u64::from(index.tree) + 1;
+    }
+    true
 }

@@ -1,25 +1,29 @@
 //! A blob's rows, put into the trees in one transaction.
 
-ghost use Rattle.std.specs.Prelude.{◌≡◌, ◌⊎◌, ◌+◌, ◌<◌, ◌≤◌, ◌^◌, ℕ, false, length, IsTrue, OnOk, OnErr, IfOk, IfErr};
+ghost use Rattle.std.specs.Prelude.{◌≡◌, ◌↔◌, ◌⊎◌, ◌+◌, ◌<◌, ◌≤◌, ◌^◌, ℕ, false, length, IsTrue, IsSome, IfSome, OnOk, OnErr, IfOk, IfErr};
 ghost use Rattle.std.specs.List.{AllByRecursion};
 ghost use Rattle.sqlite_trees.specs.declared.store.Shape.TheVariants.{Table};
+ghost use Rattle.sqlite_trees.specs.Objects.{catalog_tree};
 ghost use Rattle.sqlite_trees.specs.Tree.{Trees, put_row};
 ghost use Rattle.sqlite_trees.specs.View.{doubt, IsClean, IsQuiet, KeepsSchema, KeepsCommitted, SetsTree};
 ghost use Rattle.osm_value.specs.Elements.{IsElement};
 ghost use Rattle.osm_store.specs.Keeping.{IsForeign};
 ghost use Rattle.osm_store.specs.Rows.{placed, extent_row};
-ghost use Rattle.osm_tree_writes.specs.Appending.{HasNoMoreIndexes, HasNoMoreTrees, IsStoreAt};
+ghost use Rattle.osm_added_indexes.specs.Added.{AreKept, plain_indexes};
+ghost use Rattle.osm_tree_writes.specs.Appending.{AreBehind, AreIndexesAt, IsStoreAt, RiseFrom, TakeBlobs};
 ghost use Rattle.osm_tree_writes.specs.Putting.{PutsBelow, Writes, WritesElements};
 
 use crate::append::{append_rows, put_table_row};
 use crate::fault::fault_of;
 use crate::free::are_places_free;
-use crate::layout::{BLOBS, ELEMENTS, LINKS, TAGS, TREES, has_table};
+use crate::layout::{BLOBS, ELEMENTS, LINKS, TAGS, has_more, has_table};
+use osm_added_indexes::plain_indexes;
 use osm_store::{Extent, StoreFault, blob_code, element_rows, link_rows, tag_rows};
 use osm_value::Element;
 use osm_value::laws::elements_in_range;
 use pbf_frame::MAX_OFFSET;
-use sqlite_trees::store::{Shape, Store};
+use sqlite_schema::schema::Index;
+use sqlite_trees::store::{Alter, Shape, Store};
 use sqlite_value::row::Row;
 use sqlite_value::value::ValueRef;
 use std::alloc::{AllocError, Global};
@@ -27,18 +31,44 @@ use std::alloc::{AllocError, Global};
 /// Of how many elements the rows are made at once.
 const AT_ONCE: usize = 64;
 
-/// Whether a put can write to these trees: they have the tables of a store and their indexes, and nothing beside them. An
-/// index of somebody's own would lack the entries of the rows that a put writes.
-pub fn takes_blobs<S: Store>(store: &S) -> bool
-    ensures store { IsTrue result → IsStoreAt (S.Store.view store.now).shape }
-    ensures alone { IsTrue result → HasNoMoreIndexes (S.Store.view store.now).shape }
-    ensures whole { IsStoreAt (S.Store.view store.now).shape → HasNoMoreTrees (S.Store.view store.now).shape → IsTrue result }
+/// Whether the trees have the tables of a store and their indexes.
+fn has_tables<S: Store>(store: &S) -> bool
+    ensures { IsTrue result ↔ IsStoreAt (S.Store.view store.now).shape }
 {
-    store.tree_count() == TREES
-        && store.shape(BLOBS) == Shape::Table
+    store.shape(BLOBS) == Shape::Table
         && has_table(store, &ELEMENTS)
         && has_table(store, &TAGS)
         && has_table(store, &LINKS)
+}
+
+/// The indexes that somebody has added to the tables of a store, each of which has to get the entries of the rows that a put
+/// writes; none where a put can't write to these trees.
+fn indexes_to_keep<S: Alter>(alloc: Global, store: &S) -> Result<Option<Vec<Index>>, AllocError>
+    ensures shaped { IfOk result (λ found. IfSome found (λ more. IsStoreAt (S.Store.view store.now).shape × RiseFrom (S.Store.view store.now).shape 9 more.items)) }
+    ensures all { IfOk result (λ found. IfSome found (λ more. IsClean (S.Store.view store.now) → AreKept ((S.Store.view store.now).trees catalog_tree) × (more.items ≡ plain_indexes ((S.Store.view store.now).trees catalog_tree)))) }
+    ensures none { IfOk result (λ found. IsClean (S.Store.view store.now) → TakeBlobs (S.Store.view store.now).shape ((S.Store.view store.now).trees catalog_tree) → IsSome found) }
+{
+    let objects = store.objects(alloc)?;
+    let Some(more) = plain_indexes(alloc, objects.as_slice())? else {
+        return Ok(None);
+    };
+    if has_tables(store) && has_more(store, more.as_slice()) {
+        Ok(Some(more))
+    } else {
+        Ok(None)
+    }
+}
+
+/// Whether a put can write to these trees: they have the tables of a store and their indexes, and each index that somebody
+/// has added to these tables is one that a put keeps (`osm_added_indexes::plain_index`). Views, and tables of other names
+/// with their indexes, may stand beside them.
+pub fn takes_blobs<S: Alter>(alloc: Global, store: &S) -> Result<bool, AllocError>
+    ensures store { IfOk result (λ takes. IsTrue takes → IsStoreAt (S.Store.view store.now).shape) }
+    ensures indexed { IfOk result (λ takes. IsTrue takes → IsClean (S.Store.view store.now) → TakeBlobs (S.Store.view store.now).shape ((S.Store.view store.now).trees catalog_tree)) }
+    ensures whole { IfOk result (λ takes. IsClean (S.Store.view store.now) → TakeBlobs (S.Store.view store.now).shape ((S.Store.view store.now).trees catalog_tree) → IsTrue takes) }
+{
+    let found = indexes_to_keep(alloc, store)?;
+    Ok(found.is_some())
 }
 
 /// The row of the table of blobs.
@@ -77,21 +107,24 @@ fn append_some<S: Store>(
     off: u64,
     first: u64,
     elements: &[Element],
+    more: &[Index],
 ) -> Result<(), StoreFault>
     requires shaped { IsClean (S.Store.view store.old) → IsStoreAt (S.Store.view store.old).shape }
     requires bounds { (off ≤ MAX_OFFSET) × (first + length elements.now ≤ 2 ^ 63) }
-    ensures written { OnOk result (IsClean (S.Store.view store.new) → WritesElements (S.Store.view store.old) (S.Store.view store.new) (placed off first elements.now)) }
+    requires more { IsClean (S.Store.view store.old) → AreIndexesAt (S.Store.view store.old).shape more.now }
+    requires behind { AreBehind more.now }
+    ensures written { OnOk result (IsClean (S.Store.view store.new) → WritesElements more.now (S.Store.view store.old) (S.Store.view store.new) (placed off first elements.now)) }
     ensures kept { IsClean (S.Store.view store.new) → OnErr result (KeepsCommitted (S.Store.view store.old) (S.Store.view store.new)) }
     ensures schema { KeepsSchema (S.Store.view store.old) (S.Store.view store.new) }
     ensures ours { IfErr result (λ fault. ¬ (IsForeign fault)) }
     ensures quiet { IsQuiet S.Store.view S.Store.faults S.Store.recovers S.Store.is_shielded store.old store.new }
 {
     let rows = element_rows(alloc, off, first, elements)?;
-    append_rows(alloc, store, &ELEMENTS, &rows)?;
+    append_rows(alloc, store, &ELEMENTS, more, &rows)?;
     let tags = tag_rows(alloc, off, first, elements)?;
-    append_rows(alloc, store, &TAGS, &tags)?;
+    append_rows(alloc, store, &TAGS, more, &tags)?;
     let links = link_rows(alloc, off, first, elements)?;
-    append_rows(alloc, store, &LINKS, &links)
+    append_rows(alloc, store, &LINKS, more, &links)
 }
 
 /// Puts the rows of a blob's elements behind those of their tables. Those of a few elements are made at once: a blob of
@@ -101,10 +134,13 @@ fn append_elements<S: Store>(
     store: &mut S,
     off: u64,
     elements: &[Element],
+    more: &[Index],
 ) -> Result<(), StoreFault>
     requires shaped { IsClean (S.Store.view store.old) → IsStoreAt (S.Store.view store.old).shape }
     requires bounds { off ≤ MAX_OFFSET }
-    ensures written { OnOk result (IsClean (S.Store.view store.new) → WritesElements (S.Store.view store.old) (S.Store.view store.new) (placed off 0 elements.now)) }
+    requires more { IsClean (S.Store.view store.old) → AreIndexesAt (S.Store.view store.old).shape more.now }
+    requires behind { AreBehind more.now }
+    ensures written { OnOk result (IsClean (S.Store.view store.new) → WritesElements more.now (S.Store.view store.old) (S.Store.view store.new) (placed off 0 elements.now)) }
     ensures kept { IsClean (S.Store.view store.new) → OnErr result (KeepsCommitted (S.Store.view store.old) (S.Store.view store.new)) }
     ensures schema { KeepsSchema (S.Store.view store.old) (S.Store.view store.new) }
     ensures ours { IfErr result (λ fault. ¬ (IsForeign fault)) }
@@ -113,48 +149,48 @@ fn append_elements<S: Store>(
     // The first part is written even where a blob has no elements: only a call that ends well shows that the store has
     // the three tables.
     let (some, mut rest) = elements.split_at(elements.len().min(AT_ONCE));
-    append_some(alloc, store, off, 0, some)?;
+    append_some(alloc, store, off, 0, some, more)?;
     while !rest.is_empty() {
         let first = elements.len() - rest.len();
         let (some, after) = rest.split_at(rest.len().min(AT_ONCE));
-        append_some(alloc, store, off, first as u64, some)?;
+        append_some(alloc, store, off, first as u64, some, more)?;
         rest = after;
     }
     Ok(())
 }
 
 /// Writes the rows of a blob, and commits nothing.
-fn write_rows<S: Store>(
+fn write_rows<S: Alter>(
     alloc: Global,
     store: &mut S,
     extent: &Extent,
     elements: &[Element],
 ) -> Result<(), StoreFault>
     requires bounds { (extent.now.off ≤ MAX_OFFSET) × (extent.now.fin ≤ MAX_OFFSET) × (extent.now.n < 2 ^ 63) }
-    ensures written { OnOk result (IsClean (S.Store.view store.new) → Writes (S.Store.view store.old) (S.Store.view store.new) extent.now (placed extent.now.off 0 elements.now)) }
+    ensures written { OnOk result (IsClean (S.Store.view store.new) → Writes (plain_indexes ((S.Store.view store.old).trees catalog_tree)) (S.Store.view store.old) (S.Store.view store.new) extent.now (placed extent.now.off 0 elements.now)) }
     ensures can_store { OnOk result (AllByRecursion IsElement elements.now) }
-    ensures alone { OnOk result (HasNoMoreIndexes (S.Store.view store.old).shape) }
+    ensures indexed { OnOk result (IsClean (S.Store.view store.old) → TakeBlobs (S.Store.view store.old).shape ((S.Store.view store.old).trees catalog_tree)) }
     ensures kept { IsClean (S.Store.view store.new) → OnErr result (KeepsCommitted (S.Store.view store.old) (S.Store.view store.new)) }
     ensures ours { IfErr result (λ fault. ¬ (IsForeign fault)) }
     ensures quiet { IsQuiet S.Store.view S.Store.faults S.Store.recovers S.Store.is_shielded store.old store.new }
 {
     elements_in_range(elements);
-    if !takes_blobs(store) {
+    let Some(more) = indexes_to_keep(alloc, store)? else {
         return Err(StoreFault::Disk);
-    }
+    };
     let are_free = are_places_free(alloc, store, extent.off)?;
     if !are_free {
         return Err(StoreFault::Disk);
     }
     put_extent(alloc, store, extent)?;
-    append_elements(alloc, store, extent.off, elements)
+    append_elements(alloc, store, extent.off, elements, more.as_slice())
 }
 
-/// One transaction adds the rows of a blob and of its elements, or nothing. A fault is `Memory`, `Full` where there is no
-/// room, and else `Disk`, as where the trees take no blobs (`takes_blobs`) or have
-/// rows at the blob's offset that are those of no blob; what was committed before stays. Trees that have
-/// to be opened again take nothing.
-pub fn put_blob<S: Store>(
+/// One transaction adds the rows of a blob and of its elements, or nothing. Each index that somebody has added to the
+/// tables gets an entry for each row, and no other tree behind those of a store is touched. A fault is `Memory`, `Full` where
+/// there is no room, and else `Disk`, as where the trees take no blobs (`takes_blobs`) or have rows at the blob's offset that
+/// are those of no blob; what was committed before stays. Trees that have to be opened again take nothing.
+pub fn put_blob<S: Alter>(
     alloc: Global,
     store: &mut S,
     extent: &Extent,
@@ -163,7 +199,7 @@ pub fn put_blob<S: Store>(
     requires bounds { (extent.now.off ≤ MAX_OFFSET) × (extent.now.fin ≤ MAX_OFFSET) × (extent.now.n < 2 ^ 63) }
     ensures added { IsClean (S.Store.view store.new) → OnOk result (PutsBelow (S.Store.view store.old).trees (S.Store.view store.new).trees extent.now (placed extent.now.off 0 elements.now)) }
     ensures can_store { OnOk result (AllByRecursion IsElement elements.now) }
-    ensures alone { OnOk result (HasNoMoreIndexes (S.Store.view store.old).shape) }
+    ensures indexed { OnOk result (IsClean (S.Store.view store.old) → TakeBlobs (S.Store.view store.old).shape ((S.Store.view store.old).trees catalog_tree)) }
     ensures committed { IsClean (S.Store.view store.new) → OnOk result (((S.Store.view store.old).is_broken ≡ false) × ((S.Store.view store.new).is_broken ≡ false) × ((S.Store.view store.new).committed ≡ (S.Store.view store.new).trees)) }
     ensures unchanged { IsClean (S.Store.view store.new) → (S.Store.view store.new).is_broken ≡ false
         → OnErr result (((S.Store.view store.old).is_broken ≡ false) × ((S.Store.view store.new).trees ≡ (S.Store.view store.old).committed) × ((S.Store.view store.new).committed ≡ (S.Store.view store.old).committed)) }

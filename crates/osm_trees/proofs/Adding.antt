@@ -1,23 +1,25 @@
 -- A put of a blob's rows into the trees keeps what a keeper promises of it.
-use Rattle.std.proofs.Common.{◌≡◌, ◌⊎◌, inl, inr, ℕ, ◌<◌, ◌≤◌, false, length, IsTrue, Result, Ok, Err, sym, subst, ◌∙◌, arith}
+use Rattle.std.proofs.Common.{◌≡◌, ◌⊎◌, inl, inr, ℕ, ◌<◌, ◌≤◌, false, length, IsTrue, Result, Ok, Err, ap, sym, subst, ◌∙◌, arith}
 use Rattle.std.specs.Prelude.{OnOk, OnErr, IfErr}
 use Rattle.std.specs.List.{AllByRecursion}
 use Rattle.sqlite_trees.specs.declared.store.Store.{Ghosts}
 use Rattle.sqlite_trees.specs.Tree.{Trees}
-use Rattle.sqlite_trees.specs.View.{doubt, IsClean}
+use Rattle.sqlite_trees.specs.View.{View, doubt, IsClean}
+use Rattle.sqlite_trees.specs.Objects.{catalog_tree}
 use Rattle.pbf_frame.specs.declared.part.TheConstants.{MAX_OFFSET}
 use Rattle.osm_value.specs.Elements.{IsElement}
 use Rattle.osm_store.specs.declared.fault.StoreFault.{StoreFault}
 use Rattle.osm_store.specs.declared.schema.layout.Layout.TheVariants.{Tables}
 use Rattle.osm_store.specs.Held.{Blob, HeldMap}
 use Rattle.osm_store.specs.Keeping.{Adds, IsAddable, IsForeign, extent_of, failures_after, with_blob}
-use Rattle.osm_store.specs.LayoutHolding.{IsBlob, IsKept, TablesHold}
+use Rattle.osm_store.specs.LayoutHolding.{IsBlob, IsKept}
 use Rattle.osm_store.specs.Rows.{placed}
-use Rattle.osm_store.proofs.MapLemmas.OneMap.{one_map}
 use Rattle.osm_store.proofs.MapLemmas.OneMore.{kept_more}
-use Rattle.osm_tree_writes.specs.Putting.{PutsBelow}
-use Rattle.osm_tree_writes.proofs.Obeying.{hold_with}
-use Rattle.osm_trees.specs.Below.{HoldsBelow, IsUsable, MayLeave, LeavesAMap, SameTrees}
+use Rattle.osm_tree_writes.specs.Beside.{ListsAlone}
+use Rattle.osm_tree_writes.specs.Putting.{PutsBelow, TreesHold}
+use Rattle.osm_tree_writes.proofs.Obeying.{hold_with, one_map_below}
+use Rattle.osm_trees.specs.Below.{HoldsBelow, IsUsable, MayLeave, LeavesAMap, SameTrees, StandsAlone}
+use Rattle.osm_trees.specs.Putting.{AddsBelow}
 use Rattle.osm_trees.specs.Reading.{Reading, leaves_held}
 
 -- the rows of the blob are put into these trees
@@ -34,11 +36,6 @@ pub record Wrote {S T : Type 0} (g : Ghosts S) (off : ℕ) (blob : Blob) (old ne
   pub clean : doubt (g.view old).is_clean ≤ doubt (g.view new).is_clean
   pub crash : IsClean (g.view new) → (db : Trees) → g.recovers new db → g.recovers old db ⊎ (((g.view old).is_broken ≡ false) × AllByRecursion IsElement blob.elements × Puts off blob (g.view old).trees db)
 
--- what a keeper promises of a put, of this store
-abbrev pub AddsBelow : {S T : Type 0} → Ghosts S → ℕ → Blob → Reading S → Result T StoreFault → Reading S → Type 0
-AddsBelow g off blob old result new = Adds (λ r held. HoldsBelow Tables (g.view r.store) held) (λ r left. MayLeave (g.recovers r.store) left) (λ r. LeavesAMap (g.recovers r.store)) (λ r s. SameTrees (g.view r.store) (g.view s.store))
-    (λ r. IsClean (g.view r.store)) (λ r. IsUsable (g.view r.store)) (λ r. r.failures) off blob old result new
-
 module _ {S : Type 0} (g : Ghosts S) (old new : Reading S) (off : ℕ) (blob : Blob) (order : off < blob.fin) (limit : blob.fin ≤ MAX_OFFSET) (digest : length blob.digest ≡ 32)
     (settles : (db : Trees) → IsTrue (g.view old.store).is_open → g.recovers old.store db → db ≡ (g.view old.store).committed) (shuts : (g.view old.store).is_open ≡ false → IsTrue (g.view old.store).is_broken) where
   abbrev Written : Result (Unit {0}) StoreFault → Type 0
@@ -52,7 +49,7 @@ module _ {S : Type 0} (g : Ghosts S) (old new : Reading S) (off : ℕ) (blob : B
     kept : AllByRecursion IsElement blob.elements → IsKept Tables (with_blob held off blob)
     kept stored = kept_more held off blob Tables holds.kept can.free order limit (blob_is stored)
 
-    tables : AllByRecursion IsElement blob.elements → (db : Trees) → Puts off blob (g.view old.store).trees db → TablesHold Tables (with_blob held off blob) db
+    tables : AllByRecursion IsElement blob.elements → (db : Trees) → Puts off blob (g.view old.store).trees db → TreesHold Tables (with_blob held off blob) db
     tables stored db puts = hold_with held off blob holds.kept can order limit (blob_is stored) (g.view old.store).trees db holds.tables puts
 
     holds_more : IsClean (g.view new.store) → AllByRecursion IsElement blob.elements → Puts off blob (g.view old.store).trees (g.view new.store).trees → (g.view new.store).is_broken ≡ false
@@ -63,19 +60,31 @@ module _ {S : Type 0} (g : Ghosts S) (old new : Reading S) (off : ℕ) (blob : B
       settled = sym committed;
       kept = kept stored;
       tables = tables stored (g.view new.store).trees puts;
-      only = λ other kept_too tables_too. one_map Tables other (with_blob held off blob) (g.view new.store).trees kept_too (kept stored) tables_too (tables stored (g.view new.store).trees puts);
+      only = λ other kept_too tables_too. one_map_below Tables other (with_blob held off blob) (g.view new.store).trees kept_too (kept stored) tables_too (tables stored (g.view new.store).trees puts);
     }
 
     leaves_more : {r : Result (Unit {0}) StoreFault} → Written r → IsClean (g.view new.store) → (left : HeldMap) → MayLeave (g.recovers new.store) left → MayLeave (g.recovers old.store) left ⊎ (left ≡ with_blob held off blob)
     leaves_more w clean left may = elim (w.crash clean may.trees may.left) [
       | inl before ↦ inl (record { kept = may.kept; trees = may.trees; left = before; tables = may.tables })
-      | inr put ↦ inr (one_map Tables left (with_blob held off blob) may.trees may.kept (kept put.1) may.tables (tables put.1 may.trees put.2))
+      | inr put ↦ inr (one_map_below Tables left (with_blob held off blob) may.trees may.kept (kept put.1) may.tables (tables put.1 may.trees put.2))
     ]
 
     leaves_a_map : {r : Result (Unit {0}) StoreFault} → Written r → IsClean (g.view new.store) → LeavesAMap (g.recovers new.store)
     leaves_a_map w clean db left = elim (w.crash clean db left) [
       | inl before ↦ leaves_held (g.view old.store) (g.recovers old.store) held holds settles shuts db before
       | inr put ↦ (with_blob held off blob, kept put.1, tables put.1 db put.2)
+    ]
+
+    -- ---- the list of all objects is none of the trees that a put writes
+    listed_as_before : StandsAlone (g.view old.store) (g.recovers old.store) → (db : Trees) → Puts off blob (g.view old.store).trees db → ListsAlone (db catalog_tree)
+    listed_as_before alone db puts =
+        let same : db catalog_tree ≡ (g.view old.store).committed catalog_tree = puts.catalog ∙ ap (λ (f : Trees). f catalog_tree) holds.settled in
+        subst ListsAlone (sym same) (alone.committed (holds.clean, holds.unbroken))
+
+    left_alone : {r : Result (Unit {0}) StoreFault} → Written r → IsClean (g.view new.store) → StandsAlone (g.view old.store) (g.recovers old.store) → (db : Trees) → g.recovers new.store db → ListsAlone (db catalog_tree)
+    left_alone w clean alone db left = elim (w.crash clean db left) [
+      | inl before ↦ alone.left db before
+      | inr put ↦ listed_as_before alone db put.2
     ]
 
   -- ---- where nothing is written
@@ -88,8 +97,8 @@ module _ {S : Type 0} (g : Ghosts S) (old new : Reading S) (off : ℕ) (blob : B
         unbroken = unbroken;
         settled = trees ∙ sym committed;
         kept = holds.kept;
-        tables = subst (TablesHold Tables held) (sym same) holds.tables;
-        only = λ other kept tables. holds.only other kept (subst (TablesHold Tables other) same tables);
+        tables = subst (TreesHold Tables held) (sym same) holds.tables;
+        only = λ other kept tables. holds.only other kept (subst (TreesHold Tables other) same tables);
       }
 
   -- what is left after a put into a store that can't go on was left before
@@ -111,6 +120,10 @@ module _ {S : Type 0} (g : Ghosts S) (old new : Reading S) (off : ℕ) (blob : B
     same = λ clean up. tt;
     crash = λ clean held left holds can may. leaves_more held holds can w clean left may;
     whole = λ clean held holds can. leaves_a_map held holds can w clean;
+    alone = λ clean held holds can alone. record {
+      committed = λ up. subst (λ (db : Trees). ListsAlone (db catalog_tree)) (sym (w.committed clean).2) (listed_as_before held holds can alone (g.view new.store).trees (w.added clean));
+      left = left_alone held holds can w clean alone;
+    };
     own = λ held holds clean can. tt;
     was_open = λ clean. (omega (arith, w.clean, clean), (w.committed clean).0);
     shut = λ clean closed left may. shut_leaves w clean closed left may;
@@ -125,6 +138,10 @@ module _ {S : Type 0} (g : Ghosts S) (old new : Reading S) (off : ℕ) (blob : B
     same = λ clean up. let left = w.unchanged clean up.1 in record { committed = left.2; settled = λ settled. left.1 ∙ sym left.2 };
     crash = λ clean held left holds can may. leaves_more held holds can w clean left may;
     whole = λ clean held holds can. leaves_a_map held holds can w clean;
+    alone = λ clean held holds can alone. record {
+      committed = λ up. subst (λ (db : Trees). ListsAlone (db catalog_tree)) (sym (w.unchanged clean up.1).2) (alone.committed (holds.clean, holds.unbroken));
+      left = left_alone held holds can w clean alone;
+    };
     own = λ held holds clean can. w.ours;
     was_open = λ clean. tt;
     shut = λ clean closed left may. shut_leaves w clean closed left may;

@@ -1,15 +1,18 @@
 -- Results that are said clause by clause, and reads as the reader promises them.
-use Rattle.std.proofs.Common.{◌≡◌, ◌∙◌, false, Result, Ok, Err, sym}
+use Rattle.std.proofs.Common.{◌≡◌, ◌∙◌, false, Result, Ok, Err, sym, subst}
 use Rattle.std.specs.Prelude.{MatchResult, IfOk, IfErr, OnOk}
 use Rattle.sqlite_trees.specs.declared.store.Store.{Ghosts}
 use Rattle.sqlite_trees.specs.View.{View, IsClean}
 use Rattle.sqlite_exec.specs.Calls.{OnlyReads}
+use Rattle.sqlite_trees.specs.Objects.{catalog_tree}
+use Rattle.sqlite_trees.specs.Tree.{Trees}
 use Rattle.osm_store.specs.declared.fault.StoreFault.{StoreFault}
 use Rattle.osm_store.specs.declared.schema.layout.Layout.TheVariants.{Tables}
 use Rattle.osm_store.specs.Held.{HeldMap}
 use Rattle.osm_store.specs.Keeping.{IsForeign, failures_after}
 use Rattle.osm_tree_audits.proofs.Looking.{up_before}
-use Rattle.osm_trees.specs.Below.{HoldsBelow, Looks, SameTrees}
+use Rattle.osm_tree_writes.specs.Beside.{ListsAlone}
+use Rattle.osm_trees.specs.Below.{HoldsBelow, IsUsable, Looks, SameTrees, StandsAlone}
 use Rattle.osm_trees.specs.Reading.{Reading, JustReads}
 use Rattle.osm_trees.proofs.Looking.{clean_before, same_commit, same_trees, holds_after}
 
@@ -41,6 +44,16 @@ opened_of A P (Err e) a f = tt
 reads_same : (a b : View) → OnlyReads a b → SameTrees a b
 reads_same a b reads = record { committed = same_commit a b reads; settled = λ settled. same_trees a b reads ∙ settled ∙ sym (same_commit a b reads) }
 
+module _ {S : Type 0} (g : Ghosts S) (old new : Reading S) (looks : Looks g old.store new.store) where
+  still_alone : IsClean (g.view new.store) → StandsAlone (g.view old.store) (g.recovers old.store) → StandsAlone (g.view new.store) (g.recovers new.store)
+  still_alone clean alone = record {
+    committed = λ up.
+        let reads = looks.reads clean up.1 in
+        let before : IsUsable (g.view old.store) = (clean_before g old.store new.store looks clean, up_before (g.view old.store) (g.view new.store) reads up.1) in
+        subst (λ (db : Trees). ListsAlone (db catalog_tree)) (sym (same_commit (g.view old.store) (g.view new.store) reads)) (alone.committed before);
+    left = λ db left. alone.left db (looks.quiet.outcomes db left);
+  }
+
 module _ {S T : Type 0} (g : Ghosts S) (old new : Reading S) (looks : Looks g old.store new.store) where
   -- what each call of the reader says of its answer and of the trees
   abbrev pub Answers : Result T StoreFault → Type 0
@@ -55,6 +68,7 @@ module _ {S T : Type 0} (g : Ghosts S) (old new : Reading S) (looks : Looks g ol
     same = λ clean up. reads_same (g.view old.store) (g.view new.store) (looks.reads clean up.1);
     crash = λ clean held may. record { kept = may.kept; trees = may.trees; left = looks.quiet.outcomes may.trees may.left; tables = may.tables };
     whole = λ clean all db left. all db (looks.quiet.outcomes db left);
+    alone = λ clean alone. still_alone g old new looks clean alone;
     own = λ held holds clean. tt;
     counted = counted;
   }
@@ -66,6 +80,7 @@ module _ {S T : Type 0} (g : Ghosts S) (old new : Reading S) (looks : Looks g ol
     same = λ clean up. reads_same (g.view old.store) (g.view new.store) (looks.reads clean up.1);
     crash = λ clean held may. record { kept = may.kept; trees = may.trees; left = looks.quiet.outcomes may.trees may.left; tables = may.tables };
     whole = λ clean all db left. all db (looks.quiet.outcomes db left);
+    alone = λ clean alone. still_alone g old new looks clean alone;
     own = λ held holds clean. answers clean held holds;
     counted = counted;
   }

@@ -18,15 +18,14 @@ use Rattle.osm_store.specs.declared.schema.layout.Layout.TheVariants.{Tables}
 use Rattle.osm_store.specs.Audit.{AreCountable, IsPlain, ShowsCounts, counts_of, elements_held}
 use Rattle.osm_store.specs.Held.{Blob, HeldMap}
 use Rattle.osm_store.specs.Keeping.{extent_of, extents_of}
-use Rattle.osm_store.specs.LayoutHolding.{TablesHold}
 use Rattle.osm_store.specs.Rows.{Placed, placed_in, extent_row}
 use Rattle.osm_store.specs.Schema.Tables.{table_schema}
 use Rattle.osm_store.specs.TableRows.{element_row, tags_at, tag_row, links_at, links_of, link_row}
-use Rattle.osm_store.proofs.AuditLemmas.HeldRows.{filter_same, shown_at, entry_at, extents_at, shown_held, held_counted}
+use Rattle.osm_store.proofs.AuditLemmas.HeldRows.{filter_same, shown_at, entry_at, extents_at, HasRowsOf, shown_held, held_counted}
 use Rattle.osm_store.proofs.ListLemmas.CompareLemmas.{same_number}
 use Rattle.osm_store.proofs.MapLemmas.HeldLemmas.{placed_at}
 use Rattle.osm_store.proofs.MapLemmas.TableHeld.{parts_of_blob}
-use Rattle.osm_tree_writes.specs.Putting.{IsIndexedStore}
+use Rattle.osm_tree_writes.specs.Putting.{IsIndexedStore, TreesHold}
 use Rattle.osm_tree_audits.specs.Auditing.{KeepsBlob}
 use Rattle.osm_tree_audits.proofs.AtOffset.{equal_is}
 use Rattle.osm_tree_audits.proofs.Shown.{blob_shown}
@@ -50,7 +49,7 @@ rowid_is : (off : ℕ) (e : Extent) → has_rowid (pos off) (extent_row e) ≡ (
 rowid_is off e = sym (equal_is (Int (pos e.off)) (pos off)) ∙ same_number e.off off
 
 -- the rows of a held blob are kept at its offset
-held_kept : (db : Trees) (held : HeldMap) → TablesHold Tables held db → (off : ℕ) (blob : Blob) → get held off ≡ Some blob → KeepsBlob db (extent_of (off, blob)) blob.elements
+held_kept : (db : Trees) (held : HeldMap) → TreesHold Tables held db → (off : ℕ) (blob : Blob) → get held off ≡ Some blob → KeepsBlob db (extent_of (off, blob)) blob.elements
 held_kept db held tables off blob is =
     let here = placed_at held off blob is in
     record {
@@ -64,17 +63,20 @@ held_kept db held tables off blob is =
 
 module _ (v : View) (held : HeldMap) (holds : HoldsBelow Tables v held) where
   pub is_indexed : IsIndexed v
-  is_indexed = record { settled = holds.settled; indexed = holds.tables.sound.obeys.indexed }
+  is_indexed = record { settled = holds.settled; indexed = holds.tables.obeys.indexed }
 
-  committed : TablesHold Tables held v.committed
-  committed = subst (TablesHold Tables held) holds.settled holds.tables
+  committed : TreesHold Tables held v.committed
+  committed = subst (TreesHold Tables held) holds.settled holds.tables
+
+  rows : HasRowsOf Tables held v.committed
+  rows = record { blob = committed.blob; elements = committed.elements }
 
   -- rows are those of a blob exactly where the map has it there
   pub kept_is : (off : ℕ) (blob : Blob) → AllByRecursion IsPlain blob.elements → KeepsBlob v.committed (extent_of (off, blob)) blob.elements ↔ (get held off ≡ Some blob)
   kept_is off blob plain = (
-    (λ kept. shown_held Tables (of_tables v.committed) held refl committed holds.kept off blob plain (blob_shown v.committed off blob kept)),
+    (λ kept. shown_held Tables (of_tables v.committed) held refl rows holds.kept off blob plain (blob_shown v.committed off blob kept)),
     held_kept v.committed held committed off blob,
   )
 
   pub counted : AreCountable (counts_of (elements_held held)) → ShowsCounts Tables v.committed (counts_of (elements_held held))
-  counted few = held_counted Tables (of_tables v.committed) held refl committed few
+  counted few = held_counted Tables (of_tables v.committed) held refl rows few

@@ -6,6 +6,7 @@ use Rattle.sqlite.specs.Held.{Held, state}
 use Rattle.osm_store.specs.declared.schema.layout.Layout.{Layout}
 use Rattle.osm_store.specs.Held.{HeldMap}
 use Rattle.osm_store.specs.LayoutHolding.{Holds}
+use Rattle.osm_tree_writes.proofs.Obeying.{one_map_below, trees_of}
 use Rattle.osm_trees.specs.Below.{HoldsBelow}
 
 pub holds_below : {S : Type 0} (g : Ghosts S) (h : Held S) (layout : Layout) (held : HeldMap) → Holds layout (state g h) held → (g.view h.store).is_broken ≡ false → HoldsBelow layout (g.view h.store) held
@@ -14,6 +15,6 @@ holds_below g h layout held holds unbroken = record {
   unbroken = unbroken;
   settled = ap (λ (db : Database). db.trees) holds.settled;
   kept = holds.kept;
-  tables = holds.tables;
-  only = holds.only;
+  tables = trees_of layout held (g.view h.store).trees holds.tables;
+  only = λ other kept trees. one_map_below layout other held (g.view h.store).trees kept holds.kept trees (trees_of layout held (g.view h.store).trees holds.tables);
 }

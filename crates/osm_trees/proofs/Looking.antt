@@ -6,7 +6,7 @@ use Rattle.sqlite_exec.specs.Calls.{OnlyReads}
 use Rattle.sqlite_rules.proofs.ViewLemmas.{still_quiet}
 use Rattle.osm_store.specs.declared.schema.layout.Layout.{Layout}
 use Rattle.osm_store.specs.Held.{HeldMap}
-use Rattle.osm_store.specs.LayoutHolding.{TablesHold}
+use Rattle.osm_tree_writes.specs.Putting.{TreesHold}
 use Rattle.osm_tree_audits.proofs.Looking.{up_before}
 use Rattle.osm_trees.specs.Below.{HoldsBelow, Looks}
 
@@ -43,6 +43,6 @@ holds_after layout a b held reads clean up holds = record {
   unbroken = up;
   settled = same_trees a b reads ∙ holds.settled ∙ sym (same_commit a b reads);
   kept = holds.kept;
-  tables = subst (TablesHold layout held) (sym (same_trees a b reads)) holds.tables;
-  only = λ other kept tables. holds.only other kept (subst (TablesHold layout other) (same_trees a b reads) tables);
+  tables = subst (TreesHold layout held) (sym (same_trees a b reads)) holds.tables;
+  only = λ other kept tables. holds.only other kept (subst (TreesHold layout other) (same_trees a b reads) tables);
 }

@@ -18,7 +18,7 @@ use Rattle.osm_store.specs.declared.load.tables.rows.TableRows.{TableRows}
 use Rattle.osm_store.specs.declared.schema.layout.Layout.TheVariants.{Tables}
 use Rattle.osm_store.specs.Flags.{has_flag, has_flags}
 use Rattle.osm_store.specs.Held.{HeldMap}
-use Rattle.osm_store.specs.LayoutHolding.{IsKept, TablesHold}
+use Rattle.osm_store.specs.LayoutHolding.{IsKept}
 use Rattle.osm_store.specs.Load.TableAnswers.{AreRowsOf}
 use Rattle.osm_store.specs.Load.TableParts.{is_part_at, IsAlone}
 use Rattle.osm_store.specs.Rows.{Placed, IsBefore, element_code, is_in, is_of, placed_in}
@@ -28,6 +28,7 @@ use Rattle.osm_store.proofs.MapLemmas.PlacedLaws.{placed_in_rise}
 use Rattle.osm_store.proofs.MapLemmas.PartLaws.{IsPartBefore, all_parts_rise}
 use Rattle.osm_store.proofs.MapLemmas.TableHeld.{parts_of_blob}
 use Rattle.osm_store.proofs.MapLemmas.StoredElements.{all_stored}
+use Rattle.osm_tree_writes.specs.Putting.{TreesHold}
 use Rattle.osm_tree_audits.specs.Finding.{Finds}
 use Rattle.osm_tree_audits.proofs.Orders.{same_all, by_place, by_part, elements_rise, parts_rise}
 use Rattle.osm_trees.specs.Below.{is_flagged}
@@ -38,39 +39,39 @@ by_kind : (r : Row) → map (column (drop 1 r)) (2 ∷ 3 ∷ []) ≡ map (column
 by_kind [] = refl
 by_kind (x ∷ r) = refl
 
-module _ (db : Trees) (held : HeldMap) (tables : TablesHold Tables held db) where
+module _ (db : Trees) (held : HeldMap) (tables : TreesHold Tables held db) where
   pub elements_at : (off : ℕ) (rows : List Row) → Finds (λ r. r) db 3 2 2 (Int (pos off) ∷ []) rows → rows ≡ element_rows (filter (is_in off) (placed_in held))
   elements_at off rows finds =
       finds.are ∙ same_all _
       ∙ in_order element_row (1 ∷ 2 ∷ []) (0 ∷ 1 ∷ []) by_place (Int (pos off) ∷ []) (omega arith) (is_in off) (λ p. one_number p.0 off (Int (pos p.1) ∷ []))
-      IsBefore (λ a b before. elements_rise a b [] [] before) (placed_in held) (db 2) (db 3) (placed_in_rise held) finds.shaped finds.ordered tables.sound.obeys.indexed.0 tables.elements.0
+      IsBefore (λ a b before. elements_rise a b [] [] before) (placed_in held) (db 2) (db 3) (placed_in_rise held) finds.shaped finds.ordered tables.obeys.indexed.0 tables.elements.0
 
   pub tags_in : (off : ℕ) (rows : List Row) → Finds (λ r. r) db 5 4 3 (Int (pos off) ∷ []) rows → rows ≡ tag_rows (filter (is_in off) (placed_in held))
   tags_in off rows finds =
       finds.are ∙ same_all _
       ∙ in_order tag_row (1 ∷ 2 ∷ 3 ∷ []) (0 ∷ 1 ∷ 2 ∷ []) by_part (Int (pos off) ∷ []) (omega arith) (λ x. x.off == off) (λ x. one_number x.off off (Int (pos x.position) ∷ Int (pos x.number) ∷ []))
-      (λ x y. IsPartBefore x y) (λ x y before. parts_rise x y before) (flat_map tags_at (placed_in held)) (db 4) (db 5) (all_parts_rise (λ (p : Placed). tags_of_element p.2) (placed_in held) (placed_in_rise held)) finds.shaped finds.ordered tables.sound.obeys.indexed.1.0 tables.elements.1
+      (λ x y. IsPartBefore x y) (λ x y before. parts_rise x y before) (flat_map tags_at (placed_in held)) (db 4) (db 5) (all_parts_rise (λ (p : Placed). tags_of_element p.2) (placed_in held) (placed_in_rise held)) finds.shaped finds.ordered tables.obeys.indexed.1.0 tables.elements.1
       ∙ ap (map tag_row) (parts_of_blob (λ (p : Placed). tags_of_element p.2) off (placed_in held))
 
   pub links_in : (off : ℕ) (rows : List Row) → Finds (λ r. r) db 7 6 3 (Int (pos off) ∷ []) rows → rows ≡ link_rows (filter (is_in off) (placed_in held))
   links_in off rows finds =
       finds.are ∙ same_all _
       ∙ in_order link_row (1 ∷ 2 ∷ 3 ∷ []) (0 ∷ 1 ∷ 2 ∷ []) by_part (Int (pos off) ∷ []) (omega arith) (λ x. x.off == off) (λ x. one_number x.off off (Int (pos x.position) ∷ Int (pos x.number) ∷ []))
-      (λ x y. IsPartBefore x y) (λ x y before. parts_rise x y before) (flat_map links_at (placed_in held)) (db 6) (db 7) (all_parts_rise (λ (p : Placed). links_of p.2) (placed_in held) (placed_in_rise held)) finds.shaped finds.ordered tables.sound.obeys.indexed.1.1.0 tables.elements.2
+      (λ x y. IsPartBefore x y) (λ x y before. parts_rise x y before) (flat_map links_at (placed_in held)) (db 6) (db 7) (all_parts_rise (λ (p : Placed). links_of p.2) (placed_in held) (placed_in_rise held)) finds.shaped finds.ordered tables.obeys.indexed.1.1.0 tables.elements.2
       ∙ ap (map link_row) (parts_of_blob (λ (p : Placed). links_of p.2) off (placed_in held))
 
   pub its_tags : (p : Placed) → IsAlone (placed_in held) p → (rows : List Row) → Finds (λ r. r) db 5 4 3 (Int (pos p.0) ∷ Int (pos p.1) ∷ []) rows → rows ≡ map tag_row (tags_at p)
   its_tags p alone rows finds =
       finds.are ∙ same_all _
       ∙ in_order tag_row (1 ∷ 2 ∷ 3 ∷ []) (0 ∷ 1 ∷ 2 ∷ []) by_part (Int (pos p.0) ∷ Int (pos p.1) ∷ []) (omega arith) (λ x. is_part_at p.0 p.1 x) (λ x. two_naturals x.off p.0 x.position p.1 (Int (pos x.number) ∷ []))
-      (λ x y. IsPartBefore x y) (λ x y before. parts_rise x y before) (flat_map tags_at (placed_in held)) (db 4) (db 5) (all_parts_rise (λ (p : Placed). tags_of_element p.2) (placed_in held) (placed_in_rise held)) finds.shaped finds.ordered tables.sound.obeys.indexed.1.0 tables.elements.1
+      (λ x y. IsPartBefore x y) (λ x y before. parts_rise x y before) (flat_map tags_at (placed_in held)) (db 4) (db 5) (all_parts_rise (λ (p : Placed). tags_of_element p.2) (placed_in held) (placed_in_rise held)) finds.shaped finds.ordered tables.obeys.indexed.1.0 tables.elements.1
       ∙ ap (map tag_row) alone.tags
 
   pub its_links : (p : Placed) → IsAlone (placed_in held) p → (rows : List Row) → Finds (λ r. r) db 7 6 3 (Int (pos p.0) ∷ Int (pos p.1) ∷ []) rows → rows ≡ map link_row (links_at p)
   its_links p alone rows finds =
       finds.are ∙ same_all _
       ∙ in_order link_row (1 ∷ 2 ∷ 3 ∷ []) (0 ∷ 1 ∷ 2 ∷ []) by_part (Int (pos p.0) ∷ Int (pos p.1) ∷ []) (omega arith) (λ x. is_part_at p.0 p.1 x) (λ x. two_naturals x.off p.0 x.position p.1 (Int (pos x.number) ∷ []))
-      (λ x y. IsPartBefore x y) (λ x y before. parts_rise x y before) (flat_map links_at (placed_in held)) (db 6) (db 7) (all_parts_rise (λ (p : Placed). links_of p.2) (placed_in held) (placed_in_rise held)) finds.shaped finds.ordered tables.sound.obeys.indexed.1.1.0 tables.elements.2
+      (λ x y. IsPartBefore x y) (λ x y before. parts_rise x y before) (flat_map links_at (placed_in held)) (db 6) (db 7) (all_parts_rise (λ (p : Placed). links_of p.2) (placed_in held) (placed_in_rise held)) finds.shaped finds.ordered tables.obeys.indexed.1.1.0 tables.elements.2
       ∙ ap (map link_row) alone.links
 
   -- the index has the elements of one kind and id by their rowids
@@ -79,7 +80,7 @@ module _ (db : Trees) (held : HeldMap) (tables : TablesHold Tables held db) wher
       let is : rows ≡ _ = finds.are ∙ same_all _ in
       subst (IsPermutation (element_rows (filter (is_of kind id) (placed_in held)))) (sym is)
       (found element_row (3 ∷ 4 ∷ []) (2 ∷ 3 ∷ []) by_kind (Int (pos (element_code kind)) ∷ Int id ∷ []) (omega arith) (is_of kind id)
-      (λ p. two_numbers (element_code (kind_of_element p.2)) (element_code kind) (id_of_element p.2) id []) (placed_in held) (db 2) (db 8) finds.shaped tables.sound.obeys.indexed.1.1.1.0 tables.elements.0)
+      (λ p. two_numbers (element_code (kind_of_element p.2)) (element_code kind) (id_of_element p.2) id []) (placed_in held) (db 2) (db 8) finds.shaped tables.obeys.indexed.1.1.1.0 tables.elements.0)
 
 -- rows of elements that are sorted by their columns come by offset and position
 pub sorted_elements : (held : HeldMap) (test : Placed → Bool) (found rows : List Row) → IsPermutation (element_rows (filter test (placed_in held))) found → IsPermutation found rows → IsSorted (entry_cmp plain) rows
@@ -117,7 +118,7 @@ shown_flag : (r : Row) → shows_flag (drop 1 r) ≡ is_flagged r
 shown_flag [] = refl
 shown_flag (x ∷ r) = refl
 
-pub flags_are : (db : Trees) (held : HeldMap) → TablesHold Tables held db → list_any is_flagged (db 2) ≡ has_flags held
+pub flags_are : (db : Trees) (held : HeldMap) → TreesHold Tables held db → list_any is_flagged (db 2) ≡ has_flags held
 flags_are db held tables =
     sym (any_mapped (drop 1) shows_flag is_flagged shown_flag (db 2)) ∙ sym (list_any-IsPermutation shows_flag _ _ tables.elements.0)
     ∙ any_mapped element_row shows_flag (λ (p : Placed). has_flag p.2) (λ p. flag_is_int (info_of_element p.2).visible) (placed_in held)

@@ -5,13 +5,15 @@ use Rattle.sqlite_trees.specs.declared.store.Store.{Ghosts}
 use Rattle.sqlite_trees.specs.Tree.{Trees}
 use Rattle.sqlite_trees.specs.View.{View, IsClean, IsQuiet, is_int}
 use Rattle.sqlite_exec.specs.Calls.{OnlyReads}
+use Rattle.sqlite_trees.specs.Objects.{catalog_tree}
 use Rattle.osm_store.specs.declared.schema.layout.Layout.{Layout}
 use Rattle.osm_store.specs.declared.schema.layout.Layout.TheVariants.{Tables}
 use Rattle.osm_store.specs.Held.{HeldMap}
-use Rattle.osm_store.specs.LayoutHolding.{IsKept, TablesHold}
+use Rattle.osm_store.specs.LayoutHolding.{IsKept}
 use Rattle.osm_store.specs.Rows.{version_row}
 use Rattle.osm_tree_writes.specs.Appending.{IsStoreAt}
-use Rattle.osm_tree_writes.specs.Putting.{IsIndexedStore}
+use Rattle.osm_tree_writes.specs.Beside.{ListsAlone}
+use Rattle.osm_tree_writes.specs.Putting.{IsIndexedStore, TreesHold}
 
 -- the store can go on, nothing is written, and its trees' rows are those of this map and of no other
 pub record HoldsBelow (layout : Layout) (v : View) (held : HeldMap) : Type 0 where
@@ -19,8 +21,8 @@ pub record HoldsBelow (layout : Layout) (v : View) (held : HeldMap) : Type 0 whe
   pub unbroken : v.is_broken ≡ false
   pub settled : v.trees ≡ v.committed
   pub kept : IsKept layout held
-  pub tables : TablesHold layout held v.trees
-  pub only : (other : HeldMap) → IsKept layout other → TablesHold layout other v.trees → other ≡ held
+  pub tables : TreesHold layout held v.trees
+  pub only : (other : HeldMap) → IsKept layout other → TreesHold layout other v.trees → other ≡ held
 
 -- only cursors have moved, if the store can go on, and a crash leaves nothing new
 pub record Looks {S : Type 0} (g : Ghosts S) (old new : S) : Type 0 where
@@ -40,11 +42,16 @@ pub record MayLeave (recovers : Trees → Type 0) (held : HeldMap) : Type 0 wher
   pub kept : IsKept Tables held
   pub trees : Trees
   pub left : recovers trees
-  pub tables : TablesHold Tables held trees
+  pub tables : TreesHold Tables held trees
 
 -- whatever trees a crash leaves, their rows are those of a map
 abbrev pub LeavesAMap : (Trees → Type 0) → Type 0
-LeavesAMap recovers = (db : Trees) → recovers db → (left : HeldMap) × IsKept Tables left × TablesHold Tables left db
+LeavesAMap recovers = (db : Trees) → recovers db → (left : HeldMap) × IsKept Tables left × TreesHold Tables left db
+
+-- the trees list nothing beside those of a store, if they can go on, nor do those that a crash leaves
+pub record StandsAlone (v : View) (recovers : Trees → Type 0) : Type 0 where
+  pub committed : IsUsable v → ListsAlone (v.committed catalog_tree)
+  pub left : (db : Trees) → recovers db → ListsAlone (db catalog_tree)
 
 -- the last commits have the same trees, and nothing is written beyond the one if nothing is beyond the other
 pub record SameTrees (old new : View) : Type 0 where

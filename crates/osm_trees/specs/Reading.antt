@@ -3,15 +3,17 @@ use Rattle.std.specs.Prelude.{◌≡◌, ◌⊎◌, ℕ, Bool, true, false, IsTr
 use Rattle.std.proofs.Common.{sym, subst, inl, inr, ◌∙◌}
 use Rattle.std.specs.Coded.{Coded, code_by, coded×, coded_ℕ}
 use Rattle.sqlite_trees.specs.declared.store.Store.{Ghosts}
+use Rattle.sqlite_trees.specs.Objects.{catalog_tree}
 use Rattle.sqlite_trees.specs.Tree.{Trees}
 use Rattle.sqlite_trees.specs.View.{View, IsClean}
 use Rattle.osm_store.specs.declared.fault.StoreFault.{StoreFault}
 use Rattle.osm_store.specs.declared.schema.layout.Layout.TheVariants.{Tables}
 use Rattle.osm_store.specs.Held.{HeldMap}
 use Rattle.osm_store.specs.Keeping.{OnlyReads}
-use Rattle.osm_store.specs.LayoutHolding.{IsKept, TablesHold}
-use Rattle.osm_tree_writes.specs.Putting.{IsIndexedStore}
-use Rattle.osm_trees.specs.Below.{HoldsBelow, IsUsable, MayLeave, LeavesAMap, SameTrees, IsIndexed}
+use Rattle.osm_store.specs.LayoutHolding.{IsKept}
+use Rattle.osm_tree_writes.specs.Beside.{ListsAlone}
+use Rattle.osm_tree_writes.specs.Putting.{IsIndexedStore, TreesHold}
+use Rattle.osm_trees.specs.Below.{HoldsBelow, IsUsable, MayLeave, LeavesAMap, StandsAlone, SameTrees, IsIndexed}
 
 pub record Reading (S : Type 0) : Type 0 where
   pub store : S
@@ -23,7 +25,7 @@ reading_code {S} code = code_by (S × ℕ) (coded× code coded_ℕ) (λ r. (r.st
 
 -- the call has left the trees, and has counted its failure
 abbrev pub JustReads : {S T : Type 0} → Ghosts S → Reading S → Result T StoreFault → Reading S → Type 0
-JustReads g old result new = OnlyReads (λ r held. HoldsBelow Tables (g.view r.store) held) (λ r left. MayLeave (g.recovers r.store) left) (λ r. LeavesAMap (g.recovers r.store)) (λ r s. SameTrees (g.view r.store) (g.view s.store))
+JustReads g old result new = OnlyReads (λ r held. HoldsBelow Tables (g.view r.store) held) (λ r left. MayLeave (g.recovers r.store) left) (λ r. LeavesAMap (g.recovers r.store)) (λ r. StandsAlone (g.view r.store) (g.recovers r.store)) (λ r s. SameTrees (g.view r.store) (g.view s.store))
     (λ r. IsClean (g.view r.store)) (λ r. IsUsable (g.view r.store)) (λ r. r.failures) old result new
 
 -- one store has the trees that it has, and what is the same after one call and after the next is the same after both
@@ -49,11 +51,19 @@ module _ (v : View) (recovers : Trees → Type 0) (held : HeldMap) (holds : Hold
   left_is : (db : Trees) → recovers db → db ≡ v.trees
   left_is db left = settles db (open_of _ _ shuts holds.unbroken) left ∙ sym holds.settled
 
-  pub leaves_held_alone : (left : HeldMap) → IsKept Tables left → (db : Trees) → recovers db → TablesHold Tables left db → left ≡ held
-  leaves_held_alone left kept db may tables = holds.only left kept (subst (TablesHold Tables left) (left_is db may) tables)
+  pub leaves_held_alone : (left : HeldMap) → IsKept Tables left → (db : Trees) → recovers db → TreesHold Tables left db → left ≡ held
+  leaves_held_alone left kept db may tables = holds.only left kept (subst (TreesHold Tables left) (left_is db may) tables)
 
-  pub leaves_held : (db : Trees) → recovers db → (left : HeldMap) × IsKept Tables left × TablesHold Tables left db
-  leaves_held db may = (held, holds.kept, subst (TablesHold Tables held) (sym (left_is db may)) holds.tables)
+  pub leaves_held : (db : Trees) → recovers db → (left : HeldMap) × IsKept Tables left × TreesHold Tables left db
+  leaves_held db may = (held, holds.kept, subst (TreesHold Tables held) (sym (left_is db may)) holds.tables)
+
+-- a store that can go on and lists nothing else stands alone
+pub stands_alone : (v : View) (recovers : Trees → Type 0) → v.is_broken ≡ false → ((db : Trees) → IsTrue v.is_open → recovers db → db ≡ v.committed) → (v.is_open ≡ false → IsTrue v.is_broken)
+    → ListsAlone (v.committed catalog_tree) → StandsAlone v recovers
+stands_alone v recovers up settles shuts lists = record {
+  committed = λ _. lists;
+  left = λ db left. subst (λ (ts : Trees). ListsAlone (ts catalog_tree)) (sym (settles db (open_of _ _ shuts up) left)) lists;
+}
 
 -- the store can go on or can't
 pub usable_or_not : (is_broken : Bool) {IsHonest : Type 0} → IsHonest → (IsHonest × (is_broken ≡ false)) ⊎ ¬ (IsHonest × (is_broken ≡ false))

@@ -1,15 +1,20 @@
 //! What holds of a connection, and so of its trees.
 
 ghost use Rattle.std.specs.Prelude.{◌≡◌, false};
+ghost use Rattle.sqlite_trees.specs.Objects.{catalog_tree};
+ghost use Rattle.sqlite_catalog.specs.Listing.{Lists};
 ghost use Rattle.sqlite.specs.Held.{state};
 ghost use Rattle.sqlite.specs.State.{HasCleanDisk, IsLive, Opens};
 ghost use Rattle.osm_store.specs.declared.schema.layout.Layout.{Layout};
 ghost use Rattle.osm_store.specs.declared.schema.layout.Layout.TheVariants.{Tables};
+ghost use Rattle.osm_store.specs.Schema.Tables.{table_schema};
 ghost use Rattle.osm_store.specs.Held.{HeldMap};
 ghost use Rattle.osm_store.specs.LayoutHolding.{Holds};
+ghost use Rattle.osm_tree_writes.specs.Beside.{ListsAlone};
 ghost use Rattle.osm_trees.specs.Below.{HoldsBelow};
 
 use crate::tree_store::TreeStore;
+use osm_store::Reader;
 use osm_store::laws::holds_again;
 use sqlite::{Alter, Connection};
 use sqlite_trees::store::Store;
@@ -22,13 +27,21 @@ pub fn holds_below<S: Alter>(connection: &Connection<S>)
     let _connection = connection;
 }
 
-/// A connection that was opened over the trees that a tree store has committed holds what the tree store holds.
+/// Trees that hold a map, and list the objects of a store and nothing else, stand alone: so does what a crash leaves of them.
+pub fn what_lists_nothing_else_stands_alone<S: Store>(store: &TreeStore<S>)
+    ensures { (held : HeldMap) → ⟦<TreeStore<S> as Reader>⟧.holds store.now held → ListsAlone ((S.Store.view store.now.store).trees catalog_tree) → ⟦<TreeStore<S> as Reader>⟧.is_alone store.now }
+{
+    let _store = store;
+}
+
+/// A connection that was opened over the trees that a tree store has committed holds what the tree store holds, where its
+/// list of objects is that of a store alone.
 pub fn a_connection_holds_the_same<T: Store, S: Alter>(
     before: &TreeStore<T>,
     connection: &Connection<S>,
 )
     ensures { (held : HeldMap) → HoldsBelow Tables (T.Store.view before.now.store) held → HasCleanDisk (state S.Store connection.now) → Opens (state S.Store connection.now) → IsLive (state S.Store connection.now)
-        → (state S.Store connection.now).now.trees ≡ (T.Store.view before.now.store).committed → Holds Tables (state S.Store connection.now) held }
+        → (state S.Store connection.now).now.trees ≡ (T.Store.view before.now.store).committed → Lists ((T.Store.view before.now.store).committed catalog_tree) table_schema → Holds Tables (state S.Store connection.now) held }
 {
     let _before = before;
     holds_again(connection);

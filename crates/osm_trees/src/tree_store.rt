@@ -11,7 +11,7 @@ use osm_tree_audits::{has_row_counts, has_rows_of};
 use osm_tree_writes::put_blob;
 use osm_value::{Element, MemberKind};
 use pbf_frame::Kind;
-use sqlite_trees::store::Store;
+use sqlite_trees::store::{Alter, Store};
 use std::alloc::Global;
 use std::marker::Model;
 
@@ -73,7 +73,7 @@ impl<S: Store> Reader for TreeStore<S> {
     ghost use Rattle.sqlite_trees.specs.View.{IsClean};
     ghost use Rattle.osm_store.specs.declared.schema.layout.Layout.TheVariants.{Tables};
     ghost use Rattle.osm_store.specs.StoreLaws.{few_texts_of};
-    ghost use Rattle.osm_trees.specs.Below.{HoldsBelow, IsUsable, MayLeave, LeavesAMap, SameTrees};
+    ghost use Rattle.osm_trees.specs.Below.{HoldsBelow, IsUsable, MayLeave, LeavesAMap, SameTrees, StandsAlone};
     ghost use Rattle.osm_trees.specs.Reading.{leaves_held_alone, leaves_held, usable_or_not, same_self, same_next};
 
     ghost holds = { λ r held. HoldsBelow Tables (S.Store.view r.store) held };
@@ -81,6 +81,8 @@ impl<S: Store> Reader for TreeStore<S> {
     ghost leaves = { λ r left. MayLeave (S.Store.recovers r.store) left };
 
     ghost leaves_a_map = { λ r. LeavesAMap (S.Store.recovers r.store) };
+
+    ghost is_alone = { λ r. StandsAlone (S.Store.view r.store) (S.Store.recovers r.store) };
 
     ghost same_tables = { λ r s. SameTrees (S.Store.view r.store) (S.Store.view s.store) };
 
@@ -144,7 +146,12 @@ impl<S: Store> Reader for TreeStore<S> {
     ghost has_few_texts = { λ r held holds. few_texts_of Tables held holds.kept };
 }
 
-impl<S: Store> Keeper for TreeStore<S> {
+impl<S: Alter> Keeper for TreeStore<S> {
+    ghost use Rattle.std.specs.Prelude.{◌<◌, ◌≤◌};
+    ghost use Rattle.pbf_frame.specs.declared.part.TheConstants.{MAX_OFFSET};
+    ghost use Rattle.osm_trees.specs.Putting.{AddsBelow, KeepsAddedIndexes};
+
+    /// Each index that somebody has added to the tables of elements, of tags and of links gets an entry for each row, too.
     fn put(
         &mut self,
         alloc: Global,
@@ -153,7 +160,12 @@ impl<S: Store> Keeper for TreeStore<S> {
         digest: &[u8; 32],
         kind: Kind,
         elements: &[Element],
-    ) -> Result<(), StoreFault> {
+    ) -> Result<(), StoreFault>
+        requires order { off < fin }
+        requires limit { fin ≤ MAX_OFFSET }
+        ensures adds { AddsBelow S.Store off (record { fin = fin; digest = digest.now; kind = kind; elements = elements.now }) self.old result self.new }
+        ensures added_indexes { KeepsAddedIndexes S.Store self.old.store self.new.store result }
+    {
         let extent = Extent {
             off,
             fin,

@@ -25,6 +25,8 @@ impl<T: Reader, S: Reader> Reader for Opened<T, S> {
 
     ghost leaves_a_map = { λ o. MatchOpened o T.leaves_a_map S.leaves_a_map };
 
+    ghost is_alone = { λ o. MatchOpened o T.is_alone S.is_alone };
+
     ghost same_tables = { λ o p. MatchBoth o p T.same_tables S.same_tables };
 
     ghost is_honest = { λ o. MatchOpened o T.is_honest S.is_honest };

@@ -170,7 +170,8 @@ fn the_rows_of_a_stranger_stay(rt: HostRuntime) -> Result<(), Fail> {
 
 /// What a store holds whose trees take blobs.
 fn held_if_taking<S: Alter + Drop>(alloc: Global, connection: Connection<S>) -> Option<Held> {
-    let mut store = TreeStore::new(taking_blobs(connection.into_store())?);
+    let trees = taking_blobs(alloc, connection.into_store()).ok()?;
+    let mut store = TreeStore::new(trees?);
     Some(held_by(alloc, &mut store))
 }
 
@@ -179,8 +180,22 @@ fn trees_that_take_blobs(rt: HostRuntime) -> Result<(), Fail> {
     let store = connection_with(rt.alloc(), Content::Rows)?;
     assert_eq!(rt; held_if_taking(rt.alloc(), store), Some(Held::All));
     let mut indexed = connection_with(rt.alloc(), Content::Rows)?;
-    indexed.execute("CREATE INDEX mine ON tag (key, val)", &[])?;
-    assert_eq!(rt; held_if_taking(rt.alloc(), indexed), None);
+    indexed.execute("CREATE INDEX mine ON tag (val DESC, key)", &[])?;
+    assert_eq!(rt; held_if_taking(rt.alloc(), indexed), Some(Held::All));
+    let mut unique = connection_with(rt.alloc(), Content::Rows)?;
+    unique.execute("CREATE UNIQUE INDEX mine ON tag (off, pos, k)", &[])?;
+    assert_eq!(rt; held_if_taking(rt.alloc(), unique), None);
+    let mut of_blobs = connection_with(rt.alloc(), Content::Rows)?;
+    of_blobs.execute("CREATE INDEX mine ON blob (kind)", &[])?;
+    assert_eq!(rt; held_if_taking(rt.alloc(), of_blobs), None);
+    let mut beside = connection_with(rt.alloc(), Content::Rows)?;
+    beside.execute(
+        "CREATE VIEW node AS SELECT * FROM element WHERE kind = 0",
+        &[],
+    )?;
+    beside.execute("CREATE TABLE mine (name TEXT)", &[])?;
+    beside.execute("CREATE INDEX mine_by_name ON mine (name)", &[])?;
+    assert_eq!(rt; held_if_taking(rt.alloc(), beside), Some(Held::All));
     Ok(())
 }
 

@@ -183,3 +183,44 @@ fn loaded_and_found_elements(rt: HostRuntime) -> Result<(), Fail> {
     ];
     over_all_stores(&rt, STEPS)
 }
+
+/// Why tables that these statements changed aren't adopted.
+fn adopting_after(
+    mut tables: Connection<MemStore>,
+    statements: &[&str],
+) -> Result<Option<StoreFault>, Fail> {
+    for statement in statements {
+        tables.execute(statement, &[])?;
+    }
+    if !tables.is_autocommit() {
+        return Ok(None);
+    }
+    Ok(match TableStore::adopt(tables) {
+        Ok(_) => None,
+        Err((fault, _)) => Some(fault),
+    })
+}
+
+/// A table that is gone, one of another name, and one that lacks a column.
+#[test]
+fn tables_that_are_not_whole(rt: HostRuntime) -> Result<(), Fail> {
+    const CHANGES: [&[&str]; 3] = [
+        &["DROP TABLE link"],
+        &[
+            "DROP TABLE blob",
+            "CREATE TABLE blobs (off INTEGER PRIMARY KEY)",
+        ],
+        &[
+            "DROP TABLE tag",
+            "CREATE TABLE tag (off INTEGER, pos INTEGER, k INTEGER, key TEXT, value TEXT)",
+        ],
+    ];
+    for change in CHANGES {
+        let fault = adopting_after(filled(&rt, FOUR_BLOBS)?, change)?;
+        assert_eq!(rt; fault, Some(StoreFault::NotThisStore(None)));
+    }
+    let beside = ["CREATE INDEX tag_by_key ON tag (key)"];
+    let fault = adopting_after(filled(&rt, FOUR_BLOBS)?, &beside)?;
+    assert_eq!(rt; fault, None);
+    Ok(())
+}

@@ -8,5 +8,7 @@ use Rattle.osm_databases.proofs.databases.opened_checked.Goals as goal
 
 pub returns-clause-checked : goal.returns-clause-checked
 returns-clause-checked g c = λ clean.
-    let version = subst (λ (o : Option g.row.D-Trees.Denot). IfSome o (λ trees. IsClean (g.D.Trees.Store.view trees) → IsOfVersion (g.D.Trees.Store.view trees))) c.in-Some.ensures.same c.in_ok-found.ensures in
-    told_of (λ (refusal : Refusal). refusal.fault) _ _ _ _ c.told.ensures c.in_ok-store.was c.checked.ensures.checked clean version c.in-Some.ensures.store
+    let same = rw c.in-Some.is at c.in_ok-trees.ensures.same in
+    let store = rw c.in-Some.is at c.in_ok-trees.ensures.store in
+    let version = subst (λ (o : Option g.row.D-Trees.Denot). IfSome o (λ trees. IsClean (g.D.Trees.Store.view trees) → IsOfVersion (g.D.Trees.Store.view trees))) same c.in_ok-found.ensures in
+    told_of (λ (refusal : Refusal). refusal.fault) _ _ _ _ c.told.ensures c.in_ok-store.was c.checked.ensures.checked clean version store

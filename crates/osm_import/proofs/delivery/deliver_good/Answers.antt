@@ -93,12 +93,26 @@ returns-in-Ok-put-clause-whole g c = λ held holds honest.
     let free = free-of held c.args.off (c.args.off + length c.args.bytes.now) c.in-Ok.touched.items (c.in-Ok.ensures.touching held holds earlier) none in
     c.put.ensures.adds.whole honest held (c.in-Ok.ensures.reads.ok earlier held holds) (record { free = free; few_texts = subst (λ (es : List Element). HaveFewTexts es) (sym c.deref-2.ensures.value) (few-texts c.args.off c.args.bytes.now c.args.good.now.kind c.args.good.now.elements.items c.requires) })
 
+pub returns-in-Ok-put-clause-alone : goal.returns-in-Ok-put-clause-alone
+returns-in-Ok-put-clause-alone g c = λ held holds honest alone.
+    let earlier = c.put.ensures.adds.honest honest in
+    let none : length c.in-Ok.touched.items ≡ 0 = search rules in
+    let free = free-of held c.args.off (c.args.off + length c.args.bytes.now) c.in-Ok.touched.items (c.in-Ok.ensures.touching held holds earlier) none in
+    c.put.ensures.adds.alone honest held (c.in-Ok.ensures.reads.ok earlier held holds) (record { free = free; few_texts = subst (λ (es : List Element). HaveFewTexts es) (sym c.deref-2.ensures.value) (few-texts c.args.off c.args.bytes.now c.args.good.now.kind c.args.good.now.elements.items c.requires) }) (c.in-Ok.ensures.reads.alone earlier alone)
+
 pub returns-clause-whole : goal.returns-clause-whole
 returns-clause-whole g c = λ held holds honest.
     let earlier = c.put.ensures.adds.honest honest in
     let none : length c.in-Ok.touched.items ≡ 0 = search rules in
     let free = free-of held c.args.off (c.args.off + length c.args.bytes.now) c.in-Ok.touched.items (c.in-Ok.ensures.touching held holds earlier) none in
     c.put.ensures.adds.whole honest held (c.in-Ok.ensures.reads.ok earlier held holds) (record { free = free; few_texts = subst (λ (es : List Element). HaveFewTexts es) (sym c.deref-2.ensures.value) (few-texts c.args.off c.args.bytes.now c.args.good.now.kind c.args.good.now.elements.items c.requires) })
+
+pub returns-clause-alone : goal.returns-clause-alone
+returns-clause-alone g c = λ held holds honest alone.
+    let earlier = c.put.ensures.adds.honest honest in
+    let none : length c.in-Ok.touched.items ≡ 0 = search rules in
+    let free = free-of held c.args.off (c.args.off + length c.args.bytes.now) c.in-Ok.touched.items (c.in-Ok.ensures.touching held holds earlier) none in
+    c.put.ensures.adds.alone honest held (c.in-Ok.ensures.reads.ok earlier held holds) (record { free = free; few_texts = subst (λ (es : List Element). HaveFewTexts es) (sym c.deref-2.ensures.value) (few-texts c.args.off c.args.bytes.now c.args.good.now.kind c.args.good.now.elements.items c.requires) }) (c.in-Ok.ensures.reads.alone earlier alone)
 
 pub returns-clause-own : goal.returns-clause-own
 returns-clause-own g c = λ held holds honest.

@@ -17,10 +17,10 @@ loop-tree-preserved c =
     let items = c.in_ok-push.ensures.items in (
       subst (λ ys. length ys ≡ n + 1) (sym items) (pushed_length xs _ n inv.0),
       λ k o lt is. subst (λ ys. slice_get ys k ≡ Some (o.shape, o.reals)) (sym items)
-          (pushed_each (λ got at. slice_get objects at ≡ Some o → got ≡ Some (o.shape, o.reals)) xs _ n k inv.0 lt (λ below. inv.1 k o below) (λ here. ap Some (c.layout.ensures.first o here)) is),
+          (pushed_each (λ got at. slice_get objects at ≡ Some o → got ≡ Some (o.shape, o.reals)) xs _ n k inv.0 lt (λ below. inv.1 k o below) (λ here. ap Some (c.in_ok-layout.ensures.first o here)) is),
       λ k row root lt none there kind. subst (λ ys. slice_get ys k ≡ Some (foreign_shape row root, 0)) (sym items)
           (pushed_each (λ got at. slice_get objects at ≡ None → slice_get c.args.rows.now at ≡ Some row → slice_get c.args.has_index_root.now at ≡ Some root → got ≡ Some (foreign_shape row root, 0)) xs _ n k inv.0 lt (λ below. inv.2 k row root below)
-          (λ none there kind. ap Some (c.layout.ensures.other none ∙ ap₂ (λ (r : Row) (b : Bool). (foreign_shape r b, 0))
+          (λ none there kind. ap Some (c.in_ok-layout.ensures.other none ∙ ap₂ (λ (r : Row) (b : Bool). (foreign_shape r b, 0))
           (c.index-rows-tree.is ∙ get_or_from_slice_get c.args.rows.now n row c.index-rows-tree.result there) (get_or_from_slice_get c.args.has_index_root.now n root false kind))) none there kind),
     )
 

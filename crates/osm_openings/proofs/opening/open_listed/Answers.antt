@@ -30,11 +30,11 @@ open_trusted-requires-clause-sound g c =
     let disk = g.D.Disk in
     let h = c.in_ok-list.ensures.lists c.if-not-branch.false now in
     let unopened = c.in_ok-unopened.unopened in
-    let files = c.in_ok-unopened.ensures.files ∙ c.in_ok-pager.ensures.files in
-    let clean : AreClean disk c.page_size.new.files.log c.page_size.new.files.db = subst (λ p. AreClean disk p.0 p.1) c.in_ok-pager.ensures.files (subst IsTrue c.in_ok-unopened.ensures.honest h.clean) in
+    let files = c.in_ok-unopened.ensures.files in
+    let clean : AreClean disk c.page_size.new.files.log c.page_size.new.files.db = c.in_ok-unopened.ensures.honest h.clean in
     let images : image unopened ≡ seen_image disk c.args.files.log c.args.files.db =
     ap (λ p. seen_image disk p.0 p.1) files ∙ of_some _ _ _ c.in-Some.is c.in_ok-size.ensures.same in
-    let size = c.in_ok-unopened.ensures.size ∙ c.in_ok-pager.ensures.size in
+    let size = c.in_ok-unopened.ensures.size in
     let names = of_some _ _ _ c.in-Some.is c.in_ok-size.ensures.named clean in
     let is = h.file (subst (λ i. NamesSize i (state_of unopened).page_size) (sym images) (subst (NamesSize _) (sym size) names))
     (subst (IsPresumed c.args.objects.now) (sym images) c.requires.presumed) in
@@ -45,7 +45,7 @@ returns-in-Ok-clause-plain g c =
     λ now.
     let e = c.in-Ok.ensures in
     let h = c.in_ok-list.ensures.lists c.if-not-branch.false (e.honest now) in
-    let sizes = (e.kept now).size ∙ h.size ∙ c.in_ok-unopened.ensures.size ∙ c.in_ok-pager.ensures.size in
+    let sizes = (e.kept now).size ∙ h.size ∙ c.in_ok-unopened.ensures.size in
     ap is_summed sizes ∙ plain_size c.in-Some.size.bytes c.in-Some.size.aligned
 
 pub returns-in-Ok-clause-listed : goal.returns-in-Ok-clause-listed
@@ -64,11 +64,11 @@ returns-in-Ok-clause-reads g c =
     let mid = c.list.new.files in
     let unopened = c.in_ok-unopened.unopened in
     let h = c.in_ok-list.ensures.lists c.if-not-branch.false (e.honest now) in
-    let files = c.in_ok-unopened.ensures.files ∙ c.in_ok-pager.ensures.files in
-    let clean : AreClean disk c.page_size.new.files.log c.page_size.new.files.db = subst (λ p. AreClean disk p.0 p.1) c.in_ok-pager.ensures.files (subst IsTrue c.in_ok-unopened.ensures.honest h.clean) in
+    let files = c.in_ok-unopened.ensures.files in
+    let clean : AreClean disk c.page_size.new.files.log c.page_size.new.files.db = c.in_ok-unopened.ensures.honest h.clean in
     let images : image unopened ≡ seen_image disk c.args.files.log c.args.files.db =
     ap (λ p. seen_image disk p.0 p.1) files ∙ of_some _ _ _ c.in-Some.is c.in_ok-size.ensures.same in
-    let size = c.in_ok-unopened.ensures.size ∙ c.in_ok-pager.ensures.size in
+    let size = c.in_ok-unopened.ensures.size in
     let named = subst (NamesSize (seen_image disk c.args.files.log c.args.files.db)) (sym size) (of_some _ _ _ c.in-Some.is c.in_ok-size.ensures.named clean) in
     reads_as store e.ready now (wanted_by mid) e.schema _ (state_of unopened).page_size h.pages named
     (subst (λ i. Recovers (state_of unopened).page_size i h.pages) images h.found)

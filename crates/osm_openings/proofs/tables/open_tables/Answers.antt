@@ -2,7 +2,7 @@ use Rattle.std.proofs.Common.{◌≡◌, ◌∙◌, take, ap, sym, subst}
 use Rattle.sqlite_trees.proofs.Doubt.{no_doubt}
 use Rattle.sqlite_trees.specs.Objects.{catalog_tree}
 use Rattle.sqlite_trees.specs.View.{View}
-use Rattle.osm_openings.specs.Tables.{table_listings}
+use Rattle.osm_tree_writes.specs.Tables.{table_listings}
 use Rattle.osm_openings.specs.Presumed.{ReadsAs}
 use Rattle.sqlite_wal.specs.Files.{seen_image}
 use Rattle.osm_openings.proofs.OpeningLemmas.{first_listings, if_kept}

@@ -1,37 +1,22 @@
-use Rattle.std.proofs.Common.{refl, sym, subst, arith}
+use Rattle.std.proofs.Common.{◌≡◌, ◌∙◌, ℕ, false, ap, subst, arith}
 use Rattle.std.proofs.lemmas.Result.{on_ok_weaker}
+use Rattle.sqlite_trees.specs.declared.store.Shape.{Shape}
 use Rattle.sqlite_trees.specs.declared.store.Shape.TheVariants.{Table}
-use Rattle.sqlite_trees.specs.View.{IsClean, IsShaped}
-use Rattle.osm_tree_writes.proofs.AppendLemmas.{EntersOther, appended_row}
+use Rattle.sqlite_trees.specs.View.{View, IsClean, IsShaped}
+use Rattle.osm_tree_writes.proofs.AppendLemmas.{appended_more}
 use Rattle.osm_tree_writes.proofs.append.append_row.Goals as goal
 
-pub returns-in-Some-clause-appended : goal.returns-in-Some-clause-appended
-returns-in-Some-clause-appended g c =
+pub returns-clause-appended : goal.returns-clause-appended
+returns-clause-appended g c =
     let table = c.args.table.now in
-    let row = c.args.row.now in
     let old = g.S.Store.view c.args.store.now in
-    let put = g.S.Store.view c.put_table_row.new.store in
-    let keyed = g.S.Store.view c.put_entry.new.store in
-    let new = g.S.Store.view c.put_entry-in-Some.new.store in
-    on_ok_weaker c.put_entry-in-Some.result (λ enters clean next columns is after.
-    let clean_keyed : IsClean keyed = omega (arith, clean, c.put_entry-in-Some.ensures.quiet.clean) in
-    let clean_put : IsClean put = omega (arith, clean_keyed, c.put_entry.ensures.quiet.clean) in
-    let clean_old : IsClean old = omega (arith, clean_put, c.put_table_row.ensures.quiet.clean) in
-    let puts = c.in_ok-put_table_row.ensures.ok clean_put in
-    let shaped : IsShaped Table (old.trees table.tree) = subst (λ s. IsShaped s (old.trees table.tree)) (c.requires.shaped clean_old).0 (g.met.S.Store.ordered c.args.store.now puts.sound table.tree) in
-    let other : EntersOther table.by_id row keyed new = subst (λ o. EntersOther o row keyed new) (sym c.in-Some.is) (enters clean) in
-    appended_row table row next columns old put keyed new c.requires.apart is shaped after puts (c.in_ok-put_entry.ensures.ok clean_keyed) other) c.put_entry-in-Some.ensures.ok
-
-pub returns-in-None-clause-appended : goal.returns-in-None-clause-appended
-returns-in-None-clause-appended g c = λ clean next columns is after.
-    let table = c.args.table.now in
-    let row = c.args.row.now in
-    let old = g.S.Store.view c.args.store.now in
-    let put = g.S.Store.view c.put_table_row.new.store in
-    let keyed = g.S.Store.view c.put_entry.new.store in
-    let clean_put : IsClean put = omega (arith, clean, c.put_entry.ensures.quiet.clean) in
-    let clean_old : IsClean old = omega (arith, clean_put, c.put_table_row.ensures.quiet.clean) in
-    let puts = c.in_ok-put_table_row.ensures.ok clean_put in
-    let shaped : IsShaped Table (old.trees table.tree) = subst (λ s. IsShaped s (old.trees table.tree)) (c.requires.shaped clean_old).0 (g.met.S.Store.ordered c.args.store.now puts.sound table.tree) in
-    let other : EntersOther table.by_id row keyed keyed = subst (λ o. EntersOther o row keyed keyed) (sym c.in-None.is) refl in
-    appended_row table row next columns old put keyed keyed c.requires.apart is shaped after puts (c.in_ok-put_entry.ensures.ok clean) other
+    let mid = g.S.Store.view c.append_own.new.store in
+    let new = g.S.Store.view c.put_entries.new.store in
+    on_ok_weaker c.put_entries.result (λ goes clean next columns is after.
+    let clean_mid : IsClean mid = omega (arith, clean, c.put_entries.ensures.quiet.clean) in
+    let clean_old : IsClean old = omega (arith, clean_mid, c.append_own.ensures.quiet.clean) in
+    let own = c.in_ok-append_own.ensures.appended clean_mid next columns is after in
+    let up : mid.is_broken ≡ false = ap (λ (v : View). v.is_broken) own.0.rest ∙ own.0.sound in
+    let shape : mid.shape table.tree ≡ Table = ap (λ (f : ℕ → Shape). f table.tree) c.append_own.ensures.schema.shape ∙ (c.requires.shaped clean_old).0 in
+    let shaped : IsShaped Table (mid.trees table.tree) = subst (λ s. IsShaped s (mid.trees table.tree)) shape (g.met.S.Store.ordered c.append_own.new.store up table.tree) in
+    appended_more table c.args.more.now c.args.row.now columns old mid new c.requires.apart_of (subst (IsShaped Table) own.1 shaped) own.0 own.1 (goes clean)) c.put_entries.ensures.ok

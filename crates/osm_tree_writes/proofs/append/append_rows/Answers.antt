@@ -5,13 +5,24 @@ use Rattle.sqlite_value.specs.declared.value.ValueRef.{ValueRef}
 use Rattle.sqlite_value.specs.Order.{Row}
 use Rattle.sqlite.specs.Values.{bound}
 use Rattle.sqlite_trees.specs.Tree.{rowid}
-use Rattle.sqlite_trees.specs.View.{IsClean}
+use Rattle.sqlite_trees.specs.View.{View, IsClean}
 use Rattle.osm_tree_writes.specs.Appending.{IsAfter}
-use Rattle.osm_tree_writes.proofs.AppendLemmas.{after_more, appends_next}
+use Rattle.osm_tree_writes.proofs.AppendLemmas.{after_more, appends_next, appends_nothing}
 use Rattle.osm_tree_writes.proofs.append.append_rows.Goals as goal
 
 pub returns-in_err-append_row-clause-quiet : goal.returns-in_err-append_row-clause-quiet
 returns-in_err-append_row-clause-quiet g c = search rules
+
+pub loop-written-init : goal.loop-written-init
+loop-written-init g c = record {
+  appended = λ clean.
+      let fits : FitsSigned w64 c.in_ok-rowid.rowid = search rules in (
+        appends_nothing c.args.table.now c.args.more.now (g.S.Store.view c.args.store.now) (g.S.Store.view c.next_rowid.new.store) (c.in_ok-rowid.ensures.sound clean) (c.in_ok-rowid.ensures.same clean),
+        subst (λ n. IsAfter n ((g.S.Store.view c.next_rowid.new.store).trees c.args.table.now.tree)) (sym (to_z-of_z w64 c.in_ok-rowid.rowid fits)) (subst (λ (v : View). IsAfter c.in_ok-rowid.rowid (v.trees c.args.table.now.tree)) (sym (c.in_ok-rowid.ensures.same clean)) (c.in_ok-rowid.ensures.after clean)),
+      );
+  schema = search rules;
+  quiet = search rules;
+}
 
 pub loop-written-preserved : goal.loop-written-preserved
 loop-written-preserved g c = record {
@@ -34,7 +45,7 @@ loop-written-preserved g c = record {
       let fits : FitsSigned w64 next = search rules in
       let up : next ≡ id +ℤ pos 1 = c.in-Some.ensures.1 in
       let after : IsAfter next (new.trees table.tree) = subst (IsAfter next) (sym step.1) (after_more id next row (old.trees table.tree) (ap rowid is) up before.1) in (
-        appends_next g.R.TableRow.columns rows c.loop-written.written-index written table start old new c.loop-written-test.true c.written-item.is before.0 step.0,
+        appends_next g.R.TableRow.columns rows c.loop-written.written-index written table c.args.more.now start old new c.loop-written-test.true c.written-item.is before.0 step.0,
         subst (λ n. IsAfter n (new.trees table.tree)) (sym (to_z-of_z w64 next fits)) after,
       );
   schema = search rules;

@@ -3,7 +3,7 @@ use Rattle.std.proofs.lemmas.Bool.Decides.{nat_tests}
 use Rattle.std.proofs.lemmas.List.{length-append}
 use Rattle.sqlite_trees.specs.View.{IsClean}
 use Rattle.osm_value.specs.declared.element.Element.{Element}
-use Rattle.osm_store.specs.Rows.{Placed, placed}
+use Rattle.osm_store.specs.Rows.{placed}
 use Rattle.osm_store.proofs.PutLemmas.Placing.{placed-append}
 use Rattle.osm_tree_writes.specs.Putting.{WritesElements}
 use Rattle.osm_tree_writes.proofs.Writing.{written_more}
@@ -34,7 +34,7 @@ loop-rest-preserved g c =
         written = λ clean.
             let clean_old : IsClean old = omega (arith, clean, c.append_some-in-loop-rest.ensures.quiet.clean) in
             rw (placed-append c.args.off 0 done some)
-            (written_more start old new (placed c.args.off 0 done) (placed c.args.off (0 + length done) some) (it.written clean_old) (rw first at (c.in_ok-append_some-2.ensures.written clean)));
+            (written_more c.args.more.now start old new (placed c.args.off 0 done) (placed c.args.off (0 + length done) some) (it.written clean_old) (rw first at (c.in_ok-append_some-2.ensures.written clean)));
         schema = search rules;
         quiet = search rules;
       },
@@ -50,4 +50,4 @@ returns-clause-written g c clean =
     let it = c.loop-rest.invariant.1 in
     let none : length c.loop-rest.rest.now ≡ 0 = grind (arith, nat_tests) in
     let whole = all_done c.loop-rest.rest.now c.loop-rest.invariant.0 c.args.elements.now none it.whole in
-    subst (λ es. WritesElements (g.S.Store.view c.args.store.now) (g.S.Store.view c.loop-rest.store) (placed c.args.off 0 es)) (sym whole) (it.written clean)
+    subst (λ es. WritesElements c.args.more.now (g.S.Store.view c.args.store.now) (g.S.Store.view c.loop-rest.store) (placed c.args.off 0 es)) (sym whole) (it.written clean)

@@ -11,7 +11,7 @@ invariant-loop-rest g l =
     let now = g.S.Store.view l.store in
     (done : List Element) × record {
       whole : l.elements ≡ done ++ l.rest;
-      written : IsClean now → WritesElements old now (placed l.off 0 done);
+      written : IsClean now → WritesElements l.more old now (placed l.off 0 done);
       schema : KeepsSchema old now;
       quiet : IsQuiet g.S.Store.view g.S.Store.faults g.S.Store.recovers g.S.Store.is_shielded l.fn.store l.store;
     }

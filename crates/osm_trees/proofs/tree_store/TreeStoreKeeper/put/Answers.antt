@@ -1,7 +1,9 @@
-use Rattle.std.proofs.Common.{◌≡◌, length, rules, subst}
+use Rattle.std.proofs.Common.{◌≡◌, inl, inr, length, rules, subst}
+use Rattle.std.proofs.lemmas.Result.{on_ok_weaker}
 use Rattle.osm_store.specs.Held.{Blob}
 use Rattle.osm_trees.specs.Reading.{Reading}
-use Rattle.osm_trees.proofs.Adding.{AddsBelow, put_adds}
+use Rattle.osm_trees.specs.Putting.{AddsBelow, KeepsAddedIndexes}
+use Rattle.osm_trees.proofs.Adding.{put_adds}
 use Rattle.osm_trees.proofs.tree_store.TreeStoreKeeper.put.Goals as goal
 
 pub returns : goal.returns
@@ -15,4 +17,11 @@ returns g c =
     c.put_blob-answer.result
     (record { added = says.added; can_store = says.can_store; committed = says.committed; unchanged = says.unchanged; ours = says.ours; clean = says.clean; crash = says.crash })
     c.failures_after-self-inside.ensures in
-    record { adds = subst (λ old. AddsBelow g.S.Store c.args.off blob old c.put_blob-answer.result new) c.self.view_is adds }
+    let kept : KeepsAddedIndexes g.S.Store inside.store new.store c.put_blob-answer.result = record {
+      written = λ clean. on_ok_weaker c.put_blob-answer.result (λ puts. puts.more_indexed) (says.added clean);
+      crash = λ clean db left. elim (says.crash clean db left) [ inl before ↦ inl before | inr put ↦ inr put.2.more_indexed ];
+    } in
+    record {
+      adds = subst (λ old. AddsBelow g.S.Store c.args.off blob old c.put_blob-answer.result new) c.self.view_is adds;
+      added_indexes = subst (λ (old : Reading _). KeepsAddedIndexes g.S.Store old.store new.store c.put_blob-answer.result) c.self.view_is kept;
+    }

@@ -1,0 +1,11 @@
+//! Indexes that somebody has added to the tables of a store, as the list of a database's objects tells of them.
+#![tactic(auto)]
+
+mod index;
+mod row;
+mod store;
+mod table;
+
+pub use index::{plain_index, plain_indexes};
+pub use row::{is_added_index, is_of_a_store};
+pub use store::has_added_index;
