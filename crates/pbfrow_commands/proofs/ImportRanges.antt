@@ -1,19 +1,19 @@
 -- From the import of what stands before an offset to what is held of it.
-use Rattle.std.proofs.Common.{◌≡◌, ℕ, ◌+◌, ◌-◌, List, [], ◌∷◌, ◌++◌, length, take, drop, cond, Bool, true, false, Some, None, Result, Ok, Err, sym, ap, subst, ◌∙◌, inl, inr, arith, length-append, append_assoc, take-append-drop}
+use Rattle.std.proofs.Common.{◌≡◌, ℕ, ◌+◌, ◌-◌, List, [], ◌∷◌, ◌++◌, length, take, drop, cond, Bool, true, false, Some, None, Result, Ok, Err, refl, sym, ap, subst, ◌∙◌, inl, inr, arith, length-append, append_assoc, take-append-drop}
 use Rattle.std.specs.Prelude.{IfOk}
 use Rattle.std.specs.FinMap.{get}
 use Rattle.std.specs.List.{count_by}
 use Rattle.std.proofs.lemmas.List.Sums.{sum_by-cons}
 use Rattle.std.proofs.KnownBytes.{Consumes-trans}
 use Rattle.std.specs.Io.KnownBytes.{Consumes}
-use Rattle.osm_store.specs.Held.{HeldMap}
+use Rattle.osm_store.specs.Held.{Blob, HeldMap}
 use Rattle.osm_store.specs.HeldLaws.{get-insert_here}
 use Rattle.osm_store.specs.declared.keeper.Reader.{Ghosts}
 use Rattle.osm_import.specs.Deliveries.{DeliveryValue}
 use Rattle.osm_import.specs.Exports.{Known}
 use Rattle.osm_import.specs.Files.{joined}
 use Rattle.osm_import.specs.Flows.{Input, Output}
-use Rattle.osm_import.specs.Runs.{IsRun, IsFault, IsNone}
+use Rattle.osm_import.specs.Runs.{IsRun, IsFault, IsNone, IsStoredIn}
 use Rattle.osm_import.specs.Step.{IsStep, IsHeldAlready}
 use Rattle.osm_import.specs.Stores.{Takes}
 use Rattle.osm_import.specs.Streams.{Reply, frames_of, answers_of, deliveries_at, end_at, is_bad, is_refused, EndsWell}
@@ -23,8 +23,8 @@ use Rattle.osm_import.specs.declared.stream.summary.Summary.{Summary}
 use Rattle.osm_import.specs.declared.stream.fault.Stop.{Stop}
 use Rattle.osm_import.specs.declared.stream.fault.Stop.TheVariants.{WriteFailed}
 use Rattle.osm_import.specs.declared.stream.fault.StreamFault.{StreamFault}
-use Rattle.osm_import.proofs.RunsLemmas.{run-keep}
-use Rattle.pbfrow_commands.specs.Importing.{Skips, Imports, AreHeld, HoldsRange, IsTold, ends_input, front_of}
+use Rattle.osm_import.proofs.RunsLemmas.{run-back, run-keep}
+use Rattle.pbfrow_commands.specs.Importing.{Skips, Imports, AreHeld, IsOfFrames, HoldsRange, IsTold, ends_input, front_of}
 use Rattle.pbfrow_commands.proofs.ImportLemmas.{imports-end, imports-stop}
 
 -- ---- each frame is held
@@ -83,6 +83,14 @@ held-frames off (r ∷ rs) held after run kept = (
   held-frames (off + length r.0) rs run.0 after run.2 kept.1,
 )
 
+-- what was stored is of one of the frames
+stored-frame : (at : ℕ) (rs : List Reply) (off : ℕ) (blob : Blob) → IsStoredIn (deliveries_at at rs) (answers_of rs) off blob → IsOfFrames at (frames_of rs) off blob
+stored-frame at [] off blob stored = absurd stored
+stored-frame at (r ∷ rs) off blob stored = elim stored [
+  | inl (_, here, entry) ↦ (r.0, inl (here, refl), entry)
+  | inr later ↦ (let it = stored-frame (at + length r.0) rs off blob later in (it.0, inr it.1, it.2))
+]
+
 end-joined : (off : ℕ) (rs : List Reply) → off + length (joined (frames_of rs)) ≡ end_at off rs
 end-joined off [] = omega arith
 end-joined off (r ∷ rs) =
@@ -110,7 +118,7 @@ front-known dropped count bytes old is none =
 range-ends : {S : Type 0} (store : Ghosts S) (old new : S) (held : HeldMap) → store.holds old held → store.is_honest new
     → (dropped from to : ℕ) (bytes : Known) (source : Input) (output : Output) (summary : Summary) → source.before ≡ front_of (dropped + (to - from)) bytes
     → (skipped : Known) → Skips dropped source.before skipped → EndsWell from 4294967295 (record source { before = skipped }) output (Takes store old new) summary
-    → summary.next ≡ to → summary.bad ≡ 0 → summary.refused ≡ 0 → HoldsRange (store.holds new) dropped from to bytes
+    → summary.next ≡ to → summary.bad ≡ 0 → summary.refused ≡ 0 → HoldsRange (store.holds new) held dropped from to bytes
 range-ends store old new held is honest dropped from to bytes source output summary here skipped skips end ended none free =
     let run = end.took.unbroken held is honest end.answered in
     let kept = all-kept end.replies end.answered (sym (ap (λ (s : Summary). s.bad) end.sums) ∙ none) (sym (ap (λ (s : Summary). s.refused) end.sums) ∙ free) in
@@ -124,6 +132,11 @@ range-ends store old new held is honest dropped from to bytes source output summ
       whole = end.frames;
       reach = end-joined from end.replies ∙ sym (ap (λ (s : Summary). s.next) end.sums) ∙ ended;
       all = held-frames from end.replies held run.0 run.1 kept;
+      kept = run-keep held (deliveries_at from end.replies) (answers_of end.replies) run.0 run.1;
+      only = λ off blob is. elim (run-back held (deliveries_at from end.replies) (answers_of end.replies) run.0 run.1 off blob is) [
+        | inl was ↦ inl was
+        | inr stored ↦ inr (stored-frame from end.replies off blob stored)
+      ];
       skipped = skips.bytes;
       behind = skips.all;
       rest = read.0;
@@ -141,7 +154,7 @@ told-well raw summary e = cc
 
 pub range-held : {S : Type 0} (store : Ghosts S) (old new : S) (held : HeldMap) → store.holds old held → store.is_honest new
     → (dropped from to : ℕ) (bytes : Known) (source : Input) (output : Output) (Same : Type 0) (outcome : Result Summary StreamFault) (summary : Summary) → source.before ≡ front_of (dropped + (to - from)) bytes
-    → Imports dropped from source output Same (Takes store old new) outcome → IsTold to outcome (Ok summary) → summary.bad ≡ 0 → summary.refused ≡ 0 → HoldsRange (store.holds new) dropped from to bytes
+    → Imports dropped from source output Same (Takes store old new) outcome → IsTold to outcome (Ok summary) → summary.bad ≡ 0 → summary.refused ≡ 0 → HoldsRange (store.holds new) held dropped from to bytes
 range-held store old new held is honest dropped from to bytes source output Same (Ok raw) summary here (inl h) (inl told) none free =
     let same = told-well raw summary told.1 in
     range-ends store old new held is honest dropped from to bytes source output raw here h.0 h.1 h.2 told.0 (ap (λ (s : Summary). s.bad) same ∙ none) (ap (λ (s : Summary). s.refused) same ∙ free)

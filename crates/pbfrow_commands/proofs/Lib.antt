@@ -15,3 +15,4 @@ pub mod StatusLemmas
 pub mod VerifyLemmas
 mod VectorCommands
 pub mod Walking
+pub mod WorkerLemmas

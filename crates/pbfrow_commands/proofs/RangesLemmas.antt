@@ -1,7 +1,6 @@
 -- From the frames that were read, one by one, to the ranges that are cut of them.
-use Rattle.std.proofs.Common.{◌≡◌, ℕ, ◌+◌, ◌-◌, ◌<◌, ◌&&◌, Bool, true, false, List, [], ◌∷◌, ◌++◌, length, Some, None, Option, refl, sym, ap, subst, ◌∙◌, arith, add-zero, append-nil, length-append}
+use Rattle.std.proofs.Common.{◌≡◌, ℕ, ◌+◌, ◌-◌, ◌<◌, ◌&&◌, Bool, true, false, List, [], ◌∷◌, ◌++◌, length, Option, refl, sym, ap, subst, ◌∙◌, arith, add-zero, append-nil, length-append}
 use Rattle.std.specs.Prelude.{IfSome, slice_get, unwrap_or}
-use Rattle.std.specs.List.{AllByRecursion}
 use Rattle.std.specs.Io.KnownBytes.{Appends, Consumes, IsAtEnd}
 use Rattle.std.proofs.KnownBytes.{Consumes-nil, Consumes-trans, Consumes-whole}
 use Rattle.osm_value.specs.Sink.{Wrote, Writes}
@@ -14,11 +13,11 @@ use Rattle.pbf_ranges.specs.declared.Range.{Range}
 use Rattle.pbf_ranges.proofs.CuttingLemmas.{last_end-get, last_end-push}
 use Rattle.pbfrow_commands.specs.Listing.{Plain, HasAny}
 use Rattle.pbfrow_commands.specs.Ranging.{AreCut, Cuts, CutsInput, ends_from, range_lines}
-use Rattle.pbfrow_commands.specs.Walks.{Part, IsPart, joined, AreFound, Walks, is_whole, ending_line, status_of}
+use Rattle.pbfrow_commands.specs.Walks.{joined, AreFound, Walks, is_whole, ending_line, status_of}
 use Rattle.pbfrow_commands.specs.declared.input.Ending.{Ending}
 use Rattle.pbfrow_commands.specs.declared.input.Ending.TheVariants.{Whole, Early, Unwritten}
 use Rattle.pbfrow_commands.proofs.ListLemmas.{are-parts}
-use Rattle.pbfrow_commands.proofs.Walking.{and-true, ended-whole, found-push, joined-push, place, refused, status-zero, walks-on}
+use Rattle.pbfrow_commands.proofs.Walking.{ended-whole, found-push, joined-push, place, refused, status-zero, walks-on}
 
 -- ---- the ends of frames
 
@@ -31,7 +30,7 @@ ends_from-push at [] p = ap (λ n. (n + length p.bytes) ∷ []) (sym (add-zero a
 ends_from-push at (q ∷ ps) p =
     ap (λ (v : List ℕ). (at + length q.bytes) ∷ v) (ends_from-push (at + length q.bytes) ps p ∙ ap (λ n. ends_from (at + length q.bytes) ps ++ (n + length p.bytes) ∷ []) (place at q ps))
 
-last_end-ends_from : (at : ℕ) (ps : List Plain) → last_end at (ends_from at ps) ≡ at + length (joined ps)
+pub last_end-ends_from : (at : ℕ) (ps : List Plain) → last_end at (ends_from at ps) ≡ at + length (joined ps)
 last_end-ends_from at [] = sym (add-zero at)
 last_end-ends_from at (p ∷ ps) = last_end-ends_from (at + length p.bytes) ps ∙ place at p ps
 

@@ -1,14 +1,15 @@
 -- What the command `import` does: to its input, its output and the store.
-use Rattle.std.specs.Prelude.{◌≡◌, ◌≢◌, ◌⊎◌, ℕ, ◌+◌, ◌-◌, ◌<◌, ◌≤◌, ◌==◌, ◌&&◌, not, if◌then◌else◌, Bool, true, false, List, [], ◌∷◌, ◌++◌, length, take, option_map, Result, Ok, Err}
+use Rattle.std.specs.Prelude.{◌≡◌, ◌≢◌, ◌⊎◌, ℕ, ◌+◌, ◌-◌, ◌<◌, ◌≤◌, ◌==◌, ◌&&◌, not, if◌then◌else◌, Bool, true, false, List, [], ◌∷◌, ◌++◌, length, take, option_map, Some, Result, Ok, Err}
 use Rattle.pbf_frame.specs.Parts.{is_cut}
 use Rattle.std.specs.Io.KnownBytes.{Consumes, IsAtEnd}
 use Rattle.osm_value.specs.Sink.{Wrote}
-use Rattle.osm_store.specs.Held.{HeldMap}
+use Rattle.std.specs.FinMap.{get}
+use Rattle.osm_store.specs.Held.{Blob, HeldMap}
 use Rattle.osm_import.specs.Deliveries.{DeliveryValue}
 use Rattle.osm_import.specs.Exports.{Known}
-use Rattle.osm_import.specs.Files.{AreFrames, IsFile, IsHeldOfFile, joined}
+use Rattle.osm_import.specs.Files.{AreFrames, IsFile, IsHeldOfFile, StandsAt, joined}
 use Rattle.osm_import.specs.Flows.{Input, Output}
-use Rattle.osm_import.specs.Step.{IsHeldAlready}
+use Rattle.osm_import.specs.Step.{IsEntry, IsHeldAlready}
 use Rattle.osm_import.specs.Streams.{Streams, TilesFile}
 use Rattle.osm_import.specs.declared.answer.Answer.{Answer}
 use Rattle.osm_import.specs.declared.stream.summary.Summary.{Summary}
@@ -95,15 +96,22 @@ abbrev pub AreHeld : HeldMap → ℕ → List (List ℕ) → Type 0
 AreHeld held off [] = Unit {0}
 AreHeld held off (frame ∷ frames) = IsHeldAlready held off frame × AreHeld held (off + length frame) frames
 
+-- the blob is the entry of the frame that stands at the offset, of frames one behind the other from this offset on
+abbrev pub IsOfFrames : ℕ → List (List ℕ) → ℕ → Blob → Type 0
+IsOfFrames from frames off blob = (frame : List ℕ) × StandsAt from frames off frame × IsEntry off frame blob
+
 -- Every byte from an offset on and before another is in a frame that is held: whole frames follow one another from the one
--- to the other, each is held at its offset, and they are what stands in the input behind the bytes that were dropped.
-pub record HoldsRange (holds : HeldMap → Type 0) (dropped from to : ℕ) (input : Known) : Type 0 where
+-- to the other, each is held at its offset, and they are what stands in the input behind the bytes that were dropped. What
+-- was held before stays, and beside it nothing is held but these frames.
+pub record HoldsRange (holds : HeldMap → Type 0) (before : HeldMap) (dropped from to : ℕ) (input : Known) : Type 0 where
   pub held : HeldMap
   pub is_held : holds held
   pub frames : List (List ℕ)
   pub whole : AreFrames frames
   pub reach : from + length (joined frames) ≡ to
   pub all : AreHeld held from frames
+  pub kept : (off : ℕ) (blob : Blob) → get before off ≡ Some blob → get held off ≡ Some blob
+  pub only : (off : ℕ) (blob : Blob) → get held off ≡ Some blob → (get before off ≡ Some blob) ⊎ IsOfFrames from frames off blob
   pub skipped : List ℕ
   pub behind : length skipped ≡ dropped
   pub rest : Known

@@ -13,4 +13,5 @@ pub mod Showing
 pub mod Status
 pub mod Verdicts
 pub mod Walks
+pub mod Workers
 pub mod Verifying

@@ -4,7 +4,7 @@ use Rattle.std.specs.FinMap.{entries}
 use Rattle.std.specs.Io.KnownBytes.{Appends}
 use Rattle.osm_value.specs.Sink.{AppendsFront, Wrote}
 use Rattle.osm_store.specs.Held.{HeldMap}
-use Rattle.osm_store.specs.Keeping.{extents_of}
+use Rattle.osm_store.specs.Keeping.{IsForeign, extents_of}
 use Rattle.osm_store.specs.declared.fault.StoreFault.{StoreFault}
 use Rattle.osm_import.specs.Exports.{Known, greatest_end, size_of}
 use Rattle.osm_import.specs.Gaps.{AreGaps}
@@ -16,10 +16,11 @@ use Rattle.pbfrow_commands.specs.declared.status.Holdings.{Holdings}
 abbrev pub Tells : List ℕ → Known → Known → Bool → ℕ → Type 0
 Tells text old new failed status = ((status ≡ 0) × Appends old new text) ⊎ ((status ≡ 1) × (failed ≡ true) × AppendsFront old new text)
 
--- the line of a fault of the store went out, with its cause, and the exit status is 1
+-- the line of a fault of the store went out, with its cause, and the exit status is 1; it isn't that the tables are another store's
 pub record TellsFault (failures_old failures_new : ℕ) (old new : Known) (failed : Bool) (status : ℕ) : Type 0 where
   pub fault : StoreFault
   pub cause : HasCause failures_old failures_new fault
+  pub own : ¬ (IsForeign fault)
   pub line : Wrote old (store_fault_line fault) new failed
   pub one : status ≡ 1
 

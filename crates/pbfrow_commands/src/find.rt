@@ -45,7 +45,8 @@ fn write_found<S: Sink>(alloc: Global, found: &Found, out: &mut S) -> Result<(),
     Ok(())
 }
 
-/// Writes a line for each occurrence of the element, by offset and position, or the line of a fault of the store.
+/// Writes a line for each occurrence of the element, by offset and position, or the line of a fault of the store, which over
+/// a held map is never 66.
 /// Answers the exit status: 0 if everything was written, even if nothing was found, and 1 if there was a fault or the
 /// output failed.
 pub fn find<K: Reader, S: Sink>(

@@ -226,7 +226,8 @@ fn import_before<R: Read, K: Keeper, S: Sink>(
 /// is stored. Where the reader ends before `to`, that is `ReadFailed` at the offset where it ended.
 ///
 /// If it answers 0, every byte from the start to `to` is in a frame that is held: whole frames, each held at its offset,
-/// follow one another from the one to the other, and where the reader's bytes are known they are these frames.
+/// follow one another from the one to the other, and where the reader's bytes are known they are these frames. What was held
+/// before stays held, and beside it nothing is held but these frames.
 pub fn import_to<R: Read, K: Keeper, S: Sink>(
     alloc: Global,
     reader: &mut R,
@@ -239,7 +240,7 @@ pub fn import_to<R: Read, K: Keeper, S: Sink>(
     requires begins { start.at < to }
     requires ends { to ≤ MAX_OFFSET }
     ensures imports { ImportsRange start.dropped start.at to (R.remaining reader.old) (output S.Sink out.old out.new) (store.new ≡ store.old) (Takes K.Reader store.old store.new) result }
-    ensures whole { (held : HeldMap) → K.holds store.old held → K.is_honest store.new → result ≡ 0 → HoldsRange (K.holds store.new) start.dropped start.at to (R.remaining reader.old) }
+    ensures whole { (held : HeldMap) → K.holds store.old held → K.is_honest store.new → result ≡ 0 → HoldsRange (K.holds store.new) held start.dropped start.at to (R.remaining reader.old) }
     ensures part { (bytes : List ℕ) → R.remaining reader.old ≡ Some bytes → start.dropped ≡ 0 → K.holds store.old empty → K.is_honest store.new
         → result ≡ 0 → ImportsPart (K.holds store.new) start.at (take (to - start.at) bytes) }
 {

@@ -94,6 +94,8 @@ impl<K: Reader, P: Watcher> Reader for MeteredStore<'_, K, P> {
 
     ghost leaves_a_map = { λ m. K.leaves_a_map m.store };
 
+    ghost is_alone = { λ m. K.is_alone m.store };
+
     ghost same_tables = { λ m n. K.same_tables m.store n.store };
 
     ghost is_honest = { λ m. K.is_honest m.store };

@@ -3,6 +3,7 @@
 ghost use Rattle.std.specs.Prelude.{◌≡◌, ℕ, Option, IfOk, IfErr};
 ghost use Rattle.osm_value.specs.Sink.{Writes};
 ghost use Rattle.osm_store.specs.Held.{HeldMap};
+ghost use Rattle.osm_store.specs.Keeping.{IsForeign};
 ghost use Rattle.osm_import.specs.Step.{HasCause};
 ghost use Rattle.osm_import.specs.Stores.{Rereads, Stays};
 ghost use Rattle.pbfrow_commands.specs.CommandLines.{counts_line, gap_line, gap_lines};
@@ -30,6 +31,7 @@ fn survey<K: Reader>(
 ) -> Result<Holdings, StoreFault>
     ensures told { (held : HeldMap) → K.holds store.old held → K.is_honest store.new → IfOk result (IsSurvey held size) }
     ensures rereads { Rereads K.Reader store.old result store.new }
+    ensures own { (held : HeldMap) → K.holds store.old held → K.is_honest store.new → IfErr result (λ fault. ¬ (IsForeign fault)) }
     ensures cause { IfErr result (HasCause (K.failures store.old) (K.failures store.new)) }
 {
     let extents = match store.extents(alloc) {
@@ -96,7 +98,7 @@ pub(crate) fn put_holdings<S: Sink>(out: &mut S, holdings: &Holdings) -> u8
 }
 
 /// Writes a line for each range that no blob covers, up to the size in bytes or else the greatest held end, and finally
-/// the counts; or the line of a fault of the store. Answers the exit status: 0 if everything was written, and 1 if there
+/// the counts; or the line of a fault of the store, which over a held map is never 66. Answers the exit status: 0 if everything was written, and 1 if there
 /// was a fault or the output failed.
 pub fn status<K: Reader, S: Sink>(
     alloc: Global,

@@ -12,14 +12,14 @@ use Rattle.pbfrow_commands.proofs.find.find.Goals as goal
 
 pub returns-in-Err-clause-told : goal.returns-in-Err-clause-told
 returns-in-Err-clause-told g c = λ held holds clean.
-    inr (record { fault = c.in-Err.fault; cause = find-cause _ _ c.in-Err.fault c.in-Err.ensures.reads.counted; line = c.put_store_fault.ensures _ [] (started _ _); one = refl })
+    inr (record { fault = c.in-Err.fault; cause = find-cause _ _ c.in-Err.fault c.in-Err.ensures.reads.counted; own = c.in-Err.ensures.reads.own held holds clean; line = c.put_store_fault.ensures _ [] (started _ _); one = refl })
 
 pub returns-in-Err-write_found-clause-told : goal.returns-in-Err-write_found-clause-told
 returns-in-Err-write_found-clause-told g c = λ held holds clean.
     let before = g.S.Sink.written c.args.out.now in
     let nothing : Wrote before [] (g.S.Sink.written c.write_found.new.out) (g.S.Sink.has_failed c.write_found.new.out) =
     subst (λ o. Wrote before [] (g.S.Sink.written o) (g.S.Sink.has_failed o)) (sym c.in-Err-write_found.ensures.none) (started _ _) in
-    inr (record { fault = Memory; cause = inl refl; line = c.put_store_fault-in-Err-write_found.ensures before [] nothing; one = refl })
+    inr (record { fault = Memory; cause = inl refl; own = λ foreign. absurd foreign; line = c.put_store_fault-in-Err-write_found.ensures before [] nothing; one = refl })
 
 pub returns-then-failed-clause-told : goal.returns-then-failed-clause-told
 returns-then-failed-clause-told g c = λ held holds clean.

@@ -4,7 +4,7 @@ use Rattle.pbfrow_commands.proofs.status.status.Goals as goal
 
 pub returns-in-Err-clause-told : goal.returns-in-Err-clause-told
 returns-in-Err-clause-told g c = λ held holds honest.
-    inr (record { fault = c.in-Err.fault; cause = c.in-Err.ensures.cause; line = c.put_store_fault.ensures _ [] (started _ _); one = refl })
+    inr (record { fault = c.in-Err.fault; cause = c.in-Err.ensures.cause; own = c.in-Err.ensures.own held holds honest; line = c.put_store_fault.ensures _ [] (started _ _); one = refl })
 
 pub returns-in-Ok-clause-told : goal.returns-in-Ok-clause-told
 returns-in-Ok-clause-told g c = λ held holds honest.
