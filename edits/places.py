@@ -1,4 +1,4 @@
-"""What the tools of this folder share: the functions of a crate's code, which of them an edit changes, and the goals that a check refuses."""
+"""What the tools of this folder share: the edits, the functions of a crate's code, which of them an edit changes, and the goals that a check refuses."""
 import glob
 import os
 import re
@@ -95,14 +95,15 @@ def pairs(edit):
             yield path, old, rest
 
 
-def edited(crate, edit):
-    """The texts of the files that an edit changes."""
-    texts = {}
-    for path, old, new in pairs(edit):
-        texts.setdefault(path, read(f"{TOP}/crates/{crate}/{path}"))
-        assert texts[path].count(old) == 1, f"{edit}: {old}"
-        texts[path] = texts[path].replace(old, new)
-    return texts
+def crates_with_edits():
+    """The crates that have edits, of the gate or others, by name."""
+    found = glob.glob(f"{TOP}/crates/*/must-fail/*.edit") + glob.glob(f"{TOP}/edits/*/*.edit")
+    return sorted({os.path.relpath(it, TOP).split("/")[1] for it in found})
+
+
+def edits_of(crate):
+    """A crate's edits: those that the gate tries, and then the others."""
+    return sorted(glob.glob(f"{TOP}/crates/{crate}/must-fail/*.edit")) + sorted(glob.glob(f"{TOP}/edits/{crate}/*.edit"))
 
 
 def places(replacements, files):
@@ -177,11 +178,6 @@ def goals_of(functions, goals):
     """The goals of these functions that were refused, those that say most first, each with its function."""
     found = [(it, goal) for it in functions for path, many in goals.items() if it.is_called(path) for goal in many]
     return sorted(found, key=lambda pair: (not pair[1].is_promised(), Goal.WAYS.index(pair[1].way)))
-
-
-def refused_in(functions, goals):
-    """The first of these functions with a goal that was refused, and that goal."""
-    return next((f"{it}, {goal.name}" for it, goal in goals_of(functions, goals) if goal.way != "gone"), "")
 
 
 def check(crate, copy, texts, functions):
