@@ -45,7 +45,7 @@ bench: all
 
 # The proofs take long and run what they build, so they aren't for root: the program has to be there.
 built:
-	@./pbfrow --is-current || { echo "the program isn't built, or a source is newer: run make first, and not as root" >&2; exit 1; }
+	@./pbfrow --is-current || { echo "the program isn't built, or a source has changed: run make first, and not as root" >&2; exit 1; }
 
 install: built
 	install -d $(addprefix "$(DESTDIR)",$(bindir) $(mandir)/man1 $(docdir)/examples $(bashdir) $(zshdir) $(fishdir))
@@ -57,7 +57,7 @@ install: built
 	install -m 644 LICENSE-MIT LICENSE-APACHE docs/GUIDE.md docs/SCHEMA.md docs/SCALE.md "$(DESTDIR)$(docdir)"
 	package/notices > "$(DESTDIR)$(docdir)/NOTICES"
 	install -m 755 examples/import_part examples/dask_import.py "$(DESTDIR)$(docdir)/examples"
-	install -m 644 examples/parts.mk "$(DESTDIR)$(docdir)/examples"
+	install -m 644 examples/parts.mk examples/views.sql "$(DESTDIR)$(docdir)/examples"
 
 uninstall:
 	rm -f $(addprefix "$(DESTDIR)",$(bindir)/pbfrow $(mandir)/man1/pbfrow.1.gz $(bashdir)/pbfrow $(zshdir)/_pbfrow $(fishdir)/pbfrow.fish)
@@ -67,4 +67,4 @@ dist: built
 	package/dist
 
 clean:
-	rm -rf out crates/*/out
+	rm -rf out crates/*/out .git/pbfrow-build

@@ -1,0 +1,237 @@
+#!/usr/bin/env bash
+# How the launcher builds: along the graph, once at a time, and only what has changed. It runs in a copy of its scripts, over six
+# small crates, with a command `rt` that proves nothing: it waits, and writes what the real one would.
+set -u
+top=$(cd "$(dirname -- "${BASH_SOURCE[0]}")/.." && pwd)
+. "$top/e2e/checks.sh"
+work=$(mktemp -d)
+trap 'cd / && rm -rf "$work"' EXIT
+cd "$work" || exit 2
+
+if ! has python3 flock; then
+  skip "the launcher" "python3 or flock isn't installed"
+  counted
+  exit
+fi
+
+mkdir -p bin repository/gate repository/edits repository/.git
+cp "$top/pbfrow" repository
+cp "$top/gate/build" "$top/gate/graph.py" "$top/gate/run" "$top/gate/sources" repository/gate
+cat > repository/crates.txt <<'CRATES'
+# Two crates on one, one beside them, the program on all three, and its tests
+low:
+left: low std
+right: low
+beside:
+pbfrow: left right beside clap
+vectors: low left
+CRATES
+for crate in low left right beside pbfrow vectors; do
+  mkdir -p "repository/crates/$crate/src"
+  echo "// $crate" > "repository/crates/$crate/src/lib.rt"
+done
+
+cat > bin/rt <<'RT'
+#!/usr/bin/env bash
+# Stands for `rt`: `rt lib` and `rt run` lock the folders of a crate and of those below it, build what has changed in a time
+# that is set, and refuse a source with the word "wrong". A line of $STUB_STEPS tells each begin and end. `rt ci` leaves a
+# program.
+set -u
+case $1 in
+version) cat "$STUB_KIT"; exit ;;
+ci)
+  echo "begin gate" >> "$STUB_STEPS"
+  sleep "$STUB_SECONDS"
+  rm -rf crates/pbfrow/out && mkdir crates/pbfrow/out
+  printf '#!/bin/sh\necho "the program of the gate: $*"\n' > crates/pbfrow/out/pbfrow
+  chmod 755 crates/pbfrow/out/pbfrow
+  echo "1 passed, 0 failed"
+  exit
+  ;;
+esac
+
+with_below() {
+  local it
+  for it in $(sed -n "s/^$1:\(.*\)/\1/p" ../../crates.txt); do
+    [ ! -d "../../crates/$it" ] || with_below "$it"
+  done
+  echo "$1"
+}
+stamp() { with_below "$1" | awk '!seen[$0]++' | sed 's,.*,../../crates/&/src/lib.rt,' | xargs cat | cksum; }
+
+name=$(basename "$PWD")
+for it in $(with_below "$name" | sort -u); do
+  exec {folder}< "../../crates/$it"
+  flock -n "$folder" || { echo "waits $name" >> "$STUB_STEPS"; flock "$folder"; }
+done
+for it in $(with_below "$name" | sort -u); do
+  [ "$it" = "$name" ] || [ "$(cat "../../crates/$it/out/rlib/stamp" 2> /dev/null)" = "$(stamp "$it")" ] ||
+    echo "again $it" >> "$STUB_STEPS"
+done
+if [ "$(cat out/rlib/stamp 2> /dev/null)" != "$(stamp "$name")" ]; then
+  echo "begin $name" >> "$STUB_STEPS"
+  [ ! -e out/incremental ] || echo "kept $name" >> "$STUB_STEPS"
+  rm -rf out/rlib
+  mkdir -p out/incremental out/rlib
+  built_of=$(stamp "$name")
+  sleep "$STUB_SECONDS"
+  if grep -q wrong src/lib.rt; then echo "fn $name::f: not proved"; exit 1; fi
+  [ "$1" = lib ] || { printf '#!/bin/sh\necho "the program: $*"\n' > out/pbfrow && chmod 755 out/pbfrow; }
+  echo "$built_of" > out/rlib/stamp
+  echo "end $name" >> "$STUB_STEPS"
+fi
+echo "$name: rt $*"
+[ "$1" = lib ] || out/pbfrow list /dev/null
+RT
+printf '#!/bin/sh\n' | tee bin/rattle > repository/edits/check
+chmod 755 bin/rt bin/rattle repository/edits/check
+export STUB_KIT=$work/kit.txt STUB_STEPS=$work/steps.txt STUB_SECONDS=0.3 RT_JOBS=4 PATH="$work/bin:$PATH"
+echo "a kit" > kit.txt
+
+# builds NAME STATUS: the launcher builds, with this status; steps.txt has what was built, said.txt what it said.
+builds() {
+  : > steps.txt
+  repository/pbfrow --build-only > out.txt 2> said.txt
+  local status=$?
+  if [ "$status" = "$2" ]; then pass "$1"; else fail "$1"; echo "  status $status"; sed 's/^/    /' said.txt; fi
+}
+
+# are_built NAME CRATE..: these crates were built, each once, and no others.
+are_built() {
+  sed -n 's/^begin //p' steps.txt | sort > got.txt
+  lines "${@:2}" | sort > want.txt
+  same "$1" got.txt want.txt
+}
+
+# line STEP: the number of its line in steps.txt.
+line() { grep -nx "$1" steps.txt | head -n 1 | cut -d : -f 1; }
+
+# in_order STEP..: whether these steps come in this order.
+in_order() {
+  local last=0 it at
+  for it in "$@"; do
+    at=$(line "$it")
+    [ -n "$at" ] && [ "$at" -gt "$last" ] || return
+    last=$at
+  done
+}
+
+builds "a fresh clone is built" 0
+are_built "each crate that the program stands on is built once, and no other" low left right beside pbfrow
+in_order "end low" "begin left" "end left" "begin pbfrow" && in_order "end low" "begin right" "end right" "begin pbfrow" &&
+  in_order "end beside" "begin pbfrow" && pass "a crate begins when those that it stands on are there" ||
+  { fail "a crate begins when those that it stands on are there"; sed 's/^/    /' steps.txt; }
+in_order "begin left" "end right" && in_order "begin right" "end left" && in_order "begin low" "end beside" &&
+  in_order "begin beside" "end low" && pass "crates that don't stand on each other are built side by side" ||
+  { fail "crates that don't stand on each other are built side by side"; sed 's/^/    /' steps.txt; }
+grep -q -e '^waits' -e '^again' steps.txt && { fail "none waits for another, nor builds one again"; sed 's/^/    /' steps.txt; } ||
+  pass "none waits for another, nor builds one again"
+grep -c '^pbfrow: [1-5] of 5 crates, [a-z]*, [0-9]* s$' said.txt > got.txt
+echo 5 > want.txt
+same "standard error has a line for each crate" got.txt want.txt
+grep -q '^low: rt lib --jobs [12]$' repository/crates/low/out/build.log && pass "each crate has its log" || fail "each crate has its log"
+find repository/.git repository/out -type f | sort > got.txt
+echo repository/out/build.lock > want.txt
+same "nothing is left of where crates were built" got.txt want.txt
+
+: > steps.txt
+repository/pbfrow show a.pbf > got.txt 2> said.txt
+echo "the program: show a.pbf" > want.txt
+same "the program runs with the launcher's words" got.txt want.txt
+touch repository/crates.txt repository/crates/*/src/lib.rt
+repository/pbfrow --is-current && pass "touched sources are the same sources" || fail "touched sources are the same sources"
+touch -d '1 hour ago' repository/crates/pbfrow/out/pbfrow
+repository/pbfrow --is-current && fail "of another program than the noted one the time decides" || pass "of another program than the noted one the time decides"
+repository/gate/sources note "$(repository/gate/sources)"
+repository/pbfrow --is-current && pass "what a program is made of can be noted" || fail "what a program is made of can be noted"
+echo "// more tests" >> repository/crates/vectors/src/lib.rt
+repository/pbfrow --is-current && pass "the program isn't made of the tests" || fail "the program isn't made of the tests"
+
+echo "// more" >> repository/crates/left/src/lib.rt
+repository/pbfrow --is-current && fail "a changed source is noticed" || pass "a changed source is noticed"
+builds "a changed source is built" 0
+are_built "and what stands on it, and no more" left pbfrow
+grep -qx "kept left" steps.txt && pass "over what was kept of it" || fail "over what was kept of it"
+sed -i 's/^left: low/& right/' repository/crates.txt
+repository/pbfrow --is-current && fail "a changed line of crates.txt is noticed" || pass "a changed line of crates.txt is noticed"
+sed -i 's/^left: low right/left: low/' repository/crates.txt
+repository/pbfrow --is-current && pass "and that it is as before" || fail "and that it is as before"
+echo "another kit" > kit.txt
+repository/pbfrow --is-current && fail "another kit is noticed" || pass "another kit is noticed"
+echo "a kit" > kit.txt
+rm repository/crates/pbfrow/out/pbfrow.sources
+touch repository/crates/pbfrow/out/pbfrow
+repository/pbfrow --is-current && pass "a newer program of which nothing is noted is taken" || fail "a newer program of which nothing is noted is taken"
+sleep 0.01
+touch repository/crates/low/src/lib.rt
+repository/pbfrow --is-current && fail "and one older than a source isn't" || pass "and one older than a source isn't"
+builds "it is built again" 0
+are_built "which proves nothing anew"
+
+# began CRATE: waits until it has begun.
+began() { for _ in {1..600}; do grep -qx "begin $1" steps.txt && return; sleep 0.05; done; }
+
+echo "// more" >> repository/crates/low/src/lib.rt
+: > steps.txt
+repository/pbfrow list first > first.txt 2> said.txt &
+began low
+repository/pbfrow list second > second.txt 2> waited.txt
+wait $!
+cat first.txt second.txt > got.txt
+lines "the program: list first" "the program: list second" > want.txt
+same "of two starts at once both run the program" got.txt want.txt
+are_built "which is built once" low left right pbfrow
+grep -q '^pbfrow: another process builds it already ([0-9]*); waiting' waited.txt && pass "the second says that it waits" || fail "the second says that it waits"
+grep -q 'crates, ' waited.txt && fail "and builds nothing" || pass "and builds nothing"
+
+echo "// more" >> repository/crates/low/src/lib.rt
+: > steps.txt
+STUB_SECONDS=30 repository/pbfrow --build-only 2> said.txt &
+began low
+kill -9 "$(cat repository/out/build.lock)"
+wait $! 2> /dev/null
+builds "after a build that was killed the next one begins" 0
+are_built "with what the killed one had begun" low left right pbfrow
+grep -qx "kept low" steps.txt && pass "over what was kept of that" || fail "over what was kept of that"
+grep -q '^waits' steps.txt && fail "which has ended with its build" || pass "which has ended with its build"
+
+echo "// more" >> repository/crates/low/src/lib.rt
+: > steps.txt
+repository/pbfrow --build-only 2> said.txt &
+began low
+echo "// meanwhile" >> repository/crates/right/src/lib.rt
+wait $!
+repository/pbfrow --is-current && grep -q '^pbfrow: sources have changed meanwhile' said.txt && [ "$(grep -cx 'begin right' steps.txt)" = 2 ] &&
+  pass "a source that changes during the build is built again" || { fail "a source that changes during the build is built again"; sed 's/^/    /' said.txt steps.txt; }
+
+echo "// more" >> repository/crates/left/src/lib.rt
+flock repository/crates/low sleep 1 &
+until ! flock -n repository/crates/low true; do sleep 0.05; done
+builds "while a command of rt works in a crate the build waits" 0
+grep -q '^pbfrow: waiting for a command of rt that works in .*/crates/low$' said.txt && pass "and says so" || fail "and says so"
+
+echo "// wrong" >> repository/crates/right/src/lib.rt
+builds "a crate that isn't proved ends with 2" 2
+grep -qx "fn right::f: not proved" said.txt && grep -q "^pbfrow: right isn't proved or built; the whole log is .*/crates/right/out/build.log$" said.txt &&
+  pass "it is named, with the end of its log" || { fail "it is named, with the end of its log"; sed 's/^/    /' said.txt; }
+grep -q "^begin pbfrow" steps.txt && fail "and what stands on it isn't begun" || pass "and what stands on it isn't begun"
+repository/pbfrow list a > got.txt 2> said.txt
+[ $? = 2 ] && [ ! -s got.txt ] && pass "no program runs that isn't of its sources" || fail "no program runs that isn't of its sources"
+sed -i '/wrong/d' repository/crates/right/src/lib.rt
+builds "once that is mended it is built" 0
+
+: > steps.txt
+repository/gate/run > got.txt 2> said.txt
+echo "1 passed, 0 failed" > want.txt
+same "the gate passes" got.txt want.txt
+touch repository/crates/*/src/lib.rt
+repository/pbfrow list a > got.txt 2> said.txt
+echo "the program of the gate: list a" > want.txt
+same "the program that it leaves is taken, whatever the time of the sources" got.txt want.txt
+: > steps.txt
+repository/gate/run > got.txt 2> said.txt &
+began gate
+echo "// meanwhile" >> repository/crates/right/src/lib.rt
+wait $!
+repository/pbfrow --is-current && fail "unless a source has changed since it began" || pass "unless a source has changed since it began"
+counted
