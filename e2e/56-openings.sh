@@ -222,7 +222,7 @@ if has sqlite3; then
   sqlite3 mine.db "CREATE TRIGGER told AFTER INSERT ON element BEGIN DELETE FROM mine; END"
   expect "a trigger on the table of elements: find" 1 "fault 65 Disk${nl}" find mine.db n1
   told "and why" "mine.db: it has a trigger on one of pbfrow's tables"
-  expect "a trigger on the table of elements: import of what is held" 0 "0 held${nl}47 held${nl}blobs stored 0 held 2 bad 0 refused 0${nl}" import "$two" mine.db
+  expect "a trigger on the table of elements: import of what is held" 1 "fault 65 Disk${nl}" import "$two" mine.db
   told "and why" "mine.db: it has a trigger on one of pbfrow's tables"
   sqlite3 mine.db "DROP TRIGGER told; CREATE TRIGGER told AFTER INSERT ON strange BEGIN DELETE FROM mine; END"
   right "a trigger on a table of one's own" mine.db
@@ -265,6 +265,22 @@ if has sqlite3; then
   expect "our tables, made by sqlite3, with no blob: status" 0 "blobs 0 end 0 gaps 0${nl}" status other.db
   sqlite3 other.db "DROP INDEX element_by_id"
   expect "without an index: status" 0 "blobs 0 end 0 gaps 0${nl}" status other.db
+  # a table or a column that is gone, or has another name
+  for change in "DROP TABLE link" "DROP TABLE tag" "ALTER TABLE link RENAME TO links" "ALTER TABLE tag RENAME COLUMN val TO value" \
+    "ALTER TABLE blob RENAME COLUMN n TO elements" "ALTER TABLE element DROP COLUMN visible"; do
+    rm -f other.db*
+    cp sound.db other.db
+    sqlite3 other.db "$change"
+    sqlite3 other.db .dump > want.txt
+    expect "$change: status" 1 "fault 66 NotThisStore${nl}" status other.db
+    expect "$change: find" 1 "fault 66 NotThisStore${nl}" find other.db n1
+    expect "$change: export" 1 "fault 66 NotThisStore${nl}" export other.db
+    expect "$change: import" 1 "fault 66 NotThisStore${nl}" import "$two" other.db
+    expect "$change: verify" 1 "fault 66 NotThisStore${nl}" verify "$two" other.db
+    expect "$change: merge into it" 1 "fault 66 NotThisStore${nl}" merge other.db sound.db
+    sqlite3 other.db .dump > got.txt
+    same "$change: nothing is written" got.txt want.txt
+  done
   rm -f other.db*
   sqlite3 other.db "CREATE TABLE meta (version INTEGER PRIMARY KEY) STRICT; INSERT INTO meta VALUES (1);
     CREATE TABLE blob (off INTEGER PRIMARY KEY, fin INTEGER NOT NULL, digest BLOB NOT NULL, kind INTEGER NOT NULL, n INTEGER NOT NULL) STRICT;

@@ -26,13 +26,13 @@ if has sqlite3; then
   printf '%s\n' "0|0|15721|" "1|0|15718|" "2|0|15720|" > want.txt
   same "sqlite3 reads the nodes of a way" way.txt want.txt
 
-  # a database with a table of somebody else is written by SQL, and shows the same rows
+  # a database to one of whose tables somebody has added an index is written by SQL, and shows the same rows
   rm -f by-sql.db
   "$pbfrow" import /dev/null by-sql.db > got.txt
-  sqlite3 by-sql.db "CREATE TABLE mine (name TEXT)"
+  sqlite3 by-sql.db "CREATE INDEX mine ON tag (key)"
   "$pbfrow" import "$country" by-sql.db > got.txt
-  same "an import beside a table of one's own" got.txt imported.txt
-  sqlite3 by-sql.db "DROP TABLE mine"
+  same "an import beside an index of one's own" got.txt imported.txt
+  sqlite3 by-sql.db "DROP INDEX mine"
   sqlite3 by-sql.db .dump > got.sql
   sqlite3 country.db .dump > want.sql
   same "its rows" got.sql want.sql
@@ -56,7 +56,7 @@ if has sqlite3; then
   imports_after "an index of one's own" "CREATE INDEX element_by_place ON element (lat, lon)" 0 "$stored"
   imports_after "an index that is gone" "DROP INDEX element_by_id" 0 "$stored"
   imports_after "a view and a table of one's own" "CREATE VIEW node AS SELECT * FROM element WHERE kind = 0; CREATE TABLE mine (name TEXT PRIMARY KEY) WITHOUT ROWID" 0 "$stored"
-  imports_after "a trigger" "CREATE TABLE mine (name TEXT); CREATE TRIGGER told AFTER INSERT ON element BEGIN DELETE FROM mine; END" 1 $'0 stored 0\nfault 65 Disk at 47\n'
+  imports_after "a trigger" "CREATE TABLE mine (name TEXT); CREATE TRIGGER told AFTER INSERT ON element BEGIN DELETE FROM mine; END" 1 $'fault 65 Disk\n'
   imports_after "a row in the place of one of the file" "INSERT INTO element (off, pos, kind, id) VALUES (47, 0, 0, 1)" 1 $'0 stored 0\nfault 65 Disk at 47\n'
 
   # what somebody else puts into the database, between two imports

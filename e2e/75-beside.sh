@@ -1,0 +1,249 @@
+#!/usr/bin/env bash
+# Views and tables of one's own, with their indexes, and what ANALYZE writes, beside pbfrow's tables: whenever they are made,
+# they stay as they are, and the database is still read and written below SQL. So it is with indexes of one's own on pbfrow's
+# tables, which get an entry for each row that is written.
+. "$(dirname -- "${BASH_SOURCE[0]}")/begin.sh"
+country=$top/data/liechtenstein-raw.osm.pbf
+whole="blobs stored 12 held 0 bad 0 refused 0"
+
+# own DATABASE: puts objects of one's own into it.
+own() {
+  sqlite3 "$1" "CREATE VIEW node AS SELECT off, pos, id, lat / 1e9 AS lat, lon / 1e9 AS lon FROM element WHERE kind = 0;
+    CREATE TABLE mine (name TEXT, price REAL); INSERT INTO mine VALUES ('a', 1.5), ('b', 2.5), ('c', NULL);
+    CREATE INDEX mine_by_name ON mine (name); CREATE UNIQUE INDEX mine_by_price ON mine (price) WHERE price > 2;
+    CREATE TABLE strange (a TEXT PRIMARY KEY, b) WITHOUT ROWID; INSERT INTO strange VALUES ('x', 1), ('y', 2); ANALYZE"
+}
+
+# told_own DATABASE: what one's own objects are and hold.
+told_own() {
+  sqlite3 "$1" "SELECT type, name, tbl_name, sql FROM sqlite_schema ORDER BY rowid; SELECT rowid, * FROM mine; SELECT * FROM mine INDEXED BY mine_by_name WHERE name > 'a';
+    SELECT * FROM mine INDEXED BY mine_by_price WHERE price > 2; SELECT * FROM strange; SELECT * FROM sqlite_stat1 ORDER BY tbl, idx"
+}
+
+# kept NAME DATABASE: one's own objects are as own.txt tells, sqlite3 finds the database whole, and it holds the extract.
+kept() {
+  told_own "$2" > got.txt
+  same "$1: one's own objects are as they were" got.txt own.txt
+  sound "$1: sqlite3 finds the database whole" "$2"
+  "$pbfrow" export "$2" > got.txt
+  same "$1: the export is that of the extract" got.txt export.txt
+  expect "$1: verify --elements" 0 "blobs 12 missing 0 differs 0 extra 0${nl}" verify "$country" "$2" --elements
+  echo "14690" > want.txt
+  sqlite3 "$2" "SELECT id FROM node WHERE id = 14690" > got.txt
+  same "$1: the view shows the rows" got.txt want.txt
+}
+
+# indexed DATABASE: makes indexes of one's own on pbfrow's tables.
+indexed() {
+  sqlite3 "$1" "CREATE INDEX tag_by_key ON tag (key, val); CREATE INDEX Tag_by_value ON TAG (val COLLATE NOCASE DESC);
+    CREATE INDEX link_by_ref ON link (ref DESC, kind); CREATE INDEX element_by_place ON element (lat, lon DESC, off)"
+}
+
+# asked DATABASE WAY: what a query answers of each of them, by the index (INDEXED BY) or without it (NOT INDEXED).
+asked() {
+  local database=$1 index table test
+  while read -r index table test; do
+    if [ "$2" = by ]; then index="INDEXED BY $index"; else index="NOT INDEXED"; fi
+    sqlite3 "$database" "SELECT rowid, * FROM $table $index WHERE $test ORDER BY rowid; SELECT count(*) FROM $table $index WHERE $test"
+  done << 'EOF'
+tag_by_key tag key > 'm' AND val > ''
+Tag_by_value tag val COLLATE NOCASE >= 'm'
+link_by_ref link ref > 10000
+element_by_place element lat BETWEEN 47100000000 AND 47200000000
+EOF
+}
+
+# complete NAME DATABASE: sqlite3 finds the database whole, with an entry for each row in each index, and queries answer the same by
+# them as without them; it holds the extract.
+complete() {
+  sound "$1: sqlite3 finds the database whole" "$2"
+  asked "$2" by > got.txt
+  asked "$2" without > want.txt
+  if [ -s want.txt ] && [ "$(grep -c -x 0 want.txt)" = 0 ]; then
+    same "$1: queries answer the same by the indexes" got.txt want.txt
+  else
+    fail "$1: queries answer the same by the indexes"
+    echo "  a query answers nothing"
+  fi
+  "$pbfrow" export "$2" > got.txt
+  same "$1: the export is that of the extract" got.txt export.txt
+  expect "$1: verify --elements" 0 "blobs 12 missing 0 differs 0 extra 0${nl}" verify "$country" "$2" --elements
+}
+
+# what takes the last blob out of a database
+without_the_last="DELETE FROM blob WHERE off = 1259691; DELETE FROM element WHERE off = 1259691; DELETE FROM tag WHERE off = 1259691; DELETE FROM link WHERE off = 1259691"
+
+# lacks_an_entry DATABASE: takes care that an index of pbfrow's lacks the entry of a row, which an opening by SQL sees.
+lacks_an_entry() {
+  local list="type, name, tbl_name, rootpage, sql"
+  sqlite3 "$1" "PRAGMA writable_schema = ON; CREATE TEMP TABLE kept AS SELECT rowid AS at, $list FROM sqlite_schema WHERE name = 'element_by_id';
+    DELETE FROM sqlite_schema WHERE name = 'element_by_id'; PRAGMA writable_schema = RESET; UPDATE element SET id = id + 1 WHERE off = 98 AND pos = 0;
+    PRAGMA writable_schema = ON; INSERT INTO sqlite_schema (rowid, $list) SELECT * FROM kept" > sqlite.txt
+}
+
+# memory WORD..: the most memory that the program takes, in kB.
+memory() {
+  /usr/bin/time -f %M -o time.txt "$pbfrow" "$@" > got.txt
+  tail -n 1 time.txt
+}
+
+nl=$'\n'
+if has sqlite3; then
+  "$pbfrow" import "$country" plain.db > got.txt
+  "$pbfrow" export plain.db > export.txt
+
+  # before the first blob
+  "$pbfrow" import /dev/null before.db > got.txt
+  own before.db
+  told_own before.db > own.txt
+  "$pbfrow" import "$country" before.db | tail -n 1 > got.txt
+  lines "$whole" > want.txt
+  same "an import of all, beside what was made before it" got.txt want.txt
+  kept "made before the first blob" before.db
+
+  # between two: the last blob is held when they are made
+  "$pbfrow" import "$country" between.db --from 1259691 > got.txt
+  own between.db
+  told_own between.db > own.txt
+  "$pbfrow" import "$country" between.db | tail -n 1 > got.txt
+  lines "blobs stored 11 held 1 bad 0 refused 0" > want.txt
+  same "an import of the rest, beside what was made between two" got.txt want.txt
+  kept "made between two blobs" between.db
+
+  # after the last
+  cp plain.db after.db
+  own after.db
+  told_own after.db > own.txt
+  "$pbfrow" import "$country" after.db | tail -n 1 > got.txt
+  lines "blobs stored 0 held 12 bad 0 refused 0" > want.txt
+  same "an import of what is held, beside what was made after it" got.txt want.txt
+  kept "made after the last blob" after.db
+  expect "find, beside one's own" 0 "$("$pbfrow" find plain.db n14690)${nl}" find after.db n14690
+  expect "status, beside one's own" 0 "$("$pbfrow" status plain.db)${nl}" status after.db
+
+  # parts are merged into a database that has them
+  "$pbfrow" import /dev/null merged.db > got.txt
+  own merged.db
+  told_own merged.db > own.txt
+  "$pbfrow" merge merged.db plain.db > got.txt
+  kept "a merge beside one's own" merged.db
+
+  # it goes below SQL: that looks at each row and entry first, and would say that the index is damaged
+  cp before.db below.db
+  lacks_an_entry below.db
+  "$pbfrow" import "$country" below.db 2> stderr.txt | tail -n 1 > got.txt
+  lines "blobs stored 0 held 12 bad 0 refused 0" > want.txt
+  same "an import beside one's own doesn't look through the database" got.txt want.txt
+  indexed below.db
+  "$pbfrow" import "$country" below.db 2> stderr.txt | tail -n 1 > got.txt
+  lines "blobs stored 0 held 12 bad 0 refused 0" > want.txt
+  same "nor beside indexes of one's own on pbfrow's tables" got.txt want.txt
+  # an index that isn't kept below SQL: SQL keeps it, or refuses the import
+  for index in "UNIQUE INDEX other ON tag (off, pos, k)" "INDEX other ON blob (kind)" "INDEX other ON meta (version)"; do
+    cp below.db other.db
+    sqlite3 other.db "CREATE $index"
+    expect "CREATE $index: it does" 1 "fault 65 Disk${nl}" import "$country" other.db
+    cp plain.db other.db
+    sqlite3 other.db "$without_the_last; CREATE $index"
+    "$pbfrow" import "$country" other.db 2> stderr.txt | tail -n 1 > got.txt
+    lines "blobs stored 1 held 11 bad 0 refused 0" > want.txt
+    same "CREATE $index: an import of the rest" got.txt want.txt
+    grep -q "^pbfrow: other.db: index other is UNIQUE, .*drop the index" stderr.txt && pass "CREATE $index: it is named" || fail "CREATE $index: it is named"
+    sound "CREATE $index: sqlite3 finds the database whole" other.db
+  done
+  for index in "INDEX other ON tag (lower(key))" "INDEX other ON tag (key) WHERE val = 'x'"; do
+    cp plain.db other.db
+    sqlite3 other.db "$without_the_last; CREATE $index"
+    expect "CREATE $index: an import of the rest is refused" 1 "fault 65 Disk${nl}" import "$country" other.db
+    grep -q "^pbfrow: other.db: index other is UNIQUE, .*drop the index" stderr.txt && pass "CREATE $index: it is named" || fail "CREATE $index: it is named"
+    expect "CREATE $index: commands that ask read past it" 0 "$("$pbfrow" find plain.db n14690)${nl}" find other.db n14690
+    echo "0" > want.txt
+    sqlite3 other.db "SELECT count(*) FROM tag WHERE off = 1259691" > got.txt
+    same "CREATE $index: and nothing is written" got.txt want.txt
+    sound "CREATE $index: sqlite3 finds the database whole" other.db
+  done
+
+  # indexes that are made before the first blob, between two and after the last
+  "$pbfrow" import /dev/null indexed.db > got.txt
+  indexed indexed.db
+  "$pbfrow" import "$country" indexed.db | tail -n 1 > got.txt
+  lines "$whole" > want.txt
+  same "an import of all, with indexes that were made before it" got.txt want.txt
+  complete "indexes made before the first blob" indexed.db
+  rm indexed.db
+  "$pbfrow" import "$country" indexed.db --from 1259691 > got.txt
+  indexed indexed.db
+  own indexed.db
+  told_own indexed.db > own.txt
+  "$pbfrow" import "$country" indexed.db | tail -n 1 > got.txt
+  lines "blobs stored 11 held 1 bad 0 refused 0" > want.txt
+  same "an import of the rest, with indexes that were made between two" got.txt want.txt
+  kept "with indexes, one's own objects" indexed.db
+  complete "indexes made between two blobs" indexed.db
+  cp plain.db indexed.db
+  indexed indexed.db
+  "$pbfrow" import "$country" indexed.db | tail -n 1 > got.txt
+  lines "blobs stored 0 held 12 bad 0 refused 0" > want.txt
+  same "an import of what is held, with indexes that were made after it" got.txt want.txt
+  complete "indexes made after the last blob" indexed.db
+
+  # the indexes and views that come with the program
+  "$pbfrow" import "$country" taken.db --from 1259691 > got.txt
+  sqlite3 taken.db < "$top/examples/views.sql" > got.txt 2>&1
+  lines > want.txt
+  same "the example's indexes and views are made" got.txt want.txt
+  "$pbfrow" import "$country" taken.db | tail -n 1 > got.txt
+  lines "blobs stored 11 held 1 bad 0 refused 0" > want.txt
+  same "an import of the rest, beside the example's" got.txt want.txt
+  sound "sqlite3 finds the database whole, beside the example's" taken.db
+  sqlite3 taken.db "SELECT count(*) FROM node; SELECT count(*) FROM way_node; SELECT count(*) FROM member; SELECT count(*) FROM tag INDEXED BY tag_by_key WHERE key >= ''; SELECT count(*) FROM link INDEXED BY link_by_ref WHERE kind >= 0" > got.txt
+  sqlite3 plain.db "SELECT count(*) FROM element WHERE kind = 0; SELECT count(*) FROM link JOIN element USING (off, pos) WHERE element.kind = 1 AND ref IN (SELECT id FROM element WHERE kind = 0);
+    SELECT count(*) FROM link JOIN element USING (off, pos) WHERE element.kind = 2; SELECT count(*) FROM tag; SELECT count(*) FROM link" > want.txt
+  same "the example's views and indexes show all rows" got.txt want.txt
+
+  if [ -x /usr/bin/time ]; then
+    without=$(memory import "$country" plain.db)
+    beside=$(memory import "$country" after.db)
+    if [ "$beside" -le $((without * 5 / 4)) ]; then
+      pass "an import of what is held takes the memory that it takes without them"
+    else
+      fail "an import of what is held takes the memory that it takes without them"
+      echo "  it takes $beside kB, and $without without them"
+    fi
+  else
+    skip "the memory that an import takes beside one's own" "/usr/bin/time isn't there"
+  fi
+
+  # kills
+  went_on=yes
+  for moment in 0.02 0.04 0.07 0.1 0.14 0.18 0.25 0.4; do
+    rm -f killed.db*
+    "$pbfrow" import /dev/null killed.db > got.txt
+    own killed.db
+    indexed killed.db
+    told_own killed.db > own.txt
+    "$pbfrow" import "$country" killed.db > got.txt 2> stderr.txt &
+    pid=$!
+    sleep "$moment"
+    kill -9 "$pid" 2> /dev/null
+    wait "$pid" 2> /dev/null
+    "$pbfrow" import "$country" killed.db > got.txt
+    told_own killed.db > got.txt
+    cmp -s got.txt own.txt || went_on="one's own objects changed"
+    [ "$(sqlite3 killed.db "PRAGMA integrity_check" 2>&1)" = ok ] || went_on="sqlite3 finds a fault"
+    asked killed.db by > got.txt
+    asked killed.db without > want.txt
+    cmp -s got.txt want.txt || went_on="a query answers otherwise by an index"
+    "$pbfrow" export killed.db > got.txt
+    cmp -s got.txt export.txt || went_on="the export is another"
+  done
+  if [ "$went_on" = yes ]; then
+    pass "imports that were killed beside one's own go on"
+  else
+    fail "imports that were killed beside one's own go on"
+    echo "  $went_on"
+  fi
+else
+  skip "a database with views and tables of one's own" "sqlite3 isn't installed"
+fi
+counted

@@ -1,0 +1,27 @@
+-- Two indexes and three views for a database of pbfrow, after its first import: sqlite3 country.db < views.sql
+-- From then on each import and merge keeps the indexes complete, and the views show what is there. DROP INDEX and DROP VIEW take
+-- them away again, at any time.
+
+-- tags by their key and value
+CREATE INDEX IF NOT EXISTS tag_by_key ON tag (key, val);
+-- ways and relations by what they refer to
+CREATE INDEX IF NOT EXISTS link_by_ref ON link (kind, ref);
+
+-- nodes, in degrees
+CREATE VIEW IF NOT EXISTS node AS
+SELECT off, pos, id, lat / 1e9 AS lat, lon / 1e9 AS lon FROM element WHERE kind = 0;
+
+-- the nodes of each way, in its order: k counts them from 0
+CREATE VIEW IF NOT EXISTS way_node AS
+SELECT way.off, way.pos, way.id AS way, link.k, node.id AS node, node.lat / 1e9 AS lat, node.lon / 1e9 AS lon
+FROM element AS way
+JOIN link USING (off, pos)
+JOIN element AS node ON node.kind = 0 AND node.id = link.ref
+WHERE way.kind = 1;
+
+-- the members of each relation, in its order: their kind is 0 for a node, 1 for a way and 2 for a relation
+CREATE VIEW IF NOT EXISTS member AS
+SELECT relation.off, relation.pos, relation.id AS relation, link.k, link.kind, link.ref, link.role
+FROM element AS relation
+JOIN link USING (off, pos)
+WHERE relation.kind = 2;
