@@ -166,6 +166,7 @@ SAYS = {
     "osm_block": "reading blocks",
     "osm_write": "writing blocks",
     "osm_store": "blobs in a database",
+    "osm_added_indexes": "indexes of one's own",
     "osm_tree_writes": "blobs put below SQL",
     "osm_tree_audits": "rows of trees, told",
     "osm_trees": "blobs below SQL",
