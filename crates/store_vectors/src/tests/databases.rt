@@ -348,7 +348,7 @@ fn databases_that_take_blobs(rt: HostRuntime) -> Result<(), Fail> {
     change(
         rt.alloc(),
         &machine,
-        "CREATE INDEX mine ON tag (key, val); DELETE FROM link WHERE off = 84; DELETE FROM tag WHERE off = 84; DELETE FROM element WHERE off = 84; DELETE FROM blob WHERE off = 84",
+        "CREATE UNIQUE INDEX mine ON tag (off, pos, k); DELETE FROM link WHERE off = 84; DELETE FROM tag WHERE off = 84; DELETE FROM element WHERE off = 84; DELETE FROM blob WHERE off = 84",
     )?;
     let [by_trees, ..] = of_machine(&rt, &machine);
     assert_eq!(rt; by_trees, Ok((Way::ByTrees, Held::Else)));
