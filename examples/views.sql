@@ -25,3 +25,6 @@ SELECT relation.off, relation.pos, relation.id AS relation, link.k, link.kind, l
 FROM element AS relation
 JOIN link USING (off, pos)
 WHERE relation.kind = 2;
+
+-- what SQLite has to know of the tables to make the best of the indexes
+ANALYZE;
