@@ -4,6 +4,7 @@ pub mod Loading
 pub mod TableElements
 pub mod TableParts
 pub mod TableAnswers
+pub mod PartRows
 pub mod Asking
 pub mod Selects
 pub mod Finding

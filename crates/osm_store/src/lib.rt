@@ -14,7 +14,7 @@ pub use audit::{Audited, Counts, have_columns};
 pub use blob_store::{BlobStore, BodyStore, TableStore};
 pub use fault::StoreFault;
 pub use keeper::{Extent, Keeper, Reader};
-pub use load::{Found, Loaded, are_apart};
+pub use load::{Found, Loaded, PartRow, are_apart};
 pub use put::{ElementRow, LinkRow, TableRow, TagRow, element_rows, link_rows, tag_rows};
 pub use schema::codes::{blob_code, element_code};
 pub use schema::sql::{

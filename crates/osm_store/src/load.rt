@@ -17,4 +17,5 @@ pub(crate) use extents::{all_extents, touched_extents};
 pub use found::Found;
 pub(crate) use held::{any_flag_held, find_held, load_held};
 pub use loaded::Loaded;
+pub use tables::PartRow;
 pub(crate) use values::number_at;

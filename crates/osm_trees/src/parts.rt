@@ -14,7 +14,7 @@ ghost use Rattle.osm_store.specs.TableRows.{element_row, tags_at, tag_row, links
 ghost use Rattle.osm_tree_audits.specs.Finding.{Finds};
 ghost use Rattle.osm_trees.specs.Below.{HoldsBelow, Looks};
 
-use osm_store::StoreFault;
+use osm_store::{PartRow, StoreFault};
 use osm_tree_audits::rows_with;
 use osm_tree_audits::trees::{ELEMENT_KEY, ELEMENTS, LINK_KEY, LINKS, TAG_KEY, TAGS};
 use sqlite::Row;
@@ -48,15 +48,15 @@ fn parts_with<S: Store>(
     alloc: Global,
     store: &mut S,
     key: &row::Row,
-) -> Result<(Vec<Row>, Vec<Row>), StoreFault>
+) -> Result<(Vec<PartRow>, Vec<PartRow>), StoreFault>
     ensures found { IfOk result (λ parts. IsClean (S.Store.view store.new)
         → Finds (λ r. r) (S.Store.view store.old).trees 5 4 3 key.now parts.0.items × Finds (λ r. r) (S.Store.view store.old).trees 7 6 3 key.now parts.1.items) }
     ensures sound { OnOk result (IsClean (S.Store.view store.new) → (S.Store.view store.new).is_broken ≡ false) }
     ensures ours { IfErr result (λ fault. ¬ (IsForeign fault)) }
     ensures looks { Looks S.Store store.old store.new }
 {
-    let tags: Vec<Row> = rows_with(alloc, store, TAG_KEY, TAGS, 3, key)?;
-    let links: Vec<Row> = rows_with(alloc, store, LINK_KEY, LINKS, 3, key)?;
+    let tags: Vec<PartRow> = rows_with(alloc, store, TAG_KEY, TAGS, 3, key)?;
+    let links: Vec<PartRow> = rows_with(alloc, store, LINK_KEY, LINKS, 3, key)?;
     Ok((tags, links))
 }
 
@@ -65,7 +65,7 @@ pub(crate) fn parts_of<S: Store>(
     alloc: Global,
     store: &mut S,
     element: &row::Row,
-) -> Result<(Vec<Row>, Vec<Row>), StoreFault>
+) -> Result<(Vec<PartRow>, Vec<PartRow>), StoreFault>
     ensures held { IsClean (S.Store.view store.new) → (held : HeldMap) (p : Placed) → HoldsBelow Tables (S.Store.view store.old) held → element.now ≡ element_row p → IsAlone (placed_in held) p
         → MatchResult result (λ parts. (parts.0.items ≡ map tag_row (tags_at p)) × (parts.1.items ≡ map link_row (links_at p)) × ((S.Store.view store.new).is_broken ≡ false)) (λ fault. ¬ (IsForeign fault)) }
     ensures looks { Looks S.Store store.old store.new }
@@ -79,7 +79,7 @@ pub(crate) fn blob_rows<S: Store>(
     alloc: Global,
     store: &mut S,
     off: u64,
-) -> Result<(Vec<Row>, Vec<Row>, Vec<Row>), StoreFault>
+) -> Result<(Vec<Row>, Vec<PartRow>, Vec<PartRow>), StoreFault>
     requires { off < 2 ^ 63 }
     ensures held { IsClean (S.Store.view store.new) → (held : HeldMap) → HoldsBelow Tables (S.Store.view store.old) held
         → MatchResult result (λ rows. AreRowsOf (record { elements = rows.0; tags = rows.1; links = rows.2 }) (filter (is_in off) (placed_in held)) × ((S.Store.view store.new).is_broken ≡ false)) (λ fault. ¬ (IsForeign fault)) }

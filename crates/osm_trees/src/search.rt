@@ -16,7 +16,7 @@ ghost use Rattle.osm_store.specs.TableRows.{element_rows, tag_rows, link_rows};
 ghost use Rattle.osm_trees.specs.Below.{HoldsBelow, Looks};
 
 use crate::parts::parts_of;
-use osm_store::{StoreFault, element_code};
+use osm_store::{PartRow, StoreFault, element_code};
 use osm_tree_audits::rows_with;
 use osm_tree_audits::trees::{ELEMENT_BY_ID, ELEMENTS};
 use osm_value::MemberKind;
@@ -79,7 +79,7 @@ fn all_parts<S: Store>(
     alloc: Global,
     store: &mut S,
     elements: &[row::Row],
-) -> Result<(Vec<Row>, Vec<Row>), StoreFault>
+) -> Result<(Vec<PartRow>, Vec<PartRow>), StoreFault>
     ensures held { IsClean (S.Store.view store.new) → (held : HeldMap) (found : List Placed) → HoldsBelow Tables (S.Store.view store.old) held → elements.now ≡ element_rows found → AllByRecursion (IsAlone (placed_in held)) found
         → MatchResult result (λ parts. (parts.0.items ≡ tag_rows found) × (parts.1.items ≡ link_rows found) × ((S.Store.view store.new).is_broken ≡ false)) (λ fault. ¬ (IsForeign fault)) }
     ensures looks { Looks S.Store store.old store.new }
@@ -100,7 +100,7 @@ pub(crate) fn found_rows<S: Store>(
     store: &mut S,
     kind: MemberKind,
     id: i64,
-) -> Result<(Vec<Row>, Vec<Row>, Vec<Row>), StoreFault>
+) -> Result<(Vec<Row>, Vec<PartRow>, Vec<PartRow>), StoreFault>
     ensures held { IsClean (S.Store.view store.new) → (held : HeldMap) → HoldsBelow Tables (S.Store.view store.old) held
         → MatchResult result (λ rows. AreRowsOf (record { elements = rows.0; tags = rows.1; links = rows.2 }) (filter (is_of kind id) (placed_in held)) × ((S.Store.view store.new).is_broken ≡ false)) (λ fault. ¬ (IsForeign fault)) }
     ensures looks { Looks S.Store store.old store.new }

@@ -1,6 +1,7 @@
 -- The rows of a blob's elements, and those of an element's tags and links, are numbered from 0.
-use Rattle.std.proofs.Common.{◌≡◌, ℕ, zero, suc, ◌+◌, ◌<◌, pos, List, [], ◌∷◌, map, length, refl, sym, ap, subst, ◌∙◌, arith}
+use Rattle.std.proofs.Common.{◌≡◌, ℕ, ℤ, zero, suc, ◌+◌, ◌<◌, pos, List, [], ◌∷◌, map, length, true, eqb, inl, inr, refl, sym, ap, subst, ◌∙◌, arith}
 use Rattle.std.specs.Prelude.{filter, slice_index_or}
+use Rattle.std.proofs.lemmas.Bool.Decides.{eqb_tells}
 use Rattle.sqlite.specs.declared.types.Value.TheVariants.{Int}
 use Rattle.sqlite.specs.Order.{Row, column}
 use Rattle.osm_value.specs.declared.element.Element.{Element}
@@ -10,6 +11,24 @@ use Rattle.osm_store.specs.Load.Numbering.{AreNumbered}
 use Rattle.osm_store.specs.Rows.{Placed, placed, placed_in, is_in}
 use Rattle.osm_store.specs.TableRows.{Part, parts, tags_at, tag_row, links_of, links_at, link_row}
 use Rattle.osm_store.proofs.MapLemmas.HeldLemmas.{counted_at}
+
+-- ---- a number in a column
+
+pub has_column : (row : Row) (at : ℕ) (z : ℤ) → column row at ≡ Int z → at < length row
+has_column [] at z is = absurd (cc)
+has_column (v ∷ row) zero z is = omega arith
+has_column (v ∷ row) (suc at) z is = let there = has_column row at z is in omega (arith, there)
+
+-- a row that is there doesn't depend on the default
+pub read_at : (rows : List Row) (i : ℕ) (d e : Row) → i < length rows → slice_index_or rows i d ≡ slice_index_or rows i e
+read_at [] i d e within = absurd (omega (arith, within))
+read_at (r ∷ rows) zero d e within = refl
+read_at (r ∷ rows) (suc i) d e within = read_at rows i d e (omega (arith, within))
+
+pub same_number : (n : ℕ) → eqb n n ≡ true
+same_number n = elim (eqb_tells n n) [ inl (test, same) ↦ test | inr (test, apart) ↦ absurd (apart refl) ]
+
+-- ---- the numbers of rows
 
 -- the next number, and that of the item at a place behind it
 first : (n : ℕ) → n ≡ n + 0

@@ -7,7 +7,7 @@ ghost use Rattle.osm_store.specs.Rows.{Placed};
 
 use crate::fault::StoreFault;
 use crate::load::rows::ElementRows;
-use crate::load::tables::TableRows;
+use crate::load::tables::{PartRow, TableRows};
 use osm_value::Element;
 use sqlite::Row;
 use std::alloc::{AllocError, Global};
@@ -24,8 +24,8 @@ impl Found {
     pub fn from_tables(
         alloc: Global,
         elements: Vec<Row>,
-        tags: Vec<Row>,
-        links: Vec<Row>,
+        tags: Vec<PartRow>,
+        links: Vec<PartRow>,
     ) -> Result<Found, StoreFault>
         ensures { (matches : List Placed) → AreRowsOf (record { elements = elements; tags = tags; links = links }) matches
             → MatchResult result (λ found. AreMatches found matches) (λ fault. fault ≡ StoreFault.Memory) }

@@ -8,7 +8,7 @@ ghost use Rattle.osm_store.specs.Rows.{placed};
 
 use crate::fault::StoreFault;
 use crate::load::rows::ElementRows;
-use crate::load::tables::TableRows;
+use crate::load::tables::{PartRow, TableRows};
 use crate::load::values::are_numbered;
 use osm_value::Element;
 use sqlite::Row;
@@ -26,8 +26,8 @@ impl Loaded {
     pub fn from_tables(
         alloc: Global,
         elements: Vec<Row>,
-        tags: Vec<Row>,
-        links: Vec<Row>,
+        tags: Vec<PartRow>,
+        links: Vec<PartRow>,
     ) -> Result<Loaded, StoreFault>
         ensures rows { (off : ℕ) (blob : List Element) → AreRowsOf (record { elements = elements; tags = tags; links = links }) (placed off 0 blob)
             → MatchResult result (λ loaded. HasRowsOf loaded blob) (λ fault. fault ≡ StoreFault.Memory) }

@@ -2,9 +2,11 @@
 
 mod elements;
 mod flags;
+mod part_row;
 mod parts;
 mod rows;
 mod search;
+mod usual_role;
 
 ghost use Rattle.std.specs.Prelude.{◌≡◌, Some, filter, IsTrue, IfOk, MatchResult};
 ghost use Rattle.std.specs.FinMap as map;
@@ -25,6 +27,7 @@ use crate::load::rows::ElementRows;
 use crate::schema::Layout;
 pub(crate) use flags::any_flag_in_tables;
 use osm_value::MemberKind;
+pub use part_row::PartRow;
 use pbf_frame::MAX_OFFSET;
 pub(crate) use rows::TableRows;
 use rows::load_table_rows;
@@ -58,7 +61,7 @@ pub(crate) fn load_tables<S: Alter>(
         elements,
         tags,
         links,
-    } = load_table_rows(connection, off)?;
+    } = load_table_rows(alloc, connection, off)?;
     Loaded::from_tables(alloc, elements, tags, links)
 }
 

@@ -4,6 +4,7 @@ ghost use Rattle.std.specs.Prelude.{◌≡◌, ◌↔◌, ◌<◌, ℕ, ℤ, pos
 ghost use Rattle.std.specs.Option.{option_copied};
 ghost use Rattle.sqlite.specs.declared.types.Value.TheVariants.{Null, Int, Text as Words, Blob as Octets};
 ghost use Rattle.sqlite.specs.Order.{column};
+ghost use Rattle.sqlite.specs.Value.{owned};
 ghost use Rattle.sqlite.specs.Values.{or_null};
 ghost use Rattle.osm_store.specs.Load.Numbering.{AreNumbered};
 ghost use Rattle.osm_store.specs.Rows.{element_code};
@@ -14,14 +15,25 @@ use osm_value::{MemberKind, text_in_range, uid_in_range, version_in_range, wide_
 use sqlite::Row;
 use sqlite::types::ValueRef;
 
+/// The number that a value is; None where it is none.
+pub(crate) fn number_of(value: ValueRef<'_>) -> Option<u64>
+    ensures exact { (n : ℕ) → owned value.entry ≡ Int (pos n) → result ≡ Some n }
+    ensures is { IfSome result (λ n. owned value.entry ≡ Int (pos n)) }
+{
+    match value {
+        ValueRef::Int(number) if number >= 0 => Some(number as u64),
+        _ => None,
+    }
+}
+
 /// The number in a column; None where no such number stands there.
 pub(crate) fn number_at(row: &Row, at: usize) -> Option<u64>
     ensures exact { (n : ℕ) → at < length row.now → column row.now at ≡ Int (pos n) → result ≡ Some n }
     ensures is { IfSome result (λ n. column row.now at ≡ Int (pos n)) }
 {
     match row.get_ref(at) {
-        Ok(ValueRef::Int(number)) if number >= 0 => Some(number as u64),
-        _ => None,
+        Ok(value) => number_of(value),
+        Err(_) => None,
     }
 }
 
@@ -58,13 +70,25 @@ fn text_in(bytes: &[u8]) -> Option<&str>
     }
 }
 
-/// The text in a column, which lies in the row.
-pub(crate) fn text_at(row: &Row, at: usize) -> Option<&str>
-    ensures exact { (text : List ℕ) → IsText text → at < length row.now → column row.now at ≡ Words text → IsSomeAnd result (λ found. found.now ≡ text) }
+/// The text that a value is.
+pub(crate) fn text_of(value: ValueRef<'_>) -> Option<&str>
+    ensures exact { (text : List ℕ) → IsText text → owned value.entry ≡ Words text → IsSomeAnd result (λ found. found.now ≡ text) }
     ensures in_range { IfSome result (λ found. IsText found.now) }
 {
-    match row.get_ref(at) {
-        Ok(ValueRef::Text(bytes)) => text_in(bytes),
+    match value {
+        ValueRef::Text(bytes) => text_in(bytes),
+        _ => None,
+    }
+}
+
+/// The id or reference that a value is.
+pub(crate) fn wide_of(value: ValueRef<'_>) -> Option<i64>
+    ensures exact { (number : ℤ) → IsWide number → owned value.entry ≡ Int number → result ≡ Some number }
+    ensures in_range { IfSome result IsWide }
+    ensures is { IfSome result (λ number. owned value.entry ≡ Int number) }
+{
+    match value {
+        ValueRef::Int(number) if wide_in_range(number) => Some(number),
         _ => None,
     }
 }
@@ -76,8 +100,8 @@ pub(crate) fn wide_at(row: &Row, at: usize) -> Option<i64>
     ensures is { IfSome result (λ number. column row.now at ≡ Int number) }
 {
     match row.get_ref(at) {
-        Ok(ValueRef::Int(number)) if wide_in_range(number) => Some(number),
-        _ => None,
+        Ok(value) => wide_of(value),
+        Err(_) => None,
     }
 }
 
@@ -158,16 +182,27 @@ pub(crate) fn is_null_at(row: &Row, at: usize) -> bool
     matches!(row.get_ref(at), Ok(ValueRef::Null))
 }
 
+/// The kind that a value names.
+pub(crate) fn kind_of(value: ValueRef<'_>) -> Option<MemberKind>
+    ensures exact { (kind : MemberKind) → owned value.entry ≡ Int (pos (element_code kind)) → result ≡ Some kind }
+    ensures is { IfSome result (λ kind. owned value.entry ≡ Int (pos (element_code kind))) }
+{
+    match number_of(value) {
+        Some(0) => Some(MemberKind::Node),
+        Some(1) => Some(MemberKind::Way),
+        Some(2) => Some(MemberKind::Relation),
+        _ => None,
+    }
+}
+
 /// The kind that a column names.
 pub(crate) fn kind_at(row: &Row, at: usize) -> Option<MemberKind>
     ensures exact { (kind : MemberKind) → at < length row.now → column row.now at ≡ Int (pos (element_code kind)) → result ≡ Some kind }
     ensures is { IfSome result (λ kind. column row.now at ≡ Int (pos (element_code kind))) }
 {
-    match number_at(row, at) {
-        Some(0) => Some(MemberKind::Node),
-        Some(1) => Some(MemberKind::Way),
-        Some(2) => Some(MemberKind::Relation),
-        _ => None,
+    match row.get_ref(at) {
+        Ok(value) => kind_of(value),
+        Err(_) => None,
     }
 }
 

@@ -16,25 +16,26 @@ ghost use Rattle.osm_store.specs.Rows.{Placed};
 
 use crate::fault::StoreFault;
 use crate::load::tables::TableRows;
+use crate::load::tables::part_row::{PartRow, are_parts_numbered};
 use crate::load::tables::parts::{info_of, member_of, tag_of};
-use crate::load::values::{are_numbered, is_null_at, kind_at, place_of, wide_at};
+use crate::load::values::{is_null_at, kind_at, place_of, wide_at};
 use osm_value::{Element, Member, MemberKind, Node, Relation, Way};
 use sqlite::Row;
 use std::alloc::{AllocError, Global};
 
 /// Whether a row is of the element at this place.
-fn stands_at(row: &Row, off: u64, position: u64) -> bool
+fn stands_at(row: &PartRow, off: u64, position: u64) -> bool
     ensures here { StandsAt off position row.now → result ≡ true }
     ensures elsewhere { StandsApart off position row.now → result ≡ false }
 {
-    match place_of(row) {
+    match row.place() {
         Some((row_off, row_position)) => row_off == off && row_position == position,
         None => false,
     }
 }
 
 /// The rows in front that are of the element at this place, and the rows after them.
-fn split_at_place(rows: &[Row], off: u64, position: u64) -> (&[Row], &[Row])
+fn split_at_place(rows: &[PartRow], off: u64, position: u64) -> (&[PartRow], &[PartRow])
     ensures { (own others : List SqlRow) → All (StandsAt off position) own → All (StandsApart off position) others → rows.now ≡ own ++ others
         → (result.0.now ≡ own) × (result.1.now ≡ others) }
 {
@@ -49,12 +50,12 @@ fn split_at_place(rows: &[Row], off: u64, position: u64) -> (&[Row], &[Row])
 /// The tags that rows stand for; None where one of them is no tag's.
 fn tags_of<'a>(
     alloc: Global,
-    rows: &'a [Row],
+    rows: &'a [PartRow],
 ) -> Result<Option<Vec<(&'a str, &'a str)>>, AllocError>
     ensures exact { (parts : List (Part (Text × Text))) → All IsTagPart parts → rows.now ≡ map tag_row parts → IfOk result (λ found. IsSomeAnd found (λ tags. map (λ t. (t.0.now, t.1.now)) tags.items ≡ map item_of parts)) }
     ensures in_range { IfOk result (λ found. IfSome found (λ tags. AreTags (map (λ t. (t.0.now, t.1.now)) tags.items))) }
 {
-    let mut tags = Vec::new(alloc);
+    let mut tags = Vec::with_capacity(alloc, rows.len())?;
     for row in rows {
         match tag_of(row) {
             Some(tag) => tags.push(tag)?,
@@ -65,11 +66,11 @@ fn tags_of<'a>(
 }
 
 /// The members that rows stand for; None where one of them is no member's.
-fn members_of<'a>(alloc: Global, rows: &'a [Row]) -> Result<Option<Vec<Member<'a>>>, AllocError>
+fn members_of<'a>(alloc: Global, rows: &'a [PartRow]) -> Result<Option<Vec<Member<'a>>>, AllocError>
     ensures exact { (parts : List (Part MemberValue)) → All IsMemberPart parts → rows.now ≡ map link_row parts → IfOk result (λ found. IsSomeAnd found (λ members. members.items ≡ map item_of parts)) }
     ensures in_range { IfOk result (λ found. IfSome found (λ members. AllByRecursion IsMember members.items)) }
 {
-    let mut members = Vec::new(alloc);
+    let mut members = Vec::with_capacity(alloc, rows.len())?;
     for row in rows {
         match member_of(row) {
             Some(member) => members.push(member)?,
@@ -80,7 +81,7 @@ fn members_of<'a>(alloc: Global, rows: &'a [Row]) -> Result<Option<Vec<Member<'a
 }
 
 /// The node of a way that a row stands for: a member of this kind, without a role.
-fn node_at(row: &Row) -> Option<i64>
+fn node_at(row: &PartRow) -> Option<i64>
     ensures exact { (p : Part MemberValue) → IsNodePart p → row.now ≡ link_row p → result ≡ Some p.item.id }
     ensures in_range { IfSome result IsWide }
 {
@@ -93,11 +94,11 @@ fn node_at(row: &Row) -> Option<i64>
 }
 
 /// The nodes of a way that rows stand for; None where one of them is no such node's.
-fn refs_of(alloc: Global, rows: &[Row]) -> Result<Option<Vec<i64>>, AllocError>
+fn refs_of(alloc: Global, rows: &[PartRow]) -> Result<Option<Vec<i64>>, AllocError>
     ensures exact { (parts : List (Part MemberValue)) → All IsNodePart parts → rows.now ≡ map link_row parts → IfOk result (λ found. IsSomeAnd found (λ refs. refs.items ≡ map (λ p. p.item.id) parts)) }
     ensures in_range { IfOk result (λ found. IfSome found (λ refs. AllByRecursion IsWide refs.items)) }
 {
-    let mut refs = Vec::new(alloc);
+    let mut refs = Vec::with_capacity(alloc, rows.len())?;
     for row in rows {
         match node_at(row) {
             Some(node) => refs.push(node)?,
@@ -108,7 +109,11 @@ fn refs_of(alloc: Global, rows: &[Row]) -> Result<Option<Vec<i64>>, AllocError>
 }
 
 /// The node that a row stands for, with these tags; a node refers to nothing.
-fn node_of<'a>(row: &'a Row, links: &[Row], tags: Vec<(&'a str, &'a str)>) -> Option<Element<'a>>
+fn node_of<'a>(
+    row: &'a Row,
+    links: &[PartRow],
+    tags: Vec<(&'a str, &'a str)>,
+) -> Option<Element<'a>>
     requires in_range { AreTags (map (λ t. (t.0.now, t.1.now)) tags.items) }
     ensures { (off position : ℕ) (node : NodeValue) → IsNode node → row.now ≡ element_row (off, position, elements.Node node) → links.now ≡ []
         → map (λ t. (t.0.now, t.1.now)) tags.entry.items ≡ node.tags → result ≡ Some (elements.Node node) }
@@ -168,18 +173,18 @@ fn relation_of<'a>(
 }
 
 /// Whether an element's tags and its links are each numbered 0, 1, 2, .. in their order.
-fn are_in_order(tags: &[Row], links: &[Row]) -> bool
+fn are_in_order(tags: &[PartRow], links: &[PartRow]) -> bool
     ensures { IsTrue result ↔ (AreNumbered 2 tags.now × AreNumbered 2 links.now) }
 {
-    are_numbered(tags, 2) && are_numbered(links, 2)
+    are_parts_numbered(tags) && are_parts_numbered(links)
 }
 
 /// The element that a row stands for, with the rows of its tags and links.
 fn element_of<'a>(
     alloc: Global,
     row: &'a Row,
-    tags: &'a [Row],
-    links: &'a [Row],
+    tags: &'a [PartRow],
+    links: &'a [PartRow],
 ) -> Result<Option<Element<'a>>, AllocError>
     ensures { (p : Placed) → IsElement p.2 → row.now ≡ element_row p → tags.now ≡ map tag_row (tags_at p) → links.now ≡ map link_row (links_at p) → IfOk result (λ found. found ≡ Some p.2) }
 {
@@ -211,9 +216,9 @@ impl TableRows {
     ) -> Result<Option<Vec<(u64, u64, Element<'_>)>>, AllocError>
         ensures { (placed : List Placed) → AreRowsOf self.now placed → IfOk result (λ found. IsSomeAnd found (λ elements. elements.items ≡ placed)) }
     {
-        let mut elements = Vec::new(alloc);
-        let mut tags: &[Row] = &self.tags;
-        let mut links: &[Row] = &self.links;
+        let mut elements = Vec::with_capacity(alloc, self.elements.len())?;
+        let mut tags: &[PartRow] = &self.tags;
+        let mut links: &[PartRow] = &self.links;
         for row in &self.elements {
             let Some((off, position)) = place_of(row) else {
                 return Ok(None);

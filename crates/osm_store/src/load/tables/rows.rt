@@ -12,21 +12,24 @@ ghost use Rattle.osm_store.specs.Rows.{is_in, placed_in};
 
 use crate::fault::StoreFault;
 use crate::load::answer::{answer, number};
+use crate::load::tables::part_row::PartRow;
 use crate::schema::Layout;
 use crate::schema::sql::{SELECT_ELEMENTS, SELECT_LINKS, SELECT_TAGS};
 use pbf_frame::MAX_OFFSET;
 use sqlite::{Alter, Connection, Row};
+use std::alloc::Global;
 
 /// The rows of some elements, and those of their tags and links, by offset, position and number.
 #[derive(Debug, Drop)]
 pub(crate) struct TableRows {
     pub(crate) elements: Vec<Row>,
-    pub(crate) tags: Vec<Row>,
-    pub(crate) links: Vec<Row>,
+    pub(crate) tags: Vec<PartRow>,
+    pub(crate) links: Vec<PartRow>,
 }
 
 /// The rows of the blob at this offset; none where no blob is held there.
 pub(crate) fn load_table_rows<S: Alter>(
+    alloc: Global,
     connection: &mut Connection<S>,
     off: u64,
 ) -> Result<TableRows, StoreFault>
@@ -40,7 +43,7 @@ pub(crate) fn load_table_rows<S: Alter>(
     let links = answer(connection, SELECT_LINKS, &[number(off)])?;
     Ok(TableRows {
         elements,
-        tags,
-        links,
+        tags: PartRow::all(alloc, tags)?,
+        links: PartRow::all(alloc, links)?,
     })
 }

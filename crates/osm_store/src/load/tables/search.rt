@@ -16,6 +16,7 @@ ghost use Rattle.osm_store.specs.Rows.{Placed, is_of, placed_in};
 use crate::fault::{StoreFault, unread};
 use crate::load::answer::{answer, integer, number};
 use crate::load::tables::TableRows;
+use crate::load::tables::part_row::PartRow;
 use crate::schema::Layout;
 use crate::schema::codes::element_code;
 use crate::schema::sql::{FIND_ELEMENTS, SELECT_ITS_LINKS, SELECT_ITS_TAGS};
@@ -34,9 +35,10 @@ fn place_of(row: &Row) -> Result<(i64, i64), StoreFault>
 
 /// The rows of the tags and those of the links of a row's element.
 fn parts_of<S: Alter>(
+    alloc: Global,
     connection: &mut Connection<S>,
     row: &Row,
-) -> Result<(Vec<Row>, Vec<Row>), StoreFault>
+) -> Result<(Vec<PartRow>, Vec<PartRow>), StoreFault>
     ensures held { HasCleanDisk (state S.Store connection.new) → (held : HeldMap) (p : Placed) → Holds Layout.Tables (state S.Store connection.old) held → row.now ≡ element_row p → IsAlone (placed_in held) p
         → MatchResult result (λ parts. (parts.0.items ≡ map tag_row (tags_at p)) × (parts.1.items ≡ map link_row (links_at p)) × IsTrue (state S.Store connection.new).is_open) (λ fault. ¬ (IsForeign fault)) }
     ensures asks { JustAsks (state S.Store connection.old) (state S.Store connection.new) }
@@ -52,7 +54,7 @@ fn parts_of<S: Alter>(
         SELECT_ITS_LINKS,
         &[integer(place.0), integer(place.1)],
     )?;
-    Ok((tags, links))
+    Ok((PartRow::all(alloc, tags)?, PartRow::all(alloc, links)?))
 }
 
 /// The rows of the tags and those of the links of the elements of all rows, in their order.
@@ -60,7 +62,7 @@ fn all_parts<S: Alter>(
     alloc: Global,
     connection: &mut Connection<S>,
     elements: &[Row],
-) -> Result<(Vec<Row>, Vec<Row>), StoreFault>
+) -> Result<(Vec<PartRow>, Vec<PartRow>), StoreFault>
     ensures held { HasCleanDisk (state S.Store connection.new) → (held : HeldMap) (found : List Placed) → Holds Layout.Tables (state S.Store connection.old) held → elements.now ≡ element_rows found → AllByRecursion (IsAlone (placed_in held)) found
         → MatchResult result (λ parts. (parts.0.items ≡ tag_rows found) × (parts.1.items ≡ link_rows found) × IsTrue (state S.Store connection.new).is_open) (λ fault. ¬ (IsForeign fault)) }
     ensures asks { JustAsks (state S.Store connection.old) (state S.Store connection.new) }
@@ -68,7 +70,7 @@ fn all_parts<S: Alter>(
     let mut tags = Vec::new(alloc);
     let mut links = Vec::new(alloc);
     for row in elements {
-        let (mut its_tags, mut its_links) = parts_of(connection, row)?;
+        let (mut its_tags, mut its_links) = parts_of(alloc, connection, row)?;
         tags.append(&mut its_tags)?;
         links.append(&mut its_links)?;
     }

@@ -49,8 +49,8 @@ returns-clause-held g c clean held holds =
     let links = links_read two three _ (placed_in held) (has_tables two.now held later.schema later.tables) c.args.off links_shown in (
       record {
         elements = elements;
-        tags = tags ∙ ap (map tag_row) (parts_of_blob (λ (p : Placed). tags_of_element p.2) c.args.off (placed_in held));
-        links = links ∙ ap (map link_row) (parts_of_blob (λ (p : Placed). links_of p.2) c.args.off (placed_in held));
+        tags = c.in_ok-all.ensures ∙ tags ∙ ap (map tag_row) (parts_of_blob (λ (p : Placed). tags_of_element p.2) c.args.off (placed_in held));
+        links = c.in_ok-all-2.ensures ∙ links ∙ ap (map link_row) (parts_of_blob (λ (p : Placed). links_of p.2) c.args.off (placed_in held));
         ascending = ascending-filter IsBefore (is_in c.args.off) (placed_in held) (placed_in_rise held);
         stored = All-from_recursion _ _ (all-filter _ (is_in c.args.off) (placed_in held) (all_stored Tables held holds.kept));
       },
@@ -74,6 +74,22 @@ returns-in_err-tags-clause-asks g c =
 
 pub returns-in_err-links-clause-asks : goal.returns-in_err-links-clause-asks
 returns-in_err-links-clause-asks g c =
+    let old = state g.S.Store c.args.connection.now in
+    let one = state g.S.Store c.answer.new.connection in
+    let two = state g.S.Store c.answer-2.new.connection in
+    let three = state g.S.Store c.answer-3.new.connection in
+    asks_then old two three (asks_then old one two c.answer.ensures.asks c.answer-2.ensures.asks) c.answer-3.ensures.asks
+
+pub returns-in_err-all-clause-asks : goal.returns-in_err-all-clause-asks
+returns-in_err-all-clause-asks g c =
+    let old = state g.S.Store c.args.connection.now in
+    let one = state g.S.Store c.answer.new.connection in
+    let two = state g.S.Store c.answer-2.new.connection in
+    let three = state g.S.Store c.answer-3.new.connection in
+    asks_then old two three (asks_then old one two c.answer.ensures.asks c.answer-2.ensures.asks) c.answer-3.ensures.asks
+
+pub returns-in_err-all-2-clause-asks : goal.returns-in_err-all-2-clause-asks
+returns-in_err-all-2-clause-asks g c =
     let old = state g.S.Store c.args.connection.now in
     let one = state g.S.Store c.answer.new.connection in
     let two = state g.S.Store c.answer-2.new.connection in

@@ -1,0 +1,277 @@
+//! Rows of the tables `tag` and `link`. A blob of relations may have half a million of them, so most are held in a short form.
+
+ghost use Rattle.std.specs.Prelude.{◌≡◌, ◌↔◌, ◌++◌, pos, ℕ, take, drop, Some, IfOk, IfSome, IsTrue};
+ghost use Rattle.sqlite.specs.declared.types.Value.TheVariants.{Int};
+ghost use Rattle.sqlite.specs.Order.{column};
+ghost use Rattle.sqlite.specs.Value.{owned};
+ghost use Rattle.osm_store.specs.declared.load.tables.part_row.PartForm.TheVariants.{Tag, Link};
+ghost use Rattle.osm_store.specs.Load.Numbering.{AreNumbered};
+ghost use Rattle.osm_store.specs.Load.PartRows.{columns_of};
+
+use crate::load::tables::usual_role::UsualRole;
+use crate::load::values::{kind_of, number_of};
+use crate::schema::codes::element_code;
+use osm_value::MemberKind;
+use sqlite::Row;
+use sqlite::types::ValueRef;
+use sqlite_exec::work::FromRow;
+use sqlite_value::row;
+use std::alloc::{AllocError, Global};
+use std::marker::Model;
+
+/// A tag whose numbers are small. Its value lies behind its key.
+#[derive(Debug, Drop)]
+struct ShortTag {
+    off: i64,
+    position: u32,
+    number: u16,
+    key_length: u16,
+    texts: Box<Vec<u8>>,
+}
+
+/// A link whose numbers are small and whose role is a usual one.
+#[derive(Clone, Copy, Debug)]
+struct ShortLink {
+    off: i64,
+    id: i64,
+    position: u32,
+    number: u16,
+    kind: MemberKind,
+    role: UsualRole,
+}
+
+/// A row in a short form, or whatever other row it is.
+#[derive(Debug, Drop)]
+enum PartForm {
+    Tag(ShortTag),
+    Link(ShortLink),
+    Other(Box<Row>),
+}
+
+/// A row of the table `tag` or `link`, which contracts see as the list of its values, as they were read.
+#[derive(Debug, Drop)]
+pub struct PartRow {
+    form: PartForm,
+}
+
+// Of a blob with a million links each byte here is a megabyte.
+const _: () = prove!(size_of::<PartRow>() == 32);
+
+impl Model for PartRow {
+    ghost use Rattle.std.specs.Prelude.{List};
+    ghost use Rattle.std.specs.Coded.{coded_list};
+    ghost use Rattle.sqlite_value.specs.declared.value.Value.{Value as SqlValue};
+    ghost use Rattle.sqlite_value.specs.contracts.value.Value.{the_row};
+    ghost use Rattle.osm_store.specs.Load.PartRows.{columns_of};
+
+    ghost Value = { List SqlValue };
+
+    ghost coded = { coded_list the_row.coded };
+
+    ghost view = { λ r. columns_of r.form };
+}
+
+impl FromRow for PartRow {
+    ghost from_row_gives = { λ r. r };
+
+    fn from_row(alloc: Global, row: &row::Row) -> Result<PartRow, AllocError> {
+        if let Some(link) = short_link(row) {
+            return Ok(PartRow {
+                form: PartForm::Link(link),
+            });
+        }
+        if let Some(tag) = short_tag(alloc, row)? {
+            return Ok(PartRow {
+                form: PartForm::Tag(tag),
+            });
+        }
+        PartRow::whole(alloc, Row::from_row(alloc, row)?)
+    }
+}
+
+impl PartRow {
+    /// A row as it is.
+    fn whole(alloc: Global, row: Row) -> Result<PartRow, AllocError>
+        ensures { IfOk result (λ part. part ≡ row) }
+    {
+        let row = Box::new(alloc, row)?;
+        Ok(PartRow {
+            form: PartForm::Other(row),
+        })
+    }
+
+    /// The rows of an answer.
+    pub(crate) fn all(alloc: Global, rows: Vec<Row>) -> Result<Vec<PartRow>, AllocError>
+        ensures { IfOk result (λ parts. parts.items ≡ rows.items) }
+    {
+        let mut parts = Vec::with_capacity(alloc, rows.len())?;
+        for row in rows {
+            parts.push(PartRow::whole(alloc, row)?)?;
+        }
+        Ok(parts)
+    }
+
+    /// The value in a column, and NULL past the end.
+    pub(crate) fn value(&self, at: usize) -> ValueRef<'_>
+        ensures { owned result ≡ column self.now at }
+    {
+        match &self.form {
+            PartForm::Tag(tag) => tag.value(at),
+            PartForm::Link(link) => link.value(at),
+            PartForm::Other(row) => value_at(row, at),
+        }
+    }
+
+    /// The place of the row's element: the offset of its blob and its position there.
+    pub(crate) fn place(&self) -> Option<(u64, u64)>
+        ensures { (off position : ℕ) → column self.now 0 ≡ Int (pos off) → column self.now 1 ≡ Int (pos position) → result ≡ Some (off, position) }
+    {
+        match (number_of(self.value(0)), number_of(self.value(1))) {
+            (Some(off), Some(position)) => Some((off, position)),
+            _ => None,
+        }
+    }
+}
+
+/// Whether the rows of one element are numbered 0, 1, 2, .. in their order.
+pub(crate) fn are_parts_numbered(rows: &[PartRow]) -> bool
+    ensures { IsTrue result ↔ AreNumbered 2 rows.now }
+{
+    for (number, row) in rows.iter().enumerate() {
+        if number_of(row.value(2)) != Some(number as u64) {
+            return false;
+        }
+    }
+    true
+}
+
+/// The value in a column, and NULL past the end.
+fn value_at(row: &Row, at: usize) -> ValueRef<'_>
+    ensures { owned result ≡ column row.now at }
+{
+    match row.get_ref(at) {
+        Ok(value) => value,
+        Err(_) => ValueRef::Null,
+    }
+}
+
+/// The offset, position and number in front of a row, where they are small.
+fn short_place(row: &row::Row) -> Option<(i64, u32, u16)>
+    ensures { IfSome result (λ place. (column row.now 0 ≡ Int place.0) × (column row.now 1 ≡ Int (pos place.1)) × (column row.now 2 ≡ Int (pos place.2))) }
+{
+    match (row.get(0), row.get(1), row.get(2)) {
+        (ValueRef::Int(off), ValueRef::Int(position), ValueRef::Int(number)) => {
+            match (u32::try_from(position), u16::try_from(number)) {
+                (Ok(position), Ok(number)) => Some((off, position, number)),
+                _ => None,
+            }
+        }
+        _ => None,
+    }
+}
+
+/// The short form of a link.
+fn short_link(row: &row::Row) -> Option<ShortLink>
+    ensures { IfSome result (λ link. columns_of (Link link) ≡ row.now) }
+{
+    if row.len() != 6 {
+        return None;
+    }
+    let (off, position, number) = short_place(row)?;
+    let kind = kind_of(row.get(3))?;
+    let (ValueRef::Int(id), ValueRef::Text(text)) = (row.get(4), row.get(5)) else {
+        return None;
+    };
+    let role = UsualRole::of(text)?;
+    Some(ShortLink {
+        off,
+        id,
+        position,
+        number,
+        kind,
+        role,
+    })
+}
+
+/// The bytes of two texts, one after the other.
+fn joined(alloc: Global, key: &[u8], val: &[u8]) -> Result<Vec<u8>, AllocError>
+    ensures { IfOk result (λ texts. texts.items ≡ key.now ++ val.now) }
+{
+    let mut texts = Vec::with_capacity(alloc, key.len().saturating_add(val.len()))?;
+    texts.extend_from_slice(key)?;
+    texts.extend_from_slice(val)?;
+    Ok(texts)
+}
+
+/// The short form of a tag.
+fn short_tag(alloc: Global, row: &row::Row) -> Result<Option<ShortTag>, AllocError>
+    ensures { IfOk result (λ found. IfSome found (λ tag. columns_of (Tag tag) ≡ row.now)) }
+{
+    if row.len() != 5 {
+        return Ok(None);
+    }
+    let Some((off, position, number)) = short_place(row) else {
+        return Ok(None);
+    };
+    let (ValueRef::Text(key), ValueRef::Text(val)) = (row.get(3), row.get(4)) else {
+        return Ok(None);
+    };
+    let Ok(key_length) = u16::try_from(key.len()) else {
+        return Ok(None);
+    };
+    let texts = Box::new(alloc, joined(alloc, key, val)?)?;
+    Ok(Some(ShortTag {
+        off,
+        position,
+        number,
+        key_length,
+        texts,
+    }))
+}
+
+impl ShortTag {
+    /// The key and the value.
+    fn texts(&self) -> (&[u8], &[u8])
+        ensures key { result.0.now ≡ take self.now.key_length self.now.texts.value.items }
+        ensures val { result.1.now ≡ drop self.now.key_length self.now.texts.value.items }
+    {
+        let texts = self.texts.as_slice();
+        let length = usize::from(self.key_length);
+        if length <= texts.len() {
+            texts.split_at(length)
+        } else {
+            (texts, &[])
+        }
+    }
+
+    /// The value in a column, and NULL past the end.
+    fn value(&self, at: usize) -> ValueRef<'_>
+        ensures { owned result ≡ column (columns_of (Tag self.now)) at }
+    {
+        match at {
+            0 => ValueRef::Int(self.off),
+            1 => ValueRef::Int(i64::from(self.position)),
+            2 => ValueRef::Int(i64::from(self.number)),
+            3 => ValueRef::Text(self.texts().0),
+            4 => ValueRef::Text(self.texts().1),
+            _ => ValueRef::Null,
+        }
+    }
+}
+
+impl ShortLink {
+    /// The value in a column, and NULL past the end.
+    fn value(&self, at: usize) -> ValueRef<'static>
+        ensures { owned result ≡ column (columns_of (Link self.now)) at }
+    {
+        match at {
+            0 => ValueRef::Int(self.off),
+            1 => ValueRef::Int(i64::from(self.position)),
+            2 => ValueRef::Int(i64::from(self.number)),
+            3 => ValueRef::Int(i64::from(element_code(self.kind))),
+            4 => ValueRef::Int(self.id),
+            5 => ValueRef::Text(self.role.text().as_bytes()),
+            _ => ValueRef::Null,
+        }
+    }
+}
