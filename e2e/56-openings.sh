@@ -221,14 +221,14 @@ if has sqlite3; then
   right "a table of one's own that has no rowid" mine.db
   sqlite3 mine.db "CREATE TRIGGER told AFTER INSERT ON element BEGIN DELETE FROM mine; END"
   expect "a trigger on the table of elements: find" 1 "fault 65 Disk${nl}" find mine.db n1
-  told "and why" "mine.db: it has a trigger on one of pbfrow's tables"
+  told "and why" "mine.db: it has a trigger on one of pbfrow's tables, told: drop it with sqlite3 to go on"
   expect "a trigger on the table of elements: import of what is held" 1 "fault 65 Disk${nl}" import "$two" mine.db
-  told "and why" "mine.db: it has a trigger on one of pbfrow's tables"
+  told "and why" "mine.db: it has a trigger on one of pbfrow's tables, told: drop it with sqlite3 to go on"
   sqlite3 mine.db "DROP TRIGGER told; CREATE TRIGGER told AFTER INSERT ON strange BEGIN DELETE FROM mine; END"
   right "a trigger on a table of one's own" mine.db
   if sqlite3 mine.db "DROP TRIGGER told; CREATE VIRTUAL TABLE words USING fts5 (word)" 2> got.txt; then
     expect "a virtual table: status" 1 "fault 65 Disk${nl}" status mine.db
-    told "and why" "mine.db: it has a virtual table"
+    told "and why" "mine.db: it has a virtual table, words: drop it with sqlite3 to go on"
   fi
   rm -f mine.db*
   cp sound.db mine.db

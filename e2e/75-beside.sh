@@ -33,6 +33,16 @@ kept() {
   same "$1: the view shows the rows" got.txt want.txt
 }
 
+# filled_beside NAME DATABASE COUNTS: makes objects of one's own in a database, and imports the extract, which ends with these counts.
+filled_beside() {
+  own "$2"
+  told_own "$2" > own.txt
+  "$pbfrow" import "$country" "$2" | tail -n 1 > got.txt
+  lines "$3" > want.txt
+  same "$1: an import ends with the counts" got.txt want.txt
+  kept "$1" "$2"
+}
+
 # indexed DATABASE: makes indexes of one's own on pbfrow's tables.
 indexed() {
   sqlite3 "$1" "CREATE INDEX tag_by_key ON tag (key, val); CREATE INDEX Tag_by_value ON TAG (val COLLATE NOCASE DESC);
@@ -73,11 +83,11 @@ complete() {
 # what takes the last blob out of a database
 without_the_last="DELETE FROM blob WHERE off = 1259691; DELETE FROM element WHERE off = 1259691; DELETE FROM tag WHERE off = 1259691; DELETE FROM link WHERE off = 1259691"
 
-# lacks_an_entry DATABASE: takes care that an index of pbfrow's lacks the entry of a row, which an opening by SQL sees.
-lacks_an_entry() {
+# past INDEX DATABASE STATEMENT: runs a statement that this index isn't told of, so it lacks the entries of the rows that are written.
+past() {
   local list="type, name, tbl_name, rootpage, sql"
-  sqlite3 "$1" "PRAGMA writable_schema = ON; CREATE TEMP TABLE kept AS SELECT rowid AS at, $list FROM sqlite_schema WHERE name = 'element_by_id';
-    DELETE FROM sqlite_schema WHERE name = 'element_by_id'; PRAGMA writable_schema = RESET; UPDATE element SET id = id + 1 WHERE off = 98 AND pos = 0;
+  sqlite3 "$2" "PRAGMA writable_schema = ON; CREATE TEMP TABLE kept AS SELECT rowid AS at, $list FROM sqlite_schema WHERE name = '$1';
+    DELETE FROM sqlite_schema WHERE name = '$1'; PRAGMA writable_schema = RESET; $3;
     PRAGMA writable_schema = ON; INSERT INTO sqlite_schema (rowid, $list) SELECT * FROM kept" > sqlite.txt
 }
 
@@ -92,32 +102,12 @@ if has sqlite3; then
   "$pbfrow" import "$country" plain.db > got.txt
   "$pbfrow" export plain.db > export.txt
 
-  # before the first blob
   "$pbfrow" import /dev/null before.db > got.txt
-  own before.db
-  told_own before.db > own.txt
-  "$pbfrow" import "$country" before.db | tail -n 1 > got.txt
-  lines "$whole" > want.txt
-  same "an import of all, beside what was made before it" got.txt want.txt
-  kept "made before the first blob" before.db
-
-  # between two: the last blob is held when they are made
+  filled_beside "made before the first blob" before.db "$whole"
   "$pbfrow" import "$country" between.db --from 1259691 > got.txt
-  own between.db
-  told_own between.db > own.txt
-  "$pbfrow" import "$country" between.db | tail -n 1 > got.txt
-  lines "blobs stored 11 held 1 bad 0 refused 0" > want.txt
-  same "an import of the rest, beside what was made between two" got.txt want.txt
-  kept "made between two blobs" between.db
-
-  # after the last
+  filled_beside "made between two blobs" between.db "blobs stored 11 held 1 bad 0 refused 0"
   cp plain.db after.db
-  own after.db
-  told_own after.db > own.txt
-  "$pbfrow" import "$country" after.db | tail -n 1 > got.txt
-  lines "blobs stored 0 held 12 bad 0 refused 0" > want.txt
-  same "an import of what is held, beside what was made after it" got.txt want.txt
-  kept "made after the last blob" after.db
+  filled_beside "made after the last blob" after.db "blobs stored 0 held 12 bad 0 refused 0"
   expect "find, beside one's own" 0 "$("$pbfrow" find plain.db n14690)${nl}" find after.db n14690
   expect "status, beside one's own" 0 "$("$pbfrow" status plain.db)${nl}" status after.db
 
@@ -130,7 +120,7 @@ if has sqlite3; then
 
   # it goes below SQL: that looks at each row and entry first, and would say that the index is damaged
   cp before.db below.db
-  lacks_an_entry below.db
+  past element_by_id below.db "UPDATE element SET id = id + 1 WHERE off = 98 AND pos = 0"
   "$pbfrow" import "$country" below.db 2> stderr.txt | tail -n 1 > got.txt
   lines "blobs stored 0 held 12 bad 0 refused 0" > want.txt
   same "an import beside one's own doesn't look through the database" got.txt want.txt
@@ -187,6 +177,35 @@ if has sqlite3; then
   same "an import of what is held, with indexes that were made after it" got.txt want.txt
   complete "indexes made after the last blob" indexed.db
 
+  # verify looks at them below SQL, and names one that lacks the entry of a row
+  while read -r index statement; do
+    cp indexed.db damaged.db
+    past "$index" damaged.db "$statement"
+    expect "verify of a database whose index $index lacks an entry" 1 "fault 65 Disk${nl}" verify "$country" damaged.db
+    echo "pbfrow: damaged.db: damaged: its index $index has not one entry for each row" > want.txt
+    same "it is named: $index" stderr.txt want.txt
+  done << 'EOF'
+tag_by_key UPDATE tag SET val = val || 'x' WHERE rowid = 1000
+Tag_by_value UPDATE tag SET val = val || 'x' WHERE rowid = 1000
+link_by_ref UPDATE link SET ref = ref + 1 WHERE rowid = 1000
+element_by_place UPDATE element SET lat = lat + 1 WHERE rowid = 1000
+EOF
+  # and one that has an entry of no row: a row is deleted past it
+  cp indexed.db damaged.db
+  sqlite3 damaged.db "INSERT INTO tag (off, pos, k, key, val) SELECT off, pos, 9999, 'a', 'b' FROM tag WHERE rowid = 1000"
+  past tag_by_key damaged.db "DELETE FROM tag WHERE k = 9999"
+  expect "verify of a database whose index has an entry of no row" 1 "fault 65 Disk${nl}" verify "$country" damaged.db --elements
+  echo "pbfrow: damaged.db: damaged: its index tag_by_key has not one entry for each row" > want.txt
+  same "which is named" stderr.txt want.txt
+  # an index that a put doesn't keep sends verify to SQL, which looks at it too
+  cp indexed.db other.db
+  sqlite3 other.db "CREATE UNIQUE INDEX other ON tag (off, pos, k)"
+  expect "verify of a database with a UNIQUE index on a table of pbfrow's" 0 "blobs 12 missing 0 differs 0 extra 0${nl}" verify "$country" other.db
+  grep -q "^pbfrow: other.db: index other is UNIQUE, .*drop the index" stderr.txt && pass "it is named" || fail "it is named"
+  sqlite3 other.db "DROP INDEX other; CREATE INDEX other ON tag (key) WHERE val = 'x'"
+  expect "verify of one with an index of some rows is refused" 1 "fault 65 Disk${nl}" verify "$country" other.db
+  grep -q "^pbfrow: other.db: index other is UNIQUE, .*drop the index" stderr.txt && pass "that is named" || fail "that is named"
+
   # the indexes and views that come with the program
   "$pbfrow" import "$country" taken.db --from 1259691 > got.txt
   sqlite3 taken.db < "$top/examples/views.sql" > got.txt 2>&1
@@ -210,8 +229,16 @@ if has sqlite3; then
       fail "an import of what is held takes the memory that it takes without them"
       echo "  it takes $beside kB, and $without without them"
     fi
+    without=$(memory verify "$country" plain.db --elements)
+    beside=$(memory verify "$country" indexed.db --elements)
+    if [ "$beside" -le $((without * 5 / 4)) ]; then
+      pass "verify of a database with indexes of one's own takes the memory that it takes without them"
+    else
+      fail "verify of a database with indexes of one's own takes the memory that it takes without them"
+      echo "  it takes $beside kB, and $without without them"
+    fi
   else
-    skip "the memory that an import takes beside one's own" "/usr/bin/time isn't there"
+    skip "the memory that an import and verify take beside one's own" "/usr/bin/time isn't there"
   fi
 
   # kills

@@ -63,10 +63,6 @@ plain_indexes (row ∷ rows) = with_index (plain_index row) (plain_indexes rows)
 abbrev pub is_refused : Row → Bool
 is_refused row = is_added_index row && not (is_some (plain_index row))
 
--- whatever else is listed, nobody has added an index to a table of a store
-abbrev pub HasNoAddedIndex : List Row → Type 0
-HasNoAddedIndex rows = list_any is_added_index rows ≡ false
-
 -- each index that somebody has added to a table of a store is one that a put keeps
 abbrev pub AreKept : List Row → Type 0
 AreKept rows = list_any is_refused rows ≡ false

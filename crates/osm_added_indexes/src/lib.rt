@@ -3,9 +3,7 @@
 
 mod index;
 mod row;
-mod store;
 mod table;
 
 pub use index::{plain_index, plain_indexes};
 pub use row::{is_added_index, is_of_a_store};
-pub use store::has_added_index;

@@ -14,6 +14,10 @@ use Rattle.osm_trees.specs.Below.{IsChecked}
 use Rattle.osm_tree_writes.specs.Tables.{table_listings}
 use Rattle.osm_databases.specs.Checked.{IsOfVersion}
 
+-- two reads, one after the other
+pub reads_on : (a b c : View) → OnlyReads a b → OnlyReads b c → OnlyReads a c
+reads_on a b c ab bc = bc ∙ ap (λ (v : View). record v { cursors = c.cursors }) ab
+
 pub checked_after : (old new : View) → OnlyReads old new → new.is_broken ≡ false → IsIndexedStore new.trees → IsClean new → (IsClean old → IsOfVersion old) → IsStoreAt old.shape
     → IsChecked new × (take 9 (new.trees catalog_tree) ≡ table_listings)
 checked_after old new reads unbroken indexed clean found shaped =
@@ -27,6 +31,14 @@ checked_after old new reads unbroken indexed clean found shaped =
       },
       ap (λ (trees : Trees). take 9 (trees catalog_tree)) same ∙ known.listed,
     )
+
+-- and after more of them, which found those whole that somebody has added
+pub checked_on : (a b c : View) → (IsClean b → OnlyReads a b × (b.is_broken ≡ false)) → (IsClean b → IsIndexedStore b.trees) → OnlyReads b c × (c.is_broken ≡ false) → IsClean c → (IsClean a → IsOfVersion a) → IsStoreAt a.shape
+    → IsChecked c × (take 9 (c.trees catalog_tree) ≡ table_listings)
+checked_on a b c before whole after clean found shaped =
+    let clean_b : IsClean b = ap (λ (v : View). doubt v.is_clean) (sym after.0) ∙ clean in
+    let trees : c.trees ≡ b.trees = ap (λ (v : View). v.trees) after.0 in
+    checked_after a c (reads_on a b c (before clean_b).0 after.0) after.1 (subst IsIndexedStore (sym trees) (whole clean_b)) clean found shaped
 
 pub found_of_version : {X : Type 0} (view : X → View) (found : Option X) → IfSome found (λ x. IsTrue (view x).is_clean → ((view x).is_broken ≡ false) × ((view x).trees ≡ (view x).committed))
     → IfSome found (λ x. IsTrue (view x).is_clean → take 9 ((view x).trees catalog_tree) ≡ table_listings) → IfSome found (λ x. IsTrue (view x).is_clean → (view x).trees 0 ≡ version_row Tables ∷ [])

@@ -1,10 +1,13 @@
 -- What is known of the trees of a database each page of which was looked at.
 use Rattle.std.specs.Prelude.{◌≡◌, false, [], ◌∷◌, take}
 use Rattle.sqlite_trees.specs.Objects.{catalog_tree}
+use Rattle.sqlite_trees.specs.Tree.{Trees}
 use Rattle.sqlite_trees.specs.View.{View}
 use Rattle.osm_store.specs.declared.schema.layout.Layout.TheVariants.{Tables}
 use Rattle.osm_store.specs.Rows.{version_row}
+use Rattle.osm_added_indexes.specs.Added.{AreKept, plain_indexes}
 use Rattle.osm_tree_writes.specs.Tables.{table_listings}
+use Rattle.osm_tree_audits.specs.Indexes.{AreWhole}
 
 -- the store can go on, nothing is written, and its first trees are those of a store of this version
 pub record IsOfVersion (v : View) : Type 0 where
@@ -12,3 +15,7 @@ pub record IsOfVersion (v : View) : Type 0 where
   pub settled : v.trees ≡ v.committed
   pub listed : take 9 (v.trees catalog_tree) ≡ table_listings
   pub version : v.trees 0 ≡ version_row Tables ∷ []
+
+-- each index that somebody has added to a table of the store is one that a put keeps, and has one entry for each row of its table, and no other
+abbrev pub HasWholeAdded : Trees → Type 0
+HasWholeAdded db = AreKept (db catalog_tree) × AreWhole db (plain_indexes (db catalog_tree))

@@ -9,12 +9,10 @@ ghost use Rattle.osm_tree_writes.specs.Tables.{table_listings};
 ghost use Rattle.osm_trees.specs.Below.{IsChecked};
 ghost use Rattle.osm_trees.specs.Ways.{MatchOpened, counted};
 ghost use Rattle.osm_tree_writes.specs.Appending.{IsStoreAt};
-ghost use Rattle.osm_databases.specs.Checked.{IsOfVersion};
+ghost use Rattle.osm_databases.specs.Checked.{HasWholeAdded, IsOfVersion};
 
 use crate::reason::{told, told_of};
-use crate::stores::{
-    OpenedStore, adopted, adopted_or_made, checked, taking_blobs, without_added_indexes,
-};
+use crate::stores::{OpenedStore, adopted, adopted_or_made, checked, taking_blobs};
 use osm_added_indexes::{is_added_index, is_of_a_store, plain_index};
 use osm_store::{BodyStore, StoreFault, TableStore};
 use osm_trees::{Opened, TreeStore};
@@ -158,25 +156,11 @@ fn found_taking_blobs<S: Alter + Drop>(
     }
 }
 
-/// The trees that were found, if nobody has added an index to a table of the store.
-fn found_without_added_indexes<S: Alter + Drop>(
-    rt: &HostRuntime,
-    name: &str,
-    found: Option<S>,
-) -> Result<Option<S>, StoreFault>
-    ensures same { IfOk result (λ bare. IfSome bare (λ kept. found ≡ Some kept)) }
-    ensures store { IfOk result (λ bare. IfSome bare (λ kept. IsStoreAt (S.Store.view kept).shape)) }
-{
-    match found {
-        Some(trees) => told(rt, name, without_added_indexes(rt.alloc(), trees)),
-        None => Ok(None),
-    }
-}
-
 /// The store of a database whose rows are to be compared, whatever these are. A database of this version is read by its
-/// trees: each page and each tree is looked at, and each index of the store has one entry for each row. One of whose tables
-/// somebody has made another index is opened by SQL, which looks at that too, and holds what it looks at in memory. Nothing
-/// is written. Why it can't be opened is told on standard error.
+/// trees: each page and each tree is looked at, and each index of the store has one entry for each row, and so has each that
+/// somebody has added to its tables. One of whose tables somebody has made an index that a put doesn't keep is opened by SQL,
+/// which looks at that too, and holds what it looks at in memory. Nothing is written. Why it can't be opened is told on
+/// standard error.
 pub fn opened_checked<D: CheckedDatabases>(
     rt: &HostRuntime,
     databases: &D,
@@ -185,23 +169,19 @@ pub fn opened_checked<D: CheckedDatabases>(
     ensures failures { IfOk result (λ reader. counted (λ trees. trees.failures) (λ store. store.failures) reader ≡ 0) }
     ensures checked { IfOk result (λ reader. MatchOpened reader
         (λ trees. IsClean (D.Trees.Store.view trees.store) → IsChecked (D.Trees.Store.view trees.store) × (take 9 ((D.Trees.Store.view trees.store).trees catalog_tree) ≡ table_listings)) (λ _. ⊤)) }
+    ensures added { IfOk result (λ reader. MatchOpened reader (λ trees. IsClean (D.Trees.Store.view trees.store) → HasWholeAdded (D.Trees.Store.view trees.store).trees) (λ _. ⊤)) }
 {
     let found = databases.checked_trees(rt, name)?;
-    let Some(trees) = found_without_added_indexes(rt, name, found)? else {
+    let Some(trees) = found_taking_blobs(rt, name, found)? else {
         return Ok(Opened::BySql(source_of_rows(rt, databases, name)?));
     };
     let store = told(rt, name, checked(rt.alloc(), trees))?;
     Ok(Opened::ByTrees(store))
 }
 
-/// The store of a database of either version.
-#[derive(Drop)]
-pub enum AnyVersion<S: Alter> {
-    /// Elements are rows.
-    Tables(OpenedStore<S>),
-    /// Elements are blocks of bytes.
-    Blocks(BodyStore<S>),
-}
+/// The store of a database of either version. One that keeps elements as rows is read by its trees or by SQL, and one that
+/// keeps them as blocks of bytes by SQL alone.
+pub type AnyVersion<S> = Opened<OpenedStore<S>, BodyStore<S>>;
 
 /// The version whose databases keep elements as blocks.
 const BLOCKS: i64 = 1;
@@ -211,16 +191,17 @@ fn adopted_of_any_version<S: Alter + Drop>(
     connection: Connection<S>,
 ) -> Result<AnyVersion<S>, StoreFault>
     requires { (state S.Store connection).in_transaction ≡ false }
+    ensures { IfOk result (λ store. counted (counted (λ trees. trees.failures) (λ rows. rows.failures)) (λ blocks. blocks.failures) store ≡ 0) }
 {
     let (fault, connection) = match TableStore::adopt(connection) {
-        Ok(store) => return Ok(AnyVersion::Tables(Opened::BySql(store))),
+        Ok(store) => return Ok(Opened::ByTrees(Opened::BySql(store))),
         Err(other) => other,
     };
     if fault != StoreFault::NotThisStore(Some(BLOCKS)) {
         return Err(fault);
     }
     match BodyStore::adopt(connection) {
-        Ok(store) => Ok(AnyVersion::Blocks(store)),
+        Ok(store) => Ok(Opened::BySql(store)),
         Err((fault, _)) => Err(fault),
     }
 }
@@ -230,9 +211,11 @@ pub fn opened_of_any_version<D: Databases>(
     rt: &HostRuntime,
     databases: &D,
     name: &str,
-) -> Result<AnyVersion<D::Trees>, StoreFault> {
+) -> Result<AnyVersion<D::Trees>, StoreFault>
+    ensures { IfOk result (λ store. counted (counted (λ trees. trees.failures) (λ rows. rows.failures)) (λ blocks. blocks.failures) store ≡ 0) }
+{
     if let Some(trees) = databases.trees(rt, name)? {
-        return Ok(AnyVersion::Tables(Opened::ByTrees(TreeStore::new(trees))));
+        return Ok(Opened::ByTrees(Opened::ByTrees(TreeStore::new(trees))));
     }
     let connection = databases.connection(rt, name)?;
     let is_bound = binds_a_table(connection.schema());

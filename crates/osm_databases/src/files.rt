@@ -6,9 +6,9 @@ ghost use Rattle.sqlite_wal.specs.Files.{image_at, seen_image};
 ghost use Rattle.osm_openings.specs.Presumed.{ArePresumedTables};
 
 use crate::databases::{CheckedDatabases, Databases};
-use crate::reason::{Reason, Refusal, tell, told};
+use crate::reason::{Reason, Refusal, tell_of_obstruction, told};
 use crate::trees::{checked_trees_in, close_files, connection_in, obstacle_in, trees_in};
-use osm_openings::Obstacle;
+use osm_openings::{Obstacle, Obstruction};
 use osm_store::StoreFault;
 use pbfrow_files::{
     OpenFault, ReadFile, ReadFrom, WriteFile, WriteFrom, open_to_read, open_to_write,
@@ -85,7 +85,7 @@ fn read_alone(rt: &HostRuntime, name: &str) -> Result<Files<ReadFile>, StoreFaul
 }
 
 /// What stands in the way of opening a database, if that can be told.
-fn obstacle_of(rt: &HostRuntime, name: &str) -> Option<Obstacle> {
+fn obstruction_of(rt: &HostRuntime, name: &str) -> Option<Obstruction> {
     let files = files_to_read(rt, name, Unknown).ok()?;
     obstacle_in(rt, files)
 }
@@ -95,25 +95,29 @@ fn obstacle_of(rt: &HostRuntime, name: &str) -> Option<Obstacle> {
 fn explained<S: Alter>(
     rt: &HostRuntime,
     name: &str,
-    obstacle: Option<Obstacle>,
+    found: Option<Obstruction>,
     opened: Result<Connection<S>, Refusal>,
 ) -> Result<Connection<S>, StoreFault>
     requires { IfOk opened IsNew }
     ensures { IfOk result IsNew }
 {
-    if let Some(Obstacle::Trigger) = obstacle {
-        tell(rt, name, &Reason::Obstacle(Obstacle::Trigger));
-    }
-    match (opened, obstacle) {
-        (Ok(connection), _) => Ok(connection),
-        (Err(refusal), _) if refusal.fault == StoreFault::Memory => told(rt, name, Err(refusal)),
-        (Err(refusal), Some(Obstacle::Trigger)) => Err(refusal.fault),
-        (Err(refusal), Some(obstacle)) => {
-            tell(rt, name, &Reason::Obstacle(obstacle));
-            Err(refusal.fault)
+    let Some(found) = found else {
+        return told(rt, name, opened);
+    };
+    let refusal = match opened {
+        Ok(connection) => {
+            if found.obstacle == Obstacle::Trigger {
+                tell_of_obstruction(rt, name, &found);
+            }
+            return Ok(connection);
         }
-        (Err(refusal), None) => told(rt, name, Err(refusal)),
+        Err(refusal) => refusal,
+    };
+    if refusal.fault == StoreFault::Memory {
+        return told(rt, name, Err(refusal));
     }
+    tell_of_obstruction(rt, name, &found);
+    Err(refusal.fault)
 }
 
 /// The databases in files of this machine that take blobs. One that is missing is made.
@@ -136,9 +140,9 @@ impl Databases for FilledFiles {
         rt: &HostRuntime,
         name: &str,
     ) -> Result<Connection<FileStore<WriteFile>>, StoreFault> {
-        let obstacle = obstacle_of(rt, name);
+        let found = obstruction_of(rt, name);
         let files = written(rt, name)?;
-        explained(rt, name, obstacle, connection_in(rt, files))
+        explained(rt, name, found, connection_in(rt, files))
     }
 
     fn close(&self, trees: FileStore<WriteFile>) {
@@ -166,9 +170,9 @@ impl Databases for AskedFiles {
         rt: &HostRuntime,
         name: &str,
     ) -> Result<Connection<FileStore<ReadFile>>, StoreFault> {
-        let obstacle = obstacle_of(rt, name);
+        let found = obstruction_of(rt, name);
         let files = read_alone(rt, name)?;
-        explained(rt, name, obstacle, connection_in(rt, files))
+        explained(rt, name, found, connection_in(rt, files))
     }
 
     fn close(&self, _trees: FileStore<ReadFile>) {}

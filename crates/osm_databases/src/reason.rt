@@ -3,16 +3,17 @@
 ghost use Rattle.std.specs.Prelude.{◌≡◌, None, MatchResult};
 ghost use Rattle.osm_databases.specs.Reasons.{fault_of_file};
 
-use osm_openings::Obstacle;
+use osm_openings::{Obstacle, Obstruction};
 use osm_store::StoreFault;
 use osm_tree_audits::StoreIndex;
 use pbfrow_files::OpenFault;
 use sqlite::Error as SqlError;
 use std::alloc::AllocError;
 use std::fmt;
+use std::str::from_utf8;
 
 /// Why a database isn't opened.
-#[derive(Clone, Copy, Debug)]
+#[derive(Debug, Drop)]
 pub enum Reason {
     /// The files can't be opened.
     File(OpenFault),
@@ -22,6 +23,8 @@ pub enum Reason {
     Sql(SqlError),
     /// An index lacks the entry of a row, or has an entry of none.
     Index(StoreIndex),
+    /// So does one of this name that somebody has added.
+    AddedIndex(String),
     /// It has no store, or one of another version, or a call of the store failed.
     Store(StoreFault),
 }
@@ -39,6 +42,10 @@ impl fmt::Display for Reason {
                 f,
                 "damaged: its index {index} has not one entry for each row"
             ),
+            Reason::AddedIndex(name) => write!(
+                f,
+                "damaged: its index {name} has not one entry for each row"
+            ),
             Reason::Store(StoreFault::NotThisStore(None)) => f.write_str(
                 "not a database of pbfrow",
             ),
@@ -52,7 +59,7 @@ impl fmt::Display for Reason {
 }
 
 /// That a database isn't opened: the fault that is answered, and the reason that people are told.
-#[derive(Clone, Copy, Debug)]
+#[derive(Debug, Drop)]
 pub struct Refusal {
     pub fault: StoreFault,
     pub reason: Reason,
@@ -96,6 +103,19 @@ impl From<AllocError> for Refusal {
 /// Says on standard error which database isn't opened and why. A line that can't be written there is left out.
 pub fn tell(rt: &HostRuntime, name: &str, reason: &Reason) {
     let _written = eprintln!(rt; "pbfrow: {name}: {reason}");
+}
+
+/// Says on standard error what stands in the way of a database, by its name where it is an object, and what to do then.
+pub fn tell_of_obstruction(rt: &HostRuntime, name: &str, found: &Obstruction) {
+    let reason = Reason::Obstacle(found.obstacle);
+    match from_utf8(&found.object) {
+        Ok(object) if !object.is_empty() => {
+            let _written = eprintln!(rt;
+                "pbfrow: {name}: {reason}, {object}: drop it with sqlite3 to go on"
+            );
+        }
+        _ => tell(rt, name, &reason),
+    }
 }
 
 /// Says on standard error why a database isn't opened, if it isn't, and passes on its fault.

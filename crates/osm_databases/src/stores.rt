@@ -12,23 +12,23 @@ ghost use Rattle.osm_store.specs.Load.Asking.{JustAsks};
 ghost use Rattle.osm_store.specs.Schema.Bodies.{no_schema};
 ghost use Rattle.sqlite_exec.specs.Calls.{OnlyReads};
 ghost use Rattle.sqlite_trees.specs.Objects.{catalog_tree};
-ghost use Rattle.osm_added_indexes.specs.Added.{HasNoAddedIndex};
 ghost use Rattle.osm_tree_writes.specs.Appending.{IsStoreAt, TakeBlobs};
 ghost use Rattle.osm_tree_writes.specs.Putting.{IsIndexedStore};
 ghost use Rattle.osm_trees.specs.Below.{HoldsBelow, IsChecked, StandsAlone};
 ghost use Rattle.osm_trees.specs.Ways.{MatchOpened, counted};
 ghost use Rattle.osm_tree_writes.specs.Tables.{table_listings};
-ghost use Rattle.osm_databases.specs.Checked.{IsOfVersion};
+ghost use Rattle.osm_databases.specs.Checked.{HasWholeAdded, IsOfVersion};
 
 use crate::reason::{Reason, Refusal};
-use osm_added_indexes::has_added_index;
+use osm_added_indexes::plain_indexes;
 use osm_store::{StoreFault, TableStore};
-use osm_tree_audits::faulty_index;
+use osm_tree_audits::{faulty_added_index, faulty_index};
 use osm_tree_writes::takes_blobs;
 use osm_trees::{Opened, TreeStore};
 use sqlite::{Alter, Connection};
+use sqlite_schema::schema::Index;
 use sqlite_trees::store::Store;
-use std::alloc::Global;
+use std::alloc::{AllocError, Global};
 
 /// A store over the trees of its database, or by SQL.
 pub type OpenedStore<S> = Opened<TreeStore<S>, TableStore<S>>;
@@ -108,23 +108,6 @@ pub fn taking_blobs<S: Alter + Drop>(alloc: Global, trees: S) -> Result<Option<S
     }
 }
 
-/// The trees, if they have the tables of a store and nobody has added an index to one of these; else they are dropped. A
-/// fault is `Memory`.
-pub fn without_added_indexes<S: Alter + Drop>(alloc: Global, trees: S) -> Result<Option<S>, Refusal>
-    ensures same { IfOk result (λ found. IfSome found (λ kept. kept ≡ trees)) }
-    ensures store { IfOk result (λ found. IfSome found (λ kept. IsStoreAt (S.Store.view kept).shape)) }
-    ensures indexed { IfOk result (λ found. IfSome found (λ kept. IsClean (S.Store.view kept) → HasNoAddedIndex ((S.Store.view kept).trees catalog_tree))) }
-    ensures whole { IfOk result (λ found. IsStoreAt (S.Store.view trees).shape → IsClean (S.Store.view trees) → HasNoAddedIndex ((S.Store.view trees).trees catalog_tree) → found ≡ Some trees) }
-{
-    let takes_blobs = takes_blobs(alloc, &trees)?;
-    let has_added_index = has_added_index(alloc, &trees)?;
-    if takes_blobs && !has_added_index {
-        Ok(Some(trees))
-    } else {
-        Ok(None)
-    }
-}
-
 /// The trees, if each index of the store has one entry for each row of its table, and no other; they are dropped if not,
 /// and the fault is `Disk`. Of the rows nothing has to be known. Another fault is that of a read that has failed, or
 /// `Memory`. No more than one row and its entry are in memory.
@@ -142,13 +125,46 @@ pub fn with_whole_indexes<S: Store + Drop>(alloc: Global, mut trees: S) -> Resul
     }
 }
 
+/// That an index which somebody has added isn't whole.
+fn faulty(alloc: Global, index: &Index) -> Result<Refusal, AllocError>
+    ensures { IfOk result (λ refusal. refusal.fault ≡ StoreFault.Disk) }
+{
+    let name = String::from_utf8_lossy(alloc, index.name.as_slice())?;
+    Ok(Refusal {
+        fault: StoreFault::Disk,
+        reason: Reason::AddedIndex(name),
+    })
+}
+
+/// The trees, if a put keeps each index that somebody has added to a table of the store (`taking_blobs`), and each of these
+/// has one entry for each row of its table, and no other; they are dropped if not, and the fault is `Disk`. Of the rows
+/// nothing has to be known. Another fault is that of a read that has failed, or `Memory`. No more than one row and its entry
+/// are in memory.
+pub fn with_whole_added_indexes<S: Alter + Drop>(alloc: Global, mut trees: S) -> Result<S, Refusal>
+    ensures whole { IfOk result (λ kept. IsClean (S.Store.view kept) → HasWholeAdded (S.Store.view kept).trees) }
+    ensures reads { IfOk result (λ kept. IsClean (S.Store.view kept) → OnlyReads (S.Store.view trees) (S.Store.view kept) × ((S.Store.view kept).is_broken ≡ false)) }
+{
+    let objects = trees.objects(alloc)?;
+    let Some(indexes) = plain_indexes(alloc, objects.as_slice())? else {
+        return Err(StoreFault::Disk.into());
+    };
+    match faulty_added_index(alloc, &mut trees, indexes.as_slice()) {
+        Ok(None) => Ok(trees),
+        Ok(Some(at)) => Err(faulty(alloc, &indexes[at])?),
+        Err(fault) => Err(fault.into()),
+    }
+}
+
 /// The store of trees that are those of a store of this version, if each of its indexes has one entry for each row of its
-/// table, and no other. A fault is that of `with_whole_indexes`.
-pub(crate) fn checked<S: Store + Drop>(alloc: Global, trees: S) -> Result<TreeStore<S>, Refusal>
+/// table, and no other, and so has each that somebody has added. A fault is that of `with_whole_indexes`, or of
+/// `with_whole_added_indexes`.
+pub(crate) fn checked<S: Alter + Drop>(alloc: Global, trees: S) -> Result<TreeStore<S>, Refusal>
     ensures failures { IfOk result (λ reader. reader.failures ≡ 0) }
     ensures checked { IfOk result (λ reader. IsClean (S.Store.view reader.store) → (IsClean (S.Store.view trees) → IsOfVersion (S.Store.view trees)) → IsStoreAt (S.Store.view trees).shape
         → IsChecked (S.Store.view reader.store) × (take 9 ((S.Store.view reader.store).trees catalog_tree) ≡ table_listings)) }
+    ensures added { IfOk result (λ reader. IsClean (S.Store.view reader.store) → HasWholeAdded (S.Store.view reader.store).trees) }
 {
-    let kept = with_whole_indexes(alloc, trees)?;
+    let whole = with_whole_indexes(alloc, trees)?;
+    let kept = with_whole_added_indexes(alloc, whole)?;
     Ok(TreeStore::new(kept))
 }

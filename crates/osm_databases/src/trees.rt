@@ -9,7 +9,7 @@ ghost use Rattle.osm_openings.specs.Presumed.{ArePresumedTables, ReadsAs};
 ghost use Rattle.osm_databases.specs.Checked.{IsOfVersion};
 
 use crate::reason::{Reason, Refusal};
-use osm_openings::{Obstacle, find_obstacle, open_checked_tables, open_tables};
+use osm_openings::{Obstruction, find_obstacle, open_checked_tables, open_tables};
 use osm_store::StoreFault;
 use pbfrow_files::OpenFault;
 use sqlite::{Connection, Error as SqlError, ErrorCode};
@@ -97,7 +97,7 @@ fn unopened(error: SqlError) -> Refusal {
 }
 
 /// What stands in the way of files, if that can be told.
-pub fn obstacle_in<D: Disk + Drop>(rt: &HostRuntime, files: Files<D>) -> Option<Obstacle>
+pub fn obstacle_in<D: Disk + Drop>(rt: &HostRuntime, files: Files<D>) -> Option<Obstruction>
     requires log { IsTrue (D.Disk.is_usable files.log) }
     requires db { IsTrue (D.Disk.is_usable files.db) }
 {

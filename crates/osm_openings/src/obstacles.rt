@@ -1,7 +1,7 @@
 //! What stands in the way of a database that can't be opened.
 
-ghost use Rattle.std.specs.Prelude.{◌≡◌, IsTrue};
-ghost use Rattle.osm_openings.specs.Obstacles.{binds_a_store, is_virtual_table};
+ghost use Rattle.std.specs.Prelude.{◌≡◌, IsTrue, IfOk};
+ghost use Rattle.osm_openings.specs.Obstacles.{binds_a_store, is_virtual_table, stands_in_the_way};
 
 use crate::opening::page_size;
 use osm_added_indexes::is_of_a_store;
@@ -26,6 +26,23 @@ pub enum Obstacle {
     VirtualTable,
     #[error("damaged: its header, its log or its list of tables")]
     Damaged,
+}
+
+/// An obstacle, and the name of the object that is one, where it is a trigger or a virtual table; else an empty name.
+#[derive(Debug, Drop)]
+pub struct Obstruction {
+    pub obstacle: Obstacle,
+    pub object: Vec<u8>,
+}
+
+impl Obstruction {
+    /// That of no object.
+    fn without_object(alloc: Global, obstacle: Obstacle) -> Obstruction {
+        Obstruction {
+            obstacle,
+            object: Vec::new(alloc),
+        }
+    }
 }
 
 /// Where the header has the greatest root page, which is 0 unless auto_vacuum is on (fileformat2.html, section 1.3).
@@ -55,15 +72,28 @@ fn is_virtual_table(row: &Row) -> bool
     is_word(b"table", row.get(1)) && is_virtual(row.get(1), row.get(5))
 }
 
-/// What stands in the way among the rows of `sqlite_schema`.
-fn obstacle_among(rows: &[Row]) -> Option<Obstacle> {
-    if rows.iter().any(binds_a_store) {
+/// Which obstacle a row of `sqlite_schema` tells of.
+fn obstacle_in(row: &Row) -> Option<Obstacle>
+    ensures { result ≡ stands_in_the_way row.now }
+{
+    if binds_a_store(row) {
         Some(Obstacle::Trigger)
-    } else if rows.iter().any(is_virtual_table) {
+    } else if is_virtual_table(row) {
         Some(Obstacle::VirtualTable)
     } else {
         None
     }
+}
+
+/// What stands in the way among the rows of `sqlite_schema`: the first that does.
+fn obstruction_among(alloc: Global, rows: &[Row]) -> Result<Option<Obstruction>, AllocError> {
+    for row in rows {
+        if let Some(obstacle) = obstacle_in(row) {
+            let object = bytes_of(row.get(2)).to_vec(alloc)?;
+            return Ok(Some(Obstruction { obstacle, object }));
+        }
+    }
+    Ok(None)
 }
 
 /// What stands in the way of these files, if that can be told. They are closed, and nothing of them is changed.
@@ -71,21 +101,21 @@ pub fn find_obstacle<D: Disk + Drop>(
     alloc: Global,
     mut files: Files<D>,
     options: Options,
-) -> Result<Option<Obstacle>, AllocError>
+) -> Result<Option<Obstruction>, AllocError>
     requires log { IsTrue (D.Disk.is_usable files.log) }
     requires db { IsTrue (D.Disk.is_usable files.db) }
 {
     let Some(size) = page_size(alloc, &mut files)? else {
-        return Ok(Some(Obstacle::NoDatabase));
+        return Ok(Some(Obstruction::without_object(alloc, Obstacle::NoDatabase)));
     };
     if is_auto_vacuumed(&mut files.db) {
-        return Ok(Some(Obstacle::AutoVacuum));
+        return Ok(Some(Obstruction::without_object(alloc, Obstacle::AutoVacuum)));
     }
     let pager = Pager::new(alloc, files, size, options)?;
     let mut unopened = Unopened::new(alloc, pager, &[])?;
     match unopened.read_catalog() {
-        Ok(rows) => Ok(obstacle_among(rows.as_slice())),
+        Ok(rows) => obstruction_among(alloc, rows.as_slice()),
         Err(OpenError::OutOfMemory) => Err(AllocError),
-        Err(_) => Ok(Some(Obstacle::Damaged)),
+        Err(_) => Ok(Some(Obstruction::without_object(alloc, Obstacle::Damaged))),
     }
 }

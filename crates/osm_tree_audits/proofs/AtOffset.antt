@@ -29,6 +29,9 @@ use Rattle.osm_store.proofs.MapLemmas.PlacedLaws.{Entry, here, by_position}
 use Rattle.osm_tree_writes.specs.Putting.{IsIndexedStore}
 use Rattle.osm_tree_audits.specs.Finding.{Finds, starts}
 use Rattle.osm_tree_audits.specs.Auditing.{KeepsAt}
+use Rattle.osm_tree_audits.specs.declared.tables.ElementTable.{ElementTable}
+use Rattle.osm_tree_audits.specs.declared.tables.ElementTable.TheVariants.{Elements, Tags, Links}
+use Rattle.osm_tree_audits.specs.ElementTables.{index_of, table_of, width_of, rows_in}
 use Rattle.osm_tree_audits.proofs.Found.{begins, exactly}
 use Rattle.osm_tree_audits.proofs.Orders.{same_all, by_place, by_part, elements_rise, parts_rise}
 
@@ -70,16 +73,21 @@ placed_ascend off es =
 -- ---- each table
 
 module _ (db : Trees) (indexed : IsIndexedStore db) (off : ℕ) (es : List Element) (rows : List Row) where
-  pub elements_told : Finds (λ r. r) db 3 2 2 (Int (pos off) ∷ []) rows → (rows ≡ element_rows (placed off 0 es)) ↔ KeepsAt off (element_rows (placed off 0 es)) (db 2)
+  elements_told : Finds (λ r. r) db 3 2 2 (Int (pos off) ∷ []) rows → (rows ≡ element_rows (placed off 0 es)) ↔ KeepsAt off (element_rows (placed off 0 es)) (db 2)
   elements_told finds =
       told (1 ∷ 2 ∷ []) (1 ∷ []) by_place off (omega arith) element_row (placed off 0 es) (ascending_weaker _ _ (λ (a b : Placed) before. elements_rise a b [] [] before) _ (placed_ascend off es)) (db 2) (db 3) rows finds.shaped finds.ordered indexed.0 finds.are
 
-  pub tags_told : Finds (λ r. r) db 5 4 3 (Int (pos off) ∷ []) rows → (rows ≡ tag_rows (placed off 0 es)) ↔ KeepsAt off (tag_rows (placed off 0 es)) (db 4)
+  tags_told : Finds (λ r. r) db 5 4 3 (Int (pos off) ∷ []) rows → (rows ≡ tag_rows (placed off 0 es)) ↔ KeepsAt off (tag_rows (placed off 0 es)) (db 4)
   tags_told finds =
       told (1 ∷ 2 ∷ 3 ∷ []) (1 ∷ 2 ∷ []) by_part off (omega arith) tag_row (flat_map tags_at (placed off 0 es))
       (ascending_weaker _ _ parts_rise _ (all_parts_rise (λ (p : Placed). tags_of_element p.2) (placed off 0 es) (placed_ascend off es))) (db 4) (db 5) rows finds.shaped finds.ordered indexed.1.0 finds.are
 
-  pub links_told : Finds (λ r. r) db 7 6 3 (Int (pos off) ∷ []) rows → (rows ≡ link_rows (placed off 0 es)) ↔ KeepsAt off (link_rows (placed off 0 es)) (db 6)
+  links_told : Finds (λ r. r) db 7 6 3 (Int (pos off) ∷ []) rows → (rows ≡ link_rows (placed off 0 es)) ↔ KeepsAt off (link_rows (placed off 0 es)) (db 6)
   links_told finds =
       told (1 ∷ 2 ∷ 3 ∷ []) (1 ∷ 2 ∷ []) by_part off (omega arith) link_row (flat_map links_at (placed off 0 es))
       (ascending_weaker _ _ parts_rise _ (all_parts_rise (λ (p : Placed). links_of p.2) (placed off 0 es) (placed_ascend off es))) (db 6) (db 7) rows finds.shaped finds.ordered indexed.1.1.0 finds.are
+
+  pub rows_told : (of : ElementTable) → Finds (λ r. r) db (index_of of) (table_of of) (width_of of) (Int (pos off) ∷ []) rows → (rows ≡ rows_in of (placed off 0 es)) ↔ KeepsAt off (rows_in of (placed off 0 es)) (db (table_of of))
+  rows_told Elements finds = elements_told finds
+  rows_told Tags finds = tags_told finds
+  rows_told Links finds = links_told finds

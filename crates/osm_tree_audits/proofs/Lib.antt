@@ -8,3 +8,4 @@ pub mod Walks
 pub mod Shown
 pub mod Whole
 pub mod Reaching
+pub mod InParts

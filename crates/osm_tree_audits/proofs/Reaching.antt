@@ -1,8 +1,7 @@
 -- What a walk over an index reaches, row by row.
-use Rattle.std.proofs.Common.{◌≡◌, ℕ, suc, zero, ◌+◌, ◌<◌, Bool, true, false, cond, is_lt, Equal, Greater, List, [], ◌∷◌, ◌++◌, map, filter, flat_map, drop, length, take, get_or, Contains, IsTrue, not, true≢false, append-nil, drop-cons, refl, sym, ap, subst, ◌∙◌, arith}
+use Rattle.std.proofs.Common.{◌≡◌, ℕ, suc, zero, ◌+◌, ◌<◌, Bool, true, false, cond, is_lt, Equal, Greater, List, [], ◌∷◌, ◌++◌, map, filter, flat_map, drop, length, take, get_or, Contains, IsTrue, not, true≢false, append-nil, append_assoc, drop-cons, refl, sym, ap, subst, ◌∙◌, arith}
 use Rattle.std.specs.Prelude.{◌↔◌}
-use Rattle.std.specs.List.{AllByRecursion}
-use Rattle.std.proofs.lemmas.List.{length-map, length-take-le, take_more, take-append-drop, map-append}
+use Rattle.std.proofs.lemmas.List.{length-append, length-map, length-take-le, take_more, take-append-drop, map-append}
 use Rattle.std.proofs.lemmas.List.Elements.{All-contains, All-from_recursion}
 use Rattle.sqlite_value.specs.declared.keys.Order.{Order}
 use Rattle.sqlite_value.specs.Order.{Row, column}
@@ -15,8 +14,8 @@ use Rattle.sqlite_exec.specs.Loops.{left_of}
 use Rattle.sqlite_exec.specs.Plan.{resolved, with_rowid, as_rowid}
 use Rattle.sqlite_exec.proofs.ScanLemmas.{resolves}
 use Rattle.osm_tree_audits.specs.Finding.{starts}
-use Rattle.osm_tree_audits.specs.Walking.{AreAmong, IsWalk, Leads}
-use Rattle.osm_tree_audits.proofs.Prefix.{none_above}
+use Rattle.osm_tree_audits.specs.Walking.{AreAmong, IsWalk, Leads, reached}
+use Rattle.osm_tree_audits.proofs.Prefix.{from_starts, none_above}
 
 -- an entry leads to the row of the table that has its rowid
 pub led : (rows : List Row) (width : ℕ) (e r : Row) → IsShaped Table rows → Contains rows r → rowid r ≡ column e width → resolved rows width e ≡ r ∷ []
@@ -42,6 +41,20 @@ ascending_from R o key (e ∷ es) up = go (is_lt (prefix_cmp o e key)) (ascendin
     go : (b : Bool) → IsAscending R (from_key o key es) → IsAscending R (cond b (from_key o key es) (e ∷ es))
     go true more = more
     go false more = up
+
+-- what a walk reaches that has just begun are the rows whose entries begin with the key
+pub begins_with : (old new : View) (index table width : ℕ) (key : Row) → new.trees ≡ old.trees → left_of new 0 ≡ from_key plain key (old.trees index)
+    → reached new table width key ≡ map (drop 1) (flat_map (resolved (old.trees table) width) (filter (starts key) (old.trees index)))
+begins_with old new index table width key trees placed =
+    let f = resolved (old.trees table) width in
+    ap (λ (db : Trees). map (drop 1) (flat_map (resolved (db table) width) (filter (starts key) (left_of new 0)))) trees
+    ∙ ap (λ l. map (drop 1) (flat_map f (filter (starts key) l))) placed ∙ ap (λ l. map (drop 1) (flat_map f l)) (from_starts key (old.trees index))
+
+-- the next row is given after those that were given before
+pub one_shown : {R : Type 0} (gives : Row → R) (done more whole : List R) (x : R) (row : Row) (now new : List Row) → more ≡ done ++ x ∷ [] → x ≡ gives (drop 1 row) → now ≡ drop 1 row ∷ new
+    → done ++ map gives now ≡ whole → more ++ map gives new ≡ whole
+one_shown gives done more whole x row now new grown shown next so_far =
+    ap (λ l. l ++ map gives new) grown ∙ append_assoc done (x ∷ []) (map gives new) ∙ ap (λ y. done ++ y ∷ map gives new) shown ∙ ap (λ l. done ++ map gives l) (sym next) ∙ so_far
 
 -- ---- lists that go on in different ways
 
@@ -80,11 +93,11 @@ at_last (suc n) P below last (suc k) h = at_last n (λ m. P (suc m)) (λ m l. be
 -- ---- what is found so far, and what was to be found
 
 module _ {X : Type 0} (f : X → Row) (xs : List X) (at : ℕ) (within : at < length xs) where
-  pub too_few : ¬ (map f (take at xs) ++ [] ≡ map f xs)
-  too_few same =
-      let all : length (map f xs) ≡ length xs = length-map xs f in
+  pub too_few : (left : List Row) → ¬ (map f (take at xs) ++ [] ≡ map f xs ++ left)
+  too_few left same =
+      let all : length (map f xs ++ left) ≡ length xs + length left = length-append (map f xs) left ∙ ap (λ n. n + length left) (length-map xs f) in
       let some : length (map f (take at xs) ++ []) ≡ at = ap length (append-nil (map f (take at xs))) ∙ length-map (take at xs) f ∙ length-take-le at xs (omega (arith, within)) in
-      let both : length (map f (take at xs) ++ []) ≡ length (map f xs) = ap length same in
+      let both : length (map f (take at xs) ++ []) ≡ length (map f xs ++ left) = ap length same in
       omega (arith, within, all, some, both)
 
   module _ (x d : X) (is : x ≡ get_or xs at d) where
@@ -96,8 +109,10 @@ module _ {X : Type 0} (f : X → Row) (xs : List X) (at : ℕ) (within : at < le
         ap (map f) (sym (take-append-drop at xs) ∙ ap (λ l. take at xs ++ l) (drop-cons xs at d within)) ∙ map-append f (take at xs) (get_or xs at d ∷ drop (suc at) xs)
         ∙ ap (λ y. map f (take at xs) ++ f y ∷ map f (drop (suc at) xs)) (sym is)
 
-    pub other : (r : Row) (rest : List Row) → ¬ (r ≡ f x) → ¬ (map f (take at xs) ++ r ∷ rest ≡ map f xs)
-    other r rest differ same = parted (map f (take at xs)) r (f x) rest (map f (drop (suc at) xs)) differ (same ∙ split_at)
+    pub other : (r : Row) (rest left : List Row) → ¬ (r ≡ f x) → ¬ (map f (take at xs) ++ r ∷ rest ≡ map f xs ++ left)
+    other r rest left differ same =
+        let more = map f (drop (suc at) xs) in
+        parted (map f (take at xs)) r (f x) rest (more ++ left) differ (same ∙ ap (λ l. l ++ left) split_at ∙ append_assoc (map f (take at xs)) (f x ∷ more) left)
 
 pub none_left : (more : Bool) (whole done now new : List Row) (row : Row) → whole ≡ done ++ now → Leads now row new more → IsTrue (not more) ↔ (whole ≡ done)
 none_left true whole done now new row is leads =

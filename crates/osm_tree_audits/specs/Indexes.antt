@@ -1,7 +1,9 @@
--- When one index of a store is whole.
-use Rattle.std.specs.Prelude.{[], ◌∷◌}
+-- When one index of a store is whole, and when those are that somebody has added.
+use Rattle.std.specs.Prelude.{List, [], ◌∷◌}
+use Rattle.std.specs.List.{AllByRecursion}
 use Rattle.sqlite_trees.specs.Tree.{Trees}
 use Rattle.sqlite_sql.specs.Catalog.{IsIndexOf}
+use Rattle.sqlite_schema.specs.declared.schema.Index.{Index}
 use Rattle.osm_tree_audits.specs.declared.indexes.StoreIndex.{StoreIndex}
 use Rattle.osm_tree_audits.specs.declared.indexes.StoreIndex.TheVariants.{ElementKey, TagKey, LinkKey, ElementById}
 
@@ -11,3 +13,11 @@ IsWhole db ElementKey = IsIndexOf (1 ∷ 2 ∷ []) (db 2) (db 3)
 IsWhole db TagKey = IsIndexOf (1 ∷ 2 ∷ 3 ∷ []) (db 4) (db 5)
 IsWhole db LinkKey = IsIndexOf (1 ∷ 2 ∷ 3 ∷ []) (db 6) (db 7)
 IsWhole db ElementById = IsIndexOf (3 ∷ 4 ∷ []) (db 2) (db 8)
+
+-- so has this one, which somebody has added
+abbrev pub IsWholeAdded : Trees → Index → Type 0
+IsWholeAdded db index = IsIndexOf index.columns (db index.table) (db index.tree)
+
+-- and each of these
+abbrev pub AreWhole : Trees → List Index → Type 0
+AreWhole db indexes = AllByRecursion (IsWholeAdded db) indexes

@@ -1,4 +1,5 @@
 pub mod Finding
 pub mod Auditing
+pub mod ElementTables
 pub mod Walking
 pub mod Indexes

@@ -1,5 +1,5 @@
 -- What cursors over an index and its table have left.
-use Rattle.std.specs.Prelude.{◌≡◌, ℕ, Bool, true, false, List, [], ◌∷◌, map, drop, filter, flat_map, Contains}
+use Rattle.std.specs.Prelude.{◌≡◌, ℕ, Bool, true, false, List, [], ◌∷◌, ◌++◌, map, drop, filter, flat_map, Contains}
 use Rattle.sqlite_value.specs.Order.{Row}
 use Rattle.sqlite_value.specs.Keys.{plain}
 use Rattle.sqlite_trees.specs.declared.store.Shape.TheVariants.{Table}
@@ -31,3 +31,8 @@ reached v table width key = map (drop 1) (flat_map (resolved (v.trees table) wid
 abbrev pub Leads : List Row → Row → List Row → Bool → Type 0
 Leads rows row left true = rows ≡ drop 1 row ∷ left
 Leads rows row left false = rows ≡ []
+
+-- the rows begin with these, and those follow them; or they don't
+abbrev pub Begins : List Row → List Row → List Row → Bool → Type 0
+Begins rows first left true = rows ≡ first ++ left
+Begins rows first left false = (left : List Row) → ¬ (rows ≡ first ++ left)

@@ -1,6 +1,7 @@
 //! Whether each index of a store has one entry for each row of its table, and no other.
 
 ghost use Rattle.std.specs.Prelude.{◌≡◌, ◌↔◌, ◌∷◌, [], false, length, map, All, Contains, IsSome, IsTrue, IfOk, IfErr, OnOk, MatchOption};
+ghost use Rattle.sqlite_trees.specs.Tree.{IsIndexShape};
 ghost use Rattle.sqlite_trees.specs.View.{IsClean, IsQuiet, StayLive};
 ghost use Rattle.sqlite_sql.specs.Catalog.{entry_of, IsIndexOf};
 ghost use Rattle.sqlite_exec.specs.Calls.{OnlyReads};
@@ -83,7 +84,7 @@ fn seek_is<S: Store>(
     entry: &Row,
     found: &mut Row,
 ) -> Result<bool, StoreFault>
-    requires { IsClean (S.Store.view store.old) → (S.Store.view store.old).shape tree ≡ Shape.Index Order.PLAIN }
+    requires { IsClean (S.Store.view store.old) → IsIndexShape ((S.Store.view store.old).shape tree) }
     ensures told { IfOk result (λ told. IsClean (S.Store.view store.new) → (IsTrue told ↔ Contains ((S.Store.view store.old).trees tree) entry.now)) }
     ensures left { OnOk result (IsClean (S.Store.view store.new) → AreAmong ((S.Store.view store.old).trees tree) (left_of (S.Store.view store.new) 1)) }
     ensures rows { OnOk result (IsClean (S.Store.view store.new) → (S.Store.view store.new).cursors 0 ≡ (S.Store.view store.old).cursors 0) }
@@ -107,7 +108,7 @@ fn has_entry<S: Store>(
     entry: &Row,
     found: &mut Row,
 ) -> Result<bool, StoreFault>
-    requires shaped { IsClean (S.Store.view store.old) → (S.Store.view store.old).shape tree ≡ Shape.Index Order.PLAIN }
+    requires shaped { IsClean (S.Store.view store.old) → IsIndexShape ((S.Store.view store.old).shape tree) }
     requires live { IsSome ((S.Store.view store.old).cursors 1) }
     ensures told { IfOk result (λ told. IsClean (S.Store.view store.new) → AreAmong ((S.Store.view store.old).trees tree) (left_of (S.Store.view store.old) 1) → (IsTrue told ↔ Contains ((S.Store.view store.old).trees tree) entry.now)) }
     ensures left { OnOk result (IsClean (S.Store.view store.new) → AreAmong ((S.Store.view store.old).trees tree) (left_of (S.Store.view store.old) 1) → AreAmong ((S.Store.view store.old).trees tree) (left_of (S.Store.view store.new) 1)) }
@@ -132,7 +133,7 @@ fn count_entered<S: Store>(
     tree: u32,
     columns: &[usize],
 ) -> Result<Option<u64>, StoreFault>
-    requires index { IsClean (S.Store.view store.old) → (S.Store.view store.old).shape tree ≡ Shape.Index Order.PLAIN }
+    requires index { IsClean (S.Store.view store.old) → IsIndexShape ((S.Store.view store.old).shape tree) }
     requires table { IsClean (S.Store.view store.old) → (S.Store.view store.old).shape table ≡ Shape.Table }
     ensures told { IfOk result (λ counted. IsClean (S.Store.view store.new)
         → MatchOption counted (¬ (All (Contains ((S.Store.view store.old).trees tree)) (map (entry_of columns.now) ((S.Store.view store.old).trees table))))
@@ -176,7 +177,7 @@ fn has_each_entry<S: Store>(
     tree: u32,
     columns: &[usize],
 ) -> Result<bool, StoreFault>
-    requires index { IsClean (S.Store.view store.old) → (S.Store.view store.old).shape tree ≡ Shape.Index Order.PLAIN }
+    requires index { IsClean (S.Store.view store.old) → IsIndexShape ((S.Store.view store.old).shape tree) }
     requires table { IsClean (S.Store.view store.old) → (S.Store.view store.old).shape table ≡ Shape.Table }
     ensures told { IfOk result (λ told. IsClean (S.Store.view store.new) → (IsTrue told ↔ IsIndexOf columns.now ((S.Store.view store.old).trees table) ((S.Store.view store.old).trees tree))) }
     ensures sound { OnOk result (IsClean (S.Store.view store.new) → (S.Store.view store.new).is_broken ≡ false) }
@@ -252,7 +253,7 @@ fn is_in_step<S: Store>(
     tree: u32,
     columns: &[usize],
 ) -> Result<bool, StoreFault>
-    requires index { IsClean (S.Store.view store.old) → (S.Store.view store.old).shape tree ≡ Shape.Index Order.PLAIN }
+    requires index { IsClean (S.Store.view store.old) → IsIndexShape ((S.Store.view store.old).shape tree) }
     requires table { IsClean (S.Store.view store.old) → (S.Store.view store.old).shape table ≡ Shape.Table }
     ensures told { IfOk result (λ told. IsClean (S.Store.view store.new) → IsTrue told → (map (entry_of columns.now) ((S.Store.view store.old).trees table) ≡ (S.Store.view store.old).trees tree)) }
     ensures sound { OnOk result (IsClean (S.Store.view store.new) → (S.Store.view store.new).is_broken ≡ false) }
@@ -282,13 +283,14 @@ fn is_in_step<S: Store>(
     Err(StoreFault::Memory)
 }
 
-/// Whether an index has one entry for each row of its table, and no other. A fault is `Disk` where the trees are no such
-/// table and index.
-fn is_indexed<S: Store>(
+/// Whether an index, whose entries stand in this order, has one entry for each row of its table, and no other. A fault is
+/// `Disk` where the trees are no such table and index.
+pub(crate) fn is_indexed<S: Store>(
     alloc: Global,
     store: &mut S,
     table: u32,
     tree: u32,
+    order: Order,
     columns: &[usize],
 ) -> Result<bool, StoreFault>
     ensures told { IfOk result (λ told. IsClean (S.Store.view store.new) → (IsTrue told ↔ IsIndexOf columns.now ((S.Store.view store.old).trees table) ((S.Store.view store.old).trees tree))) }
@@ -297,7 +299,7 @@ fn is_indexed<S: Store>(
     ensures ours { IfErr result (λ fault. ¬ (IsForeign fault)) }
     ensures quiet { IsQuiet S.Store.view S.Store.faults S.Store.recovers S.Store.is_shielded store.old store.new }
 {
-    if store.shape(tree) != Shape::Index(Order::PLAIN) || store.shape(table) != Shape::Table {
+    if store.shape(tree) != Shape::Index(order) || store.shape(table) != Shape::Table {
         return Err(StoreFault::Disk);
     }
     if is_in_step(alloc, store, table, tree, columns)? {
@@ -324,16 +326,16 @@ pub fn faulty_index<S: Store>(
     ensures ours { IfErr result (λ fault. ¬ (IsForeign fault)) }
     ensures quiet { IsQuiet S.Store.view S.Store.faults S.Store.recovers S.Store.is_shielded store.old store.new }
 {
-    if !is_indexed(alloc, store, ELEMENTS, ELEMENT_KEY, &[1, 2])? {
+    if !is_indexed(alloc, store, ELEMENTS, ELEMENT_KEY, Order::PLAIN, &[1, 2])? {
         return Ok(Some(StoreIndex::ElementKey));
     }
-    if !is_indexed(alloc, store, TAGS, TAG_KEY, &[1, 2, 3])? {
+    if !is_indexed(alloc, store, TAGS, TAG_KEY, Order::PLAIN, &[1, 2, 3])? {
         return Ok(Some(StoreIndex::TagKey));
     }
-    if !is_indexed(alloc, store, LINKS, LINK_KEY, &[1, 2, 3])? {
+    if !is_indexed(alloc, store, LINKS, LINK_KEY, Order::PLAIN, &[1, 2, 3])? {
         return Ok(Some(StoreIndex::LinkKey));
     }
-    if !is_indexed(alloc, store, ELEMENTS, ELEMENT_BY_ID, &[3, 4])? {
+    if !is_indexed(alloc, store, ELEMENTS, ELEMENT_BY_ID, Order::PLAIN, &[3, 4])? {
         return Ok(Some(StoreIndex::ElementById));
     }
     Ok(None)

@@ -2,15 +2,18 @@
 //! certain blobs.
 #![tactic(auto)]
 
+mod added;
 mod counts;
 mod indexes;
 mod keyed;
 pub mod laws;
 mod matching;
 mod rows;
+mod tables;
 pub mod trees;
 mod walk;
 
+pub use added::faulty_added_index;
 pub use counts::has_row_counts;
 pub use indexes::{StoreIndex, faulty_index};
 pub use keyed::rows_with;

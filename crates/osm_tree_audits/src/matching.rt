@@ -1,13 +1,13 @@
 //! Whether the rows that an index finds are those that others write. Each is compared as the walk comes to it, so that no
 //! more than one is in memory.
 
-ghost use Rattle.std.specs.Prelude.{◌≡◌, ◌↔◌, false, drop, map, IsSome, IsTrue, IfOk, IfErr, OnOk};
+ghost use Rattle.std.specs.Prelude.{◌≡◌, ◌↔◌, [], false, drop, map, IsSome, IsTrue, IfOk, IfErr, OnOk};
 ghost use Rattle.sqlite.specs.Value.{owned};
 ghost use Rattle.sqlite.specs.Values.{bound, bound_value};
 ghost use Rattle.sqlite_trees.specs.View.{IsClean, IsQuiet};
 ghost use Rattle.sqlite_exec.specs.Calls.{OnlyReads};
 ghost use Rattle.osm_store.specs.Keeping.{IsForeign};
-ghost use Rattle.osm_tree_audits.specs.Walking.{IsWalk, reached};
+ghost use Rattle.osm_tree_audits.specs.Walking.{Begins, IsWalk, reached};
 
 use crate::walk::next_row;
 use osm_store::{StoreFault, TableRow};
@@ -51,9 +51,9 @@ fn has_values(row: &Row, values: &[ValueRef<'_>]) -> bool
     true
 }
 
-/// Whether the rows that a walk finds from where it is, of those whose entries begin with `key`, are those that others write,
-/// in the same order. An entry names its row by the number behind its columns, of which there are `width`.
-pub(crate) fn finds_all<'v, S: Store, R: TableRow>(
+/// Whether the rows that a walk finds next, of those whose entries begin with `key`, are these, in the same order. An entry
+/// names its row by the number behind its columns, of which there are `width`.
+pub(crate) fn finds_next<'v, S: Store, R: TableRow>(
     alloc: Global,
     store: &mut S,
     table: u32,
@@ -63,8 +63,12 @@ pub(crate) fn finds_all<'v, S: Store, R: TableRow>(
 ) -> Result<bool, StoreFault>
     requires entries { IsSome ((S.Store.view store.old).cursors 0) }
     requires rows { IsSome ((S.Store.view store.old).cursors 1) }
+    requires sound { IsClean (S.Store.view store.old) → (S.Store.view store.old).is_broken ≡ false }
     ensures told { IfOk result (λ told. IsClean (S.Store.view store.new) → IsWalk (S.Store.view store.old) table
-        → (IsTrue told ↔ (reached (S.Store.view store.old) table width key.now ≡ map R.columns expected.now))) }
+        → Begins (reached (S.Store.view store.old) table width key.now) (map R.columns expected.now) (reached (S.Store.view store.new) table width key.now) told) }
+    ensures walk { OnOk result (IsClean (S.Store.view store.new) → IsWalk (S.Store.view store.old) table → IsWalk (S.Store.view store.new) table) }
+    ensures entries { OnOk result (IsSome ((S.Store.view store.new).cursors 0)) }
+    ensures rows { OnOk result (IsSome ((S.Store.view store.new).cursors 1)) }
     ensures sound { OnOk result (IsClean (S.Store.view store.new) → (S.Store.view store.new).is_broken ≡ false) }
     ensures reads { IsClean (S.Store.view store.new) → (S.Store.view store.new).is_broken ≡ false → OnlyReads (S.Store.view store.old) (S.Store.view store.new) }
     ensures ours { IfErr result (λ fault. ¬ (IsForeign fault)) }
@@ -84,6 +88,28 @@ pub(crate) fn finds_all<'v, S: Store, R: TableRow>(
             return Ok(false);
         }
     }
+    Ok(true)
+}
+
+/// Whether a walk finds no more row whose entry begins with `key`.
+pub(crate) fn finds_no_more<S: Store>(
+    alloc: Global,
+    store: &mut S,
+    table: u32,
+    width: usize,
+    key: &Row,
+) -> Result<bool, StoreFault>
+    requires entries { IsSome ((S.Store.view store.old).cursors 0) }
+    requires rows { IsSome ((S.Store.view store.old).cursors 1) }
+    ensures told { IfOk result (λ told. IsClean (S.Store.view store.new) → IsWalk (S.Store.view store.old) table → (IsTrue told ↔ (reached (S.Store.view store.old) table width key.now ≡ []))) }
+    ensures sound { OnOk result (IsClean (S.Store.view store.new) → (S.Store.view store.new).is_broken ≡ false) }
+    ensures reads { IsClean (S.Store.view store.new) → (S.Store.view store.new).is_broken ≡ false → OnlyReads (S.Store.view store.old) (S.Store.view store.new) }
+    ensures ours { IfErr result (λ fault. ¬ (IsForeign fault)) }
+    ensures quiet { IsQuiet S.Store.view S.Store.faults S.Store.recovers S.Store.is_shielded store.old store.new }
+{
+    let mut entry = Row::new(alloc);
+    let mut found = Row::new(alloc);
+    let mut row = Row::new(alloc);
     let more = next_row(store, table, width, key, &mut entry, &mut found, &mut row)?;
     Ok(!more)
 }

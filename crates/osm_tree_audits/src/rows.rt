@@ -1,8 +1,7 @@
 //! Whether the rows at an offset are those of one blob.
 
-ghost use Rattle.std.specs.Prelude.{◌≡◌, ◌↔◌, ◌<◌, ◌≤◌, ◌^◌, ◌∷◌, [], pos, false, filter, map, List, IsTrue, IfOk, IfErr, OnOk};
+ghost use Rattle.std.specs.Prelude.{◌≡◌, ◌↔◌, ◌+◌, ◌<◌, ◌≤◌, ◌^◌, ◌∷◌, [], pos, false, filter, length, IsSome, IsTrue, IfOk, IfErr, OnOk};
 ghost use Rattle.sqlite_value.specs.declared.value.Value.TheVariants.{Int};
-ghost use Rattle.sqlite_value.specs.Order.{Row as Values};
 ghost use Rattle.sqlite_trees.specs.Tree.{has_rowid};
 ghost use Rattle.sqlite_trees.specs.View.{IsClean, IsQuiet};
 ghost use Rattle.sqlite_exec.specs.Calls.{OnlyReads};
@@ -10,13 +9,15 @@ ghost use Rattle.osm_store.specs.Keeping.{IsForeign};
 ghost use Rattle.osm_store.specs.Rows.{placed, extent_row};
 ghost use Rattle.osm_store.specs.TableRows.{element_rows, tag_rows, link_rows};
 ghost use Rattle.osm_tree_writes.specs.Putting.{IsIndexedStore};
-ghost use Rattle.osm_tree_audits.specs.Finding.{Finds};
 ghost use Rattle.osm_tree_audits.specs.Auditing.{KeepsAt, KeepsBlob};
+ghost use Rattle.osm_tree_audits.specs.ElementTables.{rows_in, table_of, width_of};
+ghost use Rattle.osm_tree_audits.specs.Walking.{Begins, IsWalk, reached};
 
-use crate::matching::finds_all;
-use crate::trees::{BLOBS, ELEMENT_KEY, ELEMENTS, LINK_KEY, LINKS, TAG_KEY, TAGS};
+use crate::matching::{finds_next, finds_no_more};
+use crate::tables::ElementTable;
+use crate::trees::BLOBS;
 use crate::walk::begin_walk;
-use osm_store::{Extent, StoreFault, TableRow, blob_code, element_rows, link_rows, tag_rows};
+use osm_store::{Extent, StoreFault, blob_code, element_rows, link_rows, tag_rows};
 use osm_tree_writes::fault_of;
 use osm_value::Element;
 use pbf_frame::MAX_OFFSET;
@@ -25,6 +26,9 @@ use sqlite_value::keys::Order;
 use sqlite_value::row;
 use sqlite_value::value::ValueRef;
 use std::alloc::{AllocError, Global};
+
+/// Of how many elements the rows are made at once.
+const AT_ONCE: usize = 64;
 
 /// The key of all rows at an offset.
 fn offset_key(alloc: Global, off: u64) -> Result<row::Row, AllocError>
@@ -36,87 +40,107 @@ fn offset_key(alloc: Global, off: u64) -> Result<row::Row, AllocError>
     Ok(key)
 }
 
-/// Whether the rows that an index finds at an offset are those that others write, in the index's order.
-fn finds_columns<S: Store, R: TableRow>(
+/// Whether the rows that a walk finds next are those of some elements of a blob, of which the first has this position in it.
+fn finds_some<S: Store>(
     alloc: Global,
     store: &mut S,
-    index: u32,
-    table: u32,
-    width: usize,
+    of: ElementTable,
+    key: &row::Row,
     off: u64,
-    expected: &[R],
+    first: u64,
+    elements: &[Element],
 ) -> Result<bool, StoreFault>
-    requires { off ≤ MAX_OFFSET }
-    ensures told { IsClean (S.Store.view store.new)
-        → IfOk result (λ told. (rows : List Values) × Finds (λ r. r) (S.Store.view store.old).trees index table width (Int (pos off) ∷ []) rows × (IsTrue told ↔ (rows ≡ map R.columns expected.now))) }
+    requires entries { IsSome ((S.Store.view store.old).cursors 0) }
+    requires rows { IsSome ((S.Store.view store.old).cursors 1) }
+    requires sound { IsClean (S.Store.view store.old) → (S.Store.view store.old).is_broken ≡ false }
+    requires bounds { (off ≤ MAX_OFFSET) × (first + length elements.now ≤ 2 ^ 63) }
+    ensures told { IfOk result (λ told. IsClean (S.Store.view store.new) → IsWalk (S.Store.view store.old) (table_of of)
+        → Begins (reached (S.Store.view store.old) (table_of of) (width_of of) key.now) (rows_in of (placed off first elements.now)) (reached (S.Store.view store.new) (table_of of) (width_of of) key.now) told) }
+    ensures walk { OnOk result (IsClean (S.Store.view store.new) → IsWalk (S.Store.view store.old) (table_of of) → IsWalk (S.Store.view store.new) (table_of of)) }
+    ensures entries { OnOk result (IsSome ((S.Store.view store.new).cursors 0)) }
+    ensures rows { OnOk result (IsSome ((S.Store.view store.new).cursors 1)) }
     ensures sound { OnOk result (IsClean (S.Store.view store.new) → (S.Store.view store.new).is_broken ≡ false) }
     ensures reads { IsClean (S.Store.view store.new) → (S.Store.view store.new).is_broken ≡ false → OnlyReads (S.Store.view store.old) (S.Store.view store.new) }
     ensures ours { IfErr result (λ fault. ¬ (IsForeign fault)) }
     ensures quiet { IsQuiet S.Store.view S.Store.faults S.Store.recovers S.Store.is_shielded store.old store.new }
 {
+    let table = of.table();
+    let width = of.width();
+    match of {
+        ElementTable::Elements => {
+            let expected = element_rows(alloc, off, first, elements)?;
+            finds_next(alloc, store, table, width, key, &expected)
+        }
+        ElementTable::Tags => {
+            let expected = tag_rows(alloc, off, first, elements)?;
+            finds_next(alloc, store, table, width, key, &expected)
+        }
+        ElementTable::Links => {
+            let expected = link_rows(alloc, off, first, elements)?;
+            finds_next(alloc, store, table, width, key, &expected)
+        }
+    }
+}
+
+/// Whether the rows that a walk finds are those of a blob's elements. Those of a few elements are made at once: a blob of
+/// relations may have a million members.
+fn finds_each<S: Store>(
+    alloc: Global,
+    store: &mut S,
+    of: ElementTable,
+    key: &row::Row,
+    off: u64,
+    elements: &[Element],
+) -> Result<bool, StoreFault>
+    requires entries { IsSome ((S.Store.view store.old).cursors 0) }
+    requires rows { IsSome ((S.Store.view store.old).cursors 1) }
+    requires sound { IsClean (S.Store.view store.old) → (S.Store.view store.old).is_broken ≡ false }
+    requires bounds { off ≤ MAX_OFFSET }
+    ensures told { IfOk result (λ told. IsClean (S.Store.view store.new) → IsWalk (S.Store.view store.old) (table_of of)
+        → (IsTrue told ↔ (reached (S.Store.view store.old) (table_of of) (width_of of) key.now ≡ rows_in of (placed off 0 elements.now)))) }
+    ensures sound { OnOk result (IsClean (S.Store.view store.new) → (S.Store.view store.new).is_broken ≡ false) }
+    ensures reads { IsClean (S.Store.view store.new) → (S.Store.view store.new).is_broken ≡ false → OnlyReads (S.Store.view store.old) (S.Store.view store.new) }
+    ensures ours { IfErr result (λ fault. ¬ (IsForeign fault)) }
+    ensures quiet { IsQuiet S.Store.view S.Store.faults S.Store.recovers S.Store.is_shielded store.old store.new }
+{
+    // Nothing is found yet. The borrow checker takes the rest of a split here, and not `elements` itself.
+    let (_, mut rest) = elements.split_at(0);
+    while !rest.is_empty() {
+        let first = elements.len() - rest.len();
+        let (some, after) = rest.split_at(rest.len().min(AT_ONCE));
+        if !finds_some(alloc, store, of, key, off, first as u64, some)? {
+            return Ok(false);
+        }
+        rest = after;
+    }
+    finds_no_more(alloc, store, of.table(), of.width(), key)
+}
+
+/// Whether a table has the rows of these elements at the offset, and no others. A fault is `Disk` where the trees are no such
+/// table and index.
+fn has_rows_in<S: Store>(
+    alloc: Global,
+    store: &mut S,
+    of: ElementTable,
+    off: u64,
+    elements: &[Element],
+) -> Result<bool, StoreFault>
+    requires { off ≤ MAX_OFFSET }
+    ensures told { IsClean (S.Store.view store.new) → IsIndexedStore (S.Store.view store.old).trees
+        → IfOk result (λ told. IsTrue told ↔ KeepsAt off (rows_in of (placed off 0 elements.now)) ((S.Store.view store.old).trees (table_of of))) }
+    ensures sound { OnOk result (IsClean (S.Store.view store.new) → (S.Store.view store.new).is_broken ≡ false) }
+    ensures reads { IsClean (S.Store.view store.new) → (S.Store.view store.new).is_broken ≡ false → OnlyReads (S.Store.view store.old) (S.Store.view store.new) }
+    ensures ours { IfErr result (λ fault. ¬ (IsForeign fault)) }
+    ensures quiet { IsQuiet S.Store.view S.Store.faults S.Store.recovers S.Store.is_shielded store.old store.new }
+{
+    let index = of.index();
+    let table = of.table();
     if store.shape(index) != Shape::Index(Order::PLAIN) || store.shape(table) != Shape::Table {
         return Err(StoreFault::Disk);
     }
     let key = offset_key(alloc, off)?;
     begin_walk(alloc, store, index, table, &key)?;
-    finds_all(alloc, store, table, width, &key, expected)
-}
-
-/// Whether the table of elements has the rows of these elements at the offset, and no others.
-fn has_element_rows<S: Store>(
-    alloc: Global,
-    store: &mut S,
-    off: u64,
-    elements: &[Element],
-) -> Result<bool, StoreFault>
-    requires { off ≤ MAX_OFFSET }
-    ensures told { IsClean (S.Store.view store.new) → IsIndexedStore (S.Store.view store.old).trees
-        → IfOk result (λ told. IsTrue told ↔ KeepsAt off (element_rows (placed off 0 elements.now)) ((S.Store.view store.old).trees 2)) }
-    ensures sound { OnOk result (IsClean (S.Store.view store.new) → (S.Store.view store.new).is_broken ≡ false) }
-    ensures reads { IsClean (S.Store.view store.new) → (S.Store.view store.new).is_broken ≡ false → OnlyReads (S.Store.view store.old) (S.Store.view store.new) }
-    ensures ours { IfErr result (λ fault. ¬ (IsForeign fault)) }
-    ensures quiet { IsQuiet S.Store.view S.Store.faults S.Store.recovers S.Store.is_shielded store.old store.new }
-{
-    let expected = element_rows(alloc, off, 0, elements)?;
-    finds_columns(alloc, store, ELEMENT_KEY, ELEMENTS, 2, off, &expected)
-}
-
-/// Whether the table of tags has the rows of these elements at the offset, and no others.
-fn has_tag_rows<S: Store>(
-    alloc: Global,
-    store: &mut S,
-    off: u64,
-    elements: &[Element],
-) -> Result<bool, StoreFault>
-    requires { off ≤ MAX_OFFSET }
-    ensures told { IsClean (S.Store.view store.new) → IsIndexedStore (S.Store.view store.old).trees
-        → IfOk result (λ told. IsTrue told ↔ KeepsAt off (tag_rows (placed off 0 elements.now)) ((S.Store.view store.old).trees 4)) }
-    ensures sound { OnOk result (IsClean (S.Store.view store.new) → (S.Store.view store.new).is_broken ≡ false) }
-    ensures reads { IsClean (S.Store.view store.new) → (S.Store.view store.new).is_broken ≡ false → OnlyReads (S.Store.view store.old) (S.Store.view store.new) }
-    ensures ours { IfErr result (λ fault. ¬ (IsForeign fault)) }
-    ensures quiet { IsQuiet S.Store.view S.Store.faults S.Store.recovers S.Store.is_shielded store.old store.new }
-{
-    let expected = tag_rows(alloc, off, 0, elements)?;
-    finds_columns(alloc, store, TAG_KEY, TAGS, 3, off, &expected)
-}
-
-/// Whether the table of links has the rows of these elements at the offset, and no others.
-fn has_link_rows<S: Store>(
-    alloc: Global,
-    store: &mut S,
-    off: u64,
-    elements: &[Element],
-) -> Result<bool, StoreFault>
-    requires { off ≤ MAX_OFFSET }
-    ensures told { IsClean (S.Store.view store.new) → IsIndexedStore (S.Store.view store.old).trees
-        → IfOk result (λ told. IsTrue told ↔ KeepsAt off (link_rows (placed off 0 elements.now)) ((S.Store.view store.old).trees 6)) }
-    ensures sound { OnOk result (IsClean (S.Store.view store.new) → (S.Store.view store.new).is_broken ≡ false) }
-    ensures reads { IsClean (S.Store.view store.new) → (S.Store.view store.new).is_broken ≡ false → OnlyReads (S.Store.view store.old) (S.Store.view store.new) }
-    ensures ours { IfErr result (λ fault. ¬ (IsForeign fault)) }
-    ensures quiet { IsQuiet S.Store.view S.Store.faults S.Store.recovers S.Store.is_shielded store.old store.new }
-{
-    let expected = link_rows(alloc, off, 0, elements)?;
-    finds_columns(alloc, store, LINK_KEY, LINKS, 3, off, &expected)
+    finds_each(alloc, store, of, &key, off, elements)
 }
 
 /// The row of the table of blobs.
@@ -177,19 +201,19 @@ fn has_inner_rows<S: Store>(
     ensures ours { IfErr result (λ fault. ¬ (IsForeign fault)) }
     ensures quiet { IsQuiet S.Store.view S.Store.faults S.Store.recovers S.Store.is_shielded store.old store.new }
 {
-    if !has_element_rows(alloc, store, off, elements)? {
+    if !has_rows_in(alloc, store, ElementTable::Elements, off, elements)? {
         return Ok(false);
     }
-    if !has_tag_rows(alloc, store, off, elements)? {
+    if !has_rows_in(alloc, store, ElementTable::Tags, off, elements)? {
         return Ok(false);
     }
-    has_link_rows(alloc, store, off, elements)
+    has_rows_in(alloc, store, ElementTable::Links, off, elements)
 }
 
 /// Whether the rows at a blob's offset, in all tables, are those that a put of it writes, and no others, each as it is
 /// kept. Of the rows nothing has to be known, but each index has to have one entry for each (`faulty_index`). The offsets
-/// are at most `MAX_OFFSET`, in bytes. No more rows than those at the offset are in memory. A fault is that of a read that
-/// has failed, `Memory`, or `Disk` where the trees have no such tables and indexes.
+/// are at most `MAX_OFFSET`, in bytes. No more rows than those of a few elements are in memory. A fault is that of a read
+/// that has failed, `Memory`, or `Disk` where the trees have no such tables and indexes.
 pub fn has_rows_of<S: Store>(
     alloc: Global,
     store: &mut S,

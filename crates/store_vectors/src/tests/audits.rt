@@ -7,17 +7,18 @@ use super::spoiled::{FIVE_BLOBS, RELATION_AT_137, WAY_AT_203};
 use super::steps::followed;
 use super::tables::{RELATION, WAY};
 use osm_block::read_block;
+use osm_databases::stores::with_whole_added_indexes;
 use osm_store::{Audited, Counts, Extent, StoreFault};
 use osm_tree_audits::trees::{ELEMENT_BY_ID, ELEMENT_KEY, ELEMENTS, LINK_KEY, TAG_KEY};
 use osm_tree_audits::{StoreIndex, faulty_index};
 use osm_trees::TreeStore;
 use osm_value::Element;
-use sqlite::MemStore;
+use sqlite::{Alter, MemStore};
 use sqlite_trees::store::{Direction, Shape, Store};
 use sqlite_value::keys::Order;
 use sqlite_value::row::Row;
 use sqlite_value::value::ValueRef;
-use std::alloc::Global;
+use std::alloc::{AllocError, Global};
 use std::process::Abort;
 use std::test::*;
 
@@ -390,6 +391,49 @@ fn faulty_indexes(rt: HostRuntime) -> Result<(), Fail> {
     write_element(alloc, &mut trees, 13, 5).ok_or("a row")?;
     let found = faulty_index(alloc, &mut trees);
     assert_eq!(rt; found, Ok(Some(StoreIndex::ElementById)), "another id");
+    Ok(())
+}
+
+/// Indexes of one's own: one in the plain order, and two in others. Their trees are those behind the nine of a store.
+const ADDED: &str =
+    "CREATE INDEX tag_by_key ON tag (key, val); CREATE INDEX backwards ON element (id DESC, kind); CREATE INDEX link_by_role ON link (role COLLATE NOCASE DESC, ref)";
+
+/// The tree of the first of them.
+const TAG_BY_KEY: u32 = 9;
+
+/// The trees of the five blobs, with these indexes.
+fn indexed_blobs<R: Abort + Alloc<A = Global>>(rt: &R) -> Result<MemStore, Fail> {
+    let store: TablesInMemory = followed(rt, "tables", FIVE_BLOBS)?;
+    let mut connection = store.into_connection();
+    connection.execute_batch(ADDED)?;
+    Ok(connection.into_store())
+}
+
+/// The fault of trees of which an index that somebody has added isn't whole, and what is said of it.
+fn told_of_added<S: Alter + Drop>(alloc: Global, trees: S) -> Result<String, AllocError> {
+    match with_whole_added_indexes(alloc, trees) {
+        Ok(_) => format!(in alloc; "whole"),
+        Err(refusal) => format!(in alloc; "{:?}, {}", refusal.fault, refusal.reason),
+    }
+}
+
+/// Indexes that somebody has added: whole, without an entry, with one too many, and with that of another row.
+#[test]
+fn added_indexes(rt: HostRuntime) -> Result<(), Fail> {
+    const TAGS_TOLD: &str = "Disk, damaged: its index tag_by_key has not one entry for each row";
+    const ELEMENTS_TOLD: &str = "Disk, damaged: its index backwards has not one entry for each row";
+    let alloc = rt.alloc();
+    let trees = indexed_blobs(&rt)?;
+    assert_eq!(rt; told_of_added(alloc, trees)?.as_str(), "whole");
+    let mut trees = indexed_blobs(&rt)?;
+    take_entry(alloc, &mut trees, TAG_BY_KEY).ok_or("an entry")?;
+    assert_eq!(rt; told_of_added(alloc, trees)?.as_str(), TAGS_TOLD);
+    let mut trees = indexed_blobs(&rt)?;
+    add_entry(alloc, &mut trees, TAG_BY_KEY).ok_or("an entry")?;
+    assert_eq!(rt; told_of_added(alloc, trees)?.as_str(), TAGS_TOLD);
+    let mut trees = indexed_blobs(&rt)?;
+    write_element(alloc, &mut trees, 13, 5).ok_or("a row")?;
+    assert_eq!(rt; told_of_added(alloc, trees)?.as_str(), ELEMENTS_TOLD);
     Ok(())
 }
 

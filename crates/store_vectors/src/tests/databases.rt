@@ -8,12 +8,12 @@ use super::openings::{Held, change, filled_machine, held_by};
 use super::shared::{Machine, SharedFile};
 use super::stops::filled_by_sql;
 use osm_databases::databases::{
-    AnyVersion, Databases, close, opened, opened_of_any_version, opened_or_made, source_of_blocks,
-    source_of_rows,
+    CheckedDatabases, Databases, close, opened, opened_checked, opened_of_any_version,
+    opened_or_made, source_of_blocks, source_of_rows,
 };
 use osm_databases::reason::told;
 use osm_databases::stores::{OpenedStore, adopted, adopted_or_made, made, taking_blobs};
-use osm_databases::trees::{close_files, connection_in, obstacle_in, trees_in};
+use osm_databases::trees::{checked_trees_in, close_files, connection_in, obstacle_in, trees_in};
 use osm_import::deliver_all;
 use osm_openings::Obstacle;
 use osm_store::{Bodies, Keeper, StoreFault, TableStore};
@@ -40,12 +40,17 @@ const OF_BLOCKS: Outcome = Err(StoreFault::NotThisStore(Some(1)));
 
 const OF_ROWS: Outcome = Err(StoreFault::NotThisStore(Some(2)));
 
-/// How a store is read that was opened, and what it holds.
-fn described<S: Alter + Drop>(alloc: Global, mut store: OpenedStore<S>) -> (Way, Held) {
-    let way = match &store {
+/// How a store is read that was opened.
+fn way_of<T, S>(store: &Opened<T, S>) -> Way {
+    match store {
         Opened::ByTrees(_) => Way::ByTrees,
         Opened::BySql(_) => Way::BySql,
-    };
+    }
+}
+
+/// How a store is read that was opened, and what it holds.
+fn described<S: Alter + Drop>(alloc: Global, mut store: OpenedStore<S>) -> (Way, Held) {
+    let way = way_of(&store);
     (way, held_by(alloc, &mut store))
 }
 
@@ -226,16 +231,35 @@ impl Databases for Machine {
     }
 }
 
+impl CheckedDatabases for Machine {
+    fn checked_trees(
+        &self,
+        rt: &HostRuntime,
+        _name: &str,
+    ) -> Result<Option<FileStore<SharedFile>>, StoreFault> {
+        let files = self.files(rt.alloc())?;
+        match checked_trees_in(rt, files) {
+            Ok(found) => Ok(found),
+            Err(refusal) => Err(refusal.fault),
+        }
+    }
+}
+
 const NAME: &str = "a.db";
 
 fn opens<D: Databases>(rt: &HostRuntime, databases: &D) -> Outcome {
     Ok(described(rt.alloc(), opened(rt, databases, NAME)?))
 }
 
+/// What comes of opening one with a look at each page and each index.
+fn opens_checked<D: CheckedDatabases>(rt: &HostRuntime, databases: &D) -> Outcome {
+    Ok(described(rt.alloc(), opened_checked(rt, databases, NAME)?))
+}
+
 fn opens_any_version<D: Databases>(rt: &HostRuntime, databases: &D) -> Outcome {
     match opened_of_any_version(rt, databases, NAME)? {
-        AnyVersion::Tables(store) => Ok(described(rt.alloc(), store)),
-        AnyVersion::Blocks(mut store) => Ok((Way::Blocks, held_by(rt.alloc(), &mut store))),
+        Opened::ByTrees(store) => Ok(described(rt.alloc(), store)),
+        Opened::BySql(mut store) => Ok((Way::Blocks, held_by(rt.alloc(), &mut store))),
     }
 }
 
@@ -292,6 +316,41 @@ fn a_database_of_blocks(rt: HostRuntime) -> Result<(), Fail> {
     Ok(())
 }
 
+/// The same of a machine whose database is looked at.
+fn checked_machine(rt: &HostRuntime, machine: &Machine) -> Outcome {
+    opens_checked(rt, machine)
+}
+
+/// Each index of somebody's own that a put keeps is looked at by the trees; where a text tells of other columns than it has, it
+/// isn't whole. Another one sends a database to SQL.
+#[test]
+fn indexes_of_somebodys_own(rt: HostRuntime) -> Result<(), Fail> {
+    let machine = filled_machine(rt.alloc())?;
+    assert_eq!(rt;
+        checked_machine(&rt, &machine),
+        Ok((Way::ByTrees, Held::All))
+    );
+    change(
+        rt.alloc(),
+        &machine,
+        "CREATE INDEX mine ON tag (val COLLATE NOCASE DESC); CREATE INDEX other ON tag (key, val)",
+    )?;
+    assert_eq!(rt;
+        checked_machine(&rt, &machine),
+        Ok((Way::ByTrees, Held::All))
+    );
+    assert!(rt; machine.replace(b"ON tag (key, val)", b"ON tag (val, key)"));
+    assert_eq!(rt; checked_machine(&rt, &machine), Err(StoreFault::Disk));
+    assert!(rt; machine.replace(b"ON tag (val, key)", b"ON tag (key, val)"));
+    change(
+        rt.alloc(),
+        &machine,
+        "CREATE UNIQUE INDEX third ON tag (off, pos, k)",
+    )?;
+    assert_eq!(rt; checked_machine(&rt, &machine), Ok((Way::BySql, Held::All)));
+    Ok(())
+}
+
 /// An empty file, one that is no database, and a database of somebody else.
 #[test]
 fn files_without_a_store(rt: HostRuntime) -> Result<(), Fail> {
@@ -317,16 +376,8 @@ fn take<K: Keeper>(alloc: Global, store: &mut K) -> Result<(), StoreFault> {
 /// Opens a database to take blobs, which is made where there is none, delivers the file to it, and closes it.
 fn fills<D: Databases>(rt: &HostRuntime, databases: &D) -> Result<Way, StoreFault> {
     let mut store = opened_or_made(rt, databases, NAME)?;
-    let way = match &mut store {
-        Opened::ByTrees(trees) => {
-            take(rt.alloc(), trees)?;
-            Way::ByTrees
-        }
-        Opened::BySql(rows) => {
-            take(rt.alloc(), rows)?;
-            Way::BySql
-        }
-    };
+    take(rt.alloc(), &mut store)?;
+    let way = way_of(&store);
     close(databases, store);
     Ok(way)
 }
@@ -379,9 +430,10 @@ fn databases_that_take_none(rt: HostRuntime) -> Result<(), Fail> {
 fn obstacles_in_files(rt: HostRuntime) -> Result<(), Fail> {
     let empty = Machine::new(rt.alloc(), b"")?;
     let files = empty.files(rt.alloc())?;
-    assert_eq!(rt; obstacle_in(&rt, files), Some(Obstacle::NoDatabase));
+    let found = obstacle_in(&rt, files).map(|found| found.obstacle);
+    assert_eq!(rt; found, Some(Obstacle::NoDatabase));
     let whole = filled_machine(rt.alloc())?;
     let files = whole.files(rt.alloc())?;
-    assert_eq!(rt; obstacle_in(&rt, files), None);
+    assert!(rt; obstacle_in(&rt, files).is_none());
     Ok(())
 }

@@ -1,7 +1,7 @@
 //! Why a database isn't opened, in words.
 
-use osm_databases::reason::{Reason, Refusal, tell, told, told_of};
-use osm_openings::Obstacle;
+use osm_databases::reason::{Reason, Refusal, tell, tell_of_obstruction, told, told_of};
+use osm_openings::{Obstacle, Obstruction};
 use osm_store::StoreFault;
 use pbfrow_files::OpenFault;
 use sqlite::{Error as SqlError, ErrorCode};
@@ -14,72 +14,79 @@ fn text(alloc: Global, reason: &Reason) -> Result<String, AllocError> {
 }
 
 /// Each reason, and what people are told.
-const TEXTS: &[(Reason, &str)] = &[
-    (Reason::File(OpenFault::Missing), "no such file"),
-    (Reason::File(OpenFault::NotAFile), "not a regular file"),
-    (
-        Reason::File(OpenFault::ManyNames),
-        "it has more than one name (a hard link)",
-    ),
-    (Reason::File(OpenFault::Denied), "permission denied"),
-    (Reason::File(OpenFault::Busy), "in use by another program"),
-    (
-        Reason::File(OpenFault::HotJournal),
-        "a rollback journal stands beside it: open it with sqlite3 first",
-    ),
-    (Reason::File(OpenFault::Memory), "out of memory"),
-    (
-        Reason::Obstacle(Obstacle::NoDatabase),
-        "not a database of SQLite",
-    ),
-    (
-        Reason::Obstacle(Obstacle::AutoVacuum),
-        "auto_vacuum is on: turn it off and run VACUUM, with sqlite3",
-    ),
-    (
-        Reason::Obstacle(Obstacle::Trigger),
-        "it has a trigger on one of pbfrow's tables",
-    ),
-    (
-        Reason::Obstacle(Obstacle::VirtualTable),
-        "it has a virtual table",
-    ),
-    (
-        Reason::Obstacle(Obstacle::Damaged),
-        "damaged: its header, its log or its list of tables",
-    ),
-    (
-        Reason::Sql(SqlError::SqliteFailure(ErrorCode::NotADatabase)),
-        "damaged, or not a database that pbfrow can read: file is not a database that obeys its schema",
-    ),
-    (
-        Reason::Store(StoreFault::NotThisStore(None)),
-        "not a database of pbfrow",
-    ),
-    (
-        Reason::Store(StoreFault::NotThisStore(Some(1))),
-        "a database of version 1 of pbfrow's tables",
-    ),
-    (Reason::Store(StoreFault::Memory), "memory was refused"),
-    (
-        Reason::Store(StoreFault::Full),
-        "the database would be too large",
-    ),
-    (
-        Reason::Store(StoreFault::Interrupted),
-        "the step limit was reached",
-    ),
-    (
-        Reason::Store(StoreFault::Disk),
-        "the disk or the database failed",
-    ),
-];
+fn texts() -> [(Reason, &'static str); 19] {
+    [
+        (Reason::File(OpenFault::Missing), "no such file"),
+        (Reason::File(OpenFault::NotAFile), "not a regular file"),
+        (
+            Reason::File(OpenFault::ManyNames),
+            "it has more than one name (a hard link)",
+        ),
+        (Reason::File(OpenFault::Denied), "permission denied"),
+        (Reason::File(OpenFault::Busy), "in use by another program"),
+        (
+            Reason::File(OpenFault::HotJournal),
+            "a rollback journal stands beside it: open it with sqlite3 first",
+        ),
+        (Reason::File(OpenFault::Memory), "out of memory"),
+        (
+            Reason::Obstacle(Obstacle::NoDatabase),
+            "not a database of SQLite",
+        ),
+        (
+            Reason::Obstacle(Obstacle::AutoVacuum),
+            "auto_vacuum is on: turn it off and run VACUUM, with sqlite3",
+        ),
+        (
+            Reason::Obstacle(Obstacle::Trigger),
+            "it has a trigger on one of pbfrow's tables",
+        ),
+        (
+            Reason::Obstacle(Obstacle::VirtualTable),
+            "it has a virtual table",
+        ),
+        (
+            Reason::Obstacle(Obstacle::Damaged),
+            "damaged: its header, its log or its list of tables",
+        ),
+        (
+            Reason::Sql(SqlError::SqliteFailure(ErrorCode::NotADatabase)),
+            "damaged, or not a database that pbfrow can read: file is not a database that obeys its schema",
+        ),
+        (
+            Reason::Store(StoreFault::NotThisStore(None)),
+            "not a database of pbfrow",
+        ),
+        (
+            Reason::Store(StoreFault::NotThisStore(Some(1))),
+            "a database of version 1 of pbfrow's tables",
+        ),
+        (Reason::Store(StoreFault::Memory), "memory was refused"),
+        (
+            Reason::Store(StoreFault::Full),
+            "the database would be too large",
+        ),
+        (
+            Reason::Store(StoreFault::Interrupted),
+            "the step limit was reached",
+        ),
+        (
+            Reason::Store(StoreFault::Disk),
+            "the disk or the database failed",
+        ),
+    ]
+}
 
 #[test]
 fn each_reason_has_its_text(rt: HostRuntime) -> Result<(), Fail> {
-    for (reason, wanted) in TEXTS {
-        assert_eq!(rt; text(rt.alloc(), reason)?.as_str(), *wanted);
+    for (reason, wanted) in texts() {
+        assert_eq!(rt; text(rt.alloc(), &reason)?.as_str(), wanted);
     }
+    let added = Reason::AddedIndex(format!(in rt.alloc(); "tag_by_key")?);
+    assert_eq!(rt;
+        text(rt.alloc(), &added)?.as_str(),
+        "damaged: its index tag_by_key has not one entry for each row"
+    );
     let failed = Reason::File(OpenFault::Io(io::Error::from_raw_os_error(5)));
     assert_eq!(rt;
         text(rt.alloc(), &failed)?.as_str(),
@@ -125,6 +132,11 @@ fn each_refusal_has_its_fault(rt: HostRuntime) -> Result<(), Fail> {
 #[test]
 fn told_faults(rt: HostRuntime) {
     tell(&rt, "a.db", &Reason::Obstacle(Obstacle::Trigger));
+    let found = Obstruction {
+        obstacle: Obstacle::Damaged,
+        object: Vec::new(rt.alloc()),
+    };
+    tell_of_obstruction(&rt, "a.db", &found);
     assert_eq!(rt; told(&rt, "a.db", Ok(5)), Ok(5));
     let refused: Result<u8, Refusal> = Err(OpenFault::Busy.into());
     assert_eq!(rt; told(&rt, "a.db", refused), Err(StoreFault::Disk));

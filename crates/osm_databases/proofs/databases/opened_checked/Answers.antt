@@ -1,4 +1,4 @@
-use Rattle.std.proofs.Common.{◌≡◌, Option, subst}
+use Rattle.std.proofs.Common.{Option, subst}
 use Rattle.std.specs.Prelude.{IfSome}
 use Rattle.sqlite_trees.specs.View.{IsClean}
 use Rattle.osm_databases.specs.Checked.{IsOfVersion}
@@ -12,3 +12,6 @@ returns-clause-checked g c = λ clean.
     let store = rw c.in-Some.is at c.in_ok-trees.ensures.store in
     let version = subst (λ (o : Option g.row.D-Trees.Denot). IfSome o (λ trees. IsClean (g.D.Trees.Store.view trees) → IsOfVersion (g.D.Trees.Store.view trees))) same c.in_ok-found.ensures in
     told_of (λ (refusal : Refusal). refusal.fault) _ _ _ _ c.told.ensures c.in_ok-store.was c.checked.ensures.checked clean version store
+
+pub returns-clause-added : goal.returns-clause-added
+returns-clause-added g c = λ clean. told_of (λ (refusal : Refusal). refusal.fault) _ _ _ _ c.told.ensures c.in_ok-store.was c.checked.ensures.added clean

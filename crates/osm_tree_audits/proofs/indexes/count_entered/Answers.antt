@@ -3,7 +3,7 @@ use Rattle.std.proofs.lemmas.List.{map-append, map_push}
 use Rattle.std.proofs.lemmas.List.Elements.{All-nil, All-push}
 use Rattle.std.proofs.lemmas.Bool.{iff_false}
 use Rattle.sqlite_value.specs.Order.{Row}
-use Rattle.sqlite_trees.specs.Tree.{Trees}
+use Rattle.sqlite_trees.specs.Tree.{Trees, IsIndexShape}
 use Rattle.sqlite_trees.specs.View.{View, IsClean}
 use Rattle.sqlite_exec.specs.Loops.{left_of}
 use Rattle.sqlite_exec.proofs.CheckLemmas as lemma
@@ -24,6 +24,14 @@ rows-init g c = (
       let clean_1 : IsClean (g.S.Store.view c.seek.new.self) = omega (arith, clean, c.seek-2.ensures.quiet.clean) in
       ([], rw (c.in_default-seek.ensures.ok clean, c.in_default.ensures.ok clean_1, c.new-row.ensures, lemma.from_no_key) refl, refl, All-nil _)),
 )
+
+pub has_entry-requires-clause-shaped : goal.has_entry-requires-clause-shaped
+has_entry-requires-clause-shaped g c clean =
+    let clean_0 : IsClean (g.S.Store.view c.rows.store) = omega (arith, clean, c.next.ensures.quiet.clean) in
+    let clean_old : IsClean (g.S.Store.view c.args.store.now) = omega (arith, clean_0, c.rows.invariant.3.clean) in
+    let kept : (g.S.Store.view c.next.new.self).shape c.args.tree ≡ (g.S.Store.view c.args.store.now).shape c.args.tree =
+    ap (λ (v : View). v.shape c.args.tree) (c.in-Ok-true.ensures.moves clean).same ∙ ap (λ (v : View). v.shape c.args.tree) (c.rows.invariant.2 clean_0).0 in
+    subst IsIndexShape (sym kept) (c.requires.index clean_old)
 
 pub returns-in-Ok-false-clause-told : goal.returns-in-Ok-false-clause-told
 returns-in-Ok-false-clause-told g c clean =

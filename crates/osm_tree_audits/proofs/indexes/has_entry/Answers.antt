@@ -1,6 +1,7 @@
-use Rattle.std.proofs.Common.{arith, ◌≡◌, ◌∙◌, Bool, IsTrue, Contains, ap}
+use Rattle.std.proofs.Common.{arith, ◌≡◌, Bool, IsTrue, Contains, ap, subst, sym}
 use Rattle.std.specs.Prelude.{◌↔◌}
 use Rattle.std.proofs.lemmas.Result.{on_ok_weaker}
+use Rattle.sqlite_trees.specs.Tree.{IsIndexShape}
 use Rattle.sqlite_trees.specs.View.{View, IsClean}
 use Rattle.sqlite_exec.specs.Loops.{left_of}
 use Rattle.osm_store.proofs.AuditLemmas.Telling.{ok_told}
@@ -11,7 +12,8 @@ pub seek_is-requires : goal.seek_is-requires
 seek_is-requires g c clean =
     let kept = c.next_is.ensures.reads clean (c.in_ok-next_is.ensures.sound clean) in
     let clean_0 : IsClean (g.S.Store.view c.args.store.now) = omega (arith, clean, c.next_is.ensures.quiet.clean) in
-    ap (λ (v : View). v.shape c.args.tree) kept ∙ c.requires.shaped clean_0
+    let same : (g.S.Store.view c.next_is.new.store).shape c.args.tree ≡ (g.S.Store.view c.args.store.now).shape c.args.tree = ap (λ (v : View). v.shape c.args.tree) kept in
+    subst IsIndexShape (sym same) (c.requires.shaped clean_0)
 
 pub returns-clause-told : goal.returns-clause-told
 returns-clause-told g c =

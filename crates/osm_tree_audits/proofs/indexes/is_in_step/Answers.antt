@@ -1,6 +1,6 @@
 use Rattle.std.proofs.Common.{rules, arith, ◌≡◌, ◌∙◌, [], ◌∷◌, ◌++◌, map, refl, sym, ap, append_assoc}
 use Rattle.std.proofs.lemmas.List.{map-append}
-use Rattle.sqlite_trees.specs.View.{View, IsClean}
+use Rattle.sqlite_trees.specs.View.{IsClean}
 use Rattle.sqlite_sql.specs.Catalog.{entry_of}
 use Rattle.sqlite_exec.specs.Loops.{left_of}
 use Rattle.sqlite_exec.proofs.CheckLemmas as lemma

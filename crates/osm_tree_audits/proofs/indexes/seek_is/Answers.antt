@@ -2,7 +2,6 @@ use Rattle.std.proofs.Common.{arith, ◌≡◌, ◌∙◌, List, Bool, IsTrue, C
 use Rattle.std.specs.Prelude.{◌↔◌}
 use Rattle.std.proofs.lemmas.Result.{on_ok_weaker}
 use Rattle.sqlite_value.specs.Order.{Row}
-use Rattle.sqlite_value.specs.Keys.{plain}
 use Rattle.sqlite_trees.specs.Tree.{order_of, from_key}
 use Rattle.sqlite_trees.specs.View.{IsClean, IsShaped}
 use Rattle.sqlite_exec.specs.Loops.{left_of}
@@ -23,10 +22,9 @@ returns-clause-told g c =
     let clean_0 : IsClean old = omega (arith, clean_1, c.seek.ensures.quiet.clean) in
     let sought : left_of (g.S.Store.view c.seek.new.self) 1 ≡ from_key (order_of (old.shape c.args.tree)) c.args.entry.now entries = rw (c.in_default.ensures.ok clean_1) (lemma.placed old 1 _) in
     let ordered = subst (λ x. IsShaped x entries) (c.requires clean_0) (g.met.S.Store.ordered c.args.store.now (c.in_default.ensures.sound clean_1) c.args.tree) in
-    let order : order_of (old.shape c.args.tree) ≡ plain = rw (c.requires clean_0) in
     let is = next clean in (
       (λ yes. let there = is.0 yes in lemma.head_is_there _ c.args.entry.now entries there.0 c.args.entry.now (sym sought ∙ there.1)),
-      (λ there. let first = lemma.found_first plain c.args.entry.now entries ordered there in is.1 (first.0, rw (sought, order) first.1)),
+      (λ there. let first = lemma.found_first _ c.args.entry.now entries ordered there in is.1 (first.0, sought ∙ first.1)),
     )) c.next_is.ensures.told
 
 pub returns-clause-left : goal.returns-clause-left

@@ -1,7 +1,6 @@
-use Rattle.std.proofs.Common.{arith, ◌≡◌, ◌∙◌, List, ◌∷◌, map, drop, filter, flat_map, refl, sym, ap, subst}
-use Rattle.sqlite_value.specs.Order.{Row}
+use Rattle.std.proofs.Common.{arith, ◌≡◌, ◌∙◌, ◌∷◌, map, drop, filter, flat_map, refl, sym, ap, subst}
 use Rattle.sqlite_value.specs.Keys.{plain}
-use Rattle.sqlite_trees.specs.Tree.{Trees, IsIndex}
+use Rattle.sqlite_trees.specs.Tree.{IsIndex}
 use Rattle.sqlite_trees.specs.View.{View, IsClean}
 use Rattle.sqlite_trees.proofs.TreeLemmas.{sorted_index}
 use Rattle.sqlite_exec.specs.Loops.{left_of}

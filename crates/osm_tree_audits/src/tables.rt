@@ -1,0 +1,49 @@
+//! The tables of elements, of tags and of links.
+
+ghost use Rattle.std.specs.Prelude.{◌≡◌};
+ghost use Rattle.osm_tree_audits.specs.ElementTables.{index_of, table_of, width_of};
+
+use crate::trees::{ELEMENT_KEY, ELEMENTS, LINK_KEY, LINKS, TAG_KEY, TAGS};
+
+/// A table that has rows for the elements of a blob.
+#[derive(Clone, Copy)]
+pub(crate) enum ElementTable {
+    Elements,
+    Tags,
+    Links,
+}
+
+impl ElementTable {
+    /// The number of its tree.
+    pub(crate) fn table(self) -> u32
+        ensures { result ≡ table_of self }
+    {
+        match self {
+            ElementTable::Elements => ELEMENTS,
+            ElementTable::Tags => TAGS,
+            ElementTable::Links => LINKS,
+        }
+    }
+
+    /// That of the index of its primary key.
+    pub(crate) fn index(self) -> u32
+        ensures { result ≡ index_of self }
+    {
+        match self {
+            ElementTable::Elements => ELEMENT_KEY,
+            ElementTable::Tags => TAG_KEY,
+            ElementTable::Links => LINK_KEY,
+        }
+    }
+
+    /// How many columns this key has.
+    pub(crate) fn width(self) -> usize
+        ensures { result ≡ width_of self }
+    {
+        match self {
+            ElementTable::Elements => 2,
+            ElementTable::Tags => 3,
+            ElementTable::Links => 3,
+        }
+    }
+}
