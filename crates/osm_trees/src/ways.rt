@@ -3,11 +3,12 @@
 ghost use Rattle.osm_store.specs.Held.{HeldMap};
 ghost use Rattle.osm_trees.specs.Ways.{MatchOpened, MatchBoth, counted, by_way, both_then};
 
-use osm_store::{Extent, Found, Loaded, Reader, StoreFault};
-use osm_value::MemberKind;
+use osm_store::{Extent, Found, Keeper, Loaded, Reader, StoreFault};
+use osm_value::{Element, MemberKind};
+use pbf_frame::Kind;
 use std::alloc::Global;
 
-/// A store that is read by its trees, or by SQL where its database has other trees. Each call is that of the reader inside.
+/// A store that is read by its trees, or by SQL where its database has other trees. Each call is that of the store inside.
 #[derive(Drop)]
 pub enum Opened<T, S> {
     ByTrees(T),
@@ -95,4 +96,21 @@ impl<T: Reader, S: Reader> Reader for Opened<T, S> {
     ghost is_apart = { by_way (λ o. (held : HeldMap) → MatchOpened o (λ r. T.holds r held) (λ r. S.holds r held) → IsApart held) T.is_apart S.is_apart };
 
     ghost has_few_texts = { by_way (λ o. (held : HeldMap) → MatchOpened o (λ r. T.holds r held) (λ r. S.holds r held) → (off : _) (blob : Blob) → map.get held off ≡ Some blob → HaveFewTexts blob.elements) T.has_few_texts S.has_few_texts };
+}
+
+impl<T: Keeper, S: Keeper> Keeper for Opened<T, S> {
+    fn put(
+        &mut self,
+        alloc: Global,
+        off: u64,
+        fin: u64,
+        digest: &[u8; 32],
+        kind: Kind,
+        elements: &[Element],
+    ) -> Result<(), StoreFault> {
+        match self {
+            Opened::ByTrees(keeper) => keeper.put(alloc, off, fin, digest, kind, elements),
+            Opened::BySql(keeper) => keeper.put(alloc, off, fin, digest, kind, elements),
+        }
+    }
 }

@@ -5,7 +5,6 @@ use crate::meter::Meter;
 use osm_databases::databases::{Databases, close, opened_or_made, source_of_blocks};
 use osm_databases::files::AskedFiles;
 use osm_store::{Keeper, Reader};
-use osm_trees::Opened;
 use osm_value::Outlet;
 use pbfrow_commands::metered::{MeteredOutput, MeteredStore};
 use pbfrow_commands::migrate::migrate;
@@ -45,10 +44,7 @@ fn copy_into<D: Databases, F: Reader + Drop, W: Write>(
         Ok(store) => store,
         Err(fault) => return refuse(out, fault),
     };
-    let status = match &mut store {
-        Opened::ByTrees(store) => copied(rt.alloc(), from, store, meter, out),
-        Opened::BySql(store) => copied(rt.alloc(), from, store, meter, out),
-    };
+    let status = copied(rt.alloc(), from, &mut store, meter, out);
     close(files, store);
     status
 }

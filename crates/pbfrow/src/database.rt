@@ -8,7 +8,6 @@ use crate::questions::{ask_one, goes_by_blobs};
 use osm_databases::databases::{Databases, close, opened, opened_or_made};
 use osm_import::{Inlet, Stop};
 use osm_store::{Keeper, Reader, StoreFault};
-use osm_trees::Opened;
 use osm_value::{MemberKind, Outlet};
 use pbf_frame::MAX_OFFSET;
 use pbfrow_commands::find::find;
@@ -97,10 +96,7 @@ fn fill_from<D: Databases, R: Read + Drop, W: Write>(
         Ok(store) => store,
         Err(fault) => return refuse(out, fault),
     };
-    let status = match &mut store {
-        Opened::ByTrees(store) => imported(rt.alloc(), reader, store, start, to, out),
-        Opened::BySql(store) => imported(rt.alloc(), reader, store, start, to, out),
-    };
+    let status = imported(rt.alloc(), reader, &mut store, start, to, out);
     close(files, store);
     status
 }

@@ -1,85 +1,106 @@
 //! The command that copies several databases into one: `merge`.
 
-use crate::FAULTY;
+ghost use Rattle.std.specs.Prelude.{◌≡◌, IfOk};
+ghost use Rattle.osm_trees.specs.Ways.{counted};
+
 use crate::database::refuse;
 use crate::meter::Meter;
+use crate::parts::let_go;
 use osm_databases::databases::{
     AnyVersion, Databases, close, opened_of_any_version, opened_or_made,
 };
 use osm_databases::files::AskedFiles;
-use osm_import::CopyCounts;
-use osm_store::{Keeper, Reader, StoreFault};
-use osm_trees::Opened;
+use osm_parts::Openings;
+use osm_store::{Keeper, StoreFault};
 use osm_value::Outlet;
-use pbfrow_commands::merge::{end_merge, merge_one};
+use pbfrow_commands::merge::merge_all;
 use pbfrow_commands::metered::{MeteredOutput, MeteredStore};
-use std::alloc::Global;
 use std::io;
 use std::io::Write;
 
-/// Copies what a store holds into another. The counts, or none where the copy stopped, whose line was written then.
-fn merged<F: Reader + Drop, T: Keeper, W: Write>(
-    alloc: Global,
-    from: F,
-    into: &mut T,
-    meter: &Meter,
-    out: &mut Outlet<W>,
-) -> Option<CopyCounts> {
-    merge_one(
-        alloc,
-        &mut MeteredStore {
-            store: from,
-            watcher: meter,
-        },
-        into,
-        out,
-    )
-    .ok()
+/// Databases of either version by their places, each of which tells the meter of its blobs. What they hold is said nowhere:
+/// no contract can tell what a file gives.
+#[derive(Drop)]
+struct Sources<'a, D> {
+    rt: &'a HostRuntime,
+    files: &'a D,
+    names: &'a [&'a str],
+    meter: &'a Meter<'a>,
+    failures: u64,
 }
 
-/// Writes the line of a fault of a database that is to be copied, whose reason was told.
-fn refused<W: Write>(out: &mut Outlet<W>, fault: StoreFault) -> Option<CopyCounts> {
-    // the exit status is that of the whole merge
-    let _status = refuse(out, fault);
-    None
-}
-
-/// Copies what a database holds: one of this version is read by its trees, and any other by SQL. The counts, or none behind
-/// the line of a fault.
-fn merged_from<D: Databases, T: Keeper, W: Write>(
-    rt: &HostRuntime,
-    files: &D,
-    name: &str,
-    into: &mut T,
-    meter: &Meter,
-    out: &mut Outlet<W>,
-) -> Option<CopyCounts> {
-    match opened_of_any_version(rt, files, name) {
-        Ok(AnyVersion::Tables(store)) => merged(rt.alloc(), store, into, meter, out),
-        Ok(AnyVersion::Blocks(store)) => merged(rt.alloc(), store, into, meter, out),
-        Err(fault) => refused(out, fault),
+impl<D: Databases> Sources<'_, D> {
+    /// The store at a place: one of this version is read by its trees, and any other by SQL.
+    fn open_at(&self, place: u64) -> Result<AnyVersion<D::Trees>, StoreFault>
+        ensures { IfOk result (λ store. counted (counted (λ trees. trees.failures) (λ rows. rows.failures)) (λ blocks. blocks.failures) store ≡ 0) }
+    {
+        match self.names.get(place as usize) {
+            Some(name) => opened_of_any_version(self.rt, self.files, name),
+            None => Err(StoreFault::Disk),
+        }
     }
 }
 
-/// Copies what databases hold, one after the other, up to a fault, and answers the exit status.
-fn merge_all<T: Keeper, W: Write>(
+/// A store that tells the meter of its blobs.
+type MeteredSource<'a, D> = MeteredStore<'a, AnyVersion<<D as Databases>::Trees>, Meter<'a>>;
+
+impl<'a, D: Databases> Openings<MeteredSource<'a, D>> for Sources<'a, D> {
+    ghost holds = { λ databases parts. ⊥ };
+
+    ghost lends = { λ databases parts held. ⊥ };
+
+    ghost is_honest = { λ databases. ⊥ };
+
+    ghost is_open = { λ databases. ⊥ };
+
+    ghost failures = { λ databases. databases.failures };
+
+    fn open(&mut self, place: u64) -> Result<MeteredSource<'a, D>, StoreFault> {
+        match self.open_at(place) {
+            Ok(store) => Ok(MeteredStore {
+                store,
+                watcher: self.meter,
+            }),
+            Err(fault) => {
+                self.failures = self.failures.saturating_add(1);
+                Err(fault)
+            }
+        }
+    }
+
+    fn close(&mut self, store: MeteredSource<'a, D>) {
+        self.failures = self.failures.saturating_add(let_go(store));
+    }
+}
+
+/// Copies what databases hold into a store, one after the other, up to a fault, and answers the exit status.
+fn merge_from<D: Databases, T: Keeper, W: Write>(
+    rt: &HostRuntime,
+    files: &D,
+    names: &[&str],
+    into: &mut T,
+    meter: &Meter,
+    out: &mut Outlet<W>,
+) -> u8 {
+    let mut sources = Sources {
+        rt,
+        files,
+        names,
+        meter,
+        failures: 0,
+    };
+    merge_all(rt.alloc(), &mut sources, names.len() as u64, into, out)
+}
+
+/// The same of databases that are only asked.
+fn merge_asked<T: Keeper, W: Write>(
     rt: &HostRuntime,
     names: &[&str],
     into: &mut T,
     meter: &Meter,
     out: &mut Outlet<W>,
 ) -> u8 {
-    let mut copied = 0_u64;
-    let mut held = 0_u64;
-    for name in names {
-        let Some(counts) = merged_from(rt, &AskedFiles, name, into, meter, out) else {
-            return FAULTY;
-        };
-        // there are fewer blobs than this could count
-        copied = copied.saturating_add(counts.copied);
-        held = held.saturating_add(counts.held);
-    }
-    end_merge(out, CopyCounts { copied, held })
+    merge_from(rt, &AskedFiles, names, into, meter, out)
 }
 
 /// Copies what databases hold into one, which is made if it is missing, and answers the exit status.
@@ -93,10 +114,7 @@ pub(crate) fn merge<D: Databases>(rt: &HostRuntime, files: &D, into: &str, from:
         Ok(store) => store,
         Err(fault) => return refuse(&mut out, fault),
     };
-    let status = match &mut store {
-        Opened::ByTrees(store) => merge_all(rt, from, store, &meter, &mut out),
-        Opened::BySql(store) => merge_all(rt, from, store, &meter, &mut out),
-    };
+    let status = merge_asked(rt, from, &mut store, &meter, &mut out);
     close(files, store);
     meter.erase();
     status

@@ -18,7 +18,7 @@ use std::io;
 use std::io::{BufWriter, Write};
 
 /// Lets a store go, and answers how many of its calls have failed.
-fn let_go<K: Reader + Drop>(store: K) -> u64
+pub(crate) fn let_go<K: Reader + Drop>(store: K) -> u64
     ensures { result ≡ K.failures store }
 {
     store.failures()

@@ -10,6 +10,7 @@ pub mod ListingLaws
 pub mod ListingSteps
 pub mod RangesLemmas
 pub mod ShowLemmas
+pub mod MergingLemmas
 pub mod PartsLines
 pub mod StatusLemmas
 pub mod VerifyLemmas

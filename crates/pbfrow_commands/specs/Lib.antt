@@ -6,6 +6,7 @@ pub mod Finding
 pub mod Importing
 pub mod InParts
 pub mod Listing
+pub mod Merging
 pub mod Progress
 pub mod Ranging
 pub mod Reading

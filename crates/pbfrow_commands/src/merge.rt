@@ -1,15 +1,31 @@
 //! The command `merge`: what several stores hold is copied into one, store after store.
 
-ghost use Rattle.std.specs.Prelude.{◌≡◌, Ok};
-ghost use Rattle.osm_value.specs.Sink.{Wrote};
-ghost use Rattle.osm_import.specs.Stores.{Stays};
+ghost use Rattle.std.specs.Prelude.{◌≡◌, ◌≤◌, [], ◌∷◌, ◌++◌, List, Ok, Some, Result, length, slice_get};
+ghost use Rattle.osm_value.specs.Sink.{Writes, Wrote};
+ghost use Rattle.osm_store.specs.Held.{HeldMap};
+ghost use Rattle.osm_import.specs.Stores.{Rereads};
+ghost use Rattle.osm_import.specs.declared.copy.CopyCounts.{CopyCounts as CopyCountsValue};
+ghost use Rattle.osm_parts.specs.Opening.{KeepsMaps, OnlyOpens};
 ghost use Rattle.pbfrow_commands.specs.Copying.{CopiesStore, outcome_line, total_line, copy_status};
+ghost use Rattle.pbfrow_commands.specs.Merging.{CopiesAt, IsMergeOf, IsOwnMerge, IsTotal, MergeHasCause, MergesStores, TakesOf, merge_status, merge_text, merged_of, store_line, store_lines, total_of};
+ghost use Rattle.pbfrow_commands.specs.declared.merge.MergeStop.{MergeStop as MergeStopValue};
 
 use crate::migrate::{put_copied, put_outcome};
+use crate::report::put_store_fault;
 use osm_import::{CopyCounts, CopyStop, copy_held};
-use osm_store::{Keeper, Reader};
+use osm_parts::Openings;
+use osm_store::{Keeper, Reader, StoreFault};
 use osm_value::{Sink, put};
 use std::alloc::Global;
+
+/// Why a merge ends before its last store.
+#[derive(Clone, Copy)]
+enum MergeStop {
+    /// A store couldn't be opened.
+    Unopened(StoreFault),
+    /// Its copy stopped.
+    Stopped(CopyStop),
+}
 
 /// Copies the blobs that one store of a merge holds into the other, by offset, and writes how many were added and how
 /// many were held already, or the line of the fault at which the copy stopped, with the offset of the blob. What the
@@ -22,8 +38,10 @@ pub fn merge_one<F: Reader, T: Keeper, S: Sink>(
     out: &mut S,
 ) -> Result<CopyCounts, CopyStop>
     ensures copies { CopiesStore F.Reader T.Reader from.old from.new into.old into.new result }
-    ensures line { Wrote (S.written out.old) (outcome_line result) (S.written out.new) (S.has_failed out.new) }
-    ensures source { Stays F.Reader from.old from.new }
+    ensures line { Writes (S.written out.old) (S.has_failed out.old) (S.written out.new) (S.has_failed out.new) (outcome_line result) }
+    ensures source { Rereads F.Reader from.old result from.new }
+    ensures honest { T.is_honest into.new → T.is_honest into.old }
+    ensures open_if { T.is_open into.new → T.is_open into.old }
 {
     let outcome = copy_held(alloc, from, into);
     // the exit status is that of the whole merge
@@ -34,10 +52,126 @@ pub fn merge_one<F: Reader, T: Keeper, S: Sink>(
 /// Ends a merge: writes how many blobs were added and how many were held already, of all stores together, and answers
 /// the exit status, 0 if the line was written, else 1.
 pub fn end_merge<S: Sink>(out: &mut S, counts: CopyCounts) -> u8
-    ensures line { Wrote (S.written out.old) (total_line counts) (S.written out.new) (S.has_failed out.new) }
+    ensures line { Writes (S.written out.old) (S.has_failed out.old) (S.written out.new) (S.has_failed out.new) (total_line counts) }
     ensures status { result ≡ copy_status (Ok counts) (S.has_failed out.new) }
 {
     put(out, b"blobs ");
     put_copied(out, counts);
     if out.failed() { 1 } else { 0 }
+}
+
+/// What the copy of one store is to the merge.
+fn merged(outcome: Result<CopyCounts, CopyStop>) -> Result<CopyCounts, MergeStop>
+    ensures { result ≡ merged_of outcome }
+{
+    match outcome {
+        Ok(counts) => Ok(counts),
+        Err(stop) => Err(MergeStop::Stopped(stop)),
+    }
+}
+
+/// Copies what the store at a place holds, which is opened and closed again, and writes its line or that of a fault.
+fn merge_at<F: Reader + Drop, O: Openings<F>, T: Keeper, S: Sink>(
+    alloc: Global,
+    openings: &mut O,
+    place: u64,
+    into: &mut T,
+    out: &mut S,
+) -> Result<CopyCounts, MergeStop>
+    ensures copies { (maps : List HeldMap) (source held : HeldMap) → O.holds openings.old maps → O.is_honest openings.new → slice_get maps place ≡ Some source → T.holds into.old held → T.is_honest into.new
+        → CopiesAt (T.is_open into.new) (T.holds into.new) source held result }
+    ensures crash { (maps : List HeldMap) (source held : HeldMap) → O.holds openings.old maps → O.is_honest openings.new → slice_get maps place ≡ Some source → T.holds into.old held → T.is_honest into.new
+        → (left : HeldMap) → T.leaves into.new left → TakesOf (source ∷ []) held left }
+    ensures whole { (maps : List HeldMap) (source held : HeldMap) → O.holds openings.old maps → O.is_honest openings.new → slice_get maps place ≡ Some source → T.holds into.old held → T.is_honest into.new
+        → T.leaves_a_map into.new }
+    ensures own { (maps : List HeldMap) (source held : HeldMap) → O.holds openings.old maps → O.is_honest openings.new → slice_get maps place ≡ Some source → T.holds into.old held → T.is_honest into.new
+        → IsOwnMerge result }
+    ensures line { Writes (S.written out.old) (S.has_failed out.old) (S.written out.new) (S.has_failed out.new) (store_line result) }
+    ensures opens { OnlyOpens O.holds O.is_honest O.is_open openings.old result openings.new }
+    ensures cause { MergeHasCause (O.failures openings.old) (O.failures openings.new) (T.failures into.new) result }
+    ensures honest { T.is_honest into.new → T.is_honest into.old }
+    ensures open_if { T.is_open into.new → T.is_open into.old }
+    ensures counted { O.failures openings.old ≤ O.failures openings.new }
+{
+    let mut store = match openings.open(place) {
+        Ok(store) => store,
+        Err(fault) => {
+            put_store_fault(out, fault);
+            return Err(MergeStop::Unopened(fault));
+        }
+    };
+    let outcome = merge_one(alloc, &mut store, into, out);
+    openings.close(store);
+    merged(outcome)
+}
+
+/// The counts of more stores together. A sum stops at 2^64 - 1.
+fn added(total: CopyCounts, counts: CopyCounts) -> CopyCounts
+    ensures { (so_far : List CopyCountsValue) → total ≡ total_of so_far → result ≡ total_of (so_far ++ counts ∷ []) }
+{
+    CopyCounts {
+        copied: total.copied.saturating_add(counts.copied),
+        held: total.held.saturating_add(counts.held),
+    }
+}
+
+/// Copies what the stores at `count` places hold, one after the other and up to a fault, each with its line. Answers the
+/// counts of all together.
+fn merge_each<F: Reader + Drop, O: Openings<F>, T: Keeper, S: Sink>(
+    alloc: Global,
+    openings: &mut O,
+    count: u64,
+    into: &mut T,
+    out: &mut S,
+) -> Result<CopyCounts, MergeStop>
+    ensures merges { (counts : List CopyCountsValue) × MergesStores O.holds O.is_honest O.failures T.Reader openings.old openings.new count into.old into.new counts result
+        × IsTotal counts result × Writes (S.written out.old) (S.has_failed out.old) (S.written out.new) (S.has_failed out.new) (store_lines counts result) }
+    ensures keeps { KeepsMaps O.holds O.is_honest O.is_open openings.old openings.new }
+    ensures honest { T.is_honest into.new → T.is_honest into.old }
+    ensures open_if { T.is_open into.new → T.is_open into.old }
+{
+    let mut total = CopyCounts { copied: 0, held: 0 };
+    for place in 0..count {
+        let counts = merge_at(alloc, openings, place, into, out)?;
+        total = added(total, counts);
+    }
+    Ok(total)
+}
+
+/// Copies the blobs that the stores at `count` places hold into another, by offset, each store opened, copied and closed in
+/// turn. For each it writes how many blobs were added and how many were held already, and at the end how many of all
+/// together. It ends early at a store that can't be opened, with the line of that fault, or at a copy that stops, with that
+/// of `merge_one`. Answers the exit status: 0 if all were copied and the lines were written, else 1.
+///
+/// The stores may come in any order, and any blob in several of them. What each holds stays, and what the other held before,
+/// whatever the status; a merge that ended early can be begun again.
+pub fn merge_all<F: Reader + Drop, O: Openings<F>, T: Keeper, S: Sink>(
+    alloc: Global,
+    openings: &mut O,
+    count: u64,
+    into: &mut T,
+    out: &mut S,
+) -> u8
+    // At 0 the other store holds what it held and all blobs of all stores, and nothing else.
+    ensures union { (maps : List HeldMap) (held : HeldMap) → O.holds openings.old maps → O.is_honest openings.new → length maps ≡ count → T.holds into.old held → T.is_honest into.new
+        → result ≡ 0 → (after : HeldMap) × IsMergeOf maps held after × T.holds into.new after }
+
+    // Whatever the status, what it held stays, and what is new is of these stores.
+    ensures kept { (maps : List HeldMap) (held : HeldMap) → O.holds openings.old maps → O.is_honest openings.new → length maps ≡ count → T.holds into.old held → T.is_honest into.new
+        → T.is_open into.new → (after : HeldMap) × TakesOf maps held after × T.holds into.new after }
+
+    // What it came to, and each line.
+    ensures merges { (counts : List CopyCountsValue) × (outcome : Result CopyCountsValue MergeStopValue)
+        × MergesStores O.holds O.is_honest O.failures T.Reader openings.old openings.new count into.old into.new counts outcome × IsTotal counts outcome
+        × Wrote (S.written out.old) (merge_text counts outcome) (S.written out.new) (S.has_failed out.new) × (result ≡ merge_status outcome (S.has_failed out.new)) }
+
+    // What the stores hold stays.
+    ensures keeps { KeepsMaps O.holds O.is_honest O.is_open openings.old openings.new }
+    ensures honest { T.is_honest into.new → T.is_honest into.old }
+    ensures open_if { T.is_open into.new → T.is_open into.old }
+{
+    match merge_each(alloc, openings, count, into, out) {
+        Ok(total) => end_merge(out, total),
+        Err(_) => 1,
+    }
 }

@@ -26,7 +26,7 @@ pub(crate) fn put_copied<S: Sink>(out: &mut S, counts: CopyCounts)
 
 /// Writes the line of what a copy came to, and answers the exit status.
 pub(crate) fn put_outcome<S: Sink>(out: &mut S, outcome: Result<CopyCounts, CopyStop>) -> u8
-    ensures line { Wrote (S.written out.old) (outcome_line outcome) (S.written out.new) (S.has_failed out.new) }
+    ensures line { Writes (S.written out.old) (S.has_failed out.old) (S.written out.new) (S.has_failed out.new) (outcome_line outcome) }
     ensures status { result ≡ copy_status outcome (S.has_failed out.new) }
 {
     match outcome {

@@ -8,4 +8,4 @@ pub returns-clause-line : goal.returns-clause-line
 returns-clause-line g c = c.put_outcome-status.ensures.line
 
 pub returns-clause-source : goal.returns-clause-source
-returns-clause-source g c = c.copy_held-outcome.ensures.source.stays
+returns-clause-source g c = c.copy_held-outcome.ensures.source
