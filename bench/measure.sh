@@ -8,10 +8,11 @@ mkdir -p "$work" && cd "$work" || exit 2
 pbfrow=$top/crates/pbfrow/out/pbfrow
 [ -x /usr/bin/time ] || { echo "bench: /usr/bin/time isn't there (Debian's package time)" >&2; exit 2; }
 
-# measure NAME FILE COMMAND..: runs the command with the file as standard input.
+# measure NAME FILE COMMAND..: runs the command with the file as standard input, unless PBFROW_SKIP, a pattern of names, leaves it out.
 measure() {
   local name=$1 file=$2 best="" line
   shift 2
+  if [ -n "${PBFROW_SKIP:-}" ] && [[ $name =~ $PBFROW_SKIP ]]; then return; fi
   for _ in $(seq "$runs"); do
     line=$(/usr/bin/time -f '%e %U %S %M' "$@" 2>&1 >/dev/null <"$file" | tail -n 1)
     best=$(printf '%s\n%s\n' "$best" "$line" | sed '/^$/d' | sort -n | head -n 1)

@@ -1,5 +1,7 @@
 // What pbfrow's second layout stores, by stock SQLite: one transaction a blob, elements, tags and links as rows of the same tables.
-// Words: FILE DATABASE. libosmium reads the file; its buffers stand for the blobs, as far as the tables go.
+// Words: FILE DATABASE [FROM [TO]]. libosmium reads the file; its buffers stand for the blobs, as far as the tables go. Those from
+// FROM up to TO, counted from 0, are stored; where FROM is there and isn't 0, the database has the tables already.
+#include <climits>
 #include <cstdio>
 #include <cstdlib>
 #include <cstring>
@@ -77,8 +79,10 @@ static void put(long off, long pos, const osmium::OSMObject& it) {
 }
 
 int main(int argc, char* argv[]) {
-    if (argc != 3 || sqlite3_open(argv[2], &db) != SQLITE_OK) return 2;
-    run("CREATE TABLE meta (version INTEGER PRIMARY KEY) STRICT;"
+    if (argc < 3 || argc > 5 || sqlite3_open(argv[2], &db) != SQLITE_OK) return 2;
+    const long from = argc > 3 ? std::atol(argv[3]) : 0;
+    const long to = argc > 4 ? std::atol(argv[4]) : LONG_MAX;
+    if (from == 0) run("CREATE TABLE meta (version INTEGER PRIMARY KEY) STRICT;"
         "CREATE TABLE blob (off INTEGER PRIMARY KEY, fin INTEGER NOT NULL, digest BLOB NOT NULL, kind INTEGER NOT NULL, n INTEGER NOT NULL) STRICT;"
         "CREATE TABLE element (off INTEGER NOT NULL, pos INTEGER NOT NULL, kind INTEGER NOT NULL, id INTEGER NOT NULL, lat INTEGER, lon INTEGER, version INTEGER,"
         " time INTEGER, changeset INTEGER, uid INTEGER, user TEXT, visible INTEGER, PRIMARY KEY (off, pos)) STRICT;"
@@ -90,9 +94,10 @@ int main(int argc, char* argv[]) {
     link_row = prepared("INSERT INTO link VALUES (?1, ?2, ?3, ?4, ?5, ?6)");
     blob = prepared("INSERT INTO blob VALUES (?1, ?2, ?3, ?4, ?5)");
     osmium::io::Reader reader{argv[1]};
-    for (long off = 0;; ++off) {
+    for (long off = 0; off < to; ++off) {
         const osmium::memory::Buffer buffer = reader.read();
         if (!buffer) break;
+        if (off < from) continue;
         run("BEGIN");
         long pos = 0;
         for (const auto& it : buffer.select<osmium::OSMObject>()) put(off, pos++, it);
