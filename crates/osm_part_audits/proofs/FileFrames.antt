@@ -28,7 +28,7 @@ use Rattle.osm_verify.proofs.AuditLemmas.{frame-long}
 use Rattle.osm_verify.proofs.LawLemmas.{verified-is-exact}
 use Rattle.osm_part_audits.specs.InFile.{StandsIn}
 use Rattle.osm_part_audits.specs.Judging.{IsJudged, AreJudged}
-use Rattle.osm_part_audits.specs.Together.{AreAllJudged, IsPartOf, ArePartsOf, IsOfFrames, AreOfFrames, HoldFile, PartsHoldFile, IsVerdict, IsAgreement, AgreedHoldFile}
+use Rattle.osm_part_audits.specs.Together.{AreAllJudged, IsPartOf, ArePartsOf, IsOfFrames, AreOfFrames, HoldFile, PartsHoldFile, IsVerdict, IsClean, AgreedHoldFile}
 use Rattle.osm_part_audits.specs.declared.auditing.Finding.{Finding}
 use Rattle.osm_part_audits.specs.declared.together.Verdict.{Verdict}
 

@@ -1,10 +1,10 @@
 -- From what is read and compared to what is found.
-use Rattle.std.proofs.Common.{◌≡◌, ℕ, zero, suc, ◌+◌, ◌-◌, ◌<◌, ◌≤◌, true, true≢false, List, [], ◌∷◌, ◌++◌, map, length, take, get_or, Option, Some, None, refl, sym, ◌∙◌, ap, subst, arith, length-append}
-use Rattle.std.specs.Prelude.{IfSome, IsNone}
+use Rattle.std.proofs.Common.{◌≡◌, ℕ, zero, suc, ◌+◌, ◌-◌, ◌<◌, ◌≤◌, true, true≢false, List, [], ◌∷◌, ◌++◌, map, length, take, drop, get_or, Option, Some, None, refl, sym, ◌∙◌, ap, subst, arith, length-append}
+use Rattle.std.specs.Prelude.{IfSome, IsNone, slice_range}
 use Rattle.std.specs.List.{cons_option}
 use Rattle.std.specs.Ordering.{nat_cmp}
 use Rattle.std.specs.FinMap.{get, entries, find, is_sorted, get-entries, entries_sorted}
-use Rattle.std.proofs.lemmas.List.{take_at, take_all, take_more, length-map}
+use Rattle.std.proofs.lemmas.List.{take-append-drop, take_at, take_all, take_more, length-map}
 use Rattle.osm_value.specs.declared.element.Element.{Element}
 use Rattle.osm_store.specs.Audit.{elements_held}
 use Rattle.osm_store.specs.Held.{Blob, HeldMap}
@@ -173,3 +173,8 @@ blank = record { off = 0; fin = 0; digest = []; kind = OsmHeader; n = 0 }
 
 pub extent-read : (extents : List Extent) (i : ℕ) → i < length extents → get_or extents i blank ≡ get_or extents i (get_or extents i blank)
 extent-read extents i low = read-is extents i blank (get_or extents i blank) low
+
+pub range-stands : (file : List ℕ) (off end : ℕ) (bytes : List ℕ) → bytes ≡ slice_range file off end → StandsIn file off bytes
+range-stands file off end bytes is =
+    let behind = drop (end - off) (drop off file) in
+    (behind, sym (take-append-drop (end - off) (drop off file)) ∙ ap (λ (l : List ℕ). l ++ behind) (sym is))

@@ -1,14 +1,19 @@
 -- One store more.
-use Rattle.std.proofs.Common.{◌≡◌, ℕ, zero, suc, ◌+◌, ◌<◌, ◌≤◌, Bool, false, List, [], ◌∷◌, ◌++◌, length, take, Some, slice_get, refl, sym, ◌∙◌, ap, subst, arith, append_assoc, append-nil, add-one}
+use Rattle.std.proofs.Common.{◌≡◌, ℕ, zero, suc, ◌+◌, ◌<◌, ◌≤◌, Bool, false, List, [], ◌∷◌, ◌++◌, length, take, Some, None, slice_get, Result, Ok, Err, refl, sym, ◌∙◌, ap, subst, arith, append_assoc, append-nil, add-one}
+use Rattle.std.specs.Prelude.{IfErr, IfOk, IfSome}
 use Rattle.osm_store.specs.Held.{HeldMap, IsApart}
 use Rattle.osm_store.specs.Keeping.{extents_of}
 use Rattle.osm_import.specs.Exports.{Known}
 use Rattle.osm_parts.specs.Reading.{AreStores, IsReadOf}
 use Rattle.osm_parts.specs.declared.runs.Part.{Part}
-use Rattle.osm_parts.proofs.OpeningLemmas.{cause-later}
+use Rattle.osm_parts.proofs.OpeningLemmas.{cause-closed, cause-later}
 use Rattle.osm_verify.specs.declared.comparing.Depth.{Depth}
 use Rattle.osm_part_audits.specs.Judging.{AreJudged}
-use Rattle.osm_part_audits.specs.Together.{AreAllJudged}
+use Rattle.osm_parts.specs.Opening.{AddsUp}
+use Rattle.osm_part_audits.specs.Together.{AreAllJudged, HoldFile, IsClean, IsVerdict}
+use Rattle.osm_part_audits.specs.declared.auditing.Audit.{Audit}
+use Rattle.osm_part_audits.specs.declared.together.Verdict.{Verdict}
+use Rattle.osm_part_audits.proofs.FileFrames.{agreed-hold-file}
 use Rattle.osm_part_audits.specs.Faults.{AuditHasCause, IsOfParts, IsOwn}
 use Rattle.osm_part_audits.specs.declared.auditing.Finding.{Finding}
 use Rattle.osm_part_audits.specs.declared.fault.AuditFault.{AuditFault}
@@ -62,3 +67,18 @@ audit-later old middle new (Unread off) le cause = tt
 audit-later old middle new (Parts (Store fault)) le cause = cause-later old middle new fault le cause
 audit-later old middle new (Parts (Interleaved off)) le cause = tt
 audit-later old middle new (Parts (Refused conflict off)) le cause = tt
+
+pub audit-closed : (old lent new first last : ℕ) (result : Result Audit AuditFault) → lent ≡ old → AddsUp lent last new → IfErr result (AuditHasCause first last) → IfErr result (AuditHasCause old new)
+audit-closed old lent new first last (Ok audit) same adds cause = tt
+audit-closed old lent new first last (Err (Unread off)) same adds cause = tt
+audit-closed old lent new first last (Err (Parts (Store fault))) same adds cause = cause-closed old lent new first last fault same adds cause
+audit-closed old lent new first last (Err (Parts (Interleaved off))) same adds cause = tt
+audit-closed old lent new first last (Err (Parts (Refused conflict off))) same adds cause = tt
+
+pub if-ok-all : {T E : Type 0} (result : Result T E) (P : Type 0) → P → IfOk result (λ _. P)
+if-ok-all (Ok value) P p = p
+if-ok-all (Err fault) P p = tt
+
+pub agreed-known : (depth : Depth) (known : Known) (maps : List HeldMap) (verdict : Verdict) → IsVerdict depth known maps verdict → IsClean verdict → IfSome known (λ file. HoldFile depth file maps)
+agreed-known depth None maps verdict is agreed = tt
+agreed-known depth (Some file) maps verdict is agreed = agreed-hold-file depth file maps verdict is agreed

@@ -67,9 +67,9 @@ abbrev pub PartsHoldFile : Type 0
 PartsHoldFile = (depth : Depth) (file : List ℕ) (maps : List HeldMap) (whole : HeldMap) → 0 < length file → ArePartsOf depth file maps → IsUnionOf maps whole → IsApart whole → AreGaps whole (length file) [] → HoldFile depth file maps
 
 -- a verdict of nothing found, no gap and some blob
-abbrev pub IsAgreement : Verdict → Type 0
-IsAgreement verdict = (verdict.findings.items ≡ []) × (verdict.gaps.items ≡ []) × (0 < verdict.blobs)
+abbrev pub IsClean : Verdict → Type 0
+IsClean verdict = (verdict.findings.items ≡ []) × (verdict.gaps.items ≡ []) × (0 < verdict.blobs)
 
 -- says the same
 abbrev pub AgreedHoldFile : Type 0
-AgreedHoldFile = (depth : Depth) (file : List ℕ) (maps : List HeldMap) (verdict : Verdict) → IsVerdict depth (Some file) maps verdict → IsAgreement verdict → HoldFile depth file maps
+AgreedHoldFile = (depth : Depth) (file : List ℕ) (maps : List HeldMap) (verdict : Verdict) → IsVerdict depth (Some file) maps verdict → IsClean verdict → HoldFile depth file maps

@@ -3,15 +3,13 @@
 ghost use Rattle.std.specs.Prelude.{◌≡◌, ◌↔◌, ◌≤◌, ◌++◌, [], ℕ, Some, IsTrue, false, List, length, slice_get, IfOk, IfErr, IfSome};
 ghost use Rattle.osm_store.specs.Held.{HeldMap, IsApart};
 ghost use Rattle.osm_store.specs.Keeping.{extents_of};
-ghost use Rattle.osm_store.specs.declared.fault.StoreFault.TheVariants.{Memory};
 ghost use Rattle.osm_import.specs.Exports.{Known};
 ghost use Rattle.osm_parts.specs.Opening.{OnlyOpens};
-ghost use Rattle.osm_parts.specs.declared.fault.PartsFault.TheVariants.{Store};
 ghost use Rattle.osm_parts.specs.Reading.{AreRead, AreStores};
 ghost use Rattle.osm_verify.specs.declared.comparing.Depth.{Depth as DepthValue};
 ghost use Rattle.osm_part_audits.specs.Faults.{AuditHasCause, IsOfParts, IsOwn};
 ghost use Rattle.osm_part_audits.specs.Judging.{AreJudged};
-ghost use Rattle.osm_part_audits.specs.Together.{AreAllJudged, HoldFile, IsAgreement, IsVerdict};
+ghost use Rattle.osm_part_audits.specs.Together.{AreAllJudged, HoldFile, IsClean, IsVerdict};
 
 use crate::auditing::{Audit, Finding, audit_part};
 use crate::fault::AuditFault;
@@ -36,7 +34,7 @@ pub struct Verdict {
 impl Verdict {
     /// Whether there is a blob, each is of the file, and none is missing.
     pub fn agrees(&self) -> bool
-        ensures { IsTrue result ↔ IsAgreement self.now }
+        ensures { IsTrue result ↔ IsClean self.now }
     {
         self.blobs > 0 && self.findings.is_empty() && self.gaps.is_empty()
     }
@@ -49,6 +47,19 @@ struct Gathered {
     findings: Vec<Finding>,
 }
 
+/// How many bytes a file has.
+fn size_of<F: FileBytes>(file: &mut F) -> Result<u64, AuditFault>
+    ensures told { IfSome (F.bytes file.old) (λ whole. IfOk result (λ size. size ≡ length whole)) }
+    ensures fault { (maps : List HeldMap) → IfErr result (IsOfParts maps) }
+    ensures cause { (before : ℕ) (now : ℕ) → IfErr result (AuditHasCause before now) }
+    ensures kept { F.bytes file.new ≡ F.bytes file.old }
+{
+    match file.size() {
+        Ok(size) => Ok(size),
+        Err(_) => Err(AuditFault::Unread(0)),
+    }
+}
+
 /// The audit of the store at a place, which is opened and closed.
 fn audit_at<K: Audited + Drop, O: Openings<K>, F: FileBytes>(
     alloc: Global,
@@ -57,8 +68,10 @@ fn audit_at<K: Audited + Drop, O: Openings<K>, F: FileBytes>(
     place: u64,
     depth: Depth,
 ) -> Result<Audit, AuditFault>
-    ensures told { (maps : List HeldMap) (held : HeldMap) → O.holds openings.old maps → O.is_honest openings.new → slice_get maps place ≡ Some held
-        → IfOk result (λ audit. (audit.extents.items ≡ extents_of held) × AreJudged depth held (F.bytes file.old) (extents_of held) audit.findings.items × IsApart held) }
+    ensures extents { (maps : List HeldMap) (held : HeldMap) → O.holds openings.old maps → O.is_honest openings.new → slice_get maps place ≡ Some held → IfOk result (λ audit. audit.extents.items ≡ extents_of held) }
+    ensures found { (maps : List HeldMap) (held : HeldMap) → O.holds openings.old maps → O.is_honest openings.new → slice_get maps place ≡ Some held
+        → IfOk result (λ audit. AreJudged depth held (F.bytes file.old) (extents_of held) audit.findings.items) }
+    ensures apart { (maps : List HeldMap) (held : HeldMap) → O.holds openings.old maps → O.is_honest openings.new → slice_get maps place ≡ Some held → IfOk result (λ _. IsApart held) }
     ensures own { (maps : List HeldMap) → O.holds openings.old maps → O.is_honest openings.new → IfErr result IsOwn }
     ensures opens { OnlyOpens O.holds O.is_honest O.is_open openings.old result openings.new }
     ensures cause { (maps : List HeldMap) → O.holds openings.old maps → O.is_honest openings.new → IfErr result (AuditHasCause (O.failures openings.old) (O.failures openings.new)) }
@@ -110,7 +123,8 @@ fn verdict_of(
 ) -> Result<Verdict, AuditFault>
     ensures verdict { (maps : List HeldMap) (depth : DepthValue) (known : Known) → AreRead maps false parts.now → AreAllJudged depth known maps findings.items → IfSome known (λ file. size ≡ length file)
         → IfOk result (IsVerdict depth known maps) }
-    ensures memory { IfErr result (λ fault. fault ≡ AuditFault.Parts (Store Memory)) }
+    ensures fault { (maps : List HeldMap) → IfErr result (IsOfParts maps) }
+    ensures cause { (before : ℕ) (now : ℕ) → IfErr result (AuditHasCause before now) }
 {
     let extents = extents_of_parts(alloc, parts)?;
     let gaps = gaps_between(alloc, &extents, size)?;
@@ -138,17 +152,14 @@ pub fn audit_parts<K: Audited + Drop, O: Openings<K>, F: FileBytes>(
     ensures told { (maps : List HeldMap) → O.holds openings.old maps → O.is_honest openings.new → length maps ≡ count → IfOk result (IsVerdict depth (F.bytes file.old) maps) }
     // Where it agrees, the stores hold the file: each blobs of its frames, and together what an import of it comes to.
     ensures exact { (maps : List HeldMap) → O.holds openings.old maps → O.is_honest openings.new → length maps ≡ count
-        → IfOk result (λ verdict. IsAgreement verdict → IfSome (F.bytes file.old) (λ bytes. HoldFile depth bytes maps)) }
+        → IfOk result (λ verdict. IsClean verdict → IfSome (F.bytes file.old) (λ bytes. HoldFile depth bytes maps)) }
     ensures fault { (maps : List HeldMap) → O.holds openings.old maps → O.is_honest openings.new → length maps ≡ count → IfErr result (IsOfParts maps) }
     ensures opens { OnlyOpens O.holds O.is_honest O.is_open openings.old result openings.new }
     ensures cause { (maps : List HeldMap) → O.holds openings.old maps → O.is_honest openings.new → IfErr result (AuditHasCause (O.failures openings.old) (O.failures openings.new)) }
     ensures counted { O.failures openings.old ≤ O.failures openings.new }
     ensures kept { F.bytes file.new ≡ F.bytes file.old }
 {
-    let size = match file.size() {
-        Ok(size) => size,
-        Err(_) => return Err(AuditFault::Unread(0)),
-    };
+    let size = size_of(file)?;
     let all = gather(alloc, openings, count, file, depth)?;
     let parts = parts_of(alloc, &all.stores)?;
     verdict_of(alloc, &parts, size, all.findings)
