@@ -1,16 +1,18 @@
 -- From what is read and compared to what is found.
-use Rattle.std.proofs.Common.{◌≡◌, ℕ, zero, suc, ◌+◌, ◌-◌, ◌<◌, ◌≤◌, true, true≢false, List, [], ◌∷◌, ◌++◌, map, length, take, drop, get_or, Option, Some, None, refl, sym, ◌∙◌, ap, subst, arith, length-append}
-use Rattle.std.specs.Prelude.{IfSome, IsNone, slice_range}
+use Rattle.std.proofs.Common.{◌≡◌, ℕ, zero, suc, ◌+◌, ◌-◌, ◌<◌, ◌≤◌, true, true≢false, List, [], ◌∷◌, ◌++◌, map, length, take, get_or, Option, Some, None, refl, sym, ◌∙◌, ap, subst, arith, length-append}
+use Rattle.std.specs.Prelude.{IfSome, IsNone}
 use Rattle.std.specs.List.{cons_option}
 use Rattle.std.specs.Ordering.{nat_cmp}
 use Rattle.std.specs.FinMap.{get, entries, find, is_sorted, get-entries, entries_sorted}
-use Rattle.std.proofs.lemmas.List.{take-append-drop, take_at, take_all, take_more, length-map}
+use Rattle.std.proofs.lemmas.List.{take_at, take_all, take_more, length-map}
 use Rattle.osm_value.specs.declared.element.Element.{Element}
 use Rattle.osm_store.specs.Audit.{elements_held}
 use Rattle.osm_store.specs.Held.{Blob, HeldMap}
 use Rattle.osm_store.specs.Keeping.{extent_of, extents_of}
 use Rattle.osm_store.specs.declared.keeper.Extent.{Extent}
-use Rattle.osm_import.specs.Bad.{IsBad}
+use Rattle.osm_import.specs.Bad.{IsBad, IsFinding}
+use Rattle.osm_import.specs.declared.examination.ExamineFault.{ExamineFault}
+use Rattle.osm_import.specs.declared.examination.ExamineFault.TheVariants as examined
 use Rattle.osm_import.specs.Exports.{Known}
 use Rattle.osm_import.specs.Step.{IsEntry}
 use Rattle.osm_import.specs.declared.fault.Fault.{Fault}
@@ -64,6 +66,9 @@ stray-bad (Some file) extent bytes within fin none = λ other stands ends entry 
 
 pub bad-none : (off : ℕ) (bytes : List ℕ) (fault : Fault) → IsBad off bytes fault → IsNoEntry off bytes
 bad-none off bytes fault bad = λ entry is. good-not_bad off bytes entry.kind entry.elements is.good fault bad
+
+pub finding-none : (off : ℕ) (bytes : List ℕ) (fault : ExamineFault) (inner : Fault) → fault ≡ examined.Bad inner → IsFinding off bytes fault → IsNoEntry off bytes
+finding-none off bytes fault inner is finding = bad-none off bytes inner (subst (λ (f : ExamineFault). IsFinding off bytes f) is finding)
 
 -- ---- what is found
 
@@ -173,8 +178,3 @@ blank = record { off = 0; fin = 0; digest = []; kind = OsmHeader; n = 0 }
 
 pub extent-read : (extents : List Extent) (i : ℕ) → i < length extents → get_or extents i blank ≡ get_or extents i (get_or extents i blank)
 extent-read extents i low = read-is extents i blank (get_or extents i blank) low
-
-pub range-stands : (file : List ℕ) (off end : ℕ) (bytes : List ℕ) → bytes ≡ slice_range file off end → StandsIn file off bytes
-range-stands file off end bytes is =
-    let behind = drop (end - off) (drop off file) in
-    (behind, sym (take-append-drop (end - off) (drop off file)) ∙ ap (λ (l : List ℕ). l ++ behind) (sym is))

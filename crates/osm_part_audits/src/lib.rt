@@ -5,11 +5,9 @@ mod auditing;
 mod fault;
 mod file_bytes;
 pub mod laws;
-mod memory;
 mod together;
 
 pub use auditing::{Audit, Finding, audit_part};
 pub use fault::AuditFault;
 pub use file_bytes::FileBytes;
-pub use memory::BytesInMemory;
 pub use together::{Verdict, audit_parts};

@@ -4,7 +4,7 @@ use Rattle.osm_import.proofs.Delivering.{entry_at, entry_at-is}
 use Rattle.osm_verify.specs.Audits.{IsEntryOf}
 use Rattle.osm_part_audits.specs.Judging.{CountsMore, IsFound}
 use Rattle.osm_part_audits.specs.declared.auditing.Finding.{Finding}
-use Rattle.osm_part_audits.proofs.JudgingLemmas.{agreement-found, bad-none, none-is, none-same}
+use Rattle.osm_part_audits.proofs.JudgingLemmas.{agreement-found, finding-none, none-is, none-same}
 use Rattle.osm_part_audits.proofs.auditing.judge.Goals as goal
 
 pub returns-in_ok-agreement-in-Ok-clause-found : goal.returns-in_ok-agreement-in-Ok-clause-found
@@ -26,4 +26,4 @@ returns-in_ok-agreement-in-Ok-clause-seen g c = λ none.
     )
 
 pub returns-in-Err-Bad-clause-found : goal.returns-in-Err-Bad-clause-found
-returns-in-Err-Bad-clause-found g c = λ held holds honest. (refl, bad-none c.args.off c.args.bytes.now c.in-Err-Bad.field-0.0 c.in-Err-Bad.ensures.bad)
+returns-in-Err-Bad-clause-found g c = λ held holds honest. (refl, finding-none c.args.off c.args.bytes.now c.in-Err-Bad.field-0 _ c.in-Err-Bad.field-0-is c.in-Err-Bad.ensures.bad)

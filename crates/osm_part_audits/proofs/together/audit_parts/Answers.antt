@@ -45,3 +45,9 @@ returns-in_err-parts-clause-cause g c = λ maps holds honest.
     let old = g.O.Openings.failures c.args.openings.now in
     let now = g.O.Openings.failures c.gather.new.openings in
     if-err c.from_residual-in_err-parts.result (Parts c.in_err-parts.field-0.0) (AuditHasCause old now) c.from_residual-in_err-parts.ensures.1 (c.in_err-parts.ensures.cause old now)
+
+pub returns-clause-fault : goal.returns-clause-fault
+returns-clause-fault g c = λ maps holds honest all. c.verdict_of.ensures.fault maps
+
+pub returns-clause-cause : goal.returns-clause-cause
+returns-clause-cause g c = λ maps holds honest. c.verdict_of.ensures.cause (g.O.Openings.failures c.args.openings.now) (g.O.Openings.failures c.gather.new.openings)
