@@ -180,7 +180,8 @@ pub fn opened_checked<D: CheckedDatabases>(
 }
 
 /// The store of a database of either version. One that keeps elements as rows is read by its trees or by SQL, and one that
-/// keeps them as blocks of bytes by SQL alone.
+/// keeps them as blocks of bytes by SQL alone: the outer `ByTrees` has the former, whichever way that is read, and `BySql` the
+/// latter.
 pub type AnyVersion<S> = Opened<OpenedStore<S>, BodyStore<S>>;
 
 /// The version whose databases keep elements as blocks.

@@ -47,9 +47,9 @@ pub fn adopted<S: Alter + Drop>(connection: Connection<S>) -> Result<TableStore<
     }
 }
 
-/// The trees of a store that is made in a database without tables. It holds no blob, and no object stands beside its own. Where the database has a table, an index
-/// or a view, whosever it is, nothing is written, and the fault is `NotThisStore(None)`; any other is that of
-/// `TableStore::create`.
+/// The trees of a store that is made in a database without tables. It holds no blob, and no object stands beside its own.
+/// Where the database has a table, an index or a view, whosever it is, nothing is written, and the fault is
+/// `NotThisStore(None)`; any other is that of `TableStore::create`.
 pub fn made<S: Alter + Drop>(connection: Connection<S>) -> Result<TreeStore<S>, StoreFault>
     requires { (state S.Store connection).in_transaction ≡ false }
     ensures empty { IfOk result (λ trees. IsClean (S.Store.view trees.store) → HoldsBelow Tables (S.Store.view trees.store) empty) }

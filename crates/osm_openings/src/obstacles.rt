@@ -1,6 +1,6 @@
 //! What stands in the way of a database that can't be opened.
 
-ghost use Rattle.std.specs.Prelude.{◌≡◌, IsTrue, IfOk};
+ghost use Rattle.std.specs.Prelude.{◌≡◌, IsTrue};
 ghost use Rattle.osm_openings.specs.Obstacles.{binds_a_store, is_virtual_table, stands_in_the_way};
 
 use crate::opening::page_size;
