@@ -1,5 +1,5 @@
 -- That trees hold a map is said of the nine trees of a store, and of the list of all.
-use Rattle.std.proofs.Common.{◌≡◌, ◌<◌, ℕ, true, cond, ltb, ltb-true, [], refl, sym, subst, ap, ◌∙◌, inl, inr}
+use Rattle.std.proofs.Common.{◌≡◌, ◌<◌, ℕ, cond, ltb, ltb-true, [], refl, sym, subst, ap, ◌∙◌, inl, inr}
 use Rattle.std.proofs.Math.Path.{fun_ext}
 use Rattle.std.proofs.lemmas.Bool.{cases_Bool}
 use Rattle.sqlite_schema.specs.declared.schema.Constraint.{Constraint}

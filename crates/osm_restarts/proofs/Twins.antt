@@ -1,16 +1,14 @@
 -- Rows of two lists of the trees of one file that agree but for their SQL texts are one row.
-use Rattle.std.proofs.Common.{◌≡◌, ◌⊎◌, ℕ, ◌+◌, ◌*◌, List, [], pos, true, sym, subst, ap, ◌∙◌, inl, inr, arith, is_eq, Less}
+use Rattle.std.proofs.Common.{◌≡◌, ◌⊎◌, ℕ, ◌+◌, ◌*◌, List, [], pos, true, sym, subst, ap, ◌∙◌, inl, inr, arith, is_eq}
 use Rattle.std.specs.Prelude.{None}
 use Rattle.std.proofs.lemmas.Cmp.{tied_back}
-use Rattle.std.specs.Ordering.{ordering_reverse}
 use Rattle.sqlite_value.specs.declared.keys.Order.{Order}
 use Rattle.sqlite_value.specs.declared.value.Value.{Value}
 use Rattle.sqlite_value.specs.declared.value.Value.TheVariants.{Int, Text}
-use Rattle.sqlite_value.specs.Order.{Row, column, value_cmp}
+use Rattle.sqlite_value.specs.Order.{Row, column}
 use Rattle.sqlite_value.proofs.OrderLemmas.{value_cmp_total}
 use Rattle.sqlite_trees.specs.declared.store.Shape.{Shape}
 use Rattle.sqlite_trees.specs.declared.store.Shape.TheVariants.{Table, Index}
-use Rattle.sqlite_trees.specs.Tree.{rowid}
 use Rattle.sqlite_trees.specs.Listing.{same_code}
 use Rattle.sqlite_trees.specs.Objects.{listing, shape_code, number_in}
 use Rattle.sqlite_rules.specs.Lists.{Has}
@@ -20,7 +18,6 @@ use Rattle.sqlite_store.specs.declared.catalog.Wanted.{Wanted}
 use Rattle.sqlite_store.specs.Catalog.{same_value, is_plain}
 use Rattle.sqlite_store.specs.Db.{rows_at, IsDb}
 use Rattle.sqlite_store.specs.Listing.{listed_from}
-use Rattle.sqlite_store.proofs.ListingLemmas.{listing_shaped}
 use Rattle.osm_restarts.proofs.Places.{placed}
 use Rattle.osm_restarts.proofs.Entries.{equal_is, IsWords, same_words, entry_parts, one_named, has_entry, in_order}
 

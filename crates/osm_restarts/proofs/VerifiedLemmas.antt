@@ -1,5 +1,5 @@
 -- A store that keeps the rows of an import, and no others, holds the map of the import.
-use Rattle.std.proofs.Common.{◌≡◌, ℕ, List, false, take, sym, subst, ◌∙◌, inr}
+use Rattle.std.proofs.Common.{◌≡◌, ℕ, List, false, take, sym, subst, inr}
 use Rattle.sqlite_trees.specs.declared.store.Shape.{Shape}
 use Rattle.sqlite_trees.specs.Objects.{catalog_tree}
 use Rattle.sqlite_trees.specs.Tree.{Trees}

@@ -3,6 +3,7 @@
 #![tactic(auto)]
 
 pub mod history;
+pub mod memory;
 pub mod premise;
 pub mod restart;
 pub mod verified;

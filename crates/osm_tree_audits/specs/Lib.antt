@@ -3,3 +3,4 @@ pub mod Auditing
 pub mod ElementTables
 pub mod Walking
 pub mod Indexes
+pub mod Strays

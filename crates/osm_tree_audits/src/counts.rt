@@ -6,8 +6,11 @@ ghost use Rattle.sqlite_exec.specs.Calls.{OnlyReads};
 ghost use Rattle.osm_store.specs.Audit.{HasCount, ShowsCounts};
 ghost use Rattle.osm_store.specs.declared.schema.layout.Layout.TheVariants.{Tables};
 ghost use Rattle.osm_store.specs.Keeping.{IsForeign};
+ghost use Rattle.osm_tree_writes.specs.Putting.{IsIndexedStore};
+ghost use Rattle.osm_tree_audits.specs.ElementTables.{table_of};
 
-use crate::trees::{BLOBS, ELEMENTS, LINKS, TAGS};
+use crate::tables::ElementTable;
+use crate::trees::BLOBS;
 use osm_store::{Counts, StoreFault};
 use osm_tree_writes::fault_of;
 use sqlite_trees::store::{Direction, Store};
@@ -59,14 +62,32 @@ fn has_count<S: Store>(
     Ok(found == expected && expected < MOST_ROWS)
 }
 
-/// Whether each table of a store has exactly so many rows, fewer than SQL can count. No more than one row is in memory. A
-/// fault is that of a read that has failed, or `Memory`.
+/// The same of a table of elements, by the index of its primary key, which has one entry for each row: an entry is much smaller
+/// than a row.
+fn has_rows<S: Store>(
+    alloc: Global,
+    store: &mut S,
+    of: ElementTable,
+    expected: u64,
+) -> Result<bool, StoreFault>
+    ensures told { IsClean (S.Store.view store.new) → IsIndexedStore (S.Store.view store.old).trees → IfOk result (λ told. IsTrue told ↔ HasCount ((S.Store.view store.old).trees (table_of of)) expected) }
+    ensures sound { OnOk result (IsClean (S.Store.view store.new) → (S.Store.view store.new).is_broken ≡ false) }
+    ensures reads { IsClean (S.Store.view store.new) → (S.Store.view store.new).is_broken ≡ false → OnlyReads (S.Store.view store.old) (S.Store.view store.new) }
+    ensures ours { IfErr result (λ fault. ¬ (IsForeign fault)) }
+    ensures quiet { IsQuiet S.Store.view S.Store.faults S.Store.recovers S.Store.is_shielded store.old store.new }
+{
+    has_count(alloc, store, of.index(), expected)
+}
+
+/// Whether each table of a store has exactly so many rows, fewer than SQL can count. Of the rows nothing has to be known, but
+/// each index has to have one entry for each (`faulty_index`), since the entries are counted in place of the rows. No more
+/// than one is in memory. A fault is that of a read that has failed, or `Memory`.
 pub fn has_row_counts<S: Store>(
     alloc: Global,
     store: &mut S,
     counts: &Counts,
 ) -> Result<bool, StoreFault>
-    ensures told { IfOk result (λ told. IsClean (S.Store.view store.new) → (IsTrue told ↔ ShowsCounts Tables (S.Store.view store.old).trees counts.now)) }
+    ensures told { IsClean (S.Store.view store.new) → IsIndexedStore (S.Store.view store.old).trees → IfOk result (λ told. IsTrue told ↔ ShowsCounts Tables (S.Store.view store.old).trees counts.now) }
     ensures sound { OnOk result (IsClean (S.Store.view store.new) → (S.Store.view store.new).is_broken ≡ false) }
     ensures reads { IsClean (S.Store.view store.new) → (S.Store.view store.new).is_broken ≡ false → OnlyReads (S.Store.view store.old) (S.Store.view store.new) }
     ensures ours { IfErr result (λ fault. ¬ (IsForeign fault)) }
@@ -75,11 +96,11 @@ pub fn has_row_counts<S: Store>(
     if !has_count(alloc, store, BLOBS, counts.blobs)? {
         return Ok(false);
     }
-    if !has_count(alloc, store, ELEMENTS, counts.elements)? {
+    if !has_rows(alloc, store, ElementTable::Elements, counts.elements)? {
         return Ok(false);
     }
-    if !has_count(alloc, store, TAGS, counts.tags)? {
+    if !has_rows(alloc, store, ElementTable::Tags, counts.tags)? {
         return Ok(false);
     }
-    has_count(alloc, store, LINKS, counts.links)
+    has_rows(alloc, store, ElementTable::Links, counts.links)
 }

@@ -1,6 +1,6 @@
 //! Whether each index of a store has one entry for each row of its table, and no other.
 
-ghost use Rattle.std.specs.Prelude.{◌≡◌, ◌↔◌, ◌∷◌, [], false, length, map, All, Contains, IsSome, IsTrue, IfOk, IfErr, OnOk, MatchOption};
+ghost use Rattle.std.specs.Prelude.{◌≡◌, ◌≢◌, ◌↔◌, ◌∷◌, [], ℕ, false, length, map, All, Contains, IsSome, IsTrue, IfOk, IfErr, OnOk, MatchOption};
 ghost use Rattle.sqlite_trees.specs.Tree.{IsIndexShape};
 ghost use Rattle.sqlite_trees.specs.View.{IsClean, IsQuiet, StayLive};
 ghost use Rattle.sqlite_sql.specs.Catalog.{entry_of, IsIndexOf};
@@ -207,39 +207,42 @@ fn is_entry_of(entry: &Row, columns: &[usize], row: &Row) -> bool
     is_same(entry.get(columns.len()), row.get(0))
 }
 
-/// Whether the cursor 1 gives the entry of this row next. It moves on.
+/// Whether a cursor over an index gives the entry of this row next. It moves on.
 fn next_is_of<S: Store>(
     store: &mut S,
+    cursor: u16,
     columns: &[usize],
     row: &Row,
     found: &mut Row,
 ) -> Result<bool, StoreFault>
-    requires { IsSome ((S.Store.view store.old).cursors 1) }
-    ensures told { IfOk result (λ told. IsClean (S.Store.view store.new) → IsTrue told → (left_of (S.Store.view store.old) 1 ≡ entry_of columns.now row.now ∷ left_of (S.Store.view store.new) 1)) }
-    ensures rows { OnOk result (IsClean (S.Store.view store.new) → (S.Store.view store.new).cursors 0 ≡ (S.Store.view store.old).cursors 0) }
+    requires { IsSome ((S.Store.view store.old).cursors cursor) }
+    ensures told { IfOk result (λ told. IsClean (S.Store.view store.new) → IsTrue told → (left_of (S.Store.view store.old) cursor ≡ entry_of columns.now row.now ∷ left_of (S.Store.view store.new) cursor)) }
+    ensures others { OnOk result (IsClean (S.Store.view store.new) → (c : ℕ) → c ≢ cursor → (S.Store.view store.new).cursors c ≡ (S.Store.view store.old).cursors c) }
     ensures stay { OnOk result (StayLive (S.Store.view store.old) (S.Store.view store.new)) }
     ensures sound { OnOk result (IsClean (S.Store.view store.new) → (S.Store.view store.new).is_broken ≡ false) }
     ensures reads { IsClean (S.Store.view store.new) → (S.Store.view store.new).is_broken ≡ false → OnlyReads (S.Store.view store.old) (S.Store.view store.new) }
     ensures ours { IfErr result (λ fault. ¬ (IsForeign fault)) }
     ensures quiet { IsQuiet S.Store.view S.Store.faults S.Store.recovers S.Store.is_shielded store.old store.new }
 {
-    match store.next(1, found) {
+    match store.next(cursor, found) {
         Ok(true) => Ok(is_entry_of(found, columns, row)),
         Ok(false) => Ok(false),
         Err(error) => Err(fault_of(error)),
     }
 }
 
-/// Whether the cursor 1 has no more to give.
-fn has_ended<S: Store>(store: &mut S, found: &mut Row) -> Result<bool, StoreFault>
-    requires { IsSome ((S.Store.view store.old).cursors 1) }
-    ensures told { IfOk result (λ told. IsClean (S.Store.view store.new) → IsTrue told → (left_of (S.Store.view store.old) 1 ≡ [])) }
+/// Whether a cursor has no more to give.
+fn has_ended<S: Store>(store: &mut S, cursor: u16, found: &mut Row) -> Result<bool, StoreFault>
+    requires { IsSome ((S.Store.view store.old).cursors cursor) }
+    ensures told { IfOk result (λ told. IsClean (S.Store.view store.new) → IsTrue told → (left_of (S.Store.view store.old) cursor ≡ [])) }
+    ensures others { OnOk result (IsClean (S.Store.view store.new) → (c : ℕ) → c ≢ cursor → (S.Store.view store.new).cursors c ≡ (S.Store.view store.old).cursors c) }
+    ensures stay { OnOk result (StayLive (S.Store.view store.old) (S.Store.view store.new)) }
     ensures sound { OnOk result (IsClean (S.Store.view store.new) → (S.Store.view store.new).is_broken ≡ false) }
     ensures reads { IsClean (S.Store.view store.new) → (S.Store.view store.new).is_broken ≡ false → OnlyReads (S.Store.view store.old) (S.Store.view store.new) }
     ensures ours { IfErr result (λ fault. ¬ (IsForeign fault)) }
     ensures quiet { IsQuiet S.Store.view S.Store.faults S.Store.recovers S.Store.is_shielded store.old store.new }
 {
-    match store.next(1, found) {
+    match store.next(cursor, found) {
         Ok(more) => Ok(!more),
         Err(error) => Err(fault_of(error)),
     }
@@ -272,11 +275,130 @@ fn is_in_step<S: Store>(
     'rows: for _ in 0..u64::MAX {
         match store.next(0, &mut row) {
             Ok(true) => {}
-            Ok(false) => return has_ended(store, &mut found),
+            Ok(false) => return has_ended(store, 1, &mut found),
             Err(error) => return Err(fault_of(error)),
         }
-        if !next_is_of(store, columns, &row, &mut found)? {
+        if !next_is_of(store, 1, columns, &row, &mut found)? {
             return Ok(false);
+        }
+    }
+    // No sound store has this many rows.
+    Err(StoreFault::Memory)
+}
+
+/// Whether an index goes on in step with its table: it was so until now, and a cursor over it gives the entry of this row next.
+fn goes_on<S: Store>(
+    store: &mut S,
+    cursor: u16,
+    until_now: bool,
+    columns: &[usize],
+    row: &Row,
+    found: &mut Row,
+) -> Result<bool, StoreFault>
+    requires live { IsSome ((S.Store.view store.old).cursors cursor) }
+    requires sound { IsClean (S.Store.view store.old) → (S.Store.view store.old).is_broken ≡ false }
+    ensures told { IfOk result (λ told. IsClean (S.Store.view store.new) → IsTrue told
+        → IsTrue until_now × (left_of (S.Store.view store.old) cursor ≡ entry_of columns.now row.now ∷ left_of (S.Store.view store.new) cursor)) }
+    ensures others { OnOk result (IsClean (S.Store.view store.new) → (c : ℕ) → c ≢ cursor → (S.Store.view store.new).cursors c ≡ (S.Store.view store.old).cursors c) }
+    ensures stay { OnOk result (StayLive (S.Store.view store.old) (S.Store.view store.new)) }
+    ensures sound { OnOk result (IsClean (S.Store.view store.new) → (S.Store.view store.new).is_broken ≡ false) }
+    ensures reads { IsClean (S.Store.view store.new) → (S.Store.view store.new).is_broken ≡ false → OnlyReads (S.Store.view store.old) (S.Store.view store.new) }
+    ensures ours { IfErr result (λ fault. ¬ (IsForeign fault)) }
+    ensures quiet { IsQuiet S.Store.view S.Store.faults S.Store.recovers S.Store.is_shielded store.old store.new }
+{
+    if !until_now {
+        return Ok(false);
+    }
+    next_is_of(store, cursor, columns, row, found)
+}
+
+/// Whether an index has been in step with its table to the end: it was so until now, and a cursor over it has no more to give.
+fn ends<S: Store>(
+    store: &mut S,
+    cursor: u16,
+    until_now: bool,
+    found: &mut Row,
+) -> Result<bool, StoreFault>
+    requires live { IsSome ((S.Store.view store.old).cursors cursor) }
+    requires sound { IsClean (S.Store.view store.old) → (S.Store.view store.old).is_broken ≡ false }
+    ensures told { IfOk result (λ told. IsClean (S.Store.view store.new) → IsTrue told → IsTrue until_now × (left_of (S.Store.view store.old) cursor ≡ [])) }
+    ensures others { OnOk result (IsClean (S.Store.view store.new) → (c : ℕ) → c ≢ cursor → (S.Store.view store.new).cursors c ≡ (S.Store.view store.old).cursors c) }
+    ensures stay { OnOk result (StayLive (S.Store.view store.old) (S.Store.view store.new)) }
+    ensures sound { OnOk result (IsClean (S.Store.view store.new) → (S.Store.view store.new).is_broken ≡ false) }
+    ensures reads { IsClean (S.Store.view store.new) → (S.Store.view store.new).is_broken ≡ false → OnlyReads (S.Store.view store.old) (S.Store.view store.new) }
+    ensures ours { IfErr result (λ fault. ¬ (IsForeign fault)) }
+    ensures quiet { IsQuiet S.Store.view S.Store.faults S.Store.recovers S.Store.is_shielded store.old store.new }
+{
+    if !until_now {
+        return Ok(false);
+    }
+    has_ended(store, cursor, found)
+}
+
+/// The same of two indexes, with the cursors 1 and 2.
+fn both_end<S: Store>(
+    store: &mut S,
+    one: bool,
+    other: bool,
+    found: &mut Row,
+) -> Result<(bool, bool), StoreFault>
+    requires one { IsSome ((S.Store.view store.old).cursors 1) }
+    requires other { IsSome ((S.Store.view store.old).cursors 2) }
+    requires sound { IsClean (S.Store.view store.old) → (S.Store.view store.old).is_broken ≡ false }
+    ensures told { IfOk result (λ told. IsClean (S.Store.view store.new)
+        → (IsTrue told.0 → IsTrue one × (left_of (S.Store.view store.old) 1 ≡ [])) × (IsTrue told.1 → IsTrue other × (left_of (S.Store.view store.old) 2 ≡ []))) }
+    ensures sound { OnOk result (IsClean (S.Store.view store.new) → (S.Store.view store.new).is_broken ≡ false) }
+    ensures reads { IsClean (S.Store.view store.new) → (S.Store.view store.new).is_broken ≡ false → OnlyReads (S.Store.view store.old) (S.Store.view store.new) }
+    ensures ours { IfErr result (λ fault. ¬ (IsForeign fault)) }
+    ensures quiet { IsQuiet S.Store.view S.Store.faults S.Store.recovers S.Store.is_shielded store.old store.new }
+{
+    let one = ends(store, 1, one, found)?;
+    let other = ends(store, 2, other, found)?;
+    Ok((one, other))
+}
+
+/// The same as `is_in_step` of two indexes of one table, which is walked once for both. An index that is out of step is left
+/// where it is, and the walk ends where both are.
+fn are_in_step<S: Store>(
+    alloc: Global,
+    store: &mut S,
+    table: u32,
+    one: u32,
+    one_columns: &[usize],
+    other: u32,
+    other_columns: &[usize],
+) -> Result<(bool, bool), StoreFault>
+    ensures told { IfOk result (λ told. IsClean (S.Store.view store.new)
+        → (IsTrue told.0 → (map (entry_of one_columns.now) ((S.Store.view store.old).trees table) ≡ (S.Store.view store.old).trees one))
+        × (IsTrue told.1 → (map (entry_of other_columns.now) ((S.Store.view store.old).trees table) ≡ (S.Store.view store.old).trees other))) }
+    ensures sound { OnOk result (IsClean (S.Store.view store.new) → (S.Store.view store.new).is_broken ≡ false) }
+    ensures reads { IsClean (S.Store.view store.new) → (S.Store.view store.new).is_broken ≡ false → OnlyReads (S.Store.view store.old) (S.Store.view store.new) }
+    ensures ours { IfErr result (λ fault. ¬ (IsForeign fault)) }
+    ensures quiet { IsQuiet S.Store.view S.Store.faults S.Store.recovers S.Store.is_shielded store.old store.new }
+{
+    let mut row = Row::new(alloc);
+    let mut found = Row::new(alloc);
+    if let Err(error) = store.seek(1, one, &row, Direction::Forward) {
+        return Err(fault_of(error));
+    }
+    if let Err(error) = store.seek(2, other, &row, Direction::Forward) {
+        return Err(fault_of(error));
+    }
+    if let Err(error) = store.seek(0, table, &row, Direction::Forward) {
+        return Err(fault_of(error));
+    }
+    let mut one_in_step = true;
+    let mut other_in_step = true;
+    'rows: for _ in 0..u64::MAX {
+        match store.next(0, &mut row) {
+            Ok(true) => {}
+            Ok(false) => return both_end(store, one_in_step, other_in_step, &mut found),
+            Err(error) => return Err(fault_of(error)),
+        }
+        one_in_step = goes_on(store, 1, one_in_step, one_columns, &row, &mut found)?;
+        other_in_step = goes_on(store, 2, other_in_step, other_columns, &row, &mut found)?;
+        if !one_in_step && !other_in_step {
+            return Ok((false, false));
         }
     }
     // No sound store has this many rows.
@@ -308,13 +430,39 @@ pub(crate) fn is_indexed<S: Store>(
     has_each_entry(alloc, store, table, tree, columns)
 }
 
+/// The same of an index in the plain order, of which it is known that it is in step with its table, or that no walk has shown it.
+fn is_whole<S: Store>(
+    alloc: Global,
+    store: &mut S,
+    table: u32,
+    tree: u32,
+    columns: &[usize],
+    in_step: bool,
+) -> Result<bool, StoreFault>
+    requires step { IsClean (S.Store.view store.old) → IsTrue in_step → map (entry_of columns.now) ((S.Store.view store.old).trees table) ≡ (S.Store.view store.old).trees tree }
+    requires sound { IsClean (S.Store.view store.old) → (S.Store.view store.old).is_broken ≡ false }
+    ensures told { IfOk result (λ told. IsClean (S.Store.view store.new) → (IsTrue told ↔ IsIndexOf columns.now ((S.Store.view store.old).trees table) ((S.Store.view store.old).trees tree))) }
+    ensures sound { OnOk result (IsClean (S.Store.view store.new) → (S.Store.view store.new).is_broken ≡ false) }
+    ensures reads { IsClean (S.Store.view store.new) → (S.Store.view store.new).is_broken ≡ false → OnlyReads (S.Store.view store.old) (S.Store.view store.new) }
+    ensures ours { IfErr result (λ fault. ¬ (IsForeign fault)) }
+    ensures quiet { IsQuiet S.Store.view S.Store.faults S.Store.recovers S.Store.is_shielded store.old store.new }
+{
+    if store.shape(tree) != Shape::Index(Order::PLAIN) || store.shape(table) != Shape::Table {
+        return Err(StoreFault::Disk);
+    }
+    if in_step {
+        return Ok(true);
+    }
+    has_each_entry(alloc, store, table, tree, columns)
+}
+
 /// The first index of a store that has not one entry for each row of its table, and no other, if there is one; whatever
 /// rows there are. No more than one row and its entry are in memory. A fault is that of a read that has failed, `Memory`,
 /// or `Disk` where the trees have no such tables and indexes.
 ///
-/// An index in the order of its table costs two walks side by side. In one that is in another order the walk over the index
-/// goes on while its next entry is that of the table's next row, else the entry is sought, and at last all entries are
-/// counted.
+/// Where indexes are in the order of their table, one walk over it and one over each of them tell, side by side. One in another
+/// order is walked again, while its next entry is that of the table's next row, else the entry is sought, and at last all
+/// entries are counted.
 pub fn faulty_index<S: Store>(
     alloc: Global,
     store: &mut S,
@@ -326,7 +474,16 @@ pub fn faulty_index<S: Store>(
     ensures ours { IfErr result (λ fault. ¬ (IsForeign fault)) }
     ensures quiet { IsQuiet S.Store.view S.Store.faults S.Store.recovers S.Store.is_shielded store.old store.new }
 {
-    if !is_indexed(alloc, store, ELEMENTS, ELEMENT_KEY, Order::PLAIN, &[1, 2])? {
+    let in_step = are_in_step(
+        alloc,
+        store,
+        ELEMENTS,
+        ELEMENT_KEY,
+        &[1, 2],
+        ELEMENT_BY_ID,
+        &[3, 4],
+    )?;
+    if !is_whole(alloc, store, ELEMENTS, ELEMENT_KEY, &[1, 2], in_step.0)? {
         return Ok(Some(StoreIndex::ElementKey));
     }
     if !is_indexed(alloc, store, TAGS, TAG_KEY, Order::PLAIN, &[1, 2, 3])? {
@@ -335,7 +492,7 @@ pub fn faulty_index<S: Store>(
     if !is_indexed(alloc, store, LINKS, LINK_KEY, Order::PLAIN, &[1, 2, 3])? {
         return Ok(Some(StoreIndex::LinkKey));
     }
-    if !is_indexed(alloc, store, ELEMENTS, ELEMENT_BY_ID, Order::PLAIN, &[3, 4])? {
+    if !is_whole(alloc, store, ELEMENTS, ELEMENT_BY_ID, &[3, 4], in_step.1)? {
         return Ok(Some(StoreIndex::ElementById));
     }
     Ok(None)

@@ -4,13 +4,25 @@ ghost use Rattle.std.specs.Prelude.{◌≡◌};
 ghost use Rattle.osm_tree_audits.specs.ElementTables.{index_of, table_of, width_of};
 
 use crate::trees::{ELEMENT_KEY, ELEMENTS, LINK_KEY, LINKS, TAG_KEY, TAGS};
+use std::fmt;
 
 /// A table that has rows for the elements of a blob.
-#[derive(Clone, Copy)]
-pub(crate) enum ElementTable {
+#[derive(Clone, Copy, Debug, PartialEq, Eq)]
+pub enum ElementTable {
     Elements,
     Tags,
     Links,
+}
+
+impl fmt::Display for ElementTable {
+    /// Its name in `sqlite_schema`.
+    fn fmt<W: fmt::Write>(&self, f: &mut fmt::Formatter<W>) -> fmt::Result {
+        f.write_str(match self {
+            ElementTable::Elements => "element",
+            ElementTable::Tags => "tag",
+            ElementTable::Links => "link",
+        })
+    }
 }
 
 impl ElementTable {

@@ -189,7 +189,8 @@ fn write_rows<S: Alter>(
 /// One transaction adds the rows of a blob and of its elements, or nothing. Each index that somebody has added to the
 /// tables gets an entry for each row, and no other tree behind those of a store is touched. A fault is `Memory`, `Full` where
 /// there is no room, and else `Disk`, as where the trees take no blobs (`takes_blobs`) or have rows at the blob's offset that
-/// are those of no blob; what was committed before stays. Trees that have to be opened again take nothing.
+/// are those of no blob; what was committed before stays, and where the trees needn't be opened again they are those of that
+/// commit. Trees whose transaction is broken take nothing, and it is rolled back.
 pub fn put_blob<S: Alter>(
     alloc: Global,
     store: &mut S,
@@ -201,8 +202,8 @@ pub fn put_blob<S: Alter>(
     ensures can_store { OnOk result (AllByRecursion IsElement elements.now) }
     ensures indexed { OnOk result (IsClean (S.Store.view store.old) → TakeBlobs (S.Store.view store.old).shape ((S.Store.view store.old).trees catalog_tree)) }
     ensures committed { IsClean (S.Store.view store.new) → OnOk result (((S.Store.view store.old).is_broken ≡ false) × ((S.Store.view store.new).is_broken ≡ false) × ((S.Store.view store.new).committed ≡ (S.Store.view store.new).trees)) }
-    ensures unchanged { IsClean (S.Store.view store.new) → (S.Store.view store.new).is_broken ≡ false
-        → OnErr result (((S.Store.view store.old).is_broken ≡ false) × ((S.Store.view store.new).trees ≡ (S.Store.view store.old).committed) × ((S.Store.view store.new).committed ≡ (S.Store.view store.old).committed)) }
+    ensures unchanged { IsClean (S.Store.view store.new) → IsTrue (S.Store.view store.new).is_open
+        → OnErr result (IsTrue (S.Store.view store.old).is_open × ((S.Store.view store.new).is_broken ≡ false) × ((S.Store.view store.new).trees ≡ (S.Store.view store.old).committed) × ((S.Store.view store.new).committed ≡ (S.Store.view store.old).committed)) }
     ensures ours { IfErr result (λ fault. ¬ (IsForeign fault)) }
     ensures clean { doubt (S.Store.view store.old).is_clean ≤ doubt (S.Store.view store.new).is_clean }
     // a crash leaves what it could leave before, or the trees with the whole blob
@@ -210,6 +211,7 @@ pub fn put_blob<S: Alter>(
         → S.Store.recovers store.old db ⊎ (((S.Store.view store.old).is_broken ≡ false) × AllByRecursion IsElement elements.now × PutsBelow (S.Store.view store.old).trees db extent.now (placed extent.now.off 0 elements.now)) }
 {
     if store.is_broken() {
+        store.rollback();
         return Err(StoreFault::Disk);
     }
     match write_rows(alloc, store, extent, elements) {

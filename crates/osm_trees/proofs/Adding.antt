@@ -4,23 +4,24 @@ use Rattle.std.specs.Prelude.{OnOk, OnErr, IfErr}
 use Rattle.std.specs.List.{AllByRecursion}
 use Rattle.sqlite_trees.specs.declared.store.Store.{Ghosts}
 use Rattle.sqlite_trees.specs.Tree.{Trees}
-use Rattle.sqlite_trees.specs.View.{View, doubt, IsClean}
+use Rattle.sqlite_trees.specs.View.{doubt, IsClean}
 use Rattle.sqlite_trees.specs.Objects.{catalog_tree}
 use Rattle.pbf_frame.specs.declared.part.TheConstants.{MAX_OFFSET}
 use Rattle.osm_value.specs.Elements.{IsElement}
 use Rattle.osm_store.specs.declared.fault.StoreFault.{StoreFault}
 use Rattle.osm_store.specs.declared.schema.layout.Layout.TheVariants.{Tables}
 use Rattle.osm_store.specs.Held.{Blob, HeldMap}
-use Rattle.osm_store.specs.Keeping.{Adds, IsAddable, IsForeign, extent_of, failures_after, with_blob}
+use Rattle.osm_store.specs.Keeping.{IsAddable, IsForeign, extent_of, failures_after, with_blob}
 use Rattle.osm_store.specs.LayoutHolding.{IsBlob, IsKept}
 use Rattle.osm_store.specs.Rows.{placed}
 use Rattle.osm_store.proofs.MapLemmas.OneMore.{kept_more}
 use Rattle.osm_tree_writes.specs.Beside.{ListsAlone}
 use Rattle.osm_tree_writes.specs.Putting.{PutsBelow, TreesHold}
 use Rattle.osm_tree_writes.proofs.Obeying.{hold_with, one_map_below}
-use Rattle.osm_trees.specs.Below.{HoldsBelow, IsUsable, MayLeave, LeavesAMap, SameTrees, StandsAlone}
+use Rattle.osm_trees.specs.Below.{HoldsBelow, IsUsable, MayLeave, LeavesAMap, StandsAlone}
 use Rattle.osm_trees.specs.Putting.{AddsBelow}
-use Rattle.osm_trees.specs.Reading.{Reading, leaves_held}
+use Rattle.osm_trees.specs.Reading.{Reading, leaves_held, open_of}
+use Rattle.osm_trees.proofs.Mending.{holds_still}
 
 -- the rows of the blob are put into these trees
 abbrev pub Puts : ℕ → Blob → Trees → Trees → Type 0
@@ -31,13 +32,16 @@ pub record Wrote {S T : Type 0} (g : Ghosts S) (off : ℕ) (blob : Blob) (old ne
   pub added : IsClean (g.view new) → OnOk r (Puts off blob (g.view old).trees (g.view new).trees)
   pub can_store : OnOk r (AllByRecursion IsElement blob.elements)
   pub committed : IsClean (g.view new) → OnOk r (((g.view old).is_broken ≡ false) × ((g.view new).is_broken ≡ false) × ((g.view new).committed ≡ (g.view new).trees))
-  pub unchanged : IsClean (g.view new) → (g.view new).is_broken ≡ false → OnErr r (((g.view old).is_broken ≡ false) × ((g.view new).trees ≡ (g.view old).committed) × ((g.view new).committed ≡ (g.view old).committed))
+  pub unchanged : IsClean (g.view new) → IsTrue (g.view new).is_open → OnErr r (IsTrue (g.view old).is_open × ((g.view new).is_broken ≡ false) × ((g.view new).trees ≡ (g.view old).committed) × ((g.view new).committed ≡ (g.view old).committed))
   pub ours : IfErr r (λ fault. ¬ (IsForeign fault))
   pub clean : doubt (g.view old).is_clean ≤ doubt (g.view new).is_clean
   pub crash : IsClean (g.view new) → (db : Trees) → g.recovers new db → g.recovers old db ⊎ (((g.view old).is_broken ≡ false) × AllByRecursion IsElement blob.elements × Puts off blob (g.view old).trees db)
 
 module _ {S : Type 0} (g : Ghosts S) (old new : Reading S) (off : ℕ) (blob : Blob) (order : off < blob.fin) (limit : blob.fin ≤ MAX_OFFSET) (digest : length blob.digest ≡ 32)
     (settles : (db : Trees) → IsTrue (g.view old.store).is_open → g.recovers old.store db → db ≡ (g.view old.store).committed) (shuts : (g.view old.store).is_open ≡ false → IsTrue (g.view old.store).is_broken) where
+  was_open : (g.view old.store).is_broken ≡ false → IsTrue (g.view old.store).is_open
+  was_open = open_of _ _ shuts
+
   abbrev Written : Result (Unit {0}) StoreFault → Type 0
   Written r = Wrote g off blob old.store new.store r
 
@@ -79,7 +83,7 @@ module _ {S : Type 0} (g : Ghosts S) (old new : Reading S) (off : ℕ) (blob : B
     listed_as_before : StandsAlone (g.view old.store) (g.recovers old.store) → (db : Trees) → Puts off blob (g.view old.store).trees db → ListsAlone (db catalog_tree)
     listed_as_before alone db puts =
         let same : db catalog_tree ≡ (g.view old.store).committed catalog_tree = puts.catalog ∙ ap (λ (f : Trees). f catalog_tree) holds.settled in
-        subst ListsAlone (sym same) (alone.committed (holds.clean, holds.unbroken))
+        subst ListsAlone (sym same) (alone.committed (holds.clean, was_open holds.unbroken))
 
     left_alone : {r : Result (Unit {0}) StoreFault} → Written r → IsClean (g.view new.store) → StandsAlone (g.view old.store) (g.recovers old.store) → (db : Trees) → g.recovers new.store db → ListsAlone (db catalog_tree)
     left_alone w clean alone db left = elim (w.crash clean db left) [
@@ -87,25 +91,11 @@ module _ {S : Type 0} (g : Ghosts S) (old new : Reading S) (off : ℕ) (blob : B
       | inr put ↦ listed_as_before alone db put.2
     ]
 
-  -- ---- where nothing is written
-  holds_still : (held : HeldMap) → HoldsBelow Tables (g.view old.store) held → IsClean (g.view new.store) → (g.view new.store).is_broken ≡ false → (g.view new.store).trees ≡ (g.view old.store).committed
-      → (g.view new.store).committed ≡ (g.view old.store).committed → HoldsBelow Tables (g.view new.store) held
-  holds_still held holds clean unbroken trees committed =
-      let same = trees ∙ sym holds.settled in
-      record {
-        clean = clean;
-        unbroken = unbroken;
-        settled = trees ∙ sym committed;
-        kept = holds.kept;
-        tables = subst (TreesHold Tables held) (sym same) holds.tables;
-        only = λ other kept tables. holds.only other kept (subst (TreesHold Tables other) same tables);
-      }
-
-  -- what is left after a put into a store that can't go on was left before
+  -- what is left after a put into a store that has to be opened again was left before
   left_before : {r : Result (Unit {0}) StoreFault} → Written r → IsClean (g.view new.store) → ¬ (IsUsable (g.view old.store)) → (db : Trees) → g.recovers new.store db → g.recovers old.store db
   left_before w clean closed db left = elim (w.crash clean db left) [
     | inl before ↦ before
-    | inr put ↦ absurd (closed (omega (arith, w.clean, clean), put.0))
+    | inr put ↦ absurd (closed (omega (arith, w.clean, clean), was_open put.0))
   ]
 
   shut_leaves : {r : Result (Unit {0}) StoreFault} → Written r → IsClean (g.view new.store) → ¬ (IsUsable (g.view old.store)) → (left : HeldMap) → MayLeave (g.recovers new.store) left → MayLeave (g.recovers old.store) left
@@ -114,7 +104,7 @@ module _ {S : Type 0} (g : Ghosts S) (old new : Reading S) (off : ℕ) (blob : B
   pub put_adds : (r : Result (Unit {0}) StoreFault) → Written r → new.failures ≡ failures_after r old.failures → AddsBelow g off blob old r new
   put_adds (Ok x) w counted = record {
     honest = λ clean. omega (arith, w.clean, clean);
-    open_if = λ up. (omega (arith, w.clean, up.0), (w.committed up.0).0);
+    open_if = λ up. (omega (arith, w.clean, up.0), was_open (w.committed up.0).0);
     ok = λ clean held holds can. holds_more held holds can clean w.can_store (w.added clean) (w.committed clean).1 (w.committed clean).2;
     err = tt;
     same = λ clean up. tt;
@@ -125,7 +115,7 @@ module _ {S : Type 0} (g : Ghosts S) (old new : Reading S) (off : ℕ) (blob : B
       left = left_alone held holds can w clean alone;
     };
     own = λ held holds clean can. tt;
-    was_open = λ clean. (omega (arith, w.clean, clean), (w.committed clean).0);
+    was_open = λ clean. (omega (arith, w.clean, clean), was_open (w.committed clean).0);
     shut = λ clean closed left may. shut_leaves w clean closed left may;
     shut_whole = λ clean closed whole db left. whole db (left_before w clean closed db left);
     counted = counted;
@@ -134,12 +124,12 @@ module _ {S : Type 0} (g : Ghosts S) (old new : Reading S) (off : ℕ) (blob : B
     honest = λ clean. omega (arith, w.clean, clean);
     open_if = λ up. (omega (arith, w.clean, up.0), (w.unchanged up.0 up.1).0);
     ok = tt;
-    err = λ clean up held holds can. holds_still held holds clean up.1 (w.unchanged clean up.1).1 (w.unchanged clean up.1).2;
-    same = λ clean up. let left = w.unchanged clean up.1 in record { committed = left.2; settled = λ settled. left.1 ∙ sym left.2 };
+    err = λ clean up held holds can. let left = w.unchanged clean up.1 in holds_still Tables (g.view old.store) (g.view new.store) held holds clean left.1 left.2 left.3;
+    same = λ clean up. let left = w.unchanged clean up.1 in record { committed = left.3; settled = λ settled. left.2 ∙ sym left.3 };
     crash = λ clean held left holds can may. leaves_more held holds can w clean left may;
     whole = λ clean held holds can. leaves_a_map held holds can w clean;
     alone = λ clean held holds can alone. record {
-      committed = λ up. subst (λ (db : Trees). ListsAlone (db catalog_tree)) (sym (w.unchanged clean up.1).2) (alone.committed (holds.clean, holds.unbroken));
+      committed = λ up. subst (λ (db : Trees). ListsAlone (db catalog_tree)) (sym (w.unchanged clean up.1).3) (alone.committed (holds.clean, was_open holds.unbroken));
       left = left_alone held holds can w clean alone;
     };
     own = λ held holds clean can. w.ours;

@@ -1,20 +1,19 @@
 -- Results that are said clause by clause, and reads as the reader promises them.
-use Rattle.std.proofs.Common.{◌≡◌, ◌∙◌, false, Result, Ok, Err, sym, subst}
+use Rattle.std.proofs.Common.{◌≡◌, false, IsTrue, Result, Ok, Err, sym, subst}
 use Rattle.std.specs.Prelude.{MatchResult, IfOk, IfErr, OnOk}
 use Rattle.sqlite_trees.specs.declared.store.Store.{Ghosts}
-use Rattle.sqlite_trees.specs.View.{View, IsClean}
-use Rattle.sqlite_exec.specs.Calls.{OnlyReads}
+use Rattle.sqlite_trees.specs.View.{IsClean}
 use Rattle.sqlite_trees.specs.Objects.{catalog_tree}
 use Rattle.sqlite_trees.specs.Tree.{Trees}
 use Rattle.osm_store.specs.declared.fault.StoreFault.{StoreFault}
 use Rattle.osm_store.specs.declared.schema.layout.Layout.TheVariants.{Tables}
 use Rattle.osm_store.specs.Held.{HeldMap}
 use Rattle.osm_store.specs.Keeping.{IsForeign, failures_after}
-use Rattle.osm_tree_audits.proofs.Looking.{up_before}
 use Rattle.osm_tree_writes.specs.Beside.{ListsAlone}
-use Rattle.osm_trees.specs.Below.{HoldsBelow, IsUsable, Looks, SameTrees, StandsAlone}
-use Rattle.osm_trees.specs.Reading.{Reading, JustReads}
-use Rattle.osm_trees.proofs.Looking.{clean_before, same_commit, same_trees, holds_after}
+use Rattle.osm_trees.specs.Below.{HoldsBelow, IsUsable, Looks, Mends, StandsAlone}
+use Rattle.osm_trees.specs.Reading.{Reading, JustReads, open_of}
+use Rattle.osm_trees.proofs.Looking.{holds_after}
+use Rattle.osm_trees.proofs.Mending.{Leaves, Stands, clean_until, leaves_by, outcomes_all, stands, holds_standing}
 
 pub joined : {T E : Type 0} (r : Result T E) (P : T → Type 0) (Q : Type 0) (F : E → Type 0) → IfOk r P → OnOk r Q → IfErr r F → MatchResult r (λ x. P x × Q) F
 joined (Ok x) P Q F p q f = (p, q)
@@ -37,50 +36,87 @@ pub sound_of : {T E : Type 0} (A P : Type 0) (r : Result T E) → A → OnOk r (
 sound_of A P (Ok x) a f = f a
 sound_of A P (Err e) a f = tt
 
-pub opened_of : {T E : Type 0} (A P : Type 0) (r : Result T E) → A → OnOk r (A → P) → IfOk r (λ _. A × P)
-opened_of A P (Ok x) a f = (a, f a)
-opened_of A P (Err e) a f = tt
-
-reads_same : (a b : View) → OnlyReads a b → SameTrees a b
-reads_same a b reads = record { committed = same_commit a b reads; settled = λ settled. same_trees a b reads ∙ settled ∙ sym (same_commit a b reads) }
-
-module _ {S : Type 0} (g : Ghosts S) (old new : Reading S) (looks : Looks g old.store new.store) where
-  still_alone : IsClean (g.view new.store) → StandsAlone (g.view old.store) (g.recovers old.store) → StandsAlone (g.view new.store) (g.recovers new.store)
-  still_alone clean alone = record {
+module _ {S : Type 0} (g : Ghosts S) (old mid new : S) (left : Leaves g old mid) (mends : Mends g mid new) where
+  still_alone : StandsAlone (g.view old) (g.recovers old) → StandsAlone (g.view new) (g.recovers new)
+  still_alone alone = record {
     committed = λ up.
-        let reads = looks.reads clean up.1 in
-        let before : IsUsable (g.view old.store) = (clean_before g old.store new.store looks clean, up_before (g.view old.store) (g.view new.store) reads up.1) in
-        subst (λ (db : Trees). ListsAlone (db catalog_tree)) (sym (same_commit (g.view old.store) (g.view new.store) reads)) (alone.committed before);
-    left = λ db left. alone.left db (looks.quiet.outcomes db left);
+        let after = stands g old mid new left mends up.0 up.1 in
+        subst (λ (db : Trees). ListsAlone (db catalog_tree)) (sym after.same.committed) (alone.committed (left.clean (clean_until g mid new mends up.0), after.was_open));
+    left = λ db leaves. alone.left db (outcomes_all g old mid new left mends db leaves);
   }
 
-module _ {S T : Type 0} (g : Ghosts S) (old new : Reading S) (looks : Looks g old.store new.store) where
-  -- what each call of the reader says of its answer and of the trees
-  abbrev pub Answers : Result T StoreFault → Type 0
-  Answers r = IsClean (g.view new.store) → (held : HeldMap) → HoldsBelow Tables (g.view old.store) held → MatchResult r (λ _. (g.view new.store).is_broken ≡ false) (λ fault. ¬ (IsForeign fault))
+module _ {S : Type 0} (g : Ghosts S) (old : Reading S) (mid : S) (new : Reading S) (left : Leaves g old.store mid) (mends : Mends g mid new.store) where
+  clean_mid : IsClean (g.view new.store) → IsClean (g.view mid)
+  clean_mid = clean_until g mid new.store mends
 
-  pub just_reads : (r : Result T StoreFault) → Answers r → new.failures ≡ failures_after r old.failures → JustReads g old r new
+  after : IsUsable (g.view new.store) → Stands (g.view old.store) (g.view new.store)
+  after up = stands g old.store mid new.store left mends up.0 up.1
+
+  outcomes : (db : Trees) → g.recovers new.store db → g.recovers old.store db
+  outcomes = outcomes_all g old.store mid new.store left mends
+
+  -- what each call of the reader says of its answer and of the trees
+  abbrev pub Answers : {T : Type 0} → Result T StoreFault → Type 0
+  Answers r = IsClean (g.view mid) → (held : HeldMap) → HoldsBelow Tables (g.view old.store) held → MatchResult r (λ _. (g.view mid).is_broken ≡ false) (λ fault. ¬ (IsForeign fault))
+
+  pub just_reads : {T : Type 0} (r : Result T StoreFault) → Answers r → new.failures ≡ failures_after r old.failures → JustReads g old r new
   just_reads (Ok x) answers counted = record {
-    honest = clean_before g old.store new.store looks;
-    open_if = λ up. (clean_before g old.store new.store looks up.0, up_before (g.view old.store) (g.view new.store) (looks.reads up.0 up.1) up.1);
-    ok = λ clean held holds. let up = answers clean held holds in holds_after Tables (g.view old.store) (g.view new.store) held (looks.reads clean up) clean up holds;
+    honest = λ clean. left.clean (clean_mid clean);
+    open_if = λ up. (left.clean (clean_mid up.0), (after up).was_open);
+    ok = λ clean held holds.
+        let up = answers (clean_mid clean) held holds in
+        subst (λ s. HoldsBelow Tables (g.view s) held) (sym (mends.stays (clean_mid clean) up)) (holds_after Tables (g.view old.store) (g.view mid) held (left.reads (clean_mid clean) up) (clean_mid clean) up holds);
     err = tt;
-    same = λ clean up. reads_same (g.view old.store) (g.view new.store) (looks.reads clean up.1);
-    crash = λ clean held may. record { kept = may.kept; trees = may.trees; left = looks.quiet.outcomes may.trees may.left; tables = may.tables };
-    whole = λ clean all db left. all db (looks.quiet.outcomes db left);
-    alone = λ clean alone. still_alone g old new looks clean alone;
+    same = λ clean up. (after up).same;
+    crash = λ clean held may. record { kept = may.kept; trees = may.trees; left = outcomes may.trees may.left; tables = may.tables };
+    whole = λ clean all db leaves. all db (outcomes db leaves);
+    alone = λ clean alone. still_alone g old.store mid new.store left mends alone;
     own = λ held holds clean. tt;
     counted = counted;
   }
   just_reads (Err fault) answers counted = record {
-    honest = clean_before g old.store new.store looks;
-    open_if = λ up. (clean_before g old.store new.store looks up.0, up_before (g.view old.store) (g.view new.store) (looks.reads up.0 up.1) up.1);
+    honest = λ clean. left.clean (clean_mid clean);
+    open_if = λ up. (left.clean (clean_mid up.0), (after up).was_open);
     ok = tt;
-    err = λ clean up held holds. holds_after Tables (g.view old.store) (g.view new.store) held (looks.reads clean up.1) clean up.1 holds;
-    same = λ clean up. reads_same (g.view old.store) (g.view new.store) (looks.reads clean up.1);
-    crash = λ clean held may. record { kept = may.kept; trees = may.trees; left = looks.quiet.outcomes may.trees may.left; tables = may.tables };
-    whole = λ clean all db left. all db (looks.quiet.outcomes db left);
-    alone = λ clean alone. still_alone g old new looks clean alone;
-    own = λ held holds clean. answers clean held holds;
+    err = λ clean up held holds. holds_standing Tables (g.view old.store) (g.view new.store) held holds clean (after up);
+    same = λ clean up. (after up).same;
+    crash = λ clean held may. record { kept = may.kept; trees = may.trees; left = outcomes may.trees may.left; tables = may.tables };
+    whole = λ clean all db leaves. all db (outcomes db leaves);
+    alone = λ clean alone. still_alone g old.store mid new.store left mends alone;
+    own = λ held holds clean. answers (clean_mid clean) held holds;
     counted = counted;
   }
+
+-- what a read says that was begun and ended, of a store whose laws are these
+module _ {S : Type 0} (g : Ghosts S) (settles : (s : S) (db : Trees) → IsTrue (g.view s).is_open → g.recovers s db → db ≡ (g.view s).committed) (shuts : (s : S) → (g.view s).is_open ≡ false → IsTrue (g.view s).is_broken)
+    (stays : (s : S) → IsTrue (g.view s).is_open → g.recovers s (g.view s).committed) where
+  pub read_ends : {T : Type 0} (old inside : Reading S) (mid : S) (new : Reading S) → inside ≡ old → (IsClean (g.view old.store) → (g.view old.store).is_broken ≡ false) → Looks g inside.store mid → Mends g mid new.store → (r : Result T StoreFault)
+      → (IsClean (g.view mid) → (held : HeldMap) → HoldsBelow Tables (g.view inside.store) held → MatchResult r (λ _. (g.view mid).is_broken ≡ false) (λ fault. ¬ (IsForeign fault))) → new.failures ≡ failures_after r inside.failures → JustReads g old r new
+  read_ends old inside mid new same up looks mends r answers counted =
+      let up_inside = subst (λ (x : Reading S). IsClean (g.view x.store) → (g.view x.store).is_broken ≡ false) (sym same) up in
+      subst (λ x. JustReads g x r new) same
+      (just_reads g inside mid new (leaves_by g inside.store mid up_inside (settles inside.store) (shuts inside.store) (stays mid) looks) mends r answers counted)
+
+-- a read that answers leaves a store that is still usable
+module _ {S : Type 0} (g : Ghosts S) (shuts : (s : S) → (g.view s).is_open ≡ false → IsTrue (g.view s).is_broken) where
+  pub opened_of : {T : Type 0} (mid new : S) → Mends g mid new → (r : Result T StoreFault) → OnOk r (IsClean (g.view mid) → (g.view mid).is_broken ≡ false) → IsClean (g.view new) → IfOk r (λ _. IsUsable (g.view new))
+  opened_of mid new mends (Ok x) sound clean =
+      let clean_mid = clean_until g mid new mends clean in
+      let up = sound clean_mid in
+      (clean, open_of _ _ (shuts new) (subst (λ s. (g.view s).is_broken ≡ false) (sym (mends.stays clean_mid up)) up))
+  opened_of mid new mends (Err fault) sound clean = tt
+
+-- the fault of one call is that of another
+pub refused : {S T U : Type 0} (g : Ghosts S) (old new : Reading S) (fault : StoreFault) → JustReads {S = S} {T = T} g old (Err fault) new → JustReads {S = S} {T = U} g old (Err fault) new
+refused g old new fault reads = record {
+  honest = reads.honest;
+  open_if = reads.open_if;
+  ok = tt;
+  err = reads.err;
+  same = reads.same;
+  crash = reads.crash;
+  whole = reads.whole;
+  alone = reads.alone;
+  own = reads.own;
+  counted = reads.counted;
+}

@@ -2,6 +2,7 @@ pub mod Rest
 pub mod Found
 pub mod Keys
 pub mod Looking
+pub mod Mending
 pub mod Answers
 pub mod TreeReads
 pub mod Bridge

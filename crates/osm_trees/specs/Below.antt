@@ -1,9 +1,9 @@
 -- When the trees of a store hold a map, with no word of SQL, and what a read leaves of them.
-use Rattle.std.specs.Prelude.{◌≡◌, Bool, false, [], ◌∷◌}
+use Rattle.std.specs.Prelude.{◌≡◌, Bool, false, IsTrue, [], ◌∷◌}
 use Rattle.sqlite_value.specs.Order.{Row, column}
 use Rattle.sqlite_trees.specs.declared.store.Store.{Ghosts}
 use Rattle.sqlite_trees.specs.Tree.{Trees}
-use Rattle.sqlite_trees.specs.View.{View, IsClean, IsQuiet, is_int}
+use Rattle.sqlite_trees.specs.View.{View, IsClean, IsQuiet, IsRolledBack, is_int}
 use Rattle.sqlite_exec.specs.Calls.{OnlyReads}
 use Rattle.sqlite_trees.specs.Objects.{catalog_tree}
 use Rattle.osm_store.specs.declared.schema.layout.Layout.{Layout}
@@ -24,18 +24,24 @@ pub record HoldsBelow (layout : Layout) (v : View) (held : HeldMap) : Type 0 whe
   pub tables : TreesHold layout held v.trees
   pub only : (other : HeldMap) → IsKept layout other → TreesHold layout other v.trees → other ≡ held
 
--- only cursors have moved, if the store can go on, and a crash leaves nothing new
+-- only cursors have moved, if the store isn't broken, and a crash leaves nothing new
 pub record Looks {S : Type 0} (g : Ghosts S) (old new : S) : Type 0 where
   pub reads : IsClean (g.view new) → (g.view new).is_broken ≡ false → OnlyReads (g.view old) (g.view new)
+  pub quiet : IsQuiet g.view g.faults g.recovers g.is_shielded old new
+
+-- what was broken is rolled back, what wasn't stays, and a crash leaves nothing new
+pub record Mends {S : Type 0} (g : Ghosts S) (old new : S) : Type 0 where
+  pub stays : IsClean (g.view old) → (g.view old).is_broken ≡ false → new ≡ old
+  pub undone : IsClean (g.view old) → IsTrue (g.view old).is_broken → IsRolledBack (g.view old) (g.view new)
   pub quiet : IsQuiet g.view g.faults g.recovers g.is_shielded old new
 
 -- the row has a flag of visibility
 abbrev pub is_flagged : Row → Bool
 is_flagged row = is_int (column row 12)
 
--- the store can go on
+-- the store needn't be opened again
 abbrev pub IsUsable : View → Type 0
-IsUsable v = IsClean v × (v.is_broken ≡ false)
+IsUsable v = IsClean v × IsTrue v.is_open
 
 -- of the trees that a crash may leave, some have the rows of this map
 pub record MayLeave (recovers : Trees → Type 0) (held : HeldMap) : Type 0 where
@@ -48,7 +54,7 @@ pub record MayLeave (recovers : Trees → Type 0) (held : HeldMap) : Type 0 wher
 abbrev pub LeavesAMap : (Trees → Type 0) → Type 0
 LeavesAMap recovers = (db : Trees) → recovers db → (left : HeldMap) × IsKept Tables left × TreesHold Tables left db
 
--- the trees list nothing beside those of a store, if they can go on, nor do those that a crash leaves
+-- the trees list nothing beside those of a store, if they needn't be opened again, nor do those that a crash leaves
 pub record StandsAlone (v : View) (recovers : Trees → Type 0) : Type 0 where
   pub committed : IsUsable v → ListsAlone (v.committed catalog_tree)
   pub left : (db : Trees) → recovers db → ListsAlone (db catalog_tree)

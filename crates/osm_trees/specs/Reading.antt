@@ -1,6 +1,6 @@
 -- What callers see of a reader of trees, and what a crash leaves of one that can go on.
-use Rattle.std.specs.Prelude.{◌≡◌, ◌⊎◌, ℕ, Bool, true, false, IsTrue, refl, Result}
-use Rattle.std.proofs.Common.{sym, subst, inl, inr, ◌∙◌}
+use Rattle.std.specs.Prelude.{◌≡◌, ℕ, Bool, true, false, IsTrue, refl, Result}
+use Rattle.std.proofs.Common.{sym, subst, ◌∙◌}
 use Rattle.std.specs.Coded.{Coded, code_by, coded×, coded_ℕ}
 use Rattle.sqlite_trees.specs.declared.store.Store.{Ghosts}
 use Rattle.sqlite_trees.specs.Objects.{catalog_tree}
@@ -64,8 +64,3 @@ stands_alone v recovers up settles shuts lists = record {
   committed = λ _. lists;
   left = λ db left. subst (λ (ts : Trees). ListsAlone (ts catalog_tree)) (sym (settles db (open_of _ _ shuts up) left)) lists;
 }
-
--- the store can go on or can't
-pub usable_or_not : (is_broken : Bool) {IsHonest : Type 0} → IsHonest → (IsHonest × (is_broken ≡ false)) ⊎ ¬ (IsHonest × (is_broken ≡ false))
-usable_or_not false honest = inl (honest, refl)
-usable_or_not true honest = inr (λ both. let is : true ≡ false = both.1 in cc)

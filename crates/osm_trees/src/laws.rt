@@ -16,7 +16,7 @@ ghost use Rattle.osm_trees.specs.Below.{HoldsBelow};
 use crate::tree_store::TreeStore;
 use osm_store::Reader;
 use osm_store::laws::holds_again;
-use sqlite::{Alter, Connection};
+use sqlite::{Alter, Connection, MemStore};
 use sqlite_trees::store::Store;
 
 /// What a connection holds, the trees of its store hold.
@@ -45,4 +45,12 @@ pub fn a_connection_holds_the_same<T: Store, S: Alter>(
 {
     let _before = before;
     holds_again(connection);
+}
+
+/// A store in memory stays usable: its trees are what was written, and it needn't be opened again after any answer. So what
+/// `Reader` and `Keeper` promise of a store that is usable holds of it whatever is answered.
+pub fn memory_goes_on(store: &TreeStore<MemStore>)
+    ensures { ⟦<TreeStore<MemStore> as Reader>⟧.is_honest store.now × ⟦<TreeStore<MemStore> as Reader>⟧.is_open store.now }
+{
+    let _asked = store;
 }

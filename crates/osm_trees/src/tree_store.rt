@@ -16,7 +16,8 @@ use std::alloc::Global;
 use std::marker::Model;
 
 /// A store of blobs over the trees of its database, numbered as this program makes them: it begins at once, reads no more
-/// rows than a call needs, and writes the rows of a blob with no word of SQL.
+/// rows than a call needs, and writes the rows of a blob with no word of SQL. What a call that failed leaves broken is rolled
+/// back, so that it is usable until its files have to be opened anew.
 pub struct TreeStore<S: Store> {
     store: S,
     failures: u64,
@@ -42,6 +43,11 @@ impl<S: Store + Drop> Drop for TreeStore<S> {
 }
 
 impl<S: Store> TreeStore<S> {
+    ghost use Rattle.std.specs.Prelude.{false, OnOk, OnErr};
+    ghost use Rattle.sqlite_trees.specs.View.{IsClean};
+    ghost use Rattle.osm_trees.specs.Below.{Mends};
+    ghost use Rattle.osm_trees.specs.Reading.{JustReads};
+
     /// The store of these trees.
     pub fn new(store: S) -> TreeStore<S>
         ensures { result ≡ record { store = store; failures = 0 } }
@@ -55,6 +61,32 @@ impl<S: Store> TreeStore<S> {
     {
         let TreeStore { store, failures: _ } = self;
         store
+    }
+
+    /// Begins a read, which is refused where the trees are broken, as they are where they have to be opened anew: no call of
+    /// a store promises that it stays shut.
+    fn begin_read(&mut self) -> Result<(), StoreFault>
+        ensures up { OnOk result (IsClean (S.Store.view self.old.store) → (S.Store.view self.old.store).is_broken ≡ false) }
+        ensures same { OnOk result (self.new ≡ self.old) }
+        ensures reads { OnErr result (JustReads S.Store self.old result self.new) }
+    {
+        if !self.store.is_broken() {
+            return Ok(());
+        }
+        let refusal = Err(StoreFault::Disk);
+        self.end_read(&refusal);
+        refusal
+    }
+
+    /// Ends a read: what it has left broken is rolled back, and a failure is counted.
+    fn end_read<T>(&mut self, answer: &Result<T, StoreFault>)
+        ensures mends { Mends S.Store self.old.store self.new.store }
+        ensures counted { self.new.failures ≡ failures_after answer.now self.old.failures }
+    {
+        self.failures = failures_after(answer, self.failures);
+        if self.store.is_broken() {
+            self.store.rollback();
+        }
     }
 }
 
@@ -72,9 +104,9 @@ fn failures_after<T>(answer: &Result<T, StoreFault>, failures: u64) -> u64
 impl<S: Store> Reader for TreeStore<S> {
     ghost use Rattle.sqlite_trees.specs.View.{IsClean};
     ghost use Rattle.osm_store.specs.declared.schema.layout.Layout.TheVariants.{Tables};
-    ghost use Rattle.osm_store.specs.StoreLaws.{few_texts_of};
+    ghost use Rattle.osm_store.specs.StoreLaws.{few_texts_of, open_or_shut};
     ghost use Rattle.osm_trees.specs.Below.{HoldsBelow, IsUsable, MayLeave, LeavesAMap, SameTrees, StandsAlone};
-    ghost use Rattle.osm_trees.specs.Reading.{leaves_held_alone, leaves_held, usable_or_not, same_self, same_next};
+    ghost use Rattle.osm_trees.specs.Reading.{leaves_held_alone, leaves_held, same_self, same_next};
 
     ghost holds = { λ r held. HoldsBelow Tables (S.Store.view r.store) held };
 
@@ -93,8 +125,9 @@ impl<S: Store> Reader for TreeStore<S> {
     ghost failures = { λ r. r.failures };
 
     fn extents(&mut self, alloc: Global) -> Result<Vec<Extent>, StoreFault> {
+        self.begin_read()?;
         let answer = all_extents(alloc, &mut self.store);
-        self.failures = failures_after(&answer, self.failures);
+        self.end_read(&answer);
         answer
     }
 
@@ -104,26 +137,30 @@ impl<S: Store> Reader for TreeStore<S> {
         from: u64,
         to: u64,
     ) -> Result<Vec<Extent>, StoreFault> {
+        self.begin_read()?;
         let answer = touched_extents(alloc, &mut self.store, from, to);
-        self.failures = failures_after(&answer, self.failures);
+        self.end_read(&answer);
         answer
     }
 
     fn load(&mut self, alloc: Global, off: u64) -> Result<Loaded, StoreFault> {
+        self.begin_read()?;
         let answer = load_blob(alloc, &mut self.store, off);
-        self.failures = failures_after(&answer, self.failures);
+        self.end_read(&answer);
         answer
     }
 
     fn find(&mut self, alloc: Global, kind: MemberKind, id: i64) -> Result<Found, StoreFault> {
+        self.begin_read()?;
         let answer = find_elements(alloc, &mut self.store, kind, id);
-        self.failures = failures_after(&answer, self.failures);
+        self.end_read(&answer);
         answer
     }
 
     fn history(&mut self, alloc: Global) -> Result<bool, StoreFault> {
+        self.begin_read()?;
         let answer = any_flag(alloc, &mut self.store);
-        self.failures = failures_after(&answer, self.failures);
+        self.end_read(&answer);
         answer
     }
 
@@ -133,7 +170,7 @@ impl<S: Store> Reader for TreeStore<S> {
 
     ghost settled = { λ r held left holds may. leaves_held_alone _ _ held holds (λ db up there. S.settled r.store db up there) (S.broken_if_shut r.store) left may.kept may.trees may.left may.tables };
 
-    ghost open_or_shut = { λ r clean. usable_or_not _ clean };
+    ghost open_or_shut = { λ r clean. open_or_shut _ clean };
 
     ghost same_tables_self = { λ r. same_self _ };
 
@@ -205,6 +242,7 @@ impl<S: Store> Audited for TreeStore<S> {
         kind: Kind,
         elements: &[Element],
     ) -> Result<bool, StoreFault> {
+        self.begin_read()?;
         let wanted = Extent {
             off,
             fin,
@@ -213,13 +251,14 @@ impl<S: Store> Audited for TreeStore<S> {
             n: elements.len() as u64,
         };
         let answer = has_rows_of(alloc, &mut self.store, &wanted, elements);
-        self.failures = failures_after(&answer, self.failures);
+        self.end_read(&answer);
         answer
     }
 
     fn has_counts(&mut self, alloc: Global, counts: &Counts) -> Result<bool, StoreFault> {
+        self.begin_read()?;
         let answer = has_row_counts(alloc, &mut self.store, counts);
-        self.failures = failures_after(&answer, self.failures);
+        self.end_read(&answer);
         answer
     }
 

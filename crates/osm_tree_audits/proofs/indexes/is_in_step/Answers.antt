@@ -37,7 +37,7 @@ rows-preserved g c =
           let split = done.1 ∙ ap (λ l. done.0 ++ l) (lemma.stepped _ _ 0 row (rw c.in-Ok-true.field-0-test at (c.in-Ok-true.ensures.ok clean_1))) in
           let moves = c.in-Ok-true.ensures.moves clean_1 in
           let left : left_of (g.S.Store.view c.next.new.self) 1 ≡ left_of (g.S.Store.view c.rows.store) 1 = rw (moves.others 1 (omega arith)) refl in
-          let stays = c.in_ok-next_is_of.ensures.rows clean in
+          let stays = c.in_ok-next_is_of.ensures.others clean 0 (omega arith) in
           let next = sym left ∙ c.in_ok-next_is_of.ensures.told clean c.if-not-branch.false in (
             done.0 ++ row ∷ [],
             rw stays (split ∙ sym (append_assoc done.0 (row ∷ []) _)),
