@@ -7,7 +7,9 @@ ghost use Rattle.osm_openings.specs.Presumed.{ArePresumedTables};
 
 use crate::databases::{CheckedDatabases, Databases};
 use crate::reason::{Reason, Refusal, tell_of_obstruction, told};
-use crate::trees::{checked_trees_in, close_files, connection_in, obstacle_in, trees_in};
+use crate::trees::{
+    FEW_PAGES, MANY_PAGES, checked_trees_in, close_files, connection_in, obstacle_in, trees_in,
+};
 use osm_openings::{Obstacle, Obstruction};
 use osm_store::StoreFault;
 use pbfrow_files::{
@@ -132,7 +134,7 @@ impl Databases for FilledFiles {
         name: &str,
     ) -> Result<Option<FileStore<WriteFile>>, StoreFault> {
         let files = written(rt, name)?;
-        told(rt, name, trees_in(rt, files))
+        told(rt, name, trees_in(rt, files, MANY_PAGES))
     }
 
     fn connection(
@@ -162,7 +164,7 @@ impl Databases for AskedFiles {
         name: &str,
     ) -> Result<Option<FileStore<ReadFile>>, StoreFault> {
         let files = read_alone(rt, name)?;
-        told(rt, name, trees_in(rt, files))
+        told(rt, name, trees_in(rt, files, FEW_PAGES))
     }
 
     fn connection(
@@ -185,6 +187,6 @@ impl CheckedDatabases for AskedFiles {
         name: &str,
     ) -> Result<Option<FileStore<ReadFile>>, StoreFault> {
         let files = read_alone(rt, name)?;
-        told(rt, name, checked_trees_in(rt, files))
+        told(rt, name, checked_trees_in(rt, files, MANY_PAGES))
     }
 }

@@ -1,5 +1,5 @@
 //! Whether a store has the rows of blobs and no others, over rows as they were put and over rows that statements over its
-//! connection have changed, by SQL and by its trees; and whether the indexes of trees are whole.
+//! connection have changed, by SQL and by its trees; which row belongs to no blob; and whether the indexes of trees are whole.
 
 use super::fixtures::{NOTHING, PLACED_HEADER, PLACED_NODES, PLACED_WAYS, THREE_WAYS, TWO_NODES};
 use super::memory::{BodiesInMemory, NewSqlStore, TablesInMemory, below};
@@ -10,7 +10,7 @@ use osm_block::read_block;
 use osm_databases::stores::with_whole_added_indexes;
 use osm_store::{Audited, Counts, Extent, StoreFault};
 use osm_tree_audits::trees::{ELEMENT_BY_ID, ELEMENT_KEY, ELEMENTS, LINK_KEY, TAG_KEY};
-use osm_tree_audits::{StoreIndex, faulty_index};
+use osm_tree_audits::{ElementTable, StoreIndex, Stray, faulty_index, stray_row};
 use osm_trees::TreeStore;
 use osm_value::Element;
 use sqlite::{Alter, MemStore};
@@ -291,6 +291,60 @@ fn counts_of_blobs(rt: HostRuntime) -> Result<(), Fail> {
 fn five_blobs<R: Abort + Alloc<A = Global>>(rt: &R) -> Result<MemStore, Fail> {
     let store: TablesInMemory = followed(rt, "tables", FIVE_BLOBS)?;
     Ok(store.into_connection().into_store())
+}
+
+/// Rows of each table at an offset of no blob, added, moved and left by a blob that is gone; and none.
+#[test]
+fn stray_rows(rt: HostRuntime) -> Result<(), Fail> {
+    const TABLE: &[(&str, Option<Stray>)] = &[
+        (
+            "INSERT INTO element (off, pos, kind, id) VALUES (47, 2, 1, 3)",
+            None,
+        ),
+        (
+            "INSERT INTO element (off, pos, kind, id) VALUES (1000, 0, 1, 3)",
+            Some(Stray {
+                table: ElementTable::Elements,
+                off: 1000,
+            }),
+        ),
+        (
+            "INSERT INTO tag (off, pos, k, key, val) VALUES (48, 0, 0, 'a', 'b')",
+            Some(Stray {
+                table: ElementTable::Tags,
+                off: 48,
+            }),
+        ),
+        (
+            "INSERT INTO link (off, pos, k, kind, ref, role) VALUES (-1, 0, 0, 0, 1, '')",
+            Some(Stray {
+                table: ElementTable::Links,
+                off: -1,
+            }),
+        ),
+        (
+            "UPDATE link SET off = 138 WHERE off = 137 AND k = 1",
+            Some(Stray {
+                table: ElementTable::Links,
+                off: 138,
+            }),
+        ),
+        (
+            "DELETE FROM blob WHERE off = 203",
+            Some(Stray {
+                table: ElementTable::Elements,
+                off: 203,
+            }),
+        ),
+    ];
+    for (sql, expected) in TABLE {
+        let store: TablesInMemory = followed(&rt, "tables", FIVE_BLOBS)?;
+        let changed = store.changed(sql).ok_or("a store")?;
+        let mut trees = changed.into_connection().into_store();
+        let found = stray_row(rt.alloc(), &mut trees);
+        assert_eq!(rt; found, Ok(*expected), "{sql}");
+    }
+    Ok(())
 }
 
 /// Takes the first entry from an index, and leaves its row.

@@ -13,7 +13,9 @@ use osm_databases::databases::{
 };
 use osm_databases::reason::told;
 use osm_databases::stores::{OpenedStore, adopted, adopted_or_made, made, taking_blobs};
-use osm_databases::trees::{checked_trees_in, close_files, connection_in, obstacle_in, trees_in};
+use osm_databases::trees::{
+    FEW_PAGES, MANY_PAGES, checked_trees_in, close_files, connection_in, obstacle_in, trees_in,
+};
 use osm_import::deliver_all;
 use osm_openings::Obstacle;
 use osm_store::{Bodies, Keeper, StoreFault, TableStore};
@@ -214,7 +216,7 @@ impl Databases for Machine {
         name: &str,
     ) -> Result<Option<FileStore<SharedFile>>, StoreFault> {
         let files = self.files(rt.alloc())?;
-        told(rt, name, trees_in(rt, files))
+        told(rt, name, trees_in(rt, files, FEW_PAGES))
     }
 
     fn connection(
@@ -238,7 +240,7 @@ impl CheckedDatabases for Machine {
         _name: &str,
     ) -> Result<Option<FileStore<SharedFile>>, StoreFault> {
         let files = self.files(rt.alloc())?;
-        match checked_trees_in(rt, files) {
+        match checked_trees_in(rt, files, MANY_PAGES) {
             Ok(found) => Ok(found),
             Err(refusal) => Err(refusal.fault),
         }
