@@ -20,7 +20,7 @@ use Rattle.osm_import.proofs.WalkLemmas.{read-is}
 use Rattle.osm_parts.specs.Parts.{IsInPart}
 use Rattle.osm_parts.specs.Pieces.{offset_of, pieces_of, IsPiece, AreGathered, IsRow, AreOnce, IfLast, IsNext, IsInTheWay, IsAmong}
 use Rattle.osm_parts.specs.PartsFaults.{IsOfMaps}
-use Rattle.osm_parts.specs.Reading.{IsReadOf}
+use Rattle.osm_parts.specs.Reading.{IsReadOf, AreStores}
 use Rattle.osm_parts.specs.declared.pieces.Piece.{Piece}
 use Rattle.osm_parts.specs.declared.runs.Part.{Part}
 use Rattle.osm_parts.specs.declared.fault.PartsFault.{PartsFault}
@@ -128,6 +128,26 @@ module _ (maps : List HeldMap) (asked : Bool) (place : ℕ) (held : HeldMap) (pa
           )
     ];
   })
+
+-- what was read of the store at a place
+pub store-at : (asked : Bool) (place : ℕ) (maps : List HeldMap) (stores : List Part) (i : ℕ) (part : Part) → AreStores asked place maps stores → i < length stores → part ≡ get_or stores i part
+    → (held : HeldMap) × (slice_get maps i ≡ Some held) × IsReadOf asked (place + i) held part × IsApart held
+store-at asked place [] [] i part are low is = absurd (omega arith)
+store-at asked place [] (first ∷ stores) i part are low is = absurd are
+store-at asked place (held ∷ maps) [] i part are low is = absurd are
+store-at asked place (held ∷ maps) (first ∷ stores) zero part are low is =
+    let here : place ≡ place + 0 = omega arith in
+    (held, refl, subst (λ n. IsReadOf asked n held part) here (subst (λ (p : Part). IsReadOf asked place held p) (sym is) are.0), are.1)
+store-at asked place (held ∷ maps) (first ∷ stores) (suc i) part are low is =
+    let it = store-at asked (place + 1) maps stores i part are.2 (omega arith) is in
+    let there : place + 1 + i ≡ place + suc i = omega arith in
+    (it.0, it.1, subst (λ n. IsReadOf asked n it.0 part) there it.2, it.3)
+
+pub stores-long : (asked : Bool) (place : ℕ) (maps : List HeldMap) (stores : List Part) → AreStores asked place maps stores → length maps ≡ length stores
+stores-long asked place [] [] are = refl
+stores-long asked place [] (first ∷ stores) are = absurd are
+stores-long asked place (held ∷ maps) [] are = absurd are
+stores-long asked place (held ∷ maps) (first ∷ stores) are = ap suc (stores-long asked (place + 1) maps stores are.2)
 
 pub gathered-permuted : (maps : List HeldMap) (asked : Bool) (count : ℕ) (xs ys : List Piece) → IsPermutation xs ys → AreGathered maps asked count xs → AreGathered maps asked count ys
 gathered-permuted maps asked count xs ys same so_far = record {

@@ -1,5 +1,5 @@
 -- Stores that were read as one map, run by run.
-use Rattle.std.specs.Prelude.{◌≡◌, ℕ, Bool, ◌&&◌, List, [], ◌∷◌, ◌++◌, Some, slice_get}
+use Rattle.std.specs.Prelude.{◌≡◌, ℕ, ◌+◌, Bool, ◌&&◌, List, [], ◌∷◌, ◌++◌, Some, slice_get}
 use Rattle.std.specs.FinMap.{get}
 use Rattle.osm_store.specs.Flags.{has_flags}
 use Rattle.osm_store.specs.Held.{Blob, HeldMap, IsApart}
@@ -15,6 +15,13 @@ pub record IsReadOf (asked : Bool) (place : ℕ) (held : HeldMap) (part : Part) 
   pub placed : part.place ≡ place
   pub extents : part.extents.items ≡ extents_of held
   pub history : part.history ≡ (asked && has_flags held)
+
+-- what is read of each of the stores that hold these maps, which stand at the places from this one on
+abbrev pub AreStores : Bool → ℕ → List HeldMap → List Part → Type 0
+AreStores asked place [] [] = Unit {0}
+AreStores asked place [] (part ∷ parts) = ⊥
+AreStores asked place (held ∷ maps) [] = ⊥
+AreStores asked place (held ∷ maps) (part ∷ parts) = IsReadOf asked place held part × IsApart held × AreStores asked (place + 1) maps parts
 
 -- The part is a run of the store at its place: a map of some of its blobs, at least one, with their extents. Whether an
 -- element of that store has a flag of visibility is told where that is asked.

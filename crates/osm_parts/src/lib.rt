@@ -13,6 +13,6 @@ mod shelf;
 pub use exporting::{export_parts_as_lines, export_parts_as_pbf};
 pub use fault::PartsFault;
 pub use openings::Openings;
-pub use reading::{extents_of_parts, gaps_of_parts, read_parts};
+pub use reading::{extents_of_parts, gaps_of_parts, parts_of, read_parts};
 pub use runs::Part;
 pub use shelf::Shelf;

@@ -11,7 +11,7 @@ ghost use Rattle.osm_parts.specs.Opening.{OnlyOpens};
 ghost use Rattle.osm_parts.specs.Parts.{AreParts};
 ghost use Rattle.osm_parts.specs.PartsFaults.{IsOfMaps, PartsFaultHasCause};
 ghost use Rattle.osm_parts.specs.Pieces.{AreGathered};
-ghost use Rattle.osm_parts.specs.Reading.{IsReadOf, AreRead, joined_extents};
+ghost use Rattle.osm_parts.specs.Reading.{IsReadOf, AreStores, AreRead, joined_extents};
 ghost use Rattle.osm_parts.specs.Runs.{AreFew};
 
 use crate::fault::PartsFault;
@@ -144,6 +144,29 @@ pub fn read_parts<K: Reader + Drop, O: Openings<K>>(
 {
     let pieces = gather(alloc, openings, count, asks_history)?;
     runs_of(alloc, pieces, count)
+}
+
+/// The blobs of all that was read of stores.
+fn pieces_of_stores(alloc: Global, stores: &[Part]) -> Result<Vec<Piece>, AllocError>
+    ensures { (maps : List HeldMap) (asked : Bool) → AreStores asked 0 maps stores.now → IfOk result (λ pieces. AreGathered maps asked (length stores.now) pieces.items) }
+{
+    let mut pieces = Vec::new(alloc);
+    for own in stores {
+        add_pieces(&mut pieces, own.place, own.history, &own.extents)?;
+    }
+    Ok(pieces)
+}
+
+/// What `read_parts` reads of stores, where all their extents were read already, those of each at its place. An error is
+/// one of its own, or refused memory.
+pub fn parts_of(alloc: Global, stores: &[Part]) -> Result<Vec<Part>, PartsFault>
+    ensures read { (maps : List HeldMap) (asked : Bool) → AreStores asked 0 maps stores.now → IfOk result (λ parts. AreRead maps asked parts.items) }
+    ensures few { IfOk result (λ parts. AreFew (length stores.now) parts.items) }
+    ensures fault { (maps : List HeldMap) (asked : Bool) → AreStores asked 0 maps stores.now → IfErr result (IsOfMaps maps) }
+    ensures cause { IfErr result (λ fault. (before : ℕ) (now : ℕ) → PartsFaultHasCause before now fault) }
+{
+    let pieces = pieces_of_stores(alloc, stores)?;
+    runs_of(alloc, pieces, stores.len() as u64)
 }
 
 /// All extents of the parts, by offset: those of the map that holds what the runs hold.

@@ -1,0 +1,3 @@
+pub mod FileFrames
+pub mod JudgingLemmas
+pub mod TogetherLemmas

@@ -1,0 +1,22 @@
+use Rattle.std.proofs.Common.{◌≡◌, ◌+◌, ℕ, List, length, sym, subst}
+use Rattle.std.proofs.lemmas.Result.{IfOk-weaker}
+use Rattle.osm_parts.proofs.OpeningLemmas.{if-err}
+use Rattle.osm_part_audits.specs.Faults.{AuditHasCause}
+use Rattle.osm_part_audits.specs.InFile.{IsIn}
+use Rattle.osm_part_audits.proofs.JudgingLemmas.{found-judged}
+use Rattle.osm_part_audits.proofs.auditing.audit_extent.Goals as goal
+
+pub returns-in_err-bytes-clause-cause : goal.returns-in_err-bytes-clause-cause
+returns-in_err-bytes-clause-cause g c =
+    let now = g.K.Reader.failures c.args.store.now in
+    if-err c.from_residual.result c.in_err-bytes.field-0.0 (AuditHasCause now now) c.from_residual.ensures.1 (c.in_err-bytes.ensures.cause now now)
+
+pub returns-in-Some-clause-found : goal.returns-in-Some-clause-found
+returns-in-Some-clause-found g c = λ held holds honest.
+    let known = g.F.FileBytes.bytes c.args.file.now in
+    let extent = c.args.extent.now in
+    let read : IsIn known extent.off c.in-Some.bytes.items × (extent.fin ≡ extent.off + length c.in-Some.bytes.items) = rw c.in-Some.is at c.in_ok-bytes.ensures.some in
+    let same = sym c.deref.ensures.value in
+    let within : IsIn known extent.off c.deref.result.now = subst (λ (w : List ℕ). IsIn known extent.off w) same read.0 in
+    let fin : extent.fin ≡ extent.off + length c.deref.result.now = subst (λ (w : List ℕ). extent.fin ≡ extent.off + length w) same read.1 in
+    IfOk-weaker c.judge.result _ _ (λ found is. found-judged c.args.depth held known extent c.deref.result.now found within fin is) (c.judge.ensures.found held holds honest)

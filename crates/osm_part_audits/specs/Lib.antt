@@ -1,0 +1,4 @@
+pub mod InFile
+pub mod Judging
+pub mod Faults
+pub mod Together
