@@ -93,6 +93,12 @@ changes() {
   done
 }
 
+# told LINE..: and standard error has these lines alone.
+told() {
+  if [ $# = 0 ]; then : > want.txt; else printf '%s\n' "$@" > want.txt; fi
+  same "and what is told of it on standard error" stderr.txt want.txt
+}
+
 if has sqlite3; then
   # the header, 8,000 nodes and all relations
   { head -c 98 "$country"; tail -c +115674 "$country" | head -c 111478; tail -c 52279 "$country"; } > few.osm.pbf
@@ -110,6 +116,7 @@ if has sqlite3; then
   changes "another count of elements" "UPDATE blob SET n = n + 1 $of" "differs 98" - "differs 98"
   changes "another end" "UPDATE blob SET fin = fin - 1 $of" "differs 98" - "differs 98"
   changes "another place" "UPDATE blob SET off = 99 $of" "missing 98" "extra 99" - "missing 98" "extra 99"
+  told "pbfrow: changed.db: a row of element at offset 98 belongs to no blob"
   changes "one more blob behind the file" "INSERT INTO blob VALUES (163855, 163900, zeroblob(32), 2, 0)" "extra 163855" - "extra 163855"
   node="WHERE off = 98 AND pos = 6689"
   changes "a node that was moved" "UPDATE element SET lat = lat + 100 $node" - "differs 98"
@@ -121,11 +128,15 @@ if has sqlite3; then
   changes "a member with another role" "UPDATE link SET role = 'none' WHERE off = 111576 AND pos = 0 AND k = 0" - "differs 111576"
   changes "a row that no element has" "UPDATE element SET version = -2 $node" - "differs 98"
   changes "one more tag" "INSERT INTO tag (off, pos, k, key, val) VALUES (98, 6689, 99, 'a', 'b')" - "differs 98"
+  told
   # rows at no offset of the file: the counts at its end tell these
   behind="fault 66 NotThisStore at 163855"
   changes "a tag in no blob" "INSERT INTO tag (off, pos, k, key, val) VALUES (99, 0, 0, 'a', 'b')" - "$behind"
+  told "pbfrow: changed.db: a row of tag at offset 99 belongs to no blob"
   changes "a member in no blob" "INSERT INTO link (off, pos, k, kind, ref, role) VALUES (99, 0, 0, 0, 1, '')" - "$behind"
+  told "pbfrow: changed.db: a row of link at offset 99 belongs to no blob"
   changes "an element in no blob" "INSERT INTO element (off, pos, kind, id, lat, lon) VALUES (99, 0, 0, 1, 2, 3)" - "$behind"
+  told "pbfrow: changed.db: a row of element at offset 99 belongs to no blob"
   # the extents that share a byte with the first blob are looked for downward, and this row is none
   changes "a blob at a negative offset" "INSERT INTO blob VALUES (-5, 0, zeroblob(32), 2, 0)" "fault 66 NotThisStore at 0" - "fault 66 NotThisStore at 0"
   # a row that changes while an index isn't in the list of trees, so that its entry stays

@@ -13,4 +13,5 @@ mod show;
 mod stores;
 mod support;
 mod verify;
+mod verify_parts;
 mod words;

@@ -38,7 +38,7 @@ use std::fs::File;
 use std::io::{BufWriter, ErrorKind, Read, Write};
 use std::process::ExitCode;
 use std::{env, io};
-use verifying::compare;
+use verifying::compare_all;
 
 /// The exit status if a fault was printed or the output couldn't be written.
 const FAULTY: u8 = 1;
@@ -139,9 +139,15 @@ fn run(rt: HostRuntime, words: Words) -> u8
         Words::Merge { into, from } => merge(&rt, &FilledFiles, into, from.as_slice()),
         Words::Verify {
             file,
-            database,
+            databases,
             elements,
-        } => compare(&rt, &AskedFiles, file, database, depth_of(elements)),
+        } => compare_all(
+            &rt,
+            &AskedFiles,
+            file,
+            databases.as_slice(),
+            depth_of(elements),
+        ),
         Words::Ask {
             databases,
             question,

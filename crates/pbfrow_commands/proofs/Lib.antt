@@ -13,6 +13,7 @@ pub mod ShowLemmas
 pub mod MergingLemmas
 pub mod PartsLines
 pub mod StatusLemmas
+pub mod VerdictLines
 pub mod VerifyLemmas
 mod VectorCommands
 pub mod Walking

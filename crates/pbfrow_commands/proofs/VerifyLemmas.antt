@@ -57,7 +57,7 @@ at_parts before label off = three before label (decimal off) (codes "\n")
     three : (b p q r : List ℕ) → ((b ++ p) ++ q) ++ r ≡ b ++ (p ++ q ++ r)
     three b p q r = simp append_assoc
 
-nine : (t p b q m r d s e n : List ℕ) → ((((t ++ (p ++ b)) ++ (q ++ m)) ++ (r ++ d)) ++ (s ++ e)) ++ n ≡ t ++ (p ++ b ++ q ++ m ++ r ++ d ++ s ++ e ++ n)
+pub nine : (t p b q m r d s e n : List ℕ) → ((((t ++ (p ++ b)) ++ (q ++ m)) ++ (r ++ d)) ++ (s ++ e)) ++ n ≡ t ++ (p ++ b ++ q ++ m ++ r ++ d ++ s ++ e ++ n)
 nine t p b q m r d s e n = simp append_assoc
 
 pub counts_parts : (before : List ℕ) (c : Counts)

@@ -16,3 +16,4 @@ pub mod Verdicts
 pub mod Walks
 pub mod Workers
 pub mod Verifying
+pub mod VerifyingParts

@@ -19,4 +19,5 @@ pub mod report;
 pub mod show;
 pub mod status;
 pub mod verify;
+pub mod verify_parts;
 pub mod watcher;

@@ -1,13 +1,16 @@
 //! Readers, writers and stores that tell a watcher what they do. Each does what the one inside it does.
 
+ghost use Rattle.std.specs.Prelude.{None};
 ghost use Rattle.osm_store.specs.Held.{HeldMap};
 
 use crate::watcher::Watcher;
+use osm_import::SourceFailed;
+use osm_part_audits::FileBytes;
 use osm_store::{Extent, Found, Loaded, Reader, StoreFault};
 use osm_value::MemberKind;
 use std::alloc::Global;
 use std::io;
-use std::io::{Read, Write};
+use std::io::{ErrorKind, Read, Seek, SeekFrom, Write};
 
 /// A reader that tells how many bytes it gave.
 #[derive(Drop)]
@@ -25,6 +28,40 @@ impl<R: Read, P: Watcher> Read for MeteredReader<'_, R, P> {
             self.watcher.see_bytes(*count as u64);
         }
         result
+    }
+}
+
+/// A file that can seek and tells how many bytes were read of it, and of each read as of a blob. What it holds is said nowhere:
+/// no contract of `Seek` says what is read behind a seek.
+#[derive(Drop)]
+pub struct MeteredFile<'a, R, P> {
+    pub file: R,
+    pub watcher: &'a P,
+}
+
+impl<R: Read + Seek, P: Watcher> FileBytes for MeteredFile<'_, R, P> {
+    ghost bytes = { λ _. None };
+
+    fn size(&mut self) -> Result<u64, SourceFailed> {
+        match self.file.seek(SeekFrom::End(0)) {
+            Ok(size) => Ok(size),
+            Err(_) => Err(SourceFailed),
+        }
+    }
+
+    fn read_at(&mut self, off: u64, buffer: &mut [u8]) -> Result<bool, SourceFailed> {
+        let Ok(_) = self.file.seek(SeekFrom::Start(off)) else {
+            return Err(SourceFailed);
+        };
+        match self.file.read_exact(buffer) {
+            Ok(()) => {
+                self.watcher.see_bytes(buffer.len() as u64);
+                self.watcher.see_blob();
+                Ok(true)
+            }
+            Err(error) if error.kind() == ErrorKind::UnexpectedEof => Ok(false),
+            Err(_) => Err(SourceFailed),
+        }
     }
 }
 

@@ -23,7 +23,7 @@ use osm_value::{Form, Sink};
 use std::alloc::{AllocError, Global};
 
 /// Writes the line of what keeps stores from being read as one.
-fn put_parts_fault<S: Sink>(out: &mut S, fault: PartsFault)
+pub(crate) fn put_parts_fault<S: Sink>(out: &mut S, fault: PartsFault)
     ensures { Writes (S.written out.old) (S.has_failed out.old) (S.written out.new) (S.has_failed out.new) (parts_fault_line fault) }
 {
     match fault {

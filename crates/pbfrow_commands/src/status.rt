@@ -61,7 +61,7 @@ fn put_gap<S: Sink>(out: &mut S, from: u64, to: u64)
 }
 
 /// Writes a line for each gap.
-fn put_gaps<S: Sink>(out: &mut S, gaps: &[(u64, u64)])
+pub(crate) fn put_gaps<S: Sink>(out: &mut S, gaps: &[(u64, u64)])
     ensures { Writes (S.written out.old) (S.has_failed out.old) (S.written out.new) (S.has_failed out.new) (gap_lines gaps.now) }
 {
     for (from, to) in gaps {

@@ -416,7 +416,7 @@ fn put_agreement<S: Sink>(out: &mut S, at: u64, agreement: Agreement)
 }
 
 /// Writes `LABEL OFFSET`.
-fn put_at<S: Sink>(out: &mut S, label: &[u8], off: u64)
+pub(crate) fn put_at<S: Sink>(out: &mut S, label: &[u8], off: u64)
     ensures { Writes (S.written out.old) (S.has_failed out.old) (S.written out.new) (S.has_failed out.new) (label.now ++ decimal off ++ codes "\n") }
 {
     put(out, label);

@@ -20,7 +20,7 @@ begins_within (command.Read reading file) name rows said = tt
 begins_within (command.Ranges file count) name rows said = tt
 begins_within (command.Migrate old new) name rows said = tt
 begins_within (command.Merge into from) name rows said = tt
-begins_within (command.Verify file database elements) name rows said = tt
+begins_within (command.Verify file databases elements) name rows said = tt
 begins_within (command.Ask databases question) name rows said = tt
 begins_within (command.Find database kind id) name rows said = tt
 
@@ -34,7 +34,7 @@ cuts_some (command.Import file database start to) name rows said = tt
 cuts_some (command.Read reading file) name rows said = tt
 cuts_some (command.Migrate old new) name rows said = tt
 cuts_some (command.Merge into from) name rows said = tt
-cuts_some (command.Verify file database elements) name rows said = tt
+cuts_some (command.Verify file databases elements) name rows said = tt
 cuts_some (command.Ask databases question) name rows said = tt
 cuts_some (command.Find database kind id) name rows said = tt
 
@@ -52,7 +52,7 @@ ends_within (command.Ranges file count) name rows said = tt
 ends_within (command.Read reading file) name rows said = tt
 ends_within (command.Migrate old new) name rows said = tt
 ends_within (command.Merge into from) name rows said = tt
-ends_within (command.Verify file database elements) name rows said = tt
+ends_within (command.Verify file databases elements) name rows said = tt
 ends_within (command.Ask databases question) name rows said = tt
 ends_within (command.Find database kind id) name rows said = tt
 

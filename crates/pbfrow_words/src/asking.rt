@@ -69,7 +69,7 @@ const FIND_HELP: &str =
     "Prints 'OFFSET POSITION LINE' for each time that the element is held: the offset
 of its blob, its position in the blob from 0, and its line.
 
-Exit status: 0 if the database was read, also if nothing was found, else 1.
+Exit status: 0 if the database was read, even if nothing was found, else 1.
 
 Examples:
   pbfrow find berlin.db n240090160

@@ -25,8 +25,8 @@ pub enum Start {
 const IMPORT_HELP: &str =
     "The database is made if it is missing or empty. Prints 'OFFSET stored COUNT' for
 each blob, 'OFFSET held' if it is held already, or the line of its fault; after
-a bad or refused blob it goes on with the next. Last, once the input has come to
-its end, it prints 'blobs stored S held H bad B refused R'.
+a bad or refused blob it goes on with the next. At the end of the input it prints
+'blobs stored S held H bad B refused R'.
 
 A blob is stored whole or not at all, even if the run is killed or the machine
 stops: run the same import again to complete it. Blobs may come in any order,
@@ -35,10 +35,10 @@ over any number of runs.
 With --from the import begins behind the first N bytes of FILE, where a blob has
 to begin; they are dropped, and not read if FILE isn't a pipe. With --at nothing
 is dropped: FILE is a part that begins with a blob, at offset N of the whole.
-With --to it reads no byte at or behind offset N of the whole, and an input that
+With --to it reads no byte at or after offset N of the whole, and an input that
 ends before N is 'fault 68 ReadFailed' at the offset where it ended. So exit
 status 0 says that every byte from the start to N is in a blob that is held,
-also behind a pipe whose first command may fail. 'pbfrow ranges' cuts a file
+even if FILE is a pipe whose first command may fail. 'pbfrow ranges' cuts a file
 into such parts.
 
 Exit status: 0 if all blobs are held, and the input reached N of --to, else 1.

@@ -17,12 +17,12 @@ use std::alloc::{AllocError, Global};
 const MAX_RANGES: u64 = 4_294_967_295;
 
 const RANGES_HELP: &str =
-    "Prints a line 'FROM TO' for each range: the bytes from offset FROM on and before
-TO. The ranges follow one another from 0 to the end of FILE, begin and end
-between two frames, and are of about equal length: but for its last frame, each
-is shorter than the Nth part of FILE. There are N of them where no frame is
-longer than that, and else fewer. At a frame fault its line is all that is
-printed.
+    "Prints a line 'FROM TO' for each range: its first offset, and the offset after
+its last byte. The ranges follow one another from 0 to the end of FILE, begin and
+end between two frames, and are of about equal length: without its last frame,
+each is shorter than the Nth part of FILE. There are N of them if no frame is
+longer than that, and otherwise there may be fewer. If there is a frame fault,
+only its line is printed.
 
 Exit status: 0 if the whole file is frames, else 1.
 

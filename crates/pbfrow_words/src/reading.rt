@@ -20,8 +20,8 @@ pub enum Reading {
 
 const LIST_HELP: &str =
     "Prints a line 'OFFSET TYPE DATASIZE' for each frame, up to the line of a frame
-fault. DATASIZE is the length of the blob alone. In a type each byte below 33 or
-above 126, and %, is % and two upper-case hexadecimal digits.
+fault. DATASIZE is the length of the blob alone. In a type, each byte below 33 or
+above 126, and %, is written as % and two upper-case hexadecimal digits.
 
 Exit status: 0 if the whole file is frames, else 1.
 

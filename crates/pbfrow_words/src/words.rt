@@ -52,7 +52,8 @@ pub enum Words<'a> {
     },
     Verify {
         file: &'a str,
-        database: &'a str,
+        /// One at least, in the order that they were given.
+        databases: Vec<&'a str>,
         /// Whether the elements of each blob are compared, too.
         elements: bool,
     },
@@ -131,14 +132,20 @@ fn migrate_of<'a>(matches: &ArgMatches<'a>) -> Option<Words<'a>>
     })
 }
 
-fn verify_of<'a>(matches: &ArgMatches<'a>) -> Option<Words<'a>>
-    ensures { IfSome result (λ w. Says w (codes "verify") (rows_of (found_of matches.now))) }
+/// The words of a verify. None are given only if clap let through words without them.
+fn verify_of<'a>(alloc: Global, matches: &ArgMatches<'a>) -> Result<Option<Words<'a>>, AllocError>
+    ensures { IfOk result (λ o. IfSome o (λ w. Says w (codes "verify") (rows_of (found_of matches.now)))) }
 {
-    Some(Words::Verify {
-        file: text_of(matches, "FILE")?,
-        database: text_of(matches, "DB")?,
+    let (Some(file), Some(texts)) = (text_of(matches, "FILE"), texts_of(matches, "DB")) else {
+        return Ok(None);
+    };
+    let mut databases = Vec::new(alloc);
+    databases.extend_from_slice(texts)?;
+    Ok(Some(Words::Verify {
+        file,
+        databases,
         elements: flag_of(matches, "elements"),
-    })
+    }))
 }
 
 /// The words of a merge. None are given only if clap let through words without them.
@@ -197,7 +204,6 @@ fn simple_words_of<'a>(name: &str, matches: &ArgMatches<'a>) -> Option<Words<'a>
         "ranges" => ranges_of(matches),
         "import" => import_of(matches),
         "migrate" => migrate_of(matches),
-        "verify" => verify_of(matches),
         "find" => find_of(matches),
         _ => None,
     }
@@ -213,6 +219,9 @@ fn words_of<'a>(
 {
     if name == "merge" {
         return merge_of(alloc, matches);
+    }
+    if name == "verify" {
+        return verify_of(alloc, matches);
     }
     match simple_words_of(name, matches) {
         Some(words) => Ok(Some(words)),

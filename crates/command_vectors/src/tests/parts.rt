@@ -21,7 +21,7 @@ const ALL_LINES: &[u8] =
     b"n 1 1000 -100 [] {}\nn 2 900 -100 [] {}\nn 1 1000 -100 [] {}\nn 2 900 -100 [] {}\n";
 
 /// Frames of a file, from an offset and up to one, and the offset where they are put.
-type Range = (u32, u32, u32);
+pub type Range = (u32, u32, u32);
 
 /// A new store that holds these frames of a file.
 fn part_of<K: NewStore>(alloc: Global, file: &[u8], ranges: &[Range]) -> Option<K>
@@ -46,11 +46,11 @@ fn part_of<K: NewStore>(alloc: Global, file: &[u8], ranges: &[Range]) -> Option<
 
 /// Stores by the frames of a file that each holds. Each is imported anew where it is opened.
 #[derive(Drop)]
-struct Ranges<'a> {
-    alloc: Global,
-    file: &'a [u8],
-    stores: &'a [&'a [Range]],
-    failures: u64,
+pub struct Ranges<'a> {
+    pub alloc: Global,
+    pub file: &'a [u8],
+    pub stores: &'a [&'a [Range]],
+    pub failures: u64,
 }
 
 impl<K: NewStore> Openings<K> for Ranges<'_> {

@@ -68,6 +68,8 @@ static VERIFY: [&str; 4] = ["pbfrow", "verify", "F", "D"];
 
 static VERIFY_ELEMENTS: [&str; 5] = ["pbfrow", "verify", "F", "D", "--elements"];
 
+static VERIFY_PARTS: [&str; 5] = ["pbfrow", "verify", "F", "D", "E"];
+
 static VERIFY_NO_DATABASE: [&str; 4] = ["pbfrow", "verify", "F", "--elements"];
 
 static FIND: [&str; 4] = ["pbfrow", "find", "D", "n2"];
@@ -229,29 +231,31 @@ fn words_of_merge(rt: HostRuntime) -> Result<(), Fail> {
     Ok(())
 }
 
+/// The words of a verify of these databases.
+fn expect_verify<R: Abort + Alloc<A = Global>>(
+    rt: &R,
+    words: &'static [&'static str],
+    names: &[&'static str],
+    elements: bool,
+) -> Result<(), Fail> {
+    let mut databases = Vec::new(rt.alloc());
+    databases.extend_from_slice(names)?;
+    let wanted = Words::Verify {
+        file: "F",
+        databases,
+        elements,
+    };
+    assert!(rt; read_words(rt.alloc(), words).ok() == Some(wanted));
+    Ok(())
+}
+
 #[test]
-fn words_of_verify(rt: HostRuntime) {
-    assert!(rt;
-        matches!(
-            read_words(rt.alloc(), VERIFY.as_slice()),
-            Ok(Words::Verify {
-                file: "F",
-                database: "D",
-                elements: false
-            })
-        )
-    );
-    assert!(rt;
-        matches!(
-            read_words(rt.alloc(), VERIFY_ELEMENTS.as_slice()),
-            Ok(Words::Verify {
-                file: "F",
-                database: "D",
-                elements: true
-            })
-        )
-    );
+fn words_of_verify(rt: HostRuntime) -> Result<(), Fail> {
+    expect_verify(&rt, VERIFY.as_slice(), &["D"], false)?;
+    expect_verify(&rt, VERIFY_ELEMENTS.as_slice(), &["D"], true)?;
+    expect_verify(&rt, VERIFY_PARTS.as_slice(), &["D", "E"], false)?;
     assert!(rt; read_words(rt.alloc(), VERIFY_NO_DATABASE.as_slice()).is_err());
+    Ok(())
 }
 
 /// The words of a question of these databases.

@@ -5,4 +5,4 @@ use Rattle.pbfrow_words.proofs.verifying.verify_command.Goals as goal
 pub returns-clause-shape : goal.returns-clause-shape
 returns-clause-shape c =
     made _ c.with_argument-3.ensures.shape
-    (ruled (c.in_ok-command-2.ensures.shape ∙ ruled (c.in_ok-command.ensures.shape ∙ ruled c.new_command-command.ensures.shape c.file.ensures.rule) c.database.ensures.rule) c.flag-elements.ensures.rule)
+    (ruled (c.in_ok-command-2.ensures.shape ∙ ruled (c.in_ok-command.ensures.shape ∙ ruled c.new_command-command.ensures.shape c.file.ensures.rule) c.databases.ensures.rule) c.flag-elements.ensures.rule)
