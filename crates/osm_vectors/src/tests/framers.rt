@@ -121,7 +121,7 @@ fn lent_and_let_go(rt: &impl Abort, mut framer: Framer) -> Result<(), Fail> {
     Ok(())
 }
 
-/// Run with each allocation failing in turn: the framer then takes nothing.
+/// Where memory is refused, the framer takes nothing.
 #[test]
 fn refused_memory(rt: HostRuntime) {
     let mut framer = Framer::new(rt.alloc(), 0);

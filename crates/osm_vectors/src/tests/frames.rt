@@ -203,7 +203,7 @@ fn numbers_and_names_of_faults(rt: HostRuntime) {
     }
 }
 
-/// Run with each allocation failing in turn: the vector then stays as it was.
+/// Where memory is refused, the vector stays as it was.
 #[test]
 fn refused_memory(rt: HostRuntime) {
     let mut out = Vec::new(rt.alloc());

@@ -217,7 +217,7 @@ fn last_values(rt: HostRuntime) -> Result<(), Fail> {
     Ok(())
 }
 
-/// Run with each allocation failing in turn: the vector then stays as it was.
+/// Where memory is refused, the vector stays as it was.
 #[test]
 fn refused_memory(rt: HostRuntime) {
     let mut out = Vec::new(rt.alloc());
