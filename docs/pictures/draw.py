@@ -177,6 +177,7 @@ SAYS = {
     "osm_import": "imports, gaps, exports",
     "osm_parts": "parts of one file",
     "osm_verify": "a database against a file",
+    "osm_part_audits": "databases against a file",
     "osm_vectors": "tests of reading and writing",
     "store_vectors": "tests of store and import",
     "command_vectors": "tests of the commands",
