@@ -5,7 +5,9 @@ use Rattle.sqlite.specs.Order.{Row}
 use Rattle.osm_store.specs.declared.load.tables.usual_role.UsualRole.{UsualRole}
 use Rattle.osm_store.specs.declared.load.tables.usual_role.UsualRole.TheVariants as role
 use Rattle.osm_store.specs.declared.load.tables.part_row.PartForm.{PartForm}
-use Rattle.osm_store.specs.declared.load.tables.part_row.PartForm.TheVariants.{Tag, Link, Other}
+use Rattle.osm_store.specs.declared.load.tables.part_row.PartForm.TheVariants.{Tag, NodeLink, WayLink, RelationLink, Other}
+use Rattle.osm_store.specs.declared.load.tables.part_row.ShortLink.{ShortLink}
+use Rattle.osm_value.specs.declared.element.MemberKind.TheVariants as kind
 use Rattle.osm_store.specs.Rows.{element_code}
 
 -- the text of a role
@@ -36,8 +38,14 @@ role_text role.AdminCentre = codes "admin_centre"
 role_text role.Label = codes "label"
 role_text role.Subarea = codes "subarea"
 
+-- the values of a link's row, column by column
+abbrev pub link_columns : ShortLink → Row
+link_columns link = Int link.off ∷ Int (pos link.position) ∷ Int (pos link.number) ∷ Int (pos (element_code link.kind)) ∷ Int link.id ∷ Words (role_text link.role) ∷ []
+
 -- the values of the row, column by column
 abbrev pub columns_of : PartForm → Row
-columns_of (Tag tag) = Int tag.off ∷ Int (pos tag.position) ∷ Int (pos tag.number) ∷ Words (take tag.key_length tag.texts.value.items) ∷ Words (drop tag.key_length tag.texts.value.items) ∷ []
-columns_of (Link link) = Int link.off ∷ Int (pos link.position) ∷ Int (pos link.number) ∷ Int (pos (element_code link.kind)) ∷ Int link.id ∷ Words (role_text link.role) ∷ []
+columns_of (Tag key_length number position off texts) = Int off ∷ Int (pos position) ∷ Int (pos number) ∷ Words (take key_length texts.value.items) ∷ Words (drop key_length texts.value.items) ∷ []
+columns_of (NodeLink role number position off id) = link_columns (record { off = off; id = id; position = position; number = number; kind = kind.Node; role = role })
+columns_of (WayLink role number position off id) = link_columns (record { off = off; id = id; position = position; number = number; kind = kind.Way; role = role })
+columns_of (RelationLink role number position off id) = link_columns (record { off = off; id = id; position = position; number = number; kind = kind.Relation; role = role })
 columns_of (Other row) = row.value

@@ -4,9 +4,8 @@ ghost use Rattle.std.specs.Prelude.{◌≡◌, ◌↔◌, ◌++◌, pos, ℕ, ta
 ghost use Rattle.sqlite.specs.declared.types.Value.TheVariants.{Int};
 ghost use Rattle.sqlite.specs.Order.{column};
 ghost use Rattle.sqlite.specs.Value.{owned};
-ghost use Rattle.osm_store.specs.declared.load.tables.part_row.PartForm.TheVariants.{Tag, Link};
 ghost use Rattle.osm_store.specs.Load.Numbering.{AreNumbered};
-ghost use Rattle.osm_store.specs.Load.PartRows.{columns_of};
+ghost use Rattle.osm_store.specs.Load.PartRows.{columns_of, link_columns};
 
 use crate::load::tables::usual_role::UsualRole;
 use crate::load::values::{kind_of, number_of};
@@ -19,16 +18,6 @@ use sqlite_value::row;
 use std::alloc::{AllocError, Global};
 use std::marker::Model;
 
-/// A tag whose numbers are small. Its value lies behind its key.
-#[derive(Debug, Drop)]
-struct ShortTag {
-    off: i64,
-    position: u32,
-    number: u16,
-    key_length: u16,
-    texts: Box<Vec<u8>>,
-}
-
 /// A link whose numbers are small and whose role is a usual one.
 #[derive(Clone, Copy, Debug)]
 struct ShortLink {
@@ -40,11 +29,39 @@ struct ShortLink {
     role: UsualRole,
 }
 
-/// A row in a short form, or whatever other row it is.
+/// A row in a short form, or whatever other row it is. Fields stand in the order of their sizes, which leaves no gaps, and the
+/// kind of a link is told by its variant.
 #[derive(Debug, Drop)]
 enum PartForm {
-    Tag(ShortTag),
-    Link(ShortLink),
+    /// A tag whose numbers are small and whose key is short. Its value lies behind its key.
+    Tag {
+        key_length: u8,
+        number: u16,
+        position: u32,
+        off: i64,
+        texts: Box<Vec<u8>>,
+    },
+    NodeLink {
+        role: UsualRole,
+        number: u16,
+        position: u32,
+        off: i64,
+        id: i64,
+    },
+    WayLink {
+        role: UsualRole,
+        number: u16,
+        position: u32,
+        off: i64,
+        id: i64,
+    },
+    RelationLink {
+        role: UsualRole,
+        number: u16,
+        position: u32,
+        off: i64,
+        id: i64,
+    },
     Other(Box<Row>),
 }
 
@@ -55,7 +72,7 @@ pub struct PartRow {
 }
 
 // Of a blob with a million links each byte here is a megabyte.
-const _: () = prove!(size_of::<PartRow>() == 32);
+const _: () = prove!(size_of::<PartRow>() == 24);
 
 impl Model for PartRow {
     ghost use Rattle.std.specs.Prelude.{List};
@@ -77,13 +94,11 @@ impl FromRow for PartRow {
     fn from_row(alloc: Global, row: &row::Row) -> Result<PartRow, AllocError> {
         if let Some(link) = short_link(row) {
             return Ok(PartRow {
-                form: PartForm::Link(link),
+                form: link.packed(),
             });
         }
-        if let Some(tag) = short_tag(alloc, row)? {
-            return Ok(PartRow {
-                form: PartForm::Tag(tag),
-            });
+        if let Some(form) = short_tag(alloc, row)? {
+            return Ok(PartRow { form });
         }
         PartRow::whole(alloc, Row::from_row(alloc, row)?)
     }
@@ -115,11 +130,7 @@ impl PartRow {
     pub(crate) fn value(&self, at: usize) -> ValueRef<'_>
         ensures { owned result ≡ column self.now at }
     {
-        match &self.form {
-            PartForm::Tag(tag) => tag.value(at),
-            PartForm::Link(link) => link.value(at),
-            PartForm::Other(row) => value_at(row, at),
-        }
+        self.form.value(at)
     }
 
     /// The place of the row's element: the offset of its blob and its position there.
@@ -172,7 +183,7 @@ fn short_place(row: &row::Row) -> Option<(i64, u32, u16)>
 
 /// The short form of a link.
 fn short_link(row: &row::Row) -> Option<ShortLink>
-    ensures { IfSome result (λ link. columns_of (Link link) ≡ row.now) }
+    ensures { IfSome result (λ link. link_columns link ≡ row.now) }
 {
     if row.len() != 6 {
         return None;
@@ -204,8 +215,8 @@ fn joined(alloc: Global, key: &[u8], val: &[u8]) -> Result<Vec<u8>, AllocError>
 }
 
 /// The short form of a tag.
-fn short_tag(alloc: Global, row: &row::Row) -> Result<Option<ShortTag>, AllocError>
-    ensures { IfOk result (λ found. IfSome found (λ tag. columns_of (Tag tag) ≡ row.now)) }
+fn short_tag(alloc: Global, row: &row::Row) -> Result<Option<PartForm>, AllocError>
+    ensures { IfOk result (λ found. IfSome found (λ form. columns_of form ≡ row.now)) }
 {
     if row.len() != 5 {
         return Ok(None);
@@ -216,53 +227,93 @@ fn short_tag(alloc: Global, row: &row::Row) -> Result<Option<ShortTag>, AllocErr
     let (ValueRef::Text(key), ValueRef::Text(val)) = (row.get(3), row.get(4)) else {
         return Ok(None);
     };
-    let Ok(key_length) = u16::try_from(key.len()) else {
+    let Ok(key_length) = u8::try_from(key.len()) else {
         return Ok(None);
     };
     let texts = Box::new(alloc, joined(alloc, key, val)?)?;
-    Ok(Some(ShortTag {
-        off,
-        position,
-        number,
+    Ok(Some(PartForm::Tag {
         key_length,
+        number,
+        position,
+        off,
         texts,
     }))
 }
 
-impl ShortTag {
-    /// The key and the value.
-    fn texts(&self) -> (&[u8], &[u8])
-        ensures key { result.0.now ≡ take self.now.key_length self.now.texts.value.items }
-        ensures val { result.1.now ≡ drop self.now.key_length self.now.texts.value.items }
-    {
-        let texts = self.texts.as_slice();
-        let length = usize::from(self.key_length);
-        if length <= texts.len() {
-            texts.split_at(length)
-        } else {
-            (texts, &[])
-        }
-    }
-
-    /// The value in a column, and NULL past the end.
-    fn value(&self, at: usize) -> ValueRef<'_>
-        ensures { owned result ≡ column (columns_of (Tag self.now)) at }
-    {
-        match at {
-            0 => ValueRef::Int(self.off),
-            1 => ValueRef::Int(i64::from(self.position)),
-            2 => ValueRef::Int(i64::from(self.number)),
-            3 => ValueRef::Text(self.texts().0),
-            4 => ValueRef::Text(self.texts().1),
-            _ => ValueRef::Null,
-        }
+/// The key, which has this many bytes, and the value behind it.
+fn split_texts(texts: &[u8], key_length: u8) -> (&[u8], &[u8])
+    ensures key { result.0.now ≡ take key_length texts.now }
+    ensures val { result.1.now ≡ drop key_length texts.now }
+{
+    let length = usize::from(key_length);
+    if length <= texts.len() {
+        texts.split_at(length)
+    } else {
+        (texts, &[])
     }
 }
 
 impl ShortLink {
+    fn of(
+        kind: MemberKind,
+        role: UsualRole,
+        number: u16,
+        position: u32,
+        off: i64,
+        id: i64,
+    ) -> ShortLink
+        ensures { result ≡ record { off = off; id = id; position = position; number = number; kind = kind; role = role } }
+    {
+        ShortLink {
+            off,
+            id,
+            position,
+            number,
+            kind,
+            role,
+        }
+    }
+
+    /// The same in fewer bytes.
+    fn packed(self) -> PartForm
+        ensures { columns_of result ≡ link_columns self }
+    {
+        let ShortLink {
+            off,
+            id,
+            position,
+            number,
+            kind,
+            role,
+        } = self;
+        match kind {
+            MemberKind::Node => PartForm::NodeLink {
+                role,
+                number,
+                position,
+                off,
+                id,
+            },
+            MemberKind::Way => PartForm::WayLink {
+                role,
+                number,
+                position,
+                off,
+                id,
+            },
+            MemberKind::Relation => PartForm::RelationLink {
+                role,
+                number,
+                position,
+                off,
+                id,
+            },
+        }
+    }
+
     /// The value in a column, and NULL past the end.
-    fn value(&self, at: usize) -> ValueRef<'static>
-        ensures { owned result ≡ column (columns_of (Link self.now)) at }
+    fn value(self, at: usize) -> ValueRef<'static>
+        ensures { owned result ≡ column (link_columns self) at }
     {
         match at {
             0 => ValueRef::Int(self.off),
@@ -272,6 +323,54 @@ impl ShortLink {
             4 => ValueRef::Int(self.id),
             5 => ValueRef::Text(self.role.text().as_bytes()),
             _ => ValueRef::Null,
+        }
+    }
+}
+
+impl PartForm {
+    /// The value in a column, and NULL past the end.
+    fn value(&self, at: usize) -> ValueRef<'_>
+        ensures { owned result ≡ column (columns_of self.now) at }
+    {
+        match self {
+            PartForm::Tag {
+                key_length,
+                number,
+                position,
+                off,
+                texts,
+            } => match at {
+                0 => ValueRef::Int(*off),
+                1 => ValueRef::Int(i64::from(*position)),
+                2 => ValueRef::Int(i64::from(*number)),
+                3 => ValueRef::Text(split_texts(texts.as_slice(), *key_length).0),
+                4 => ValueRef::Text(split_texts(texts.as_slice(), *key_length).1),
+                _ => ValueRef::Null,
+            },
+            PartForm::NodeLink {
+                role,
+                number,
+                position,
+                off,
+                id,
+            } => ShortLink::of(MemberKind::Node, *role, *number, *position, *off, *id).value(at),
+            PartForm::WayLink {
+                role,
+                number,
+                position,
+                off,
+                id,
+            } => ShortLink::of(MemberKind::Way, *role, *number, *position, *off, *id).value(at),
+            PartForm::RelationLink {
+                role,
+                number,
+                position,
+                off,
+                id,
+            } => ShortLink::of(MemberKind::Relation, *role, *number, *position, *off, *id).value(
+                at,
+            ),
+            PartForm::Other(row) => value_at(row, at),
         }
     }
 }
