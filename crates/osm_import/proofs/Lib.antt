@@ -11,6 +11,7 @@ pub mod HistoryLemmas
 pub mod RunsLemmas
 pub mod RepeatLemmas
 pub mod EventLemmas
+pub mod EachLemmas
 pub mod ShutLemmas
 pub mod StepLaws
 pub mod Touching
@@ -29,5 +30,6 @@ pub mod StreamTakes
 pub mod StreamLemmas
 pub mod StreamFiles
 pub mod CopyLemmas
+pub mod CopiesLemmas
 pub mod MergeLemmas
 pub mod TooLargeLemmas

@@ -1,15 +1,14 @@
 -- From single steps to whole runs.
-use Rattle.std.proofs.Common.{◌≡◌, ◌≢◌, ◌⊎◌, ℕ, ◌+◌, ◌<◌, ◌≤◌, List, [], ◌∷◌, ◌++◌, length, take, get_or, Some, None, refl, sym, ◌∙◌, ap, subst, inl, inr, arith}
+use Rattle.std.proofs.Common.{◌≡◌, ◌≢◌, ◌⊎◌, ℕ, ◌+◌, ◌<◌, ◌≤◌, List, [], ◌∷◌, ◌++◌, length, Some, None, refl, sym, ◌∙◌, ap, subst, inl, inr, arith}
 use Rattle.std.specs.FinMap.{get}
 use Rattle.std.proofs.lemmas.Bool.Decides.{leb_tells}
-use Rattle.std.proofs.lemmas.List.{take_more, take_all}
 use Rattle.sha2.specs.Sha256.{sha256}
 use Rattle.osm_store.specs.Held.{Blob, HeldMap}
 use Rattle.osm_store.specs.HeldLaws.{get-insert_here, get-insert_other, get-insert_cases}
 use Rattle.osm_import.specs.Deliveries.{DeliveryValue}
 use Rattle.osm_import.specs.Files.{AreFrames, AreOfFile, IsHeldOfFile, IsFrameAt}
-use Rattle.osm_import.specs.Runs.{IsRun, IsStored, IsRefused, IsFault, IsStoredIn, IsGoodIn, IsUnion, AreStoredOnce, IsNone, IsImport, HaveCauses, AreOwn, IsFirstFaultOwn, Runs, LeavesAfter}
-use Rattle.osm_import.specs.Step.{IsStep, IsEntry, IsOwn, CrashLeaves, Delivers, FaultHasCause}
+use Rattle.osm_import.specs.Runs.{IsRun, IsStored, IsRefused, IsFault, IsStoredIn, IsGoodIn, IsUnion, AreStoredOnce, IsNone, IsImport, AreOwn, LeavesAfter}
+use Rattle.osm_import.specs.Step.{IsStep, IsEntry, IsOwn, CrashLeaves, Delivers}
 use Rattle.osm_import.specs.declared.answer.Answer.{Answer}
 use Rattle.osm_import.specs.declared.answer.Answer.TheVariants.{Stored, AlreadyHeld, Bad, Refused, Fault}
 use Rattle.osm_import.specs.declared.answer.Conflict.TheVariants.{Differs, Overlap}
@@ -206,42 +205,12 @@ delivers-step open_now holds held off bytes (Bad fault) delivers is_open = deliv
 delivers-step open_now holds held off bytes (Refused Differs) delivers is_open = delivers
 delivers-step open_now holds held off bytes (Refused Overlap) delivers is_open = delivers
 
-pub causes-push : (first now later : ℕ) (rs : List Answer) (a : Answer) → now ≤ later → HaveCauses first now rs → FaultHasCause now later a → HaveCauses first later (rs ++ a ∷ [])
-causes-push first now later [] a l causes cause =
-    let own : (first ≤ later) × FaultHasCause first later a = subst (λ (n : ℕ). (n ≤ later) × FaultHasCause n later a) causes (l, cause) in
-    (later, own.0, own.1, refl)
-causes-push first now later (x ∷ rs) a l causes cause = (causes.0, causes.1, causes.2, causes-push causes.0 now later rs a l causes.3 cause)
-
--- one more turn of a loop over deliveries
-pub runs-more : (holds_then holds_now : HeldMap → Type 0) (open_now : Type 0) (start : HeldMap) (ds : List DeliveryValue) (i : ℕ) (d item : DeliveryValue) (rs items : List Answer) (a : Answer)
-    → i < length ds → d ≡ item → item ≡ get_or ds i item → items ≡ rs ++ a ∷ []
-    → Runs holds_then start (take i ds) rs → ((held : HeldMap) → holds_then held → Delivers open_now holds_now held d.off d.bytes a) → open_now
-    → Runs holds_now start (take (i + 1) ds) items
-runs-more holds_then holds_now open_now start ds i d item rs items a within is_item at pushed run delivers is_open =
-    let step = delivers-step open_now holds_now run.0 d.off d.bytes a (delivers run.0 run.2) is_open in
-    let taken : take (i + 1) ds ≡ take i ds ++ d ∷ [] = take_more ds i item within ∙ ap (λ (y : DeliveryValue). take i ds ++ y ∷ []) (sym at ∙ sym is_item) in
-    subst (λ (xs : List DeliveryValue). Runs holds_now start xs items) (sym taken)
-    (subst (λ (ys : List Answer). Runs holds_now start (take i ds ++ d ∷ []) ys) (sym pushed)
-    (step.0, run-push start (take i ds) rs run.0 d a step.0 run.1 step.1, step.2))
-
-pub runs-all : (holds : HeldMap → Type 0) (start : HeldMap) (ds : List DeliveryValue) (i : ℕ) (rs : List Answer) → length ds ≤ i → Runs holds start (take i ds) rs → Runs holds start ds rs
-runs-all holds start ds i rs whole run = subst (λ (xs : List DeliveryValue). Runs holds start xs rs) (take_all i ds whole) run
-
--- one more turn, from any property of the store's map to any other
-pub runs-step : (then now : HeldMap → Type 0) (start : HeldMap) (ds : List DeliveryValue) (i : ℕ) (d item : DeliveryValue) (rs items : List Answer) (a : Answer)
-    → i < length ds → d ≡ item → item ≡ get_or ds i item → items ≡ rs ++ a ∷ []
-    → Runs then start (take i ds) rs → ((held : HeldMap) → then held → (after : HeldMap) × IsStep held d.off d.bytes a after × now after)
-    → Runs now start (take (i + 1) ds) items
-runs-step then now start ds i d item rs items a within is_item at pushed run steps =
-    let step = steps run.0 run.2 in
-    let taken : take (i + 1) ds ≡ take i ds ++ d ∷ [] = take_more ds i item within ∙ ap (λ (y : DeliveryValue). take i ds ++ y ∷ []) (sym at ∙ sym is_item) in
-    subst (λ (xs : List DeliveryValue). Runs now start xs items) (sym taken)
-    (subst (λ (ys : List Answer). Runs now start (take i ds ++ d ∷ []) ys) (sym pushed)
-    (step.0, run-push start (take i ds) rs run.0 d a step.0 run.1 step.1, step.2))
-
-pub none-split : (P : Answer → Type 0) (rs : List Answer) (a : Answer) → IsNone P (rs ++ a ∷ []) → IsNone P rs × ¬ (P a)
-none-split P [] a none = (tt, none.0)
-none-split P (r ∷ rs) a none = let rest = none-split P rs a none.1 in ((none.0, rest.0), rest.1)
+abbrev pub fault-or-not : (a : Answer) → IsFault a ⊎ ¬ (IsFault a)
+fault-or-not (Fault fault) = inl tt
+fault-or-not (Stored count) = inr (λ h. h)
+fault-or-not AlreadyHeld = inr (λ h. h)
+fault-or-not (Bad fault) = inr (λ h. h)
+fault-or-not (Refused conflict) = inr (λ h. h)
 
 -- an answer that is no fault is that of the step, whether or not the store can go on
 pub delivers-sound : (open_now : Type 0) (holds : HeldMap → Type 0) (held : HeldMap) (o : ℕ) (w : List ℕ) (answer : Answer) → ¬ (IsFault answer)
@@ -289,25 +258,3 @@ none-push P (r ∷ rs) a none last = (none.0, none-push P rs a none.1 last)
 pub own-push : (rs : List Answer) (a : Answer) → AreOwn rs → IsOwn a → AreOwn (rs ++ a ∷ [])
 own-push [] a all own = (own, tt)
 own-push (r ∷ rs) a all own = (all.0, own-push rs a all.1 own)
-
--- one more answer, of which it is known behind answers without a fault
-pub first-own-push : (rs : List Answer) (a : Answer) → IsFirstFaultOwn rs → (IsNone IsFault rs → IsOwn a) → IsFirstFaultOwn (rs ++ a ∷ [])
-first-own-push [] (Fault fault) first own = own tt
-first-own-push [] (Stored count) first own = tt
-first-own-push [] AlreadyHeld first own = tt
-first-own-push [] (Bad fault) first own = tt
-first-own-push [] (Refused reason) first own = tt
-first-own-push (Fault fault ∷ rs) a first own = first
-first-own-push (Stored count ∷ rs) a first own = first-own-push rs a first (λ none. own ((λ h. h), none))
-first-own-push (AlreadyHeld ∷ rs) a first own = first-own-push rs a first (λ none. own ((λ h. h), none))
-first-own-push (Bad fault ∷ rs) a first own = first-own-push rs a first (λ none. own ((λ h. h), none))
-first-own-push (Refused reason ∷ rs) a first own = first-own-push rs a first (λ none. own ((λ h. h), none))
-
--- where no answer is a fault
-pub own-sound : (rs : List Answer) → IsNone IsFault rs → AreOwn rs
-own-sound [] sound = tt
-own-sound (Fault fault ∷ rs) sound = absurd (sound.0 tt)
-own-sound (Stored count ∷ rs) sound = (tt, own-sound rs sound.1)
-own-sound (AlreadyHeld ∷ rs) sound = (tt, own-sound rs sound.1)
-own-sound (Bad fault ∷ rs) sound = (tt, own-sound rs sound.1)
-own-sound (Refused reason ∷ rs) sound = (tt, own-sound rs sound.1)

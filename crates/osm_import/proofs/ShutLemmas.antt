@@ -1,73 +1,72 @@
 -- Deliveries that go on after a fault, and what a crash leaves of them.
-use Rattle.std.proofs.Common.{◌≡◌, ◌⊎◌, ℕ, ◌+◌, ◌<◌, ◌≤◌, List, [], ◌∷◌, ◌++◌, length, take, get_or, sym, ◌∙◌, ap, subst, inl, inr}
-use Rattle.std.proofs.lemmas.List.{take_more, take_all}
+use Rattle.std.proofs.Common.{◌≡◌, ◌⊎◌, List, [], ◌∷◌, refl, sym, subst, inl, inr}
 use Rattle.osm_store.specs.Held.{HeldMap}
 use Rattle.osm_store.specs.declared.keeper.Reader.{Ghosts}
 use Rattle.osm_import.specs.Deliveries.{DeliveryValue}
-use Rattle.osm_import.specs.Runs.{IsRun, IsStored, IsFault, Runs, ShutAfter, LeavesAfterAll, StaysShut}
-use Rattle.osm_import.specs.Step.{CrashLeaves}
-use Rattle.osm_import.specs.Stores.{TakesOne}
+use Rattle.osm_import.specs.Runs.{IsStored, IsNone, Runs, ShutAfter, LeavesAfterAll}
+use Rattle.osm_import.specs.Step.{IsStep}
+use Rattle.osm_import.specs.Stores.{TakesEach}
 use Rattle.osm_import.specs.declared.answer.Answer.{Answer}
-use Rattle.osm_import.proofs.RunsLemmas.{run-push, delivers-step, delivers-sound, none-push}
-use Rattle.osm_import.proofs.StreamTakes.{fault-or-not}
+use Rattle.osm_import.proofs.EachLemmas.{each-honest}
+use Rattle.osm_import.proofs.RunsLemmas.{delivers-step, delivers-sound, fault-or-not}
 
--- the delivery behind a run is answered with the fault that shuts the store
-shut-now : (leaves : HeldMap → Type 0) (held : HeldMap) (ds : List DeliveryValue) (rs : List Answer) (between : HeldMap) (d : DeliveryValue) (a : Answer)
-    → IsRun held ds rs between → IsFault a → CrashLeaves leaves between d.off d.bytes → ShutAfter leaves held (ds ++ d ∷ []) (rs ++ a ∷ [])
-shut-now leaves held [] [] between d a run fault crash = inl (fault, subst (λ (m : HeldMap). CrashLeaves leaves m d.off d.bytes) run crash, tt)
-shut-now leaves held [] (x ∷ rs) between d a run fault crash = absurd run
-shut-now leaves held (e ∷ ds) [] between d a run fault crash = absurd run
-shut-now leaves held (e ∷ ds) (x ∷ rs) between d a run fault crash = inr (run.0, run.1, shut-now leaves run.0 ds rs between d a run.2 fault crash)
+-- what deliveries to a store that is shut have done
+record StayShut {S : Type 0} (store : Ghosts S) (old new : S) (rs : List Answer) : Type 0 where
+  unstored : IsNone IsStored rs
+  crash : (left : HeldMap) → store.leaves new left → store.leaves old left
+  whole : store.leaves_a_map old → store.leaves_a_map new
+  closed : ¬ (store.is_open new)
 
--- one more delivery to a store that is shut
-shut-more : (could_leave leaves : HeldMap → Type 0) (held : HeldMap) (ds : List DeliveryValue) (rs : List Answer) (d : DeliveryValue) (a : Answer)
-    → ((left : HeldMap) → leaves left → could_leave left) → ¬ (IsStored a) → ShutAfter could_leave held ds rs → ShutAfter leaves held (ds ++ d ∷ []) (rs ++ a ∷ [])
-shut-more could_leave leaves held [] rs d a fewer unstored shut = absurd shut
-shut-more could_leave leaves held (e ∷ ds) [] d a fewer unstored shut = absurd shut
-shut-more could_leave leaves held (e ∷ ds) (x ∷ rs) d a fewer unstored shut = elim shut [
-  | inl (fault, crash, none) ↦ inl (fault, (λ left it. crash left (fewer left it)), none-push IsStored rs a none unstored)
-  | inr (next, step, rest) ↦ inr (next, step, shut-more could_leave leaves next ds rs d a fewer unstored rest)
-]
+each-shut : {S : Type 0} (store : Ghosts S) (old new : S) (ds : List DeliveryValue) (rs : List Answer) → TakesEach store old new ds rs → store.is_honest new → ¬ (store.is_open old) → StayShut store old new rs
+each-shut {S} store old new [] [] all honest closed = record {
+  unstored = tt;
+  crash = λ left it. subst (λ (s : S). store.leaves s left) all it;
+  whole = λ maps. subst (λ (s : S). store.leaves_a_map s) (sym all) maps;
+  closed = λ up. closed (subst (λ (s : S). store.is_open s) all up);
+}
+each-shut store old new [] (a ∷ rs) all honest closed = absurd all
+each-shut store old new (d ∷ ds) [] all honest closed = absurd all
+each-shut store old new (d ∷ ds) (a ∷ rs) all honest closed =
+    let stays = all.1.shut (each-honest store all.0 new ds rs all.2 honest) closed in
+    let rest = each-shut store all.0 new ds rs all.2 honest (λ up. closed (all.1.open_if up)) in
+    record {
+      unstored = (stays.unstored, rest.unstored);
+      crash = λ left it. stays.crash left (rest.crash left it);
+      whole = λ maps. rest.whole (stays.whole maps);
+      closed = rest.closed;
+    }
 
 -- how far deliveries have come: all are steps and the store holds what they leave, or a fault among them has shut it
 abbrev pub HasCome : {S : Type 0} → Ghosts S → S → HeldMap → List DeliveryValue → List Answer → Type 0
 HasCome store now held ds rs = Runs (store.holds now) held ds rs ⊎ (¬ (store.is_open now) × store.leaves_a_map now × ShutAfter (store.leaves now) held ds rs)
 
-come-more : {S : Type 0} (store : Ghosts S) → ((s : S) → store.is_honest s → store.is_open s ⊎ ¬ (store.is_open s))
-    → (old new : S) (held : HeldMap) (ds : List DeliveryValue) (rs : List Answer) (d : DeliveryValue) (a : Answer) → store.is_honest new → TakesOne store old new d.off d.bytes a
-    → (¬ (store.is_open old) → StaysShut (store.leaves old) (store.leaves new) (store.leaves_a_map old) (store.leaves_a_map new) a)
-    → HasCome store old held ds rs → HasCome store new held (ds ++ d ∷ []) (rs ++ a ∷ [])
-come-more store open_or_shut old new held ds rs d a honest one shut come = elim come [
-  | inl run ↦ elim (fault-or-not a) [
-    | inr none ↦
-        let step = delivers-sound (store.is_open new) (store.holds new) run.0 d.off d.bytes a none (one.step run.0 run.2 honest) in
-        inl (step.0, run-push held ds rs run.0 d a step.0 run.1 step.1, step.2)
-    | inl fault ↦ elim (open_or_shut new honest) [
-      | inl is_open ↦
-          let step = delivers-step (store.is_open new) (store.holds new) run.0 d.off d.bytes a (one.step run.0 run.2 honest) is_open in
-          inl (step.0, run-push held ds rs run.0 d a step.0 run.1 step.1, step.2)
-      | inr closed ↦ inr (closed, one.whole run.0 run.2 honest, shut-now (store.leaves new) held ds rs run.0 d a run.1 fault (one.crash run.0 run.2 honest))
-    ]
-  ]
-  | inr (closed, whole, after) ↦
-      let stays = shut closed in
-      inr ((λ is_open. closed (one.open_if is_open)), stays.whole whole, shut-more (store.leaves old) (store.leaves new) held ds rs d a stays.crash stays.unstored after)
+come-cons : {S : Type 0} (store : Ghosts S) (now : S) (held next : HeldMap) (d : DeliveryValue) (ds : List DeliveryValue) (a : Answer) (rs : List Answer)
+    → IsStep held d.off d.bytes a next → HasCome store now next ds rs → HasCome store now held (d ∷ ds) (a ∷ rs)
+come-cons store now held next d ds a rs step come = elim come [
+  | inl run ↦ inl (run.0, (next, step, run.1), run.2)
+  | inr (closed, whole, after) ↦ inr (closed, whole, inr (next, step, after))
 ]
 
--- the same at a place of a list of deliveries
-pub come-more-at : {S : Type 0} (store : Ghosts S) → ((s : S) → store.is_honest s → store.is_open s ⊎ ¬ (store.is_open s))
-    → (old new : S) (held : HeldMap) (ds : List DeliveryValue) (i : ℕ) (d item : DeliveryValue) (rs items : List Answer) (a : Answer)
-    → i < length ds → d ≡ item → item ≡ get_or ds i item → items ≡ rs ++ a ∷ [] → store.is_honest new → TakesOne store old new d.off d.bytes a
-    → (¬ (store.is_open old) → StaysShut (store.leaves old) (store.leaves new) (store.leaves_a_map old) (store.leaves_a_map new) a)
-    → HasCome store old held (take i ds) rs → HasCome store new held (take (i + 1) ds) items
-come-more-at store open_or_shut old new held ds i d item rs items a within is_item at pushed honest one shut come =
-    let taken : take (i + 1) ds ≡ take i ds ++ d ∷ [] = take_more ds i item within ∙ ap (λ (y : DeliveryValue). take i ds ++ y ∷ []) (sym at ∙ sym is_item) in
-    subst (λ (xs : List DeliveryValue). HasCome store new held xs items) (sym taken)
-    (subst (λ (ys : List Answer). HasCome store new held (take i ds ++ d ∷ []) ys) (sym pushed) (come-more store open_or_shut old new held (take i ds) rs d a honest one shut come))
-
--- all have come
-pub come-all : {S : Type 0} (store : Ghosts S) (now : S) (held : HeldMap) (ds : List DeliveryValue) (i : ℕ) (rs : List Answer) → length ds ≤ i → HasCome store now held (take i ds) rs → HasCome store now held ds rs
-come-all store now held ds i rs whole come = subst (λ (xs : List DeliveryValue). HasCome store now held xs rs) (take_all i ds whole) come
+pub each-come : {S : Type 0} (store : Ghosts S) → ((s : S) → store.is_honest s → store.is_open s ⊎ ¬ (store.is_open s))
+    → (old new : S) (ds : List DeliveryValue) (rs : List Answer) → TakesEach store old new ds rs → (held : HeldMap) → store.holds old held → store.is_honest new → HasCome store new held ds rs
+each-come {S} store open_or_shut old new [] [] all held holds honest = inl (held, refl, subst (λ (s : S). store.holds s held) (sym all) holds)
+each-come store open_or_shut old new [] (a ∷ rs) all held holds honest = absurd all
+each-come store open_or_shut old new (d ∷ ds) [] all held holds honest = absurd all
+each-come store open_or_shut old new (d ∷ ds) (a ∷ rs) all held holds honest =
+    let mid = each-honest store all.0 new ds rs all.2 honest in
+    let made = all.1.step held holds mid in elim (fault-or-not a) [
+      | inr none ↦
+          let step = delivers-sound (store.is_open all.0) (store.holds all.0) held d.off d.bytes a none made in
+          come-cons store new held step.0 d ds a rs step.1 (each-come store open_or_shut all.0 new ds rs all.2 step.0 step.2 honest)
+      | inl fault ↦ elim (open_or_shut all.0 mid) [
+        | inl up ↦
+            let step = delivers-step (store.is_open all.0) (store.holds all.0) held d.off d.bytes a made up in
+            come-cons store new held step.0 d ds a rs step.1 (each-come store open_or_shut all.0 new ds rs all.2 step.0 step.2 honest)
+        | inr closed ↦
+            let rest = each-shut store all.0 new ds rs all.2 honest closed in
+            inr (rest.closed, rest.whole (all.1.whole held holds mid), inl (fault, (λ left it. all.1.crash held holds mid left (rest.crash left it)), rest.unstored))
+      ]
+    ]
 
 pub come-leaves : {S : Type 0} (store : Ghosts S) → ((s : S) (held left : HeldMap) → store.holds s held → store.leaves s left → left ≡ held)
     → (now : S) (held : HeldMap) (ds : List DeliveryValue) (rs : List Answer) → HasCome store now held ds rs → LeavesAfterAll (store.leaves now) held ds rs

@@ -1,27 +1,47 @@
 -- What calls do to a store, in the terms of what is said of one.
-use Rattle.std.specs.Prelude.{ℕ, ◌≤◌, List, Result, OnOk}
-use Rattle.osm_store.specs.Held.{HeldMap}
+use Rattle.std.specs.Prelude.{◌≡◌, ℕ, ◌≤◌, false, List, [], ◌∷◌, Some, Result, OnOk}
+use Rattle.std.specs.FinMap.{get}
+use Rattle.osm_store.specs.Held.{Blob, HeldMap}
+use Rattle.osm_store.specs.Keeping.{extent_of}
+use Rattle.osm_store.specs.declared.keeper.Extent.{Extent}
 use Rattle.osm_store.specs.declared.keeper.Reader.{Ghosts}
+use Rattle.osm_import.specs.Copies.{BlobCopied, CopiesBlob, CrashLeavesBlob, BlobHasCause, IsOwnBlob, ComeTo, is_added}
 use Rattle.osm_import.specs.Deliveries.{DeliveryValue}
 use Rattle.osm_import.specs.Step.{Delivers, CrashLeaves, FaultHasCause, IsOwn}
-use Rattle.osm_import.specs.Runs.{Runs, LeavesAfter, HaveCauses, AreOwn, IsFault, IsNone, IsStored}
+use Rattle.osm_import.specs.Histories.{LeavesEvents}
+use Rattle.osm_import.specs.Runs.{Runs, LeavesAfter, HaveCauses, AreOwn, IsFault, IsNone, IsStored, StaysShut}
 use Rattle.osm_import.specs.declared.answer.Answer.{Answer}
+use Rattle.osm_import.specs.declared.copy.CopyCounts.{CopyCounts}
+use Rattle.osm_import.specs.declared.copy.CopyStop.{CopyStop}
 
--- what one delivery has done; where nothing is stored, the tables are as they were, whatever rows they have
+-- All that `deliver` promises of one delivery. Where nothing is stored, the tables are as they were, whatever rows they have.
 pub record TakesOne {S : Type 0} (store : Ghosts S) (old new : S) (off : ℕ) (bytes : List ℕ) (answer : Answer) : Type 0 where
   pub step : (held : HeldMap) → store.holds old held → store.is_honest new → Delivers (store.is_open new) (store.holds new) held off bytes answer
   pub crash : (held : HeldMap) → store.holds old held → store.is_honest new → CrashLeaves (store.leaves new) held off bytes
+  pub events : (held : HeldMap) → store.holds old held → store.is_honest new → LeavesEvents (store.leaves new) held (record { off = off; bytes = bytes }) answer
   pub whole : (held : HeldMap) → store.holds old held → store.is_honest new → store.leaves_a_map new
+  pub alone : (held : HeldMap) → store.holds old held → store.is_honest new → store.is_alone old → store.is_alone new
   pub own : (held : HeldMap) → store.holds old held → store.is_honest new → IsOwn answer
   pub cause : FaultHasCause (store.failures old) (store.failures new) answer
   pub same : store.is_honest new → store.is_open new → ¬ (IsStored answer) → store.same_tables old new
+  pub shut : store.is_honest new → ¬ (store.is_open old)
+      → StaysShut (store.leaves old) (store.leaves new) (store.leaves_a_map old) (store.leaves_a_map new) answer
   pub honest : store.is_honest new → store.is_honest old
   pub open_if : store.is_open new → store.is_open old
   pub counted : store.failures old ≤ store.failures new
 
+-- Each delivery in turn is one that `deliver` may have made, of the store that the one before has left.
+abbrev pub TakesEach : {S : Type 0} → Ghosts S → S → S → List DeliveryValue → List Answer → Type 0
+TakesEach store old new [] [] = new ≡ old
+TakesEach store old new [] (answer ∷ answers) = ⊥
+TakesEach store old new (delivery ∷ deliveries) [] = ⊥
+TakesEach {S} store old new (delivery ∷ deliveries) (answer ∷ answers) =
+    (next : S) × TakesOne store old next delivery.off delivery.bytes answer × TakesEach store next new deliveries answers
+
 -- What deliveries in turn have done, of which the last alone may be answered with a fault: each is a step, and a crash
 -- leaves the map after the answered ones, or after a fault alone that map with the blob at fault.
 pub record Takes {S : Type 0} (store : Ghosts S) (old new : S) (deliveries : List DeliveryValue) (replies : List Answer) : Type 0 where
+  pub each : TakesEach store old new deliveries replies
   pub run : (held : HeldMap) → store.holds old held → store.is_honest new → store.is_open new → Runs (store.holds new) held deliveries replies
   pub unbroken : (held : HeldMap) → store.holds old held → store.is_honest new → IsNone IsFault replies → Runs (store.holds new) held deliveries replies
   pub crash : (held : HeldMap) → store.holds old held → store.is_honest new → LeavesAfter (store.leaves new) held deliveries replies
@@ -45,3 +65,39 @@ pub record Stays {S : Type 0} (store : Ghosts S) (old new : S) : Type 0 where
 pub record Rereads {S T E : Type 0} (store : Ghosts S) (old : S) (result : Result T E) (new : S) : Type 0 where
   pub stays : Stays store old new
   pub ok : OnOk result (store.is_honest new → (held : HeldMap) → store.holds old held → store.holds new held)
+
+-- ---- copies of one store into another
+
+-- said of the map that a store holds and of the blob at an extent, which another store holds, where both have given what was written
+abbrev pub WhereHeld : {F T : Type 0} → Ghosts F → Ghosts T → F → F → T → T → Extent → (HeldMap → Blob → Type 0) → Type 0
+WhereHeld from to first last old new extent P =
+    (source held : HeldMap) (blob : Blob) → from.holds first source → from.is_honest last → to.holds old held → to.is_honest new
+    → get source extent.off ≡ Some blob → extent ≡ extent_of (extent.off, blob) → P held blob
+
+-- What the copy of one blob has done, to the store that is read and to the one that it goes into. Where it isn't added, the
+-- tables of the other are as they were, whatever rows they have.
+pub record CopiesOne {F T : Type 0} (from : Ghosts F) (to : Ghosts T) (first last : F) (old new : T) (copy : BlobCopied) : Type 0 where
+  pub step : WhereHeld from to first last old new copy.0 (λ held blob. CopiesBlob (to.is_open new) (to.holds new) held copy.0.off blob copy.1)
+  pub crash : WhereHeld from to first last old new copy.0 (λ held blob. CrashLeavesBlob (to.leaves new) held copy.0.off blob)
+  pub whole : WhereHeld from to first last old new copy.0 (λ held blob. to.leaves_a_map new)
+  pub own : WhereHeld from to first last old new copy.0 (λ held blob. IsOwnBlob copy.1)
+  pub source : Rereads from first copy.1 last
+  pub cause : BlobHasCause (from.failures first) (from.failures last) (to.failures old) (to.failures new) copy.1
+  pub same : to.is_honest new → to.is_open new → is_added copy ≡ false → to.same_tables old new
+  pub honest : to.is_honest new → to.is_honest old
+  pub open_if : to.is_open new → to.is_open old
+  pub counted : (from.failures first ≤ from.failures last) × (to.failures old ≤ to.failures new)
+
+-- each copy in turn is such a one, of the stores that the one before has left
+abbrev pub CopiesEach : {F T : Type 0} → Ghosts F → Ghosts T → F → F → T → T → List BlobCopied → Type 0
+CopiesEach from to first last old new [] = (last ≡ first) × (new ≡ old)
+CopiesEach {F} {T} from to first last old new (copy ∷ copies) =
+    (left : F) × (next : T) × CopiesOne from to first left old next copy × CopiesEach from to left last next new copies
+
+-- the copies of the blobs of a store, once its extents were read
+pub record CopiesInTurn {F T : Type 0} (from : Ghosts F) (to : Ghosts T) (first last : F) (old new : T) (result : Result CopyCounts CopyStop) : Type 0 where
+  pub listed : F
+  pub lists : Stays from first listed
+  pub copies : List BlobCopied
+  pub each : CopiesEach from to listed last old new copies
+  pub come : ComeTo copies result

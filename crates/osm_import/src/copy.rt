@@ -1,14 +1,14 @@
 //! Copies of held blobs from one store into another.
 
-ghost use Rattle.std.specs.Prelude.{◌≡◌, ◌⊎◌, ◌<◌, ◌≤◌, ◌^◌, ℕ, Some, All, IfOk, IfErr};
+ghost use Rattle.std.specs.Prelude.{◌≡◌, ◌⊎◌, ◌<◌, ◌≤◌, ◌^◌, ℕ, false, List, Some, All, IfOk, IfErr};
 ghost use Rattle.std.specs.FinMap.{get};
 ghost use Rattle.osm_store.specs.Held.{Blob, HeldMap};
 ghost use Rattle.osm_store.specs.Keeping.{IsRange, extent_of, extents_of};
-ghost use Rattle.osm_import.specs.Copies.{CopiesBlob, Copies, CrashLeavesBlob, CrashLeavesSome, BlobHasCause, CopyHasCause, IsOwnBlob, IsOwnCopy};
+ghost use Rattle.osm_import.specs.Copies.{BlobCopied, CopiesBlob, Copies, CrashLeavesBlob, CrashLeavesSome, BlobHasCause, CopyHasCause, IsOwnBlob, IsOwnCopy, ComeTo, is_added};
 ghost use Rattle.osm_store.specs.declared.fault.StoreFault.TheVariants.{Memory};
 ghost use Rattle.osm_import.specs.declared.copy.CopyFault.TheVariants.{Store};
 ghost use Rattle.osm_import.specs.CopyFaults.{copy_number_of, copy_name_of};
-ghost use Rattle.osm_import.specs.Stores.{Rereads};
+ghost use Rattle.osm_import.specs.Stores.{CopiesEach, CopiesInTurn, Rereads};
 
 use crate::answer::Conflict;
 use crate::delivery::extent_at;
@@ -110,7 +110,7 @@ fn copy_blob<F: Reader, T: Keeper>(
     ensures cause { BlobHasCause (F.failures from.old) (F.failures from.new) (T.failures to.old) (T.failures to.new) result }
     ensures honest { T.is_honest to.new → T.is_honest to.old }
     ensures open_if { T.is_open to.new → T.is_open to.old }
-    ensures same { T.is_honest to.new → T.is_open to.new → IfOk result (λ answer. answer ≡ BlobCopy.AlreadyHeld → T.same_tables to.old to.new) }
+    ensures same { T.is_honest to.new → T.is_open to.new → is_added (extent.now, result) ≡ false → T.same_tables to.old to.new }
     ensures counted { (F.failures from.old ≤ F.failures from.new) × (T.failures to.old ≤ T.failures to.new) }
 {
     let touched = to.extents_touching(alloc, extent.off, extent.fin)?;
@@ -157,6 +157,7 @@ fn copy_blobs<F: Reader, T: Keeper>(
     ensures cause { CopyHasCause (F.failures from.old) (F.failures from.new) (T.failures to.old) (T.failures to.new) result }
     ensures honest { T.is_honest to.new → T.is_honest to.old }
     ensures open_if { T.is_open to.new → T.is_open to.old }
+    ensures each { (copies : List BlobCopied) × CopiesEach F.Reader T.Reader from.old from.new to.old to.new copies × ComeTo copies result }
     ensures same { T.is_honest to.new → T.is_open to.new → IfOk result (λ counts. counts.copied ≡ 0 → T.same_tables to.old to.new) }
     ensures counted { (F.failures from.old ≤ F.failures from.new) × (T.failures to.old ≤ T.failures to.new) }
 {
@@ -216,7 +217,9 @@ pub fn copy_held<F: Reader, T: Keeper>(
     ensures honest { T.is_honest to.new → T.is_honest to.old }
     ensures open_if { T.is_open to.new → T.is_open to.old }
 
-    // Where nothing is copied the other's tables are as they were, whatever rows they have.
+    // The copy of a blob that isn't added leaves the other's tables, whatever rows they have, also beside others that are. So
+    // where nothing is copied they are as they were.
+    ensures each { CopiesInTurn F.Reader T.Reader from.old from.new to.old to.new result }
     ensures same { T.is_honest to.new → T.is_open to.new → IfOk result (λ counts. counts.copied ≡ 0 → T.same_tables to.old to.new) }
 {
     let extents = match from.extents(alloc) {

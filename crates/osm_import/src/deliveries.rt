@@ -4,6 +4,7 @@ ghost use Rattle.std.specs.Prelude.{◌≡◌, ◌⊎◌, ℕ, List, length, IfO
 ghost use Rattle.osm_store.specs.Held.{HeldMap};
 ghost use Rattle.osm_import.specs.Files.{AreFrames, AreOfFile, IsHeldOfFile};
 ghost use Rattle.osm_import.specs.Runs.{Runs, Imports, HaveCauses, AreOwn, IsFirstFaultOwn, LeavesAfterAll, IsNone, IsStored, IsFault};
+ghost use Rattle.osm_import.specs.Stores.{TakesEach};
 
 use crate::answer::Answer;
 use crate::delivery::deliver;
@@ -59,7 +60,9 @@ pub fn deliver_all<K: Keeper>(
     ensures unbroken { (held : HeldMap) → K.holds keeper.old held → K.is_honest keeper.new
         → IfOk result (λ answers. IsNone IsFault answers.items → Runs (K.holds keeper.new) held deliveries.now answers.items) }
 
-    // Where nothing is stored the tables are as they were, whatever rows they have.
+    // Each delivery is one that `deliver` may have made, of the store that the one before has left. So one that isn't stored
+    // leaves the tables, whatever rows they have, also beside others that are; and where none is, they are as they were.
+    ensures each { IfOk result (λ answers. TakesEach K.Reader keeper.old keeper.new deliveries.now answers.items) }
     ensures same { K.is_honest keeper.new → K.is_open keeper.new → IfOk result (λ answers. IsNone IsStored answers.items → K.same_tables keeper.old keeper.new) }
 
     // What a crash may leave, also behind a fault that has shut the store.

@@ -24,8 +24,8 @@ use Rattle.osm_import.specs.declared.stream.fault.Stop.{Stop}
 use Rattle.osm_import.specs.declared.stream.fault.Stop.TheVariants.{WriteFailed}
 use Rattle.osm_import.specs.declared.stream.fault.StreamFault.{StreamFault}
 use Rattle.osm_import.proofs.RunsLemmas.{run-back, run-keep}
-use Rattle.pbfrow_commands.specs.Importing.{Skips, Imports, AreHeld, IsOfFrames, HoldsRange, IsTold, ends_input, front_of}
-use Rattle.pbfrow_commands.proofs.ImportLemmas.{imports-end, imports-stop}
+use Rattle.pbfrow_commands.specs.Importing.{Skips, Imports, ImportsRange, AreHeld, IsOfFrames, HoldsRange, IsTold, ends_input, front_of, import_status}
+use Rattle.pbfrow_commands.proofs.ImportLemmas.{imports-end, imports-stop, none-bad, none-refused}
 
 -- ---- each frame is held
 
@@ -152,7 +152,7 @@ ill stop = Err stop
 told-well : (raw summary : Summary) → well summary ≡ well raw → raw ≡ summary
 told-well raw summary e = cc
 
-pub range-held : {S : Type 0} (store : Ghosts S) (old new : S) (held : HeldMap) → store.holds old held → store.is_honest new
+range-held : {S : Type 0} (store : Ghosts S) (old new : S) (held : HeldMap) → store.holds old held → store.is_honest new
     → (dropped from to : ℕ) (bytes : Known) (source : Input) (output : Output) (Same : Type 0) (outcome : Result Summary StreamFault) (summary : Summary) → source.before ≡ front_of (dropped + (to - from)) bytes
     → Imports dropped from source output Same (Takes store old new) outcome → IsTold to outcome (Ok summary) → summary.bad ≡ 0 → summary.refused ≡ 0 → HoldsRange (store.holds new) held dropped from to bytes
 range-held store old new held is honest dropped from to bytes source output Same (Ok raw) summary here (inl h) (inl told) none free =
@@ -162,6 +162,18 @@ range-held store old new held is honest dropped from to bytes source output Same
 range-held store old new held is honest dropped from to bytes source output Same (Ok raw) summary here (inl h) (inr told) none free = (let wrong = told.1.2 in absurd cc)
 range-held store old new held is honest dropped from to bytes source output Same (Err stop) summary here h (inl told) none free = (let wrong = told in absurd cc)
 range-held store old new held is honest dropped from to bytes source output Same (Err stop) summary here h (inr told) none free = (let wrong = told.1.2 in absurd cc)
+
+-- what such an import leaves follows of what it has read, written and delivered, and of its exit status
+pub range-imported : {S : Type 0} (store : Ghosts S) (old new : S) (held : HeldMap) → store.holds old held → store.is_honest new
+    → (dropped from to : ℕ) (bytes : Known) (output : Output) (Same : Type 0) (status : ℕ) → ImportsRange dropped from to bytes output Same (Takes store old new) status → status ≡ 0
+    → HoldsRange (store.holds new) held dropped from to bytes
+range-imported store old new held is honest dropped from to bytes output Same status it ended = of_told it.1 it.6 it.8
+  where
+    of_told : (told : Result Summary StreamFault) → IsTold to it.0 told → status ≡ import_status told output.has_failed → HoldsRange (store.holds new) held dropped from to bytes
+    of_told (Ok summary) told exit =
+        range-held store old new held is honest dropped from to bytes it.2 (record output { after = it.3 }) Same it.0 summary it.4 it.5 told
+        (none-bad summary output.has_failed status exit ended) (none-refused summary output.has_failed status exit ended)
+    of_told (Err stop) told exit = absurd (omega arith)
 
 -- ---- what is told
 

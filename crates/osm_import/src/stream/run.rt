@@ -100,7 +100,8 @@ fn ended(from: u64, summary: Summary) -> Result<Summary, StreamFault>
 /// - with `WriteFailed` where the output has failed, and with `ReadFailed` where the reader has;
 /// - with `BlobLimit` where `max_blobs` frames were delivered and a further byte came.
 ///
-/// The blobs that were answered before a stop stay.
+/// The blobs that were answered before a stop stay. Each frame that isn't answered `stored` leaves the tables, whatever rows
+/// they have, where the store can go on.
 ///
 /// Over the bytes of a whole reader, from 0, `Ok` says that they are a file; and where the store held nothing but
 /// entries of that file and no blob was bad, what it holds now tiles the file.

@@ -1,6 +1,8 @@
-use Rattle.std.proofs.Common.{◌≡◌, ◌+◌, ◌∙◌, [], take, refl, sym, subst, ap, arith, rules}
+use Rattle.std.proofs.Common.{◌≡◌, ◌+◌, ◌∙◌, [], ◌∷◌, ◌++◌, take, Ok, Err, refl, sym, subst, ap, inr, arith, rules}
 use Rattle.osm_store.specs.Held.{HeldMap}
 use Rattle.osm_import.specs.Copies.{IsMerged}
+use Rattle.osm_import.specs.Stores.{CopiesOne}
+use Rattle.osm_import.proofs.CopiesLemmas.{copies-push, counted-push, copies-same}
 use Rattle.osm_import.proofs.CopyLemmas.{IsAt, at_blob, taken_more, taken_below, taken_all, counted_all, merged_none, merged_step, crash_below, stops_at, cause_wider, held_more, held_by, held_all, already}
 use Rattle.osm_import.proofs.WalkLemmas.{read-is}
 use Rattle.osm_import.proofs.copy.copy_blobs.Goals as goal
@@ -18,7 +20,7 @@ loop-extent-init g c = record {
   honest = λ h. h;
   open_if = λ h. h;
   counted = omega arith;
-  same = λ honest is_open none. g.met.T.Reader.same_tables_self c.args.to.now;
+  each = ([], (refl, refl), (refl, refl, refl));
   merged = λ source held from_holds from_honest holds honest are. (held, merged_none (λ off. IsAt [] off) source held (λ off none. none), holds, refl);
 }
 
@@ -31,8 +33,22 @@ loop-extent-preserved g c =
     ] in
     let inv = c.loop-extent.invariant in
     let made = c.in-Ok.ensures in
+    let counts : c.match-answer.copied + c.match-answer.held ≡ c.loop-extent.extent-index + 1 = search rules in
+    let one : CopiesOne g.F.Reader T c.loop-extent.from c.copy_blob.new.from c.loop-extent.to c.copy_blob.new.to (_, Ok c.in-Ok.answer)
+    = record {
+      step = made.step;
+      crash = made.crash;
+      whole = made.whole;
+      own = made.own;
+      source = made.source;
+      cause = made.cause;
+      same = made.same;
+      honest = made.honest;
+      open_if = made.open_if;
+      counted = made.counted;
+    } in
     record {
-      counts = search rules;
+      counts = counts;
       from_honest = λ h. inv.from_honest (made.source.stays.honest h);
       from_open_if = λ h. inv.from_open_if (made.source.stays.open_if h);
       from_kept = λ h source holds. made.source.ok h source (inv.from_kept (made.source.stays.honest h) source holds);
@@ -42,12 +58,11 @@ loop-extent-preserved g c =
       honest = λ h. inv.honest (made.honest h);
       open_if = λ h. inv.open_if (made.open_if h);
       counted = omega (arith, inv.counted, made.counted.1);
-      same = λ honest is_open none. elim c.match-answer.branch [
-        | in-Added w ↦ absurd (let more = w.copied-is in omega (arith, none, more))
-        | in-AlreadyHeld w ↦ (let known = w.in-AlreadyHeld.is in let kept = w.copied-is in
-            g.met.T.Reader.same_tables_then c.args.to.now c.loop-extent.to c.copy_blob.new.to (inv.same (made.honest honest) (made.open_if is_open) (omega (arith, none, kept)))
-            (made.same honest is_open known))
-      ];
+      each = (
+        inv.each.0 ++ (_, Ok c.in-Ok.answer) ∷ [],
+        copies-push g.F.Reader T c.args.from.now c.loop-extent.from c.copy_blob.new.from c.args.to.now c.loop-extent.to c.copy_blob.new.to inv.each.0 _ inv.each.1 one,
+        counted-push inv.each.0 _ c.in-Ok.answer c.loop-extent.copied c.loop-extent.held c.match-answer.copied c.match-answer.held inv.each.2 new_held (omega (arith, inv.counts, counts)),
+      );
       merged = λ source held from_holds from_honest holds honest are.
           let before = inv.merged source held from_holds (made.source.stays.honest from_honest) holds (made.honest honest) are in
           let is = read-is c.args.extents.now c.loop-extent.extent-index _ _ (omega arith) in
@@ -116,6 +131,37 @@ returns-in-Err-clause-cause g c =
     let inv = c.loop-extent.invariant in
     cause_wider (F.failures c.args.from.now) (F.failures c.loop-extent.from) (F.failures c.copy_blob.new.from) (T.failures c.args.to.now) (T.failures c.loop-extent.to) (T.failures c.copy_blob.new.to) c.in-Err.fault
     inv.from_counted inv.counted c.in-Err.ensures.cause
+
+pub returns-in-Err-clause-each : goal.returns-in-Err-clause-each
+returns-in-Err-clause-each g c =
+    let inv = c.loop-extent.invariant in
+    let made = c.in-Err.ensures in
+    let one : CopiesOne g.F.Reader g.T.Reader c.loop-extent.from c.copy_blob.new.from c.loop-extent.to c.copy_blob.new.to (_, Err c.in-Err.fault)
+    = record {
+      step = made.step;
+      crash = made.crash;
+      whole = made.whole;
+      own = made.own;
+      source = made.source;
+      cause = made.cause;
+      same = made.same;
+      honest = made.honest;
+      open_if = made.open_if;
+      counted = made.counted;
+    } in (
+      inv.each.0 ++ (_, Err c.in-Err.fault) ∷ [],
+      copies-push g.F.Reader g.T.Reader c.args.from.now c.loop-extent.from c.copy_blob.new.from c.args.to.now c.loop-extent.to c.copy_blob.new.to inv.each.0 _ inv.each.1 one,
+      inr (inv.each.0, _, refl, refl),
+    )
+
+pub returns-clause-each : goal.returns-clause-each
+returns-clause-each g c = c.loop-extent.invariant.each
+
+pub returns-clause-same : goal.returns-clause-same
+returns-clause-same g c = λ honest up none.
+    let each = c.loop-extent.invariant.each in
+    copies-same g.F.Reader g.T.Reader g.met.T.Reader.same_tables_self g.met.T.Reader.same_tables_then c.args.from.now c.loop-extent.from c.args.to.now c.loop-extent.to each.0 each.1 honest up
+    (sym each.2.0 ∙ none)
 
 pub returns-clause-copies : goal.returns-clause-copies
 returns-clause-copies g c = λ source held from_holds from_honest holds honest are.

@@ -1,8 +1,9 @@
-use Rattle.std.proofs.Common.{◌≡◌, ◌≤◌, ◌+◌, take}
+use Rattle.std.proofs.Common.{◌≡◌, ◌≤◌, ◌+◌, List, take}
 use Rattle.std.specs.FinMap.{entries}
 use Rattle.osm_store.specs.Held.{HeldMap}
 use Rattle.osm_store.specs.Keeping.{extents_of}
-use Rattle.osm_import.specs.Copies.{IsMerged, held_among}
+use Rattle.osm_import.specs.Copies.{BlobCopied, IsMerged, AreCounted, held_among}
+use Rattle.osm_import.specs.Stores.{CopiesEach}
 use Rattle.osm_import.proofs.CopyLemmas.{IsAt}
 use Rattle.osm_import.proofs.copy.copy_blobs.Given as goal
 
@@ -21,7 +22,7 @@ invariant-loop-extent g l =
       honest : T.is_honest l.to → T.is_honest l.fn.to;
       open_if : T.is_open l.to → T.is_open l.fn.to;
       counted : T.failures l.fn.to ≤ T.failures l.to;
-      same : T.is_honest l.to → T.is_open l.to → l.copied ≡ 0 → T.same_tables l.fn.to l.to;
+      each : (copies : List BlobCopied) × CopiesEach F T l.fn.from l.from l.fn.to l.to copies × AreCounted copies l.copied l.held;
       merged : (source held : HeldMap) → F.holds l.fn.from source → F.is_honest l.from → T.holds l.fn.to held → T.is_honest l.to → l.extents ≡ extents_of source
           → (after : HeldMap) × IsMerged (λ off. IsAt (take l.extent-index l.extents) off) source held after × T.holds l.to after × (l.held ≡ held_among held (take l.extent-index (entries source)));
     }

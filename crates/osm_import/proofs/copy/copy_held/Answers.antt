@@ -1,4 +1,4 @@
-use Rattle.std.proofs.Common.{◌<◌, ◌∙◌, arith, sym, subst, inl, refl}
+use Rattle.std.proofs.Common.{◌<◌, ◌∙◌, [], arith, sym, subst, inl, refl}
 use Rattle.osm_store.specs.Held.{HeldMap}
 use Rattle.osm_import.specs.Copies.{IsUnitedBelow}
 use Rattle.osm_import.proofs.CopyLemmas.{merged_none, reached_at}
@@ -10,6 +10,29 @@ returns-in-Err-clause-copies g c = λ source held from_holds from_honest holds h
 pub returns-in-Err-clause-crash : goal.returns-in-Err-clause-crash
 returns-in-Err-clause-crash g c = λ source held from_holds from_honest holds honest left leaves.
     (0, subst (λ (h : HeldMap). IsUnitedBelow 0 source held h) (sym (g.met.T.Reader.settled _ held left holds leaves)) (merged_none (λ off. off < 0) source held (λ off low. omega arith)))
+
+pub returns-in-Err-clause-each : goal.returns-in-Err-clause-each
+returns-in-Err-clause-each g c =
+    let reads = c.in-Err.ensures.reads in
+    record {
+      listed = c.extents.new.self;
+      lists = record { honest = reads.honest; open_if = reads.open_if; kept = reads.err; crash = reads.crash; whole = reads.whole };
+      copies = [];
+      each = (refl, refl);
+      come = inl refl;
+    }
+
+pub returns-clause-each : goal.returns-clause-each
+returns-clause-each g c =
+    let reads = c.in-Ok.ensures.reads in
+    let each = c.copy_blobs.ensures.each in
+    record {
+      listed = c.extents.new.self;
+      lists = record { honest = reads.honest; open_if = reads.open_if; kept = λ honest up. reads.ok honest; crash = reads.crash; whole = reads.whole };
+      copies = each.0;
+      each = each.1;
+      come = each.2;
+    }
 
 pub returns-in-Err-clause-reached : goal.returns-in-Err-clause-reached
 returns-in-Err-clause-reached g c = λ source from_holds from_honest. inl refl

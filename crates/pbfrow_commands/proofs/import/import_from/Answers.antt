@@ -1,6 +1,3 @@
-use Rattle.std.proofs.Common.{◌≡◌, Some, subst}
-use Rattle.osm_import.specs.Exports.{Known}
-use Rattle.pbfrow_commands.specs.Importing.{Skips}
 use Rattle.pbfrow_commands.proofs.ImportLemmas.{skips-none}
 use Rattle.pbfrow_commands.proofs.import.import_from.Goals as goal
 

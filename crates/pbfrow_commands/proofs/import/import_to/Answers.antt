@@ -1,8 +1,7 @@
 use Rattle.std.proofs.Common.{◌≡◌, ◌-◌, Ok, Err, refl, take}
 use Rattle.osm_import.specs.Flows.{output}
 use Rattle.osm_import.specs.Stores.{Takes}
-use Rattle.pbfrow_commands.proofs.ImportLemmas.{none-bad, none-refused}
-use Rattle.pbfrow_commands.proofs.ImportRanges.{front-known, imports-on, one-fault, range-held}
+use Rattle.pbfrow_commands.proofs.ImportRanges.{front-known, imports-on, one-fault, range-imported}
 use Rattle.pbfrow_commands.proofs.import.import_to.Goals as goal
 
 pub returns-in-Ok-clause-imports : goal.returns-in-Ok-clause-imports
@@ -22,10 +21,8 @@ returns-in-Ok-clause-imports g c =
 
 pub returns-in-Ok-clause-whole : goal.returns-in-Ok-clause-whole
 returns-in-Ok-clause-whole g c = λ held is honest ended.
-    let it = c.in-Ok.ensures.imports in
-    range-held g.K.Reader c.args.store.now c.import_before.new.store held is honest c.args.start.dropped c.args.start.at c.args.to (g.R.Read.remaining c.args.reader.now) it.1
-    (output g.S.Sink c.args.out.now c.import_before.new.out) (c.import_before.new.store ≡ c.args.store.now) it.0 c.in-Ok.summary it.2 it.3 it.4
-    (none-bad c.in-Ok.summary _ _ c.finish.ensures.status ended) (none-refused c.in-Ok.summary _ _ c.finish.ensures.status ended)
+    range-imported g.K.Reader c.args.store.now c.import_before.new.store held is honest c.args.start.dropped c.args.start.at c.args.to (g.R.Read.remaining c.args.reader.now)
+    (output g.S.Sink c.args.out.now c.finish.new.out) (c.import_before.new.store ≡ c.args.store.now) c.finish.result (returns-in-Ok-clause-imports g c) ended
 
 pub returns-in-Ok-clause-part : goal.returns-in-Ok-clause-part
 returns-in-Ok-clause-part g c = λ bytes is none holds honest ended.

@@ -24,10 +24,13 @@ returns g c =
       subst (λ (x : ℕ × List ℕ). TakesOne K c.args.keeper.now c.deliver-answer.new.keeper x.0 x.1 c.deliver-answer.result) read.0 (record {
         step = made.step;
         crash = made.crash;
+        events = made.events;
         whole = made.whole;
+        alone = made.alone;
         own = made.own;
         cause = made.cause;
         same = made.same;
+        shut = made.shut;
         honest = made.honest;
         open_if = made.open_if;
         counted = made.counted;

@@ -37,7 +37,7 @@ loop-blobs-preserved g c =
     (input_behind g.R.Source c.loop-blobs.piece c.import_frame.new.piece c.loop-blobs.reader c.import_frame.new.reader) (output g.S.Sink c.loop-blobs.out c.import_frame.new.out) c.loop-blobs.summary c.add.new.self
     (Takes g.K.Reader c.args.keeper.now c.loop-blobs.keeper) (Takes g.K.Reader c.args.keeper.now c.import_frame.new.keeper) (TakesOne g.K.Reader c.loop-blobs.keeper c.import_frame.new.keeper)
     c.in-Ok-Some.blob c.loop-blobs.invariant one
-    (λ ds rs off bytes a sound all step. took-more g.K.Reader g.met.K.Reader.settled g.met.K.Reader.same_tables_then c.args.keeper.now c.loop-blobs.keeper c.import_frame.new.keeper ds rs off bytes a sound all step)
+    (λ ds rs off bytes a sound all step. took-more g.K.Reader g.met.K.Reader.settled g.met.K.Reader.same_tables_self g.met.K.Reader.same_tables_then c.args.keeper.now c.loop-blobs.keeper c.import_frame.new.keeper ds rs off bytes a sound all step)
     c.add.ensures
 
 pub returns-in-Ok-None-clause-streams : goal.returns-in-Ok-None-clause-streams
@@ -61,7 +61,7 @@ returns-in-Err-clause-streams g c =
     (Takes g.K.Reader c.args.keeper.now c.loop-blobs.keeper) (Takes g.K.Reader c.args.keeper.now c.import_frame.new.keeper) (TakesOne g.K.Reader c.loop-blobs.keeper c.import_frame.new.keeper)
     (c.import_frame.new.keeper ≡ c.loop-blobs.keeper) c.in-Err.fault c.loop-blobs.invariant c.in-Err.ensures.step
     (λ ds rs same took. subst (λ (k : g.row.K.Denot). Takes g.K.Reader c.args.keeper.now k ds rs) (sym same) took)
-    (λ ds rs off bytes a sound all step. took-more g.K.Reader g.met.K.Reader.settled g.met.K.Reader.same_tables_then c.args.keeper.now c.loop-blobs.keeper c.import_frame.new.keeper ds rs off bytes a sound all step)
+    (λ ds rs off bytes a sound all step. took-more g.K.Reader g.met.K.Reader.settled g.met.K.Reader.same_tables_self g.met.K.Reader.same_tables_then c.args.keeper.now c.loop-blobs.keeper c.import_frame.new.keeper ds rs off bytes a sound all step)
     (omega arith) c.in-Err.ensures.spent
 
 pub returns-in-Ok-true-clause-streams : goal.returns-in-Ok-true-clause-streams
