@@ -61,10 +61,6 @@ AreJudged depth held known [] findings = findings ≡ []
 AreJudged depth held known (extent ∷ extents) findings =
     (found : Option Finding) × (rest : List Finding) × IsJudged depth held known extent found × AreJudged depth held known extents rest × (findings ≡ cons_option found rest)
 
--- the counts of the rows of a blob more
-abbrev pub CountsMore : Counts → List Element → Counts → Type 0
-CountsMore old elements new = (before : List (List Element)) → old ≡ counts_of before → new ≡ counts_of (before ++ elements ∷ [])
-
 -- ---- whatever rows the tables have
 
 -- at the offset of each extent a good frame of the file stands, of a blob with these elements, of which this is so there

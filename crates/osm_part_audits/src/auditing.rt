@@ -9,16 +9,16 @@ ghost use Rattle.osm_store.specs.Keeping.{IsForeign, IsRange, extents_of};
 ghost use Rattle.osm_import.specs.Step.{HasCause};
 ghost use Rattle.osm_import.specs.Stores.{Rereads};
 ghost use Rattle.osm_verify.specs.Agreements.{IsSame};
-ghost use Rattle.osm_verify.specs.Audits.{IsEntryOf};
+ghost use Rattle.osm_verify.specs.Audits.{CountsMore, IsEntryOf};
 ghost use Rattle.osm_part_audits.specs.Faults.{AuditHasCause, IsOwn};
 ghost use Rattle.osm_part_audits.specs.InFile.{IsIn};
-ghost use Rattle.osm_part_audits.specs.Judging.{AreEntriesIn, AreJudged, CountsMore, IsFound, IsJudged, IsStray, ShowsPart, finding_of};
+ghost use Rattle.osm_part_audits.specs.Judging.{AreEntriesIn, AreJudged, IsFound, IsJudged, IsStray, ShowsPart, finding_of};
 
 use crate::fault::AuditFault;
 use crate::file_bytes::FileBytes;
 use osm_import::{ExamineFault, SourceFailed, examine};
 use osm_store::{Audited, Counts, Extent, StoreFault};
-use osm_verify::{Agreement, Depth, compare};
+use osm_verify::{Agreement, Depth, compare, has_rows};
 use std::alloc::{AllocError, Global};
 
 /// How many bytes a frame has at most.
@@ -174,23 +174,6 @@ fn audit_extents<K: Audited, F: FileBytes>(
         note(&mut findings, found)?;
     }
     Ok(findings)
-}
-
-/// Whether the tables have so many rows, or SQL can't count so many, as on no disk.
-fn has_rows<K: Audited>(alloc: Global, store: &mut K, rows: &Counts) -> Result<bool, StoreFault>
-    ensures held { (held : HeldMap) → K.holds store.old held → K.is_honest store.new → rows.now ≡ counts_of (elements_held held) → IfOk result IsTrue }
-    ensures shown { K.is_honest store.new → AreCountable rows.now
-        → IfOk result (λ told. K.is_open store.new × (IsTrue told → K.has_tables store.old → ShowsCounts K.layout (K.trees store.old) rows.now)) }
-    ensures same { K.is_honest store.new → K.is_open store.new → K.same_tables store.old store.new }
-    ensures rereads { Rereads K.Reader store.old result store.new }
-    ensures own { (held : HeldMap) → K.holds store.old held → K.is_honest store.new → IfErr result (λ fault. ¬ (IsForeign fault)) }
-    ensures cause { IfErr result (HasCause (K.failures store.old) (K.failures store.new)) }
-    ensures counted { K.failures store.old ≤ K.failures store.new }
-{
-    if !rows.are_countable() {
-        return Ok(true);
-    }
-    store.has_counts(alloc, rows)
 }
 
 /// Refuses tables of which by elements nothing was found, and that yet have other rows than these.

@@ -1,9 +1,10 @@
 -- What it comes to that a database has the rows of each frame of a file, and no others, whatever else was said of it.
-use Rattle.std.specs.Prelude.{◌≡◌, ℕ, ◌+◌, List, [], ◌∷◌, length}
+use Rattle.std.specs.Prelude.{◌≡◌, ℕ, ◌+◌, List, [], ◌∷◌, ◌++◌, length}
 pub use Rattle.sqlite.specs.Tree.{Trees}
 use Rattle.std.specs.List.{AllByRecursion}
 use Rattle.std.specs.FinMap.{entries}
 use Rattle.osm_value.specs.declared.element.Element.{Element}
+use Rattle.osm_store.specs.declared.audit.counts.Counts.{Counts}
 use Rattle.osm_store.specs.declared.schema.layout.Layout.{Layout}
 use Rattle.osm_store.specs.Audit.{ShowsBlob, ShowsCounts, ShowsMap, counts_of, elements_held}
 use Rattle.osm_store.specs.Held.{Blob, HeldMap}
@@ -55,3 +56,7 @@ pub record KeepsImport (has_rows : ℕ → Blob → Type 0) (layout : Layout) (d
   pub imported : IsImported (placed_from 0 frames) held
   pub kept : AllByRecursion (λ (entry : ℕ × Blob). has_rows entry.0 entry.1) (entries held)
   pub counted : ShowsCounts layout db (counts_of (elements_held held))
+
+-- the counts of the rows of some blobs, and then of one more with these elements
+abbrev pub CountsMore : Counts → List Element → Counts → Type 0
+CountsMore old elements new = (before : List (List Element)) → old ≡ counts_of before → new ≡ counts_of (before ++ elements ∷ [])

@@ -1,6 +1,7 @@
 //! One frame of a file and the rows that a store's tables have at its offset, whatever rows these are.
 
 ghost use Rattle.std.specs.Prelude.{◌≡◌, ◌↔◌, ◌≤◌, IsTrue, IfOk, IfErr};
+ghost use Rattle.osm_store.specs.Audit.{AreCountable, ShowsCounts, counts_of, elements_held};
 ghost use Rattle.osm_store.specs.Held.{HeldMap};
 ghost use Rattle.osm_store.specs.Keeping.{IsForeign};
 ghost use Rattle.osm_import.specs.Good.{IsGood};
@@ -11,7 +12,7 @@ ghost use Rattle.osm_verify.specs.Audits.{IsEntryOf, IsShown};
 ghost use Rattle.osm_verify.specs.declared.comparing.Depth.TheVariants.{Elements};
 
 use osm_import::Good;
-use osm_store::{Audited, StoreFault};
+use osm_store::{Audited, Counts, StoreFault};
 use osm_value::laws::elements_in_range;
 use sha2::{Digest, Sha256};
 use std::alloc::Global;
@@ -48,4 +49,25 @@ pub fn has_frame<K: Audited>(
     let fin = off + bytes.len() as u64;
     let digest = Sha256::digest(bytes);
     store.has_blob(alloc, off, fin, &digest, good.kind, &good.elements)
+}
+
+/// Whether each table has exactly so many rows, or SQL can't count so many, as on no disk. What is held stays.
+///
+/// Of the rows nothing has to be known (`has_tables`). An error is that of a read of the store that has failed, or `Memory`
+/// where memory was refused. Over an honest disk, where the store holds a map, it is never `NotThisStore`.
+pub fn has_rows<K: Audited>(alloc: Global, store: &mut K, rows: &Counts) -> Result<bool, StoreFault>
+    // the tables of a held map have as many rows as the map
+    ensures held { (held : HeldMap) → K.holds store.old held → K.is_honest store.new → rows.now ≡ counts_of (elements_held held) → IfOk result IsTrue }
+    ensures shown { K.is_honest store.new → AreCountable rows.now
+        → IfOk result (λ told. K.is_open store.new × (K.has_tables store.old → (IsTrue told ↔ ShowsCounts K.layout (K.trees store.old) rows.now))) }
+    ensures same { K.is_honest store.new → K.is_open store.new → K.same_tables store.old store.new }
+    ensures rereads { Rereads K.Reader store.old result store.new }
+    ensures own { (held : HeldMap) → K.holds store.old held → K.is_honest store.new → IfErr result (λ fault. ¬ (IsForeign fault)) }
+    ensures cause { IfErr result (HasCause (K.failures store.old) (K.failures store.new)) }
+    ensures counted { K.failures store.old ≤ K.failures store.new }
+{
+    if !rows.are_countable() {
+        return Ok(true);
+    }
+    store.has_counts(alloc, rows)
 }

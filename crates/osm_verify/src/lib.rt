@@ -5,5 +5,5 @@ mod auditing;
 mod comparing;
 pub mod laws;
 
-pub use auditing::has_frame;
+pub use auditing::{has_frame, has_rows};
 pub use comparing::{Agreement, Depth, compare, extents_beginning};

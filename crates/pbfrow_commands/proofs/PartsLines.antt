@@ -1,5 +1,5 @@
 -- What the commands on several stores tell.
-use Rattle.std.proofs.Common.{◌≡◌, ℕ, Bool, List, length, Option, unwrap_or, refl, sym, ◌∙◌, ap, subst, inl, inr}
+use Rattle.std.proofs.Common.{◌≡◌, ℕ, Bool, List, length, Option, unwrap_or, refl, sym, ◌∙◌, ap, subst, inl}
 use Rattle.std.specs.Prelude.{codes}
 use Rattle.std.specs.FinMap.{entries}
 use Rattle.std.proofs.lemmas.List.{length-map}
@@ -18,7 +18,7 @@ use Rattle.osm_parts.specs.Parts.{AreParts}
 use Rattle.osm_parts.specs.PartsFaults.{IsOfMaps, PartsFaultHasCause}
 use Rattle.osm_parts.specs.Reading.{AreRead}
 use Rattle.osm_parts.specs.declared.fault.PartsFault.{PartsFault}
-use Rattle.osm_parts.specs.declared.fault.PartsFault.TheVariants.{Interleaved, Refused, Store}
+use Rattle.osm_parts.specs.declared.fault.PartsFault.TheVariants.{Interleaved, Refused}
 use Rattle.osm_parts.specs.declared.runs.Part.{Part}
 use Rattle.osm_parts.proofs.ReadingLemmas.{read-apart}
 use Rattle.pbfrow_commands.specs.InParts.{parts_fault_line, TellsParts}

@@ -32,7 +32,7 @@ use Rattle.osm_import.specs.declared.stream.fault.Stop.{Stop}
 use Rattle.osm_import.specs.declared.stream.fault.Stop.TheVariants.{Frame, NoHeaderFirst, WriteFailed, Store, ReadFailed, BlobLimit}
 use Rattle.osm_import.specs.declared.stream.fault.StreamFault.{StreamFault}
 use Rattle.osm_verify.specs.Agreements.{begins}
-use Rattle.osm_verify.specs.Audits.{Trees, AreEntries}
+use Rattle.osm_verify.specs.Audits.{AreEntries, CountsMore, Trees}
 use Rattle.osm_verify.specs.Laws.{AreSame, AreAlone, IsExact}
 use Rattle.osm_verify.specs.declared.comparing.Depth.{Depth}
 use Rattle.osm_verify.specs.declared.comparing.Depth.TheVariants.{Elements}
@@ -43,7 +43,7 @@ use Rattle.osm_verify.proofs.LawLemmas.{verified-is-exact}
 use Rattle.pbfrow_commands.specs.Checking.{capped}
 use Rattle.pbfrow_commands.specs.CommandLines.{stop_line}
 use Rattle.pbfrow_commands.specs.Walks.{Part, IsPart, joined, lines_from, AreFound, status_of}
-use Rattle.pbfrow_commands.specs.Verifying.{Comparison, Compared, CountsMore, IsComparison, HasCompared, HasCountedRows, HasElements, HasOwnElements, HasSeen, HasSeenInput, ShowsFile, agree, rows_of, is_whole, first_extra, is_missing, is_other, counts_of, agreement_line, comparison_line, IsBroken, IsClosing, HasClosed, close_text, counts_behind, counts_line, header_line, extra_lines, compared_lines, is_agreed, ComparesBlobs, VerifiesInput}
+use Rattle.pbfrow_commands.specs.Verifying.{Comparison, Compared, IsComparison, HasCompared, HasCountedRows, HasElements, HasOwnElements, HasSeen, HasSeenInput, ShowsFile, agree, rows_of, is_whole, first_extra, is_missing, is_other, counts_of, agreement_line, comparison_line, IsBroken, IsClosing, HasClosed, close_text, counts_behind, counts_line, header_line, extra_lines, compared_lines, is_agreed, ComparesBlobs, VerifiesInput}
 use Rattle.pbfrow_commands.specs.declared.verify.Close.{Close}
 use Rattle.pbfrow_commands.specs.declared.verify.Close.TheVariants.{Whole, Early, Unwritten}
 use Rattle.pbfrow_commands.specs.declared.verify.Counts.{Counts}

@@ -132,10 +132,6 @@ counts_line c = codes "blobs " ++ decimal c.blobs ++ codes " missing " ++ decima
 abbrev pub agree : Counts → Bool
 agree c = nat_lt 0 c.blobs && ((c.bad == 0 && c.missing == 0) && (c.differs == 0 && c.extra == 0))
 
--- the counts of the rows of a blob more
-abbrev pub CountsMore : Rows → List Element → Rows → Type 0
-CountsMore old elements new = (before : List (List Element)) → old ≡ counts_of_rows before → new ≡ counts_of_rows (before ++ elements ∷ [])
-
 -- the counts of the rows of these blobs
 abbrev pub rows_of : List (Part Compared) → Rows
 rows_of blobs = counts_of_rows (map (λ (p : Part Compared). p.found.elements) blobs)

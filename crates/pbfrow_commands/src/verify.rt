@@ -13,8 +13,9 @@ ghost use Rattle.osm_import.specs.Good.{IsFrame};
 ghost use Rattle.osm_import.specs.Step.{HasCause};
 ghost use Rattle.osm_import.specs.Stores.{Rereads, Stays};
 ghost use Rattle.osm_verify.specs.Agreements.{begins};
+ghost use Rattle.osm_verify.specs.Audits.{CountsMore};
 ghost use Rattle.osm_verify.specs.Laws.{IsExact};
-ghost use Rattle.pbfrow_commands.specs.Verifying.{Compared, CountsMore, HasCompared, HasCountedRows, HasElements, HasOwnElements, HasSeen, HasSeenInput, IsClosing, IsComparison, IsCompared, IsSeen, ComparesBlobs, ShowsFile, VerifiesInput, agree, agreement_line, close_text, compared_lines, comparison_line, counts_line, counts_of, extra_line, extra_lines, first_extra, header_line, is_agreed, is_missing, is_other, is_whole};
+ghost use Rattle.pbfrow_commands.specs.Verifying.{Compared, HasCompared, HasCountedRows, HasElements, HasOwnElements, HasSeen, HasSeenInput, IsClosing, IsComparison, IsCompared, IsSeen, ComparesBlobs, ShowsFile, VerifiesInput, agree, agreement_line, close_text, compared_lines, comparison_line, counts_line, counts_of, extra_line, extra_lines, first_extra, header_line, is_agreed, is_missing, is_other, is_whole};
 ghost use Rattle.pbfrow_commands.specs.Walks.{IsPart, Part, status_of};
 
 use crate::check::put_total;
@@ -25,7 +26,7 @@ use osm_import::{
 };
 use osm_store::{Audited, Counts as Rows, Extent, Reader, StoreFault};
 use osm_value::{Outlet, Sink, put, put_digits};
-use osm_verify::{Agreement, Depth, compare, extents_beginning};
+use osm_verify::{Agreement, Depth, compare, extents_beginning, has_rows};
 use pbf_frame::MAX_OFFSET;
 use std::alloc::Global;
 use std::io::{Read, Write};
@@ -256,23 +257,6 @@ fn are_alike(depth: Depth, counts: &Counts, extras: &[Extent]) -> bool
     ensures { IsTrue result ↔ ((depth ≡ Depth.Elements) × (agree counts.now ≡ true) × (extras.now ≡ [])) }
 {
     depth == Depth::Elements && counts.agree() && extras.is_empty()
-}
-
-/// Whether the tables have so many rows, or SQL can't count so many, as on no disk.
-fn has_rows<K: Audited>(alloc: Global, store: &mut K, rows: &Rows) -> Result<bool, StoreFault>
-    ensures held { (held : HeldMap) → K.holds store.old held → K.is_honest store.new → rows.now ≡ counts_of_rows (elements_held held) → IfOk result IsTrue }
-    ensures shown { K.is_honest store.new → AreCountable rows.now
-        → IfOk result (λ told. K.is_open store.new × (IsTrue told → K.has_tables store.old → ShowsCounts K.layout (K.trees store.old) rows.now)) }
-    ensures same { K.is_honest store.new → K.is_open store.new → K.same_tables store.old store.new }
-    ensures rereads { Rereads K.Reader store.old result store.new }
-    ensures own { (held : HeldMap) → K.holds store.old held → K.is_honest store.new → IfErr result (λ fault. ¬ (IsForeign fault)) }
-    ensures cause { IfErr result (HasCause (K.failures store.old) (K.failures store.new)) }
-    ensures counted { K.failures store.old ≤ K.failures store.new }
-{
-    if !rows.are_countable() {
-        return Ok(true);
-    }
-    store.has_counts(alloc, rows)
 }
 
 /// Compares a blob, counts it and its rows, writes its lines, and answers the offset behind it. At an error the counts stay,

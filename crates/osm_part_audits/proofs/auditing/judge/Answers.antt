@@ -1,8 +1,8 @@
 use Rattle.std.proofs.Common.{◌≡◌, List, Option, refl, sym, ◌∙◌, subst}
 use Rattle.osm_value.specs.declared.element.Element.{Element}
 use Rattle.osm_import.proofs.Delivering.{entry_at, entry_at-is}
-use Rattle.osm_verify.specs.Audits.{IsEntryOf}
-use Rattle.osm_part_audits.specs.Judging.{CountsMore, IsFound}
+use Rattle.osm_verify.specs.Audits.{CountsMore, IsEntryOf}
+use Rattle.osm_part_audits.specs.Judging.{IsFound}
 use Rattle.osm_part_audits.specs.declared.auditing.Finding.{Finding}
 use Rattle.osm_part_audits.proofs.JudgingLemmas.{agreement-found, finding-none, none-is, none-same}
 use Rattle.osm_part_audits.proofs.auditing.judge.Goals as goal

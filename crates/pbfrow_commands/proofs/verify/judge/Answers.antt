@@ -1,9 +1,8 @@
 use Rattle.std.proofs.Common.{◌≡◌, List, refl, subst}
 use Rattle.osm_value.specs.declared.element.Element.{Element}
 use Rattle.osm_import.proofs.Delivering.{entry_at, entry_at-is}
-use Rattle.osm_verify.specs.Audits.{IsEntryOf}
+use Rattle.osm_verify.specs.Audits.{CountsMore, IsEntryOf}
 use Rattle.osm_verify.specs.declared.comparing.Agreement.TheVariants.{Same}
-use Rattle.pbfrow_commands.specs.Verifying.{CountsMore}
 use Rattle.pbfrow_commands.proofs.verify.judge.Goals as goal
 
 pub returns-in-Ok-compare-clause-judged : goal.returns-in-Ok-compare-clause-judged
