@@ -10,6 +10,8 @@ use Rattle.osm_store.specs.declared.schema.layout.Layout.TheVariants.{Tables}
 use Rattle.osm_store.specs.Rows.{version_row}
 use Rattle.osm_tree_writes.specs.Appending.{IsStoreAt}
 use Rattle.osm_tree_writes.specs.Putting.{IsIndexedStore}
+use Rattle.osm_tree_audits.specs.Looks.{IsLook}
+use Rattle.osm_tree_audits.specs.declared.look.Look.{Look}
 use Rattle.osm_trees.specs.Below.{IsChecked}
 use Rattle.osm_tree_writes.specs.Tables.{table_listings}
 use Rattle.osm_databases.specs.Checked.{IsOfVersion}
@@ -33,12 +35,18 @@ checked_after old new reads unbroken indexed clean found shaped =
     )
 
 -- and after more of them, which found those whole that somebody has added
-pub checked_on : (a b c : View) → (IsClean b → OnlyReads a b × (b.is_broken ≡ false)) → (IsClean b → IsIndexedStore b.trees) → OnlyReads b c × (c.is_broken ≡ false) → IsClean c → (IsClean a → IsOfVersion a) → IsStoreAt a.shape
+pub checked_on : (a b c : View) → (IsClean b → OnlyReads a b × (b.is_broken ≡ false)) → (look : Look) → (IsClean b → IsIndexedStore b.trees × IsLook b.trees look) → OnlyReads b c × (c.is_broken ≡ false) → IsClean c → (IsClean a → IsOfVersion a) → IsStoreAt a.shape
     → IsChecked c × (take 9 (c.trees catalog_tree) ≡ table_listings)
-checked_on a b c before whole after clean found shaped =
+checked_on a b c before look whole after clean found shaped =
     let clean_b : IsClean b = ap (λ (v : View). doubt v.is_clean) (sym after.0) ∙ clean in
     let trees : c.trees ≡ b.trees = ap (λ (v : View). v.trees) after.0 in
-    checked_after a c (reads_on a b c (before clean_b).0 after.0) after.1 (subst IsIndexedStore (sym trees) (whole clean_b)) clean found shaped
+    checked_after a c (reads_on a b c (before clean_b).0 after.0) after.1 (subst IsIndexedStore (sym trees) (whole clean_b).0) clean found shaped
+
+-- what was seen is so still
+pub seen_on : (b c : View) (look : Look) → (IsClean b → IsIndexedStore b.trees × IsLook b.trees look) → OnlyReads b c → IsClean c → IsLook c.trees look
+seen_on b c look whole after clean =
+    let clean_b : IsClean b = ap (λ (v : View). doubt v.is_clean) (sym after) ∙ clean in
+    subst (λ (db : Trees). IsLook db look) (sym (ap (λ (v : View). v.trees) after)) (whole clean_b).1
 
 pub found_of_version : {X : Type 0} (view : X → View) (found : Option X) → IfSome found (λ x. IsTrue (view x).is_clean → ((view x).is_broken ≡ false) × ((view x).trees ≡ (view x).committed))
     → IfSome found (λ x. IsTrue (view x).is_clean → take 9 ((view x).trees catalog_tree) ≡ table_listings) → IfSome found (λ x. IsTrue (view x).is_clean → (view x).trees 0 ≡ version_row Tables ∷ [])

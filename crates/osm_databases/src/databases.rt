@@ -6,13 +6,14 @@ ghost use Rattle.sqlite.specs.Held.{IsNew, state};
 ghost use Rattle.sqlite_trees.specs.Objects.{catalog_tree};
 ghost use Rattle.sqlite_trees.specs.View.{IsClean};
 ghost use Rattle.osm_tree_writes.specs.Tables.{table_listings};
+ghost use Rattle.osm_tree_audits.specs.Looks.{IsLook};
 ghost use Rattle.osm_trees.specs.Below.{IsChecked};
 ghost use Rattle.osm_trees.specs.Ways.{MatchOpened, counted};
 ghost use Rattle.osm_tree_writes.specs.Appending.{IsStoreAt};
 ghost use Rattle.osm_databases.specs.Checked.{HasWholeAdded, IsOfVersion};
 
 use crate::reason::{told, told_of};
-use crate::stores::{OpenedStore, adopted, adopted_or_made, checked, taking_blobs};
+use crate::stores::{OpenedChecked, OpenedStore, adopted, adopted_or_made, checked, taking_blobs};
 use osm_added_indexes::{is_added_index, is_of_a_store, plain_index};
 use osm_store::{BodyStore, StoreFault, TableStore};
 use osm_trees::{Opened, TreeStore};
@@ -158,18 +159,20 @@ fn found_taking_blobs<S: Alter + Drop>(
 
 /// The store of a database whose rows are to be compared, whatever these are. A database of this version is read by its
 /// trees: each page and each tree is looked at, and each index of the store has one entry for each row, and so has each that
-/// somebody has added to its tables. One of whose tables somebody has made an index that a put doesn't keep is opened by SQL,
-/// which looks at that too, and holds what it looks at in memory. Nothing is written. Why it can't be opened is told on
-/// standard error.
+/// somebody has added to its tables; the store has what was seen of the tables at that. One of whose tables somebody has made an
+/// index that a put doesn't keep is opened by SQL, which looks at that too, and holds what it looks at in memory. Nothing is
+/// written. Why it can't be opened is told on standard error.
 pub fn opened_checked<D: CheckedDatabases>(
     rt: &HostRuntime,
     databases: &D,
     name: &str,
-) -> Result<OpenedStore<D::Trees>, StoreFault>
-    ensures failures { IfOk result (λ reader. counted (λ trees. trees.failures) (λ store. store.failures) reader ≡ 0) }
+) -> Result<OpenedChecked<D::Trees>, StoreFault>
+    ensures failures { IfOk result (λ reader. counted (λ checked. checked.trees.failures) (λ store. store.failures) reader ≡ 0) }
     ensures checked { IfOk result (λ reader. MatchOpened reader
-        (λ trees. IsClean (D.Trees.Store.view trees.store) → IsChecked (D.Trees.Store.view trees.store) × (take 9 ((D.Trees.Store.view trees.store).trees catalog_tree) ≡ table_listings)) (λ _. ⊤)) }
-    ensures added { IfOk result (λ reader. MatchOpened reader (λ trees. IsClean (D.Trees.Store.view trees.store) → HasWholeAdded (D.Trees.Store.view trees.store).trees) (λ _. ⊤)) }
+        (λ checked. IsClean (D.Trees.Store.view checked.trees.store)
+        → IsChecked (D.Trees.Store.view checked.trees.store) × (take 9 ((D.Trees.Store.view checked.trees.store).trees catalog_tree) ≡ table_listings)) (λ _. ⊤)) }
+    ensures look { IfOk result (λ reader. MatchOpened reader (λ checked. IsClean (D.Trees.Store.view checked.trees.store) → IsLook (D.Trees.Store.view checked.trees.store).trees checked.look) (λ _. ⊤)) }
+    ensures added { IfOk result (λ reader. MatchOpened reader (λ checked. IsClean (D.Trees.Store.view checked.trees.store) → HasWholeAdded (D.Trees.Store.view checked.trees.store).trees) (λ _. ⊤)) }
 {
     let found = databases.checked_trees(rt, name)?;
     let Some(trees) = found_taking_blobs(rt, name, found)? else {

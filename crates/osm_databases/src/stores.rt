@@ -14,6 +14,7 @@ ghost use Rattle.sqlite_exec.specs.Calls.{OnlyReads};
 ghost use Rattle.sqlite_trees.specs.Objects.{catalog_tree};
 ghost use Rattle.osm_tree_writes.specs.Appending.{IsStoreAt, TakeBlobs};
 ghost use Rattle.osm_tree_writes.specs.Putting.{IsIndexedStore};
+ghost use Rattle.osm_tree_audits.specs.Looks.{IsLook};
 ghost use Rattle.osm_trees.specs.Below.{HoldsBelow, IsChecked, StandsAlone};
 ghost use Rattle.osm_trees.specs.Ways.{MatchOpened, counted};
 ghost use Rattle.osm_tree_writes.specs.Tables.{table_listings};
@@ -21,8 +22,9 @@ ghost use Rattle.osm_databases.specs.Checked.{HasWholeAdded, IsOfVersion};
 
 use crate::reason::{Reason, Refusal};
 use osm_added_indexes::plain_indexes;
+use osm_checked::CheckedStore;
 use osm_store::{StoreFault, TableStore};
-use osm_tree_audits::{faulty_added_index, faulty_index};
+use osm_tree_audits::{Look, Looked, faulty_added_index, look_at_indexes};
 use osm_tree_writes::takes_blobs;
 use osm_trees::{Opened, TreeStore};
 use sqlite::{Alter, Connection};
@@ -32,6 +34,9 @@ use std::alloc::{AllocError, Global};
 
 /// A store over the trees of its database, or by SQL.
 pub type OpenedStore<S> = Opened<TreeStore<S>, TableStore<S>>;
+
+/// The same of a store that is only read, each index of whose trees was looked at.
+pub type OpenedChecked<S> = Opened<CheckedStore<S>, TableStore<S>>;
 
 /// The store that a connection has. It holds what the connection holds, and nothing has been written. A fault is that of
 /// `TableStore::adopt`.
@@ -108,16 +113,19 @@ pub fn taking_blobs<S: Alter + Drop>(alloc: Global, trees: S) -> Result<Option<S
     }
 }
 
-/// The trees, if each index of the store has one entry for each row of its table, and no other; they are dropped if not,
-/// and the fault is `Disk`. Of the rows nothing has to be known. Another fault is that of a read that has failed, or
-/// `Memory`. No more than one row and its entry are in memory.
-pub fn with_whole_indexes<S: Store + Drop>(alloc: Global, mut trees: S) -> Result<S, Refusal>
-    ensures whole { IfOk result (λ kept. IsClean (S.Store.view kept) → IsIndexedStore (S.Store.view kept).trees) }
-    ensures reads { IfOk result (λ kept. IsClean (S.Store.view kept) → OnlyReads (S.Store.view trees) (S.Store.view kept) × ((S.Store.view kept).is_broken ≡ false)) }
+/// The trees, if each index of the store has one entry for each row of its table, and no other, with what was seen of the tables
+/// as the indexes were looked at; they are dropped if not, and the fault is `Disk`. Of the rows nothing has to be known. Another
+/// fault is that of a read that has failed, or `Memory`. No more than one row and its entry are in memory.
+pub fn with_whole_indexes<S: Store + Drop>(
+    alloc: Global,
+    mut trees: S,
+) -> Result<(S, Look), Refusal>
+    ensures whole { IfOk result (λ kept. IsClean (S.Store.view kept.0) → IsIndexedStore (S.Store.view kept.0).trees × IsLook (S.Store.view kept.0).trees kept.1) }
+    ensures reads { IfOk result (λ kept. IsClean (S.Store.view kept.0) → OnlyReads (S.Store.view trees) (S.Store.view kept.0) × ((S.Store.view kept.0).is_broken ≡ false)) }
 {
-    match faulty_index(alloc, &mut trees) {
-        Ok(None) => Ok(trees),
-        Ok(Some(index)) => Err(Refusal {
+    match look_at_indexes(alloc, &mut trees) {
+        Ok(Looked::Whole(look)) => Ok((trees, look)),
+        Ok(Looked::Faulty(index)) => Err(Refusal {
             fault: StoreFault::Disk,
             reason: Reason::Index(index),
         }),
@@ -156,15 +164,16 @@ pub fn with_whole_added_indexes<S: Alter + Drop>(alloc: Global, mut trees: S) ->
 }
 
 /// The store of trees that are those of a store of this version, if each of its indexes has one entry for each row of its
-/// table, and no other, and so has each that somebody has added. A fault is that of `with_whole_indexes`, or of
-/// `with_whole_added_indexes`.
-pub(crate) fn checked<S: Alter + Drop>(alloc: Global, trees: S) -> Result<TreeStore<S>, Refusal>
-    ensures failures { IfOk result (λ reader. reader.failures ≡ 0) }
-    ensures checked { IfOk result (λ reader. IsClean (S.Store.view reader.store) → (IsClean (S.Store.view trees) → IsOfVersion (S.Store.view trees)) → IsStoreAt (S.Store.view trees).shape
-        → IsChecked (S.Store.view reader.store) × (take 9 ((S.Store.view reader.store).trees catalog_tree) ≡ table_listings)) }
-    ensures added { IfOk result (λ reader. IsClean (S.Store.view reader.store) → HasWholeAdded (S.Store.view reader.store).trees) }
+/// table, and no other, and so has each that somebody has added, with what was seen of its tables. A fault is that of
+/// `with_whole_indexes`, or of `with_whole_added_indexes`.
+pub(crate) fn checked<S: Alter + Drop>(alloc: Global, trees: S) -> Result<CheckedStore<S>, Refusal>
+    ensures failures { IfOk result (λ reader. reader.trees.failures ≡ 0) }
+    ensures checked { IfOk result (λ reader. IsClean (S.Store.view reader.trees.store) → (IsClean (S.Store.view trees) → IsOfVersion (S.Store.view trees)) → IsStoreAt (S.Store.view trees).shape
+        → IsChecked (S.Store.view reader.trees.store) × (take 9 ((S.Store.view reader.trees.store).trees catalog_tree) ≡ table_listings)) }
+    ensures look { IfOk result (λ reader. IsClean (S.Store.view reader.trees.store) → IsLook (S.Store.view reader.trees.store).trees reader.look) }
+    ensures added { IfOk result (λ reader. IsClean (S.Store.view reader.trees.store) → HasWholeAdded (S.Store.view reader.trees.store).trees) }
 {
-    let whole = with_whole_indexes(alloc, trees)?;
+    let (whole, look) = with_whole_indexes(alloc, trees)?;
     let kept = with_whole_added_indexes(alloc, whole)?;
-    Ok(TreeStore::new(kept))
+    Ok(CheckedStore::new(TreeStore::new(kept), look))
 }

@@ -25,7 +25,7 @@ use Rattle.osm_tree_audits.specs.Finding.{starts}
 
 -- ---- the rows that entries lead to
 
-flat_picked : (f : Row → List Row) (h : Row → Row) (p : Row → Bool) (rows : List Row) → AllByRecursion (λ r. f (h r) ≡ r ∷ []) rows
+pub flat_picked : (f : Row → List Row) (h : Row → Row) (p : Row → Bool) (rows : List Row) → AllByRecursion (λ r. f (h r) ≡ r ∷ []) rows
     → flat_map f (filter p (map h rows)) ≡ filter (λ r. p (h r)) rows
 flat_picked f h p [] all = refl
 flat_picked f h p (r ∷ rows) all =

@@ -9,6 +9,6 @@ pub mod Shown
 pub mod Whole
 pub mod Reaching
 pub mod InParts
-pub mod Counting
 pub mod InStep
+pub mod InOrder
 pub mod StrayRows

@@ -1,5 +1,5 @@
 -- The tables that have rows for the elements of a blob: those of elements, of tags and of links.
-use Rattle.std.specs.Prelude.{ℕ, List}
+use Rattle.std.specs.Prelude.{ℕ, List, [], ◌∷◌}
 use Rattle.sqlite_value.specs.Order.{Row}
 use Rattle.osm_store.specs.Rows.{Placed}
 use Rattle.osm_store.specs.TableRows.{element_rows, tag_rows, link_rows}
@@ -22,6 +22,12 @@ abbrev pub width_of : ElementTable → ℕ
 width_of Elements = 2
 width_of Tags = 3
 width_of Links = 3
+
+-- these columns, of which the rowid is number 0
+abbrev pub key_of : ElementTable → List ℕ
+key_of Elements = 1 ∷ 2 ∷ []
+key_of Tags = 1 ∷ 2 ∷ 3 ∷ []
+key_of Links = 1 ∷ 2 ∷ 3 ∷ []
 
 -- the rows that it has for some elements
 abbrev pub rows_in : ElementTable → List Placed → List Row

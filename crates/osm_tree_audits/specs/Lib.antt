@@ -4,3 +4,4 @@ pub mod ElementTables
 pub mod Walking
 pub mod Indexes
 pub mod Strays
+pub mod Looks

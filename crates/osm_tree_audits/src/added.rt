@@ -17,7 +17,7 @@ use std::alloc::Global;
 /// entry are in memory. A fault is that of a read that has failed, `Memory`, or `Disk` where the trees have no such table or
 /// index.
 ///
-/// What it costs is what it costs of an index of the store (`faulty_index`): where the entries aren't in the order of the
+/// What it costs is what it costs of an index of the store (`look_at_indexes`): where the entries aren't in the order of the
 /// table's rows, a search for each.
 pub fn faulty_added_index<S: Store>(
     alloc: Global,

@@ -6,10 +6,9 @@ ghost use Rattle.sqlite_exec.specs.Calls.{OnlyReads};
 ghost use Rattle.osm_store.specs.Audit.{HasCount, ShowsCounts};
 ghost use Rattle.osm_store.specs.declared.schema.layout.Layout.TheVariants.{Tables};
 ghost use Rattle.osm_store.specs.Keeping.{IsForeign};
-ghost use Rattle.osm_tree_writes.specs.Putting.{IsIndexedStore};
-ghost use Rattle.osm_tree_audits.specs.ElementTables.{table_of};
+ghost use Rattle.osm_tree_audits.specs.Looks.{IsCount, IsLook};
 
-use crate::tables::ElementTable;
+use crate::look::Look;
 use crate::trees::BLOBS;
 use osm_store::{Counts, StoreFault};
 use osm_tree_writes::fault_of;
@@ -45,6 +44,13 @@ pub(crate) fn count<S: Store>(alloc: Global, store: &mut S, tree: u32) -> Result
     Err(StoreFault::Memory)
 }
 
+/// Whether a number of rows is this one, and fewer than SQL can count.
+fn is_count(rows: u64, expected: u64) -> bool
+    ensures { IsTrue result ↔ IsCount rows expected }
+{
+    rows == expected && expected < MOST_ROWS
+}
+
 /// Whether a tree has so many rows, which are fewer than SQL can count.
 fn has_count<S: Store>(
     alloc: Global,
@@ -59,35 +65,29 @@ fn has_count<S: Store>(
     ensures quiet { IsQuiet S.Store.view S.Store.faults S.Store.recovers S.Store.is_shielded store.old store.new }
 {
     let found = count(alloc, store, tree)?;
-    Ok(found == expected && expected < MOST_ROWS)
+    Ok(is_count(found, expected))
 }
 
-/// The same of a table of elements, by the index of its primary key, which has one entry for each row: an entry is much smaller
-/// than a row.
-fn has_rows<S: Store>(
-    alloc: Global,
-    store: &mut S,
-    of: ElementTable,
-    expected: u64,
-) -> Result<bool, StoreFault>
-    ensures told { IsClean (S.Store.view store.new) → IsIndexedStore (S.Store.view store.old).trees → IfOk result (λ told. IsTrue told ↔ HasCount ((S.Store.view store.old).trees (table_of of)) expected) }
-    ensures sound { OnOk result (IsClean (S.Store.view store.new) → (S.Store.view store.new).is_broken ≡ false) }
-    ensures reads { IsClean (S.Store.view store.new) → (S.Store.view store.new).is_broken ≡ false → OnlyReads (S.Store.view store.old) (S.Store.view store.new) }
-    ensures ours { IfErr result (λ fault. ¬ (IsForeign fault)) }
-    ensures quiet { IsQuiet S.Store.view S.Store.faults S.Store.recovers S.Store.is_shielded store.old store.new }
+/// Whether the tables of elements, of tags and of links have so many rows, which are fewer than SQL can count.
+fn has_inner_counts(look: &Look, counts: &Counts) -> bool
+    ensures { IsTrue result ↔ IsCount look.now.elements.rows counts.now.elements × IsCount look.now.tags.rows counts.now.tags × IsCount look.now.links.rows counts.now.links }
 {
-    has_count(alloc, store, of.index(), expected)
+    is_count(look.elements.rows, counts.elements)
+        && is_count(look.tags.rows, counts.tags)
+        && is_count(look.links.rows, counts.links)
 }
 
 /// Whether each table of a store has exactly so many rows, fewer than SQL can count. Of the rows nothing has to be known, but
-/// each index has to have one entry for each (`faulty_index`), since the entries are counted in place of the rows. No more
-/// than one is in memory. A fault is that of a read that has failed, or `Memory`.
+/// what was seen of the tables of elements, of tags and of links as the indexes were looked at (`look_at_indexes`): only the
+/// rows of the table of blobs are counted here. No more than one is in memory. A fault is that of a read that has failed, or
+/// `Memory`.
 pub fn has_row_counts<S: Store>(
     alloc: Global,
     store: &mut S,
+    look: &Look,
     counts: &Counts,
 ) -> Result<bool, StoreFault>
-    ensures told { IsClean (S.Store.view store.new) → IsIndexedStore (S.Store.view store.old).trees → IfOk result (λ told. IsTrue told ↔ ShowsCounts Tables (S.Store.view store.old).trees counts.now) }
+    ensures told { IsClean (S.Store.view store.new) → IsLook (S.Store.view store.old).trees look.now → IfOk result (λ told. IsTrue told ↔ ShowsCounts Tables (S.Store.view store.old).trees counts.now) }
     ensures sound { OnOk result (IsClean (S.Store.view store.new) → (S.Store.view store.new).is_broken ≡ false) }
     ensures reads { IsClean (S.Store.view store.new) → (S.Store.view store.new).is_broken ≡ false → OnlyReads (S.Store.view store.old) (S.Store.view store.new) }
     ensures ours { IfErr result (λ fault. ¬ (IsForeign fault)) }
@@ -96,11 +96,5 @@ pub fn has_row_counts<S: Store>(
     if !has_count(alloc, store, BLOBS, counts.blobs)? {
         return Ok(false);
     }
-    if !has_rows(alloc, store, ElementTable::Elements, counts.elements)? {
-        return Ok(false);
-    }
-    if !has_rows(alloc, store, ElementTable::Tags, counts.tags)? {
-        return Ok(false);
-    }
-    has_rows(alloc, store, ElementTable::Links, counts.links)
+    Ok(has_inner_counts(look, counts))
 }

@@ -1,18 +1,17 @@
 //! Whether each index of a store has one entry for each row of its table, and no other.
 
-ghost use Rattle.std.specs.Prelude.{◌≡◌, ◌≢◌, ◌↔◌, ◌∷◌, [], ℕ, false, length, map, All, Contains, IsSome, IsTrue, IfOk, IfErr, OnOk, MatchOption};
+ghost use Rattle.std.specs.Prelude.{◌≡◌, ◌≢◌, ◌↔◌, ◌∷◌, [], ℕ, false, length, map, All, Contains, IsSome, IsTrue, IfOk, IfErr, IfSome, OnOk, MatchOption};
 ghost use Rattle.sqlite_trees.specs.Tree.{IsIndexShape};
 ghost use Rattle.sqlite_trees.specs.View.{IsClean, IsQuiet, StayLive};
 ghost use Rattle.sqlite_sql.specs.Catalog.{entry_of, IsIndexOf};
 ghost use Rattle.sqlite_exec.specs.Calls.{OnlyReads};
 ghost use Rattle.sqlite_exec.specs.Loops.{left_of};
 ghost use Rattle.osm_store.specs.Keeping.{IsForeign};
-ghost use Rattle.osm_tree_writes.specs.Putting.{IsIndexedStore};
-ghost use Rattle.osm_tree_audits.specs.Indexes.{IsWhole};
+ghost use Rattle.osm_tree_audits.specs.Looks.{IsInStep, IsSeen};
 ghost use Rattle.osm_tree_audits.specs.Walking.{IsNext, AreAmong};
 
 use crate::counts::count;
-use crate::trees::{ELEMENT_BY_ID, ELEMENT_KEY, ELEMENTS, LINK_KEY, LINKS, TAG_KEY, TAGS};
+use crate::look::TableLook;
 use osm_store::StoreFault;
 use osm_tree_writes::fault_of;
 use sqlite_trees::store::{Direction, Shape, Store};
@@ -169,27 +168,33 @@ fn count_entered<S: Store>(
     Err(StoreFault::Memory)
 }
 
-/// The same as `is_indexed`, by a search for each entry that isn't the next one.
-fn has_each_entry<S: Store>(
+/// How many rows a table has, if an index has one entry for each of them, and no other: by a search for each entry that isn't
+/// the next one.
+fn count_indexed<S: Store>(
     alloc: Global,
     store: &mut S,
     table: u32,
     tree: u32,
     columns: &[usize],
-) -> Result<bool, StoreFault>
+) -> Result<Option<u64>, StoreFault>
     requires index { IsClean (S.Store.view store.old) → IsIndexShape ((S.Store.view store.old).shape tree) }
     requires table { IsClean (S.Store.view store.old) → (S.Store.view store.old).shape table ≡ Shape.Table }
-    ensures told { IfOk result (λ told. IsClean (S.Store.view store.new) → (IsTrue told ↔ IsIndexOf columns.now ((S.Store.view store.old).trees table) ((S.Store.view store.old).trees tree))) }
+    ensures told { IfOk result (λ counted. IsClean (S.Store.view store.new)
+        → MatchOption counted (¬ (IsIndexOf columns.now ((S.Store.view store.old).trees table) ((S.Store.view store.old).trees tree)))
+        (λ n. (n ≡ length ((S.Store.view store.old).trees table)) × IsIndexOf columns.now ((S.Store.view store.old).trees table) ((S.Store.view store.old).trees tree))) }
     ensures sound { OnOk result (IsClean (S.Store.view store.new) → (S.Store.view store.new).is_broken ≡ false) }
     ensures reads { IsClean (S.Store.view store.new) → (S.Store.view store.new).is_broken ≡ false → OnlyReads (S.Store.view store.old) (S.Store.view store.new) }
     ensures ours { IfErr result (λ fault. ¬ (IsForeign fault)) }
     ensures quiet { IsQuiet S.Store.view S.Store.faults S.Store.recovers S.Store.is_shielded store.old store.new }
 {
     let Some(rows) = count_entered(alloc, store, table, tree, columns)? else {
-        return Ok(false);
+        return Ok(None);
     };
     let entries = count(alloc, store, tree)?;
-    Ok(rows == entries)
+    if rows != entries {
+        return Ok(None);
+    }
+    Ok(Some(rows))
 }
 
 /// Whether an entry of an index is that of a row.
@@ -248,17 +253,41 @@ fn has_ended<S: Store>(store: &mut S, cursor: u16, found: &mut Row) -> Result<bo
     }
 }
 
-/// Whether the entries of an index are those of its table's rows, in the order of these. Two walks tell, side by side.
-fn is_in_step<S: Store>(
+/// The count, if a cursor has no more to give.
+fn count_if_ended<S: Store>(
+    store: &mut S,
+    cursor: u16,
+    count: u64,
+    found: &mut Row,
+) -> Result<Option<u64>, StoreFault>
+    requires { IsSome ((S.Store.view store.old).cursors cursor) }
+    ensures told { IfOk result (λ counted. IsClean (S.Store.view store.new) → IfSome counted (λ n. (n ≡ count) × (left_of (S.Store.view store.old) cursor ≡ []))) }
+    ensures others { OnOk result (IsClean (S.Store.view store.new) → (c : ℕ) → c ≢ cursor → (S.Store.view store.new).cursors c ≡ (S.Store.view store.old).cursors c) }
+    ensures stay { OnOk result (StayLive (S.Store.view store.old) (S.Store.view store.new)) }
+    ensures sound { OnOk result (IsClean (S.Store.view store.new) → (S.Store.view store.new).is_broken ≡ false) }
+    ensures reads { IsClean (S.Store.view store.new) → (S.Store.view store.new).is_broken ≡ false → OnlyReads (S.Store.view store.old) (S.Store.view store.new) }
+    ensures ours { IfErr result (λ fault. ¬ (IsForeign fault)) }
+    ensures quiet { IsQuiet S.Store.view S.Store.faults S.Store.recovers S.Store.is_shielded store.old store.new }
+{
+    if !has_ended(store, cursor, found)? {
+        return Ok(None);
+    }
+    Ok(Some(count))
+}
+
+/// How many rows a table has, if the entries of an index are those of its rows, in the order of these. Two walks tell, side by
+/// side.
+fn count_in_step<S: Store>(
     alloc: Global,
     store: &mut S,
     table: u32,
     tree: u32,
     columns: &[usize],
-) -> Result<bool, StoreFault>
+) -> Result<Option<u64>, StoreFault>
     requires index { IsClean (S.Store.view store.old) → IsIndexShape ((S.Store.view store.old).shape tree) }
     requires table { IsClean (S.Store.view store.old) → (S.Store.view store.old).shape table ≡ Shape.Table }
-    ensures told { IfOk result (λ told. IsClean (S.Store.view store.new) → IsTrue told → (map (entry_of columns.now) ((S.Store.view store.old).trees table) ≡ (S.Store.view store.old).trees tree)) }
+    ensures told { IfOk result (λ counted. IsClean (S.Store.view store.new)
+        → IfSome counted (λ n. (n ≡ length ((S.Store.view store.old).trees table)) × IsInStep columns.now ((S.Store.view store.old).trees table) ((S.Store.view store.old).trees tree))) }
     ensures sound { OnOk result (IsClean (S.Store.view store.new) → (S.Store.view store.new).is_broken ≡ false) }
     ensures reads { IsClean (S.Store.view store.new) → (S.Store.view store.new).is_broken ≡ false → OnlyReads (S.Store.view store.old) (S.Store.view store.new) }
     ensures ours { IfErr result (λ fault. ¬ (IsForeign fault)) }
@@ -272,15 +301,17 @@ fn is_in_step<S: Store>(
     if let Err(error) = store.seek(0, table, &row, Direction::Forward) {
         return Err(fault_of(error));
     }
+    let mut count = 0u64;
     'rows: for _ in 0..u64::MAX {
         match store.next(0, &mut row) {
             Ok(true) => {}
-            Ok(false) => return has_ended(store, 1, &mut found),
+            Ok(false) => return count_if_ended(store, 1, count, &mut found),
             Err(error) => return Err(fault_of(error)),
         }
         if !next_is_of(store, 1, columns, &row, &mut found)? {
-            return Ok(false);
+            return Ok(None);
         }
+        count = count.checked_add(1).ok_or(StoreFault::Memory)?;
     }
     // No sound store has this many rows.
     Err(StoreFault::Memory)
@@ -312,16 +343,18 @@ fn goes_on<S: Store>(
     next_is_of(store, cursor, columns, row, found)
 }
 
-/// Whether an index has been in step with its table to the end: it was so until now, and a cursor over it has no more to give.
-fn ends<S: Store>(
+/// The count, if an index has been in step with its table to the end: it was so until now, and a cursor over it has no more to
+/// give.
+fn count_at_end<S: Store>(
     store: &mut S,
     cursor: u16,
     until_now: bool,
+    count: u64,
     found: &mut Row,
-) -> Result<bool, StoreFault>
+) -> Result<Option<u64>, StoreFault>
     requires live { IsSome ((S.Store.view store.old).cursors cursor) }
     requires sound { IsClean (S.Store.view store.old) → (S.Store.view store.old).is_broken ≡ false }
-    ensures told { IfOk result (λ told. IsClean (S.Store.view store.new) → IsTrue told → IsTrue until_now × (left_of (S.Store.view store.old) cursor ≡ [])) }
+    ensures told { IfOk result (λ counted. IsClean (S.Store.view store.new) → IfSome counted (λ n. (n ≡ count) × IsTrue until_now × (left_of (S.Store.view store.old) cursor ≡ []))) }
     ensures others { OnOk result (IsClean (S.Store.view store.new) → (c : ℕ) → c ≢ cursor → (S.Store.view store.new).cursors c ≡ (S.Store.view store.old).cursors c) }
     ensures stay { OnOk result (StayLive (S.Store.view store.old) (S.Store.view store.new)) }
     ensures sound { OnOk result (IsClean (S.Store.view store.new) → (S.Store.view store.new).is_broken ≡ false) }
@@ -330,36 +363,38 @@ fn ends<S: Store>(
     ensures quiet { IsQuiet S.Store.view S.Store.faults S.Store.recovers S.Store.is_shielded store.old store.new }
 {
     if !until_now {
-        return Ok(false);
+        return Ok(None);
     }
-    has_ended(store, cursor, found)
+    count_if_ended(store, cursor, count, found)
 }
 
 /// The same of two indexes, with the cursors 1 and 2.
-fn both_end<S: Store>(
+fn counts_at_end<S: Store>(
     store: &mut S,
     one: bool,
     other: bool,
+    count: u64,
     found: &mut Row,
-) -> Result<(bool, bool), StoreFault>
+) -> Result<(Option<u64>, Option<u64>), StoreFault>
     requires one { IsSome ((S.Store.view store.old).cursors 1) }
     requires other { IsSome ((S.Store.view store.old).cursors 2) }
     requires sound { IsClean (S.Store.view store.old) → (S.Store.view store.old).is_broken ≡ false }
-    ensures told { IfOk result (λ told. IsClean (S.Store.view store.new)
-        → (IsTrue told.0 → IsTrue one × (left_of (S.Store.view store.old) 1 ≡ [])) × (IsTrue told.1 → IsTrue other × (left_of (S.Store.view store.old) 2 ≡ []))) }
+    ensures told { IfOk result (λ counted. IsClean (S.Store.view store.new)
+        → IfSome counted.0 (λ n. (n ≡ count) × IsTrue one × (left_of (S.Store.view store.old) 1 ≡ []))
+        × IfSome counted.1 (λ n. (n ≡ count) × IsTrue other × (left_of (S.Store.view store.old) 2 ≡ []))) }
     ensures sound { OnOk result (IsClean (S.Store.view store.new) → (S.Store.view store.new).is_broken ≡ false) }
     ensures reads { IsClean (S.Store.view store.new) → (S.Store.view store.new).is_broken ≡ false → OnlyReads (S.Store.view store.old) (S.Store.view store.new) }
     ensures ours { IfErr result (λ fault. ¬ (IsForeign fault)) }
     ensures quiet { IsQuiet S.Store.view S.Store.faults S.Store.recovers S.Store.is_shielded store.old store.new }
 {
-    let one = ends(store, 1, one, found)?;
-    let other = ends(store, 2, other, found)?;
+    let one = count_at_end(store, 1, one, count, found)?;
+    let other = count_at_end(store, 2, other, count, found)?;
     Ok((one, other))
 }
 
-/// The same as `is_in_step` of two indexes of one table, which is walked once for both. An index that is out of step is left
+/// The same as `count_in_step` of two indexes of one table, which is walked once for both. An index that is out of step is left
 /// where it is, and the walk ends where both are.
-fn are_in_step<S: Store>(
+pub(crate) fn counts_in_step<S: Store>(
     alloc: Global,
     store: &mut S,
     table: u32,
@@ -367,10 +402,10 @@ fn are_in_step<S: Store>(
     one_columns: &[usize],
     other: u32,
     other_columns: &[usize],
-) -> Result<(bool, bool), StoreFault>
-    ensures told { IfOk result (λ told. IsClean (S.Store.view store.new)
-        → (IsTrue told.0 → (map (entry_of one_columns.now) ((S.Store.view store.old).trees table) ≡ (S.Store.view store.old).trees one))
-        × (IsTrue told.1 → (map (entry_of other_columns.now) ((S.Store.view store.old).trees table) ≡ (S.Store.view store.old).trees other))) }
+) -> Result<(Option<u64>, Option<u64>), StoreFault>
+    ensures told { IfOk result (λ counted. IsClean (S.Store.view store.new)
+        → IfSome counted.0 (λ n. (n ≡ length ((S.Store.view store.old).trees table)) × IsInStep one_columns.now ((S.Store.view store.old).trees table) ((S.Store.view store.old).trees one))
+        × IfSome counted.1 (λ n. (n ≡ length ((S.Store.view store.old).trees table)) × IsInStep other_columns.now ((S.Store.view store.old).trees table) ((S.Store.view store.old).trees other))) }
     ensures sound { OnOk result (IsClean (S.Store.view store.new) → (S.Store.view store.new).is_broken ≡ false) }
     ensures reads { IsClean (S.Store.view store.new) → (S.Store.view store.new).is_broken ≡ false → OnlyReads (S.Store.view store.old) (S.Store.view store.new) }
     ensures ours { IfErr result (λ fault. ¬ (IsForeign fault)) }
@@ -389,20 +424,84 @@ fn are_in_step<S: Store>(
     }
     let mut one_in_step = true;
     let mut other_in_step = true;
+    let mut count = 0u64;
     'rows: for _ in 0..u64::MAX {
         match store.next(0, &mut row) {
             Ok(true) => {}
-            Ok(false) => return both_end(store, one_in_step, other_in_step, &mut found),
+            Ok(false) => return counts_at_end(store, one_in_step, other_in_step, count, &mut found),
             Err(error) => return Err(fault_of(error)),
         }
         one_in_step = goes_on(store, 1, one_in_step, one_columns, &row, &mut found)?;
         other_in_step = goes_on(store, 2, other_in_step, other_columns, &row, &mut found)?;
         if !one_in_step && !other_in_step {
-            return Ok((false, false));
+            return Ok((None, None));
         }
+        count = count.checked_add(1).ok_or(StoreFault::Memory)?;
     }
     // No sound store has this many rows.
     Err(StoreFault::Memory)
+}
+
+/// What is found at an index, if it has one entry for each row of its table, and no other. Of the table it is known how many rows
+/// it has, where a walk has shown the index in step with it.
+fn seen_at<S: Store>(
+    alloc: Global,
+    store: &mut S,
+    table: u32,
+    tree: u32,
+    columns: &[usize],
+    in_step: Option<u64>,
+) -> Result<Option<TableLook>, StoreFault>
+    requires index { IsClean (S.Store.view store.old) → IsIndexShape ((S.Store.view store.old).shape tree) }
+    requires table { IsClean (S.Store.view store.old) → (S.Store.view store.old).shape table ≡ Shape.Table }
+    requires step { IsClean (S.Store.view store.old) → IfSome in_step (λ n. (n ≡ length ((S.Store.view store.old).trees table)) × IsInStep columns.now ((S.Store.view store.old).trees table) ((S.Store.view store.old).trees tree)) }
+    requires sound { IsClean (S.Store.view store.old) → (S.Store.view store.old).is_broken ≡ false }
+    ensures told { IfOk result (λ seen. IsClean (S.Store.view store.new)
+        → MatchOption seen (¬ (IsIndexOf columns.now ((S.Store.view store.old).trees table) ((S.Store.view store.old).trees tree)))
+        (λ look. IsIndexOf columns.now ((S.Store.view store.old).trees table) ((S.Store.view store.old).trees tree) × IsSeen columns.now ((S.Store.view store.old).trees table) ((S.Store.view store.old).trees tree) look)) }
+    ensures sound { OnOk result (IsClean (S.Store.view store.new) → (S.Store.view store.new).is_broken ≡ false) }
+    ensures reads { IsClean (S.Store.view store.new) → (S.Store.view store.new).is_broken ≡ false → OnlyReads (S.Store.view store.old) (S.Store.view store.new) }
+    ensures ours { IfErr result (λ fault. ¬ (IsForeign fault)) }
+    ensures quiet { IsQuiet S.Store.view S.Store.faults S.Store.recovers S.Store.is_shielded store.old store.new }
+{
+    if let Some(rows) = in_step {
+        return Ok(Some(TableLook {
+            rows,
+            in_order: true,
+        }));
+    }
+    let Some(rows) = count_indexed(alloc, store, table, tree, columns)? else {
+        return Ok(None);
+    };
+    Ok(Some(TableLook {
+        rows,
+        in_order: false,
+    }))
+}
+
+/// What is found at an index, whose entries stand in this order, if it has one entry for each row of its table, and no other. A
+/// fault is `Disk` where the trees are no such table and index.
+pub(crate) fn look_at<S: Store>(
+    alloc: Global,
+    store: &mut S,
+    table: u32,
+    tree: u32,
+    order: Order,
+    columns: &[usize],
+) -> Result<Option<TableLook>, StoreFault>
+    ensures told { IfOk result (λ seen. IsClean (S.Store.view store.new)
+        → MatchOption seen (¬ (IsIndexOf columns.now ((S.Store.view store.old).trees table) ((S.Store.view store.old).trees tree)))
+        (λ look. IsIndexOf columns.now ((S.Store.view store.old).trees table) ((S.Store.view store.old).trees tree) × IsSeen columns.now ((S.Store.view store.old).trees table) ((S.Store.view store.old).trees tree) look)) }
+    ensures sound { OnOk result (IsClean (S.Store.view store.new) → (S.Store.view store.new).is_broken ≡ false) }
+    ensures reads { IsClean (S.Store.view store.new) → (S.Store.view store.new).is_broken ≡ false → OnlyReads (S.Store.view store.old) (S.Store.view store.new) }
+    ensures ours { IfErr result (λ fault. ¬ (IsForeign fault)) }
+    ensures quiet { IsQuiet S.Store.view S.Store.faults S.Store.recovers S.Store.is_shielded store.old store.new }
+{
+    if store.shape(tree) != Shape::Index(order) || store.shape(table) != Shape::Table {
+        return Err(StoreFault::Disk);
+    }
+    let in_step = count_in_step(alloc, store, table, tree, columns)?;
+    seen_at(alloc, store, table, tree, columns, in_step)
 }
 
 /// Whether an index, whose entries stand in this order, has one entry for each row of its table, and no other. A fault is
@@ -421,27 +520,25 @@ pub(crate) fn is_indexed<S: Store>(
     ensures ours { IfErr result (λ fault. ¬ (IsForeign fault)) }
     ensures quiet { IsQuiet S.Store.view S.Store.faults S.Store.recovers S.Store.is_shielded store.old store.new }
 {
-    if store.shape(tree) != Shape::Index(order) || store.shape(table) != Shape::Table {
-        return Err(StoreFault::Disk);
-    }
-    if is_in_step(alloc, store, table, tree, columns)? {
-        return Ok(true);
-    }
-    has_each_entry(alloc, store, table, tree, columns)
+    let seen = look_at(alloc, store, table, tree, order, columns)?;
+    Ok(seen.is_some())
 }
 
-/// The same of an index in the plain order, of which it is known that it is in step with its table, or that no walk has shown it.
-fn is_whole<S: Store>(
+/// What is found at an index in the plain order, of which it is known that it is in step with its table, and how many rows this
+/// has, or that no walk has shown it.
+pub(crate) fn look_on<S: Store>(
     alloc: Global,
     store: &mut S,
     table: u32,
     tree: u32,
     columns: &[usize],
-    in_step: bool,
-) -> Result<bool, StoreFault>
-    requires step { IsClean (S.Store.view store.old) → IsTrue in_step → map (entry_of columns.now) ((S.Store.view store.old).trees table) ≡ (S.Store.view store.old).trees tree }
+    in_step: Option<u64>,
+) -> Result<Option<TableLook>, StoreFault>
+    requires step { IsClean (S.Store.view store.old) → IfSome in_step (λ n. (n ≡ length ((S.Store.view store.old).trees table)) × IsInStep columns.now ((S.Store.view store.old).trees table) ((S.Store.view store.old).trees tree)) }
     requires sound { IsClean (S.Store.view store.old) → (S.Store.view store.old).is_broken ≡ false }
-    ensures told { IfOk result (λ told. IsClean (S.Store.view store.new) → (IsTrue told ↔ IsIndexOf columns.now ((S.Store.view store.old).trees table) ((S.Store.view store.old).trees tree))) }
+    ensures told { IfOk result (λ seen. IsClean (S.Store.view store.new)
+        → MatchOption seen (¬ (IsIndexOf columns.now ((S.Store.view store.old).trees table) ((S.Store.view store.old).trees tree)))
+        (λ look. IsIndexOf columns.now ((S.Store.view store.old).trees table) ((S.Store.view store.old).trees tree) × IsSeen columns.now ((S.Store.view store.old).trees table) ((S.Store.view store.old).trees tree) look)) }
     ensures sound { OnOk result (IsClean (S.Store.view store.new) → (S.Store.view store.new).is_broken ≡ false) }
     ensures reads { IsClean (S.Store.view store.new) → (S.Store.view store.new).is_broken ≡ false → OnlyReads (S.Store.view store.old) (S.Store.view store.new) }
     ensures ours { IfErr result (λ fault. ¬ (IsForeign fault)) }
@@ -450,50 +547,5 @@ fn is_whole<S: Store>(
     if store.shape(tree) != Shape::Index(Order::PLAIN) || store.shape(table) != Shape::Table {
         return Err(StoreFault::Disk);
     }
-    if in_step {
-        return Ok(true);
-    }
-    has_each_entry(alloc, store, table, tree, columns)
-}
-
-/// The first index of a store that has not one entry for each row of its table, and no other, if there is one; whatever
-/// rows there are. No more than one row and its entry are in memory. A fault is that of a read that has failed, `Memory`,
-/// or `Disk` where the trees have no such tables and indexes.
-///
-/// Where indexes are in the order of their table, one walk over it and one over each of them tell, side by side. One in another
-/// order is walked again, while its next entry is that of the table's next row, else the entry is sought, and at last all
-/// entries are counted.
-pub fn faulty_index<S: Store>(
-    alloc: Global,
-    store: &mut S,
-) -> Result<Option<StoreIndex>, StoreFault>
-    ensures told { IfOk result (λ found. IsClean (S.Store.view store.new)
-        → MatchOption found (IsIndexedStore (S.Store.view store.old).trees) (λ index. ¬ (IsWhole (S.Store.view store.old).trees index))) }
-    ensures sound { OnOk result (IsClean (S.Store.view store.new) → (S.Store.view store.new).is_broken ≡ false) }
-    ensures reads { IsClean (S.Store.view store.new) → (S.Store.view store.new).is_broken ≡ false → OnlyReads (S.Store.view store.old) (S.Store.view store.new) }
-    ensures ours { IfErr result (λ fault. ¬ (IsForeign fault)) }
-    ensures quiet { IsQuiet S.Store.view S.Store.faults S.Store.recovers S.Store.is_shielded store.old store.new }
-{
-    let in_step = are_in_step(
-        alloc,
-        store,
-        ELEMENTS,
-        ELEMENT_KEY,
-        &[1, 2],
-        ELEMENT_BY_ID,
-        &[3, 4],
-    )?;
-    if !is_whole(alloc, store, ELEMENTS, ELEMENT_KEY, &[1, 2], in_step.0)? {
-        return Ok(Some(StoreIndex::ElementKey));
-    }
-    if !is_indexed(alloc, store, TAGS, TAG_KEY, Order::PLAIN, &[1, 2, 3])? {
-        return Ok(Some(StoreIndex::TagKey));
-    }
-    if !is_indexed(alloc, store, LINKS, LINK_KEY, Order::PLAIN, &[1, 2, 3])? {
-        return Ok(Some(StoreIndex::LinkKey));
-    }
-    if !is_whole(alloc, store, ELEMENTS, ELEMENT_BY_ID, &[3, 4], in_step.1)? {
-        return Ok(Some(StoreIndex::ElementById));
-    }
-    Ok(None)
+    seen_at(alloc, store, table, tree, columns, in_step)
 }

@@ -4,20 +4,24 @@
 
 mod added;
 mod counts;
+mod in_order;
 mod indexes;
 mod keyed;
 pub mod laws;
+mod look;
 mod matching;
 mod rows;
 mod strays;
 mod tables;
 pub mod trees;
 mod walk;
+mod ways;
 
 pub use added::faulty_added_index;
 pub use counts::has_row_counts;
-pub use indexes::{StoreIndex, faulty_index};
+pub use indexes::StoreIndex;
 pub use keyed::rows_with;
+pub use look::{Look, Looked, TableLook, look_at_indexes};
 pub use rows::has_rows_of;
 pub use strays::{Stray, stray_row};
 pub use tables::ElementTable;

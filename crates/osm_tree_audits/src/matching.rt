@@ -1,15 +1,16 @@
 //! Whether the rows that an index finds are those that others write. Each is compared as the walk comes to it, so that no
 //! more than one is in memory.
 
-ghost use Rattle.std.specs.Prelude.{◌≡◌, ◌↔◌, [], false, drop, map, IsSome, IsTrue, IfOk, IfErr, OnOk};
+ghost use Rattle.std.specs.Prelude.{◌≡◌, ◌↔◌, [], false, drop, length, map, IsSome, IsTrue, IfOk, IfErr, OnOk};
 ghost use Rattle.sqlite.specs.Value.{owned};
 ghost use Rattle.sqlite.specs.Values.{bound, bound_value};
 ghost use Rattle.sqlite_trees.specs.View.{IsClean, IsQuiet};
 ghost use Rattle.sqlite_exec.specs.Calls.{OnlyReads};
 ghost use Rattle.osm_store.specs.Keeping.{IsForeign};
-ghost use Rattle.osm_tree_audits.specs.Walking.{Begins, IsWalk, reached};
+ghost use Rattle.osm_tree_audits.specs.Walking.{Begins, IsWalkBy, reached_by};
 
-use crate::walk::next_row;
+use crate::tables::ElementTable;
+use crate::ways::{Way, next_by};
 use osm_store::{StoreFault, TableRow};
 use sqlite_trees::store::Store;
 use sqlite_value::order::is_same;
@@ -51,22 +52,23 @@ fn has_values(row: &Row, values: &[ValueRef<'_>]) -> bool
     true
 }
 
-/// Whether the rows that a walk finds next, of those whose entries begin with `key`, are these, in the same order. An entry
-/// names its row by the number behind its columns, of which there are `width`.
+/// Whether the rows that a walk finds next, of those whose entries begin with the one value of `key`, are these, in the same
+/// order.
 pub(crate) fn finds_next<'v, S: Store, R: TableRow>(
     alloc: Global,
     store: &mut S,
-    table: u32,
-    width: usize,
+    way: Way,
+    of: ElementTable,
     key: &Row,
     expected: &'v [R],
 ) -> Result<bool, StoreFault>
+    requires one { length key.now ≡ 1 }
     requires entries { IsSome ((S.Store.view store.old).cursors 0) }
     requires rows { IsSome ((S.Store.view store.old).cursors 1) }
     requires sound { IsClean (S.Store.view store.old) → (S.Store.view store.old).is_broken ≡ false }
-    ensures told { IfOk result (λ told. IsClean (S.Store.view store.new) → IsWalk (S.Store.view store.old) table
-        → Begins (reached (S.Store.view store.old) table width key.now) (map R.columns expected.now) (reached (S.Store.view store.new) table width key.now) told) }
-    ensures walk { OnOk result (IsClean (S.Store.view store.new) → IsWalk (S.Store.view store.old) table → IsWalk (S.Store.view store.new) table) }
+    ensures told { IfOk result (λ told. IsClean (S.Store.view store.new) → IsWalkBy way (S.Store.view store.old) of
+        → Begins (reached_by way (S.Store.view store.old) of key.now) (map R.columns expected.now) (reached_by way (S.Store.view store.new) of key.now) told) }
+    ensures walk { OnOk result (IsClean (S.Store.view store.new) → IsWalkBy way (S.Store.view store.old) of → IsWalkBy way (S.Store.view store.new) of) }
     ensures entries { OnOk result (IsSome ((S.Store.view store.new).cursors 0)) }
     ensures rows { OnOk result (IsSome ((S.Store.view store.new).cursors 1)) }
     ensures sound { OnOk result (IsClean (S.Store.view store.new) → (S.Store.view store.new).is_broken ≡ false) }
@@ -79,7 +81,7 @@ pub(crate) fn finds_next<'v, S: Store, R: TableRow>(
     let mut row = Row::new(alloc);
     let mut values = Vec::new(alloc);
     for at in 0..expected.len() {
-        if !next_row(store, table, width, key, &mut entry, &mut found, &mut row)? {
+        if !next_by(store, way, of, key, &mut entry, &mut found, &mut row)? {
             return Ok(false);
         }
         values.clear();
@@ -91,17 +93,18 @@ pub(crate) fn finds_next<'v, S: Store, R: TableRow>(
     Ok(true)
 }
 
-/// Whether a walk finds no more row whose entry begins with `key`.
+/// Whether a walk finds no more row whose entry begins with the one value of `key`.
 pub(crate) fn finds_no_more<S: Store>(
     alloc: Global,
     store: &mut S,
-    table: u32,
-    width: usize,
+    way: Way,
+    of: ElementTable,
     key: &Row,
 ) -> Result<bool, StoreFault>
+    requires one { length key.now ≡ 1 }
     requires entries { IsSome ((S.Store.view store.old).cursors 0) }
     requires rows { IsSome ((S.Store.view store.old).cursors 1) }
-    ensures told { IfOk result (λ told. IsClean (S.Store.view store.new) → IsWalk (S.Store.view store.old) table → (IsTrue told ↔ (reached (S.Store.view store.old) table width key.now ≡ []))) }
+    ensures told { IfOk result (λ told. IsClean (S.Store.view store.new) → IsWalkBy way (S.Store.view store.old) of → (IsTrue told ↔ (reached_by way (S.Store.view store.old) of key.now ≡ []))) }
     ensures sound { OnOk result (IsClean (S.Store.view store.new) → (S.Store.view store.new).is_broken ≡ false) }
     ensures reads { IsClean (S.Store.view store.new) → (S.Store.view store.new).is_broken ≡ false → OnlyReads (S.Store.view store.old) (S.Store.view store.new) }
     ensures ours { IfErr result (λ fault. ¬ (IsForeign fault)) }
@@ -110,6 +113,6 @@ pub(crate) fn finds_no_more<S: Store>(
     let mut entry = Row::new(alloc);
     let mut found = Row::new(alloc);
     let mut row = Row::new(alloc);
-    let more = next_row(store, table, width, key, &mut entry, &mut found, &mut row)?;
+    let more = next_by(store, way, of, key, &mut entry, &mut found, &mut row)?;
     Ok(!more)
 }

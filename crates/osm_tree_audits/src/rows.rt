@@ -10,13 +10,15 @@ ghost use Rattle.osm_store.specs.Rows.{placed, extent_row};
 ghost use Rattle.osm_store.specs.TableRows.{element_rows, tag_rows, link_rows};
 ghost use Rattle.osm_tree_writes.specs.Putting.{IsIndexedStore};
 ghost use Rattle.osm_tree_audits.specs.Auditing.{KeepsAt, KeepsBlob};
-ghost use Rattle.osm_tree_audits.specs.ElementTables.{rows_in, table_of, width_of};
-ghost use Rattle.osm_tree_audits.specs.Walking.{Begins, IsWalk, reached};
+ghost use Rattle.osm_tree_audits.specs.ElementTables.{index_of, rows_in, table_of};
+ghost use Rattle.osm_tree_audits.specs.Looks.{IsInOrder, IsLook};
+ghost use Rattle.osm_tree_audits.specs.Walking.{Begins, IsWalkBy, reached_by};
 
+use crate::look::Look;
 use crate::matching::{finds_next, finds_no_more};
 use crate::tables::ElementTable;
 use crate::trees::BLOBS;
-use crate::walk::begin_walk;
+use crate::ways::{Way, begin};
 use osm_store::{Extent, StoreFault, blob_code, element_rows, link_rows, tag_rows};
 use osm_tree_writes::fault_of;
 use osm_value::Element;
@@ -44,19 +46,21 @@ fn offset_key(alloc: Global, off: u64) -> Result<row::Row, AllocError>
 fn finds_some<S: Store>(
     alloc: Global,
     store: &mut S,
+    way: Way,
     of: ElementTable,
     key: &row::Row,
     off: u64,
     first: u64,
     elements: &[Element],
 ) -> Result<bool, StoreFault>
+    requires one { length key.now ≡ 1 }
     requires entries { IsSome ((S.Store.view store.old).cursors 0) }
     requires rows { IsSome ((S.Store.view store.old).cursors 1) }
     requires sound { IsClean (S.Store.view store.old) → (S.Store.view store.old).is_broken ≡ false }
     requires bounds { (off ≤ MAX_OFFSET) × (first + length elements.now ≤ 2 ^ 63) }
-    ensures told { IfOk result (λ told. IsClean (S.Store.view store.new) → IsWalk (S.Store.view store.old) (table_of of)
-        → Begins (reached (S.Store.view store.old) (table_of of) (width_of of) key.now) (rows_in of (placed off first elements.now)) (reached (S.Store.view store.new) (table_of of) (width_of of) key.now) told) }
-    ensures walk { OnOk result (IsClean (S.Store.view store.new) → IsWalk (S.Store.view store.old) (table_of of) → IsWalk (S.Store.view store.new) (table_of of)) }
+    ensures told { IfOk result (λ told. IsClean (S.Store.view store.new) → IsWalkBy way (S.Store.view store.old) of
+        → Begins (reached_by way (S.Store.view store.old) of key.now) (rows_in of (placed off first elements.now)) (reached_by way (S.Store.view store.new) of key.now) told) }
+    ensures walk { OnOk result (IsClean (S.Store.view store.new) → IsWalkBy way (S.Store.view store.old) of → IsWalkBy way (S.Store.view store.new) of) }
     ensures entries { OnOk result (IsSome ((S.Store.view store.new).cursors 0)) }
     ensures rows { OnOk result (IsSome ((S.Store.view store.new).cursors 1)) }
     ensures sound { OnOk result (IsClean (S.Store.view store.new) → (S.Store.view store.new).is_broken ≡ false) }
@@ -64,20 +68,18 @@ fn finds_some<S: Store>(
     ensures ours { IfErr result (λ fault. ¬ (IsForeign fault)) }
     ensures quiet { IsQuiet S.Store.view S.Store.faults S.Store.recovers S.Store.is_shielded store.old store.new }
 {
-    let table = of.table();
-    let width = of.width();
     match of {
         ElementTable::Elements => {
             let expected = element_rows(alloc, off, first, elements)?;
-            finds_next(alloc, store, table, width, key, &expected)
+            finds_next(alloc, store, way, of, key, &expected)
         }
         ElementTable::Tags => {
             let expected = tag_rows(alloc, off, first, elements)?;
-            finds_next(alloc, store, table, width, key, &expected)
+            finds_next(alloc, store, way, of, key, &expected)
         }
         ElementTable::Links => {
             let expected = link_rows(alloc, off, first, elements)?;
-            finds_next(alloc, store, table, width, key, &expected)
+            finds_next(alloc, store, way, of, key, &expected)
         }
     }
 }
@@ -87,17 +89,19 @@ fn finds_some<S: Store>(
 fn finds_each<S: Store>(
     alloc: Global,
     store: &mut S,
+    way: Way,
     of: ElementTable,
     key: &row::Row,
     off: u64,
     elements: &[Element],
 ) -> Result<bool, StoreFault>
+    requires one { length key.now ≡ 1 }
     requires entries { IsSome ((S.Store.view store.old).cursors 0) }
     requires rows { IsSome ((S.Store.view store.old).cursors 1) }
     requires sound { IsClean (S.Store.view store.old) → (S.Store.view store.old).is_broken ≡ false }
     requires bounds { off ≤ MAX_OFFSET }
-    ensures told { IfOk result (λ told. IsClean (S.Store.view store.new) → IsWalk (S.Store.view store.old) (table_of of)
-        → (IsTrue told ↔ (reached (S.Store.view store.old) (table_of of) (width_of of) key.now ≡ rows_in of (placed off 0 elements.now)))) }
+    ensures told { IfOk result (λ told. IsClean (S.Store.view store.new) → IsWalkBy way (S.Store.view store.old) of
+        → (IsTrue told ↔ (reached_by way (S.Store.view store.old) of key.now ≡ rows_in of (placed off 0 elements.now)))) }
     ensures sound { OnOk result (IsClean (S.Store.view store.new) → (S.Store.view store.new).is_broken ≡ false) }
     ensures reads { IsClean (S.Store.view store.new) → (S.Store.view store.new).is_broken ≡ false → OnlyReads (S.Store.view store.old) (S.Store.view store.new) }
     ensures ours { IfErr result (λ fault. ¬ (IsForeign fault)) }
@@ -108,39 +112,41 @@ fn finds_each<S: Store>(
     while !rest.is_empty() {
         let first = elements.len() - rest.len();
         let (some, after) = rest.split_at(rest.len().min(AT_ONCE));
-        if !finds_some(alloc, store, of, key, off, first as u64, some)? {
+        if !finds_some(alloc, store, way, of, key, off, first as u64, some)? {
             return Ok(false);
         }
         rest = after;
     }
-    finds_no_more(alloc, store, of.table(), of.width(), key)
+    finds_no_more(alloc, store, way, of, key)
 }
 
-/// Whether a table has the rows of these elements at the offset, and no others. A fault is `Disk` where the trees are no such
-/// table and index.
+/// Whether a table has the rows of these elements at the offset, and no others. If it is known that its rows stand in the order
+/// of its primary key, they are read one behind another, with no entry of the index but the first. A fault is `Disk` where the
+/// trees are no such table and index.
 fn has_rows_in<S: Store>(
     alloc: Global,
     store: &mut S,
     of: ElementTable,
+    in_order: bool,
     off: u64,
     elements: &[Element],
 ) -> Result<bool, StoreFault>
     requires { off ≤ MAX_OFFSET }
-    ensures told { IsClean (S.Store.view store.new) → IsIndexedStore (S.Store.view store.old).trees
+    ensures told { IsClean (S.Store.view store.new) → IsIndexedStore (S.Store.view store.old).trees → (IsTrue in_order → IsInOrder (S.Store.view store.old).trees of)
         → IfOk result (λ told. IsTrue told ↔ KeepsAt off (rows_in of (placed off 0 elements.now)) ((S.Store.view store.old).trees (table_of of))) }
     ensures sound { OnOk result (IsClean (S.Store.view store.new) → (S.Store.view store.new).is_broken ≡ false) }
     ensures reads { IsClean (S.Store.view store.new) → (S.Store.view store.new).is_broken ≡ false → OnlyReads (S.Store.view store.old) (S.Store.view store.new) }
     ensures ours { IfErr result (λ fault. ¬ (IsForeign fault)) }
     ensures quiet { IsQuiet S.Store.view S.Store.faults S.Store.recovers S.Store.is_shielded store.old store.new }
 {
-    let index = of.index();
-    let table = of.table();
-    if store.shape(index) != Shape::Index(Order::PLAIN) || store.shape(table) != Shape::Table {
+    if store.shape(of.index()) != Shape::Index(Order::PLAIN)
+        || store.shape(of.table()) != Shape::Table
+    {
         return Err(StoreFault::Disk);
     }
     let key = offset_key(alloc, off)?;
-    begin_walk(alloc, store, index, table, &key)?;
-    finds_each(alloc, store, of, &key, off, elements)
+    let way = begin(alloc, store, of, in_order, &key)?;
+    finds_each(alloc, store, way, of, &key, off, elements)
 }
 
 /// The row of the table of blobs.
@@ -188,11 +194,12 @@ fn has_extent_row<S: Store>(
 fn has_inner_rows<S: Store>(
     alloc: Global,
     store: &mut S,
+    look: &Look,
     off: u64,
     elements: &[Element],
 ) -> Result<bool, StoreFault>
     requires { off ≤ MAX_OFFSET }
-    ensures told { IsClean (S.Store.view store.new) → IsIndexedStore (S.Store.view store.old).trees
+    ensures told { IsClean (S.Store.view store.new) → IsIndexedStore (S.Store.view store.old).trees → IsLook (S.Store.view store.old).trees look.now
         → IfOk result (λ told. IsTrue told ↔ (KeepsAt off (element_rows (placed off 0 elements.now)) ((S.Store.view store.old).trees 2)
         × KeepsAt off (tag_rows (placed off 0 elements.now)) ((S.Store.view store.old).trees 4)
         × KeepsAt off (link_rows (placed off 0 elements.now)) ((S.Store.view store.old).trees 6))) }
@@ -201,27 +208,50 @@ fn has_inner_rows<S: Store>(
     ensures ours { IfErr result (λ fault. ¬ (IsForeign fault)) }
     ensures quiet { IsQuiet S.Store.view S.Store.faults S.Store.recovers S.Store.is_shielded store.old store.new }
 {
-    if !has_rows_in(alloc, store, ElementTable::Elements, off, elements)? {
+    if !has_rows_in(
+        alloc,
+        store,
+        ElementTable::Elements,
+        look.elements.in_order,
+        off,
+        elements,
+    )? {
         return Ok(false);
     }
-    if !has_rows_in(alloc, store, ElementTable::Tags, off, elements)? {
+    if !has_rows_in(
+        alloc,
+        store,
+        ElementTable::Tags,
+        look.tags.in_order,
+        off,
+        elements,
+    )? {
         return Ok(false);
     }
-    has_rows_in(alloc, store, ElementTable::Links, off, elements)
+    has_rows_in(
+        alloc,
+        store,
+        ElementTable::Links,
+        look.links.in_order,
+        off,
+        elements,
+    )
 }
 
 /// Whether the rows at a blob's offset, in all tables, are those that a put of it writes, and no others, each as it is
-/// kept. Of the rows nothing has to be known, but each index has to have one entry for each (`faulty_index`). The offsets
-/// are at most `MAX_OFFSET`, in bytes. No more rows than those of a few elements are in memory. A fault is that of a read
-/// that has failed, `Memory`, or `Disk` where the trees have no such tables and indexes.
+/// kept. Of the rows nothing has to be known, but each index has to have one entry for each, and what was seen of the tables
+/// as the indexes were looked at (`look_at_indexes`). The offsets are at most `MAX_OFFSET`, in bytes. No more rows than those
+/// of a few elements are in memory. A fault is that of a read that has failed, `Memory`, or `Disk` where the trees have no
+/// such tables and indexes.
 pub fn has_rows_of<S: Store>(
     alloc: Global,
     store: &mut S,
+    look: &Look,
     extent: &Extent,
     elements: &[Element],
 ) -> Result<bool, StoreFault>
     requires bounds { (extent.now.off ≤ MAX_OFFSET) × (extent.now.fin ≤ MAX_OFFSET) × (extent.now.n < 2 ^ 63) }
-    ensures told { IsClean (S.Store.view store.new) → IsIndexedStore (S.Store.view store.old).trees → IfOk result (λ told. IsTrue told ↔ KeepsBlob (S.Store.view store.old).trees extent.now elements.now) }
+    ensures told { IsClean (S.Store.view store.new) → IsIndexedStore (S.Store.view store.old).trees → IsLook (S.Store.view store.old).trees look.now → IfOk result (λ told. IsTrue told ↔ KeepsBlob (S.Store.view store.old).trees extent.now elements.now) }
     ensures sound { OnOk result (IsClean (S.Store.view store.new) → (S.Store.view store.new).is_broken ≡ false) }
     ensures reads { IsClean (S.Store.view store.new) → (S.Store.view store.new).is_broken ≡ false → OnlyReads (S.Store.view store.old) (S.Store.view store.new) }
     ensures ours { IfErr result (λ fault. ¬ (IsForeign fault)) }
@@ -230,5 +260,5 @@ pub fn has_rows_of<S: Store>(
     if !has_extent_row(alloc, store, extent)? {
         return Ok(false);
     }
-    has_inner_rows(alloc, store, extent.off, elements)
+    has_inner_rows(alloc, store, look, extent.off, elements)
 }

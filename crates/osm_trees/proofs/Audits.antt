@@ -27,17 +27,22 @@ use Rattle.osm_store.proofs.MapLemmas.HeldLemmas.{placed_at}
 use Rattle.osm_store.proofs.MapLemmas.TableHeld.{parts_of_blob}
 use Rattle.osm_tree_writes.specs.Putting.{IsIndexedStore, TreesHold}
 use Rattle.osm_tree_audits.specs.Auditing.{KeepsBlob}
+use Rattle.osm_tree_audits.specs.Looks.{IsLook}
+use Rattle.osm_tree_audits.specs.declared.look.Look.{Look}
 use Rattle.osm_tree_audits.proofs.AtOffset.{equal_is}
 use Rattle.osm_tree_audits.proofs.Shown.{blob_shown}
 use Rattle.osm_trees.specs.Below.{HoldsBelow, IsIndexed}
 
 -- where nothing is written, what is told of the trees is told of the last commit
-pub told_blob : (v : View) (extent : Extent) (inside : List Element) (r : Result Bool StoreFault) → IsIndexed v → (IsIndexedStore v.trees → IfOk r (λ told. IsTrue told ↔ KeepsBlob v.trees extent inside))
-    → IfOk r (λ told. IsTrue told ↔ KeepsBlob v.committed extent inside)
-told_blob v extent inside r is told = subst (λ (db : Trees). IfOk r (λ told. IsTrue told ↔ KeepsBlob db extent inside)) is.settled (told is.indexed)
+pub told_blob : (v : View) (look : Look) (extent : Extent) (inside : List Element) (r : Result Bool StoreFault) → IsIndexed v → IsLook v.committed look
+    → (IsIndexedStore v.trees → IsLook v.trees look → IfOk r (λ told. IsTrue told ↔ KeepsBlob v.trees extent inside)) → IfOk r (λ told. IsTrue told ↔ KeepsBlob v.committed extent inside)
+told_blob v look extent inside r is seen told =
+    subst (λ (db : Trees). IfOk r (λ told. IsTrue told ↔ KeepsBlob db extent inside)) is.settled (told is.indexed (subst (λ (db : Trees). IsLook db look) (sym is.settled) seen))
 
-pub told_counts : (v : View) (counts : Counts) (r : Result Bool StoreFault) → IsIndexed v → IfOk r (λ told. IsTrue told ↔ ShowsCounts Tables v.trees counts) → IfOk r (λ told. IsTrue told ↔ ShowsCounts Tables v.committed counts)
-told_counts v counts r is told = subst (λ (db : Trees). IfOk r (λ told. IsTrue told ↔ ShowsCounts Tables db counts)) is.settled told
+pub told_counts : (v : View) (look : Look) (counts : Counts) (r : Result Bool StoreFault) → IsIndexed v → IsLook v.committed look
+    → (IsLook v.trees look → IfOk r (λ told. IsTrue told ↔ ShowsCounts Tables v.trees counts)) → IfOk r (λ told. IsTrue told ↔ ShowsCounts Tables v.committed counts)
+told_counts v look counts r is seen told =
+    subst (λ (db : Trees). IfOk r (λ told. IsTrue told ↔ ShowsCounts Tables db counts)) is.settled (told (subst (λ (db : Trees). IsLook db look) (sym is.settled) seen))
 
 -- ---- a held map
 

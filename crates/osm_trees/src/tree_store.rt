@@ -6,8 +6,8 @@ ghost use Rattle.osm_store.specs.Keeping.{failures_after};
 use crate::extents::{all_extents, touched_extents};
 use crate::history::any_flag;
 use crate::load::{find_elements, load_blob};
-use osm_store::{Audited, Counts, Extent, Found, Keeper, Loaded, Reader, StoreFault};
-use osm_tree_audits::{has_row_counts, has_rows_of};
+use osm_store::{Counts, Extent, Found, Keeper, Loaded, Reader, StoreFault};
+use osm_tree_audits::{Look, has_row_counts, has_rows_of};
 use osm_tree_writes::put_blob;
 use osm_value::{Element, MemberKind};
 use pbf_frame::Kind;
@@ -216,55 +216,56 @@ impl<S: Alter> Keeper for TreeStore<S> {
     }
 }
 
-/// Rows are found by the indexes, so these have to be whole, as `osm_tree_audits::faulty_index` finds.
-impl<S: Store> Audited for TreeStore<S> {
+impl<S: Store> TreeStore<S> {
+    ghost use Rattle.std.specs.Prelude.{◌≤◌, ◌<◌, ◌^◌, ◌↔◌, IsTrue, IfOk};
+    ghost use Rattle.pbf_frame.specs.declared.part.TheConstants.{MAX_OFFSET};
+    ghost use Rattle.sqlite_trees.specs.View.{IsClean};
     ghost use Rattle.osm_store.specs.declared.schema.layout.Layout.TheVariants.{Tables};
-    ghost use Rattle.osm_store.specs.Keeping.{extent_of};
+    ghost use Rattle.osm_store.specs.Audit.{ShowsCounts};
     ghost use Rattle.osm_tree_audits.specs.Auditing.{KeepsBlob};
-    ghost use Rattle.osm_trees.specs.Below.{IsIndexed};
-    ghost use Rattle.osm_tree_audits.proofs.Shown.{blob_shown};
-    ghost use Rattle.osm_trees.specs.Reading.{indexed_after};
+    ghost use Rattle.osm_tree_audits.specs.Looks.{IsLook};
+    ghost use Rattle.osm_trees.specs.Below.{IsIndexed, IsUsable};
+    ghost use Rattle.osm_trees.specs.Reading.{JustReads};
 
-    ghost layout = { Tables };
-
-    ghost has_tables = { λ r. IsIndexed (S.Store.view r.store) };
-
-    ghost trees = { λ r. (S.Store.view r.store).committed };
-
-    ghost has_rows = { λ db off blob. KeepsBlob db (extent_of (off, blob)) blob.elements };
-
-    fn has_blob(
+    /// Whether the rows at a blob's offset, in all tables, are those that a put of it writes, and no others. Rows are found by
+    /// the indexes, so these have to be whole, and by what was seen of the tables as they were looked at
+    /// (`osm_tree_audits::look_at_indexes`). The offsets are at most `MAX_OFFSET`, in bytes. What is held stays, also after a
+    /// fault, which is that of a read that has failed, or `Memory`.
+    pub fn has_rows_of(
         &mut self,
         alloc: Global,
-        off: u64,
-        fin: u64,
-        digest: &[u8; 32],
-        kind: Kind,
+        look: &Look,
+        extent: &Extent,
         elements: &[Element],
-    ) -> Result<bool, StoreFault> {
+    ) -> Result<bool, StoreFault>
+        requires bounds { (extent.now.off ≤ MAX_OFFSET) × (extent.now.fin ≤ MAX_OFFSET) × (extent.now.n < 2 ^ 63) }
+        ensures told { IsClean (S.Store.view self.new.store) → IsIndexed (S.Store.view self.old.store) → IsLook (S.Store.view self.old.store).committed look.now
+            → IfOk result (λ told. IsTrue told ↔ KeepsBlob (S.Store.view self.old.store).committed extent.now elements.now) }
+        ensures opened { IsClean (S.Store.view self.new.store) → IfOk result (λ _. IsUsable (S.Store.view self.new.store)) }
+        ensures reads { JustReads S.Store self.old result self.new }
+    {
         self.begin_read()?;
-        let wanted = Extent {
-            off,
-            fin,
-            digest: *digest,
-            kind,
-            n: elements.len() as u64,
-        };
-        let answer = has_rows_of(alloc, &mut self.store, &wanted, elements);
+        let answer = has_rows_of(alloc, &mut self.store, look, extent, elements);
         self.end_read(&answer);
         answer
     }
 
-    fn has_counts(&mut self, alloc: Global, counts: &Counts) -> Result<bool, StoreFault> {
+    /// Whether each table has exactly so many rows, by what was seen of the tables as the indexes were looked at. What is held
+    /// stays, also after a fault, which is that of a read that has failed, or `Memory`.
+    pub fn has_row_counts(
+        &mut self,
+        alloc: Global,
+        look: &Look,
+        counts: &Counts,
+    ) -> Result<bool, StoreFault>
+        ensures told { IsClean (S.Store.view self.new.store) → IsIndexed (S.Store.view self.old.store) → IsLook (S.Store.view self.old.store).committed look.now
+            → IfOk result (λ told. IsTrue told ↔ ShowsCounts Tables (S.Store.view self.old.store).committed counts.now) }
+        ensures opened { IsClean (S.Store.view self.new.store) → IfOk result (λ _. IsUsable (S.Store.view self.new.store)) }
+        ensures reads { JustReads S.Store self.old result self.new }
+    {
         self.begin_read()?;
-        let answer = has_row_counts(alloc, &mut self.store, counts);
+        let answer = has_row_counts(alloc, &mut self.store, look, counts);
         self.end_read(&answer);
         answer
     }
-
-    ghost shown = { blob_shown };
-
-    ghost same_trees = { λ one other same. same.committed };
-
-    ghost same_has_tables = { λ one other same has. indexed_after _ _ same has };
 }

@@ -1,11 +1,11 @@
 //! The command that copies a database into another: `migrate`.
 
-use crate::database::refuse;
-use crate::meter::Meter;
 use osm_databases::databases::{Databases, close, opened_or_made, source_of_blocks};
 use osm_databases::files::AskedFiles;
 use osm_store::{Keeper, Reader};
 use osm_value::Outlet;
+use pbfrow_answers::ending::refuse;
+use pbfrow_answers::meter::Meter;
 use pbfrow_commands::metered::{MeteredOutput, MeteredStore};
 use pbfrow_commands::migrate::migrate;
 use std::alloc::Global;

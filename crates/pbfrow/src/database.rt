@@ -2,23 +2,25 @@
 
 ghost use Rattle.std.specs.Prelude.{◌<◌, ◌≤◌, IfSome};
 
-use crate::FAULTY;
-use crate::meter::Meter;
-use crate::questions::{ask_one, goes_by_blobs};
 use osm_databases::databases::{Databases, close, opened, opened_or_made};
 use osm_import::{Inlet, Stop};
-use osm_store::{Keeper, Reader, StoreFault};
+use osm_store::{Keeper, Reader};
 use osm_value::{MemberKind, Outlet};
 use pbf_frame::MAX_OFFSET;
+use pbfrow_answers::ending::{FAULTY, end, refuse};
+use pbfrow_answers::meter::Meter;
+use pbfrow_answers::output::standard_output;
+use pbfrow_answers::questions::{ask_one, goes_by_blobs};
+use pbfrow_answers::starting::most_bytes;
 use pbfrow_commands::find::find;
 use pbfrow_commands::import::{Start, import, import_to, seek_start};
-use pbfrow_commands::metered::{BlobLines, MeteredOutput, MeteredReader};
-use pbfrow_commands::report::{put_fault_at, put_store_fault, refuse_memory};
+use pbfrow_commands::metered::{BlobLines, MeteredOutput, MeteredReader, MeteredStore};
+use pbfrow_commands::report::{put_fault_at, refuse_memory};
 use pbfrow_words::Question;
 use std::alloc::Global;
 use std::fs::File;
 use std::io;
-use std::io::{BufWriter, LineWriter, Read, Write};
+use std::io::{LineWriter, Read, Write};
 
 /// What is asked of one database.
 #[derive(Clone, Copy)]
@@ -27,22 +29,6 @@ pub(crate) enum Query {
     Whole(Question),
     /// Where the element of this kind and id is held.
     Element(MemberKind, i64),
-}
-
-/// Writes the line of a fault of a database, and answers the exit status.
-pub(crate) fn refuse<W: Write>(out: &mut Outlet<W>, fault: StoreFault) -> u8 {
-    put_store_fault(out, fault);
-    FAULTY
-}
-
-/// Flushes the output and erases the progress line. Answers the exit status that is given, unless the flush fails.
-pub(crate) fn end<W: Write>(out: &mut Outlet<W>, meter: &Meter, status: u8) -> u8 {
-    let flushed = out.flush();
-    meter.erase();
-    match flushed {
-        Ok(()) => status,
-        Err(_) => FAULTY,
-    }
 }
 
 /// Imports what a reader gives into a store, all of it or what stands before an offset, and answers the exit status.
@@ -64,16 +50,20 @@ fn imported<R: Read + Drop, K: Keeper, W: Write>(
     }
 }
 
-/// Asks a store, and answers the exit status.
+/// Asks a store, and answers the exit status. The meter is told of its blobs.
 fn answer<K: Reader + Drop, W: Write>(
     alloc: Global,
-    mut store: K,
+    store: K,
     query: Query,
     meter: &Meter,
     out: &mut Outlet<W>,
 ) -> u8 {
+    let mut store = MeteredStore {
+        store,
+        watcher: meter,
+    };
     match query {
-        Query::Whole(question) => ask_one(alloc, store, question, meter, out),
+        Query::Whole(question) => ask_one(alloc, &mut store, question, out),
         Query::Element(kind, id) => find(alloc, &mut store, kind, id, out),
     }
 }
@@ -99,17 +89,6 @@ fn fill_from<D: Databases, R: Read + Drop, W: Write>(
     let status = imported(rt.alloc(), reader, &mut store, start, to, out);
     close(files, store);
     status
-}
-
-/// How many bytes of its input an import reads at most.
-fn most_bytes(start: Start, to: Option<u64>) -> u64
-    requires drops { start.dropped ≤ start.at }
-    requires ends { IfSome to (λ n. start.at < n) }
-{
-    match to {
-        None => u64::MAX,
-        Some(to) => start.dropped + (to - start.at),
-    }
 }
 
 /// Imports a file, or a part of one, into a database, and answers the exit status. Of a file that can seek nothing but the
@@ -163,14 +142,10 @@ pub(crate) fn ask<D: Databases>(rt: &HostRuntime, files: &D, database: &str, que
         Query::Element(..) => false,
     };
     let meter = Meter::new(rt, goes_by_blobs);
-    let output = MeteredOutput {
-        writer: io::writer(rt),
-        watcher: &meter,
+    let mut out = match standard_output(rt, &meter, None) {
+        Ok(out) => out,
+        Err(status) => return status,
     };
-    let Ok(output) = BufWriter::new(rt.alloc(), output) else {
-        return refuse_memory(&mut Outlet::new(io::writer(rt)), None);
-    };
-    let mut out = Outlet::new(output);
     let status = match opened(rt, files, database) {
         Ok(store) => answer(rt.alloc(), store, query, &meter, &mut out),
         Err(fault) => refuse(&mut out, fault),

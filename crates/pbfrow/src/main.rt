@@ -2,46 +2,41 @@
 //! finds what that holds.
 #![tactic(auto)]
 
-ghost use Rattle.std.specs.Prelude.{◌≡◌, ◌<◌, ◌≤◌, if◌then◌else◌};
-ghost use Rattle.pbfrow_words.specs.Filling.{begins_at, drops};
+ghost use Rattle.std.specs.Prelude.{◌<◌};
 ghost use Rattle.pbfrow_words.specs.Words.{BeginsWithin, CutsSome, EndsWithin};
 
 mod copying;
 mod database;
 mod merging;
-mod meter;
 mod parts;
-mod questions;
 mod verifying;
 
 use clap::Error;
 use copying::copy;
-use database::{Query, ask, end, fill};
+use database::{Query, ask, fill};
 use merging::merge;
-use meter::Meter;
 use osm_databases::databases::Databases;
 use osm_databases::files::{AskedFiles, FilledFiles};
 use osm_value::Outlet;
-use osm_verify::Depth;
 use parts::ask_parts;
+use pbfrow_answers::ending::{FAULTY, end};
+use pbfrow_answers::meter::Meter;
+use pbfrow_answers::output::standard_output;
+use pbfrow_answers::starting::{depth_of, start_of};
 use pbfrow_commands::check::check;
-use pbfrow_commands::import::Start;
 use pbfrow_commands::input::refuse_input;
 use pbfrow_commands::list::list;
-use pbfrow_commands::metered::{MeteredOutput, MeteredReader};
+use pbfrow_commands::metered::MeteredReader;
 use pbfrow_commands::ranges::ranges;
 use pbfrow_commands::report::refuse_memory;
 use pbfrow_commands::show::show;
 use pbfrow_words::{Question, Reading, Words, read_words};
 use std::alloc::{AllocError, Global};
 use std::fs::File;
-use std::io::{BufWriter, ErrorKind, Read, Write};
+use std::io::{ErrorKind, Read, Write};
 use std::process::ExitCode;
 use std::{env, io};
 use verifying::compare_all;
-
-/// The exit status if a fault was printed or the output couldn't be written.
-const FAULTY: u8 = 1;
 
 /// The exit status for invalid arguments.
 const INVALID_ARGUMENTS: u8 = 2;
@@ -170,45 +165,15 @@ fn ask_all<D: Databases>(rt: &HostRuntime, files: &D, names: &[&str], question: 
     }
 }
 
-/// What an import drops of its input, and where what comes behind that stands in the file.
-fn start_of(start: pbfrow_words::Start) -> Start
-    ensures dropped { result.dropped ≡ drops start }
-    ensures at { result.at ≡ begins_at start }
-    ensures before { result.dropped ≤ result.at }
-{
-    match start {
-        pbfrow_words::Start::Skip(count) => Start {
-            dropped: count,
-            at: count,
-        },
-        pbfrow_words::Start::At(at) => Start { dropped: 0, at },
-    }
-}
-
-/// How much of each blob is compared.
-fn depth_of(elements: bool) -> Depth
-    ensures { result ≡ (if elements then Depth.Elements else Depth.Extents) }
-{
-    if elements {
-        Depth::Elements
-    } else {
-        Depth::Extents
-    }
-}
-
 /// Cuts a file into ranges, at most so many, and answers the exit status.
 fn cut_file(rt: &HostRuntime, file: &str, count: u64) -> u8
     requires { 0 < count }
 {
     let meter = Meter::new(rt, true);
-    let output = MeteredOutput {
-        writer: io::writer(rt),
-        watcher: &meter,
+    let mut out = match standard_output(rt, &meter, Some(0)) {
+        Ok(out) => out,
+        Err(status) => return status,
     };
-    let Ok(output) = BufWriter::new(rt.alloc(), output) else {
-        return refuse_memory(&mut Outlet::new(io::writer(rt)), Some(0));
-    };
-    let mut out = Outlet::new(output);
     let status = match File::open(rt, file) {
         Ok(input) => {
             meter.measure(&input);
@@ -226,14 +191,10 @@ fn cut_file(rt: &HostRuntime, file: &str, count: u64) -> u8
 /// Runs a command on the file, or where there is none on standard input.
 fn run_on_file(rt: HostRuntime, reading: Reading, file: Option<&str>) -> u8 {
     let meter = Meter::new(&rt, reading == Reading::Check);
-    let output = MeteredOutput {
-        writer: io::writer(&rt),
-        watcher: &meter,
+    let mut out = match standard_output(&rt, &meter, Some(0)) {
+        Ok(out) => out,
+        Err(status) => return status,
     };
-    let Ok(output) = BufWriter::new(rt.alloc(), output) else {
-        return refuse_memory(&mut Outlet::new(io::writer(&rt)), Some(0));
-    };
-    let mut out = Outlet::new(output);
     let status = match file {
         None => read_with(rt.alloc(), reading, &mut rt.stdin(), &meter, &mut out),
         Some(name) => match File::open(&rt, name) {

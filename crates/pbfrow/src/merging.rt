@@ -1,75 +1,38 @@
 //! The command that copies several databases into one: `merge`.
 
-ghost use Rattle.std.specs.Prelude.{◌≡◌, IfOk};
-ghost use Rattle.osm_trees.specs.Ways.{counted};
-
-use crate::database::refuse;
-use crate::meter::Meter;
-use crate::parts::let_go;
 use osm_databases::databases::{
     AnyVersion, Databases, close, opened_of_any_version, opened_or_made,
 };
 use osm_databases::files::AskedFiles;
-use osm_parts::Openings;
 use osm_store::{Keeper, StoreFault};
 use osm_value::Outlet;
+use pbfrow_answers::ending::refuse;
+use pbfrow_answers::meter::Meter;
+use pbfrow_answers::turns::{InTurn, OpensNamed};
 use pbfrow_commands::merge::merge_all;
 use pbfrow_commands::metered::{MeteredOutput, MeteredStore};
 use std::io;
 use std::io::Write;
 
-/// Databases of either version by their places, each of which tells the meter of its blobs. What they hold is said nowhere:
-/// no contract can tell what a file gives.
+/// A store that tells the meter of its blobs.
+type MeteredSource<'a, D> = MeteredStore<'a, AnyVersion<<D as Databases>::Trees>, Meter<'a>>;
+
+/// Opens databases of either version, each of which tells the meter of its blobs: one of this version is read by its trees, and
+/// any other by SQL.
 #[derive(Drop)]
 struct Sources<'a, D> {
     rt: &'a HostRuntime,
     files: &'a D,
-    names: &'a [&'a str],
     meter: &'a Meter<'a>,
-    failures: u64,
 }
 
-impl<D: Databases> Sources<'_, D> {
-    /// The store at a place: one of this version is read by its trees, and any other by SQL.
-    fn open_at(&self, place: u64) -> Result<AnyVersion<D::Trees>, StoreFault>
-        ensures { IfOk result (λ store. counted (counted (λ trees. trees.failures) (λ rows. rows.failures)) (λ blocks. blocks.failures) store ≡ 0) }
-    {
-        match self.names.get(place as usize) {
-            Some(name) => opened_of_any_version(self.rt, self.files, name),
-            None => Err(StoreFault::Disk),
-        }
-    }
-}
-
-/// A store that tells the meter of its blobs.
-type MeteredSource<'a, D> = MeteredStore<'a, AnyVersion<<D as Databases>::Trees>, Meter<'a>>;
-
-impl<'a, D: Databases> Openings<MeteredSource<'a, D>> for Sources<'a, D> {
-    ghost holds = { λ databases parts. ⊥ };
-
-    ghost lends = { λ databases parts held. ⊥ };
-
-    ghost is_honest = { λ databases. ⊥ };
-
-    ghost is_open = { λ databases. ⊥ };
-
-    ghost failures = { λ databases. databases.failures };
-
-    fn open(&mut self, place: u64) -> Result<MeteredSource<'a, D>, StoreFault> {
-        match self.open_at(place) {
-            Ok(store) => Ok(MeteredStore {
-                store,
-                watcher: self.meter,
-            }),
-            Err(fault) => {
-                self.failures = self.failures.saturating_add(1);
-                Err(fault)
-            }
-        }
-    }
-
-    fn close(&mut self, store: MeteredSource<'a, D>) {
-        self.failures = self.failures.saturating_add(let_go(store));
+impl<'a, D: Databases> OpensNamed<MeteredSource<'a, D>> for Sources<'a, D> {
+    fn open_named(&self, name: &str) -> Result<MeteredSource<'a, D>, StoreFault> {
+        let store = opened_of_any_version(self.rt, self.files, name)?;
+        Ok(MeteredStore {
+            store,
+            watcher: self.meter,
+        })
     }
 }
 
@@ -82,14 +45,9 @@ fn merge_from<D: Databases, T: Keeper, W: Write>(
     meter: &Meter,
     out: &mut Outlet<W>,
 ) -> u8 {
-    let mut sources = Sources {
-        rt,
-        files,
-        names,
-        meter,
-        failures: 0,
-    };
-    merge_all(rt.alloc(), &mut sources, names.len() as u64, into, out)
+    let mut sources = InTurn::new(Sources { rt, files, meter }, names);
+    let count = names.len() as u64;
+    merge_all::<MeteredSource<D>, _, _, _>(rt.alloc(), &mut sources, count, into, out)
 }
 
 /// The same of databases that are only asked.

@@ -1,81 +1,34 @@
 //! The commands on several databases that hold parts of one file: `status` and `export`.
 
-ghost use Rattle.std.specs.Prelude.{◌≡◌, IfOk};
-ghost use Rattle.osm_trees.specs.Ways.{counted};
-
-use crate::database::end;
-use crate::meter::Meter;
-use crate::questions::{ask_in_turn, goes_by_blobs};
 use osm_databases::databases::{Databases, opened};
 use osm_databases::stores::OpenedStore;
-use osm_parts::Openings;
-use osm_store::{Reader, StoreFault};
-use osm_value::Outlet;
-use pbfrow_commands::metered::{MeteredOutput, MeteredStore};
-use pbfrow_commands::report::refuse_memory;
+use osm_store::StoreFault;
+use pbfrow_answers::ending::end;
+use pbfrow_answers::meter::Meter;
+use pbfrow_answers::output::standard_output;
+use pbfrow_answers::questions::{ask_in_turn, goes_by_blobs};
+use pbfrow_answers::turns::{InTurn, OpensNamed};
+use pbfrow_commands::metered::MeteredStore;
 use pbfrow_words::Question;
-use std::io;
-use std::io::{BufWriter, Write};
-
-/// Lets a store go, and answers how many of its calls have failed.
-pub(crate) fn let_go<K: Reader + Drop>(store: K) -> u64
-    ensures { result ≡ K.failures store }
-{
-    store.failures()
-}
-
-/// Databases by their places, each of which tells the meter of its blobs. What they hold is said nowhere: no contract can
-/// tell what a file gives.
-#[derive(Drop)]
-struct Parts<'a, D> {
-    rt: &'a HostRuntime,
-    files: &'a D,
-    names: &'a [&'a str],
-    meter: &'a Meter<'a>,
-    failures: u64,
-}
-
-impl<D: Databases> Parts<'_, D> {
-    /// The store at a place, as it is read.
-    fn open_at(&self, place: u64) -> Result<OpenedStore<D::Trees>, StoreFault>
-        ensures { IfOk result (λ reader. counted (λ trees. trees.failures) (λ store. store.failures) reader ≡ 0) }
-    {
-        match self.names.get(place as usize) {
-            Some(name) => opened(self.rt, self.files, name),
-            None => Err(StoreFault::Disk),
-        }
-    }
-}
 
 /// A store that tells the meter of its blobs.
 type MeteredPart<'a, D> = MeteredStore<'a, OpenedStore<<D as Databases>::Trees>, Meter<'a>>;
 
-impl<'a, D: Databases> Openings<MeteredPart<'a, D>> for Parts<'a, D> {
-    ghost holds = { λ databases parts. ⊥ };
+/// Opens databases that are asked, each of which tells the meter of its blobs.
+#[derive(Drop)]
+struct Parts<'a, D> {
+    rt: &'a HostRuntime,
+    files: &'a D,
+    meter: &'a Meter<'a>,
+}
 
-    ghost lends = { λ databases parts held. ⊥ };
-
-    ghost is_honest = { λ databases. ⊥ };
-
-    ghost is_open = { λ databases. ⊥ };
-
-    ghost failures = { λ databases. databases.failures };
-
-    fn open(&mut self, place: u64) -> Result<MeteredPart<'a, D>, StoreFault> {
-        match self.open_at(place) {
-            Ok(store) => Ok(MeteredStore {
-                store,
-                watcher: self.meter,
-            }),
-            Err(fault) => {
-                self.failures = self.failures.saturating_add(1);
-                Err(fault)
-            }
-        }
-    }
-
-    fn close(&mut self, store: MeteredPart<'a, D>) {
-        self.failures = self.failures.saturating_add(let_go(store));
+impl<'a, D: Databases> OpensNamed<MeteredPart<'a, D>> for Parts<'a, D> {
+    fn open_named(&self, name: &str) -> Result<MeteredPart<'a, D>, StoreFault> {
+        let store = opened(self.rt, self.files, name)?;
+        Ok(MeteredStore {
+            store,
+            watcher: self.meter,
+        })
     }
 }
 
@@ -87,23 +40,19 @@ fn ask_metered<D: Databases>(
     question: Question,
     meter: &Meter,
 ) -> u8 {
-    let output = MeteredOutput {
-        writer: io::writer(rt),
-        watcher: meter,
+    let mut out = match standard_output(rt, meter, None) {
+        Ok(out) => out,
+        Err(status) => return status,
     };
-    let Ok(output) = BufWriter::new(rt.alloc(), output) else {
-        return refuse_memory(&mut Outlet::new(io::writer(rt)), None);
-    };
-    let mut out = Outlet::new(output);
-    let mut parts = Parts {
-        rt,
-        files,
-        names,
-        meter,
-        failures: 0,
-    };
+    let mut parts = InTurn::new(Parts { rt, files, meter }, names);
     let count = names.len() as u64;
-    let status = ask_in_turn(rt.alloc(), &mut parts, count, question, &mut out);
+    let status = ask_in_turn::<MeteredPart<D>, _, _>(
+        rt.alloc(),
+        &mut parts,
+        count,
+        question,
+        &mut out,
+    );
     end(&mut out, meter, status)
 }
 

@@ -1,26 +1,23 @@
 //! The command that compares a PBF file and a database, or several that hold parts of it: `verify`.
 
-ghost use Rattle.std.specs.Prelude.{◌≡◌, IfOk};
-
-use crate::database::{end, refuse};
-use crate::meter::Meter;
-use crate::parts::let_go;
+use osm_checked::CheckedStore;
 use osm_databases::databases::{CheckedDatabases, opened_checked};
-use osm_parts::Openings;
 use osm_store::StoreFault;
 use osm_tree_audits::{Stray, stray_row};
-use osm_trees::{Opened, TreeStore};
+use osm_trees::Opened;
 use osm_value::Outlet;
 use osm_verify::Depth;
+use pbfrow_answers::ending::{end, refuse};
+use pbfrow_answers::meter::Meter;
+use pbfrow_answers::output::standard_output;
+use pbfrow_answers::turns::{InTurn, OpensNamed};
 use pbfrow_commands::input::refuse_input;
-use pbfrow_commands::metered::{MeteredFile, MeteredOutput, MeteredReader};
-use pbfrow_commands::report::refuse_memory;
+use pbfrow_commands::metered::{MeteredFile, MeteredReader};
 use pbfrow_commands::verify::verify;
 use pbfrow_commands::verify_parts::verify_parts;
 use sqlite_trees::store::Store;
 use std::fs::File;
-use std::io;
-use std::io::{BufWriter, Read, Write};
+use std::io::{Read, Write};
 
 /// Says on standard error where a database has a row that belongs to no blob, if it has one: the fault for rows too many
 /// doesn't. If a read fails nothing is said, and a line that can't be written is left out.
@@ -68,14 +65,10 @@ fn compare<D: CheckedDatabases>(
     depth: Depth,
 ) -> u8 {
     let meter = Meter::new(rt, true);
-    let output = MeteredOutput {
-        writer: io::writer(rt),
-        watcher: &meter,
+    let mut out = match standard_output(rt, &meter, Some(0)) {
+        Ok(out) => out,
+        Err(status) => return status,
     };
-    let Ok(output) = BufWriter::new(rt.alloc(), output) else {
-        return refuse_memory(&mut Outlet::new(io::writer(rt)), Some(0));
-    };
-    let mut out = Outlet::new(output);
     let status = match File::open(rt, file) {
         Ok(input) => {
             meter.measure(&input);
@@ -90,22 +83,17 @@ fn compare<D: CheckedDatabases>(
     end(&mut out, &meter, status)
 }
 
-/// Databases by their places, each page and index of which is looked at as it is opened. What they hold is said nowhere: no
-/// contract can tell what a file gives.
+/// Opens databases, each page and index of which is looked at.
 #[derive(Drop)]
 struct CheckedParts<'a, D> {
     rt: &'a HostRuntime,
     files: &'a D,
-    names: &'a [&'a str],
-    failures: u64,
 }
 
-impl<D: CheckedDatabases> CheckedParts<'_, D> {
+impl<D: CheckedDatabases> OpensNamed<CheckedStore<D::Trees>> for CheckedParts<'_, D> {
     /// The store of the database of this name, if it is read by its trees. One that SQL opens, which reads it into memory whole,
     /// is left to a `verify` of that database alone, as standard error says.
-    fn open_named(&self, name: &str) -> Result<TreeStore<D::Trees>, StoreFault>
-        ensures { IfOk result (λ store. store.failures ≡ 0) }
-    {
+    fn open_named(&self, name: &str) -> Result<CheckedStore<D::Trees>, StoreFault> {
         match opened_checked(self.rt, self.files, name)? {
             Opened::ByTrees(store) => Ok(store),
             Opened::BySql(_) => {
@@ -115,40 +103,6 @@ impl<D: CheckedDatabases> CheckedParts<'_, D> {
                 Err(StoreFault::Disk)
             }
         }
-    }
-
-    /// The store at a place.
-    fn open_at(&self, place: u64) -> Result<TreeStore<D::Trees>, StoreFault>
-        ensures { IfOk result (λ store. store.failures ≡ 0) }
-    {
-        match self.names.get(place as usize) {
-            Some(name) => self.open_named(name),
-            None => Err(StoreFault::Disk),
-        }
-    }
-}
-
-impl<D: CheckedDatabases> Openings<TreeStore<D::Trees>> for CheckedParts<'_, D> {
-    ghost holds = { λ databases parts. ⊥ };
-
-    ghost lends = { λ databases parts held. ⊥ };
-
-    ghost is_honest = { λ databases. ⊥ };
-
-    ghost is_open = { λ databases. ⊥ };
-
-    ghost failures = { λ databases. databases.failures };
-
-    fn open(&mut self, place: u64) -> Result<TreeStore<D::Trees>, StoreFault> {
-        let answer = self.open_at(place);
-        if answer.is_err() {
-            self.failures = self.failures.saturating_add(1);
-        }
-        answer
-    }
-
-    fn close(&mut self, store: TreeStore<D::Trees>) {
-        self.failures = self.failures.saturating_add(let_go(store));
     }
 }
 
@@ -161,20 +115,11 @@ fn compare_parts<D: CheckedDatabases>(
     depth: Depth,
 ) -> u8 {
     let meter = Meter::new(rt, true);
-    let output = MeteredOutput {
-        writer: io::writer(rt),
-        watcher: &meter,
+    let mut out = match standard_output(rt, &meter, Some(0)) {
+        Ok(out) => out,
+        Err(status) => return status,
     };
-    let Ok(output) = BufWriter::new(rt.alloc(), output) else {
-        return refuse_memory(&mut Outlet::new(io::writer(rt)), Some(0));
-    };
-    let mut out = Outlet::new(output);
-    let mut parts = CheckedParts {
-        rt,
-        files,
-        names,
-        failures: 0,
-    };
+    let mut parts = InTurn::new(CheckedParts { rt, files }, names);
     let count = names.len() as u64;
     let status = match File::open(rt, file) {
         Ok(file) => {
@@ -183,7 +128,14 @@ fn compare_parts<D: CheckedDatabases>(
                 file,
                 watcher: &meter,
             };
-            verify_parts(rt.alloc(), &mut parts, count, &mut file, depth, &mut out)
+            verify_parts::<CheckedStore<D::Trees>, _, _, _>(
+                rt.alloc(),
+                &mut parts,
+                count,
+                &mut file,
+                depth,
+                &mut out,
+            )
         }
         Err(_) => refuse_input(&mut out),
     };

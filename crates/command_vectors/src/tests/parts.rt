@@ -24,7 +24,7 @@ const ALL_LINES: &[u8] =
 pub type Range = (u32, u32, u32);
 
 /// A new store that holds these frames of a file.
-fn part_of<K: NewStore>(alloc: Global, file: &[u8], ranges: &[Range]) -> Option<K>
+pub fn part_of<K: NewStore>(alloc: Global, file: &[u8], ranges: &[Range]) -> Option<K>
     ensures { IfSome result (λ store. K.failures store ≡ 0) }
 {
     let mut store = K::new_store(alloc)?;

@@ -2,15 +2,18 @@
 //! connection have changed, by SQL and by its trees; which row belongs to no blob; and whether the indexes of trees are whole.
 
 use super::fixtures::{NOTHING, PLACED_HEADER, PLACED_NODES, PLACED_WAYS, THREE_WAYS, TWO_NODES};
-use super::memory::{BodiesInMemory, NewSqlStore, TablesInMemory, below};
+use super::memory::{BodiesInMemory, NewSqlStore, TablesInMemory};
 use super::spoiled::{FIVE_BLOBS, RELATION_AT_137, WAY_AT_203};
-use super::steps::followed;
+use super::steps::{PUT_HEADER, PUT_NODES, Step, followed};
 use super::tables::{RELATION, WAY};
 use osm_block::read_block;
+use osm_checked::CheckedStore;
 use osm_databases::stores::with_whole_added_indexes;
-use osm_store::{Audited, Counts, Extent, StoreFault};
+use osm_store::{Audited, Counts, Extent, StoreFault, TableStore};
 use osm_tree_audits::trees::{ELEMENT_BY_ID, ELEMENT_KEY, ELEMENTS, LINK_KEY, TAG_KEY};
-use osm_tree_audits::{ElementTable, StoreIndex, Stray, faulty_index, stray_row};
+use osm_tree_audits::{
+    ElementTable, Look, Looked, StoreIndex, Stray, TableLook, look_at_indexes, stray_row,
+};
 use osm_trees::TreeStore;
 use osm_value::Element;
 use sqlite::{Alter, MemStore};
@@ -21,6 +24,15 @@ use sqlite_value::value::ValueRef;
 use std::alloc::{AllocError, Global};
 use std::process::Abort;
 use std::test::*;
+
+/// The five blobs, the last of which is put first: the rows of no table stand in the order of its primary key.
+const LAST_FIRST: &[Step] = &[
+    Step::Put(WAY_AT_203, WAY, Ok(())),
+    PUT_HEADER,
+    PUT_NODES,
+    Step::Put(PLACED_WAYS, THREE_WAYS, Ok(())),
+    Step::Put(RELATION_AT_137, RELATION, Ok(())),
+];
 
 /// What a store is asked for.
 enum Asked {
@@ -44,6 +56,37 @@ const ALL_COUNTS: Counts = Counts {
     elements: 7,
     tags: 2,
     links: 6,
+};
+
+/// What is seen of their tables where the rows stand in the order of their keys, and where they don't.
+const IN_ORDER: Look = Look {
+    elements: TableLook {
+        rows: 7,
+        in_order: true,
+    },
+    tags: TableLook {
+        rows: 2,
+        in_order: true,
+    },
+    links: TableLook {
+        rows: 6,
+        in_order: true,
+    },
+};
+
+const OUT_OF_ORDER: Look = Look {
+    elements: TableLook {
+        rows: 7,
+        in_order: false,
+    },
+    tags: TableLook {
+        rows: 2,
+        in_order: false,
+    },
+    links: TableLook {
+        rows: 6,
+        in_order: false,
+    },
 };
 
 const ALL_ROWS: Asked = Asked::Rows(ALL_COUNTS);
@@ -148,18 +191,42 @@ fn expect_changes<K: NewSqlStore, R: Abort + Alloc<A = Global>>(
     Ok(())
 }
 
-/// The same over the trees of a store of tables, once the rows are changed.
-fn expect_changes_below<R: Abort + Alloc<A = Global>>(
+/// The store over trees, each index of which is looked at, if each is whole.
+fn checked<S: Store + Drop>(alloc: Global, mut trees: S) -> Option<CheckedStore<S>> {
+    match look_at_indexes(alloc, &mut trees) {
+        Ok(Looked::Whole(look)) => Some(CheckedStore::new(TreeStore::new(trees), look)),
+        Ok(Looked::Faulty(_)) | Err(_) => None,
+    }
+}
+
+/// The same below SQL.
+fn checked_below<S: Alter + Drop>(alloc: Global, store: TableStore<S>) -> Option<CheckedStore<S>> {
+    checked(alloc, store.into_connection().into_store())
+}
+
+/// The same over the trees of a store of tables, once the rows are changed that were put in these steps.
+fn expect_changes_after<R: Abort + Alloc<A = Global>>(
     rt: &R,
+    steps: &[Step],
     table: &[Changed],
 ) -> Result<(), Fail> {
     for (sql, asked) in table {
-        let store: TablesInMemory = followed(rt, "tables", FIVE_BLOBS)?;
-        let mut trees = below(store.changed(sql).ok_or("a store")?);
+        let store: TablesInMemory = followed(rt, "tables", steps)?;
+        let changed = store.changed(sql).ok_or("a store")?;
+        let mut trees = checked_below(rt.alloc(), changed).ok_or("whole indexes")?;
         let after = asked.is_there(rt.alloc(), &mut trees);
         assert_eq!(rt; after, Ok(false), "{sql} over trees");
     }
     Ok(())
+}
+
+/// The same, where the rows stand in the order of their keys at first, and where they don't.
+fn expect_changes_below<R: Abort + Alloc<A = Global>>(
+    rt: &R,
+    table: &[Changed],
+) -> Result<(), Fail> {
+    expect_changes_after(rt, FIVE_BLOBS, table)?;
+    expect_changes_after(rt, LAST_FIRST, table)
 }
 
 #[test]
@@ -168,7 +235,11 @@ fn rows_as_they_were_put(rt: HostRuntime) -> Result<(), Fail> {
     expect_all(&rt, "bodies", &mut bodies);
     let mut tables: TablesInMemory = followed(&rt, "tables", FIVE_BLOBS)?;
     expect_all(&rt, "tables", &mut tables);
-    expect_all(&rt, "trees", &mut below(tables));
+    let mut trees = checked_below(rt.alloc(), tables).ok_or("whole indexes")?;
+    expect_all(&rt, "trees", &mut trees);
+    let tables: TablesInMemory = followed(&rt, "tables", LAST_FIRST)?;
+    let mut trees = checked_below(rt.alloc(), tables).ok_or("whole indexes")?;
+    expect_all(&rt, "trees, the last blob first", &mut trees);
     Ok(())
 }
 
@@ -417,7 +488,146 @@ const INDEXES: [(u32, StoreIndex); 4] = [
 #[test]
 fn whole_indexes(rt: HostRuntime) -> Result<(), Fail> {
     let mut trees = five_blobs(&rt)?;
-    assert_eq!(rt; faulty_index(rt.alloc(), &mut trees), Ok(None));
+    let found = look_at_indexes(rt.alloc(), &mut trees);
+    assert_eq!(rt; found, Ok(Looked::Whole(IN_ORDER)));
+    let store: TablesInMemory = followed(&rt, "tables", LAST_FIRST)?;
+    let mut trees = store.into_connection().into_store();
+    let found = look_at_indexes(rt.alloc(), &mut trees);
+    assert_eq!(rt; found, Ok(Looked::Whole(OUT_OF_ORDER)));
+    Ok(())
+}
+
+/// How many of the five blobs are there.
+fn count_there<K: Audited>(alloc: Global, store: &mut K) -> Result<usize, StoreFault> {
+    let mut count = 0usize;
+    for asked in ALL_ASKED.iter().take(5) {
+        if asked.is_there(alloc, store)? {
+            count = count.saturating_add(1);
+        }
+    }
+    Ok(count)
+}
+
+/// A row more or less in each table, at the end of what its blob has there and elsewhere: what is then seen of the tables, and
+/// that one blob, and it alone, isn't there.
+#[test]
+fn rows_in_order_and_out_of_it(rt: HostRuntime) -> Result<(), Fail> {
+    const TABLE: &[(&str, Look, Asked)] = &[
+        (
+            "INSERT INTO element (off, pos, kind, id) VALUES (203, 1, 1, 3)",
+            Look {
+                elements: TableLook {
+                    rows: 8,
+                    in_order: true,
+                },
+                ..IN_ORDER
+            },
+            WAY_AT_THE_END,
+        ),
+        (
+            "INSERT INTO element (off, pos, kind, id) VALUES (47, 2, 1, 3)",
+            Look {
+                elements: TableLook {
+                    rows: 8,
+                    in_order: false,
+                },
+                ..IN_ORDER
+            },
+            NODES_AT_47,
+        ),
+        (
+            "DELETE FROM element WHERE off = 47 AND pos = 0",
+            Look {
+                elements: TableLook {
+                    rows: 6,
+                    in_order: true,
+                },
+                ..IN_ORDER
+            },
+            NODES_AT_47,
+        ),
+        (
+            "DELETE FROM element WHERE off = 47 AND pos = 1",
+            Look {
+                elements: TableLook {
+                    rows: 6,
+                    in_order: true,
+                },
+                ..IN_ORDER
+            },
+            NODES_AT_47,
+        ),
+        (
+            "DELETE FROM element WHERE off = 203",
+            Look {
+                elements: TableLook {
+                    rows: 6,
+                    in_order: true,
+                },
+                ..IN_ORDER
+            },
+            WAY_AT_THE_END,
+        ),
+        (
+            "INSERT INTO tag (off, pos, k, key, val) VALUES (203, 0, 1, 'a', 'b')",
+            Look {
+                tags: TableLook {
+                    rows: 3,
+                    in_order: true,
+                },
+                ..IN_ORDER
+            },
+            WAY_AT_THE_END,
+        ),
+        (
+            "INSERT INTO tag (off, pos, k, key, val) VALUES (47, 0, 0, 'a', 'b')",
+            Look {
+                tags: TableLook {
+                    rows: 3,
+                    in_order: false,
+                },
+                ..IN_ORDER
+            },
+            NODES_AT_47,
+        ),
+        (
+            "INSERT INTO link (off, pos, k, kind, ref, role) VALUES (203, 0, 4, 0, 1, '')",
+            Look {
+                links: TableLook {
+                    rows: 7,
+                    in_order: true,
+                },
+                ..IN_ORDER
+            },
+            WAY_AT_THE_END,
+        ),
+        (
+            "UPDATE link SET k = 9 WHERE off = 203 AND k = 0",
+            Look {
+                links: TableLook {
+                    rows: 6,
+                    in_order: false,
+                },
+                ..IN_ORDER
+            },
+            WAY_AT_THE_END,
+        ),
+    ];
+    let alloc = rt.alloc();
+    for (sql, look, asked) in TABLE {
+        let store: TablesInMemory = followed(&rt, "tables", FIVE_BLOBS)?;
+        let changed = store.changed(sql).ok_or("a store")?;
+        let mut trees = changed.into_connection().into_store();
+        let found = look_at_indexes(alloc, &mut trees);
+        assert_eq!(rt; found, Ok(Looked::Whole(*look)), "{sql}");
+        let mut store = checked(alloc, trees).ok_or("whole indexes")?;
+        assert_eq!(rt; asked.is_there(alloc, &mut store), Ok(false), "{sql}");
+        assert_eq!(rt;
+            count_there(alloc, &mut store),
+            Ok(4),
+            "the others after {sql}"
+        );
+    }
     Ok(())
 }
 
@@ -429,22 +639,26 @@ fn faulty_indexes(rt: HostRuntime) -> Result<(), Fail> {
         let mut trees = five_blobs(&rt)?;
         take_entry(alloc, &mut trees, tree).ok_or("an entry")?;
         assert_eq!(rt;
-            faulty_index(alloc, &mut trees),
-            Ok(Some(index)),
+            look_at_indexes(alloc, &mut trees),
+            Ok(Looked::Faulty(index)),
             "one less"
         );
         let mut trees = five_blobs(&rt)?;
         add_entry(alloc, &mut trees, tree).ok_or("an entry")?;
         assert_eq!(rt;
-            faulty_index(alloc, &mut trees),
-            Ok(Some(index)),
+            look_at_indexes(alloc, &mut trees),
+            Ok(Looked::Faulty(index)),
             "one more"
         );
     }
     let mut trees = five_blobs(&rt)?;
     write_element(alloc, &mut trees, 13, 5).ok_or("a row")?;
-    let found = faulty_index(alloc, &mut trees);
-    assert_eq!(rt; found, Ok(Some(StoreIndex::ElementById)), "another id");
+    let found = look_at_indexes(alloc, &mut trees);
+    assert_eq!(rt;
+        found,
+        Ok(Looked::Faulty(StoreIndex::ElementById)),
+        "another id"
+    );
     Ok(())
 }
 
@@ -498,8 +712,8 @@ fn a_shorter_row(rt: HostRuntime) -> Result<(), Fail> {
     for (end, same) in [(13, true), (12, false)] {
         let mut trees = five_blobs(&rt)?;
         write_element(alloc, &mut trees, end, 1).ok_or("a row")?;
-        assert_eq!(rt; faulty_index(alloc, &mut trees), Ok(None));
-        let answer = NODES_AT_47.is_there(alloc, &mut TreeStore::new(trees));
+        let mut store = checked(alloc, trees).ok_or("whole indexes")?;
+        let answer = NODES_AT_47.is_there(alloc, &mut store);
         assert_eq!(rt; answer, Ok(same), "up to {end}");
     }
     Ok(())

@@ -12,13 +12,13 @@ use osm_databases::databases::{
     opened_or_made, source_of_blocks, source_of_rows,
 };
 use osm_databases::reason::told;
-use osm_databases::stores::{OpenedStore, adopted, adopted_or_made, made, taking_blobs};
+use osm_databases::stores::{adopted, adopted_or_made, made, taking_blobs};
 use osm_databases::trees::{
     FEW_PAGES, MANY_PAGES, checked_trees_in, close_files, connection_in, obstacle_in, trees_in,
 };
 use osm_import::deliver_all;
 use osm_openings::Obstacle;
-use osm_store::{Bodies, Keeper, StoreFault, TableStore};
+use osm_store::{Bodies, Keeper, Reader, StoreFault, TableStore};
 use osm_trees::{Opened, TreeStore};
 use sqlite::{Alter, Connection, FileStore, MemStore};
 use std::alloc::Global;
@@ -51,7 +51,10 @@ fn way_of<T, S>(store: &Opened<T, S>) -> Way {
 }
 
 /// How a store is read that was opened, and what it holds.
-fn described<S: Alter + Drop>(alloc: Global, mut store: OpenedStore<S>) -> (Way, Held) {
+fn described<T: Reader + Drop, S: Reader + Drop>(
+    alloc: Global,
+    mut store: Opened<T, S>,
+) -> (Way, Held) {
     let way = way_of(&store);
     (way, held_by(alloc, &mut store))
 }

@@ -15,3 +15,6 @@ returns-clause-checked g c = λ clean.
 
 pub returns-clause-added : goal.returns-clause-added
 returns-clause-added g c = λ clean. told_of (λ (refusal : Refusal). refusal.fault) _ _ _ _ c.told.ensures c.in_ok-store.was c.checked.ensures.added clean
+
+pub returns-clause-look : goal.returns-clause-look
+returns-clause-look g c = λ clean. told_of (λ (refusal : Refusal). refusal.fault) _ _ _ _ c.told.ensures c.in_ok-store.was c.checked.ensures.look clean

@@ -6,15 +6,15 @@ use Rattle.sqlite_trees.specs.View.{IsClean}
 use Rattle.sqlite_rules.proofs.ViewLemmas.{still_quiet}
 use Rattle.osm_store.specs.Rows.{placed}
 use Rattle.osm_store.proofs.AuditLemmas.Telling.{ok_told}
-use Rattle.osm_tree_audits.specs.ElementTables.{rows_in, table_of, width_of}
-use Rattle.osm_tree_audits.specs.Walking.{reached}
+use Rattle.osm_tree_audits.specs.ElementTables.{rows_in}
+use Rattle.osm_tree_audits.specs.Walking.{reached_by}
 use Rattle.osm_tree_audits.proofs.InParts.{no_rows, more_found, not_found, all_found, all_done}
 use Rattle.osm_tree_audits.proofs.rows.finds_each.Goals as goal
 
 pub loop-rest-init : goal.loop-rest-init
 loop-rest-init g c =
     let of = c.args.of in
-    let now = reached (g.S.Store.view c.args.store.now) (table_of of) (width_of of) c.args.key.now in
+    let now = reached_by c.args.way (g.S.Store.view c.args.store.now) of c.args.key.now in
     let done = c.split_at.result.0.now in
     let none : length done ≡ 0 = c.split_at.ensures.front_len in (
       done,
@@ -80,5 +80,4 @@ returns-clause-told g c =
     ok_told c.finds_no_more.result (λ b told clean walk.
     let clean_0 : IsClean now = omega (arith, clean, c.finds_no_more.ensures.quiet.clean) in
     let here = it.found clean_0 walk in
-    let ended = rw (c.table.ensures, c.width.ensures) at told in
-    subst (λ es. IsTrue b ↔ (reached old (table_of of) (width_of of) c.args.key.now ≡ rows_in of (placed c.args.off 0 es))) (sym whole) (all_found _ _ _ here.1 (ended clean here.0))) c.finds_no_more.ensures.told
+    subst (λ es. IsTrue b ↔ (reached_by c.args.way old of c.args.key.now ≡ rows_in of (placed c.args.off 0 es))) (sym whole) (all_found _ _ _ here.1 (told clean here.0))) c.finds_no_more.ensures.told

@@ -3,8 +3,8 @@ use Rattle.sqlite_trees.specs.View.{IsClean, IsQuiet}
 use Rattle.sqlite_exec.specs.Calls.{OnlyReads}
 use Rattle.osm_value.specs.declared.element.Element.{Element}
 use Rattle.osm_store.specs.Rows.{placed}
-use Rattle.osm_tree_audits.specs.ElementTables.{rows_in, table_of, width_of}
-use Rattle.osm_tree_audits.specs.Walking.{IsWalk, reached}
+use Rattle.osm_tree_audits.specs.ElementTables.{rows_in}
+use Rattle.osm_tree_audits.specs.Walking.{IsWalkBy, reached_by}
 use Rattle.osm_tree_audits.proofs.rows.finds_each.Given as goal
 
 abbrev pub invariant-loop-rest : goal.invariant-loop-rest
@@ -17,8 +17,8 @@ invariant-loop-rest g l =
       rows : IsSome (now.cursors 1);
       reads : IsClean now → OnlyReads old now × (now.is_broken ≡ false);
       quiet : IsQuiet g.S.Store.view g.S.Store.faults g.S.Store.recovers g.S.Store.is_shielded l.fn.store l.store;
-      found : IsClean now → IsWalk old (table_of l.of)
-          → IsWalk now (table_of l.of) × (reached old (table_of l.of) (width_of l.of) l.key ≡ rows_in l.of (placed l.off 0 done) ++ reached now (table_of l.of) (width_of l.of) l.key);
+      found : IsClean now → IsWalkBy l.way old l.of
+          → IsWalkBy l.way now l.of × (reached_by l.way old l.of l.key ≡ rows_in l.of (placed l.off 0 done) ++ reached_by l.way now l.of l.key);
     }
 
 abbrev pub decreases-loop-rest : goal.decreases-loop-rest

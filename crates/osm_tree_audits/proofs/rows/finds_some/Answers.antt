@@ -1,22 +1,10 @@
 use Rattle.osm_tree_audits.proofs.rows.finds_some.Goals as goal
 
 pub returns-in_ok-expected-in-Elements-clause-told : goal.returns-in_ok-expected-in-Elements-clause-told
-returns-in_ok-expected-in-Elements-clause-told g c =
-    rw c.in-Elements.is (rw (c.deref.ensures.value, c.in_ok-expected-in-Elements.ensures, c.table-table.ensures, c.width-width.ensures, c.in-Elements.is) at c.finds_next.ensures.told)
-
-pub returns-in_ok-expected-in-Elements-clause-walk : goal.returns-in_ok-expected-in-Elements-clause-walk
-returns-in_ok-expected-in-Elements-clause-walk g c = rw c.table-table.ensures at c.finds_next.ensures.walk
+returns-in_ok-expected-in-Elements-clause-told g c = rw c.in-Elements.is (rw (c.deref.ensures.value, c.in_ok-expected-in-Elements.ensures, c.in-Elements.is) at c.finds_next.ensures.told)
 
 pub returns-in_ok-expected-in-Tags-clause-told : goal.returns-in_ok-expected-in-Tags-clause-told
-returns-in_ok-expected-in-Tags-clause-told g c =
-    rw c.in-Tags.is (rw (c.deref-in-Tags.ensures.value, c.in_ok-expected-in-Tags.ensures, c.table-table.ensures, c.width-width.ensures, c.in-Tags.is) at c.finds_next-in-Tags.ensures.told)
-
-pub returns-in_ok-expected-in-Tags-clause-walk : goal.returns-in_ok-expected-in-Tags-clause-walk
-returns-in_ok-expected-in-Tags-clause-walk g c = rw c.table-table.ensures at c.finds_next-in-Tags.ensures.walk
+returns-in_ok-expected-in-Tags-clause-told g c = rw c.in-Tags.is (rw (c.deref-in-Tags.ensures.value, c.in_ok-expected-in-Tags.ensures, c.in-Tags.is) at c.finds_next-in-Tags.ensures.told)
 
 pub returns-in_ok-expected-in-Links-clause-told : goal.returns-in_ok-expected-in-Links-clause-told
-returns-in_ok-expected-in-Links-clause-told g c =
-    rw c.in-Links.is (rw (c.deref-in-Links.ensures.value, c.in_ok-expected-in-Links.ensures, c.table-table.ensures, c.width-width.ensures, c.in-Links.is) at c.finds_next-in-Links.ensures.told)
-
-pub returns-in_ok-expected-in-Links-clause-walk : goal.returns-in_ok-expected-in-Links-clause-walk
-returns-in_ok-expected-in-Links-clause-walk g c = rw c.table-table.ensures at c.finds_next-in-Links.ensures.walk
+returns-in_ok-expected-in-Links-clause-told g c = rw c.in-Links.is (rw (c.deref-in-Links.ensures.value, c.in_ok-expected-in-Links.ensures, c.in-Links.is) at c.finds_next-in-Links.ensures.told)

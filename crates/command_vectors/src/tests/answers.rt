@@ -1,0 +1,176 @@
+//! Tests of what the commands have in common: questions, where an import begins, the progress line and the exit status.
+
+use super::parts::{Range, Ranges, part_of};
+use super::stores::{Blocks, Columns, NewStore, import_two_nodes};
+use super::support::{Closed, TWO_NODES};
+use osm_store::StoreFault;
+use osm_value::{Form, Outlet, Sink};
+use osm_verify::Depth;
+use pbfrow_answers::ending::{FAULTY, end, let_go, refuse};
+use pbfrow_answers::meter::Meter;
+use pbfrow_answers::output::standard_output;
+use pbfrow_answers::questions::{ask_in_turn, ask_one, goes_by_blobs};
+use pbfrow_answers::starting::{depth_of, most_bytes, start_of};
+use pbfrow_answers::tally::Tally;
+use pbfrow_answers::turns::{InTurn, OpensNamed};
+use pbfrow_words::{Question, Start};
+use std::alloc::Global;
+use std::fs::File;
+use std::io::BufWriter;
+use std::process::Abort;
+use std::test::*;
+
+const STATUS: Question = Question::Status { size: None };
+
+const LINES: Question = Question::Export {
+    size: None,
+    partial: false,
+    form: Form::Lines,
+};
+
+/// What `status` and `export` write of the file of two nodes.
+const TOLD: [(Question, &[u8]); 2] = [
+    (STATUS, b"blobs 2 end 84 gaps 0\n"),
+    (LINES, b"n 1 1000 -100 [] {}\nn 2 900 -100 [] {}\n"),
+];
+
+/// What is written of a database that can't be opened.
+const DISK: &[u8] = b"fault 65 Disk\n";
+
+/// Stores of one of its two blobs each, the later one first.
+const PARTS: &[&[Range]] = &[&[(47, 84, 47)], &[(0, 47, 0)]];
+
+/// Opens a store of one of the two blobs by its name.
+#[derive(Drop)]
+struct ByName {
+    alloc: Global,
+}
+
+impl<K: NewStore> OpensNamed<K> for ByName {
+    fn open_named(&self, name: &str) -> Result<K, StoreFault> {
+        let range = if name == "first" {
+            (0, 47, 0)
+        } else if name == "second" {
+            (47, 84, 47)
+        } else {
+            return Err(StoreFault::Disk);
+        };
+        part_of(self.alloc, TWO_NODES, &[range]).ok_or(StoreFault::Disk)
+    }
+}
+
+/// What the databases of these names answer, and the exit status.
+fn answer_of<K: NewStore>(alloc: Global, names: &[&str], question: Question) -> (u8, Vec<u8>) {
+    let mut databases = InTurn::new(ByName { alloc }, names);
+    let mut out = Outlet::new(Vec::new(alloc));
+    let count = names.len() as u64;
+    let status = ask_in_turn::<K, _, _>(alloc, &mut databases, count, question, &mut out);
+    (status, out.into_inner())
+}
+
+fn expect_answers<K: NewStore, R: Abort + Alloc<A = Global>>(rt: &R) -> Result<(), Fail> {
+    let mut store = K::new_store(rt.alloc()).ok_or("a store")?;
+    import_two_nodes(rt, &mut store);
+    for (question, text) in TOLD {
+        let mut out = Outlet::new(Vec::new(rt.alloc()));
+        assert_eq!(rt; ask_one(rt.alloc(), &mut store, question, &mut out), 0);
+        assert!(rt; out.into_inner().as_slice() == text);
+        let mut parts = Ranges {
+            alloc: rt.alloc(),
+            file: TWO_NODES,
+            stores: PARTS,
+            failures: 0,
+        };
+        let mut out = Outlet::new(Vec::new(rt.alloc()));
+        let status = ask_in_turn::<K, _, _>(rt.alloc(), &mut parts, 2, question, &mut out);
+        assert_eq!(rt; status, 0);
+        assert!(rt; out.into_inner().as_slice() == text);
+        let (status, told) = answer_of::<K>(rt.alloc(), &["second", "first"], question);
+        assert_eq!(rt; status, 0);
+        assert!(rt; told.as_slice() == text);
+        let (status, told) = answer_of::<K>(rt.alloc(), &["second", "third"], question);
+        assert_eq!(rt; status, FAULTY);
+        assert!(rt; told.as_slice() == DISK);
+    }
+    assert_eq!(rt; let_go(store), 0);
+    Ok(())
+}
+
+#[test]
+fn questions_are_answered(rt: HostRuntime) -> Result<(), Fail> {
+    assert!(rt; goes_by_blobs(LINES));
+    assert!(rt; !goes_by_blobs(STATUS));
+    expect_answers::<Blocks, _>(&rt)?;
+    expect_answers::<Columns, _>(&rt)
+}
+
+#[test]
+fn begins_and_ends_where_the_words_say(rt: HostRuntime) {
+    let skipped = start_of(Start::Skip(1_000));
+    assert_eq!(rt; (skipped.dropped, skipped.at), (1_000, 1_000));
+    assert_eq!(rt; most_bytes(skipped, None), u64::MAX);
+    assert_eq!(rt; most_bytes(skipped, Some(1_500)), 1_500);
+    let placed = start_of(Start::At(1_000));
+    assert_eq!(rt; (placed.dropped, placed.at), (0, 1_000));
+    assert_eq!(rt; most_bytes(placed, Some(1_500)), 500);
+    assert_eq!(rt; depth_of(true), Depth::Elements);
+    assert_eq!(rt; depth_of(false), Depth::Extents);
+}
+
+#[test]
+fn counts_stop_at_the_greatest_number(rt: HostRuntime) {
+    let tally = Tally::NONE.with_blob().with_blob().with_bytes(300);
+    assert_eq!(rt; (tally.blobs, tally.bytes, tally.size), (2, 300, None));
+    let most = tally.with_bytes(u64::MAX).with_size(70).with_size(60);
+    assert_eq!(rt;
+        (most.blobs, most.bytes, most.size),
+        (2, u64::MAX, Some(70))
+    );
+    assert_eq!(rt; most.with_offset(40).bytes, 40);
+    let told = most.with_offset(40).progress(2_000);
+    assert_eq!(rt;
+        (told.bytes, told.blobs, told.milliseconds, told.size),
+        (40, 2, 2_000, Some(70))
+    );
+}
+
+#[test]
+fn the_line_is_due_each_fifth_of_a_second(rt: HostRuntime) {
+    let tally = Tally::NONE;
+    assert!(rt; !tally.is_due(999));
+    assert!(rt; tally.is_due(1_000));
+    let drawn = tally.with_line(1_000);
+    assert!(rt; drawn.is_drawn);
+    assert!(rt; !drawn.is_due(1_199));
+    assert!(rt; drawn.is_due(1_200));
+    let begun = drawn.with_output(b"n 1 10");
+    assert!(rt; !begun.is_due(1_200));
+    assert!(rt; !begun.with_output(b"").is_due(1_200));
+    assert!(rt; begun.with_output(b"00 -100 [] {}\n").is_due(1_200));
+    assert!(rt; !drawn.without_line().is_drawn);
+}
+
+#[test]
+fn the_status_is_that_of_the_command_and_its_output(rt: HostRuntime) -> Result<(), Fail> {
+    let meter = Meter::new(&rt, false);
+    let null = File::open(&rt, "/dev/null").map_err(|_| "/dev/null")?;
+    meter.measure(&null);
+    meter.measure_part(&null, 0, 10);
+    meter.erase();
+    let mut out = Outlet::new(Vec::new(rt.alloc()));
+    assert_eq!(rt; refuse(&mut out, StoreFault::Disk), FAULTY);
+    assert_eq!(rt; end(&mut out, &meter, 0), 0);
+    assert_eq!(rt; end(&mut out, &meter, FAULTY), FAULTY);
+    assert!(rt; out.into_inner().as_slice() == DISK);
+    // what a buffer holds back can't be written
+    let closed = BufWriter::new(rt.alloc(), Closed).map_err(|_| "a buffer")?;
+    let mut out = Outlet::new(closed);
+    assert_eq!(rt; refuse(&mut out, StoreFault::Disk), FAULTY);
+    assert_eq!(rt; end(&mut out, &meter, 0), FAULTY);
+    let sound = match standard_output(&rt, &meter, None) {
+        Ok(out) => !out.failed(),
+        Err(_) => false,
+    };
+    assert!(rt; sound);
+    Ok(())
+}
