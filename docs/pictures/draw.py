@@ -183,6 +183,7 @@ SAYS = {
     "command_vectors": "tests of the commands",
     "pbfrow_words": "the command line",
     "pbfrow_commands": "what each command does",
+    "pbfrow_answers": "what all commands share",
     "pbfrow": "the program",
 }
 UNNAMED = ("thiserror",)  # texts of errors, used nearly everywhere
