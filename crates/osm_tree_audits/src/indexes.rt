@@ -12,11 +12,11 @@ ghost use Rattle.osm_tree_audits.specs.Walking.{IsNext, AreAmong};
 
 use crate::counts::count;
 use crate::look::TableLook;
+use crate::values::is_same_value;
 use osm_store::StoreFault;
 use osm_tree_writes::fault_of;
 use sqlite_trees::store::{Direction, Shape, Store};
 use sqlite_value::keys::Order;
-use sqlite_value::order::is_same;
 use sqlite_value::row::Row;
 use std::alloc::{AllocError, Global};
 use std::fmt;
@@ -205,11 +205,11 @@ fn is_entry_of(entry: &Row, columns: &[usize], row: &Row) -> bool
         return false;
     }
     for at in 0..columns.len() {
-        if !is_same(entry.get(at), row.get(columns[at])) {
+        if !is_same_value(entry.get(at), row.get(columns[at])) {
             return false;
         }
     }
-    is_same(entry.get(columns.len()), row.get(0))
+    is_same_value(entry.get(columns.len()), row.get(0))
 }
 
 /// Whether a cursor over an index gives the entry of this row next. It moves on.

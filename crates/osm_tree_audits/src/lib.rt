@@ -14,6 +14,7 @@ mod rows;
 mod strays;
 mod tables;
 pub mod trees;
+mod values;
 mod walk;
 mod ways;
 

@@ -10,30 +10,31 @@ ghost use Rattle.osm_store.specs.Keeping.{IsForeign};
 ghost use Rattle.osm_tree_audits.specs.Walking.{Begins, IsWalkBy, reached_by};
 
 use crate::tables::ElementTable;
+use crate::values::is_same_value;
 use crate::ways::{Way, next_by};
 use osm_store::{StoreFault, TableRow};
 use sqlite_trees::store::Store;
-use sqlite_value::order::is_same;
 use sqlite_value::row::Row;
 use sqlite_value::value::ValueRef;
 use std::alloc::Global;
 
 /// Whether a value is what `sqlite` keeps of another, which is NULL for a NaN.
+#[inline(always)]
 fn is_kept(found: ValueRef<'_>, value: ValueRef<'_>) -> bool
     ensures { IsTrue result ↔ (owned found.entry ≡ bound_value (owned value.entry)) }
 {
     match value {
-        ValueRef::Null => is_same(found, value),
-        ValueRef::Int(_) => is_same(found, value),
+        ValueRef::Null => is_same_value(found, value),
+        ValueRef::Int(_) => is_same_value(found, value),
         ValueRef::Real(number) => {
             if number.is_nan() {
-                is_same(found, ValueRef::Null)
+                is_same_value(found, ValueRef::Null)
             } else {
-                is_same(found, value)
+                is_same_value(found, value)
             }
         }
-        ValueRef::Text(_) => is_same(found, value),
-        ValueRef::Blob(_) => is_same(found, value),
+        ValueRef::Text(_) => is_same_value(found, value),
+        ValueRef::Blob(_) => is_same_value(found, value),
     }
 }
 

@@ -2,7 +2,7 @@
 //! finds what that holds.
 #![tactic(auto)]
 
-ghost use Rattle.std.specs.Prelude.{◌<◌};
+ghost use Rattle.std.specs.Prelude.{◌<◌, ◌≤◌, IfSome};
 ghost use Rattle.pbfrow_words.specs.Words.{BeginsWithin, CutsSome, EndsWithin};
 
 mod copying;
@@ -17,13 +17,16 @@ use database::{Query, ask, fill};
 use merging::merge;
 use osm_databases::databases::Databases;
 use osm_databases::files::{AskedFiles, FilledFiles};
-use osm_value::Outlet;
+use osm_value::{MemberKind, Outlet};
+use osm_verify::Depth;
 use parts::ask_parts;
+use pbf_frame::MAX_OFFSET;
 use pbfrow_answers::ending::{FAULTY, end};
 use pbfrow_answers::meter::Meter;
 use pbfrow_answers::output::standard_output;
 use pbfrow_answers::starting::{depth_of, start_of};
 use pbfrow_commands::check::check;
+use pbfrow_commands::import::Start;
 use pbfrow_commands::input::refuse_input;
 use pbfrow_commands::list::list;
 use pbfrow_commands::metered::MeteredReader;
@@ -115,7 +118,7 @@ fn refuse(rt: HostRuntime, error: Error) -> io::Result<u8> {
     Ok(error.exit_code() as u8)
 }
 
-/// Runs a command, whose databases lie in files of this machine, and answers the exit status.
+/// Runs a command, and answers the exit status.
 fn run(rt: HostRuntime, words: Words) -> u8
     requires begins { BeginsWithin words }
     requires ends { EndsWithin words }
@@ -129,31 +132,57 @@ fn run(rt: HostRuntime, words: Words) -> u8
             database,
             start,
             to,
-        } => fill(&rt, &FilledFiles, file, database, start_of(start), to),
-        Words::Migrate { old, new } => copy(&rt, &FilledFiles, old, new),
-        Words::Merge { into, from } => merge(&rt, &FilledFiles, into, from.as_slice()),
+        } => import_file(&rt, file, database, start_of(start), to),
+        Words::Migrate { old, new } => migrate_file(&rt, old, new),
+        Words::Merge { into, from } => merge_files(&rt, into, from.as_slice()),
         Words::Verify {
             file,
             databases,
             elements,
-        } => compare_all(
-            &rt,
-            &AskedFiles,
-            file,
-            databases.as_slice(),
-            depth_of(elements),
-        ),
+        } => verify_files(&rt, file, databases.as_slice(), depth_of(elements)),
         Words::Ask {
             databases,
             question,
-        } => ask_all(&rt, &AskedFiles, databases.as_slice(), question),
-        Words::Find { database, kind, id } => ask(
-            &rt,
-            &AskedFiles,
-            database,
-            Query::Element(kind, id),
-        ),
+        } => ask_files(&rt, databases.as_slice(), question),
+        Words::Find { database, kind, id } => find_in_file(&rt, database, kind, id),
     }
+}
+
+// Each of these names the files of this machine that its databases lie in, and does nothing else: so they are proved side by
+// side, and what is behind them is generic.
+
+/// `import`, which fills a database.
+fn import_file(rt: &HostRuntime, file: &str, database: &str, start: Start, to: Option<u64>) -> u8
+    requires begins { start.at ≤ MAX_OFFSET }
+    requires drops { start.dropped ≤ start.at }
+    requires ends { IfSome to (λ n. (start.at < n) × (n ≤ MAX_OFFSET)) }
+{
+    fill(rt, &FilledFiles, file, database, start, to)
+}
+
+/// `migrate`, which fills a database from another.
+fn migrate_file(rt: &HostRuntime, old: &str, new: &str) -> u8 {
+    copy(rt, &FilledFiles, old, new)
+}
+
+/// `merge`, which fills a database from others.
+fn merge_files(rt: &HostRuntime, into: &str, from: &[&str]) -> u8 {
+    merge(rt, &FilledFiles, into, from)
+}
+
+/// `verify`, which compares a file with databases.
+fn verify_files(rt: &HostRuntime, file: &str, databases: &[&str], depth: Depth) -> u8 {
+    compare_all(rt, &AskedFiles, file, databases, depth)
+}
+
+/// The commands that ask one database or several.
+fn ask_files(rt: &HostRuntime, databases: &[&str], question: Question) -> u8 {
+    ask_all(rt, &AskedFiles, databases, question)
+}
+
+/// `find`, which asks one database.
+fn find_in_file(rt: &HostRuntime, database: &str, kind: MemberKind, id: i64) -> u8 {
+    ask(rt, &AskedFiles, database, Query::Element(kind, id))
 }
 
 /// Asks a question of one database, or of several that hold parts of one file, and answers the exit status.
