@@ -12,7 +12,7 @@ ghost use Rattle.osm_tree_audits.specs.Walking.{IsNext, AreAmong};
 
 use crate::counts::count;
 use crate::look::TableLook;
-use crate::values::is_same_value;
+use crate::values::are_same;
 use osm_store::StoreFault;
 use osm_tree_writes::fault_of;
 use sqlite_trees::store::{Direction, Shape, Store};
@@ -205,11 +205,11 @@ fn is_entry_of(entry: &Row, columns: &[usize], row: &Row) -> bool
         return false;
     }
     for at in 0..columns.len() {
-        if !is_same_value(entry.get(at), row.get(columns[at])) {
+        if !are_same(entry, at, row, columns[at]) {
             return false;
         }
     }
-    is_same_value(entry.get(columns.len()), row.get(0))
+    are_same(entry, columns.len(), row, 0)
 }
 
 /// Whether a cursor over an index gives the entry of this row next. It moves on.

@@ -4,37 +4,39 @@
 ghost use Rattle.std.specs.Prelude.{◌≡◌, ◌↔◌, [], false, drop, length, map, IsSome, IsTrue, IfOk, IfErr, OnOk};
 ghost use Rattle.sqlite.specs.Value.{owned};
 ghost use Rattle.sqlite.specs.Values.{bound, bound_value};
+ghost use Rattle.sqlite_value.specs.Order.{column};
 ghost use Rattle.sqlite_trees.specs.View.{IsClean, IsQuiet};
 ghost use Rattle.sqlite_exec.specs.Calls.{OnlyReads};
 ghost use Rattle.osm_store.specs.Keeping.{IsForeign};
 ghost use Rattle.osm_tree_audits.specs.Walking.{Begins, IsWalkBy, reached_by};
 
 use crate::tables::ElementTable;
-use crate::values::is_same_value;
+use crate::values::is_integer;
 use crate::ways::{Way, next_by};
 use osm_store::{StoreFault, TableRow};
 use sqlite_trees::store::Store;
+use sqlite_value::order::is_same;
 use sqlite_value::row::Row;
 use sqlite_value::value::ValueRef;
 use std::alloc::Global;
 
-/// Whether a value is what `sqlite` keeps of another, which is NULL for a NaN.
+/// Whether a column of a row has what `sqlite` keeps of a value, which is NULL for a NaN.
 #[inline(always)]
-fn is_kept(found: ValueRef<'_>, value: ValueRef<'_>) -> bool
-    ensures { IsTrue result ↔ (owned found.entry ≡ bound_value (owned value.entry)) }
+fn is_kept(row: &Row, at: usize, value: ValueRef<'_>) -> bool
+    ensures { IsTrue result ↔ (column row.now at ≡ bound_value (owned value.entry)) }
 {
     match value {
-        ValueRef::Null => is_same_value(found, value),
-        ValueRef::Int(_) => is_same_value(found, value),
+        ValueRef::Null => is_same(row.get(at), value),
+        ValueRef::Int(number) => is_integer(row.get(at), number),
         ValueRef::Real(number) => {
             if number.is_nan() {
-                is_same_value(found, ValueRef::Null)
+                is_same(row.get(at), ValueRef::Null)
             } else {
-                is_same_value(found, value)
+                is_same(row.get(at), value)
             }
         }
-        ValueRef::Text(_) => is_same_value(found, value),
-        ValueRef::Blob(_) => is_same_value(found, value),
+        ValueRef::Text(_) => is_same(row.get(at), value),
+        ValueRef::Blob(_) => is_same(row.get(at), value),
     }
 }
 
@@ -46,7 +48,7 @@ fn has_values(row: &Row, values: &[ValueRef<'_>]) -> bool
         return false;
     }
     for at in 0..values.len() {
-        if !is_kept(row.get(at + 1), values[at]) {
+        if !is_kept(row, at + 1, values[at]) {
             return false;
         }
     }

@@ -1,21 +1,32 @@
-//! Whether two values are one.
+//! Whether values are the same. Most are integers, which are compared here: a call would take longer than that.
 
 ghost use Rattle.std.specs.Prelude.{◌≡◌, ◌↔◌, IsTrue};
+ghost use Rattle.sqlite_value.specs.declared.value.Value.TheVariants.{Int};
+ghost use Rattle.sqlite_value.specs.Order.{column};
 ghost use Rattle.sqlite_value.specs.Value.{owned};
 
 use sqlite_value::order::is_same;
+use sqlite_value::row::Row;
 use sqlite_value::value::ValueRef;
 
-/// Whether two values are the same. Most are integers, which are compared here: a call would take longer than that.
+/// Whether a value is this integer.
 #[inline(always)]
-pub(crate) fn is_same_value(value: ValueRef<'_>, other: ValueRef<'_>) -> bool
-    ensures { IsTrue result ↔ (owned value.entry ≡ owned other.entry) }
+pub(crate) fn is_integer(value: ValueRef<'_>, number: i64) -> bool
+    ensures { IsTrue result ↔ (owned value.entry ≡ Int number) }
 {
     match value {
-        ValueRef::Int(number) => match other {
-            ValueRef::Int(same) => number == same,
-            _ => false,
-        },
-        _ => is_same(value, other),
+        ValueRef::Int(same) => same == number,
+        _ => false,
+    }
+}
+
+/// Whether a row has in one column what another has in another.
+#[inline(always)]
+pub(crate) fn are_same(row: &Row, at: usize, other: &Row, place: usize) -> bool
+    ensures { IsTrue result ↔ (column row.now at ≡ column other.now place) }
+{
+    match row.get(at) {
+        ValueRef::Int(number) => is_integer(other.get(place), number),
+        value => is_same(value, other.get(place)),
     }
 }

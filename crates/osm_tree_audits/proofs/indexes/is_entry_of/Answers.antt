@@ -18,6 +18,6 @@ returns c =
     let Same : ℕ → Type 0 = λ k. column entry k ≡ column (entry_of cs row) k in (
       (λ yes. ext_get_or Null entry (entry_of cs row) (long ∙ sym wide)
           (λ k h. at_last (length cs) Same (λ i low. c.loop-at.invariant i (omega (arith, low, c.loop-at-test.false)))
-          (sym c.get-2.ensures ∙ c.is_same_value-2.ensures.0 yes ∙ c.get-3.ensures ∙ sym (rowid-entry_of cs row)) k (omega (arith, h, long)))),
-      (λ same. c.is_same_value-2.ensures.1 (c.get-2.ensures ∙ ap (λ r. column r (length cs)) same ∙ rowid-entry_of cs row ∙ sym c.get-3.ensures)),
+          (c.are_same-2.ensures.0 yes ∙ sym (rowid-entry_of cs row)) k (omega (arith, h, long)))),
+      (λ same. c.are_same-2.ensures.1 (ap (λ r. column r (length cs)) same ∙ rowid-entry_of cs row)),
     )

@@ -11,7 +11,7 @@ pub loop-at-preserved : goal.loop-at-preserved
 loop-at-preserved c =
     let row = c.args.row.now in
     let values = bound c.args.values.now in
-    let here : column row (c.loop-at.at + 1) ≡ column values c.loop-at.at = sym c.get.ensures ∙ c.is_kept.ensures.0 c.if-not-is_kept.false ∙ sym (get_or-map (λ v. bound_value (owned v)) c.args.values.now c.loop-at.at _ Null c.loop-at-test.true) in
+    let here : column row (c.loop-at.at + 1) ≡ column values c.loop-at.at = c.is_kept.ensures.0 c.if-not-is_kept.false ∙ sym (get_or-map (λ v. bound_value (owned v)) c.args.values.now c.loop-at.at _ Null c.loop-at-test.true) in
     at_last c.loop-at.at (λ k. column row (k + 1) ≡ column values k) c.loop-at.invariant here
 
 pub returns : goal.returns
