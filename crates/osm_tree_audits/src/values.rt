@@ -15,18 +15,18 @@ pub(crate) fn is_integer(value: ValueRef<'_>, number: i64) -> bool
     ensures { IsTrue result ↔ (owned value.entry ≡ Int number) }
 {
     match value {
-        ValueRef::Int(same) => same == number,
+        ValueRef::Int(found) => found == number,
         _ => false,
     }
 }
 
 /// Whether a row has in one column what another has in another.
 #[inline(always)]
-pub(crate) fn are_same(row: &Row, at: usize, other: &Row, place: usize) -> bool
-    ensures { IsTrue result ↔ (column row.now at ≡ column other.now place) }
+pub(crate) fn are_same(row: &Row, at: usize, other: &Row, other_at: usize) -> bool
+    ensures { IsTrue result ↔ (column row.now at ≡ column other.now other_at) }
 {
     match row.get(at) {
-        ValueRef::Int(number) => is_integer(other.get(place), number),
-        value => is_same(value, other.get(place)),
+        ValueRef::Int(number) => is_integer(other.get(other_at), number),
+        value => is_same(value, other.get(other_at)),
     }
 }
