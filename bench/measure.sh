@@ -6,20 +6,43 @@ runs=${PBFROW_RUNS:-5}
 mkdir -p "$work" && cd "$work" || exit 2
 "$top/pbfrow" --build-only || exit 1
 pbfrow=$top/crates/pbfrow/out/pbfrow
+export pbfrow
 [ -x /usr/bin/time ] || { echo "bench: /usr/bin/time isn't there (Debian's package time)" >&2; exit 2; }
 
-# measure NAME FILE COMMAND..: runs the command with the file as standard input, unless PBFROW_SKIP, a pattern of names, leaves it out.
+# skipped NAME: whether PBFROW_SKIP, a pattern of names, leaves it out.
+skipped() { [ -n "${PBFROW_SKIP:-}" ] && [[ $1 =~ $PBFROW_SKIP ]]; }
+
+# took FILE COMMAND..: runs the command with the file as standard input, and prints its seconds and its memory.
+took() {
+  local file=$1
+  shift
+  /usr/bin/time -f '%e %U %S %M' "$@" 2>&1 >/dev/null <"$file" | tail -n 1
+}
+
+# row NAME FILE: the row of the best of the runs that are given line by line.
+row() {
+  sort -n | head -n 1 | awk -v name="$1" -v b="$(stat -c %s "$2")" \
+    '{ printf "| %s | %.2f | %.2f | %.0f | %.0f |\n", name, $1, $2 + $3, ($1 > 0 ? b / 1e6 / $1 : 0), $4 / 1024 }'
+}
+
+# measure NAME FILE COMMAND..: runs the command with the file as standard input, and prints the row of its best run.
 measure() {
-  local name=$1 file=$2 best="" line
+  local name=$1 file=$2
   shift 2
-  if [ -n "${PBFROW_SKIP:-}" ] && [[ $name =~ $PBFROW_SKIP ]]; then return; fi
-  for _ in $(seq "$runs"); do
-    line=$(/usr/bin/time -f '%e %U %S %M' "$@" 2>&1 >/dev/null <"$file" | tail -n 1)
-    best=$(printf '%s\n%s\n' "$best" "$line" | sed '/^$/d' | sort -n | head -n 1)
+  skipped "$name" || for _ in $(seq "$runs"); do took "$file" "$@"; done | row "$name" "$file"
+}
+
+# in_turn ROUNDS FILE SCRIPT NAME..: measures a shell script with each name as its only word, all of them in turn, round after
+# round: a machine that is slower for a minute is so for all, so that how they compare is told better than by `measure`.
+in_turn() {
+  local rounds=$1 file=$2 script=$3 at
+  shift 3
+  rm -f turn-*.txt
+  for _ in $(seq "$rounds"); do
+    for at in $(seq $#); do skipped "${!at}" || took "$file" sh -c "$script" sh "${!at}" >> "turn-$at.txt"; done
   done
-  set -- $best
-  awk -v name="$name" -v e="$1" -v u="$2" -v s="$3" -v m="$4" -v b="$(stat -c %s "$file")" \
-    'BEGIN { printf "| %s | %.2f | %.2f | %.0f | %.0f |\n", name, e, u + s, (e > 0 ? b / 1e6 / e : 0), m / 1024 }'
+  for at in $(seq $#); do skipped "${!at}" || row "${!at}" "$file" < "turn-$at.txt"; done
+  rm -f turn-*.txt
 }
 
 # mean NAME FILE COMMAND..: the mean processor time of fifteen runs with the file as standard input. One of a fifth of a second
