@@ -60,11 +60,11 @@ module _ {X : Type 0} (columns : X → Row) (table : Table) (width : ℕ) (sql :
   pub inserts : IsInsert at width count sql → slice_get table_schema.tables at ≡ Some table → table.is_counted ≡ false → ((params : Row) → stamped table params ≡ params)
       → ((db : Trees) (news : List Row) → works table_schema Enforced 0 table.tree (taken_by db (record { table = table; gone = []; news = news })) news ≡ [])
       → Inserts columns table.tree sql count
-  inserts text there uncounted unstamped free xs many params these old new n over run =
+  inserts is there uncounted unstamped free xs many params these old new n over run =
       let read = subst (λ k. value_rows params (suc width) k (terms_of_rows width k 0) ≡ given columns width wide xs) many (reads_rows columns width wide params xs 0 these) in
-      let rows = subst (λ k. value_rows params (suc width) k (terms_of_rows width count 0) ≡ given columns width wide xs) (sym text.counts) read in
+      let rows = subst (λ k. value_rows params (suc width) k (terms_of_rows width count 0) ≡ given columns width wide xs) (sym is.counts) read in
       let all = subst (λ ps. value_rows ps (suc width) (length (terms_of_rows width count 0) / suc width) (terms_of_rows width count 0) ≡ given columns width wide xs) (sym (unstamped params)) rows in
-      let it = inserts_all table_schema sql at table (terms_of_rows width count 0) (suc width) params (given columns width wide xs) text.is text.plain there uncounted all free old new n over.schema_is run.0 in
+      let it = inserts_all table_schema sql at table (terms_of_rows width count 0) (suc width) params (given columns width wide xs) is.text there uncounted all free old new n over.schema_is run.0 in
       let went = becomes old new table_schema it.0 it.2 run.1 in
       record {
         over = went.over;
