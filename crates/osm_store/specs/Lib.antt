@@ -15,3 +15,4 @@ pub mod EarlierRows
 pub mod Store
 pub mod StoreLaws
 pub mod Audit
+pub mod AuditedTables

@@ -3,8 +3,9 @@
 mod bodies;
 mod counts;
 mod extent;
+mod rows;
 mod same;
-mod tables;
+mod table;
 
 ghost use Rattle.std.specs.Prelude.{◌≡◌, ◌↔◌, ◌<◌, ◌≤◌, ℕ, Some, IsTrue, IfOk};
 ghost use Rattle.std.specs.FinMap as map;
@@ -19,9 +20,9 @@ use crate::fault::StoreFault;
 use crate::keeper::Reader;
 pub use counts::Counts;
 pub(crate) use counts::has_counts_of;
-pub(crate) use extent::has_rows_of;
 use osm_value::Element;
 use pbf_frame::{Kind, MAX_OFFSET};
+pub(crate) use rows::has_rows_of;
 pub use same::have_columns;
 use std::alloc::Global;
 

@@ -1,6 +1,7 @@
 //! One blob more, with its elements: in one transaction, all of it or nothing.
 
 mod bodies;
+mod execute;
 mod table_row;
 mod tables;
 mod transaction;

@@ -1,5 +1,5 @@
 -- What the queries for the rows of one blob say of the tables, whatever rows these have.
-use Rattle.std.proofs.Common.{◌≡◌, ◌<◌, inr, ℕ, pos, false, List, [], ◌∷◌, map, refl, sym, ◌∙◌}
+use Rattle.std.proofs.Common.{◌≡◌, ◌<◌, inr, ℕ, pos, true, false, List, [], ◌∷◌, map, refl, sym, ◌∙◌}
 use Rattle.std.specs.Prelude.{flat_map, ◌↔◌}
 use Rattle.sqlite.specs.declared.types.Value.TheVariants.{Null, Int}
 use Rattle.sqlite.specs.Command.TheVariants.{Select}
@@ -17,6 +17,10 @@ use Rattle.sqlite_trees.proofs.ListLemmas.{ascending_weaker}
 use Rattle.osm_value.specs.declared.element.Element.{Element}
 use Rattle.osm_value.specs.Elements.{tags_of_element}
 use Rattle.osm_store.specs.Audit.{is_at, HasAt, seen_extents, seen_bodies, seen_elements, seen_tags, seen_links}
+use Rattle.osm_store.specs.declared.audit.table.AuditedTable.{AuditedTable}
+use Rattle.osm_store.specs.declared.audit.table.AuditedTable.TheVariants as table
+use Rattle.osm_store.specs.AuditedTables.{HasTable, rows_in, seen_in, select_statement}
+use Rattle.osm_store.specs.Load.Selects.{selects}
 use Rattle.osm_store.specs.declared.keeper.Extent.{Extent}
 use Rattle.osm_store.specs.declared.schema.layout.Layout.{Layout}
 use Rattle.osm_store.specs.declared.schema.layout.Layout.TheVariants.{Bodies, Tables}
@@ -54,7 +58,7 @@ extent_is Tables = (refl, refl, (refl, refl))
 abbrev extent_output : Row → Output
 extent_output v = (column v 0 ∷ [], column v 0 ∷ column v 1 ∷ column v 2 ∷ column v 3 ∷ column v 4 ∷ [])
 
-pub extent_told : (layout : Layout) (old new : State) (rows : List Row) (extent : Extent) → old.now.schema ≡ schema_of layout → IsAnswered SELECT_EXTENT.now (Int (pos extent.off) ∷ []) old new rows
+extent_told : (layout : Layout) (old new : State) (rows : List Row) (extent : Extent) → old.now.schema ≡ schema_of layout → IsAnswered SELECT_EXTENT.now (Int (pos extent.off) ∷ []) old new rows
     → (rows ≡ shown_extent extent ∷ []) ↔ HasAt extent.off (shown_extent extent ∷ []) (seen_extents old.now.trees)
 extent_told layout old new rows extent schema answered =
     let params = Int (pos extent.off) ∷ [] in
@@ -67,7 +71,7 @@ extent_told layout old new rows extent schema answered =
 abbrev body_output : Row → Output
 body_output v = (column v 0 ∷ column v 1 ∷ [], column v 0 ∷ column v 1 ∷ column v 2 ∷ column v 3 ∷ column v 4 ∷ [])
 
-pub bodies_told : (old new : State) (rows : List Row) (off : ℕ) (es : List Element) → old.now.schema ≡ body_schema → IsAnswered SELECT_BODIES.now (Int (pos off) ∷ []) old new rows
+bodies_told : (old new : State) (rows : List Row) (off : ℕ) (es : List Element) → old.now.schema ≡ body_schema → IsAnswered SELECT_BODIES.now (Int (pos off) ∷ []) old new rows
     → (rows ≡ map body_row (placed off 0 es)) ↔ HasAt off (map body_row (placed off 0 es)) (seen_bodies old.now.trees)
 bodies_told old new rows off es schema answered =
     let params = Int (pos off) ∷ [] in
@@ -87,14 +91,14 @@ abbrev link_output : Row → Output
 link_output v = (column v 0 ∷ column v 1 ∷ column v 2 ∷ [], column v 0 ∷ column v 1 ∷ column v 2 ∷ column v 3 ∷ column v 4 ∷ column v 5 ∷ [])
 
 module _ (old new : State) (rows : List Row) (off : ℕ) (es : List Element) (schema : old.now.schema ≡ table_schema) where
-  pub elements_told : IsAnswered SELECT_ELEMENTS.now (Int (pos off) ∷ []) old new rows → (rows ≡ element_rows (placed off 0 es)) ↔ HasAt off (element_rows (placed off 0 es)) (seen_elements old.now.trees)
+  elements_told : IsAnswered SELECT_ELEMENTS.now (Int (pos off) ∷ []) old new rows → (rows ≡ element_rows (placed off 0 es)) ↔ HasAt off (element_rows (placed off 0 es)) (seen_elements old.now.trees)
   elements_told answered =
       let params = Int (pos off) ∷ [] in
       let read = reads_as SELECT_ELEMENTS.now params old new table_schema schema _ elements_are.0 elements_are.2 elements_are.1 rows answered.shown in
       exactly 2 at_off element_shown by_place (overlay old.now.trees []) params rows twelve_places
       (is_at off) (λ r. alone _) element_output (λ r. refl) (λ r. refl) (read.answer Null) element_row (placed off 0 es) (ascending_weaker _ _ in_order (placed off 0 es) (placed_ascend off es)) (λ x. refl)
 
-  pub tags_told : IsAnswered SELECT_TAGS.now (Int (pos off) ∷ []) old new rows → (rows ≡ tag_rows (placed off 0 es)) ↔ HasAt off (tag_rows (placed off 0 es)) (seen_tags old.now.trees)
+  tags_told : IsAnswered SELECT_TAGS.now (Int (pos off) ∷ []) old new rows → (rows ≡ tag_rows (placed off 0 es)) ↔ HasAt off (tag_rows (placed off 0 es)) (seen_tags old.now.trees)
   tags_told answered =
       let params = Int (pos off) ∷ [] in
       let read = reads_as SELECT_TAGS.now params old new table_schema schema _ tags_are.0 tags_are.2 tags_are.1 rows answered.shown in
@@ -102,10 +106,28 @@ module _ (old new : State) (rows : List Row) (off : ℕ) (es : List Element) (sc
       (is_at off) (λ r. alone _) tag_output (λ r. refl) (λ r. refl) (read.answer Null) tag_row (flat_map tags_at (placed off 0 es))
       (ascending_weaker _ _ parts_in_order _ (all_parts_rise (λ (p : Placed). tags_of_element p.2) (placed off 0 es) (placed_ascend off es))) (λ x. refl)
 
-  pub links_told : IsAnswered SELECT_LINKS.now (Int (pos off) ∷ []) old new rows → (rows ≡ link_rows (placed off 0 es)) ↔ HasAt off (link_rows (placed off 0 es)) (seen_links old.now.trees)
+  links_told : IsAnswered SELECT_LINKS.now (Int (pos off) ∷ []) old new rows → (rows ≡ link_rows (placed off 0 es)) ↔ HasAt off (link_rows (placed off 0 es)) (seen_links old.now.trees)
   links_told answered =
       let params = Int (pos off) ∷ [] in
       let read = reads_as SELECT_LINKS.now params old new table_schema schema _ links_are.0 links_are.2 links_are.1 rows answered.shown in
       exactly 6 at_off link_shown by_part (overlay old.now.trees []) params rows six_places
       (is_at off) (λ r. alone _) link_output (λ r. refl) (λ r. refl) (read.answer Null) link_row (flat_map links_at (placed off 0 es))
       (ascending_weaker _ _ parts_in_order _ (all_parts_rise (λ (p : Placed). links_of p.2) (placed off 0 es) (placed_ascend off es))) (λ x. refl)
+
+-- ---- any of them
+
+pub selects_rows : (table : AuditedTable) → selects (select_statement table) ≡ true
+unfolding everything
+selects_rows table.Blobs = refl
+selects_rows table.Bodies = refl
+selects_rows table.Elements = refl
+selects_rows table.Tags = refl
+selects_rows table.Links = refl
+
+pub rows_told : (table : AuditedTable) (old new : State) (rows : List Row) (extent : Extent) (es : List Element) → HasTable table old.now.schema → IsAnswered (select_statement table) (Int (pos extent.off) ∷ []) old new rows
+    → (rows ≡ rows_in table extent es) ↔ HasAt extent.off (rows_in table extent es) (seen_in table old.now.trees)
+rows_told table.Blobs old new rows extent es (layout, schema) answered = extent_told layout old new rows extent schema answered
+rows_told table.Bodies old new rows extent es schema answered = bodies_told old new rows extent.off es schema answered
+rows_told table.Elements old new rows extent es schema answered = elements_told old new rows extent.off es schema answered
+rows_told table.Tags old new rows extent es schema answered = tags_told old new rows extent.off es schema answered
+rows_told table.Links old new rows extent es schema answered = links_told old new rows extent.off es schema answered

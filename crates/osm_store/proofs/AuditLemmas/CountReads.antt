@@ -9,6 +9,7 @@ use Rattle.sqlite.specs.Collation.TheVariants.{Binary}
 use Rattle.sqlite.specs.Command.TheVariants.{Select}
 use Rattle.sqlite.specs.Order.{Row}
 use Rattle.sqlite.specs.Program.{overlay}
+use Rattle.sqlite.specs.Schema.{Schema}
 use Rattle.sqlite.specs.Query.{Query, inner, end, IsAnswer, Output, output}
 use Rattle.sqlite.specs.State.{State}
 use Rattle.sqlite.specs.Term.{Env, col, lit}
@@ -20,13 +21,12 @@ use Rattle.sqlite_sql.specs.Group.{Grouping, IsSummary, Summarizes, value_over}
 use Rattle.sqlite_sql.specs.Query.{matches_as}
 use Rattle.sqlite_trees.proofs.ListLemmas.{all-permutation}
 use Rattle.sqlite_tied.specs.Compute.{everything}
-use Rattle.osm_store.specs.declared.schema.layout.Layout.{Layout}
-use Rattle.osm_store.specs.declared.schema.layout.Layout.TheVariants.{Bodies, Tables}
-use Rattle.osm_store.specs.declared.schema.sql.TheConstants.{COUNT_BLOBS, COUNT_BODIES, COUNT_ELEMENTS, COUNT_TAGS, COUNT_LINKS}
+use Rattle.osm_store.specs.declared.audit.table.AuditedTable.{AuditedTable}
+use Rattle.osm_store.specs.declared.audit.table.AuditedTable.TheVariants.{Blobs, Bodies, Elements, Tags, Links}
+use Rattle.osm_store.specs.declared.schema.layout.Layout.TheVariants as layout
+use Rattle.osm_store.specs.AuditedTables.{HasTable, tree_of, count_statement}
 use Rattle.osm_store.specs.Load.Asking.{IsAnswered}
-use Rattle.osm_store.specs.Schema.Bodies.{body_schema}
-use Rattle.osm_store.specs.Schema.Layouts.{schema_of}
-use Rattle.osm_store.specs.Schema.Tables.{table_schema}
+use Rattle.osm_store.specs.Load.Selects.{selects}
 
 abbrev counting : Grouping
 counting = record { keys = []; collations = []; aggregates = record { op = CountRows; distinct = false; collation = Binary; argument = lit Null } ∷ []; having = [] }
@@ -45,26 +45,27 @@ counts tree = record {
   offset = lit (Int (pos 0));
 }
 
-blobs_are : (layout : Layout) → (command_of (understood (schema_of layout) COUNT_BLOBS.now) ≡ Select (record { lets = []; body = counts 1 }) (codes "count(*)" ∷ [])) × (reads_listing (schema_of layout) COUNT_BLOBS.now ≡ false) × IsPlain (understood (schema_of layout) COUNT_BLOBS.now)
-unfolding understood everything
-blobs_are Bodies = (refl, refl, (refl, refl))
-blobs_are Tables = (refl, refl, (refl, refl))
+-- the statement counts the rows of the table
+abbrev IsCount : AuditedTable → Schema → Type 0
+IsCount table schema =
+    (command_of (understood schema (count_statement table)) ≡ Select (record { lets = []; body = counts (tree_of table) }) (codes "count(*)" ∷ [])) × (reads_listing schema (count_statement table) ≡ false) × IsPlain (understood schema (count_statement table))
 
-bodies_are : (command_of (understood body_schema COUNT_BODIES.now) ≡ Select (record { lets = []; body = counts 2 }) (codes "count(*)" ∷ [])) × (reads_listing body_schema COUNT_BODIES.now ≡ false) × IsPlain (understood body_schema COUNT_BODIES.now)
+count_is : (table : AuditedTable) (schema : Schema) → HasTable table schema → IsCount table schema
 unfolding understood everything
-bodies_are = (refl, refl, (refl, refl))
+count_is Blobs schema (layout.Bodies, is) = subst (IsCount Blobs) (sym is) (refl, refl, (refl, refl))
+count_is Blobs schema (layout.Tables, is) = subst (IsCount Blobs) (sym is) (refl, refl, (refl, refl))
+count_is Bodies schema is = subst (IsCount Bodies) (sym is) (refl, refl, (refl, refl))
+count_is Elements schema is = subst (IsCount Elements) (sym is) (refl, refl, (refl, refl))
+count_is Tags schema is = subst (IsCount Tags) (sym is) (refl, refl, (refl, refl))
+count_is Links schema is = subst (IsCount Links) (sym is) (refl, refl, (refl, refl))
 
-elements_are : (command_of (understood table_schema COUNT_ELEMENTS.now) ≡ Select (record { lets = []; body = counts 2 }) (codes "count(*)" ∷ [])) × (reads_listing table_schema COUNT_ELEMENTS.now ≡ false) × IsPlain (understood table_schema COUNT_ELEMENTS.now)
-unfolding understood everything
-elements_are = (refl, refl, (refl, refl))
-
-tags_are : (command_of (understood table_schema COUNT_TAGS.now) ≡ Select (record { lets = []; body = counts 4 }) (codes "count(*)" ∷ [])) × (reads_listing table_schema COUNT_TAGS.now ≡ false) × IsPlain (understood table_schema COUNT_TAGS.now)
-unfolding understood everything
-tags_are = (refl, refl, (refl, refl))
-
-links_are : (command_of (understood table_schema COUNT_LINKS.now) ≡ Select (record { lets = []; body = counts 6 }) (codes "count(*)" ∷ [])) × (reads_listing table_schema COUNT_LINKS.now ≡ false) × IsPlain (understood table_schema COUNT_LINKS.now)
-unfolding understood everything
-links_are = (refl, refl, (refl, refl))
+pub count_selects : (table : AuditedTable) → selects (count_statement table) ≡ true
+unfolding everything
+count_selects Blobs = refl
+count_selects Bodies = refl
+count_selects Elements = refl
+count_selects Tags = refl
+count_selects Links = refl
 
 -- each row is a match
 matches_length : (env : Env) (table : List Row) → length (flat_map (λ r. (env ++ r ∷ []) ∷ []) table) ≡ length table
@@ -117,27 +118,16 @@ counts_shown tree trees rows a =
     only xs ys x is same =
         one ys x (length_permutation xs ys same ∙ ap length is) (all-permutation (λ y. y ≡ x) xs ys same (subst (AllByRecursion (λ y. y ≡ x)) (sym is) (refl, tt)))
 
-pub counts_blobs : (layout : Layout) (old new : State) (rows : List Row) → old.now.schema ≡ schema_of layout → IsAnswered COUNT_BLOBS.now [] old new rows → rows ≡ counted (length (old.now.trees 1)) ∷ []
-counts_blobs layout old new rows schema answered =
-    let read = reads_as COUNT_BLOBS.now [] old new (schema_of layout) schema _ (blobs_are layout).0 (blobs_are layout).2 (blobs_are layout).1 rows answered.shown in
-    counts_shown 1 (overlay old.now.trees []) rows (read.answer Null)
+-- the query sees the table itself
+itself : (table : AuditedTable) (trees : Trees) → overlay trees [] (tree_of table) ≡ trees (tree_of table)
+itself Blobs trees = refl
+itself Bodies trees = refl
+itself Elements trees = refl
+itself Tags trees = refl
+itself Links trees = refl
 
-pub counts_bodies : (old new : State) (rows : List Row) → old.now.schema ≡ body_schema → IsAnswered COUNT_BODIES.now [] old new rows → rows ≡ counted (length (old.now.trees 2)) ∷ []
-counts_bodies old new rows schema answered =
-    let read = reads_as COUNT_BODIES.now [] old new body_schema schema _ bodies_are.0 bodies_are.2 bodies_are.1 rows answered.shown in
-    counts_shown 2 (overlay old.now.trees []) rows (read.answer Null)
-
-pub counts_elements : (old new : State) (rows : List Row) → old.now.schema ≡ table_schema → IsAnswered COUNT_ELEMENTS.now [] old new rows → rows ≡ counted (length (old.now.trees 2)) ∷ []
-counts_elements old new rows schema answered =
-    let read = reads_as COUNT_ELEMENTS.now [] old new table_schema schema _ elements_are.0 elements_are.2 elements_are.1 rows answered.shown in
-    counts_shown 2 (overlay old.now.trees []) rows (read.answer Null)
-
-pub counts_tags : (old new : State) (rows : List Row) → old.now.schema ≡ table_schema → IsAnswered COUNT_TAGS.now [] old new rows → rows ≡ counted (length (old.now.trees 4)) ∷ []
-counts_tags old new rows schema answered =
-    let read = reads_as COUNT_TAGS.now [] old new table_schema schema _ tags_are.0 tags_are.2 tags_are.1 rows answered.shown in
-    counts_shown 4 (overlay old.now.trees []) rows (read.answer Null)
-
-pub counts_links : (old new : State) (rows : List Row) → old.now.schema ≡ table_schema → IsAnswered COUNT_LINKS.now [] old new rows → rows ≡ counted (length (old.now.trees 6)) ∷ []
-counts_links old new rows schema answered =
-    let read = reads_as COUNT_LINKS.now [] old new table_schema schema _ links_are.0 links_are.2 links_are.1 rows answered.shown in
-    counts_shown 6 (overlay old.now.trees []) rows (read.answer Null)
+pub counts_rows : (table : AuditedTable) (old new : State) (rows : List Row) → HasTable table old.now.schema → IsAnswered (count_statement table) [] old new rows → rows ≡ counted (length (old.now.trees (tree_of table))) ∷ []
+counts_rows table old new rows has answered =
+    let is = count_is table old.now.schema has in
+    let read = reads_as (count_statement table) [] old new old.now.schema refl _ is.0 is.2 is.1 rows answered.shown in
+    counts_shown (tree_of table) (overlay old.now.trees []) rows (read.answer Null) ∙ ap (λ rows. counted (length rows) ∷ []) (itself table old.now.trees)

@@ -1,6 +1,7 @@
 -- A call that only asks leaves what the store holds.
-use Rattle.std.proofs.Common.{◌≡◌, IsTrue, Result, Ok, Err}
+use Rattle.std.proofs.Common.{◌≡◌, IsTrue, Result, Ok, Err, subst}
 use Rattle.std.specs.Prelude.{MatchResult, IfOk}
+use Rattle.std.proofs.lemmas.Result.{MatchResult-weaker}
 use Rattle.sqlite.specs.Store.{Ghosts}
 use Rattle.sqlite.specs.Held.{state}
 use Rattle.sqlite.specs.State.{HasCleanDisk}
@@ -42,6 +43,17 @@ module _ {S T : Type 0} (layout : Layout) (g : Ghosts S) (old new : Store S) (as
     own = λ held holds clean. answers clean held holds;
     counted = counted;
   }
+
+-- the same of a store as its callers see it, whose layout is that of its type
+module _ {S T : Type 0} {layout at : Layout} (g : Ghosts S) {inside old : Store S} (new : Store S) (at_is : at ≡ layout) (old_is : inside ≡ old) (asks : JustAsks (state g inside.connection) (state g new.connection))
+    (r : Result T StoreFault) (counted : new.failures ≡ failures_after r inside.failures) where
+  pub reads : Answers at g inside new asks r → JustReads layout g old r new
+  reads answers = subst (λ s. JustReads layout g s r new) old_is (subst (λ l. JustReads l g inside r new) at_is (just_reads at g inside new asks r answers counted))
+
+  -- where the call tells of a held map
+  pub reads_held : (P : HeldMap → T → Type 0) → (HasCleanDisk (state g new.connection) → (held : HeldMap) → Holds at (state g inside.connection) held → MatchResult r (λ v. P held v × IsTrue (state g new.connection).is_open) (λ fault. ¬ (IsForeign fault)))
+      → JustReads layout g old r new
+  reads_held P told = reads (λ clean held holds. MatchResult-weaker r (told clean held holds) (λ v h. h.1) (λ fault h. h))
 
 pub ok_of : {A E : Type 0} (P : A → Type 0) (Q : Type 0) (F : E → Type 0) (r : Result A E) → MatchResult r (λ v. P v × Q) F → IfOk r P
 ok_of P Q F (Ok v) h = h.0

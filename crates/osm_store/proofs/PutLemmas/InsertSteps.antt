@@ -1,19 +1,16 @@
 -- What the statements add that write rows of the layout of tables.
 use Rattle.std.proofs.Common.{◌≡◌, ℕ, ℤ, pos, Bool, if◌then◌else◌, append-nil, ◌/◌, suc, List, [], ◌∷◌, map, length, slice_get, Some, Ok, true, false, refl, sym, ap, subst, ◌∙◌}
-use Rattle.std.specs.Prelude.{flat_map}
+use Rattle.std.specs.Prelude.{flat_map, Result, OnOk}
+use Rattle.std.proofs.lemmas.Result.{on_ok_weaker}
 use Rattle.sqlite.specs.Order.{Row}
 use Rattle.sqlite.specs.Table.{Table}
 use Rattle.sqlite.specs.Tree.{Trees}
-use Rattle.sqlite.specs.Source.TheVariants.{Values}
-use Rattle.sqlite.specs.Command.TheVariants.{Insert}
 use Rattle.sqlite.specs.Effect.{value_rows}
 use Rattle.sqlite.specs.Edit.{edit_of, Applies, are_fresh, put_all}
 use Rattle.sqlite.specs.Rows.{stamped}
 use Rattle.sqlite.specs.Rowids.TheVariants.{Chosen}
-use Rattle.sqlite.specs.Listing.{understood}
 use Rattle.sqlite.specs.State.{State, ExecutesInside}
 use Rattle.sqlite.specs.declared.types.Value.TheVariants.{Null}
-use Rattle.sqlite.proofs.Callers.{IsPlain, command_of}
 use Rattle.sqlite_rules.specs.Action.{works}
 use Rattle.sqlite_rules.specs.Cast.{cast_row}
 use Rattle.sqlite_rules.specs.Edit.{numbered, taken_by}
@@ -28,13 +25,13 @@ use Rattle.osm_store.specs.declared.schema.sql.TheConstants.{INSERT_ELEMENT, INS
 use Rattle.osm_store.specs.Schema.Tables.{element, tag, link, table_schema}
 use Rattle.osm_store.proofs.PutLemmas.Adds.{cast_null, cast_int}
 use Rattle.osm_store.proofs.PutLemmas.RowValues.{cast_or_null, cast_words}
-use Rattle.osm_store.proofs.PutLemmas.InsertTexts.{insert_element_is, insert_element_plain, insert_tag_is, insert_tag_plain, insert_link_is, insert_link_plain, insert_elements_is, insert_elements_plain, insert_tags_is, insert_tags_plain, insert_links_is, insert_links_plain}
+use Rattle.osm_store.proofs.PutLemmas.InsertTexts.{IsInsert, element_text, tag_text, link_text}
 use Rattle.std.specs.Option.{option_copied}
 use Rattle.osm_store.specs.Schema.Over.{IsWriting}
 use Rattle.osm_store.specs.Put.Steps.{Gains, AddsRows}
-use Rattle.osm_store.specs.Put.Batches.{rows_of, element_statement, tag_statement, link_statement}
+use Rattle.osm_store.specs.Put.Batches.{rows_of, statement_of}
+use Rattle.osm_store.specs.declared.fault.StoreFault.{StoreFault}
 use Rattle.osm_store.specs.declared.put.table_row.Batch.{Batch}
-use Rattle.osm_store.specs.declared.put.table_row.Batch.TheVariants.{One, ThirtyTwo}
 use Rattle.osm_store.proofs.PutLemmas.Inserts.{inserts_all}
 use Rattle.osm_store.proofs.SchemaLemmas.MakeSteps.{becomes}
 use Rattle.osm_store.proofs.PutLemmas.ManyRows.{terms_of_rows, given, reads_rows, all_fresh}
@@ -60,15 +57,14 @@ module _ {X : Type 0} (columns : X → Row) (table : Table) (width : ℕ) (sql :
       let rows = subst (λ rows. next table.tree ≡ put_all (db table.tree) (news rows)) (casts xs) h.rows in
       subst (Gains (db table.tree) (map columns xs)) (sym rows) (all_fresh (db table.tree) (map columns xs) fresh)
 
-  pub inserts : command_of (understood table_schema sql) ≡ Insert at (Values (terms_of_rows width count 0) (suc width)) → IsPlain (understood table_schema sql)
-      → slice_get table_schema.tables at ≡ Some table → table.is_counted ≡ false → ((params : Row) → stamped table params ≡ params) → length (terms_of_rows width count 0) / suc width ≡ count
+  pub inserts : IsInsert at width count sql → slice_get table_schema.tables at ≡ Some table → table.is_counted ≡ false → ((params : Row) → stamped table params ≡ params)
       → ((db : Trees) (news : List Row) → works table_schema Enforced 0 table.tree (taken_by db (record { table = table; gone = []; news = news })) news ≡ [])
       → Inserts columns table.tree sql count
-  inserts is plain there uncounted unstamped counts free xs many params these old new n over run =
+  inserts is there uncounted unstamped free xs many params these old new n over run =
       let read = subst (λ k. value_rows params (suc width) k (terms_of_rows width k 0) ≡ given columns width wide xs) many (reads_rows columns width wide params xs 0 these) in
-      let rows = subst (λ k. value_rows params (suc width) k (terms_of_rows width count 0) ≡ given columns width wide xs) (sym counts) read in
+      let rows = subst (λ k. value_rows params (suc width) k (terms_of_rows width count 0) ≡ given columns width wide xs) (sym is.counts) read in
       let all = subst (λ ps. value_rows ps (suc width) (length (terms_of_rows width count 0) / suc width) (terms_of_rows width count 0) ≡ given columns width wide xs) (sym (unstamped params)) rows in
-      let it = inserts_all table_schema sql at table (terms_of_rows width count 0) (suc width) params (given columns width wide xs) is plain there uncounted all free old new n over.schema_is run.0 in
+      let it = inserts_all table_schema sql at table (terms_of_rows width count 0) (suc width) params (given columns width wide xs) is.text there uncounted all free old new n over.schema_is run.0 in
       let went = becomes old new table_schema it.0 it.2 run.1 in
       record {
         over = went.over;
@@ -102,14 +98,18 @@ tag_cast r = rw (cast_null, cast_int r.off, cast_int r.position, cast_int r.numb
 link_cast : (r : LinkRow) → cast_row link (Null ∷ link_columns r) ≡ Null ∷ link_columns r
 link_cast r = rw (cast_null, cast_int r.off, cast_int r.position, cast_int r.number, cast_int (pos (element_code r.kind)), cast_int r.id) refl
 
-pub inserts_element : (batch : Batch) → Inserts element_columns 2 (element_statement batch) (rows_of batch)
-inserts_element One = inserts element_columns element 12 INSERT_ELEMENT.now 2 1 (λ r. refl) element_cast insert_element_is insert_element_plain refl refl (λ params. rw append-nil refl) refl (λ db news. refl)
-inserts_element ThirtyTwo = inserts element_columns element 12 INSERT_ELEMENTS.now 2 32 (λ r. refl) element_cast insert_elements_is insert_elements_plain refl refl (λ params. rw append-nil refl) refl (λ db news. refl)
+pub inserts_element : (batch : Batch) → Inserts element_columns 2 (statement_of batch INSERT_ELEMENT.now INSERT_ELEMENTS.now) (rows_of batch)
+inserts_element batch = inserts element_columns element 12 _ 2 (rows_of batch) (λ r. refl) element_cast (element_text batch) refl refl (λ params. rw append-nil refl) (λ db news. refl)
 
-pub inserts_tag : (batch : Batch) → Inserts tag_columns 4 (tag_statement batch) (rows_of batch)
-inserts_tag One = inserts tag_columns tag 5 INSERT_TAG.now 3 1 (λ r. refl) tag_cast insert_tag_is insert_tag_plain refl refl (λ params. rw append-nil refl) refl (λ db news. refl)
-inserts_tag ThirtyTwo = inserts tag_columns tag 5 INSERT_TAGS.now 3 32 (λ r. refl) tag_cast insert_tags_is insert_tags_plain refl refl (λ params. rw append-nil refl) refl (λ db news. refl)
+pub inserts_tag : (batch : Batch) → Inserts tag_columns 4 (statement_of batch INSERT_TAG.now INSERT_TAGS.now) (rows_of batch)
+inserts_tag batch = inserts tag_columns tag 5 _ 3 (rows_of batch) (λ r. refl) tag_cast (tag_text batch) refl refl (λ params. rw append-nil refl) (λ db news. refl)
 
-pub inserts_link : (batch : Batch) → Inserts link_columns 6 (link_statement batch) (rows_of batch)
-inserts_link One = inserts link_columns link 6 INSERT_LINK.now 4 1 (λ r. refl) link_cast insert_link_is insert_link_plain refl refl (λ params. rw append-nil refl) refl (λ db news. refl)
-inserts_link ThirtyTwo = inserts link_columns link 6 INSERT_LINKS.now 4 32 (λ r. refl) link_cast insert_links_is insert_links_plain refl refl (λ params. rw append-nil refl) refl (λ db news. refl)
+pub inserts_link : (batch : Batch) → Inserts link_columns 6 (statement_of batch INSERT_LINK.now INSERT_LINKS.now) (rows_of batch)
+inserts_link batch = inserts link_columns link 6 _ 4 (rows_of batch) (λ r. refl) link_cast (link_text batch) refl refl (λ params. rw append-nil refl) (λ db news. refl)
+
+-- where the statement ran, given the values of rows, these are added
+pub ran_adds : {X U : Type 0} {columns : X → Row} {tree count : ℕ} {statement text : List ℕ} → Inserts columns tree statement count → text ≡ statement → (params : Row) (old new : State) → IsWriting Tables old
+    → (r : Result U StoreFault) → OnOk r ((changed : ℕ) × ExecutesInside 0 text params old new (Ok changed))
+    → OnOk r ((rows : List X) → length rows ≡ count → params ≡ flat_map columns rows → AddsRows Tables tree old new (map columns rows))
+ran_adds added is params old new over r ran =
+    on_ok_weaker r (λ it rows many these. added rows many params these old new it.0 over (subst (λ sql. ExecutesInside 0 sql params old new (Ok it.0)) is it.1)) ran

@@ -1,58 +1,31 @@
 -- What the texts mean that write rows of the layout of tables, one or 32 each.
-use Rattle.std.proofs.Common.{◌≡◌, refl}
+use Rattle.std.proofs.Common.{◌≡◌, ℕ, suc, ◌/◌, List, length, refl}
 use Rattle.sqlite_tied.specs.Compute.{everything}
-use Rattle.sqlite.specs.Source.TheVariants.{Values}
-use Rattle.sqlite.specs.Command.TheVariants.{Insert}
 use Rattle.sqlite.specs.Listing.{understood}
-use Rattle.sqlite.proofs.Callers.{IsPlain, command_of}
+use Rattle.osm_store.specs.declared.put.table_row.Batch.{Batch}
+use Rattle.osm_store.specs.declared.put.table_row.Batch.TheVariants.{One, ThirtyTwo}
 use Rattle.osm_store.specs.declared.schema.sql.TheConstants.{INSERT_ELEMENT, INSERT_TAG, INSERT_LINK, INSERT_ELEMENTS, INSERT_TAGS, INSERT_LINKS}
+use Rattle.osm_store.specs.Put.Batches.{rows_of, statement_of}
 use Rattle.osm_store.specs.Schema.Tables.{table_schema}
+use Rattle.osm_store.proofs.SchemaLemmas.StatementParts.{InsertsValues}
 use Rattle.osm_store.proofs.PutLemmas.ManyRows.{terms_of_rows}
 
-pub insert_element_is : command_of (understood table_schema INSERT_ELEMENT.now) ≡ Insert 2 (Values (terms_of_rows 12 1 0) 13)
-unfolding understood everything
-insert_element_is = refl
+-- the text writes so many rows of a table, each of this width, from its parameters
+pub record IsInsert (at width count : ℕ) (sql : List ℕ) : Type 0 where
+  pub text : InsertsValues table_schema sql at (terms_of_rows width count 0) (suc width)
+  pub counts : length (terms_of_rows width count 0) / suc width ≡ count
 
-pub insert_tag_is : command_of (understood table_schema INSERT_TAG.now) ≡ Insert 3 (Values (terms_of_rows 5 1 0) 6)
+pub element_text : (batch : Batch) → IsInsert 2 12 (rows_of batch) (statement_of batch INSERT_ELEMENT.now INSERT_ELEMENTS.now)
 unfolding understood everything
-insert_tag_is = refl
+element_text One = record { text = record { is = refl; plain = (refl, refl) }; counts = refl }
+element_text ThirtyTwo = record { text = record { is = refl; plain = (refl, refl) }; counts = refl }
 
-pub insert_link_is : command_of (understood table_schema INSERT_LINK.now) ≡ Insert 4 (Values (terms_of_rows 6 1 0) 7)
+pub tag_text : (batch : Batch) → IsInsert 3 5 (rows_of batch) (statement_of batch INSERT_TAG.now INSERT_TAGS.now)
 unfolding understood everything
-insert_link_is = refl
+tag_text One = record { text = record { is = refl; plain = (refl, refl) }; counts = refl }
+tag_text ThirtyTwo = record { text = record { is = refl; plain = (refl, refl) }; counts = refl }
 
-pub insert_element_plain : IsPlain (understood table_schema INSERT_ELEMENT.now)
+pub link_text : (batch : Batch) → IsInsert 4 6 (rows_of batch) (statement_of batch INSERT_LINK.now INSERT_LINKS.now)
 unfolding understood everything
-insert_element_plain = (refl, refl)
-
-pub insert_tag_plain : IsPlain (understood table_schema INSERT_TAG.now)
-unfolding understood everything
-insert_tag_plain = (refl, refl)
-
-pub insert_link_plain : IsPlain (understood table_schema INSERT_LINK.now)
-unfolding understood everything
-insert_link_plain = (refl, refl)
-
-pub insert_elements_is : command_of (understood table_schema INSERT_ELEMENTS.now) ≡ Insert 2 (Values (terms_of_rows 12 32 0) 13)
-unfolding understood everything
-insert_elements_is = refl
-
-pub insert_tags_is : command_of (understood table_schema INSERT_TAGS.now) ≡ Insert 3 (Values (terms_of_rows 5 32 0) 6)
-unfolding understood everything
-insert_tags_is = refl
-
-pub insert_links_is : command_of (understood table_schema INSERT_LINKS.now) ≡ Insert 4 (Values (terms_of_rows 6 32 0) 7)
-unfolding understood everything
-insert_links_is = refl
-
-pub insert_elements_plain : IsPlain (understood table_schema INSERT_ELEMENTS.now)
-unfolding understood everything
-insert_elements_plain = (refl, refl)
-
-pub insert_tags_plain : IsPlain (understood table_schema INSERT_TAGS.now)
-unfolding understood everything
-insert_tags_plain = (refl, refl)
-
-pub insert_links_plain : IsPlain (understood table_schema INSERT_LINKS.now)
-unfolding understood everything
-insert_links_plain = (refl, refl)
+link_text One = record { text = record { is = refl; plain = (refl, refl) }; counts = refl }
+link_text ThirtyTwo = record { text = record { is = refl; plain = (refl, refl) }; counts = refl }

@@ -1,25 +1,28 @@
 -- What the functions that make the tables do, from what `sqlite` says of their statements.
-use Rattle.std.proofs.Common.{◌≡◌, ℕ, [], Ok, true, refl, ap, ◌∙◌}
+use Rattle.std.proofs.Common.{◌≡◌, ℕ, [], Ok, true, ap, ◌∙◌}
 use Rattle.sqlite.specs.Tree.{put_row}
 use Rattle.osm_store.specs.Rows.{version_row}
 use Rattle.sqlite.specs.Schema.{Schema}
+use Rattle.sqlite.specs.Change.{next_tree}
+use Rattle.sqlite.specs.Table.{Table}
+use Rattle.std.specs.List.{AllByRecursion}
 use Rattle.sqlite.proofs.InsideLemmas.{keeps_then}
 use Rattle.sqlite.specs.State.{State, Shows, KeepsCommit, ExecutesInside}
 use Rattle.sqlite_catalog.specs.Listing.{IsSound}
-use Rattle.osm_store.specs.declared.schema.sql.TheConstants.{CREATE_META, CREATE_BLOB, CREATE_BODY, CREATE_BODY_INDEX, CREATE_ELEMENT, CREATE_TAG, CREATE_LINK, CREATE_ELEMENT_INDEX}
-use Rattle.osm_store.specs.Schema.Bodies.{meta, blob, body, by_element, no_schema, one_table, two_tables, three_tables, body_schema}
+use Rattle.osm_store.specs.declared.schema.sql.TheConstants.{CREATE_BODY_INDEX, CREATE_ELEMENT_INDEX}
+use Rattle.osm_store.specs.Schema.Bodies.{body, three_tables, body_schema}
 use Rattle.osm_store.specs.declared.schema.layout.Layout.{Layout}
 use Rattle.osm_store.specs.declared.schema.layout.Layout.TheVariants.{Bodies, Tables}
-use Rattle.osm_store.specs.Schema.Tables.{element, tag, link, element_by_id, with_element, with_tag, with_link, table_schema}
+use Rattle.osm_store.specs.Schema.Tables.{element, with_link, table_schema}
 use Rattle.osm_store.specs.Schema.Layouts.{schema_of, version_text_of}
 use Rattle.osm_store.specs.Schema.Over.{IsOver, IsWriting, Becomes}
 use Rattle.osm_store.specs.declared.schema.create.Making.{Making}
 use Rattle.osm_store.specs.declared.schema.create.Making.TheVariants as making
-use Rattle.osm_store.specs.Schema.Making.{text_of, before, Makes, HaveNoElements, MakesElements, WritesVersion, IsEmptyStore}
+use Rattle.osm_store.specs.Schema.Making.{text_of, before, after, made, Makes, HaveNoElements, MakesElements, WritesVersion, IsEmptyStore}
 use Rattle.osm_store.specs.Put.Steps.{KeepsOthers}
-use Rattle.osm_store.proofs.SchemaLemmas.TableTexts.{element_is, element_plain, element_defined, element_created, tag_is, tag_plain, tag_defined, tag_created, link_is, link_plain, link_defined, link_created, element_index_is, element_index_plain, element_index_defined, element_index_created}
-use Rattle.osm_store.proofs.SchemaLemmas.BodyTexts.{meta_is, meta_plain, meta_defined, meta_created, blob_is, blob_plain, blob_defined, blob_created, body_is, body_plain, body_defined, body_created, index_is, index_plain, index_defined, index_created}
-use Rattle.osm_store.proofs.SchemaLemmas.Makes.{creates, indexes}
+use Rattle.osm_store.proofs.SchemaLemmas.TableTexts.{element_made, tag_made, link_made, element_index_made}
+use Rattle.osm_store.proofs.SchemaLemmas.BodyTexts.{meta_made, blob_made, body_made, index_made}
+use Rattle.osm_store.proofs.SchemaLemmas.Makes.{CreatesTable, creates, indexes}
 use Rattle.osm_store.proofs.PutLemmas.Inserts.{inserts_version}
 use Rattle.osm_store.proofs.PutLemmas.Adds.{version_added}
 
@@ -27,30 +30,24 @@ pub becomes : (old new : State) (schema : Schema) → new.now.schema ≡ schema 
 becomes old new schema is sound shown = record { over = record { schema_is = is; inside = shown.mode }; kept = record { was_open = λ _. shown.was_open; committed = λ _. shown.committed_is }; sound = sound }
 
 module _ (old new : State) (count : ℕ) where
+  table_made : (what : Making) (table : Table) → CreatesTable (text_of what) (before what) table (after what) → (new.now.trees (next_tree (before what)) ≡ [] → AllByRecursion (λ (t : Table). new.now.trees t.tree ≡ []) (made what))
+      → IsOver (before what) old → ExecutesInside 0 (text_of what) [] old new (Ok count) → Makes what old new
+  table_made what table text empty over h =
+      let it = creates (text_of what) (before what) (after what) table text old new count over.schema_is h.0 in
+      record { becomes = becomes old new (after what) it.0 it.1 h.1; others = it.3; empty = empty it.2 }
+
   pub makes : (what : Making) → IsOver (before what) old → ExecutesInside 0 (text_of what) [] old new (Ok count) → Makes what old new
-  makes making.Meta over h =
-      let it = creates CREATE_META.now no_schema one_table meta_plain meta_is.1 meta meta_is.0 meta_defined meta_created refl old new count over.schema_is h.0 in
-      record { becomes = becomes old new one_table it.0 it.1 h.1; others = it.3; empty = (it.2, tt) }
-  makes making.Blob over h =
-      let it = creates CREATE_BLOB.now one_table two_tables blob_plain blob_is.1 (record blob { tree = 0 }) blob_is.0 blob_defined blob_created refl old new count over.schema_is h.0 in
-      record { becomes = becomes old new two_tables it.0 it.1 h.1; others = it.3; empty = (it.2, tt) }
-  makes making.Body over h =
-      let it = creates CREATE_BODY.now two_tables three_tables body_plain body_is.1 (record body { tree = 0 }) body_is.0 body_defined body_created refl old new count over.schema_is h.0 in
-      record { becomes = becomes old new three_tables it.0 it.1 h.1; others = it.3; empty = (it.2, tt) }
+  makes making.Meta over h = table_made making.Meta _ meta_made (λ none. (none, tt)) over h
+  makes making.Blob over h = table_made making.Blob _ blob_made (λ none. (none, tt)) over h
+  makes making.Body over h = table_made making.Body _ body_made (λ none. (none, tt)) over h
   makes making.BodyIndex over h =
-      let it = indexes CREATE_BODY_INDEX.now three_tables body_schema index_plain index_is.1 2 body (record by_element { tree = 0 }) index_is.0 refl index_defined index_created old new count over.schema_is h.0 in
+      let it = indexes CREATE_BODY_INDEX.now three_tables body_schema 2 body _ index_made old new count over.schema_is h.0 in
       record { becomes = becomes old new body_schema it.0 it.1 h.1; others = it.2; empty = tt }
-  makes making.Element over h =
-      let it = creates CREATE_ELEMENT.now two_tables with_element element_plain element_is.1 (record element { tree = 0 }) element_is.0 element_defined element_created refl old new count over.schema_is h.0 in
-      record { becomes = becomes old new with_element it.0 it.1 h.1; others = it.3; empty = (it.2, tt) }
-  makes making.Tag over h =
-      let it = creates CREATE_TAG.now with_element with_tag tag_plain tag_is.1 (record tag { tree = 0 }) tag_is.0 tag_defined tag_created refl old new count over.schema_is h.0 in
-      record { becomes = becomes old new with_tag it.0 it.1 h.1; others = it.3; empty = (it.2, tt) }
-  makes making.Link over h =
-      let it = creates CREATE_LINK.now with_tag with_link link_plain link_is.1 (record link { tree = 0 }) link_is.0 link_defined link_created refl old new count over.schema_is h.0 in
-      record { becomes = becomes old new with_link it.0 it.1 h.1; others = it.3; empty = (it.2, tt) }
+  makes making.Element over h = table_made making.Element _ element_made (λ none. (none, tt)) over h
+  makes making.Tag over h = table_made making.Tag _ tag_made (λ none. (none, tt)) over h
+  makes making.Link over h = table_made making.Link _ link_made (λ none. (none, tt)) over h
   makes making.ElementIndex over h =
-      let it = indexes CREATE_ELEMENT_INDEX.now with_link table_schema element_index_plain element_index_is.1 2 element (record element_by_id { tree = 0 }) element_index_is.0 refl element_index_defined element_index_created old new count over.schema_is h.0 in
+      let it = indexes CREATE_ELEMENT_INDEX.now with_link table_schema 2 element _ element_index_made old new count over.schema_is h.0 in
       record { becomes = becomes old new table_schema it.0 it.1 h.1; others = it.2; empty = tt }
 
   -- the tables of elements stay without rows

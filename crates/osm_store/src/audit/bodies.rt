@@ -1,24 +1,16 @@
-//! Whether the rows at an offset are those of certain elements, in the layout of bodies.
+//! Whether rows are those of certain elements, in the layout of bodies.
 
 ghost use Rattle.std.specs.Prelude.{◌≡◌, ◌↔◌, ◌<◌, ◌≤◌, ◌^◌, map, IsTrue, IfOk, IfErr};
-ghost use Rattle.sqlite.specs.State.{HasCleanDisk};
-ghost use Rattle.sqlite.specs.Held.{state};
-ghost use Rattle.osm_store.specs.Audit.{ShowElementsAt};
 ghost use Rattle.osm_store.specs.Keeping.{IsForeign};
-ghost use Rattle.osm_store.specs.Load.Asking.{JustAsks};
 ghost use Rattle.osm_store.specs.Rows.{placed, body_columns, body_row};
-ghost use Rattle.osm_store.specs.Schema.Bodies.{body_schema};
 
 use crate::audit::same::has_values;
 use crate::fault::StoreFault;
-use crate::load::{answer, number};
-use crate::schema::Layout;
 use crate::schema::codes::element_code;
-use crate::schema::sql::SELECT_BODIES;
 use osm_value::{Element, MemberKind};
 use osm_write::encode_one;
 use pbf_frame::MAX_OFFSET;
-use sqlite::{Alter, Connection, Row, params};
+use sqlite::{Row, params};
 use std::alloc::Global;
 
 /// Whether a row is that of a body.
@@ -49,7 +41,7 @@ fn is_body(
 }
 
 /// Whether rows are those of elements, in their order.
-fn are_bodies(
+pub(crate) fn are_bodies(
     alloc: Global,
     rows: &[Row],
     off: u64,
@@ -68,22 +60,4 @@ fn are_bodies(
         }
     }
     Ok(true)
-}
-
-/// Whether the rows at this offset are those of the elements, and no others.
-pub(crate) fn shows_bodies<S: Alter>(
-    alloc: Global,
-    connection: &mut Connection<S>,
-    off: u64,
-    elements: &[Element],
-) -> Result<bool, StoreFault>
-    requires { off ≤ MAX_OFFSET }
-    ensures told { HasCleanDisk (state S.Store connection.new) → (state S.Store connection.old).now.schema ≡ body_schema
-        → IfOk result (λ told. IsTrue told ↔ ShowElementsAt Layout.Bodies off (placed off 0 elements.now) (state S.Store connection.old).now.trees) }
-    ensures opened { HasCleanDisk (state S.Store connection.new) → IfOk result (λ _. IsTrue (state S.Store connection.new).is_open) }
-    ensures ours { IfErr result (λ fault. ¬ (IsForeign fault)) }
-    ensures asks { JustAsks (state S.Store connection.old) (state S.Store connection.new) }
-{
-    let rows = answer(connection, SELECT_BODIES, &[number(off)])?;
-    are_bodies(alloc, &rows, off, elements)
 }

@@ -1,24 +1,22 @@
 //! How many rows the tables have.
 
-ghost use Rattle.std.specs.Prelude.{◌≡◌, ◌↔◌, ◌++◌, ◌∷◌, [], ◌<◌, ◌-◌, ◌^◌, ℕ, min, length, false, true, pos, List, Some, IsTrue, IfOk, IfErr};
+ghost use Rattle.std.specs.Prelude.{◌≡◌, ◌↔◌, ◌++◌, ◌∷◌, [], ◌<◌, ◌-◌, ◌^◌, ℕ, min, length, false, pos, List, Some, IsTrue, IfOk, IfErr};
 ghost use Rattle.sqlite.specs.declared.types.Value.TheVariants.{Int};
-ghost use Rattle.sqlite.specs.Order.{Row as SqlRow};
 ghost use Rattle.sqlite.specs.State.{HasCleanDisk};
 ghost use Rattle.sqlite.specs.Held.{state};
 ghost use Rattle.osm_value.specs.declared.element.Element.{Element as ElementValue};
 ghost use Rattle.osm_store.specs.Audit.{AreCountable, HasCount, ShowsCounts, capped, counts_of, tags_in, links_in};
+ghost use Rattle.osm_store.specs.AuditedTables.{HasTable, tree_of};
 ghost use Rattle.osm_store.specs.Keeping.{IsForeign};
-ghost use Rattle.osm_store.specs.Load.Asking.{IsAnswered, JustAsks};
-ghost use Rattle.osm_store.specs.Load.Selects.{selects};
-ghost use Rattle.osm_store.specs.Schema.Bodies.{body_schema};
+ghost use Rattle.osm_store.specs.Load.Asking.{JustAsks};
 ghost use Rattle.osm_store.specs.Schema.Tables.{table_schema};
 ghost use Rattle.osm_store.specs.Schema.Layouts.{schema_of};
 ghost use Rattle.osm_store.specs.TableRows.{links_of};
 
+use crate::audit::table::AuditedTable;
 use crate::fault::StoreFault;
 use crate::load::{answer, number_at};
 use crate::schema::Layout;
-use crate::schema::sql::{COUNT_BLOBS, COUNT_BODIES, COUNT_ELEMENTS, COUNT_LINKS, COUNT_TAGS};
 use osm_value::Element;
 use sqlite::{Alter, Connection, Row};
 
@@ -127,91 +125,20 @@ fn is_count(rows: &[Row], expected: u64) -> bool
     }
 }
 
-/// Whether a query answers with this number, which is less than SQL counts at most.
+/// Whether a table has so many rows, which are fewer than SQL counts at most.
 fn has_count<S: Alter>(
     connection: &mut Connection<S>,
-    sql: &str,
+    table: AuditedTable,
     expected: u64,
 ) -> Result<bool, StoreFault>
-    requires { selects sql.now ≡ true }
-    ensures told { HasCleanDisk (state S.Store connection.new)
-        → IfOk result (λ told. (rows : List SqlRow) × IsAnswered sql.now [] (state S.Store connection.old) (state S.Store connection.new) rows
-        × ((n : ℕ) → rows ≡ (Int (pos (min n 9223372036854775807)) ∷ []) ∷ [] → IsTrue told ↔ ((n ≡ expected) × (expected < 2 ^ 63 - 1)))) }
+    ensures told { HasCleanDisk (state S.Store connection.new) → HasTable table (state S.Store connection.old).now.schema
+        → IfOk result (λ told. IsTrue told ↔ HasCount ((state S.Store connection.old).now.trees (tree_of table)) expected) }
+    ensures opened { HasCleanDisk (state S.Store connection.new) → IfOk result (λ _. IsTrue (state S.Store connection.new).is_open) }
     ensures ours { IfErr result (λ fault. ¬ (IsForeign fault)) }
     ensures asks { JustAsks (state S.Store connection.old) (state S.Store connection.new) }
 {
-    let rows = answer(connection, sql, &[])?;
+    let rows = answer(connection, table.count_statement(), &[])?;
     Ok(is_count(&rows, expected))
-}
-
-/// Whether the table `blob` has so many rows.
-fn has_blob_count<S: Alter>(
-    connection: &mut Connection<S>,
-    expected: u64,
-) -> Result<bool, StoreFault>
-    ensures told { HasCleanDisk (state S.Store connection.new) → (layout : Layout) → (state S.Store connection.old).now.schema ≡ schema_of layout
-        → IfOk result (λ told. IsTrue told ↔ HasCount ((state S.Store connection.old).now.trees 1) expected) }
-    ensures opened { HasCleanDisk (state S.Store connection.new) → IfOk result (λ _. IsTrue (state S.Store connection.new).is_open) }
-    ensures ours { IfErr result (λ fault. ¬ (IsForeign fault)) }
-    ensures asks { JustAsks (state S.Store connection.old) (state S.Store connection.new) }
-{
-    has_count(connection, COUNT_BLOBS, expected)
-}
-
-/// Whether the table `body` has so many rows.
-fn has_body_count<S: Alter>(
-    connection: &mut Connection<S>,
-    expected: u64,
-) -> Result<bool, StoreFault>
-    ensures told { HasCleanDisk (state S.Store connection.new) → (state S.Store connection.old).now.schema ≡ body_schema
-        → IfOk result (λ told. IsTrue told ↔ HasCount ((state S.Store connection.old).now.trees 2) expected) }
-    ensures opened { HasCleanDisk (state S.Store connection.new) → IfOk result (λ _. IsTrue (state S.Store connection.new).is_open) }
-    ensures ours { IfErr result (λ fault. ¬ (IsForeign fault)) }
-    ensures asks { JustAsks (state S.Store connection.old) (state S.Store connection.new) }
-{
-    has_count(connection, COUNT_BODIES, expected)
-}
-
-/// Whether the table `element` has so many rows.
-fn has_element_count<S: Alter>(
-    connection: &mut Connection<S>,
-    expected: u64,
-) -> Result<bool, StoreFault>
-    ensures told { HasCleanDisk (state S.Store connection.new) → (state S.Store connection.old).now.schema ≡ table_schema
-        → IfOk result (λ told. IsTrue told ↔ HasCount ((state S.Store connection.old).now.trees 2) expected) }
-    ensures opened { HasCleanDisk (state S.Store connection.new) → IfOk result (λ _. IsTrue (state S.Store connection.new).is_open) }
-    ensures ours { IfErr result (λ fault. ¬ (IsForeign fault)) }
-    ensures asks { JustAsks (state S.Store connection.old) (state S.Store connection.new) }
-{
-    has_count(connection, COUNT_ELEMENTS, expected)
-}
-
-/// Whether the table `tag` has so many rows.
-fn has_tag_count<S: Alter>(
-    connection: &mut Connection<S>,
-    expected: u64,
-) -> Result<bool, StoreFault>
-    ensures told { HasCleanDisk (state S.Store connection.new) → (state S.Store connection.old).now.schema ≡ table_schema
-        → IfOk result (λ told. IsTrue told ↔ HasCount ((state S.Store connection.old).now.trees 4) expected) }
-    ensures opened { HasCleanDisk (state S.Store connection.new) → IfOk result (λ _. IsTrue (state S.Store connection.new).is_open) }
-    ensures ours { IfErr result (λ fault. ¬ (IsForeign fault)) }
-    ensures asks { JustAsks (state S.Store connection.old) (state S.Store connection.new) }
-{
-    has_count(connection, COUNT_TAGS, expected)
-}
-
-/// Whether the table `link` has so many rows.
-fn has_link_count<S: Alter>(
-    connection: &mut Connection<S>,
-    expected: u64,
-) -> Result<bool, StoreFault>
-    ensures told { HasCleanDisk (state S.Store connection.new) → (state S.Store connection.old).now.schema ≡ table_schema
-        → IfOk result (λ told. IsTrue told ↔ HasCount ((state S.Store connection.old).now.trees 6) expected) }
-    ensures opened { HasCleanDisk (state S.Store connection.new) → IfOk result (λ _. IsTrue (state S.Store connection.new).is_open) }
-    ensures ours { IfErr result (λ fault. ¬ (IsForeign fault)) }
-    ensures asks { JustAsks (state S.Store connection.old) (state S.Store connection.new) }
-{
-    has_count(connection, COUNT_LINKS, expected)
 }
 
 /// Whether the tables of elements have so many rows, in the layout of tables.
@@ -226,13 +153,13 @@ fn has_table_counts<S: Alter>(
     ensures ours { IfErr result (λ fault. ¬ (IsForeign fault)) }
     ensures asks { JustAsks (state S.Store connection.old) (state S.Store connection.new) }
 {
-    if !has_element_count(connection, counts.elements)? {
+    if !has_count(connection, AuditedTable::Elements, counts.elements)? {
         return Ok(false);
     }
-    if !has_tag_count(connection, counts.tags)? {
+    if !has_count(connection, AuditedTable::Tags, counts.tags)? {
         return Ok(false);
     }
-    has_link_count(connection, counts.links)
+    has_count(connection, AuditedTable::Links, counts.links)
 }
 
 /// Whether the tables have so many rows.
@@ -249,11 +176,11 @@ pub(crate) fn has_counts_of<S: Alter>(
     ensures asks { JustAsks (state S.Store connection.old) (state S.Store connection.new) }
 {
     let _settled = connection.is_autocommit();
-    if !has_blob_count(connection, counts.blobs)? {
+    if !has_count(connection, AuditedTable::Blobs, counts.blobs)? {
         return Ok(false);
     }
     match layout {
-        Layout::Bodies => has_body_count(connection, counts.elements),
+        Layout::Bodies => has_count(connection, AuditedTable::Bodies, counts.elements),
         Layout::Tables => has_table_counts(connection, counts),
     }
 }

@@ -10,6 +10,7 @@ ghost use Rattle.osm_store.specs.Put.Steps.{AddsRow, AddsRows};
 ghost use Rattle.osm_store.specs.Rows.{placed, body_columns, body_row, HasBlock};
 
 use crate::fault::StoreFault;
+use crate::put::execute::execute;
 use crate::schema::Layout;
 use crate::schema::codes::element_code;
 use crate::schema::sql::INSERT_BODY;
@@ -34,11 +35,11 @@ fn add_body<S: Alter>(
         → OnOk result (AddsRow Layout.Bodies 2 (state S.Store transaction.old.conn.now) (state S.Store transaction.new.conn.now) (body_columns off position kind id block.now)) }
 {
     let code = element_code(kind);
-    transaction.execute(
+    execute(
+        transaction,
         INSERT_BODY,
         params![off as i64, position as i64, code, id, block],
-    )?;
-    Ok(())
+    )
 }
 
 /// Adds an element as its body, which is made first.

@@ -9,9 +9,10 @@ ghost use Rattle.osm_store.specs.Inside.{WorksInside};
 ghost use Rattle.osm_store.specs.Keeping.{IsForeign};
 ghost use Rattle.osm_store.specs.Schema.Over.{IsWriting};
 ghost use Rattle.osm_store.specs.Put.Steps.{AddsRows};
-ghost use Rattle.osm_store.specs.Put.Batches.{rows_of, element_statement, tag_statement, link_statement};
+ghost use Rattle.osm_store.specs.Put.Batches.{rows_of, statement_of};
 
 use crate::fault::StoreFault;
+use crate::put::execute::execute;
 use crate::schema::Layout;
 use crate::schema::codes::element_code;
 use crate::schema::sql::{
@@ -50,6 +51,16 @@ impl Batch {
         match self {
             Batch::One => 1,
             Batch::ThirtyTwo => 32,
+        }
+    }
+
+    /// Of two statements, which write one row and 32, the one for so many rows.
+    fn statement(self, one: &'static str, thirty_two: &'static str) -> &'static str
+        ensures { result.now ≡ statement_of self one.now thirty_two.now }
+    {
+        match self {
+            Batch::One => one,
+            Batch::ThirtyTwo => thirty_two,
         }
     }
 }
@@ -147,15 +158,6 @@ impl<'a> TableRow for ElementRow<'a> {
     }
 }
 
-fn element_statement(batch: Batch) -> &'static str
-    ensures { result.now ≡ element_statement batch }
-{
-    match batch {
-        Batch::One => INSERT_ELEMENT,
-        Batch::ThirtyTwo => INSERT_ELEMENTS,
-    }
-}
-
 impl<'a> InsertedRow for ElementRow<'a> {
     ghost tree = { 2 };
 
@@ -165,8 +167,11 @@ impl<'a> InsertedRow for ElementRow<'a> {
         batch: Batch,
         values: &[ValueRef<'_>],
     ) -> Result<(), StoreFault> {
-        transaction.execute(element_statement(batch), values)?;
-        Ok(())
+        execute(
+            transaction,
+            batch.statement(INSERT_ELEMENT, INSERT_ELEMENTS),
+            values,
+        )
     }
 }
 
@@ -187,15 +192,6 @@ impl<'a> TableRow for TagRow<'a> {
     }
 }
 
-fn tag_statement(batch: Batch) -> &'static str
-    ensures { result.now ≡ tag_statement batch }
-{
-    match batch {
-        Batch::One => INSERT_TAG,
-        Batch::ThirtyTwo => INSERT_TAGS,
-    }
-}
-
 impl<'a> InsertedRow for TagRow<'a> {
     ghost tree = { 4 };
 
@@ -205,8 +201,11 @@ impl<'a> InsertedRow for TagRow<'a> {
         batch: Batch,
         values: &[ValueRef<'_>],
     ) -> Result<(), StoreFault> {
-        transaction.execute(tag_statement(batch), values)?;
-        Ok(())
+        execute(
+            transaction,
+            batch.statement(INSERT_TAG, INSERT_TAGS),
+            values,
+        )
     }
 }
 
@@ -228,15 +227,6 @@ impl<'a> TableRow for LinkRow<'a> {
     }
 }
 
-fn link_statement(batch: Batch) -> &'static str
-    ensures { result.now ≡ link_statement batch }
-{
-    match batch {
-        Batch::One => INSERT_LINK,
-        Batch::ThirtyTwo => INSERT_LINKS,
-    }
-}
-
 impl<'a> InsertedRow for LinkRow<'a> {
     ghost tree = { 6 };
 
@@ -246,8 +236,11 @@ impl<'a> InsertedRow for LinkRow<'a> {
         batch: Batch,
         values: &[ValueRef<'_>],
     ) -> Result<(), StoreFault> {
-        transaction.execute(link_statement(batch), values)?;
-        Ok(())
+        execute(
+            transaction,
+            batch.statement(INSERT_LINK, INSERT_LINKS),
+            values,
+        )
     }
 }
 

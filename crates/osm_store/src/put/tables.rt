@@ -5,7 +5,6 @@ ghost use Rattle.std.specs.List.{AllByRecursion};
 ghost use Rattle.sqlite.specs.State.{HasCleanDisk};
 ghost use Rattle.sqlite.specs.Held.{state};
 ghost use Rattle.osm_store.specs.Inside.{WorksInside};
-ghost use Rattle.osm_value.specs.Elements.{tags_of_element};
 ghost use Rattle.osm_store.specs.Rows.{Placed, placed, CanStore};
 ghost use Rattle.osm_store.specs.TableRows.{lat_of, lon_of, links_of, node_link, parts, element_row, tag_row, link_row, element_rows, tag_rows, link_rows};
 ghost use Rattle.osm_store.specs.Put.WrittenRows.{element_columns, tag_columns, link_columns};
@@ -99,8 +98,8 @@ fn tag_row<'a>(off: u64, position: u64, number: u64, tag: &(&'a str, &'a str)) -
     }
 }
 
-/// Adds the rows of tags.
-fn push_pairs<'a>(
+/// Adds the rows of one element's tags.
+fn push_tags<'a>(
     rows: &mut Vec<TagRow<'a>>,
     off: u64,
     position: u64,
@@ -115,19 +114,6 @@ fn push_pairs<'a>(
     Ok(())
 }
 
-/// Adds the rows of one element's tags.
-fn push_tags<'a>(
-    rows: &mut Vec<TagRow<'a>>,
-    off: u64,
-    position: u64,
-    element: &Element<'a>,
-) -> Result<(), AllocError>
-    requires bounds { (off ≤ MAX_OFFSET) × (position < 2 ^ 63) }
-    ensures { OnOk result (map tag_columns rows.new.items ≡ map tag_columns rows.old.items ++ map tag_row (parts off position 0 (tags_of_element element.now))) }
-{
-    push_pairs(rows, off, position, element.tags())
-}
-
 /// The rows of the table `tag` for some elements of the blob at this offset, as `element_rows`.
 pub fn tag_rows<'a>(
     alloc: Global,
@@ -140,7 +126,7 @@ pub fn tag_rows<'a>(
 {
     let mut rows = Vec::new(alloc);
     for (index, element) in elements.iter().enumerate() {
-        push_tags(&mut rows, off, first + index as u64, element)?;
+        push_tags(&mut rows, off, first + index as u64, element.tags())?;
     }
     Ok(rows)
 }

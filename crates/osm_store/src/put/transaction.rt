@@ -14,6 +14,7 @@ ghost use Rattle.osm_store.specs.Put.Steps.{AddsElements, AddsExtent, Puts, Writ
 use crate::fault::StoreFault;
 use crate::keeper::Extent;
 use crate::put::bodies::add_bodies;
+use crate::put::execute::execute;
 use crate::put::tables::add_table_rows;
 use crate::schema::Layout;
 use crate::schema::codes::blob_code;
@@ -35,7 +36,8 @@ fn add_extent<S: Alter>(
     ensures opened { HasCleanDisk (state S.Store transaction.new.conn.now) → OnOk result (IsTrue (state S.Store transaction.old.conn.now).is_open) }
 {
     let kind = blob_code(extent.kind);
-    transaction.execute(
+    execute(
+        transaction,
         INSERT_BLOB,
         params![
             extent.off as i64,
@@ -44,8 +46,7 @@ fn add_extent<S: Alter>(
             kind,
             extent.n as i64,
         ],
-    )?;
-    Ok(())
+    )
 }
 
 /// The elements of a blob, in the tables of the layout.

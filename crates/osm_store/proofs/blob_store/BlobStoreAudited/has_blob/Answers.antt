@@ -7,11 +7,11 @@ use Rattle.osm_store.specs.Held.{Blob}
 use Rattle.osm_store.specs.Keeping.{extent_of}
 use Rattle.osm_store.specs.Rows.{extent_columns, placed}
 use Rattle.osm_store.specs.Schema.Layouts.{schema_of}
-use Rattle.osm_store.specs.Store.{Store, JustReads}
+use Rattle.osm_store.specs.Store.{Store}
 use Rattle.sqlite.specs.Tree.{Trees}
 use Rattle.osm_store.proofs.AuditLemmas.Telling.{iff_then, ok_told, both_told}
 use Rattle.osm_store.proofs.AuditLemmas.HeldRows.{has_schema, shows_held, holds_shown}
-use Rattle.osm_store.proofs.LoadLemmas.ReaderPromises.{just_reads}
+use Rattle.osm_store.proofs.LoadLemmas.ReaderPromises.{reads}
 use Rattle.osm_store.proofs.blob_store.BlobStoreAudited.has_blob.Goals as goal
 
 whole : (layout : Layout) (db : Trees) (off : ℕ) (blob : Blob) → (HasAt off (extent_columns (extent_of (off, blob)) ∷ []) (seen_extents db) × ShowElementsAt layout off (placed off 0 blob.elements) db) ↔ ShowsBlob layout db off blob
@@ -34,10 +34,8 @@ returns-clause-opened g c clean = ok_told c.has_rows_of-answer.result (λ b up. 
 
 pub returns-clause-reads : goal.returns-clause-reads
 returns-clause-reads g c =
-    let inside : Store _ = record { connection = c.self.inside.connection; failures = c.self.inside.failures } in
-    let new : Store _ = record { connection = c.has_rows_of-answer.new.connection; failures = c.failures_after-self-inside.result } in
-    let reads = just_reads c.LAYOUT.result g.S.Store inside new c.has_rows_of-answer.ensures.asks c.has_rows_of-answer.result (λ clean held holds. both_told _ _ c.has_rows_of-answer.result (c.has_rows_of-answer.ensures.opened clean) c.has_rows_of-answer.ensures.ours) c.failures_after-self-inside.ensures in
-    subst (λ old. JustReads g.L.StoreLayout.LAYOUT g.S.Store old c.has_rows_of-answer.result new) c.self.view_is (subst (λ layout. JustReads layout g.S.Store inside c.has_rows_of-answer.result new) c.LAYOUT.ensures reads)
+    reads g.S.Store (record { connection = c.has_rows_of-answer.new.connection; failures = c.failures_after-self-inside.result }) c.LAYOUT.ensures c.self.view_is c.has_rows_of-answer.ensures.asks c.has_rows_of-answer.result c.failures_after-self-inside.ensures
+    (λ clean held holds. both_told _ _ c.has_rows_of-answer.result (c.has_rows_of-answer.ensures.opened clean) c.has_rows_of-answer.ensures.ours)
 
 pub returns-clause-held : goal.returns-clause-held
 returns-clause-held g c held holds clean plain =

@@ -5,10 +5,10 @@ use Rattle.osm_store.specs.Audit.{AreCountable, ShowsCounts}
 use Rattle.osm_store.specs.declared.audit.counts.Counts.{Counts}
 use Rattle.osm_store.specs.declared.schema.layout.Layout.{Layout}
 use Rattle.osm_store.specs.Schema.Layouts.{schema_of}
-use Rattle.osm_store.specs.Store.{Store, JustReads}
+use Rattle.osm_store.specs.Store.{Store}
 use Rattle.osm_store.proofs.AuditLemmas.Telling.{ok_told, both_told}
 use Rattle.osm_store.proofs.AuditLemmas.HeldRows.{has_schema, counts_held}
-use Rattle.osm_store.proofs.LoadLemmas.ReaderPromises.{just_reads}
+use Rattle.osm_store.proofs.LoadLemmas.ReaderPromises.{reads}
 use Rattle.osm_store.proofs.blob_store.BlobStoreAudited.has_counts.Goals as goal
 
 pub returns-clause-told : goal.returns-clause-told
@@ -25,10 +25,8 @@ returns-clause-opened g c clean = ok_told c.has_counts_of-answer.result (λ b up
 
 pub returns-clause-reads : goal.returns-clause-reads
 returns-clause-reads g c =
-    let inside : Store _ = record { connection = c.self.inside.connection; failures = c.self.inside.failures } in
-    let new : Store _ = record { connection = c.has_counts_of-answer.new.connection; failures = c.failures_after-self-inside.result } in
-    let reads = just_reads c.LAYOUT.result g.S.Store inside new c.has_counts_of-answer.ensures.asks c.has_counts_of-answer.result (λ clean held holds. both_told _ _ c.has_counts_of-answer.result (c.has_counts_of-answer.ensures.opened clean) c.has_counts_of-answer.ensures.ours) c.failures_after-self-inside.ensures in
-    subst (λ old. JustReads g.L.StoreLayout.LAYOUT g.S.Store old c.has_counts_of-answer.result new) c.self.view_is (subst (λ layout. JustReads layout g.S.Store inside c.has_counts_of-answer.result new) c.LAYOUT.ensures reads)
+    reads g.S.Store (record { connection = c.has_counts_of-answer.new.connection; failures = c.failures_after-self-inside.result }) c.LAYOUT.ensures c.self.view_is c.has_counts_of-answer.ensures.asks c.has_counts_of-answer.result c.failures_after-self-inside.ensures
+    (λ clean held holds. both_told _ _ c.has_counts_of-answer.result (c.has_counts_of-answer.ensures.opened clean) c.has_counts_of-answer.ensures.ours)
 
 pub returns-clause-held : goal.returns-clause-held
 returns-clause-held g c held holds clean same few =

@@ -1,12 +1,7 @@
-use Rattle.std.proofs.lemmas.Result.{MatchResult-weaker}
-use Rattle.std.proofs.Common.{subst}
-use Rattle.osm_store.specs.Store.{Store, JustReads}
-use Rattle.osm_store.proofs.LoadLemmas.ReaderPromises.{just_reads}
+use Rattle.osm_store.proofs.LoadLemmas.ReaderPromises.{reads_held}
 use Rattle.osm_store.proofs.blob_store.BlobStoreReader.find.Goals as goal
 
 pub returns-clause-reads : goal.returns-clause-reads
 returns-clause-reads g c =
-    let inside : Store _ = record { connection = c.self.inside.connection; failures = c.self.inside.failures } in
-    let new : Store _ = record { connection = c.find_held-answer.new.connection; failures = c.failures_after-self-inside.result } in
-    let reads = just_reads c.LAYOUT.result g.S.Store inside new c.find_held-answer.ensures.asks c.find_held-answer.result (λ clean held holds. MatchResult-weaker c.find_held-answer.result (c.find_held-answer.ensures.held clean held holds) (λ v h. h.1) (λ fault h. h)) c.failures_after-self-inside.ensures in
-    subst (λ old. JustReads g.L.StoreLayout.LAYOUT g.S.Store old c.find_held-answer.result new) c.self.view_is (subst (λ layout. JustReads layout g.S.Store inside c.find_held-answer.result new) c.LAYOUT.ensures reads)
+    reads_held g.S.Store (record { connection = c.find_held-answer.new.connection; failures = c.failures_after-self-inside.result }) c.LAYOUT.ensures c.self.view_is c.find_held-answer.ensures.asks c.find_held-answer.result c.failures_after-self-inside.ensures
+    _ c.find_held-answer.ensures.held

@@ -14,4 +14,5 @@ loop-index-preserved c =
     let low : at < length es = search rules in
     let before = flat_map tags_at (placed c.args.off c.args.first (take at es)) in
     let here = tags_at (c.args.off, c.args.first + at, e) in
-    c.in_ok-push_tags.ensures ∙ ap (λ l. l ++ map tag_row here) c.loop-index.invariant ∙ sym (map-append tag_row before here) ∙ ap (map tag_row) (sym (flat_more tags_at c.args.off c.args.first es at e low c.index-elements-index.is))
+    let pushed = rw c.tags.ensures.exact at c.in_ok-push_tags.ensures in
+    pushed ∙ ap (λ l. l ++ map tag_row here) c.loop-index.invariant ∙ sym (map-append tag_row before here) ∙ ap (map tag_row) (sym (flat_more tags_at c.args.off c.args.first es at e low c.index-elements-index.is))

@@ -1,10 +1,10 @@
-use Rattle.std.proofs.Common.{arith, ap, ◌∙◌, pos, w64, rules}
+use Rattle.std.proofs.Common.{arith, ap, ◌∙◌, pos, w64}
 use Rattle.std.proofs.lemmas.Int.{to_z_pos}
+use Rattle.std.proofs.lemmas.Result.{on_ok_weaker}
 use Rattle.sqlite.specs.declared.types.Value.TheVariants.{Int}
 use Rattle.sqlite.specs.Held.{state}
 use Rattle.osm_store.specs.Rows.{blob_code}
 use Rattle.osm_store.proofs.PutLemmas.RowSteps.{adds_extent}
-use Rattle.osm_store.proofs.StepLemmas.{runs_on}
 use Rattle.osm_store.proofs.put.transaction.add_extent.Goals as goal
 
 pub returns-clause-added : goal.returns-clause-added
@@ -13,19 +13,11 @@ returns-clause-added g c clean layout over =
     let off = c.params-to_sql.ensures ∙ ap Int (to_z_pos w64 extent.off (omega (arith, c.requires.bounds.0))) in
     let fin = c.params-to_sql-2.ensures ∙ ap Int (to_z_pos w64 extent.fin (omega (arith, c.requires.bounds.1))) in
     let n = c.params-to_sql-5.ensures ∙ ap Int (to_z_pos w64 extent.n (omega (arith, c.requires.bounds.2))) in
-    let ran = rw (off, fin, c.params-to_sql-3.ensures, c.params-to_sql-4.ensures, n, c.as_slice.ensures, c.blob_code-kind.ensures) at c.in_ok-execute.ensures.runs clean over.inside in
-    adds_extent layout (state g.S.Store c.args.transaction.now.conn.now) (state g.S.Store c.execute.new.self.conn.now) (pos extent.off) (pos extent.fin) extent.digest (pos (blob_code extent.kind)) (pos extent.n) c.in_ok-execute.field-0 over ran
+    let old = state g.S.Store c.args.transaction.now.conn.now in
+    let new = state g.S.Store c.execute.new.transaction.conn.now in
+    on_ok_weaker c.execute.result
+    (λ ran. adds_extent layout old new (pos extent.off) (pos extent.fin) extent.digest (pos (blob_code extent.kind)) (pos extent.n) ran.0 over (rw (off, fin, c.params-to_sql-3.ensures, c.params-to_sql-4.ensures, n, c.as_slice.ensures, c.blob_code-kind.ensures) at ran.1))
+    (c.execute.ensures.ran clean over.inside)
 
-pub returns-clause-step : goal.returns-clause-step
-returns-clause-step g c = record {
-  goes_on = runs_on g.S.Store c.args.transaction.now.conn c.execute.new.self.conn _ _ _ _ c.execute.ensures.same_reference c.execute.ensures.ended c.execute.ensures.runs c.execute.ensures.survives;
-  inside = search rules;
-  ours = search rules;
-}
-
-pub returns-in_err-execute-clause-step : goal.returns-in_err-execute-clause-step
-returns-in_err-execute-clause-step g c = record {
-  goes_on = runs_on g.S.Store c.args.transaction.now.conn c.execute.new.self.conn _ _ _ _ c.execute.ensures.same_reference c.execute.ensures.ended c.execute.ensures.runs c.execute.ensures.survives;
-  inside = search rules;
-  ours = search rules;
-}
+pub returns-clause-opened : goal.returns-clause-opened
+returns-clause-opened g c clean = on_ok_weaker c.execute.result (λ ran. ran.1.1.was_open) (c.execute.ensures.ran clean c.requires.inside)

@@ -3,7 +3,7 @@ use Rattle.std.proofs.lemmas.List.{map-append, take_more, length-map, length-tak
 use Rattle.osm_store.specs.TableRows.{tag_row}
 use Rattle.osm_store.specs.Put.WrittenRows.{tag_columns}
 use Rattle.osm_store.proofs.PutLemmas.Placing.{one_part_more}
-use Rattle.osm_store.proofs.put.tables.push_pairs.Goals as goal
+use Rattle.osm_store.proofs.put.tables.push_tags.Goals as goal
 
 pub loop-number-preserved : goal.loop-number-preserved
 loop-number-preserved c =

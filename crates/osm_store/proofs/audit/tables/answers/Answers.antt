@@ -1,7 +1,0 @@
-use Rattle.osm_store.proofs.AuditLemmas.Telling.{asked, ok_told}
-use Rattle.osm_store.proofs.audit.tables.answers.Goals as goal
-
-pub returns-clause-told : goal.returns-clause-told
-returns-clause-told g c clean =
-    let answered = rw c.number.ensures at c.in_ok-rows.ensures.rows clean in
-    ok_told c.have_columns.result (λ b told. (_, answered, asked _ _ _ c.deref.ensures.value told)) c.have_columns.ensures.told
