@@ -17,7 +17,7 @@ use Rattle.osm_block.specs.FieldsLeft.{numbers_in, fault_in, first_there}
 use Rattle.osm_block.specs.Dense.{dense_message_of}
 use Rattle.osm_block.specs.DenseFieldsRead.{ArrayRead, DenseInfoRead}
 use Rattle.osm_block.specs.Phases.{first, wire_phases}
-use Rattle.osm_block.proofs.FieldLemmas.{option_or-assoc, option_or-none, first_there-append, first_of_wire}
+use Rattle.osm_block.proofs.FieldLemmas.{option_or-assoc, option_or-none, first_there-append, first_of_wire, array_then, last_array}
 use Rattle.osm_block.proofs.ReadingLemmas.{each-append}
 
 -- ---- one field
@@ -123,21 +123,6 @@ message_is d fs r =
     let x = ap (map boolean) i.visible.numbers in
     cc (a, b, c, e, v, t, s, u, w, x)
 
-abbrev array_fault : ℕ → List Entry → Option WireFault
-array_fault k fs = first_there (map packed (each fs k))
-
-plain_arrays : (fs : List Entry) → first_there (arrays (DENSE_ID ∷ DENSE_LAT ∷ DENSE_LON ∷ DENSE_KEYS_VALS ∷ []) fs) ≡ option_or (array_fault DENSE_ID fs) (option_or (array_fault DENSE_LAT fs) (option_or (array_fault DENSE_LON fs) (array_fault DENSE_KEYS_VALS fs)))
-plain_arrays fs =
-    first_there-append (map packed (each fs DENSE_ID)) _ ∙ ap (option_or (array_fault DENSE_ID fs)) (first_there-append (map packed (each fs DENSE_LAT)) _ ∙ ap (option_or (array_fault DENSE_LAT fs))
-    (first_there-append (map packed (each fs DENSE_LON)) _ ∙ ap (option_or (array_fault DENSE_LON fs)) (first_there-append (map packed (each fs DENSE_KEYS_VALS)) [] ∙ option_or-none (array_fault DENSE_KEYS_VALS fs))))
-
-info_arrays : (fs : List Entry) → first_there (arrays (DENSEINFO_VERSION ∷ DENSEINFO_TIMESTAMP ∷ DENSEINFO_CHANGESET ∷ DENSEINFO_UID ∷ DENSEINFO_USER_SID ∷ DENSEINFO_VISIBLE ∷ []) fs) ≡ option_or (array_fault DENSEINFO_VERSION fs) (option_or (array_fault DENSEINFO_TIMESTAMP fs) (option_or (array_fault DENSEINFO_CHANGESET fs) (option_or (array_fault DENSEINFO_UID fs) (option_or (array_fault DENSEINFO_USER_SID fs) (array_fault DENSEINFO_VISIBLE fs)))))
-info_arrays fs =
-    first_there-append (map packed (each fs DENSEINFO_VERSION)) _ ∙ ap (option_or (array_fault DENSEINFO_VERSION fs)) (first_there-append (map packed (each fs DENSEINFO_TIMESTAMP)) _ ∙ ap (option_or (array_fault DENSEINFO_TIMESTAMP fs))
-    (first_there-append (map packed (each fs DENSEINFO_CHANGESET)) _ ∙ ap (option_or (array_fault DENSEINFO_CHANGESET fs)) (first_there-append (map packed (each fs DENSEINFO_UID)) _ ∙ ap (option_or (array_fault DENSEINFO_UID fs))
-    (first_there-append (map packed (each fs DENSEINFO_USER_SID)) _ ∙ ap (option_or (array_fault DENSEINFO_USER_SID fs))
-    (first_there-append (map packed (each fs DENSEINFO_VISIBLE)) [] ∙ option_or-none (array_fault DENSEINFO_VISIBLE fs))))))
-
 -- the faults, as they were read
 pub faults_are : (d : DenseFields) (ps infos : List (List ℕ)) (w i a n : Option WireFault) → DenseRead d (flat_map fields ps) → infos ≡ each (flat_map fields ps) DENSE_DENSEINFO →
     w ≡ first_there (map wire ps) → i ≡ first_there (map wire infos) →
@@ -147,19 +132,16 @@ pub faults_are : (d : DenseFields) (ps infos : List (List ℕ)) (w i a n : Optio
 faults_are d ps infos w i a n r are ew ei ea en =
     let fs : List Entry = flat_map fields ps in
     let j = r.info in
-    let plain : a ≡ first_there (arrays (DENSE_ID ∷ DENSE_LAT ∷ DENSE_LON ∷ DENSE_KEYS_VALS ∷ []) fs) =
-    ea ∙ ap (λ x. option_or x (option_or d.lats.fault (option_or d.lons.fault d.keys_vals.fault))) r.ids.fault
-    ∙ ap (λ x. option_or (array_fault DENSE_ID fs) (option_or x (option_or d.lons.fault d.keys_vals.fault))) r.lats.fault
-    ∙ ap (λ x. option_or (array_fault DENSE_ID fs) (option_or (array_fault DENSE_LAT fs) (option_or x d.keys_vals.fault))) r.lons.fault
-    ∙ ap (λ x. option_or (array_fault DENSE_ID fs) (option_or (array_fault DENSE_LAT fs) (option_or (array_fault DENSE_LON fs) x))) r.keys_vals.fault ∙ sym (plain_arrays fs) in
     let gs : List Entry = sub fs DENSE_DENSEINFO in
+    let plain : a ≡ first_there (arrays (DENSE_ID ∷ DENSE_LAT ∷ DENSE_LON ∷ DENSE_KEYS_VALS ∷ []) fs) =
+    ea ∙ array_then DENSE_ID (DENSE_LAT ∷ DENSE_LON ∷ DENSE_KEYS_VALS ∷ []) fs _ _ r.ids.fault (array_then DENSE_LAT (DENSE_LON ∷ DENSE_KEYS_VALS ∷ []) fs _ _ r.lats.fault
+    (array_then DENSE_LON (DENSE_KEYS_VALS ∷ []) fs _ _ r.lons.fault (last_array DENSE_KEYS_VALS fs _ r.keys_vals.fault))) in
+    let users = array_then DENSEINFO_USER_SID (DENSEINFO_VISIBLE ∷ []) gs _ _ j.users.fault (last_array DENSEINFO_VISIBLE gs _ j.visible.fault) in
+    let uids = array_then DENSEINFO_UID (DENSEINFO_USER_SID ∷ DENSEINFO_VISIBLE ∷ []) gs _ _ j.uids.fault users in
+    let changes = array_then DENSEINFO_CHANGESET (DENSEINFO_UID ∷ DENSEINFO_USER_SID ∷ DENSEINFO_VISIBLE ∷ []) gs _ _ j.changesets.fault uids in
+    let times = array_then DENSEINFO_TIMESTAMP (DENSEINFO_CHANGESET ∷ DENSEINFO_UID ∷ DENSEINFO_USER_SID ∷ DENSEINFO_VISIBLE ∷ []) gs _ _ j.timestamps.fault changes in
     let info : n ≡ first_there (arrays (DENSEINFO_VERSION ∷ DENSEINFO_TIMESTAMP ∷ DENSEINFO_CHANGESET ∷ DENSEINFO_UID ∷ DENSEINFO_USER_SID ∷ DENSEINFO_VISIBLE ∷ []) gs) =
-    en ∙ ap (λ x. option_or x (option_or d.info.timestamps.fault (option_or d.info.changesets.fault (option_or d.info.uids.fault (option_or d.info.users.fault d.info.visible.fault))))) j.versions.fault
-    ∙ ap (λ x. option_or (array_fault DENSEINFO_VERSION gs) (option_or x (option_or d.info.changesets.fault (option_or d.info.uids.fault (option_or d.info.users.fault d.info.visible.fault))))) j.timestamps.fault
-    ∙ ap (λ x. option_or (array_fault DENSEINFO_VERSION gs) (option_or (array_fault DENSEINFO_TIMESTAMP gs) (option_or x (option_or d.info.uids.fault (option_or d.info.users.fault d.info.visible.fault))))) j.changesets.fault
-    ∙ ap (λ x. option_or (array_fault DENSEINFO_VERSION gs) (option_or (array_fault DENSEINFO_TIMESTAMP gs) (option_or (array_fault DENSEINFO_CHANGESET gs) (option_or x (option_or d.info.users.fault d.info.visible.fault))))) j.uids.fault
-    ∙ ap (λ x. option_or (array_fault DENSEINFO_VERSION gs) (option_or (array_fault DENSEINFO_TIMESTAMP gs) (option_or (array_fault DENSEINFO_CHANGESET gs) (option_or (array_fault DENSEINFO_UID gs) (option_or x d.info.visible.fault))))) j.users.fault
-    ∙ ap (λ x. option_or (array_fault DENSEINFO_VERSION gs) (option_or (array_fault DENSEINFO_TIMESTAMP gs) (option_or (array_fault DENSEINFO_CHANGESET gs) (option_or (array_fault DENSEINFO_UID gs) (option_or (array_fault DENSEINFO_USER_SID gs) x))))) j.visible.fault ∙ sym (info_arrays gs) in
+    en ∙ array_then DENSEINFO_VERSION (DENSEINFO_TIMESTAMP ∷ DENSEINFO_CHANGESET ∷ DENSEINFO_UID ∷ DENSEINFO_USER_SID ∷ DENSEINFO_VISIBLE ∷ []) gs _ _ j.versions.fault times in
     let first_two : option_or w i ≡ first_there (map wire ps ++ map wire (each fs DENSE_DENSEINFO)) =
     ap (λ x. option_or x i) ew ∙ ap (option_or (first_there (map wire ps))) (ei ∙ ap (λ l. first_there (map wire l)) are) ∙ sym (first_there-append (map wire ps) (map wire (each fs DENSE_DENSEINFO))) in
     let three : option_or (option_or w i) a ≡ first_there (map wire ps ++ map wire (each fs DENSE_DENSEINFO) ++ arrays (DENSE_ID ∷ DENSE_LAT ∷ DENSE_LON ∷ DENSE_KEYS_VALS ∷ []) fs) =
