@@ -1,5 +1,5 @@
 -- Reading the arrays of dense nodes: one field, one payload, all of them.
-use Rattle.std.proofs.Common.{◌≡◌, ℕ, ◌+◌, ◌<◌, List, [], ◌∷◌, ◌++◌, map, length, drop, get_or, true, false, refl, sym, ap, ◌∙◌, Option, None, Result, Ok, Err, append_assoc, append-nil, ◌%◌, ◌^◌}
+use Rattle.std.proofs.Common.{◌≡◌, ℕ, ◌+◌, ◌<◌, List, [], ◌∷◌, ◌++◌, map, length, drop, get_or, true, false, refl, sym, ap, ◌∙◌, Option, None, Result, Ok, ◌%◌, ◌^◌}
 use Rattle.std.specs.Prelude.{option_map, cond, ◌==◌}
 use Rattle.std.specs.List.{flat_map, cons_option}
 use Rattle.std.specs.Option.{option_or}
@@ -17,7 +17,7 @@ use Rattle.osm_block.specs.FieldsLeft.{numbers_in, fault_in, first_there}
 use Rattle.osm_block.specs.Dense.{dense_message_of}
 use Rattle.osm_block.specs.DenseFieldsRead.{ArrayRead, DenseInfoRead}
 use Rattle.osm_block.specs.Phases.{first, wire_phases}
-use Rattle.osm_block.proofs.FieldLemmas.{option_or-assoc, option_or-none, first_there-append, first_of_wire, array_then, last_array}
+use Rattle.osm_block.proofs.FieldLemmas.{option_or-assoc, first_there-append, first_of_wire, array_then, last_array}
 use Rattle.osm_block.proofs.ReadingLemmas.{each-append}
 
 -- ---- one field
@@ -45,37 +45,8 @@ faults_any (Bytes bs) rest = refl
 faults_any (Fixed32 bs) rest = refl
 
 -- what a field of the array adds
-pub numbers_taken : (old new total : List ℕ) (items rest : List (Result Entry WireFault)) (item : Result Field WireFault) (field : Field) (k : ℕ) → items ≡ view_item item ∷ rest → item ≡ Ok field → (field.number == k) ≡ true →
-    new ≡ old ++ numbers_in (content_of field.value) → old ++ nums (front items) k ≡ total → new ++ nums (front rest) k ≡ total
-numbers_taken old new total items rest item field k e is h pushed so_far =
-    ap (λ l. l ++ nums (front rest) k) pushed ∙ append_assoc old (numbers_in (content_of field.value)) (nums (front rest) k)
-    ∙ sym (ap (λ l. old ++ l) (ap (flat_map (λ ns. ns)) (fitting_at numbers_of items rest item field k e is h) ∙ numbers_any (content_of field.value) (fitting numbers_of k (front rest)))) ∙ so_far
-
-pub faults_taken : (old new total : Option WireFault) (items rest : List (Result Entry WireFault)) (item : Result Field WireFault) (field : Field) (k : ℕ) → items ≡ view_item item ∷ rest → item ≡ Ok field → (field.number == k) ≡ true →
-    new ≡ option_or old (fault_in (content_of field.value)) → option_or old (first_there (map packed (each (front items) k))) ≡ total → option_or new (first_there (map packed (each (front rest) k))) ≡ total
-faults_taken old new total items rest item field k e is h taken so_far =
-    ap (λ f. option_or f (first_there (map packed (each (front rest) k)))) taken ∙ option_or-assoc old (fault_in (content_of field.value)) (first_there (map packed (each (front rest) k)))
-    ∙ sym (ap (option_or old) (ap (λ l. first_there (map packed l)) (fitting_at bytes_of items rest item field k e is h) ∙ faults_any (content_of field.value) (each (front rest) k))) ∙ so_far
-
 -- another field adds nothing
-pub numbers_past : (old total : List ℕ) (items rest : List (Result Entry WireFault)) (item : Result Field WireFault) (field : Field) (k : ℕ) → items ≡ view_item item ∷ rest → item ≡ Ok field → (field.number == k) ≡ false →
-    old ++ nums (front items) k ≡ total → old ++ nums (front rest) k ≡ total
-numbers_past old total items rest item field k e is h so_far = sym (ap (λ l. old ++ flat_map (λ ns. ns) l) (fitting_past numbers_of items rest item field k e is h)) ∙ so_far
-
-pub faults_past : (old total : Option WireFault) (items rest : List (Result Entry WireFault)) (item : Result Field WireFault) (field : Field) (k : ℕ) → items ≡ view_item item ∷ rest → item ≡ Ok field → (field.number == k) ≡ false →
-    option_or old (first_there (map packed (each (front items) k))) ≡ total → option_or old (first_there (map packed (each (front rest) k))) ≡ total
-faults_past old total items rest item field k e is h so_far = sym (ap (λ l. option_or old (first_there (map packed l))) (fitting_past bytes_of items rest item field k e is h)) ∙ so_far
-
 -- nothing is left behind a fault, nor at the end
-pub numbers_end : (old total : List ℕ) (items : List (Result Entry WireFault)) (k : ℕ) → front items ≡ [] → old ++ nums (front items) k ≡ total → old ≡ total
-numbers_end old total items k e so_far = sym (append-nil old) ∙ sym (ap (λ l. old ++ nums l k) e) ∙ so_far
-
-pub faults_end : (old total : Option WireFault) (items : List (Result Entry WireFault)) (k : ℕ) → front items ≡ [] → option_or old (first_there (map packed (each (front items) k))) ≡ total → old ≡ total
-faults_end old total items k e so_far = sym (option_or-none old) ∙ sym (ap (λ l. option_or old (first_there (map packed (each l k)))) e) ∙ so_far
-
-pub front_at_fault : (items rest : List (Result Entry WireFault)) (item : Result Field WireFault) (fault : WireFault) → items ≡ view_item item ∷ rest → item ≡ Err fault → front items ≡ []
-front_at_fault items rest item fault e is = ap front e ∙ ap (λ r. front (view_item r ∷ rest)) is
-
 -- ---- one payload
 
 pub faults_more : {B : Type 0} (now : B → List ℕ) (ps : List B) (i : ℕ) (d : B) (k : ℕ) (old new total : Option WireFault) → i < length ps →
@@ -88,11 +59,6 @@ faults_more now ps i d k old new total h is so_far =
     ap (λ f. option_or f (first_there (map packed (each rest k)))) is ∙ option_or-assoc old (first_there (map packed (each p k))) (first_there (map packed (each rest k)))
     ∙ sym (ap (option_or old) (ap (λ l. first_there (map packed l)) (each-append k p rest) ∙ ap first_there (map-append packed (each p k) (each rest k)) ∙ first_there-append (map packed (each p k)) (map packed (each rest k))))
     ∙ ap (λ l. option_or old (first_there (map packed (each (flat_map fields (map now l)) k)))) (sym (drop_more ps i d h)) ∙ so_far
-
-pub wire_more : {B : Type 0} (now : B → List ℕ) (ps : List B) (i : ℕ) (d : B) (here : Option WireFault) → i < length ps → here ≡ wire (now (get_or ps i d)) →
-    first_there (map wire (map now (drop i ps))) ≡ option_or here (first_there (map wire (map now (drop (i + 1) ps))))
-wire_more now ps i d here h is =
-    ap (λ l. first_there (map wire (map now l))) (drop_more ps i d h) ∙ ap (λ o. option_or o (first_there (map wire (map now (drop (i + 1) ps))))) (sym is)
 
 -- ---- the message
 

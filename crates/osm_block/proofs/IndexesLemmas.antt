@@ -1,5 +1,5 @@
 -- Tests of indexes, as the code makes them and as the phases do.
-use Rattle.std.proofs.Common.{◌≡◌, ℕ, zero, suc, arith, ◌%◌, ◌^◌, ◌<◌, List, [], ◌∷◌, ◌++◌, map, length, get_or, refl, sym, ap, ◌∙◌, ℤ, Option, Some, None, Bool, true, false, ◌&&◌}
+use Rattle.std.proofs.Common.{◌≡◌, ℕ, arith, ◌%◌, ◌^◌, ◌<◌, List, [], ◌∷◌, ◌++◌, map, refl, sym, ap, ◌∙◌, ℤ, Option, Some, None, Bool, true, false, ◌&&◌}
 use Rattle.std.specs.Prelude.{option_map, option_to_list, nat_lt}
 use Rattle.std.specs.List.{list_all}
 use Rattle.std.proofs.lemmas.List.Folds.{list_all-append}
@@ -68,7 +68,3 @@ by_ltb : (x n : ℕ) → nat_lt x n ≡ true → x < n
 by_ltb x n h = grind (arith, nat_tests)
 
 -- from the test of all to each
-pub each_index : (n : ℕ) (ks : List ℕ) → all_below n ks ≡ true → (k d : ℕ) → k < length ks → get_or ks k d % 2 ^ 32 < n
-each_index n [] h k d inside = absurd (omega arith)
-each_index n (x ∷ ks) h zero d inside = by_ltb (x % 2 ^ 32) n (and_left _ _ h)
-each_index n (x ∷ ks) h (suc k) d inside = each_index n ks (and_right _ _ h) k d (omega arith)

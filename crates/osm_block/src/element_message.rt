@@ -49,9 +49,9 @@ pub(crate) trait ElementMessage {
     ghost is_wired: { (p : List ℕ) → wires (message p) ≡ wires_with (ELEMENT_KEYS ∷ ELEMENT_VALS ∷ own) p };
 }
 
-/// Reads the fields of the message; the faults of its payloads are kept for later.
-fn read_fields<M: ElementMessage>(payload: &[u8], message: &mut M) -> Result<(), BlockError>
-    ensures phase { Gives (λ _. ⊤) (option_map faults.BlockWire (wire payload.now)) result }
+/// Reads the message, or answers the first fault of its wire: that of its own payload before those of the payloads in it.
+fn read_message<M: ElementMessage>(payload: &[u8], message: &mut M) -> Result<(), BlockError>
+    ensures phase { Gives (λ _. ⊤) (first (wire_phases (wires (M.message payload.now)))) result }
     ensures read { OnOk result (M.left message.new [] (fields payload.now)) }
 {
     message.clear();
@@ -59,15 +59,6 @@ fn read_fields<M: ElementMessage>(payload: &[u8], message: &mut M) -> Result<(),
         let field = field?;
         message.take(field)?;
     }
-    Ok(())
-}
-
-/// Reads the message, or answers the first fault of its wire.
-fn read_message<M: ElementMessage>(payload: &[u8], message: &mut M) -> Result<(), BlockError>
-    ensures phase { Gives (λ _. ⊤) (first (wire_phases (wires (M.message payload.now)))) result }
-    ensures read { OnOk result (M.left message.new [] (fields payload.now)) }
-{
-    read_fields(payload, message)?;
     match message.fault() {
         None => Ok(()),
         Some(fault) => Err(BlockError::from(fault)),

@@ -1,7 +1,7 @@
 use Rattle.std.proofs.Common.{◌≡◌}
 use Rattle.pbf_wire.specs.Walk.{items_left}
 use Rattle.pbf_wire.specs.Readings.{front, first_fault, fields, wire}
-use Rattle.osm_block.proofs.element_message.read_fields.Given as goal
+use Rattle.osm_block.proofs.element_message.read_message.Given as goal
 
 abbrev pub invariant-loop-field : goal.invariant-loop-field
 invariant-loop-field g l = record {
