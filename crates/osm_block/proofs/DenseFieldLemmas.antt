@@ -1,5 +1,5 @@
 -- Reading the arrays of dense nodes: one field, one payload, all of them.
-use Rattle.std.proofs.Common.{◌≡◌, ℕ, ◌+◌, ◌<◌, List, [], ◌∷◌, ◌++◌, map, length, drop, get_or, true, false, refl, sym, ap, ◌∙◌, Option, None, Result, Ok, Err, append_assoc, append-nil, ◌%◌, ◌^◌}
+use Rattle.std.proofs.Common.{◌≡◌, ℕ, ◌+◌, ◌<◌, List, [], ◌∷◌, ◌++◌, map, length, drop, get_or, true, false, refl, sym, ap, ◌∙◌, Option, None, Result, Ok, ◌%◌, ◌^◌}
 use Rattle.std.specs.Prelude.{option_map, cond, ◌==◌}
 use Rattle.std.specs.List.{flat_map, cons_option}
 use Rattle.std.specs.Option.{option_or}
@@ -17,7 +17,7 @@ use Rattle.osm_block.specs.FieldsLeft.{numbers_in, fault_in, first_there}
 use Rattle.osm_block.specs.Dense.{dense_message_of}
 use Rattle.osm_block.specs.DenseFieldsRead.{ArrayRead, DenseInfoRead}
 use Rattle.osm_block.specs.Phases.{first, wire_phases}
-use Rattle.osm_block.proofs.FieldLemmas.{option_or-assoc, option_or-none, first_there-append, first_of_wire}
+use Rattle.osm_block.proofs.FieldLemmas.{option_or-assoc, first_there-append, first_of_wire, array_then, last_array}
 use Rattle.osm_block.proofs.ReadingLemmas.{each-append}
 
 -- ---- one field
@@ -45,37 +45,8 @@ faults_any (Bytes bs) rest = refl
 faults_any (Fixed32 bs) rest = refl
 
 -- what a field of the array adds
-pub numbers_taken : (old new total : List ℕ) (items rest : List (Result Entry WireFault)) (item : Result Field WireFault) (field : Field) (k : ℕ) → items ≡ view_item item ∷ rest → item ≡ Ok field → (field.number == k) ≡ true →
-    new ≡ old ++ numbers_in (content_of field.value) → old ++ nums (front items) k ≡ total → new ++ nums (front rest) k ≡ total
-numbers_taken old new total items rest item field k e is h pushed so_far =
-    ap (λ l. l ++ nums (front rest) k) pushed ∙ append_assoc old (numbers_in (content_of field.value)) (nums (front rest) k)
-    ∙ sym (ap (λ l. old ++ l) (ap (flat_map (λ ns. ns)) (fitting_at numbers_of items rest item field k e is h) ∙ numbers_any (content_of field.value) (fitting numbers_of k (front rest)))) ∙ so_far
-
-pub faults_taken : (old new total : Option WireFault) (items rest : List (Result Entry WireFault)) (item : Result Field WireFault) (field : Field) (k : ℕ) → items ≡ view_item item ∷ rest → item ≡ Ok field → (field.number == k) ≡ true →
-    new ≡ option_or old (fault_in (content_of field.value)) → option_or old (first_there (map packed (each (front items) k))) ≡ total → option_or new (first_there (map packed (each (front rest) k))) ≡ total
-faults_taken old new total items rest item field k e is h taken so_far =
-    ap (λ f. option_or f (first_there (map packed (each (front rest) k)))) taken ∙ option_or-assoc old (fault_in (content_of field.value)) (first_there (map packed (each (front rest) k)))
-    ∙ sym (ap (option_or old) (ap (λ l. first_there (map packed l)) (fitting_at bytes_of items rest item field k e is h) ∙ faults_any (content_of field.value) (each (front rest) k))) ∙ so_far
-
 -- another field adds nothing
-pub numbers_past : (old total : List ℕ) (items rest : List (Result Entry WireFault)) (item : Result Field WireFault) (field : Field) (k : ℕ) → items ≡ view_item item ∷ rest → item ≡ Ok field → (field.number == k) ≡ false →
-    old ++ nums (front items) k ≡ total → old ++ nums (front rest) k ≡ total
-numbers_past old total items rest item field k e is h so_far = sym (ap (λ l. old ++ flat_map (λ ns. ns) l) (fitting_past numbers_of items rest item field k e is h)) ∙ so_far
-
-pub faults_past : (old total : Option WireFault) (items rest : List (Result Entry WireFault)) (item : Result Field WireFault) (field : Field) (k : ℕ) → items ≡ view_item item ∷ rest → item ≡ Ok field → (field.number == k) ≡ false →
-    option_or old (first_there (map packed (each (front items) k))) ≡ total → option_or old (first_there (map packed (each (front rest) k))) ≡ total
-faults_past old total items rest item field k e is h so_far = sym (ap (λ l. option_or old (first_there (map packed l))) (fitting_past bytes_of items rest item field k e is h)) ∙ so_far
-
 -- nothing is left behind a fault, nor at the end
-pub numbers_end : (old total : List ℕ) (items : List (Result Entry WireFault)) (k : ℕ) → front items ≡ [] → old ++ nums (front items) k ≡ total → old ≡ total
-numbers_end old total items k e so_far = sym (append-nil old) ∙ sym (ap (λ l. old ++ nums l k) e) ∙ so_far
-
-pub faults_end : (old total : Option WireFault) (items : List (Result Entry WireFault)) (k : ℕ) → front items ≡ [] → option_or old (first_there (map packed (each (front items) k))) ≡ total → old ≡ total
-faults_end old total items k e so_far = sym (option_or-none old) ∙ sym (ap (λ l. option_or old (first_there (map packed (each l k)))) e) ∙ so_far
-
-pub front_at_fault : (items rest : List (Result Entry WireFault)) (item : Result Field WireFault) (fault : WireFault) → items ≡ view_item item ∷ rest → item ≡ Err fault → front items ≡ []
-front_at_fault items rest item fault e is = ap front e ∙ ap (λ r. front (view_item r ∷ rest)) is
-
 -- ---- one payload
 
 pub faults_more : {B : Type 0} (now : B → List ℕ) (ps : List B) (i : ℕ) (d : B) (k : ℕ) (old new total : Option WireFault) → i < length ps →
@@ -88,11 +59,6 @@ faults_more now ps i d k old new total h is so_far =
     ap (λ f. option_or f (first_there (map packed (each rest k)))) is ∙ option_or-assoc old (first_there (map packed (each p k))) (first_there (map packed (each rest k)))
     ∙ sym (ap (option_or old) (ap (λ l. first_there (map packed l)) (each-append k p rest) ∙ ap first_there (map-append packed (each p k) (each rest k)) ∙ first_there-append (map packed (each p k)) (map packed (each rest k))))
     ∙ ap (λ l. option_or old (first_there (map packed (each (flat_map fields (map now l)) k)))) (sym (drop_more ps i d h)) ∙ so_far
-
-pub wire_more : {B : Type 0} (now : B → List ℕ) (ps : List B) (i : ℕ) (d : B) (here : Option WireFault) → i < length ps → here ≡ wire (now (get_or ps i d)) →
-    first_there (map wire (map now (drop i ps))) ≡ option_or here (first_there (map wire (map now (drop (i + 1) ps))))
-wire_more now ps i d here h is =
-    ap (λ l. first_there (map wire (map now l))) (drop_more ps i d h) ∙ ap (λ o. option_or o (first_there (map wire (map now (drop (i + 1) ps))))) (sym is)
 
 -- ---- the message
 
@@ -123,21 +89,6 @@ message_is d fs r =
     let x = ap (map boolean) i.visible.numbers in
     cc (a, b, c, e, v, t, s, u, w, x)
 
-abbrev array_fault : ℕ → List Entry → Option WireFault
-array_fault k fs = first_there (map packed (each fs k))
-
-plain_arrays : (fs : List Entry) → first_there (arrays (DENSE_ID ∷ DENSE_LAT ∷ DENSE_LON ∷ DENSE_KEYS_VALS ∷ []) fs) ≡ option_or (array_fault DENSE_ID fs) (option_or (array_fault DENSE_LAT fs) (option_or (array_fault DENSE_LON fs) (array_fault DENSE_KEYS_VALS fs)))
-plain_arrays fs =
-    first_there-append (map packed (each fs DENSE_ID)) _ ∙ ap (option_or (array_fault DENSE_ID fs)) (first_there-append (map packed (each fs DENSE_LAT)) _ ∙ ap (option_or (array_fault DENSE_LAT fs))
-    (first_there-append (map packed (each fs DENSE_LON)) _ ∙ ap (option_or (array_fault DENSE_LON fs)) (first_there-append (map packed (each fs DENSE_KEYS_VALS)) [] ∙ option_or-none (array_fault DENSE_KEYS_VALS fs))))
-
-info_arrays : (fs : List Entry) → first_there (arrays (DENSEINFO_VERSION ∷ DENSEINFO_TIMESTAMP ∷ DENSEINFO_CHANGESET ∷ DENSEINFO_UID ∷ DENSEINFO_USER_SID ∷ DENSEINFO_VISIBLE ∷ []) fs) ≡ option_or (array_fault DENSEINFO_VERSION fs) (option_or (array_fault DENSEINFO_TIMESTAMP fs) (option_or (array_fault DENSEINFO_CHANGESET fs) (option_or (array_fault DENSEINFO_UID fs) (option_or (array_fault DENSEINFO_USER_SID fs) (array_fault DENSEINFO_VISIBLE fs)))))
-info_arrays fs =
-    first_there-append (map packed (each fs DENSEINFO_VERSION)) _ ∙ ap (option_or (array_fault DENSEINFO_VERSION fs)) (first_there-append (map packed (each fs DENSEINFO_TIMESTAMP)) _ ∙ ap (option_or (array_fault DENSEINFO_TIMESTAMP fs))
-    (first_there-append (map packed (each fs DENSEINFO_CHANGESET)) _ ∙ ap (option_or (array_fault DENSEINFO_CHANGESET fs)) (first_there-append (map packed (each fs DENSEINFO_UID)) _ ∙ ap (option_or (array_fault DENSEINFO_UID fs))
-    (first_there-append (map packed (each fs DENSEINFO_USER_SID)) _ ∙ ap (option_or (array_fault DENSEINFO_USER_SID fs))
-    (first_there-append (map packed (each fs DENSEINFO_VISIBLE)) [] ∙ option_or-none (array_fault DENSEINFO_VISIBLE fs))))))
-
 -- the faults, as they were read
 pub faults_are : (d : DenseFields) (ps infos : List (List ℕ)) (w i a n : Option WireFault) → DenseRead d (flat_map fields ps) → infos ≡ each (flat_map fields ps) DENSE_DENSEINFO →
     w ≡ first_there (map wire ps) → i ≡ first_there (map wire infos) →
@@ -147,19 +98,16 @@ pub faults_are : (d : DenseFields) (ps infos : List (List ℕ)) (w i a n : Optio
 faults_are d ps infos w i a n r are ew ei ea en =
     let fs : List Entry = flat_map fields ps in
     let j = r.info in
-    let plain : a ≡ first_there (arrays (DENSE_ID ∷ DENSE_LAT ∷ DENSE_LON ∷ DENSE_KEYS_VALS ∷ []) fs) =
-    ea ∙ ap (λ x. option_or x (option_or d.lats.fault (option_or d.lons.fault d.keys_vals.fault))) r.ids.fault
-    ∙ ap (λ x. option_or (array_fault DENSE_ID fs) (option_or x (option_or d.lons.fault d.keys_vals.fault))) r.lats.fault
-    ∙ ap (λ x. option_or (array_fault DENSE_ID fs) (option_or (array_fault DENSE_LAT fs) (option_or x d.keys_vals.fault))) r.lons.fault
-    ∙ ap (λ x. option_or (array_fault DENSE_ID fs) (option_or (array_fault DENSE_LAT fs) (option_or (array_fault DENSE_LON fs) x))) r.keys_vals.fault ∙ sym (plain_arrays fs) in
     let gs : List Entry = sub fs DENSE_DENSEINFO in
+    let plain : a ≡ first_there (arrays (DENSE_ID ∷ DENSE_LAT ∷ DENSE_LON ∷ DENSE_KEYS_VALS ∷ []) fs) =
+    ea ∙ array_then DENSE_ID (DENSE_LAT ∷ DENSE_LON ∷ DENSE_KEYS_VALS ∷ []) fs _ _ r.ids.fault (array_then DENSE_LAT (DENSE_LON ∷ DENSE_KEYS_VALS ∷ []) fs _ _ r.lats.fault
+    (array_then DENSE_LON (DENSE_KEYS_VALS ∷ []) fs _ _ r.lons.fault (last_array DENSE_KEYS_VALS fs _ r.keys_vals.fault))) in
+    let users = array_then DENSEINFO_USER_SID (DENSEINFO_VISIBLE ∷ []) gs _ _ j.users.fault (last_array DENSEINFO_VISIBLE gs _ j.visible.fault) in
+    let uids = array_then DENSEINFO_UID (DENSEINFO_USER_SID ∷ DENSEINFO_VISIBLE ∷ []) gs _ _ j.uids.fault users in
+    let changes = array_then DENSEINFO_CHANGESET (DENSEINFO_UID ∷ DENSEINFO_USER_SID ∷ DENSEINFO_VISIBLE ∷ []) gs _ _ j.changesets.fault uids in
+    let times = array_then DENSEINFO_TIMESTAMP (DENSEINFO_CHANGESET ∷ DENSEINFO_UID ∷ DENSEINFO_USER_SID ∷ DENSEINFO_VISIBLE ∷ []) gs _ _ j.timestamps.fault changes in
     let info : n ≡ first_there (arrays (DENSEINFO_VERSION ∷ DENSEINFO_TIMESTAMP ∷ DENSEINFO_CHANGESET ∷ DENSEINFO_UID ∷ DENSEINFO_USER_SID ∷ DENSEINFO_VISIBLE ∷ []) gs) =
-    en ∙ ap (λ x. option_or x (option_or d.info.timestamps.fault (option_or d.info.changesets.fault (option_or d.info.uids.fault (option_or d.info.users.fault d.info.visible.fault))))) j.versions.fault
-    ∙ ap (λ x. option_or (array_fault DENSEINFO_VERSION gs) (option_or x (option_or d.info.changesets.fault (option_or d.info.uids.fault (option_or d.info.users.fault d.info.visible.fault))))) j.timestamps.fault
-    ∙ ap (λ x. option_or (array_fault DENSEINFO_VERSION gs) (option_or (array_fault DENSEINFO_TIMESTAMP gs) (option_or x (option_or d.info.uids.fault (option_or d.info.users.fault d.info.visible.fault))))) j.changesets.fault
-    ∙ ap (λ x. option_or (array_fault DENSEINFO_VERSION gs) (option_or (array_fault DENSEINFO_TIMESTAMP gs) (option_or (array_fault DENSEINFO_CHANGESET gs) (option_or x (option_or d.info.users.fault d.info.visible.fault))))) j.uids.fault
-    ∙ ap (λ x. option_or (array_fault DENSEINFO_VERSION gs) (option_or (array_fault DENSEINFO_TIMESTAMP gs) (option_or (array_fault DENSEINFO_CHANGESET gs) (option_or (array_fault DENSEINFO_UID gs) (option_or x d.info.visible.fault))))) j.users.fault
-    ∙ ap (λ x. option_or (array_fault DENSEINFO_VERSION gs) (option_or (array_fault DENSEINFO_TIMESTAMP gs) (option_or (array_fault DENSEINFO_CHANGESET gs) (option_or (array_fault DENSEINFO_UID gs) (option_or (array_fault DENSEINFO_USER_SID gs) x))))) j.visible.fault ∙ sym (info_arrays gs) in
+    en ∙ array_then DENSEINFO_VERSION (DENSEINFO_TIMESTAMP ∷ DENSEINFO_CHANGESET ∷ DENSEINFO_UID ∷ DENSEINFO_USER_SID ∷ DENSEINFO_VISIBLE ∷ []) gs _ _ j.versions.fault times in
     let first_two : option_or w i ≡ first_there (map wire ps ++ map wire (each fs DENSE_DENSEINFO)) =
     ap (λ x. option_or x i) ew ∙ ap (option_or (first_there (map wire ps))) (ei ∙ ap (λ l. first_there (map wire l)) are) ∙ sym (first_there-append (map wire ps) (map wire (each fs DENSE_DENSEINFO))) in
     let three : option_or (option_or w i) a ≡ first_there (map wire ps ++ map wire (each fs DENSE_DENSEINFO) ++ arrays (DENSE_ID ∷ DENSE_LAT ∷ DENSE_LON ∷ DENSE_KEYS_VALS ∷ []) fs) =

@@ -1,5 +1,5 @@
 -- The phases of a dense message, one part after the other.
-use Rattle.std.proofs.Common.{◌≡◌, ℕ, List, [], ◌∷◌, ◌++◌, map, length, Bool, true, false, not, ◌&&◌, refl, sym, ap, ◌∙◌, ℤ, Some, None, nat_eq}
+use Rattle.std.proofs.Common.{◌≡◌, ℕ, List, [], ◌∷◌, map, length, Bool, true, false, not, ◌&&◌, refl, sym, ap, ◌∙◌, ℤ, Some, None, nat_eq}
 use Rattle.std.specs.Prelude.{◌||◌}
 use Rattle.std.specs.List.{list_all}
 use Rattle.std.proofs.lemmas.List.{length-map}
@@ -13,7 +13,7 @@ use Rattle.osm_block.specs.Differences.{front_sums, fits_i64}
 use Rattle.osm_block.specs.Block.{time, version}
 use Rattle.osm_block.specs.Dense.{AreArraysOf, arrays_in_range}
 use Rattle.osm_block.specs.Phases.{Phase, first, when, is_index, all_in, coordinate_in_range, same_length, fits_ids, deltas_of, dense_info_in_range, tags_phases, dense_phases}
-use Rattle.osm_block.proofs.DifferencesLemmas.{Diff-are_sums, list_all-stops}
+use Rattle.osm_block.proofs.DifferencesLemmas.{Diff-are_sums}
 use Rattle.osm_block.proofs.DenseArrayLemmas.{Diff-length, lengths_are}
 
 -- ---- lengths, as the code tests them
@@ -40,21 +40,7 @@ fault_of true f e = absurd cc
 fault_of false f e = let h : f ≡ faults.SumTooLarge = cc in (refl, h)
 
 -- one array whose sums don't fit, wherever it stands
-pub sum_stops : (before after : List (List ℤ)) (ds : List ℤ) (f : BlockFault) → when (not (sums_fit ds)) faults.SumTooLarge ≡ Some f →
-    when (not (list_all (λ ds. list_all fits_i64 (front_sums ds)) (before ++ ds ∷ after))) faults.SumTooLarge ≡ Some f
-sum_stops before after ds f e =
-    let h = fault_of (sums_fit ds) f e in
-    ap (λ b. when (not b) faults.SumTooLarge) (list_all-stops sums_fit before after ds h.0) ∙ ap Some (sym h.1)
-
 -- one more array whose sums fit
-pub sum_goes : (ds : List ℤ) (rest : List (List ℤ)) → when (not (sums_fit ds)) faults.SumTooLarge ≡ None → when (not (list_all (λ ds. list_all fits_i64 (front_sums ds)) rest)) faults.SumTooLarge ≡ None →
-    when (not (list_all (λ ds. list_all fits_i64 (front_sums ds)) (ds ∷ rest))) faults.SumTooLarge ≡ None
-sum_goes ds rest e h = go (sums_fit ds) e
-  where
-    go : (b : Bool) → when (not b) faults.SumTooLarge ≡ None → when (not (b && list_all (λ ds. list_all fits_i64 (front_sums ds)) rest)) faults.SumTooLarge ≡ None
-    go true d = h
-    go false d = absurd cc
-
 -- ---- the ranges
 
 abbrev pub message_in_range : Context → DenseMessage → Bool

@@ -1,5 +1,5 @@
 -- Tests of indexes, as the code makes them and as the phases do.
-use Rattle.std.proofs.Common.{◌≡◌, ℕ, zero, suc, arith, ◌%◌, ◌^◌, ◌<◌, List, [], ◌∷◌, ◌++◌, map, length, get_or, refl, sym, ap, ◌∙◌, ℤ, Option, Some, None, Bool, true, false, ◌&&◌}
+use Rattle.std.proofs.Common.{◌≡◌, ℕ, arith, ◌%◌, ◌^◌, ◌<◌, List, [], ◌∷◌, ◌++◌, map, refl, sym, ap, ◌∙◌, ℤ, Option, Some, None, Bool, true, false, ◌&&◌}
 use Rattle.std.specs.Prelude.{option_map, option_to_list, nat_lt}
 use Rattle.std.specs.List.{list_all}
 use Rattle.std.proofs.lemmas.List.Folds.{list_all-append}
@@ -21,34 +21,40 @@ as_option : (n : ℕ) (u : Option ℕ) → list_all (is_index n) (option_to_list
 as_option n None = refl
 as_option n (Some i) = true_right (nat_lt (i % 2 ^ 32) n)
 
+tags_are : (n : ℕ) (ks vs : List ℕ) → tag_indexes_in n ks vs ≡ list_all (is_index n) (map uint32 ks ++ map uint32 vs)
+tags_are n ks vs =
+    sym (list_all-append (is_index n) (map uint32 ks) (map uint32 vs)
+    ∙ ap (λ b. b && list_all (is_index n) (map uint32 vs)) (as_numbers n ks)
+    ∙ ap (λ b. all_below n ks && b) (as_numbers n vs))
+
 -- the test of all indexes, part by part
 pub indexes_are : (n : ℕ) (ks vs : List ℕ) (u : Option ℕ) → indexes_in n ks vs u ≡ list_all (is_index n) (map uint32 ks ++ map uint32 vs ++ option_to_list (option_map uint32 u))
 indexes_are n ks vs u =
-    let p : ℤ → Bool = is_index n in
     let users : List ℤ = option_to_list (option_map uint32 u) in
-    sym (list_all-append p (map uint32 ks ++ map uint32 vs) users
-    ∙ ap (λ b. b && list_all p users) (list_all-append p (map uint32 ks) (map uint32 vs))
-    ∙ ap (λ b. (b && list_all p (map uint32 vs)) && list_all p users) (as_numbers n ks)
-    ∙ ap (λ b. (all_below n ks && b) && list_all p users) (as_numbers n vs)
-    ∙ ap (λ b. (all_below n ks && all_below n vs) && b) (as_option n u))
+    ap (λ b. b && user_in n u) (tags_are n ks vs) ∙ ap (λ b. list_all (is_index n) (map uint32 ks ++ map uint32 vs) && b) (sym (as_option n u))
+    ∙ sym (list_all-append (is_index n) (map uint32 ks ++ map uint32 vs) users)
 
 as_roles : (n : ℕ) (rs : List ℕ) → list_all (is_index n) (map int32 rs) ≡ list_all (λ r. is_index n (int32 r)) rs
 as_roles n [] = refl
 as_roles n (r ∷ rs) = ap (λ b. is_index n (int32 r) && b) (as_roles n rs)
 
+swapped : (a b c : Bool) → (a && b && c) ≡ (a && c && b)
+swapped false b c = refl
+swapped true true c = sym (true_right c)
+swapped true false true = refl
+swapped true false false = refl
+
 pub role_indexes_are : (n : ℕ) (ks vs rs : List ℕ) (u : Option ℕ) →
-    (tag_indexes_in n ks vs && list_all (λ r. is_index n (int32 r)) rs && user_in n u) ≡ list_all (is_index n) (map uint32 ks ++ map uint32 vs ++ map int32 rs ++ option_to_list (option_map uint32 u))
+    (indexes_in n ks vs u && list_all (λ r. is_index n (int32 r)) rs) ≡ list_all (is_index n) (map uint32 ks ++ map uint32 vs ++ map int32 rs ++ option_to_list (option_map uint32 u))
 role_indexes_are n ks vs rs u =
-    let p : ℤ → Bool = is_index n in
+    let tags : List ℤ = map uint32 ks ++ map uint32 vs in
     let users : List ℤ = option_to_list (option_map uint32 u) in
-    let roles : List ℤ = map int32 rs in
-    sym (list_all-append p ((map uint32 ks ++ map uint32 vs) ++ roles) users
-    ∙ ap (λ b. b && list_all p users) (list_all-append p (map uint32 ks ++ map uint32 vs) roles)
-    ∙ ap (λ b. (b && list_all p roles) && list_all p users) (list_all-append p (map uint32 ks) (map uint32 vs))
-    ∙ ap (λ b. ((b && list_all p (map uint32 vs)) && list_all p roles) && list_all p users) (as_numbers n ks)
-    ∙ ap (λ b. ((all_below n ks && b) && list_all p roles) && list_all p users) (as_numbers n vs)
-    ∙ ap (λ b. ((all_below n ks && all_below n vs) && b) && list_all p users) (as_roles n rs)
-    ∙ ap (λ b. ((all_below n ks && all_below n vs) && list_all (λ r. is_index n (int32 r)) rs) && b) (as_option n u))
+    swapped (tag_indexes_in n ks vs) (user_in n u) (list_all (λ r. is_index n (int32 r)) rs)
+    ∙ ap (λ b. b && list_all (λ r. is_index n (int32 r)) rs && user_in n u) (tags_are n ks vs)
+    ∙ ap (λ b. list_all (is_index n) tags && b && user_in n u) (sym (as_roles n rs))
+    ∙ ap (λ b. list_all (is_index n) tags && list_all (is_index n) (map int32 rs) && b) (sym (as_option n u))
+    ∙ ap (λ b. b && list_all (is_index n) users) (sym (list_all-append (is_index n) tags (map int32 rs)))
+    ∙ sym (list_all-append (is_index n) (tags ++ map int32 rs) users)
 
 pub and_left : (a b : Bool) → (a && b) ≡ true → a ≡ true
 and_left true b h = refl
@@ -62,7 +68,3 @@ by_ltb : (x n : ℕ) → nat_lt x n ≡ true → x < n
 by_ltb x n h = grind (arith, nat_tests)
 
 -- from the test of all to each
-pub each_index : (n : ℕ) (ks : List ℕ) → all_below n ks ≡ true → (k d : ℕ) → k < length ks → get_or ks k d % 2 ^ 32 < n
-each_index n [] h k d inside = absurd (omega arith)
-each_index n (x ∷ ks) h zero d inside = by_ltb (x % 2 ^ 32) n (and_left _ _ h)
-each_index n (x ∷ ks) h (suc k) d inside = each_index n ks (and_right _ _ h) k d (omega arith)

@@ -5,18 +5,16 @@ use Rattle.std.proofs.lemmas.Bool.Decides.{nat_tests}
 use Rattle.pbf_wire.specs.Field.{Entry}
 use Rattle.osm_block.specs.declared.fields.TheConstants.{GROUP_DENSE, GROUP_NODES, GROUP_RELATIONS, GROUP_WAYS}
 use Rattle.osm_block.specs.declared.fault.BlockFault.TheVariants as faults
-use Rattle.std.specs.List.{flat_map, AllByRecursion, count_by}
+use Rattle.std.specs.List.{flat_map, AllByRecursion}
 use Rattle.std.proofs.lemmas.List.{map-append, drop_more, take_more}
 use Rattle.std.proofs.lemmas.Grind.{flat_map-append}
 use Rattle.pbf_wire.specs.declared.fault.WireFault.{WireFault}
 use Rattle.osm_block.specs.declared.fault.BlockFault.{BlockFault}
 use Rattle.osm_value.specs.declared.element.Element.{Element}
-use Rattle.osm_value.specs.declared.element.Element.TheVariants as elements
-use Rattle.osm_value.specs.Value.{NodeValue, WayValue, RelationValue}
 use Rattle.pbf_wire.specs.Readings.{fields, wire}
-use Rattle.osm_block.specs.Message.{Context, Message, Plain, Dense, Way, Relation, wires, way_message, node_message, relation_message, messages}
-use Rattle.pbf_wire.specs.Readings.{each, is_there}
-use Rattle.osm_block.specs.Block.{Joins, AllAreWire, NodeOf, WayOf, RelationOf, GroupOf, kinds_in}
+use Rattle.osm_block.specs.Message.{Context, Message, Plain, Dense, Way, Relation, wires, messages}
+use Rattle.pbf_wire.specs.Readings.{each}
+use Rattle.osm_block.specs.Block.{Joins, AllAreWire, GroupOf, kinds_in}
 use Rattle.osm_block.specs.Phases.{Phase, first, wire_phases, message_phases, phases_after_wire, group_phases, when}
 use Rattle.osm_block.specs.Reads.{Says, Appended, AppendedOne}
 use Rattle.osm_block.proofs.ReadingLemmas.{first-append_none, first-append_some}
@@ -33,15 +31,6 @@ all_wire (Some f ∷ ws) e = cc
 
 pub message_wire : (b : Context) (m : Message) → first (message_phases b m) ≡ None → AllAreWire m
 message_wire b m e = all_wire (wires m) (first-front_none (wire_phases (wires m)) (phases_after_wire b m) e)
-
-pub way_says : (b : Context) (p : List ℕ) (w : WayValue) → first (message_phases b (Way p)) ≡ None → WayOf b w (way_message (fields p)) → Says b (elements.Way w ∷ []) (Way p)
-way_says b p w none h = (message_wire b (Way p) none, (w, refl, h))
-
-pub node_says : (b : Context) (p : List ℕ) (n : NodeValue) → first (message_phases b (Plain p)) ≡ None → NodeOf b n (node_message (fields p)) → Says b (elements.Node n ∷ []) (Plain p)
-node_says b p n none h = (message_wire b (Plain p) none, (n, refl, h))
-
-pub relation_says : (b : Context) (p : List ℕ) (r : RelationValue) → first (message_phases b (Relation p)) ≡ None → RelationOf b r (relation_message (fields p)) → Says b (elements.Relation r ∷ []) (Relation p)
-relation_says b p r none h = (message_wire b (Relation p) none, (r, refl, h))
 
 -- ---- lists joined of parts
 
@@ -91,10 +80,6 @@ pub on_ok : {A E P Q : Type 0} (r : Result A E) → (P → Q) → OnOk r P → O
 on_ok (Ok x) f p = f p
 on_ok (Err e) f p = tt
 
-pub map_same : {A : Type 0} (xs : List A) → map (λ x. x) xs ≡ xs
-map_same [] = refl
-map_same (x ∷ xs) = ap (λ l. x ∷ l) (map_same xs)
-
 -- ---- messages and groups, one part after the other
 
 pub stop_front : {M : Type 0} (phases : M → List Phase) (xs ys : List M) (whole : Phase) → whole ≡ first (flat_map phases (xs ++ ys)) → (f : BlockFault) → first (flat_map phases xs) ≡ Some f → whole ≡ Some f
@@ -114,14 +99,6 @@ pub Appended-along : (b : Context) (old new : List Element) (ms ns : List Messag
 Appended-along b old new ms ns e g = let P : List Message → Type 0 = λ l. Appended b old new l in subst P e g
 
 -- the kinds of a group are those of its parts
-pub kinds_are : (gs : List Entry) (p q r s : List (List ℕ)) → p ≡ each gs GROUP_NODES → q ≡ each gs GROUP_DENSE → r ≡ each gs GROUP_WAYS → s ≡ each gs GROUP_RELATIONS →
-    count_by (λ x. x) (is_there p ∷ is_there q ∷ is_there r ∷ is_there s ∷ []) ≡ kinds_in gs
-kinds_are gs p q r s ep eq er es =
-    ap (λ x. count_by (λ x. x) (is_there x ∷ is_there q ∷ is_there r ∷ is_there s ∷ [])) ep
-    ∙ ap (λ x. count_by (λ x. x) (is_there (each gs GROUP_NODES) ∷ is_there x ∷ is_there r ∷ is_there s ∷ [])) eq
-    ∙ ap (λ x. count_by (λ x. x) (is_there (each gs GROUP_NODES) ∷ is_there (each gs GROUP_DENSE) ∷ is_there x ∷ is_there s ∷ [])) er
-    ∙ ap (λ x. count_by (λ x. x) (is_there (each gs GROUP_NODES) ∷ is_there (each gs GROUP_DENSE) ∷ is_there (each gs GROUP_WAYS) ∷ is_there x ∷ [])) es
-
 -- the messages of a group are those of its parts
 pub messages_are : (gs : List Entry) (p q r s : List (List ℕ)) → p ≡ each gs GROUP_NODES → q ≡ each gs GROUP_DENSE → r ≡ each gs GROUP_WAYS → s ≡ each gs GROUP_RELATIONS →
     map Plain p ++ (Dense q ∷ (map Way r ++ map Relation s)) ≡ messages gs
@@ -135,13 +112,6 @@ pub mixed : (b : Context) (g : List ℕ) (m : Bool) → wire g ≡ None → m �
 mixed b g m none is stands =
     ap (λ o. first (option_map faults.BlockWire o ∷ when (not (nat_le (kinds_in (fields g)) 1)) faults.MixedGroup ∷ flat_map (message_phases b) (messages (fields g)))) none
     ∙ ap (λ v. first (when v faults.MixedGroup ∷ flat_map (message_phases b) (messages (fields g)))) (sym is ∙ stands)
-
-pub past_kinds : (b : Context) (g : List ℕ) (m : Bool) (ms : List Message) → wire g ≡ None → m ≡ not (nat_le (kinds_in (fields g)) 1) → m ≡ false → ms ≡ messages (fields g) →
-    first (flat_map (message_phases b) ms) ≡ first (group_phases b g)
-past_kinds b g m ms none is passes same =
-    ap (λ l. first (flat_map (message_phases b) l)) same
-    ∙ sym (ap (λ o. first (option_map faults.BlockWire o ∷ when (not (nat_le (kinds_in (fields g)) 1)) faults.MixedGroup ∷ flat_map (message_phases b) (messages (fields g)))) none
-    ∙ ap (λ v. first (when v faults.MixedGroup ∷ flat_map (message_phases b) (messages (fields g)))) (sym is ∙ passes))
 
 few : (n : ℕ) (m : Bool) → m ≡ not (nat_le n 1) → m ≡ false → n ≤ 1
 few n m is fine = grind (arith, nat_tests)

@@ -23,29 +23,29 @@ info_message_of i = record {
 
 abbrev pub node_message_of : NodeFields → NodeMessage
 node_message_of n = record {
-  id = option_map sint64 n.id;
-  keys = map uint32 n.keys.numbers.items;
-  vals = map uint32 n.vals.numbers.items;
-  info = info_message_of n.info.numbers;
+  id = option_map sint64 n.element.id;
+  keys = map uint32 n.element.keys.numbers.items;
+  vals = map uint32 n.element.vals.numbers.items;
+  info = info_message_of n.element.info.numbers;
   lat = option_map sint64 n.lat;
   lon = option_map sint64 n.lon;
 }
 
 abbrev pub way_message_of : WayFields → WayMessage
 way_message_of w = record {
-  id = option_map int64 w.id;
-  keys = map uint32 w.keys.numbers.items;
-  vals = map uint32 w.vals.numbers.items;
-  info = info_message_of w.info.numbers;
+  id = option_map int64 w.element.id;
+  keys = map uint32 w.element.keys.numbers.items;
+  vals = map uint32 w.element.vals.numbers.items;
+  info = info_message_of w.element.info.numbers;
   refs = map sint64 w.refs.numbers.items;
 }
 
 abbrev pub relation_message_of : RelationFields → RelationMessage
 relation_message_of r = record {
-  id = option_map int64 r.id;
-  keys = map uint32 r.keys.numbers.items;
-  vals = map uint32 r.vals.numbers.items;
-  info = info_message_of r.info.numbers;
+  id = option_map int64 r.element.id;
+  keys = map uint32 r.element.keys.numbers.items;
+  vals = map uint32 r.element.vals.numbers.items;
+  info = info_message_of r.element.info.numbers;
   roles_sid = map int32 r.roles.numbers.items;
   memids = map sint64 r.memids.numbers.items;
   types = map int32 r.types.numbers.items;

@@ -11,6 +11,7 @@ use Rattle.osm_block.specs.declared.fields.TheConstants.{ELEMENT_ID, ELEMENT_INF
 use Rattle.osm_block.specs.declared.number_array.NumberArray.{NumberArray}
 use Rattle.osm_block.specs.declared.info.InfoNumbers.{InfoNumbers}
 use Rattle.osm_block.specs.declared.info.InfoFields.{InfoFields}
+use Rattle.osm_block.specs.declared.element_fields.ElementFields.{ElementFields}
 use Rattle.osm_block.specs.declared.node.NodeFields.{NodeFields}
 use Rattle.osm_block.specs.declared.way.WayFields.{WayFields}
 use Rattle.osm_block.specs.declared.relation.RelationFields.{RelationFields}
@@ -57,26 +58,23 @@ pub record InfoLeft (info : InfoFields) (k : ℕ) (rest whole : List Entry) : Ty
   pub numbers : info_after info.numbers (flat_map fields (each rest k)) ≡ info_after no_info (flat_map fields (each whole k))
   pub fault : option_or info.fault (first_there (map wire (each rest k))) ≡ first_there (map wire (each whole k))
 
+pub record ElementLeft (element : ElementFields) (rest whole : List Entry) : Type 0 where
+  pub id : NumberLeft element.id ELEMENT_ID rest whole
+  pub keys : ArrayLeft element.keys ELEMENT_KEYS rest whole
+  pub vals : ArrayLeft element.vals ELEMENT_VALS rest whole
+  pub info : InfoLeft element.info ELEMENT_INFO rest whole
+
 pub record NodeLeft (node : NodeFields) (rest whole : List Entry) : Type 0 where
-  pub id : NumberLeft node.id ELEMENT_ID rest whole
-  pub keys : ArrayLeft node.keys ELEMENT_KEYS rest whole
-  pub vals : ArrayLeft node.vals ELEMENT_VALS rest whole
-  pub info : InfoLeft node.info ELEMENT_INFO rest whole
+  pub element : ElementLeft node.element rest whole
   pub lat : NumberLeft node.lat NODE_LAT rest whole
   pub lon : NumberLeft node.lon NODE_LON rest whole
 
 pub record WayLeft (way : WayFields) (rest whole : List Entry) : Type 0 where
-  pub id : NumberLeft way.id ELEMENT_ID rest whole
-  pub keys : ArrayLeft way.keys ELEMENT_KEYS rest whole
-  pub vals : ArrayLeft way.vals ELEMENT_VALS rest whole
-  pub info : InfoLeft way.info ELEMENT_INFO rest whole
+  pub element : ElementLeft way.element rest whole
   pub refs : ArrayLeft way.refs WAY_REFS rest whole
 
 pub record RelationLeft (relation : RelationFields) (rest whole : List Entry) : Type 0 where
-  pub id : NumberLeft relation.id ELEMENT_ID rest whole
-  pub keys : ArrayLeft relation.keys ELEMENT_KEYS rest whole
-  pub vals : ArrayLeft relation.vals ELEMENT_VALS rest whole
-  pub info : InfoLeft relation.info ELEMENT_INFO rest whole
+  pub element : ElementLeft relation.element rest whole
   pub roles : ArrayLeft relation.roles RELATION_ROLES_SID rest whole
   pub memids : ArrayLeft relation.memids RELATION_MEMIDS rest whole
   pub types : ArrayLeft relation.types RELATION_TYPES rest whole

@@ -13,12 +13,13 @@ ghost use Rattle.osm_block.specs.Phases.{Gives, first, message_phases, group_pha
 ghost use Rattle.osm_block.specs.Reads.{Appended, AppendedOne, AppendedGroups};
 
 use crate::dense::read_dense;
+use crate::element_message::read_elements;
 use crate::fault::{BlockError, BlockFault};
 use crate::fields::{GROUP_DENSE, GROUP_NODES, GROUP_RELATIONS, GROUP_WAYS};
-use crate::node::{NodeFields, read_node};
-use crate::relation::{RelationFields, read_relation};
+use crate::node::NodeFields;
+use crate::relation::RelationFields;
 use crate::scale::Scale;
-use crate::way::{WayFields, read_way};
+use crate::way::WayFields;
 use osm_value::Element;
 use pbf_wire::{Fields, Value};
 use std::alloc::Global;
@@ -39,60 +40,6 @@ impl Scratch {
             relation: RelationFields::new(alloc),
         }
     }
-}
-
-/// Appends the ways of the payloads.
-fn read_ways<'a>(
-    alloc: Global,
-    scale: &Scale<'a>,
-    payloads: &[&'a [u8]],
-    scratch: &mut Scratch,
-    out: &mut Vec<Element<'a>>,
-) -> Result<(), BlockError>
-    ensures phase { Gives (λ _. ⊤) (first (flat_map (message_phases (context_of scale.now)) (map Way (map (λ p. p.now) payloads.now)))) result }
-    ensures read { OnOk result (Appended (context_of scale.now) out.old.items out.new.items (map Way (map (λ p. p.now) payloads.now))) }
-{
-    for payload in payloads {
-        let way = read_way(alloc, scale, payload, &mut scratch.way)?;
-        out.push(Element::Way(way))?;
-    }
-    Ok(())
-}
-
-/// Appends the nodes of the payloads.
-fn read_nodes<'a>(
-    alloc: Global,
-    scale: &Scale<'a>,
-    payloads: &[&'a [u8]],
-    scratch: &mut Scratch,
-    out: &mut Vec<Element<'a>>,
-) -> Result<(), BlockError>
-    ensures phase { Gives (λ _. ⊤) (first (flat_map (message_phases (context_of scale.now)) (map Plain (map (λ p. p.now) payloads.now)))) result }
-    ensures read { OnOk result (Appended (context_of scale.now) out.old.items out.new.items (map Plain (map (λ p. p.now) payloads.now))) }
-{
-    for payload in payloads {
-        let node = read_node(alloc, scale, payload, &mut scratch.node)?;
-        out.push(Element::Node(node))?;
-    }
-    Ok(())
-}
-
-/// Appends the relations of the payloads.
-fn read_relations<'a>(
-    alloc: Global,
-    scale: &Scale<'a>,
-    payloads: &[&'a [u8]],
-    scratch: &mut Scratch,
-    out: &mut Vec<Element<'a>>,
-) -> Result<(), BlockError>
-    ensures phase { Gives (λ _. ⊤) (first (flat_map (message_phases (context_of scale.now)) (map Relation (map (λ p. p.now) payloads.now)))) result }
-    ensures read { OnOk result (Appended (context_of scale.now) out.old.items out.new.items (map Relation (map (λ p. p.now) payloads.now))) }
-{
-    for payload in payloads {
-        let relation = read_relation(alloc, scale, payload, &mut scratch.relation)?;
-        out.push(Element::Relation(relation))?;
-    }
-    Ok(())
 }
 
 /// The payloads of a group, by kind.
@@ -176,10 +123,16 @@ fn read_messages<'a>(
     ensures phase { Gives (λ _. ⊤) (first (flat_map (message_phases (context_of scale.now)) (messages_of payloads.now))) result }
     ensures read { OnOk result (Appended (context_of scale.now) out.old.items out.new.items (messages_of payloads.now)) }
 {
-    read_nodes(alloc, scale, &payloads.nodes, scratch, out)?;
+    read_elements(alloc, scale, &payloads.nodes, &mut scratch.node, out)?;
     read_dense(alloc, scale, &payloads.dense, out)?;
-    read_ways(alloc, scale, &payloads.ways, scratch, out)?;
-    read_relations(alloc, scale, &payloads.relations, scratch, out)
+    read_elements(alloc, scale, &payloads.ways, &mut scratch.way, out)?;
+    read_elements(
+        alloc,
+        scale,
+        &payloads.relations,
+        &mut scratch.relation,
+        out,
+    )
 }
 
 /// Appends the elements of a group.

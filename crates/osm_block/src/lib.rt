@@ -4,6 +4,8 @@
 mod block;
 mod deltas;
 mod dense;
+mod element_fields;
+mod element_message;
 mod fault;
 pub mod fields;
 mod group;

@@ -1,37 +1,31 @@
 //! Nodes with a message of their own.
 
-ghost use Rattle.std.specs.Prelude.{◌≡◌, ◌&&◌, List, [], ⊤, OnOk, option_map};
-ghost use Rattle.std.specs.List.{list_all};
-ghost use Rattle.std.specs.Option.{option_or};
+ghost use Rattle.std.specs.Prelude.{◌≡◌, ◌&&◌, ◌∷◌, [], List};
 ghost use Rattle.pbf_wire.specs.Field.{Entry};
-ghost use Rattle.pbf_wire.specs.Readings.{fields, wire};
+ghost use Rattle.osm_value.specs.declared.element.Element.TheVariants as elements;
 ghost use Rattle.osm_value.specs.Ranges.{is_wide};
-ghost use Rattle.osm_block.specs.Message.{Plain, node_message, wires};
+ghost use Rattle.osm_value.specs.Value.{NodeValue};
 ghost use Rattle.osm_block.specs.Block.{NodeOf};
-ghost use Rattle.osm_block.specs.FieldsLeft.{NodeLeft, indexes_in};
 ghost use Rattle.osm_block.specs.Fields.{context_of, info_message_of, node_message_of};
-ghost use Rattle.osm_block.specs.declared.fault.BlockFault.TheVariants as faults;
-ghost use Rattle.osm_block.specs.Phases.{Gives, first, node_phases, message_phases, wire_phases, info_in_range, coordinate_in_range};
+ghost use Rattle.osm_block.specs.Phases.{Gives, first, node_phases, info_in_range, coordinate_in_range};
 
 use crate::deltas::optional_unzigzag;
+use crate::element_fields::ElementFields;
+use crate::element_message::ElementMessage;
 use crate::fault::{BlockError, BlockFault};
-use crate::fields::{ELEMENT_ID, ELEMENT_INFO, ELEMENT_KEYS, ELEMENT_VALS, NODE_LAT, NODE_LON};
-use crate::info::{InfoFields, InfoNumbers, info_in_range, info_of, user_fits};
-use crate::number_array::NumberArray;
-use crate::ranges::{all_indexes, coordinate_in_range, coordinate_of};
+use crate::fields::{NODE_LAT, NODE_LON};
+use crate::info::{InfoNumbers, info_in_range, info_of};
+use crate::ranges::{coordinate_in_range, coordinate_of};
 use crate::scale::Scale;
 use crate::tag_list::tags_of;
-use osm_value::wide_in_range;
-use pbf_wire::{Fields, Value, WireFault};
-use std::alloc::Global;
+use osm_value::{Element, Node, wide_in_range};
+use pbf_wire::{Field, Value, WireFault};
+use std::alloc::{AllocError, Global};
 
 /// A node's message as it stands there. It is read into again for each node.
 #[derive(Drop)]
 pub struct NodeFields {
-    pub id: Option<u64>,
-    pub keys: NumberArray,
-    pub vals: NumberArray,
-    pub info: InfoFields,
+    pub element: ElementFields,
     pub lat: Option<u64>,
     pub lon: Option<u64>,
 }
@@ -39,65 +33,48 @@ pub struct NodeFields {
 impl NodeFields {
     pub(crate) fn new(alloc: Global) -> NodeFields {
         NodeFields {
-            id: None,
-            keys: NumberArray::new(alloc),
-            vals: NumberArray::new(alloc),
-            info: InfoFields::new(),
+            element: ElementFields::new(alloc),
             lat: None,
             lon: None,
         }
     }
+}
 
-    /// Begins another message.
-    fn clear(&mut self)
-        ensures { (fs : List Entry) → NodeLeft self.new fs fs }
-    {
-        self.id = None;
-        self.keys.clear();
-        self.vals.clear();
-        self.info = InfoFields::new();
+impl ElementMessage for NodeFields {
+    ghost use Rattle.std.specs.Prelude.{refl};
+    ghost use Rattle.osm_block.specs.Message.{Plain};
+    ghost use Rattle.osm_block.specs.FieldsLeft.{NodeLeft};
+
+    ghost message = { Plain };
+
+    ghost own = { [] };
+
+    ghost left = { NodeLeft };
+
+    ghost is_wired = { λ p. refl };
+
+    fn clear(&mut self) {
+        self.element.clear();
         self.lat = None;
         self.lon = None;
     }
 
-    /// The first fault of the payloads that it was read from: those of the Info, and then by field number.
-    fn fault(&self) -> Option<WireFault>
-        ensures { result ≡ option_or self.now.info.fault (option_or self.now.keys.fault self.now.vals.fault) }
-    {
-        self.info.fault.or(self.keys.fault.or(self.vals.fault))
-    }
-}
-
-/// Reads the fields of the message; the faults of its payloads are kept for later.
-fn read_fields(payload: &[u8], node: &mut NodeFields) -> Result<(), BlockError>
-    ensures phase { Gives (λ _. ⊤) (option_map faults.BlockWire (wire payload.now)) result }
-    ensures read { OnOk result (NodeLeft node.new [] (fields payload.now)) }
-{
-    node.clear();
-    for field in Fields::new(payload) {
-        let field = field?;
+    #[inline(always)]
+    fn take(&mut self, field: Field) -> Result<(), AllocError> {
         match (field.number, field.value) {
-            (ELEMENT_ID, Value::Number(number)) => node.id = Some(number),
-            (ELEMENT_KEYS, value) => node.keys.take(value)?,
-            (ELEMENT_VALS, value) => node.vals.take(value)?,
-            (ELEMENT_INFO, Value::Bytes(info)) => node.info.take(info),
-            (NODE_LAT, Value::Number(number)) => node.lat = Some(number),
-            (NODE_LON, Value::Number(number)) => node.lon = Some(number),
-            _ => {}
+            (NODE_LAT, Value::Number(number)) => self.lat = Some(number),
+            (NODE_LON, Value::Number(number)) => self.lon = Some(number),
+            _ => self.element.take(field)?,
         }
+        Ok(())
     }
-    Ok(())
-}
 
-/// Reads the message, or answers the first fault of its wire.
-fn read_node_fields(payload: &[u8], node: &mut NodeFields) -> Result<(), BlockError>
-    ensures phase { Gives (λ _. ⊤) (first (wire_phases (wires (Plain payload.now)))) result }
-    ensures read { OnOk result (node_message_of node.new ≡ node_message (fields payload.now)) }
-{
-    read_fields(payload, node)?;
-    match node.fault() {
-        None => Ok(()),
-        Some(fault) => Err(BlockError::from(fault)),
+    fn fault(&self) -> Option<WireFault> {
+        self.element.fault(None)
+    }
+
+    fn element<'a>(&self, alloc: Global, scale: &Scale<'a>) -> Result<Element<'a>, BlockError> {
+        node_of(alloc, scale, self)
     }
 }
 
@@ -109,24 +86,17 @@ fn node_in_range(scale: &Scale, id: i64, lat: i64, lon: i64, info: &InfoNumbers)
     wide_in_range(id) & lat & lon & info_in_range(scale, info)
 }
 
-fn indexes_fit(texts: usize, node: &NodeFields) -> bool
-    ensures { result ≡ indexes_in texts node.now.keys.numbers.items node.now.vals.numbers.items node.now.info.numbers.user_sid }
-{
-    all_indexes(&node.keys.numbers, texts)
-        & all_indexes(&node.vals.numbers, texts)
-        & user_fits(texts, node.info.numbers.user_sid)
-}
-
 /// The node that the message stands to.
 fn node_of<'a>(
     alloc: Global,
     scale: &Scale<'a>,
     node: &NodeFields,
-) -> Result<osm_value::Node<'a>, BlockError>
-    ensures { Gives (λ n. NodeOf (context_of scale.now) n (node_message_of node.now)) (first (node_phases (context_of scale.now) (node_message_of node.now))) result }
+) -> Result<Element<'a>, BlockError>
+    ensures { Gives (λ e. (n : NodeValue) × (e ∷ [] ≡ elements.Node n ∷ []) × NodeOf (context_of scale.now) n (node_message_of node.now)) (first (node_phases (context_of scale.now) (node_message_of node.now))) result }
 {
-    let info = &node.info.numbers;
-    let Some(id) = optional_unzigzag(node.id) else {
+    let element = &node.element;
+    let info = &element.info.numbers;
+    let Some(id) = optional_unzigzag(element.id) else {
         return Err(BlockError::Fault(BlockFault::Missing));
     };
     let Some(lat) = optional_unzigzag(node.lat) else {
@@ -135,31 +105,18 @@ fn node_of<'a>(
     let Some(lon) = optional_unzigzag(node.lon) else {
         return Err(BlockError::Fault(BlockFault::Missing));
     };
-    if node.keys.numbers.len() != node.vals.numbers.len() {
+    if element.keys.numbers.len() != element.vals.numbers.len() {
         return Err(BlockError::Fault(BlockFault::LengthsDiffer));
     }
     if !node_in_range(scale, id, lat, lon, info) {
         return Err(BlockError::Fault(BlockFault::OutOfRange));
     }
     let table: &[&'a str] = &scale.table;
-    if !indexes_fit(table.len(), node) {
+    if !element.indexes_fit(table.len()) {
         return Err(BlockError::Fault(BlockFault::BadIndex));
     }
-    let tags = tags_of(alloc, table, &node.keys.numbers, &node.vals.numbers)?;
+    let tags = tags_of(alloc, table, &element.keys.numbers, &element.vals.numbers)?;
     let lat = coordinate_of(scale.lat_offset, scale.granularity, lat);
     let lon = coordinate_of(scale.lon_offset, scale.granularity, lon);
-    Ok(osm_value::Node::new(id, lat, lon, tags, info_of(scale, info)))
-}
-
-/// The node that a payload stands to.
-pub(crate) fn read_node<'a>(
-    alloc: Global,
-    scale: &Scale<'a>,
-    payload: &'a [u8],
-    node: &mut NodeFields,
-) -> Result<osm_value::Node<'a>, BlockError>
-    ensures { Gives (λ n. NodeOf (context_of scale.now) n (node_message (fields payload.now))) (first (message_phases (context_of scale.now) (Plain payload.now))) result }
-{
-    read_node_fields(payload, node)?;
-    node_of(alloc, scale, node)
+    Ok(Element::Node(Node::new(id, lat, lon, tags, info_of(scale, info))))
 }

@@ -1,4 +1,4 @@
-use Rattle.std.proofs.Common.{rules, ◌≡◌, ◌∙◌, ◌++◌, ap, sym, arith, length, map, Some, true, ℤ, FitsSigned, to_z, of_z, w32, w64}
+use Rattle.std.proofs.Common.{rules, ◌≡◌, ◌∙◌, ◌++◌, ap, refl, sym, arith, length, map, Some, true, ℤ, FitsSigned, to_z, of_z, w32, w64}
 use Rattle.std.proofs.lemmas.Int.{to_z-of_z}
 use Rattle.std.proofs.lemmas.List.{length-map}
 use Rattle.std.specs.Prelude.{option_map}
@@ -44,13 +44,13 @@ module _ (c : After-indexes_fit) where
   texts : length c.deref-table.result.now ≡ length (context_of c.args.scale.now).table
   texts = ap length c.deref-table.ensures.value ∙ sym (length-map _ (λ t. t.now))
 
-  fit : c.indexes_fit.result ≡ list_all (is_index (length c.deref-table.result.now)) ((node_message_of c.args.node.now).keys ++ (node_message_of c.args.node.now).vals ++ user_indexes (info_message_of c.args.node.now.info.numbers))
-  fit = c.indexes_fit.ensures ∙ indexes_are _ c.args.node.now.keys.numbers.items c.args.node.now.vals.numbers.items c.args.node.now.info.numbers.user_sid
+  fit : c.indexes_fit.result ≡ list_all (is_index (length c.deref-table.result.now)) ((node_message_of c.args.node.now).keys ++ (node_message_of c.args.node.now).vals ++ user_indexes (info_message_of c.args.node.now.element.info.numbers))
+  fit = c.indexes_fit.ensures ∙ indexes_are _ c.args.node.now.element.keys.numbers.items c.args.node.now.element.vals.numbers.items c.args.node.now.element.info.numbers.user_sid
 
   passed : (is_wide (to_z w64 (of_z w64 c.in-Some.id)) ≡ true)
       × (coordinate_in_range c.args.scale.now.lat_offset c.args.scale.now.granularity (to_z w64 (of_z w64 c.in-Some-optional_unzigzag.lat)) ≡ true)
       × (coordinate_in_range c.args.scale.now.lon_offset c.args.scale.now.granularity (to_z w64 (of_z w64 c.in-Some-optional_unzigzag-2.lon)) ≡ true)
-      × (info_in_range (context_of c.args.scale.now) (info_message_of c.args.node.now.info.numbers) ≡ true)
+      × (info_in_range (context_of c.args.scale.now) (info_message_of c.args.node.now.element.info.numbers) ≡ true)
   passed = four _ _ _ _ (sym c.node_in_range.ensures ∙ c.if-not-node_in_range.false)
 
 -- the node's coordinates and tags, as they are made
@@ -71,13 +71,13 @@ module _ (c : After-info_of) where
       to_z-of_z w64 c.coordinate_of-lon.result fits ∙ c.coordinate_of-lon.ensures ∙ ap (λ x. coordinate x (to_z w32 (of_z w32 c.args.scale.now.granularity)) (to_z w64 (of_z w64 c.in-Some-optional_unzigzag-2.lon))) (to_z-of_z w64 c.args.scale.now.lon_offset offset)
       ∙ ap (λ x. coordinate c.args.scale.now.lon_offset x (to_z w64 (of_z w64 c.in-Some-optional_unzigzag-2.lon))) (to_z-of_z w32 c.args.scale.now.granularity unit)
 
-  tags_are : TagsAt (map (λ t. t.now) c.args.scale.now.table.items) (map (λ t. (t.0.now, t.1.now)) c.in_ok-tags.tags.items) (map uint32 c.args.node.now.keys.numbers.items) (map uint32 c.args.node.now.vals.numbers.items)
+  tags_are : TagsAt (map (λ t. t.now) c.args.scale.now.table.items) (map (λ t. (t.0.now, t.1.now)) c.in_ok-tags.tags.items) (map uint32 c.args.node.now.element.keys.numbers.items) (map uint32 c.args.node.now.element.vals.numbers.items)
   tags_are = TagsAt-along _ _ _ _ _ _ _ _ c.deref-table.ensures.value c.deref.ensures.value c.deref-2.ensures.value c.in_ok-tags.ensures
 
   in_range : IsNode (record { id = to_z w64 (of_z w64 c.in-Some.id); lat = to_z w64 (of_z w64 c.coordinate_of-lat.result); lon = to_z w64 (of_z w64 c.coordinate_of-lon.result); tags = map (λ t. (t.0.now, t.1.now)) c.in_ok-tags.tags.items; info = c.info_of.result })
   in_range =
       let p = four (is_wide (to_z w64 (of_z w64 c.in-Some.id))) (coordinate_in_range c.args.scale.now.lat_offset c.args.scale.now.granularity (to_z w64 (of_z w64 c.in-Some-optional_unzigzag.lat)))
-      (coordinate_in_range c.args.scale.now.lon_offset c.args.scale.now.granularity (to_z w64 (of_z w64 c.in-Some-optional_unzigzag-2.lon))) (info_in_range (context_of c.args.scale.now) (info_message_of c.args.node.now.info.numbers))
+      (coordinate_in_range c.args.scale.now.lon_offset c.args.scale.now.granularity (to_z w64 (of_z w64 c.in-Some-optional_unzigzag-2.lon))) (info_in_range (context_of c.args.scale.now) (info_message_of c.args.node.now.element.info.numbers))
       (sym c.node_in_range.ensures ∙ c.if-not-node_in_range.false) in
       record { id = p.0; lat = ap is_wide lat_is_coordinate ∙ p.1; lon = ap is_wide lon_is_coordinate ∙ p.2; tags = tags_in_range (map (λ t. t.now) c.args.scale.now.table.items) _ _ _ c.args.scale.now.texts tags_are; info = c.info_of.ensures.in_range }
 
@@ -115,9 +115,9 @@ info_of-requires-clause-in_range c = (passed (goal.at.info_of-requires-clause-in
 
 pub info_of-requires-clause-in_table : goal.info_of-requires-clause-in_table
 info_of-requires-clause-in_table c =
-    let fits : indexes_in (length c.deref-table.result.now) c.args.node.now.keys.numbers.items c.args.node.now.vals.numbers.items c.args.node.now.info.numbers.user_sid ≡ true = sym c.indexes_fit.ensures ∙ c.if-not-indexes_fit.false in
-    ap (λ n. user_in n c.args.node.now.info.numbers.user_sid) (sym (ap length c.deref-table.ensures.value))
-    ∙ and_right (tag_indexes_in (length c.deref-table.result.now) c.args.node.now.keys.numbers.items c.args.node.now.vals.numbers.items) (user_in (length c.deref-table.result.now) c.args.node.now.info.numbers.user_sid) fits
+    let fits : indexes_in (length c.deref-table.result.now) c.args.node.now.element.keys.numbers.items c.args.node.now.element.vals.numbers.items c.args.node.now.element.info.numbers.user_sid ≡ true = sym c.indexes_fit.ensures ∙ c.if-not-indexes_fit.false in
+    ap (λ n. user_in n c.args.node.now.element.info.numbers.user_sid) (sym (ap length c.deref-table.ensures.value))
+    ∙ and_right (tag_indexes_in (length c.deref-table.result.now) c.args.node.now.element.keys.numbers.items c.args.node.now.element.vals.numbers.items) (user_in (length c.deref-table.result.now) c.args.node.now.element.info.numbers.user_sid) fits
 
 pub new-requires : goal.new-requires
 new-requires c = record { in_range = in_range (goal.at.new-requires c).After-info_of }
@@ -128,12 +128,16 @@ returns c =
     let inside = (goal.at.returns c).After-indexes_fit in
     let made = (goal.at.returns c).After-info_of in (
       no_phase _ _ _ _ _ _ _ _ (read tested) (range tested) c.if-not-node_in_range.false (texts inside) (fit inside) c.if-not-indexes_fit.false,
-      rw c.new.ensures (record {
-        id_is = ap Some (id_is tested) ∙ sym (read tested).there;
-        lat_is = ap Some (lat_is_coordinate made ∙ ap (coordinate c.args.scale.now.lat_offset c.args.scale.now.granularity) (lat_is tested)) ∙ sym (ap (option_map (coordinate c.args.scale.now.lat_offset c.args.scale.now.granularity)) (read tested).lat_there);
-        lon_is = ap Some (lon_is_coordinate made ∙ ap (coordinate c.args.scale.now.lon_offset c.args.scale.now.granularity) (lon_is tested)) ∙ sym (ap (option_map (coordinate c.args.scale.now.lon_offset c.args.scale.now.granularity)) (read tested).lon_there);
-        tags_are = tags_are made;
-        info_is = c.info_of.ensures;
-        in_range = in_range made;
-      }),
+      (
+        c.new.result,
+        refl,
+        rw c.new.ensures (record {
+          id_is = ap Some (id_is tested) ∙ sym (read tested).there;
+          lat_is = ap Some (lat_is_coordinate made ∙ ap (coordinate c.args.scale.now.lat_offset c.args.scale.now.granularity) (lat_is tested)) ∙ sym (ap (option_map (coordinate c.args.scale.now.lat_offset c.args.scale.now.granularity)) (read tested).lat_there);
+          lon_is = ap Some (lon_is_coordinate made ∙ ap (coordinate c.args.scale.now.lon_offset c.args.scale.now.granularity) (lon_is tested)) ∙ sym (ap (option_map (coordinate c.args.scale.now.lon_offset c.args.scale.now.granularity)) (read tested).lon_there);
+          tags_are = tags_are made;
+          info_is = c.info_of.ensures;
+          in_range = in_range made;
+        }),
+      ),
     )
