@@ -4,13 +4,13 @@ use Rattle.std.specs.Prelude.{codes}
 use Rattle.std.specs.Fmt.{decimal}
 use Rattle.osm_import.specs.Lines.{stored_line, held_line, fault_text, fault_line}
 
-three : (b x y z : List ℕ) → ((b ++ x) ++ y) ++ z ≡ b ++ ((x ++ y) ++ z)
+pub three : (b x y z : List ℕ) → ((b ++ x) ++ y) ++ z ≡ b ++ ((x ++ y) ++ z)
 three b x y z = simp append_assoc
 
-four : (b x y z w : List ℕ) → (((b ++ x) ++ y) ++ z) ++ w ≡ b ++ (((x ++ y) ++ z) ++ w)
+pub four : (b x y z w : List ℕ) → (((b ++ x) ++ y) ++ z) ++ w ≡ b ++ (((x ++ y) ++ z) ++ w)
 four b x y z w = simp append_assoc
 
-five : (b p q r s t : List ℕ) → ((((b ++ p) ++ q) ++ r) ++ s) ++ t ≡ b ++ ((((p ++ q) ++ r) ++ s) ++ t)
+pub five : (b p q r s t : List ℕ) → ((((b ++ p) ++ q) ++ r) ++ s) ++ t ≡ b ++ ((((p ++ q) ++ r) ++ s) ++ t)
 five b p q r s t = simp append_assoc
 
 pub held_parts : (before : List ℕ) (off : ℕ) → (before ++ decimal off) ++ codes " held\n" ≡ before ++ held_line off

@@ -3,7 +3,7 @@ use Rattle.std.proofs.Common.{◌≡◌, ◌⊎◌, ℕ, zero, suc, ◌+◌, ◌
 use Rattle.std.proofs.lemmas.List.{take-append-drop, drop_at}
 use Rattle.pbf_wire.proofs.Choices.{ok_is, not_both}
 use Rattle.pbf_frame.specs.declared.fault.FrameFault.{FrameFault}
-use Rattle.pbf_frame.specs.Framer.{Framing, fed, lacking, taken, let_go}
+use Rattle.pbf_frame.specs.Framer.{Framing, fed, lacking, taken}
 use Rattle.pbf_frame.specs.Parts.{part_end}
 use Rattle.pbf_frame.proofs.PartLaws.{part_grows}
 use Rattle.pbf_frame.proofs.WaitingLaws.{fault_again, waits_again}
@@ -73,9 +73,6 @@ moved_fed first f g start piece q n so_far is count left =
       ap (λ (h : Framing). h.rest) is,
       front-taken n (lacking (length f.rest) (part_end f.offset f.rest)) piece q count left,
     )
-
-pub begun_let_go : (f : Framing) → IsBegun f → IsBegun (let_go f)
-begun_let_go f begun = begun
 
 -- where nothing is held
 pub begun-empty : (f : Framing) → f.rest ≡ [] → IsBegun f

@@ -1,5 +1,5 @@
 -- From the copies of single blobs to the copy of a map.
-use Rattle.std.proofs.Common.{◌≡◌, ◌≢◌, ◌⊎◌, ℕ, suc, zero, ◌+◌, ◌<◌, ◌≤◌, true, List, [], ◌∷◌, ◌++◌, map, length, take, get_or, Option, Result, Some, None, Ok, Err, cond, is_some, add-one, refl, sym, ◌∙◌, ap, subst, inl, inr, arith}
+use Rattle.std.proofs.Common.{◌≡◌, ◌≢◌, ◌⊎◌, ℕ, suc, zero, ◌+◌, ◌<◌, ◌≤◌, true, List, [], ◌∷◌, ◌++◌, map, length, take, get_or, Option, Result, Some, None, Ok, Err, cond, is_some, add-one, sym, ◌∙◌, ap, subst, inl, inr, arith}
 use Rattle.std.specs.FinMap as finite
 use Rattle.std.specs.FinMap.{get, insert, entries, get-entries, entries_sorted, is_sorted}
 use Rattle.std.specs.Ordering.{nat_cmp}
@@ -22,7 +22,7 @@ use Rattle.osm_import.specs.declared.copy.BlobCopy.{BlobCopy}
 use Rattle.osm_import.specs.declared.copy.BlobCopy.TheVariants.{Added, AlreadyHeld}
 use Rattle.osm_import.specs.Copies.{IsMerged, IsUnited, IsUnitedBelow, IsMet, held_among, IsCopyStep, CopiesBlob, Stops, FaultIsCaused}
 use Rattle.osm_import.proofs.Touching.{Meets, touching-meets, find-cons, find-tail, find-head, sorted-tail}
-use Rattle.osm_import.proofs.Delivering.{true-of, AreTouching}
+use Rattle.osm_import.proofs.Delivering.{true-of, AreTouching, both-held, none-held, not-held}
 
 -- ---- which offsets were taken
 
@@ -48,16 +48,6 @@ at_split (e ∷ es) x off at = elim at [
 
 -- ---- one more blob
 
-none-held : (found : Option Blob) → ((blob : Blob) → found ≢ Some blob) → found ≡ None
-none-held None h = refl
-none-held (Some blob) h = absurd (h blob refl)
-
-both : (held : HeldMap) (off : ℕ) (a b : Blob) → get held off ≡ Some a → get held off ≡ Some b → a ≡ b
-both held off a b x y = let e : Some a ≡ Some b = sym x ∙ y in cc
-
-apart-some : {C : Type 0} (held : HeldMap) (off : ℕ) (a : Blob) → get held off ≡ Some a → get held off ≡ None → C
-apart-some held off a x y = let e : Some a ≡ None = sym x ∙ y in absurd cc
-
 -- a relation that says the same of the offsets of the source
 pub merged_as : (P Q : ℕ → Type 0) (source held after : HeldMap) → ((off : ℕ) (blob : Blob) → get source off ≡ Some blob → (P off → Q off) × (Q off → P off)) → IsMerged P source held after → IsMerged Q source held after
 merged_as P Q source held after says m = record {
@@ -79,9 +69,9 @@ merged_none P source held none = record {
 pub merged_add : (P : ℕ → Type 0) (source held middle : HeldMap) (o : ℕ) (blob : Blob) → IsMerged P source held middle → get source o ≡ Some blob → get middle o ≡ None
     → IsMerged (λ off. P off ⊎ (off ≡ o)) source held (insert middle o blob)
 merged_add P source held middle o blob m of free = record {
-  kept = λ off x is. (let apart : off ≢ o = λ here. apart-some middle o x (sym (ap (get middle) here) ∙ m.kept off x is) free in get-insert_other middle o blob off apart ∙ m.kept off x is);
+  kept = λ off x is. (let apart : off ≢ o = λ here. not-held middle o x (sym (ap (get middle) here) ∙ m.kept off x is) free in get-insert_other middle o blob off apart ∙ m.kept off x is);
   added = λ off x taken is none. elim (eqb_tells off o) [
-    | inl (_, here) ↦ (let one : x ≡ blob = both source o x blob (sym (ap (get source) here) ∙ is) of in ap (get (insert middle o blob)) here ∙ get-insert_here middle o blob ∙ ap Some (sym one))
+    | inl (_, here) ↦ (let one : x ≡ blob = both-held source o x blob (sym (ap (get source) here) ∙ is) of in ap (get (insert middle o blob)) here ∙ get-insert_here middle o blob ∙ ap Some (sym one))
     | inr (_, apart) ↦ elim taken [
       | inl before ↦ get-insert_other middle o blob off apart ∙ m.added off x before is none
       | inr here ↦ absurd (apart here)
@@ -90,12 +80,12 @@ merged_add P source held middle o blob m of free = record {
   only = λ off x is. elim (get-insert_cases middle o blob off x is) [
     | inl (here, one) ↦
         let there : get source off ≡ Some x = ap (get source) here ∙ of ∙ ap Some (sym one) in
-        inr (inr here, there, none-held (get held off) (λ y was. apart-some middle o y (sym (ap (get middle) here) ∙ m.kept off y was) free))
+        inr (inr here, there, none-held (get held off) (λ y was. not-held middle o y (sym (ap (get middle) here) ∙ m.kept off y was) free))
     | inr (_, was) ↦ elim (m.only off x was) [ inl old ↦ inl old | inr (taken, there, free_there) ↦ inr (inl taken, there, free_there) ]
   ];
   same = λ off x other taken is was. elim taken [
     | inl before ↦ m.same off x other before is was
-    | inr here ↦ apart-some middle o other (sym (ap (get middle) here) ∙ m.kept off other was) free
+    | inr here ↦ not-held middle o other (sym (ap (get middle) here) ∙ m.kept off other was) free
   ];
 }
 
@@ -109,16 +99,16 @@ merged_held P source held middle o blob other m of found digest = record {
     | inr here ↦
         let there : get middle off ≡ Some other = ap (get middle) here ∙ found in
         elim (m.only off other there) [
-          | inl was ↦ apart-some held off other was none
-          | inr (_, same, _) ↦ there ∙ ap Some (both source off other x same is)
+          | inl was ↦ not-held held off other was none
+          | inr (_, same, _) ↦ there ∙ ap Some (both-held source off other x same is)
         ]
   ];
   only = λ off x is. elim (m.only off x is) [ inl old ↦ inl old | inr (taken, there, free_there) ↦ inr (inl taken, there, free_there) ];
   same = λ off x y taken is was. elim taken [
     | inl before ↦ m.same off x y before is was
     | inr here ↦
-        let one : y ≡ other = both middle off y other (m.kept off y was) (ap (get middle) here ∙ found) in
-        let two : x ≡ blob = both source off x blob is (ap (get source) here ∙ of) in
+        let one : y ≡ other = both-held middle off y other (m.kept off y was) (ap (get middle) here ∙ found) in
+        let two : x ≡ blob = both-held source off x blob is (ap (get source) here ∙ of) in
         ap (λ (b : Blob). b.digest) one ∙ digest ∙ sym (ap (λ (b : Blob). b.digest) two)
   ];
 }
@@ -318,7 +308,7 @@ pub held_by : (source held middle after : HeldMap) (extents : List Extent) (i : 
     → ◌≡◌ {A = ℕ} (cond (is_some (get held x.off)) 1 0) (already answer)
 held_by source held middle after extents i x blob Added are within is m apart order of step =
     let none = none-held (get middle x.off) (IsFree-unheld middle x.off blob.fin apart step.0 order) in
-    let was = none-held (get held x.off) (λ y there. apart-some middle x.off y (m.kept x.off y there) none) in ap (λ (o : Option Blob). cond (is_some o) 1 0) was
+    let was = none-held (get held x.off) (λ y there. not-held middle x.off y (m.kept x.off y there) none) in ap (λ (o : Option Blob). cond (is_some o) 1 0) was
 held_by source held middle after extents i x blob AlreadyHeld are within is m apart order of step = elim (m.only x.off step.0 step.1) [
   | inl was ↦ ap (λ (o : Option Blob). cond (is_some o) 1 0) was
   | inr (taken, there, free) ↦

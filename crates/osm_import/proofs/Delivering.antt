@@ -9,7 +9,7 @@ use Rattle.pbf_frame.specs.declared.kind.Kind.{Kind}
 use Rattle.pbf_frame.specs.declared.kind.Kind.TheVariants.{OsmHeader, OsmData, Other}
 use Rattle.osm_store.specs.Held.{Blob, HeldMap, IsFree, IsApart, HaveFewTexts}
 use Rattle.osm_store.specs.HeldLaws.{IsFree-unheld}
-use Rattle.osm_store.specs.Keeping.{touches, extents_of, extent_of}
+use Rattle.osm_store.specs.Keeping.{IsAddable, touches, extents_of, extent_of}
 use Rattle.osm_store.specs.declared.keeper.Extent.{Extent}
 use Rattle.osm_import.specs.Step.{IsEntry, IsHeldAlready, IsHeldOtherwise, IsOverlapping, IsStoring}
 use Rattle.osm_import.proofs.GoodLaws.{frame-filled}
@@ -76,6 +76,12 @@ pub free-of : (held : HeldMap) (off fin : ℕ) (extents : List Extent) → AreTo
 free-of held off fin extents are none at blob is =
     free-none off fin (entries held) (sym are ∙ none_of extents none) at blob (sym (get-entries held at) ∙ is)
 
+-- where no extent touches its own, a blob of few texts can be taken
+pub addable : (held : HeldMap) (off fin : ℕ) (extents : List Extent) (digest : List ℕ) (kind : Kind) (stored elements : List Element) → AreTouching held off fin extents → length extents ≡ 0
+    → stored ≡ elements → HaveFewTexts elements → IsAddable held off (record { fin = fin; digest = digest; kind = kind; elements = stored })
+addable held off fin extents digest kind stored elements are none same few =
+    record { free = free-of held off fin extents are none; few_texts = subst (λ (es : List Element). HaveFewTexts es) (sym same) few }
+
 pub held_already : (held : HeldMap) (off : ℕ) (frame : List ℕ) (kind : Kind) (elements : List Element) (extents : List Extent) (extent : Extent)
     → IsGood off frame kind elements → IsApart held → AreTouching held off (off + length frame) extents
     → Some extent ≡ find (λ (extent : Extent). extent.off == off) extents → extent.digest ≡ sha256 frame → IsHeldAlready held off frame
@@ -110,7 +116,13 @@ overlapping held off frame kind elements extents good apart are none some =
       ends = met.ends;
     }
 
-none-held : (found : Option Blob) → ((blob : Blob) → found ≢ Some blob) → found ≡ None
+pub both-held : (held : HeldMap) (off : ℕ) (a b : Blob) → get held off ≡ Some a → get held off ≡ Some b → a ≡ b
+both-held held off a b x y = let e : Some a ≡ Some b = sym x ∙ y in cc
+
+pub not-held : {C : Type 0} (held : HeldMap) (off : ℕ) (a : Blob) → get held off ≡ Some a → get held off ≡ None → C
+not-held held off a x y = let e : Some a ≡ None = sym x ∙ y in absurd cc
+
+pub none-held : (found : Option Blob) → ((blob : Blob) → found ≢ Some blob) → found ≡ None
 none-held None h = refl
 none-held (Some blob) h = absurd (h blob refl)
 

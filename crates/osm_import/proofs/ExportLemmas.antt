@@ -23,7 +23,7 @@ use Rattle.osm_import.specs.declared.export.fault.ExportFault.TheVariants.{Incom
 use Rattle.osm_import.proofs.Touching.{find-cons, find-tail, find-head, sorted-tail}
 use Rattle.osm_import.proofs.Delivering.{true-of}
 use Rattle.osm_import.proofs.FilesLemmas.{stands-from}
-use Rattle.osm_import.proofs.GapsLemmas.{found-within, IsChain, IsWithin, chain-extents, gaps-between}
+use Rattle.osm_import.proofs.GapsLemmas.{found-within, IsChain, IsWithin, chain-extents, gaps-between, within-from}
 
 first-some : (rs : List (ℕ × ℕ)) (x : ℕ × ℕ) → Some x ≡ slice_get rs 0 → (rest : List (ℕ × ℕ)) × (rs ≡ x ∷ rest)
 first-some [] x is = absurd (cc)
@@ -139,13 +139,6 @@ elements_in (e ∷ es) = e.1.elements ++ elements_in es
 pub lines-in : (es : List (ℕ × Blob)) → blob_lines es ≡ lines_of (elements_in es)
 lines-in [] = refl
 lines-in (e ∷ es) = ap (λ l. lines_of e.1.elements ++ l) (lines-in es) ∙ sym (lines_of-append e.1.elements (elements_in es))
-
-within-from : (from : ℕ) (es : List Extent) (byte : ℕ) → IsChain from es → IsWithin es byte → from ≤ byte
-within-from from [] byte chain within = absurd within
-within-from from (e ∷ es) byte chain within = elim within [
-  | inl (starts, ends) ↦ (let h = chain.0 in omega arith)
-  | inr later ↦ (let h : e.fin ≤ byte = within-from e.fin es byte chain.2 later in let h0 = chain.0 in let h1 = chain.1 in omega arith)
-]
 
 -- what tiles the frames that stand from start on has the elements of these frames
 tiled-elements : (start : ℕ) (frames : List (List ℕ)) → AreFrames frames → (es : List (ℕ × Blob)) → is_sorted nat_cmp es ≡ true → IsChain start (map extent_of es)

@@ -66,7 +66,7 @@ history-of_file : (frames : List (List ℕ)) (held : HeldMap) (es : List Event) 
 history-of_file frames held [] after history stands of_file = subst (λ (m : HeldMap). IsHeldOfFile frames m) (sym history) of_file
 history-of_file frames held (e ∷ es) after history stands of_file = history-of_file frames history.0 es after history.2 stands.1 (event-of_file frames held e history.0 history.1 stands.0 of_file)
 
-among-good : (ds : List DeliveryValue) (d : DeliveryValue) (off : ℕ) (blob : Blob) → IsAmong ds d → off ≡ d.off → IsEntry off d.bytes blob → IsGoodIn ds off blob
+pub among-good : (ds : List DeliveryValue) (d : DeliveryValue) (off : ℕ) (blob : Blob) → IsAmong ds d → off ≡ d.off → IsEntry off d.bytes blob → IsGoodIn ds off blob
 among-good [] d off blob among here entry = absurd among
 among-good (x ∷ ds) d off blob among here entry = elim among [
   | inl same ↦ inl (here ∙ ap (λ (y : DeliveryValue). y.off) same, subst (λ (y : DeliveryValue). IsEntry off y.bytes blob) same entry)
@@ -85,7 +85,7 @@ breaks-good ds (broken d ∷ es) off blob among breaks = elim breaks [ inl (here
 breaks-good ds (answered d a ∷ es) off blob among breaks = elim breaks [ inl here ↦ absurd here | inr later ↦ breaks-good ds es off blob among.1 later ]
 breaks-good ds (reopened ∷ es) off blob among breaks = elim breaks [ inl here ↦ absurd here | inr later ↦ breaks-good ds es off blob among.1 later ]
 
-nothing-held : (off : ℕ) (blob : Blob) → get {R = nat_cmp} empty off ≡ Some blob → ⊥
+pub nothing-held : (off : ℕ) (blob : Blob) → get {R = nat_cmp} empty off ≡ Some blob → ⊥
 nothing-held off blob is = let bad : Some blob ≡ None = sym is ∙ get-empty nat_cmp off in cc
 
 nothing-else : (es : List Event) (held : HeldMap) → IsHistory empty es held → (off : ℕ) (blob : Blob) → get held off ≡ Some blob → Somewhere StoresAt es off blob ⊎ Somewhere BreaksAt es off blob

@@ -3,7 +3,7 @@ use Rattle.std.proofs.Common.{◌≡◌, ◌≢◌, ◌⊎◌, ℕ, ◌+◌, ◌
 use Rattle.std.specs.Prelude.{◌↔◌, IfOk}
 use Rattle.std.specs.Ordering.{nat_cmp}
 use Rattle.std.specs.Cmp.{nat_cmp_total, unsigned_tied}
-use Rattle.std.specs.FinMap.{get, empty, entries, get-empty, get-entries, entries_sorted, same_entries_map}
+use Rattle.std.specs.FinMap.{get, empty, entries, get-entries, entries_sorted, same_entries_map}
 use Rattle.std.specs.FinMap.Entries.{same_entries}
 use Rattle.std.proofs.lemmas.Bool.Decides.{eqb_tells, leb_tells}
 use Rattle.osm_store.specs.Held.{Blob, HeldMap}
@@ -23,14 +23,15 @@ use Rattle.osm_import.specs.declared.stream.summary.Summary.{Summary}
 use Rattle.osm_import.specs.declared.stream.fault.StreamFault.{StreamFault}
 use Rattle.osm_import.specs.declared.answer.Conflict.TheVariants.{Differs, Overlap}
 use Rattle.osm_import.proofs.FilesLemmas.{stands-apart, stands-same, entry-same}
+use Rattle.osm_import.proofs.HistoryLemmas.{among-good, nothing-held}
 use Rattle.osm_import.proofs.RunsLemmas.{run-imports}
 
 -- ---- maps with the same entries
 
-same_some : (a b : Option Blob) → ((blob : Blob) → a ≡ Some blob → b ≡ Some blob) → ((blob : Blob) → b ≡ Some blob → a ≡ Some blob) → a ≡ b
-same_some None None to from = refl
-same_some (Some x) b to from = sym (to x refl)
-same_some None (Some y) to from = from y refl
+pub same-found : (a b : Option Blob) → ((blob : Blob) → a ≡ Some blob → b ≡ Some blob) → ((blob : Blob) → b ≡ Some blob → a ≡ Some blob) → a ≡ b
+same-found None None to from = refl
+same-found (Some x) b to from = sym (to x refl)
+same-found None (Some y) to from = from y refl
 
 abbrev is_equal : Ordering → Bool
 is_equal Equal = true
@@ -43,7 +44,7 @@ tied x y same = elim (eqb_tells x y) [ inl (_, is) ↦ is | inr (test, apart) �
 pub one_map : (one other : HeldMap) → ((off : ℕ) (blob : Blob) → (get one off ≡ Some blob) ↔ (get other off ≡ Some blob)) → one ≡ other
 one_map one other says =
     same_entries_map one other (same_entries nat_cmp nat_cmp_total tied (entries one) (entries other) (entries_sorted one) (entries_sorted other)
-    (λ off. sym (get-entries one off) ∙ same_some (get one off) (get other off) (λ blob. (says off blob).0) (λ blob. (says off blob).1) ∙ get-entries other off))
+    (λ off. sym (get-entries one off) ∙ same-found (get one off) (get other off) (λ blob. (says off blob).0) (λ blob. (says off blob).1) ∙ get-entries other off))
 
 -- ---- blobs of one file
 
@@ -123,23 +124,13 @@ good_among (d ∷ ds) off blob good = elim good [
   | inr later ↦ (let it = good_among ds off blob later in (it.0, inr it.1, it.2, it.3))
 ]
 
-among_good : (ds : List DeliveryValue) (d : DeliveryValue) (off : ℕ) (blob : Blob) → IsAmong ds d → off ≡ d.off → IsEntry off d.bytes blob → IsGoodIn ds off blob
-among_good [] d off blob among here entry = absurd among
-among_good (x ∷ ds) d off blob among here entry = elim among [
-  | inl same ↦ inl (here ∙ ap (λ (y : DeliveryValue). y.off) same, subst (λ (y : DeliveryValue). IsEntry off y.bytes blob) same entry)
-  | inr later ↦ inr (among_good ds d off blob later here entry)
-]
-
 same_good : (ds es : List DeliveryValue) → ((d : DeliveryValue) → IsAmong ds d → IsAmong es d) → (off : ℕ) (blob : Blob) → IsGoodIn ds off blob → IsGoodIn es off blob
-same_good ds es among off blob good = let it = good_among ds off blob good in among_good es it.0 off blob (among it.0 it.1) it.2 it.3
-
-nothing_held : (off : ℕ) (blob : Blob) → get {R = nat_cmp} empty off ≡ Some blob → ⊥
-nothing_held off blob is = let bad : Some blob ≡ None = sym is ∙ get-empty nat_cmp off in cc
+same_good ds es among off blob good = let it = good_among ds off blob good in among-good es it.0 off blob (among it.0 it.1) it.2 it.3
 
 pub unions_are_imports : UnionsAreImports
 unions_are_imports frames parts sources after deliveries one whole of imported united among imported_one = one_map after one (λ off blob.
-    let all = united_all frames whole parts sources empty after of imported (λ o b is. absurd (nothing_held o b is)) united off blob in (
-      (λ is. elim (all.0 is) [ inl was ↦ absurd (nothing_held off blob was) | inr good ↦ (imported_one off blob).1 (same_good (all_of parts) deliveries (λ d. (among d).1) off blob good) ]),
+    let all = united_all frames whole parts sources empty after of imported (λ o b is. absurd (nothing-held o b is)) united off blob in (
+      (λ is. elim (all.0 is) [ inl was ↦ absurd (nothing-held off blob was) | inr good ↦ (imported_one off blob).1 (same_good (all_of parts) deliveries (λ d. (among d).1) off blob good) ]),
       (λ is. all.1 (inr (same_good deliveries (all_of parts) (λ d. (among d).0) off blob ((imported_one off blob).0 is)))),
     ))
 
@@ -177,13 +168,6 @@ unions_stay source held after again first second = one_map again after (λ off b
 
 -- ---- a file in parts
 
-joined_both : (ws vs : List (List ℕ)) → length (joined (ws ++ vs)) ≡ length (joined ws) + length (joined vs)
-joined_both [] vs = let none : length (joined vs) ≡ 0 + length (joined vs) = omega arith in none
-joined_both (w ∷ ws) vs =
-    let rest = joined_both ws vs in
-    let front : length (w ++ joined (ws ++ vs)) ≡ length w + length (joined (ws ++ vs)) = length-append w (joined (ws ++ vs)) in
-    let own : length (w ++ joined ws) ≡ length w + length (joined ws) = length-append w (joined ws) in omega (arith, rest, front, own)
-
 placed_both : (start : ℕ) (ws vs : List (List ℕ)) → placed_from start (ws ++ vs) ≡ placed_from start ws ++ placed_from (start + length (joined ws)) vs
 placed_both start [] vs = ap (λ n. placed_from n vs) (let none : start ≡ start + 0 = omega arith in none)
 placed_both start (w ∷ ws) vs =
@@ -208,8 +192,8 @@ placed_of_file frames start (w ∷ ws) stands = (stands start w (inl (refl, refl
 -- a run of deliveries of a file to a new store, without a fault, is an import of them
 imported_run : (frames : List (List ℕ)) → AreFrames frames → (ds : List DeliveryValue) (answers : List Answer) (held : HeldMap) → AreOfFile frames ds → IsRun empty ds answers held → IsNone IsFault answers → IsImported ds held
 imported_run frames whole ds answers held of run sound off blob =
-    let all = (run-imports frames whole empty ds answers held run of (λ o b is. absurd (nothing_held o b is))).all sound off blob in (
-      (λ is. elim (all.0 is) [ inl was ↦ absurd (nothing_held off blob was) | inr good ↦ good ]),
+    let all = (run-imports frames whole empty ds answers held run of (λ o b is. absurd (nothing-held o b is))).all sound off blob in (
+      (λ is. elim (all.0 is) [ inl was ↦ absurd (nothing-held off blob was) | inr good ↦ good ]),
       (λ good. all.1 (inr good)),
     )
 

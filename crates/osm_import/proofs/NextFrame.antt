@@ -10,13 +10,13 @@ use Rattle.pbf_frame.specs.Parts.{part_end}
 use Rattle.pbf_frame.proofs.PartLaws.{empty_part, whole_long}
 use Rattle.pbf_frame.proofs.WaitingLaws.{waiting_again, waiting_read, waiting_faults, waits_again}
 use Rattle.osm_import.specs.Exports.{Known}
-use Rattle.osm_import.specs.FrameReads.{Reading, HasFrame, LacksFrame, framing_of, Halts, ReadsFrame, IsReady}
+use Rattle.osm_import.specs.FrameReads.{Reading, HasFrame, LacksFrame, framing_of, Halts, ReadsFrame}
 use Rattle.osm_import.specs.Good.{IsFrame}
 use Rattle.osm_import.specs.Streams.{Moved}
 use Rattle.osm_import.specs.StreamSteps.{IsFull, IsBegun, HasNoFrame}
 use Rattle.osm_import.specs.declared.stream.fault.Stop.{Stop}
 use Rattle.osm_import.specs.declared.stream.fault.Stop.TheVariants.{ReadFailed}
-use Rattle.osm_import.proofs.Begun.{no-frame as none-held, begun-empty}
+use Rattle.osm_import.proofs.Begun.{no-frame as none-held}
 
 -- what is before a framer, a piece and a reader
 abbrev pub before : Framing → List ℕ → Known → Bool → Reading
@@ -100,28 +100,6 @@ gives f g h p q left after was is None moved (inr (empty, end)) e state =
 pub faultless : (f : Framing) (left : Known) (fault : FrameFault) → HasFrame f left → Err fault ≡ waiting f → ⊥
 faultless f left fault (inl waits) e = neither_both (Some (f.offset, f.rest)) fault (e ∙ waiting_again f waits)
 faultless f left fault (inr (empty, end)) e = not_both 4 fault (sym (empty_part f.offset) ∙ ap (part_end f.offset) (sym empty) ∙ waiting_faults f fault (sym e))
-
--- what was fed to the framer was read before
-pub same-reading : (f g : Framing) (p q : List ℕ) (left : Known) (has_failed : Bool) → Moved f g (Some p) (Some q) → before g q left has_failed ≡ before f p left has_failed
-same-reading f g p q left has_failed moved =
-    let read : g.rest ++ q ≡ f.rest ++ p = ap (λ (v : List ℕ). v ++ q) moved.2 ∙ append_assoc f.rest moved.0 q ∙ ap (λ (v : List ℕ). f.rest ++ v) (sym moved.3) in
-    ap (λ n. let r : Reading = record { offset = n; left = prepend_known (g.rest ++ q) left; has_failed = has_failed; read = g.rest ++ q; behind = left } in r) moved.1
-    ∙ ap (λ (v : List ℕ). let r : Reading = record { offset = f.offset; left = prepend_known v left; has_failed = has_failed; read = v; behind = left } in r) read
-
--- a framer that takes no more holds a frame or a fault
-pub ready-where-full : (g : Framing) (q : List ℕ) (left : Known) (has_failed : Bool) → IsFull g → IsReady (before g q left has_failed)
-ready-where-full g q left has_failed full = (g.rest, q, refl, full)
-
--- after a call for the frame that waits
-pub begun_given : (g h : Framing) (left : Known) → HasFrame g left → IsBegun g → h ≡ given g (waiting g) → IsBegun h
-begun_given g h left (inl waits) begun is =
-    begun-empty h (ap (λ (x : Framing). x.rest) (is ∙ ap (given g) (waiting_again g waits)))
-begun_given g h left (inr (empty, end)) begun is = begun-empty h (ap (λ (x : Framing). x.rest) is ∙ rests (waiting g))
-  where
-    rests : (r : Result (Option (ℕ × List ℕ)) FrameFault) → (given g r).rest ≡ []
-    rests (Ok (Some frame)) = refl
-    rests (Ok None) = empty
-    rests (Err fault) = empty
 
 -- the reader is ready exactly where its framer takes no more
 pub ready-exact : (f : Framing) (piece : List ℕ) (is_full : Bool) → f.lent ≡ [] → IsBegun f → (is_full ≡ true) ↔ IsFull f → (is_full ≡ false → piece ≡ [])

@@ -5,10 +5,9 @@ use Rattle.std.specs.Io.KnownBytes.{Appends}
 use Rattle.std.proofs.KnownBytes.{Appends-trans, Appends-nil}
 use Rattle.osm_value.specs.declared.element.Element.{Element}
 use Rattle.osm_value.specs.Sink.{AppendsFront}
-use Rattle.osm_write.specs.Cutter.{StepOk, ComesToOne}
+use Rattle.osm_write.specs.Cutter.{StepOk}
 use Rattle.osm_write.specs.Header.{header_block, plain_header, plain_header_is, historic_header, historic_header_is}
 use Rattle.osm_store.specs.Held.{Blob, HeldMap}
-use Rattle.osm_store.specs.declared.fault.StoreFault.{StoreFault}
 use Rattle.osm_import.specs.Exports.{Known, WritesBlob, IsUnbegun}
 use Rattle.osm_import.specs.Gaps.{Tiles}
 use Rattle.osm_import.specs.Pbf.{header_frame, data_frame, data_frames, Cuts, AreFramesOf, AreFirstFrames, WritesBlocks, IsHeadedExport}
@@ -46,24 +45,12 @@ pub record CutSoFar (before after : Known) (es rest : List Element) : Type 0 whe
   pub cut : Cuts es blocks rest
   pub wrote : Appends before after (data_frames blocks)
 
-pub cut-none : (before : Known) (es : List Element) → CutSoFar before before es es
-cut-none before es = record { blocks = []; cut = refl; wrote = Appends-nil before }
-
 pub cut-more : (before middle after : Known) (es rest : List Element) (block : List ℕ) (count : ℕ) → CutSoFar before middle es rest → StepOk rest block count → Appends middle after (data_frame block) → CutSoFar before after es (drop count rest)
 cut-more before middle after es rest block count so_far step wrote = record {
   blocks = so_far.blocks ++ block ∷ [];
   cut = cuts-more es so_far.blocks rest block count so_far.cut step;
   wrote = subst (λ (text : List ℕ). Appends before after text) (data_frames-more so_far.blocks block) (Appends-trans before middle after (data_frames so_far.blocks) (data_frame block) so_far.wrote wrote);
 }
-
-pub cut-all : (before after : Known) (es rest : List Element) → CutSoFar before after es rest → rest ≡ [] → WritesBlocks before es after (Ok tt)
-cut-all before after es rest so_far none = (so_far.blocks, subst (λ (xs : List Element). Cuts es so_far.blocks xs) none so_far.cut, so_far.wrote)
-
-pub cut-large : (before after : Known) (es rest : List Element) → CutSoFar before after es rest → ComesToOne rest → WritesBlocks before es after (Err BlockTooLarge)
-cut-large before after es rest so_far large = (so_far.blocks, rest, so_far.cut, large, so_far.wrote)
-
-pub cut-fault : (before after : Known) (es rest : List Element) (fault : StoreFault) → CutSoFar before after es rest → WritesBlocks before es after (Err (Store fault))
-cut-fault before after es rest fault so_far = (so_far.blocks, rest, so_far.cut, all-front before after (data_frames so_far.blocks) so_far.wrote)
 
 pub cut-err : (before middle after : Known) (es rest : List Element) (block : List ℕ) (count : ℕ) (fault : ExportFault) → CutSoFar before middle es rest → StepOk rest block count
     → WritesBlob middle (data_frame block) after (Err fault) → WritesBlocks before es after (Err fault)

@@ -19,7 +19,7 @@ use Rattle.osm_import.specs.declared.answer.Answer.{Answer}
 use Rattle.osm_import.specs.declared.answer.Answer.TheVariants.{Stored, AlreadyHeld, Bad, Refused, Fault}
 use Rattle.osm_import.proofs.GoodLaws.{good-or-bad, good-not_bad, bad-one}
 use Rattle.osm_import.proofs.FilesLemmas.{entry-same}
-use Rattle.osm_import.proofs.Delivering.{true-of, entry_at, entry_at-is, free-of}
+use Rattle.osm_import.proofs.Delivering.{true-of, entry_at, entry_at-is, free-of, both-held, not-held}
 use Rattle.osm_import.proofs.Touching.{Meets, touching-meets}
 
 -- ---- some answer
@@ -92,12 +92,6 @@ some-step held off bytes = elim (good-or-bad off bytes) [
 
 abbrev Same : Answer → HeldMap → Answer → HeldMap → Type 0
 Same a after b other = (a ≡ b) × (after ≡ other)
-
-both-held : (held : HeldMap) (off : ℕ) (a b : Blob) → get held off ≡ Some a → get held off ≡ Some b → a ≡ b
-both-held held off a b x y = let e : Some a ≡ Some b = sym x ∙ y in cc
-
-not-held : {C : Type 0} (held : HeldMap) (off : ℕ) (a : Blob) → get held off ≡ Some a → get held off ≡ None → C
-not-held held off a x y = let e : Some a ≡ None = sym x ∙ y in absurd cc
 
 same-or-other : {C : Type 0} (held : HeldMap) (off : ℕ) (bytes : List ℕ) → IsHeldAlready held off bytes → IsHeldOtherwise held off bytes → C
 same-or-other held off bytes h g = absurd (g.other (ap (λ (b : Blob). b.digest) (both-held held off g.blob h.blob g.found h.found) ∙ h.same))

@@ -50,12 +50,12 @@ of-file frames off (r ∷ rs) stands = (stands off r.0 (inl (refl, refl)), of-fi
 -- ---- each frame is held
 
 -- stored or held already
-abbrev IsKept : Answer → Type 0
+abbrev pub IsKept : Answer → Type 0
 IsKept (Stored count) = Unit {0}
 IsKept AlreadyHeld = Unit {0}
 IsKept _ = ⊥
 
-abbrev AreKept : List Reply → Type 0
+abbrev pub AreKept : List Reply → Type 0
 AreKept [] = Unit {0}
 AreKept (r ∷ rs) = IsKept r.1 × AreKept rs
 

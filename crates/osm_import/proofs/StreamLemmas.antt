@@ -1,5 +1,5 @@
 -- From frame to frame of a stream.
-use Rattle.std.proofs.Common.{◌≡◌, ◌⊎◌, ℕ, ◌+◌, ◌^◌, ◌<◌, ◌≤◌, ◌&&◌, eqb, cond, Bool, true, false, List, [], ◌∷◌, ◌++◌, length, Option, Some, None, Ok, Err, refl, sym, ap, subst, ◌∙◌, inl, inr, arith, append_assoc, append-nil, length-append}
+use Rattle.std.proofs.Common.{◌≡◌, ◌⊎◌, ℕ, ◌+◌, ◌<◌, ◌≤◌, ◌&&◌, eqb, cond, Bool, true, false, List, [], ◌∷◌, ◌++◌, length, Option, Some, None, Ok, Err, refl, sym, ap, subst, ◌∙◌, inl, inr, arith, append_assoc, append-nil, length-append}
 use Rattle.std.proofs.lemmas.Bool.Decides.{nat_tests}
 use Rattle.std.specs.Io.KnownBytes.{Appends, Consumes, IsAtEnd, prepend_known}
 use Rattle.std.proofs.KnownBytes.{Appends-trans, Consumes-trans, prepend_known-nil, Consumes-nil, Appends-nil}
@@ -15,7 +15,7 @@ use Rattle.osm_import.specs.Exports.{Known}
 use Rattle.osm_import.specs.Flows.{Input, Output}
 use Rattle.osm_import.specs.Runs.{IsFault, IsNone}
 use Rattle.osm_import.specs.Lines.{answer_line}
-use Rattle.osm_import.specs.Streams.{Reply, frames_of, answers_of, deliveries_at, lines_at, end_at, summary_of, ended_at, HasRoom, IsStop, Stops, Streams}
+use Rattle.osm_import.specs.Streams.{Reply, frames_of, answers_of, deliveries_at, lines_at, end_at, summary_of, ended_at, IsStop, Stops, Streams}
 use Rattle.osm_import.specs.StreamSteps.{HasNoFrame, FrameAnswered, FrameStop}
 use Rattle.osm_import.specs.declared.answer.Answer.{Answer}
 use Rattle.osm_import.specs.declared.answer.Answer.TheVariants as answers
@@ -116,10 +116,6 @@ stream-more from count f g before written_old input output summary next Then Now
       small = subst (λ (s : Summary). Small s (count + 1)) (sym sums) (subst (λ n. Small (summary_of (answers_of (rs ++ r ∷ [])) (end_at from (rs ++ r ∷ []))) n)
           (answers-length (rs ++ r ∷ []) ∙ many) (small-of (answers_of (rs ++ r ∷ [])) (end_at from (rs ++ r ∷ []))));
     }
-
-pub has-room : (s : Summary) (n : ℕ) → Small s n → n < 2 ^ 32 → HasRoom s
-has-room s n h lt = let a = h.stored in let b = h.held in let c = h.bad in let d = h.refused in
-    record { stored = omega arith; held = omega arith; bad = omega arith; refused = omega arith }
 
 -- ---- the end of the input
 

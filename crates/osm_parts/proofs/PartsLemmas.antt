@@ -19,6 +19,7 @@ use Rattle.osm_import.specs.Merges.{AreImported, all_of}
 use Rattle.osm_import.proofs.MergeLemmas.{good_both}
 use Rattle.osm_import.proofs.Touching.{find-cons, find-head, find-tail, sorted-tail}
 use Rattle.osm_import.proofs.Delivering.{true-of}
+use Rattle.osm_import.proofs.MergeLemmas.{same-found}
 use Rattle.osm_import.proofs.GapsLemmas.{gaps-between}
 
 -- ---- ascending entries
@@ -120,11 +121,6 @@ found-in_part (part ∷ parts) off blob found = at (λ later. found-in_part part
     at : (find nat_cmp off (entries_in parts) ≡ Some blob → IsInPart parts off blob) → (o : Option Blob) → find nat_cmp off (entries part) ≡ o → IsInPart (part ∷ parts) off blob
     at behind None is = inr (behind (sym (found-second off (entries part) (entries_in parts) is) ∙ found))
     at behind (Some other) is = inl (get-entries part off ∙ is ∙ sym (found-first off other (entries part) (entries_in parts) is) ∙ found)
-
-pub same-found : (a b : Option Blob) → ((blob : Blob) → a ≡ Some blob → b ≡ Some blob) → ((blob : Blob) → b ≡ Some blob → a ≡ Some blob) → a ≡ b
-same-found None None to from = refl
-same-found (Some x) b to from = sym (to x refl)
-same-found None (Some y) to from = from y refl
 
 pub parts-join : PartsJoin
 parts-join parts whole from follow are =

@@ -169,12 +169,6 @@ row-push from [] piece row last low = (low refl, tt)
 row-push from (x ∷ []) piece row last low = (row.0, (last, tt))
 row-push from (x ∷ y ∷ xs) piece row last low = (row.0, row-push x.extent.fin (y ∷ xs) piece row.1 last (λ none. absurd (cc)))
 
-pub none-once : AreOnce [] []
-none-once = record { row = tt; each = λ piece found. found; all = λ piece found. absurd (none piece found) }
-  where
-    none : (piece : Piece) → Contains [] piece → ⊥
-    none piece (k, low, is) = omega arith
-
 once-push : (done old new : List Piece) (piece : Piece) → AreOnce done old → IsNext piece old new → AreOnce (done ++ piece ∷ []) new
 once-push done old new piece so_far next = elim next [
   | inl (same, has) ↦ subst (λ (l : List Piece). AreOnce (done ++ piece ∷ []) l) (sym same) (record {

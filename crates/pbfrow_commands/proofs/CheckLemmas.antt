@@ -10,15 +10,13 @@ use Rattle.std.proofs.lemmas.List.Sums.{sum_by-cons, sum_by_push}
 use Rattle.std.proofs.lemmas.List.{flat_map_more, length_push, nil_from_length, take_more}
 use Rattle.osm_value.specs.Sink.{Wrote, Writes}
 use Rattle.osm_value.specs.declared.element.Element.{Element}
-use Rattle.osm_value.specs.declared.element.Element.TheVariants.{Node, Way, Relation}
-use Rattle.osm_value.specs.Value.{NodeValue, WayValue, RelationValue}
 use Rattle.pbf_frame.specs.declared.fault.FrameFault.{FrameFault}
 use Rattle.osm_value.proofs.SinkLemmas.{Wrote-text, whole_text}
 use Rattle.osm_import.specs.Exports.{Known}
 use Rattle.osm_import.specs.declared.fault.Fault.{Fault}
 use Rattle.osm_import.specs.declared.stream.fault.Stop.{Stop}
 use Rattle.osm_import.specs.declared.stream.fault.Stop.TheVariants.{Frame, NoHeaderFirst, WriteFailed, Store, ReadFailed, BlobLimit}
-use Rattle.pbfrow_commands.specs.Checking.{ChecksInput, Passes, bad_line, capped, check_end, checked_line, counts_at_end, counts_behind, counts_of, elements_in, is_node, is_relation, is_way, some_good, tally, totals_line}
+use Rattle.pbfrow_commands.specs.Checking.{ChecksInput, Passes, bad_line, capped, check_end, checked_line, counts_at_end, counts_behind, counts_of, elements_in, some_good, tally, totals_line}
 use Rattle.osm_import.specs.declared.stream.fault.StreamFault.{StreamFault}
 use Rattle.pbfrow_commands.specs.CommandLines.{stop_line}
 use Rattle.pbfrow_commands.specs.Verdicts.{Content, Verdict, Judged, HasVerdict, all_good}
@@ -50,16 +48,6 @@ same a b c d e a' b' c' d' e' p q r s t = rw (p, q, r, s, t) refl
 
 -- ---- one more
 
-pub blob-counted : (c : Counts) (n blobs faults : ℕ) (es : List Element) → n ≡ min (c.blobs + 1) (2 ^ 64 - 1) → c ≡ tally blobs es faults → five_counts n c.nodes c.ways c.relations c.faults ≡ tally (blobs + 1) es faults
-blob-counted c n blobs faults es is was =
-    same n c.nodes c.ways c.relations c.faults _ _ _ _ _
-    (capped-more n c.blobs blobs 1 is (ap (λ (x : Counts). x.blobs) was)) (ap (λ (x : Counts). x.nodes) was) (ap (λ (x : Counts). x.ways) was) (ap (λ (x : Counts). x.relations) was) (ap (λ (x : Counts). x.faults) was)
-
-pub fault-counted : (c : Counts) (n blobs faults : ℕ) (es : List Element) → n ≡ min (c.faults + 1) (2 ^ 64 - 1) → c ≡ tally blobs es faults → five_counts c.blobs c.nodes c.ways c.relations n ≡ tally blobs es (faults + 1)
-fault-counted c n blobs faults es is was =
-    same c.blobs c.nodes c.ways c.relations n _ _ _ _ _
-    (ap (λ (x : Counts). x.blobs) was) (ap (λ (x : Counts). x.nodes) was) (ap (λ (x : Counts). x.ways) was) (ap (λ (x : Counts). x.relations) was) (capped-more n c.faults faults 1 is (ap (λ (x : Counts). x.faults) was))
-
 count-push : {X : Type 0} (p : X → Bool) (xs : List X) (x : X) → count_by p (xs ++ x ∷ []) ≡ count_by p xs + cond (p x) 1 0
 count-push p xs x = sum_by_push (λ y. cond (p y) 1 0) xs x
 
@@ -73,29 +61,6 @@ passed : (p : Element → Bool) (old : ℕ) (es : List Element) (e : Element) �
 passed p old es e passes was =
     let more : count_by p (es ++ e ∷ []) ≡ count_by p es + 0 = count-push p es e ∙ ap (λ b. count_by p es + cond b 1 0) passes in
     omega (arith, was, more)
-
-pub node-counted : (c : Counts) (n blobs faults : ℕ) (es : List Element) (e : Element) (node : NodeValue) → e ≡ Node node → n ≡ min (c.nodes + 1) (2 ^ 64 - 1) → c ≡ tally blobs es faults
-    → five_counts c.blobs n c.ways c.relations c.faults ≡ tally blobs (es ++ e ∷ []) faults
-node-counted c n blobs faults es e node of is was =
-    same c.blobs n c.ways c.relations c.faults _ _ _ _ _
-    (ap (λ (x : Counts). x.blobs) was) (counted is_node n c.nodes es e (ap is_node of) is (ap (λ (x : Counts). x.nodes) was))
-    (passed is_way c.ways es e (ap is_way of) (ap (λ (x : Counts). x.ways) was)) (passed is_relation c.relations es e (ap is_relation of) (ap (λ (x : Counts). x.relations) was))
-    (ap (λ (x : Counts). x.faults) was)
-
-pub way-counted : (c : Counts) (n blobs faults : ℕ) (es : List Element) (e : Element) (way : WayValue) → e ≡ Way way → n ≡ min (c.ways + 1) (2 ^ 64 - 1) → c ≡ tally blobs es faults
-    → five_counts c.blobs c.nodes n c.relations c.faults ≡ tally blobs (es ++ e ∷ []) faults
-way-counted c n blobs faults es e way of is was =
-    same c.blobs c.nodes n c.relations c.faults _ _ _ _ _
-    (ap (λ (x : Counts). x.blobs) was) (passed is_node c.nodes es e (ap is_node of) (ap (λ (x : Counts). x.nodes) was))
-    (counted is_way n c.ways es e (ap is_way of) is (ap (λ (x : Counts). x.ways) was)) (passed is_relation c.relations es e (ap is_relation of) (ap (λ (x : Counts). x.relations) was))
-    (ap (λ (x : Counts). x.faults) was)
-
-pub relation-counted : (c : Counts) (n blobs faults : ℕ) (es : List Element) (e : Element) (relation : RelationValue) → e ≡ Relation relation → n ≡ min (c.relations + 1) (2 ^ 64 - 1) → c ≡ tally blobs es faults
-    → five_counts c.blobs c.nodes c.ways n c.faults ≡ tally blobs (es ++ e ∷ []) faults
-relation-counted c n blobs faults es e relation of is was =
-    same c.blobs c.nodes c.ways n c.faults _ _ _ _ _
-    (ap (λ (x : Counts). x.blobs) was) (passed is_node c.nodes es e (ap is_node of) (ap (λ (x : Counts). x.nodes) was)) (passed is_way c.ways es e (ap is_way of) (ap (λ (x : Counts). x.ways) was))
-    (counted is_relation n c.relations es e (ap is_relation of) is (ap (λ (x : Counts). x.relations) was)) (ap (λ (x : Counts). x.faults) was)
 
 flat-push : {X Y : Type 0} (f : X → List Y) (xs : List X) (x : X) → flat_map f (xs ++ x ∷ []) ≡ flat_map f xs ++ f x
 flat-push f xs x = sym (flat_map_more f [] xs x)

@@ -5,27 +5,21 @@ use Rattle.std.specs.Prelude.{codes}
 use Rattle.std.specs.Fmt.{decimal, signed_decimal}
 use Rattle.std.specs.List.{flat_map}
 use Rattle.osm_import.specs.declared.stream.summary.Summary.{Summary}
+use Rattle.osm_import.proofs.AnswerLines.{five, four, three}
 use Rattle.osm_value.specs.Line.{line}
 use Rattle.osm_value.specs.declared.element.Element.{Element}
 use Rattle.osm_import.specs.declared.copy.CopyCounts.{CopyCounts}
 use Rattle.pbfrow_commands.specs.Copying.{copied_line}
-use Rattle.osm_value.specs.Escape.{escaped}
 use Rattle.osm_value.specs.Value.{Text}
 use Rattle.osm_block.specs.declared.header.BBox.{BBox}
 use Rattle.pbfrow_commands.specs.Checking.{totals_line}
-use Rattle.pbfrow_commands.specs.CommandLines.{kept_text, summary_line, gap_line, counts_line, match_line}
-use Rattle.osm_value.specs.Escape.{hex_digit}
+use Rattle.pbfrow_commands.specs.CommandLines.{summary_line, gap_line, counts_line, match_line}
+use Rattle.osm_value.specs.Escape.{escaped, hex_digit}
 use Rattle.pbfrow_commands.specs.Listing.{byte_text, frame_line}
 use Rattle.pbf_ranges.specs.declared.Range.{Range}
 use Rattle.pbfrow_commands.specs.Ranging.{range_line}
 use Rattle.pbfrow_commands.specs.Showing.{blob_line, box_line, number_line, text_line}
 use Rattle.pbfrow_commands.specs.declared.check.Counts.{Counts}
-
-four : (b x y z w : List ℕ) → (((b ++ x) ++ y) ++ z) ++ w ≡ b ++ (((x ++ y) ++ z) ++ w)
-four b x y z w = simp append_assoc
-
-five : (b p q r s t : List ℕ) → ((((b ++ p) ++ q) ++ r) ++ s) ++ t ≡ b ++ ((((p ++ q) ++ r) ++ s) ++ t)
-five b p q r s t = simp append_assoc
 
 six : (b p q r s t u : List ℕ) → (((((b ++ p) ++ q) ++ r) ++ s) ++ t) ++ u ≡ b ++ (((((p ++ q) ++ r) ++ s) ++ t) ++ u)
 six b p q r s t u = simp append_assoc
@@ -33,14 +27,21 @@ six b p q r s t u = simp append_assoc
 seven : (b p q r s t u v : List ℕ) → ((((((b ++ p) ++ q) ++ r) ++ s) ++ t) ++ u) ++ v ≡ b ++ ((((((p ++ q) ++ r) ++ s) ++ t) ++ u) ++ v)
 seven b p q r s t u v = simp append_assoc
 
-pub kept_parts : (before : List ℕ) (s : Summary) → (((before ++ codes "blobs stored ") ++ decimal s.stored) ++ codes " held ") ++ decimal s.held ≡ before ++ kept_text s
-kept_parts before s = four before (codes "blobs stored ") (decimal s.stored) (codes " held ") (decimal s.held)
+two-counts : (b k l m n o : List ℕ) → ((b ++ (k ++ l)) ++ (m ++ n)) ++ o ≡ b ++ ((((k ++ l) ++ m) ++ n) ++ o)
+two-counts b k l m n o = simp append_assoc
 
-pub summary_parts : (before : List ℕ) (s : Summary) → (((((before ++ kept_text s) ++ codes " bad ") ++ decimal s.bad) ++ codes " refused ") ++ decimal s.refused) ++ codes "\n" ≡ before ++ summary_line s
-summary_parts before s = six before (kept_text s) (codes " bad ") (decimal s.bad) (codes " refused ") (decimal s.refused) (codes "\n")
+three-counts : (b k l m n o p q : List ℕ) → (((b ++ (k ++ l)) ++ (m ++ n)) ++ (o ++ p)) ++ q ≡ b ++ ((((((k ++ l) ++ m) ++ n) ++ o) ++ p) ++ q)
+three-counts b k l m n o p q = simp append_assoc
 
-pub copied_parts : (before : List ℕ) (counts : CopyCounts) → ((((before ++ codes "copied ") ++ decimal counts.copied) ++ codes " held ") ++ decimal counts.held) ++ codes "\n" ≡ before ++ copied_line counts
-copied_parts before counts = five before (codes "copied ") (decimal counts.copied) (codes " held ") (decimal counts.held) (codes "\n")
+pub four-counts : (b k l m n o p q r s : List ℕ) → ((((b ++ (k ++ l)) ++ (m ++ n)) ++ (o ++ p)) ++ (q ++ r)) ++ s ≡ b ++ ((((((((k ++ l) ++ m) ++ n) ++ o) ++ p) ++ q) ++ r) ++ s)
+four-counts b k l m n o p q r s = simp append_assoc
+
+pub summary_parts : (before : List ℕ) (s : Summary)
+    → ((((before ++ (codes "blobs stored " ++ decimal s.stored)) ++ (codes " held " ++ decimal s.held)) ++ (codes " bad " ++ decimal s.bad)) ++ (codes " refused " ++ decimal s.refused)) ++ codes "\n" ≡ before ++ summary_line s
+summary_parts before s = four-counts before (codes "blobs stored ") (decimal s.stored) (codes " held ") (decimal s.held) (codes " bad ") (decimal s.bad) (codes " refused ") (decimal s.refused) (codes "\n")
+
+pub copied_parts : (before : List ℕ) (counts : CopyCounts) → ((before ++ (codes "copied " ++ decimal counts.copied)) ++ (codes " held " ++ decimal counts.held)) ++ codes "\n" ≡ before ++ copied_line counts
+copied_parts before counts = two-counts before (codes "copied ") (decimal counts.copied) (codes " held ") (decimal counts.held) (codes "\n")
 
 pub range_parts : (before : List ℕ) (range : Range) → (((before ++ decimal range.from) ++ codes " ") ++ decimal range.to) ++ codes "\n" ≡ before ++ range_line range
 range_parts before range = four before (decimal range.from) (codes " ") (decimal range.to) (codes "\n")
@@ -48,9 +49,8 @@ range_parts before range = four before (decimal range.from) (codes " ") (decimal
 pub gap_parts : (before : List ℕ) (from to : ℕ) → ((((before ++ codes "gap ") ++ decimal from) ++ codes " ") ++ decimal to) ++ codes "\n" ≡ before ++ gap_line (from, to)
 gap_parts before from to = five before (codes "gap ") (decimal from) (codes " ") (decimal to) (codes "\n")
 
-pub counts_parts : (before : List ℕ) (blobs end gaps : ℕ)
-    → ((((((before ++ codes "blobs ") ++ decimal blobs) ++ codes " end ") ++ decimal end) ++ codes " gaps ") ++ decimal gaps) ++ codes "\n" ≡ before ++ counts_line blobs end gaps
-counts_parts before blobs end gaps = seven before (codes "blobs ") (decimal blobs) (codes " end ") (decimal end) (codes " gaps ") (decimal gaps) (codes "\n")
+pub counts_parts : (before : List ℕ) (blobs end gaps : ℕ) → (((before ++ (codes "blobs " ++ decimal blobs)) ++ (codes " end " ++ decimal end)) ++ (codes " gaps " ++ decimal gaps)) ++ codes "\n" ≡ before ++ counts_line blobs end gaps
+counts_parts before blobs end gaps = three-counts before (codes "blobs ") (decimal blobs) (codes " end ") (decimal end) (codes " gaps ") (decimal gaps) (codes "\n")
 
 pub match_parts : (before : List ℕ) (off position : ℕ) (element : Element) → ((((before ++ decimal off) ++ codes " ") ++ decimal position) ++ codes " ") ++ line element ≡ before ++ match_line (off, position, element)
 match_parts before off position element = five before (decimal off) (codes " ") (decimal position) (codes " ") (line element)
@@ -73,9 +73,6 @@ frame_parts before at type blob = six before (decimal at) (codes " ") (flat_map 
 pub blob_parts : (before : List ℕ) (at : ℕ) (type : List ℕ) (len : ℕ)
     → ((((((before ++ codes "blob ") ++ decimal at) ++ codes " ") ++ flat_map byte_text type) ++ codes " ") ++ decimal len) ++ codes "\n" ≡ before ++ blob_line at type len
 blob_parts before at type len = seven before (codes "blob ") (decimal at) (codes " ") (flat_map byte_text type) (codes " ") (decimal len) (codes "\n")
-
-three : (b x y z : List ℕ) → ((b ++ x) ++ y) ++ z ≡ b ++ ((x ++ y) ++ z)
-three b x y z = simp append_assoc
 
 pub text_parts : (before label : List ℕ) (text : Text) → ((before ++ label) ++ escaped text) ++ codes "\n" ≡ before ++ text_line label text
 text_parts before label text = three before label (escaped text) (codes "\n")

@@ -1,9 +1,10 @@
 -- From what was skipped, streamed and told to what an import has done.
-use Rattle.std.proofs.Common.{◌≡◌, ◌≢◌, ℕ, ◌+◌, ◌<◌, ◌≤◌, List, [], ◌++◌, length, take, Bool, true, false, ◌&&◌, ◌==◌, not, cond, Some, None, Ok, Err, refl, sym, ap, subst, ◌∙◌, inl, inr, arith, length-append, zero-add}
+use Rattle.std.proofs.Common.{◌≡◌, ◌≢◌, ℕ, ◌+◌, ◌≤◌, List, [], ◌++◌, length, take, Bool, true, false, ◌&&◌, ◌==◌, not, cond, Some, None, Result, Ok, Err, refl, sym, ap, subst, ◌∙◌, inl, inr, arith, length-append}
+use Rattle.std.specs.Prelude.{IfOk}
 use Rattle.std.proofs.lemmas.List.{length-take, nil_from_length}
 use Rattle.std.proofs.lemmas.Bool.Decides.{nat_tests}
-use Rattle.std.proofs.KnownBytes.{Consumes-nil, Consumes-trans}
-use Rattle.std.specs.Io.KnownBytes.{Consumes, IsAtEnd}
+use Rattle.std.proofs.KnownBytes.{Consumes-trans}
+use Rattle.std.specs.Io.KnownBytes.{Consumes}
 use Rattle.osm_store.specs.Held.{HeldMap}
 use Rattle.osm_import.specs.Deliveries.{DeliveryValue}
 use Rattle.osm_import.specs.Exports.{Known}
@@ -15,7 +16,7 @@ use Rattle.osm_import.specs.declared.stream.fault.Stop.{Stop}
 use Rattle.osm_import.specs.declared.stream.fault.Stop.TheVariants.{Frame, NoHeaderFirst, WriteFailed, Store, ReadFailed, BlobLimit}
 use Rattle.osm_import.specs.declared.stream.fault.StreamFault.{StreamFault}
 use Rattle.osm_value.specs.Sink.{Wrote}
-use Rattle.pbfrow_commands.specs.Importing.{Skips, IsShort, Imports, HoldsFile, EndsStop, import_status}
+use Rattle.pbfrow_commands.specs.Importing.{Skips, Imports, HoldsFile, EndsStop, import_status}
 use Rattle.pbfrow_commands.specs.CommandLines.{stop_line}
 
 -- ---- skipping
@@ -26,9 +27,6 @@ pub record IsSkipping (count left : ℕ) (old new : Known) : Type 0 where
   pub all : length bytes + left ≡ count
   pub read : Consumes old new bytes
 
-pub skip-begins : (count : ℕ) (old : Known) → IsSkipping count count old old
-skip-begins count old = record { bytes = []; all = zero-add count; read = Consumes-nil old }
-
 pub skip-more : (count left n next : ℕ) (old mid new : Known) (buffer : List ℕ) → n ≤ length buffer → n ≤ left → next + n ≡ left → IsSkipping count left old mid → Consumes mid new (take n buffer) → IsSkipping count next old new
 skip-more count left n next old mid new buffer within most rest h read = record {
   bytes = h.bytes ++ take n buffer;
@@ -36,16 +34,8 @@ skip-more count left n next old mid new buffer within most rest h read = record 
   read = Consumes-trans old mid new h.bytes (take n buffer) h.read read;
 }
 
-pub skip-ends : (count left : ℕ) (old new : Known) → left ≤ 0 → IsSkipping count left old new → Skips count old new
-skip-ends count left old new none h = record { bytes = h.bytes; all = omega (arith, h.all); read = h.read }
-
 take-none : (n : ℕ) (buffer : List ℕ) → n ≡ 0 → take n buffer ≡ []
 take-none n buffer is = nil_from_length (take n buffer) (omega (arith, length-take n buffer))
-
-pub skip-short : (count left n : ℕ) (old mid new : Known) (buffer : List ℕ) (failed : Bool) → n ≡ 0 → 0 < left → IsSkipping count left old mid → Consumes mid new (take n buffer) → IsAtEnd new → IsShort count old new failed
-skip-short count left n old mid new buffer failed none some h read end =
-    let bytes = h.bytes ++ take n buffer in
-    inr (bytes, omega (arith, h.all, length-append h.bytes (take n buffer), length-take n buffer), Consumes-trans old mid new h.bytes (take n buffer) h.read read, end)
 
 -- no bytes were skipped
 pub skips-nothing : (file : List ℕ) (old new : Known) → old ≡ Some file → Skips 0 old new → new ≡ Some file
@@ -99,15 +89,12 @@ ends-on from limit input output failed Took summary h = record {
   some = h.some;
 }
 
-pub imports-stop : (dropped from : ℕ) (input : Input) (output : Output) (failed : Bool) (Same : Type 0) (Took : List DeliveryValue → List Answer → Type 0) (stop : StreamFault) → (stop.fault ≡ WriteFailed → failed ≡ output.has_failed)
-    → Imports dropped from input output Same Took (Err stop) → Imports dropped from input (record output { has_failed = failed }) Same Took (Err stop)
-imports-stop dropped from input output failed Same Took stop same (inl h) = inl (h.0, h.1, stops-on from 4294967295 (record input { before = h.0 }) output failed Took stop same h.2)
-imports-stop dropped from input output failed Same Took stop same (inr h) = inr h
-
-pub imports-end : (dropped from : ℕ) (input : Input) (output : Output) (failed : Bool) (Same : Type 0) (Took : List DeliveryValue → List Answer → Type 0) (summary : Summary)
-    → Imports dropped from input output Same Took (Ok summary) → Imports dropped from input (record output { has_failed = failed }) Same Took (Ok summary)
-imports-end dropped from input output failed Same Took summary (inl h) = inl (h.0, h.1, ends-on from 4294967295 (record input { before = h.0 }) output failed Took summary h.2)
-imports-end dropped from input output failed Same Took summary (inr h) = inr h
+pub imports-last : (dropped from : ℕ) (input : Input) (output : Output) (failed : Bool) (Same : Type 0) (Took : List DeliveryValue → List Answer → Type 0) (outcome : Result Summary StreamFault)
+    → ((stop : StreamFault) → outcome ≡ Err stop → stop.fault ≡ WriteFailed → failed ≡ output.has_failed)
+    → Imports dropped from input output Same Took outcome → Imports dropped from input (record output { has_failed = failed }) Same Took outcome
+imports-last dropped from input output failed Same Took (Ok summary) same (inl h) = inl (h.0, h.1, ends-on from 4294967295 (record input { before = h.0 }) output failed Took summary h.2)
+imports-last dropped from input output failed Same Took (Err stop) same (inl h) = inl (h.0, h.1, stops-on from 4294967295 (record input { before = h.0 }) output failed Took stop (same stop refl) h.2)
+imports-last dropped from input output failed Same Took outcome same (inr h) = inr h
 
 zero-first : (b c d : Bool) (n : ℕ) → n ≡ cond ((b && c) && d) 0 1 → n ≡ 0 → b ≡ true
 zero-first true c d n is zero = refl
@@ -128,9 +115,15 @@ zero-second false false d n is zero = absurd (omega arith)
 pub none-refused : (summary : Summary) (failed : Bool) (status : ℕ) → status ≡ import_status (Ok summary) failed → status ≡ 0 → summary.refused ≡ 0
 none-refused summary failed status is zero = is-none summary.refused (zero-second (summary.bad == 0) (summary.refused == 0) (not failed) status is zero)
 
--- no blob was bad
-pub file-held : (holds : HeldMap → Type 0) (file : List ℕ) (start : HeldMap) (summary : Summary) → summary.bad ≡ 0 → ImportsFile holds file start summary → HoldsFile holds file start
-file-held holds file start summary none h = (h.0, h.1, λ of_file. h.2 of_file none)
+-- an import with the exit status 0 ended well, and no blob was bad
+pub ended-well : (outcome : Result Summary StreamFault) (failed : Bool) (status : ℕ) (P : Type 0) → status ≡ import_status outcome failed → status ≡ 0 → IfOk outcome (λ _. P) → P
+ended-well (Ok summary) failed status P is zero h = h
+ended-well (Err stop) failed status P is zero h = absurd (omega arith)
+
+pub file-held : (holds : HeldMap → Type 0) (file : List ℕ) (start : HeldMap) (outcome : Result Summary StreamFault) (failed : Bool) (status : ℕ) → status ≡ import_status outcome failed → status ≡ 0
+    → IfOk outcome (λ summary. ImportsFile holds file start summary) → HoldsFile holds file start
+file-held holds file start (Ok summary) failed status is zero h = (h.0, h.1, λ of_file. h.2 of_file (none-bad summary failed status is zero))
+file-held holds file start (Err stop) failed status is zero h = absurd (omega arith)
 
 -- the stop's line went out
 pub ends-stop : (listed written : Known) (failed : Bool) (at : ℕ) (fault : Stop) → fault ≢ WriteFailed → Wrote listed (stop_line fault at) written failed → EndsStop listed written failed at fault

@@ -24,20 +24,11 @@ use Rattle.osm_import.specs.declared.stream.fault.Stop.{Stop}
 use Rattle.osm_import.specs.declared.stream.fault.Stop.TheVariants.{WriteFailed}
 use Rattle.osm_import.specs.declared.stream.fault.StreamFault.{StreamFault}
 use Rattle.osm_import.proofs.RunsLemmas.{run-back, run-keep}
+use Rattle.osm_import.proofs.StreamFiles.{AreKept, IsKept}
 use Rattle.pbfrow_commands.specs.Importing.{Skips, Imports, ImportsRange, AreHeld, IsOfFrames, HoldsRange, IsTold, ends_input, front_of, import_status}
-use Rattle.pbfrow_commands.proofs.ImportLemmas.{imports-end, imports-stop, none-bad, none-refused}
+use Rattle.pbfrow_commands.proofs.ImportLemmas.{imports-last, none-bad, none-refused}
 
 -- ---- each frame is held
-
--- stored or held already
-abbrev IsKept : Answer → Type 0
-IsKept (Stored count) = Unit {0}
-IsKept AlreadyHeld = Unit {0}
-IsKept _ = ⊥
-
-abbrev AreKept : List Reply → Type 0
-AreKept [] = Unit {0}
-AreKept (r ∷ rs) = IsKept r.1 × AreKept rs
 
 abbrev bad_in : Answer → ℕ
 bad_in a = cond (is_bad a) 1 0
@@ -187,14 +178,15 @@ told-part to (Err stop) (Ok summary) P (inr is) h = (let wrong = is.1.2 in absur
 no-end : (fault : Stop) → fault ≡ WriteFailed → ends_input fault ≡ true → ⊥
 no-end fault is ends = (let wrong : false ≡ true = sym (ap ends_input is) ∙ ends in absurd cc)
 
+-- the faults of two errors that are one
+one-fault : (stop other : StreamFault) → ill stop ≡ ill other → other.fault ≡ WriteFailed → stop.fault ≡ WriteFailed
+one-fault stop other e written = cc
+
 -- the output goes on after what is told
 pub imports-on : (dropped from to : ℕ) (input : Input) (output : Output) (failed : Bool) (Same : Type 0) (Took : List DeliveryValue → List Answer → Type 0) (outcome told : Result Summary StreamFault)
     → IsTold to outcome told → ((stop : StreamFault) → told ≡ Err stop → stop.fault ≡ WriteFailed → failed ≡ output.has_failed)
     → Imports dropped from input output Same Took outcome → Imports dropped from input (record output { has_failed = failed }) Same Took outcome
-imports-on dropped from to input output failed Same Took (Ok raw) told is same h = imports-end dropped from input output failed Same Took raw h
-imports-on dropped from to input output failed Same Took (Err stop) told (inl is) same h = imports-stop dropped from input output failed Same Took stop (same stop is) h
-imports-on dropped from to input output failed Same Took (Err stop) told (inr is) same h = imports-stop dropped from input output failed Same Took stop (λ written. absurd (no-end stop.fault written is.0)) h
-
--- the faults of two errors that are one
-pub one-fault : (stop other : StreamFault) → ill stop ≡ ill other → other.fault ≡ WriteFailed → stop.fault ≡ WriteFailed
-one-fault stop other e written = cc
+imports-on dropped from to input output failed Same Took (Ok raw) told is same h = imports-last dropped from input output failed Same Took (Ok raw) (λ stop e written. (let wrong = e in absurd cc)) h
+imports-on dropped from to input output failed Same Took (Err stop) told (inl is) same h = imports-last dropped from input output failed Same Took (Err stop) (λ other e written. same stop is (one-fault stop other e written)) h
+imports-on dropped from to input output failed Same Took (Err stop) told (inr is) same h =
+    imports-last dropped from input output failed Same Took (Err stop) (λ other e written. absurd (no-end stop.fault (one-fault stop other e written) is.0)) h

@@ -1,8 +1,6 @@
 -- Listing frame by frame, as a loop does.
-use Rattle.std.proofs.Common.{◌≡◌, ℕ, zero, suc, ◌+◌, ◌-◌, ◌<◌, ◌≤◌, true, cond, ltb, List, [], ◌++◌, length, drop, Option, Some, None, Result, Ok, Err, refl, sym, ap, subst, ◌∙◌, arith, append_assoc}
-use Rattle.std.specs.Io.KnownBytes.{Appends}
+use Rattle.std.proofs.Common.{◌≡◌, ℕ, zero, suc, ◌+◌, ◌-◌, ◌<◌, ◌≤◌, true, cond, ltb, List, [], ◌++◌, length, drop, Result, Ok, Err, refl, sym, ap, arith}
 use Rattle.std.proofs.lemmas.Bool.{le-ltb, lt-ltb}
-use Rattle.std.proofs.lemmas.List.{append-nil}
 use Rattle.pbf_frame.specs.declared.fault.FrameFault.{FrameFault}
 use Rattle.pbf_frame.specs.Frame.{Found, frame_at}
 use Rattle.pbf_frame.proofs.FrameLaws.{frame_len}
@@ -44,27 +42,3 @@ unfolding listing_from
 listing_end at w le = past (length w - at) at w le
 
 -- ---- what a writer holds
-
-pub appends_both : (a b c : Option (List ℕ)) (x y : List ℕ) → Appends a b x → Appends b c y → Appends a c (x ++ y)
-appends_both None b c x y p q = tt
-appends_both (Some u) None c x y p q = absurd p
-appends_both (Some u) (Some v) None x y p q = absurd q
-appends_both (Some u) (Some v) (Some w) x y p q = q ∙ ap (λ (l : List ℕ). l ++ y) p ∙ append_assoc u x y
-
-pub appends_none : (a : Option (List ℕ)) → Appends a a []
-appends_none None = tt
-appends_none (Some u) = sym (append-nil u)
-
--- one more line
-pub text_more : (a b c : Option (List ℕ)) (at : ℕ) (w : List ℕ) (f : Found) → at < length w → frame_at (drop at w) ≡ Ok f → Appends a b (frame_line at f.type_name f.blob) → Appends b c (listing_from (at + f.len) w).text → Appends a c (listing_from at w).text
-text_more a b c at w f lt e p q =
-    let l : (listing_from at w).text ≡ frame_line at f.type_name f.blob ++ (listing_from (at + f.len) w).text =
-    ap (λ (x : Listing). x.text) (listing_step at w lt ∙ ap (λ (r : Result Found FrameFault). line_and at r (λ next. listing_from next w)) e) in
-    subst (Appends a c) (sym l) (appends_both a b c (frame_line at f.type_name f.blob) (listing_from (at + f.len) w).text p q)
-
-pub whole_more : (at : ℕ) (w : List ℕ) (f : Found) → at < length w → frame_at (drop at w) ≡ Ok f → (listing_from at w).whole ≡ (listing_from (at + f.len) w).whole
-whole_more at w f lt e = ap (λ (x : Listing). x.whole) (listing_step at w lt ∙ ap (λ (r : Result Found FrameFault). line_and at r (λ next. listing_from next w)) e)
-
--- the fault's line
-pub fault_end : (at : ℕ) (w : List ℕ) (fault : FrameFault) → at < length w → frame_at (drop at w) ≡ Err fault → listing_from at w ≡ line_and at (Err fault) (λ next. listing_from next w)
-fault_end at w fault lt e = listing_step at w lt ∙ ap (λ (r : Result Found FrameFault). line_and at r (λ next. listing_from next w)) e

@@ -1,7 +1,7 @@
 -- From the frames that were read, one by one, to the ranges that are cut of them.
 use Rattle.std.proofs.Common.{◌≡◌, ℕ, ◌+◌, ◌-◌, ◌<◌, ◌&&◌, Bool, true, false, List, [], ◌∷◌, ◌++◌, length, Option, refl, sym, ap, subst, ◌∙◌, arith, add-zero, append-nil, length-append}
 use Rattle.std.specs.Prelude.{IfSome, slice_get, unwrap_or}
-use Rattle.std.specs.Io.KnownBytes.{Appends, Consumes, IsAtEnd}
+use Rattle.std.specs.Io.KnownBytes.{Appends, Consumes}
 use Rattle.std.proofs.KnownBytes.{Consumes-nil, Consumes-trans, Consumes-whole}
 use Rattle.osm_value.specs.Sink.{Wrote, Writes}
 use Rattle.osm_value.proofs.SinkLemmas.{started, whole_text, Wrote-text}
@@ -78,9 +78,6 @@ passing-more left was now at end w frames ends after gives end-is after-is so_fa
 abbrev pub WalksTo : Known → List Plain → Ending → Type 0
 WalksTo left frames ending = Walks HasAny left false frames ending
 
-pub passed-whole : (left : Known) (now : Reading) (frames : List Plain) (ends : List ℕ) → Passing left now frames ends → IsAtEnd now.left → WalksTo left frames Whole
-passed-whole left now frames ends so_far end = record { found = so_far.found; behind = now.left; read = so_far.read; ended = end }
-
 pub passed-early : (left : Known) (was now : Reading) (frames : List Plain) (ends : List ℕ) (stop : StreamFault) → Passing left was frames ends → Halts was now stop → WalksTo left frames (Early stop)
 passed-early left was now frames ends stop so_far halts = record {
   found = so_far.found;
@@ -88,11 +85,6 @@ passed-early left was now frames ends stop so_far halts = record {
   read = so_far.read;
   ended = (halts.here ∙ so_far.stands, (halts.got, halts.behind, now.has_failed, halts.read, subst (λ n. LacksFrame (framing_of n halts.got) halts.behind now.has_failed stop.fault) so_far.stands halts.why));
 }
-
--- memory was refused for the end of a frame
-pub passed-refused : (left : Known) (was now : Reading) (at : ℕ) (w : List ℕ) (frames : List Plain) (ends : List ℕ) (stop : StreamFault) → Passing left was frames ends → GivesFrame was now at w → stop ≡ refused at → WalksTo left frames (Early stop)
-passed-refused left was now at w frames ends stop so_far gives is = subst (λ (s : StreamFault). WalksTo left frames (Early s)) (sym is)
-    (record { found = so_far.found; behind = was.left; read = so_far.read; ended = (gives.here ∙ so_far.stands, (w, now.left, false, gives.read, refl)) })
 
 -- memory was refused behind the last frame
 pub cut-refused : (left : Known) (frames : List Plain) (ends : List ℕ) (at : ℕ) (stop : StreamFault) → WalksTo left frames Whole → ends ≡ ends_from 0 frames → at ≡ last_end 0 ends → stop ≡ refused at → WalksTo left frames (Early stop)

@@ -1,13 +1,16 @@
 -- What the reads of a command leave, and what it told.
-use Rattle.std.proofs.Common.{◌≡◌, ℕ, ◌+◌, ◌<◌, ◌≤◌, List, [], ◌++◌, take, get_or, length, Bool, true, false, Option, refl, sym, ap, ◌∙◌, inl, inr, append-nil}
+use Rattle.std.proofs.Common.{◌≡◌, ℕ, ◌+◌, ◌<◌, ◌≤◌, List, [], ◌++◌, take, get_or, length, Bool, true, false, Option, unwrap_or, refl, sym, ap, subst, ◌∙◌, inl, inr, append-nil}
 use Rattle.std.specs.List.{flat_map}
-use Rattle.std.proofs.lemmas.List.{flat_map_more, take_all, take_more}
+use Rattle.std.proofs.lemmas.List.{flat_map_more, length-map, take_all, take_more}
 use Rattle.osm_value.specs.Sink.{Wrote}
 use Rattle.osm_value.proofs.SinkLemmas.{Wrote-text, whole_text, front_text}
-use Rattle.osm_store.specs.Held.{HeldMap}
+use Rattle.osm_store.specs.Held.{HeldMap, IsApart}
 use Rattle.std.specs.FinMap.{entries}
-use Rattle.osm_store.specs.Keeping.{extents_of}
-use Rattle.osm_import.specs.Exports.{Known, greatest_end}
+use Rattle.osm_store.specs.Keeping.{extent_of, extents_of}
+use Rattle.osm_store.specs.declared.keeper.Extent.{Extent}
+use Rattle.osm_import.specs.Exports.{Known, greatest_end, size_of}
+use Rattle.osm_import.specs.Gaps.{AreGaps, ranges_between}
+use Rattle.osm_import.proofs.GapsLemmas.{gaps-between}
 use Rattle.pbfrow_commands.specs.CommandLines.{counts_line, gap_lines}
 use Rattle.pbfrow_commands.specs.Status.{IsSurvey, Tells, status_text}
 use Rattle.pbfrow_commands.specs.declared.status.Holdings.{Holdings}
@@ -40,6 +43,18 @@ lines-more-at {X} line start before xs i x written failed within at h =
 pub lines-all : {X : Type 0} (line : X → List ℕ) (start : Known) (before : List ℕ) (xs : List X) (i : ℕ) (written : Known) (failed : Bool) → length xs ≤ i
     → Wrote start (before ++ flat_map line (take i xs)) written failed → Wrote start (before ++ flat_map line xs) written failed
 lines-all {X} line start before xs i written failed all h = Wrote-text start _ _ written failed (ap (λ (ys : List X). before ++ flat_map line ys) (take_all i xs all)) h
+
+-- ---- what a map holds, by its extents
+
+pub survey-whole : (held : HeldMap) (size : Option ℕ) (extents : List Extent) (h : Holdings) → IsApart held → extents ≡ extents_of held
+    → h.blobs ≡ length extents → h.end ≡ greatest_end extents → h.gaps.items ≡ ranges_between 0 (unwrap_or size h.end) extents → IsSurvey held size h
+survey-whole held size extents h apart are blobs end gaps = record {
+  blobs = blobs ∙ ap length are ∙ length-map (entries held) extent_of;
+  end = end ∙ ap greatest_end are;
+  gaps = subst (λ (ranges : List (ℕ × ℕ)). AreGaps held (size_of size (extents_of held)) ranges)
+      (sym (gaps ∙ ap (λ n. ranges_between 0 (unwrap_or size n) extents) (end ∙ ap greatest_end are) ∙ ap (λ (es : List Extent). ranges_between 0 (size_of size (extents_of held)) es) are))
+      (gaps-between held (size_of size (extents_of held)) apart);
+}
 
 -- ---- the whole text of a status
 

@@ -10,11 +10,11 @@ use Rattle.osm_part_audits.specs.declared.auditing.Finding.TheVariants.{Differs,
 use Rattle.osm_part_audits.specs.declared.together.Verdict.{Verdict}
 use Rattle.pbfrow_commands.specs.CommandLines.{gap_lines}
 use Rattle.pbfrow_commands.specs.VerifyingParts.{finding_lines, is_extra, is_other, verdict_line, verdict_text}
-use Rattle.pbfrow_commands.proofs.VerifyLemmas.{nine}
+use Rattle.pbfrow_commands.proofs.CommandTexts.{four-counts}
 
 pub line_parts : (before : List ℕ) (blobs gaps others extra : ℕ)
     → ((((before ++ (codes "blobs " ++ decimal blobs)) ++ (codes " gaps " ++ decimal gaps)) ++ (codes " differs " ++ decimal others)) ++ (codes " extra " ++ decimal extra)) ++ codes "\n" ≡ before ++ verdict_line blobs gaps others extra
-line_parts before blobs gaps others extra = nine before (codes "blobs ") (decimal blobs) (codes " gaps ") (decimal gaps) (codes " differs ") (decimal others) (codes " extra ") (decimal extra) (codes "\n")
+line_parts before blobs gaps others extra = four-counts before (codes "blobs ") (decimal blobs) (codes " gaps ") (decimal gaps) (codes " differs ") (decimal others) (codes " extra ") (decimal extra) (codes "\n")
 
 -- a blob that isn't one of the file is another one there, or extra
 either : (finding : Finding) → is_extra finding ≡ not (is_other finding)

@@ -47,6 +47,7 @@ use Rattle.pbfrow_commands.specs.Verifying.{Comparison, Compared, IsComparison, 
 use Rattle.pbfrow_commands.specs.declared.verify.Close.{Close}
 use Rattle.pbfrow_commands.specs.declared.verify.Close.TheVariants.{Whole, Early, Unwritten}
 use Rattle.pbfrow_commands.specs.declared.verify.Counts.{Counts}
+use Rattle.pbfrow_commands.proofs.CommandTexts.{four-counts}
 use Rattle.pbfrow_commands.proofs.Walking.{Going, found-push, joined-push, refused, tells-early, tells-nothing, lines-unwritten, status-zero}
 
 -- ---- pieces of lines, joined
@@ -57,12 +58,9 @@ at_parts before label off = three before label (decimal off) (codes "\n")
     three : (b p q r : List ℕ) → ((b ++ p) ++ q) ++ r ≡ b ++ (p ++ q ++ r)
     three b p q r = simp append_assoc
 
-pub nine : (t p b q m r d s e n : List ℕ) → ((((t ++ (p ++ b)) ++ (q ++ m)) ++ (r ++ d)) ++ (s ++ e)) ++ n ≡ t ++ (p ++ b ++ q ++ m ++ r ++ d ++ s ++ e ++ n)
-nine t p b q m r d s e n = simp append_assoc
-
 pub counts_parts : (before : List ℕ) (c : Counts)
     → ((((before ++ (codes "blobs " ++ decimal c.blobs)) ++ (codes " missing " ++ decimal c.missing)) ++ (codes " differs " ++ decimal c.differs)) ++ (codes " extra " ++ decimal c.extra)) ++ codes "\n" ≡ before ++ counts_line c
-counts_parts before c = nine before (codes "blobs ") (decimal c.blobs) (codes " missing ") (decimal c.missing) (codes " differs ") (decimal c.differs) (codes " extra ") (decimal c.extra) (codes "\n")
+counts_parts before c = four-counts before (codes "blobs ") (decimal c.blobs) (codes " missing ") (decimal c.missing) (codes " differs ") (decimal c.differs) (codes " extra ") (decimal c.extra) (codes "\n")
 
 pub fault_parts : (before : List ℕ) (at number : ℕ) (name : List ℕ) (fault : Fault) (verdict : Comparison) → verdict ≡ Err fault → number ≡ number_of fault → name ≡ name_of fault
     → before ++ fault_line number name at ≡ before ++ comparison_line at verdict

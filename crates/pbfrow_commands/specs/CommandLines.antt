@@ -24,12 +24,9 @@ memory_line (Some at) = fault_line (number_of Memory) (name_of Memory) at
 abbrev pub stop_line : Stop → ℕ → List ℕ
 stop_line fault at = fault_line (stop_number_of fault) (stop_name_of fault) at
 
-abbrev pub kept_text : Summary → List ℕ
-kept_text s = codes "blobs stored " ++ decimal s.stored ++ codes " held " ++ decimal s.held
-
 -- the last line of an import
 abbrev pub summary_line : Summary → List ℕ
-summary_line s = kept_text s ++ codes " bad " ++ decimal s.bad ++ codes " refused " ++ decimal s.refused ++ codes "\n"
+summary_line s = codes "blobs stored " ++ decimal s.stored ++ codes " held " ++ decimal s.held ++ codes " bad " ++ decimal s.bad ++ codes " refused " ++ decimal s.refused ++ codes "\n"
 
 abbrev pub gap_line : ℕ × ℕ → List ℕ
 gap_line gap = codes "gap " ++ decimal gap.0 ++ codes " " ++ decimal gap.1 ++ codes "\n"

@@ -1,6 +1,6 @@
 //! The command `import`: the blobs of a file go into a store.
 
-ghost use Rattle.std.specs.Prelude.{◌≡◌, ◌≤◌, ◌<◌, ◌+◌, ◌-◌, List, ℕ, Some, Ok, Result, OnOk, OnErr, IfOk, IfSome, take};
+ghost use Rattle.std.specs.Prelude.{◌≡◌, ◌≤◌, ◌<◌, ◌+◌, ◌-◌, List, ℕ, Some, Err, Result, OnOk, OnErr, IfOk, IfSome, take};
 ghost use Rattle.std.specs.FinMap.{empty};
 ghost use Rattle.osm_store.specs.Held.{HeldMap};
 ghost use Rattle.osm_import.specs.Exports.{Known};
@@ -83,19 +83,6 @@ fn import_from<R: Source, K: Keeper, S: Sink>(
     }
 }
 
-/// Writes the last line of an import that reached the end of its input, and answers the exit status.
-fn finish<S: Sink>(out: &mut S, summary: &Summary) -> u8
-    ensures line { EndsLine (S.written out.old) (S.written out.new) (S.has_failed out.new) (Ok summary.now) }
-    ensures status { result ≡ import_status (Ok summary.now) (S.has_failed out.new) }
-{
-    put_summary(out, summary);
-    if summary.bad == 0 && summary.refused == 0 && !out.failed() {
-        0
-    } else {
-        1
-    }
-}
-
 /// Writes the line of the fault at which an import stopped. If the output has failed, nothing is written.
 fn put_stop<S: Sink>(out: &mut S, stop: StreamFault)
     ensures line { EndsStop (S.written out.old) (S.written out.new) (S.has_failed out.new) stop.at stop.fault }
@@ -104,6 +91,29 @@ fn put_stop<S: Sink>(out: &mut S, stop: StreamFault)
     match stop.fault {
         Stop::WriteFailed => {}
         fault => put_fault_at(out, fault.number(), fault.name(), stop.at),
+    }
+}
+
+/// Writes the last line of an import: the counts where it reached the end of its input, or the line of the fault at which
+/// it stopped. Answers the exit status.
+fn finish<S: Sink>(out: &mut S, outcome: Result<Summary, StreamFault>) -> u8
+    ensures line { EndsLine (S.written out.old) (S.written out.new) (S.has_failed out.new) outcome }
+    ensures status { result ≡ import_status outcome (S.has_failed out.new) }
+    ensures kept { (stop : StreamFaultValue) → outcome ≡ Err stop → stop.fault ≡ Stop.WriteFailed → S.has_failed out.new ≡ S.has_failed out.old }
+{
+    match outcome {
+        Ok(summary) => {
+            put_summary(out, &summary);
+            if summary.bad == 0 && summary.refused == 0 && !out.failed() {
+                0
+            } else {
+                1
+            }
+        }
+        Err(stop) => {
+            put_stop(out, stop);
+            1
+        }
     }
 }
 
@@ -131,13 +141,8 @@ pub fn import<R: Source, K: Keeper, S: Sink>(
     ensures part { (piece : List ℕ) → R.bytes_left reader.old ≡ Some piece → start.dropped ≡ 0 → K.holds store.old empty → K.is_honest store.new
         → result ≡ 0 → ImportsPart (K.holds store.new) start.at piece }
 {
-    match import_from(alloc, reader, store, start, out) {
-        Ok(summary) => finish(out, &summary),
-        Err(stop) => {
-            put_stop(out, stop);
-            1
-        }
-    }
+    let outcome = import_from(alloc, reader, store, start, out);
+    finish(out, outcome)
 }
 
 /// Moves an input that stands at its first byte, and can seek, to the last of the bytes that an import drops, so that those
@@ -244,11 +249,6 @@ pub fn import_to<R: Read, K: Keeper, S: Sink>(
     ensures part { (bytes : List ℕ) → R.remaining reader.old ≡ Some bytes → start.dropped ≡ 0 → K.holds store.old empty → K.is_honest store.new
         → result ≡ 0 → ImportsPart (K.holds store.new) start.at (take (to - start.at) bytes) }
 {
-    match import_before(alloc, reader, store, start, to, out) {
-        Ok(summary) => finish(out, &summary),
-        Err(stop) => {
-            put_stop(out, stop);
-            1
-        }
-    }
+    let outcome = import_before(alloc, reader, store, start, to, out);
+    finish(out, outcome)
 }

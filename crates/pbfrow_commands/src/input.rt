@@ -16,6 +16,16 @@ use osm_value::{Outlet, Sink, SinkFailed};
 use pbf_frame::{Frame, whole_frame};
 use std::io::Write;
 
+/// A call of the store has failed at this offset, or memory was refused.
+pub(crate) fn store_stop(fault: StoreFault, at: u64) -> StreamFault
+    ensures { result ≡ record { fault = Stop.Store fault; at = at } }
+{
+    StreamFault {
+        fault: Stop::Store(fault),
+        at,
+    }
+}
+
 /// How the frames of an input ended.
 #[derive(Clone, Copy)]
 pub(crate) enum Ending {
@@ -32,10 +42,7 @@ impl Ending {
     pub(crate) fn refused(at: u64) -> Ending
         ensures { result ≡ Ending.Early (record { fault = Stop.Store StoreFault.Memory; at = at }) }
     {
-        Ending::Early(StreamFault {
-            fault: Stop::Store(StoreFault::Memory),
-            at,
-        })
+        Ending::Early(store_stop(StoreFault::Memory, at))
     }
 }
 

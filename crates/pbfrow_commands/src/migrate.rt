@@ -7,20 +7,19 @@ ghost use Rattle.osm_import.specs.declared.copy.CopyCounts.{CopyCounts as CopyCo
 ghost use Rattle.osm_import.specs.declared.copy.CopyStop.{CopyStop as CopyStopValue};
 ghost use Rattle.pbfrow_commands.specs.Copying.{CopiesStore, copied_line, outcome_line, copy_status};
 
+use crate::check::put_total;
 use crate::report::put_fault_at;
 use osm_import::{CopyCounts, CopyStop, copy_held};
 use osm_store::{Keeper, Reader};
-use osm_value::{Sink, put, put_digits};
+use osm_value::{Sink, put};
 use std::alloc::Global;
 
 /// Writes `copied COPIED held HELD`.
 pub(crate) fn put_copied<S: Sink>(out: &mut S, counts: CopyCounts)
     ensures { Writes (S.written out.old) (S.has_failed out.old) (S.written out.new) (S.has_failed out.new) (copied_line counts) }
 {
-    put(out, b"copied ");
-    put_digits(out, counts.copied);
-    put(out, b" held ");
-    put_digits(out, counts.held);
+    put_total(out, b"copied ", counts.copied);
+    put_total(out, b" held ", counts.held);
     put(out, b"\n");
 }
 

@@ -1,26 +1,22 @@
 //! The commands `status` and `export` on several stores that hold blobs of one file.
 
-ghost use Rattle.std.specs.Prelude.{◌≡◌, Bool, List, IfOk, IfErr, length};
+ghost use Rattle.std.specs.Prelude.{◌≡◌, List, IfOk, IfErr, length};
 ghost use Rattle.osm_value.specs.Sink.{Writes};
 ghost use Rattle.osm_store.specs.Held.{HeldMap};
 ghost use Rattle.osm_parts.specs.Opening.{KeepsMaps, OnlyOpens};
-ghost use Rattle.osm_parts.specs.Parts.{AreParts};
 ghost use Rattle.osm_parts.specs.PartsFaults.{IsOfMaps, PartsFaultHasCause};
-ghost use Rattle.osm_parts.specs.Reading.{AreRead};
 ghost use Rattle.pbfrow_commands.specs.InParts.{parts_fault_line, TellsOfUnion, TellsParts, TellsLines, TellsPbf};
 ghost use Rattle.pbfrow_commands.specs.Status.{IsSurvey, TellsStatus};
 
 use crate::export::finish;
 use crate::report::{put_fault_at, put_store_fault};
-use crate::status::{Holdings, put_holdings};
-use osm_import::{gaps_between, greatest_end};
+use crate::status::{Holdings, holdings_of, put_holdings};
 use osm_parts::{
-    Openings, Part, PartsFault, export_parts_as_lines, export_parts_as_pbf, extents_of_parts,
-    read_parts,
+    Openings, PartsFault, export_parts_as_lines, export_parts_as_pbf, extents_of_parts, read_parts,
 };
 use osm_store::Reader;
 use osm_value::{Form, Sink};
-use std::alloc::{AllocError, Global};
+use std::alloc::Global;
 
 /// Writes the line of what keeps stores from being read as one.
 pub(crate) fn put_parts_fault<S: Sink>(out: &mut S, fault: PartsFault)
@@ -31,21 +27,6 @@ pub(crate) fn put_parts_fault<S: Sink>(out: &mut S, fault: PartsFault)
         PartsFault::Refused(_, off) => put_fault_at(out, fault.number(), fault.name(), off),
         PartsFault::Store(fault) => put_store_fault(out, fault),
     }
-}
-
-/// What the stores of these parts hold together, and the gaps up to the size, or up to the greatest end if no size is
-/// given.
-fn holdings_of(alloc: Global, parts: &[Part], size: Option<u64>) -> Result<Holdings, AllocError>
-    ensures { (maps : List HeldMap) (asked : Bool) (whole : HeldMap) (read : AreRead maps asked parts.now) → AreParts read.ordered whole → IfOk result (IsSurvey whole size) }
-{
-    let extents = extents_of_parts(alloc, parts)?;
-    let end = greatest_end(&extents);
-    let gaps = gaps_between(alloc, &extents, size.unwrap_or(end))?;
-    Ok(Holdings {
-        blobs: extents.len() as u64,
-        end,
-        gaps,
-    })
 }
 
 /// What `count` stores hold together, read of one after the other.
@@ -61,7 +42,8 @@ fn survey_parts<K: Reader + Drop, O: Openings<K>>(
     ensures cause { IfErr result (PartsFaultHasCause (O.failures openings.old) (O.failures openings.new)) }
 {
     let parts = read_parts(alloc, openings, count, false)?;
-    let holdings = holdings_of(alloc, &parts, size)?;
+    let extents = extents_of_parts(alloc, &parts)?;
+    let holdings = holdings_of(alloc, &extents, size)?;
     Ok(holdings)
 }
 
@@ -91,56 +73,6 @@ pub fn status_parts<K: Reader + Drop, O: Openings<K>, S: Sink>(
     }
 }
 
-/// Exports as lines, and answers the exit status.
-fn export_as_lines<K: Reader + Drop, O: Openings<K>, S: Sink>(
-    alloc: Global,
-    openings: &mut O,
-    count: u64,
-    size: Option<u64>,
-    partial: bool,
-    out: &mut S,
-) -> u8
-    ensures told { (maps : List HeldMap) → O.holds openings.old maps → O.is_honest openings.new → length maps ≡ count
-        → TellsParts (TellsLines size partial (O.failures openings.old) (O.failures openings.new) (S.written out.old) (S.written out.new) (S.has_failed out.new) result)
-        maps (O.failures openings.old) (O.failures openings.new) (S.written out.old) (S.written out.new) (S.has_failed out.new) result }
-    ensures keeps { KeepsMaps O.holds O.is_honest O.is_open openings.old openings.new }
-{
-    let parts = match read_parts(alloc, openings, count, false) {
-        Ok(parts) => parts,
-        Err(fault) => {
-            put_parts_fault(out, fault);
-            return 1;
-        }
-    };
-    let answer = export_parts_as_lines(alloc, openings, &parts, size, partial, out);
-    finish(out, answer)
-}
-
-/// Exports as a PBF file, and answers the exit status.
-fn export_as_pbf<K: Reader + Drop, O: Openings<K>, S: Sink>(
-    alloc: Global,
-    openings: &mut O,
-    count: u64,
-    size: Option<u64>,
-    partial: bool,
-    out: &mut S,
-) -> u8
-    ensures told { (maps : List HeldMap) → O.holds openings.old maps → O.is_honest openings.new → length maps ≡ count
-        → TellsParts (TellsPbf maps size partial (O.failures openings.old) (O.failures openings.new) (S.written out.old) (S.written out.new) (S.has_failed out.new) result)
-        maps (O.failures openings.old) (O.failures openings.new) (S.written out.old) (S.written out.new) (S.has_failed out.new) result }
-    ensures keeps { KeepsMaps O.holds O.is_honest O.is_open openings.old openings.new }
-{
-    let parts = match read_parts(alloc, openings, count, true) {
-        Ok(parts) => parts,
-        Err(fault) => {
-            put_parts_fault(out, fault);
-            return 1;
-        }
-    };
-    let answer = export_parts_as_pbf(alloc, openings, &parts, size, partial, out);
-    finish(out, answer)
-}
-
 /// Writes what `export` writes of one store that holds the blobs of all `count` stores, each once, with the same refusals;
 /// or the line of a fault, before any byte: those of `status_parts`. Each store is opened once for its extents, since a
 /// refusal comes before any byte, and then once for each run of its blobs, one after the other. Answers the exit status: 0 if everything was written, else 1. What the
@@ -162,8 +94,22 @@ pub fn export_parts<K: Reader + Drop, O: Openings<K>, S: Sink>(
         maps (O.failures openings.old) (O.failures openings.new) (S.written out.old) (S.written out.new) (S.has_failed out.new) result }
     ensures keeps { KeepsMaps O.holds O.is_honest O.is_open openings.old openings.new }
 {
+    let asks_history = form == Form::Pbf;
+    let parts = match read_parts(alloc, openings, count, asks_history) {
+        Ok(parts) => parts,
+        Err(fault) => {
+            put_parts_fault(out, fault);
+            return 1;
+        }
+    };
     match form {
-        Form::Lines => export_as_lines(alloc, openings, count, size, partial, out),
-        Form::Pbf => export_as_pbf(alloc, openings, count, size, partial, out),
+        Form::Lines => {
+            let answer = export_parts_as_lines(alloc, openings, &parts, size, partial, out);
+            finish(out, answer)
+        }
+        Form::Pbf => {
+            let answer = export_parts_as_pbf(alloc, openings, &parts, size, partial, out);
+            finish(out, answer)
+        }
     }
 }

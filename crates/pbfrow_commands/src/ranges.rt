@@ -10,23 +10,13 @@ ghost use Rattle.pbfrow_commands.specs.Ranging.{Cuts, CutsInput, ends_from, rang
 ghost use Rattle.pbfrow_commands.specs.Walks.{Walks};
 ghost use Rattle.pbfrow_commands.specs.declared.input.Ending.TheVariants as ending;
 
-use crate::input::{Ending, finish};
-use osm_import::{FrameReader, Inlet, Stop, StreamFault};
+use crate::input::{Ending, finish, store_stop};
+use osm_import::{FrameReader, Inlet, StreamFault};
 use osm_store::StoreFault;
 use osm_value::{Sink, put, put_digits};
 use pbf_ranges::{Range, ranges_of};
 use std::alloc::Global;
 use std::io::Read;
-
-/// Memory was refused for what is at this offset.
-fn refused(at: u64) -> StreamFault
-    ensures { result ≡ record { fault = Stop.Store StoreFault.Memory; at = at } }
-{
-    StreamFault {
-        fault: Stop::Store(StoreFault::Memory),
-        at,
-    }
-}
 
 /// The end of each frame of the input. It keeps none of the frames.
 fn ends_of<R: Read>(alloc: Global, input: &mut R) -> Result<Vec<u64>, StreamFault>
@@ -43,7 +33,7 @@ fn ends_of<R: Read>(alloc: Global, input: &mut R) -> Result<Vec<u64>, StreamFaul
             Ok(Some((at, bytes))) => {
                 let end = at + bytes.len() as u64;
                 let Ok(()) = ends.push(end) else {
-                    return Err(refused(at));
+                    return Err(store_stop(StoreFault::Memory, at));
                 };
             }
             Ok(None) => return Ok(ends),
@@ -64,7 +54,7 @@ fn cut<R: Read>(alloc: Global, input: &mut R, count: u64) -> Result<Vec<Range>, 
     };
     match ranges_of(alloc, &ends, count) {
         Ok(ranges) => Ok(ranges),
-        Err(_) => Err(refused(ends.last().copied().unwrap_or(0))),
+        Err(_) => Err(store_stop(StoreFault::Memory, ends.last().copied().unwrap_or(0))),
     }
 }
 

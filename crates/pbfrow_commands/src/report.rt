@@ -2,12 +2,13 @@
 
 ghost use Rattle.std.specs.Prelude.{◌≡◌};
 ghost use Rattle.osm_value.specs.Sink.{Writes};
-ghost use Rattle.pbfrow_commands.specs.CommandLines.{kept_text, memory_line, store_fault_line, summary_line};
+ghost use Rattle.pbfrow_commands.specs.CommandLines.{memory_line, store_fault_line, summary_line};
 
+use crate::check::put_total;
 pub use osm_import::put_fault_at;
 use osm_import::{Summary, put_plain_fault};
 use osm_store::StoreFault;
-use osm_value::{Sink, put, put_digits};
+use osm_value::{Sink, put};
 
 /// Writes the line of a fault of the store.
 pub fn put_store_fault<S: Sink>(out: &mut S, fault: StoreFault)
@@ -30,24 +31,13 @@ pub fn refuse_memory<S: Sink>(out: &mut S, at: Option<u64>) -> u8
     1
 }
 
-/// Writes `blobs stored STORED held HELD`.
-fn put_kept<S: Sink>(out: &mut S, summary: &Summary)
-    ensures { Writes (S.written out.old) (S.has_failed out.old) (S.written out.new) (S.has_failed out.new) (kept_text summary.now) }
-{
-    put(out, b"blobs stored ");
-    put_digits(out, summary.stored);
-    put(out, b" held ");
-    put_digits(out, summary.held);
-}
-
 /// Writes `blobs stored STORED held HELD bad BAD refused REFUSED`.
 pub(crate) fn put_summary<S: Sink>(out: &mut S, summary: &Summary)
     ensures { Writes (S.written out.old) (S.has_failed out.old) (S.written out.new) (S.has_failed out.new) (summary_line summary.now) }
 {
-    put_kept(out, summary);
-    put(out, b" bad ");
-    put_digits(out, summary.bad);
-    put(out, b" refused ");
-    put_digits(out, summary.refused);
+    put_total(out, b"blobs stored ", summary.stored);
+    put_total(out, b" held ", summary.held);
+    put_total(out, b" bad ", summary.bad);
+    put_total(out, b" refused ", summary.refused);
     put(out, b"\n");
 }

@@ -2,18 +2,19 @@
 
 ghost use Rattle.std.specs.Prelude.{◌≡◌, ℕ, Option, IfOk, IfErr};
 ghost use Rattle.osm_value.specs.Sink.{Writes};
-ghost use Rattle.osm_store.specs.Held.{HeldMap};
-ghost use Rattle.osm_store.specs.Keeping.{IsForeign};
+ghost use Rattle.osm_store.specs.Held.{HeldMap, IsApart};
+ghost use Rattle.osm_store.specs.Keeping.{IsForeign, extents_of};
 ghost use Rattle.osm_import.specs.Step.{HasCause};
 ghost use Rattle.osm_import.specs.Stores.{Rereads, Stays};
 ghost use Rattle.pbfrow_commands.specs.CommandLines.{counts_line, gap_line, gap_lines};
 ghost use Rattle.pbfrow_commands.specs.Status.{IsSurvey, Tells, TellsStatus, status_text};
 
+use crate::check::put_total;
 use crate::report::put_store_fault;
-use osm_import::{gaps, greatest_end};
-use osm_store::{Reader, StoreFault};
+use osm_import::{gaps_between, greatest_end};
+use osm_store::{Extent, Reader, StoreFault};
 use osm_value::{Sink, put, put_digits};
-use std::alloc::Global;
+use std::alloc::{AllocError, Global};
 
 /// How many blobs a store holds, the greatest end of one, and the ranges that none covers.
 #[derive(Debug, Drop)]
@@ -23,7 +24,24 @@ pub(crate) struct Holdings {
     pub(crate) gaps: Vec<(u64, u64)>,
 }
 
-/// What a store holds, and the gaps up to the size, or up to the greatest end if no size is given.
+/// What a map holds that has these extents, and the gaps up to the size, or up to the greatest end if no size is given.
+pub(crate) fn holdings_of(
+    alloc: Global,
+    extents: &[Extent],
+    size: Option<u64>,
+) -> Result<Holdings, AllocError>
+    ensures { (held : HeldMap) → IsApart held → extents.now ≡ extents_of held → IfOk result (IsSurvey held size) }
+{
+    let end = greatest_end(extents);
+    let gaps = gaps_between(alloc, extents, size.unwrap_or(end))?;
+    Ok(Holdings {
+        blobs: extents.len() as u64,
+        end,
+        gaps,
+    })
+}
+
+/// What a store holds.
 fn survey<K: Reader>(
     alloc: Global,
     store: &mut K,
@@ -34,19 +52,9 @@ fn survey<K: Reader>(
     ensures own { (held : HeldMap) → K.holds store.old held → K.is_honest store.new → IfErr result (λ fault. ¬ (IsForeign fault)) }
     ensures cause { IfErr result (HasCause (K.failures store.old) (K.failures store.new)) }
 {
-    let extents = match store.extents(alloc) {
-        Ok(extents) => extents,
-        Err(fault) => return Err(fault),
-    };
-    let end = greatest_end(&extents);
-    match gaps(alloc, store, size.unwrap_or(end)) {
-        Ok(gaps) => Ok(Holdings {
-            blobs: extents.len() as u64,
-            end,
-            gaps,
-        }),
-        Err(fault) => Err(fault),
-    }
+    let extents = store.extents(alloc)?;
+    let holdings = holdings_of(alloc, &extents, size)?;
+    Ok(holdings)
 }
 
 /// Writes `gap FROM TO`.
@@ -73,12 +81,9 @@ pub(crate) fn put_gaps<S: Sink>(out: &mut S, gaps: &[(u64, u64)])
 fn put_counts<S: Sink>(out: &mut S, blobs: u64, end: u64, gaps: u64)
     ensures { Writes (S.written out.old) (S.has_failed out.old) (S.written out.new) (S.has_failed out.new) (counts_line blobs end gaps) }
 {
-    put(out, b"blobs ");
-    put_digits(out, blobs);
-    put(out, b" end ");
-    put_digits(out, end);
-    put(out, b" gaps ");
-    put_digits(out, gaps);
+    put_total(out, b"blobs ", blobs);
+    put_total(out, b" end ", end);
+    put_total(out, b" gaps ", gaps);
     put(out, b"\n");
 }
 

@@ -1,6 +1,6 @@
 //! The command `verify`: whether a store holds exactly what an import of a file gives.
 
-ghost use Rattle.std.specs.Prelude.{◌≡◌, ◌↔◌, ◌+◌, ◌-◌, ◌<◌, ◌≤◌, ◌++◌, ◌∷◌, [], filter, length, cond, codes, true, ℕ, List, is_err, IsTrue, IfOk, IfErr, IfSome, OnOk, OnErr};
+ghost use Rattle.std.specs.Prelude.{◌≡◌, ◌↔◌, ◌+◌, ◌-◌, ◌<◌, ◌≤◌, ◌++◌, ◌∷◌, [], filter, length, codes, true, ℕ, List, IsTrue, IfOk, IfErr, IfSome, OnOk, OnErr};
 ghost use Rattle.std.specs.Fmt.{decimal};
 ghost use Rattle.pbf_frame.specs.declared.part.TheConstants.{MAX_OFFSET as LAST};
 ghost use Rattle.osm_value.specs.Sink.{Writes};
@@ -15,11 +15,11 @@ ghost use Rattle.osm_import.specs.Stores.{Rereads, Stays};
 ghost use Rattle.osm_verify.specs.Agreements.{begins};
 ghost use Rattle.osm_verify.specs.Audits.{CountsMore};
 ghost use Rattle.osm_verify.specs.Laws.{IsExact};
-ghost use Rattle.pbfrow_commands.specs.Verifying.{Compared, HasCompared, HasCountedRows, HasElements, HasOwnElements, HasSeen, HasSeenInput, IsClosing, IsComparison, IsCompared, IsSeen, ComparesBlobs, ShowsFile, VerifiesInput, agree, agreement_line, close_text, compared_lines, comparison_line, counts_line, counts_of, extra_line, extra_lines, first_extra, header_line, is_agreed, is_missing, is_other, is_whole};
+ghost use Rattle.pbfrow_commands.specs.Verifying.{Compared, HasCompared, HasCountedRows, HasElements, HasOwnElements, HasSeen, HasSeenInput, IsClosing, IsComparison, IsCompared, IsSeen, ComparesBlobs, ShowsFile, VerifiesInput, agree, agreement_line, close_text, compared_lines, comparison_line, counts_line, counts_of, extra_line, extra_lines, first_extra, header_line, is_agreed, is_whole};
 ghost use Rattle.pbfrow_commands.specs.Walks.{IsPart, Part, status_of};
 
 use crate::check::put_total;
-use crate::input::{flush_to_wait, frame_of, put_stop, status};
+use crate::input::{flush_to_wait, frame_of, put_stop, status, store_stop};
 use crate::watcher::Watcher;
 use osm_import::{
     ExamineFault, Fault, FrameReader, Inlet, Stop, StreamFault, examine_frame, put_fault_at,
@@ -56,10 +56,7 @@ impl Close {
     fn broken(fault: StoreFault, at: u64) -> Close
         ensures { result ≡ Close.Early (record { fault = Stop.Store fault; at = at }) }
     {
-        Close::Early(StreamFault {
-            fault: Stop::Store(fault),
-            at,
-        })
+        Close::Early(store_stop(fault, at))
     }
 }
 
@@ -89,10 +86,13 @@ impl Counts {
             → self.new ≡ counts_of (blobs ++ p ∷ []) 0 }
     {
         self.blobs = self.blobs.saturating_add(1);
-        self.bad = self.bad.saturating_add(bad_in(&finding.verdict));
-        self.missing = self.missing.saturating_add(missing_in(&finding.verdict));
-        self.differs = self.differs.saturating_add(other_in(&finding.verdict));
         self.extra = self.extra.saturating_add(finding.extras.len() as u64);
+        match finding.verdict {
+            Ok(Agreement::Same) => {}
+            Ok(Agreement::Missing) => self.missing = self.missing.saturating_add(1),
+            Ok(Agreement::Differs) => self.differs = self.differs.saturating_add(1),
+            Err(_) => self.bad = self.bad.saturating_add(1),
+        }
     }
 
     /// Counts extents that are extra behind all frames.
@@ -109,36 +109,6 @@ impl Counts {
         let sound = self.bad == 0 && self.missing == 0;
         let exact = self.differs == 0 && self.extra == 0;
         self.blobs > 0 && (sound && exact)
-    }
-}
-
-/// 1 where the frame is bad, else 0.
-fn bad_in(verdict: &Result<Agreement, Fault>) -> u64
-    ensures { result ≡ cond (is_err verdict.now) 1 0 }
-{
-    match verdict {
-        Ok(_) => 0,
-        Err(_) => 1,
-    }
-}
-
-/// 1 where nothing is held at the frame's offset, else 0.
-fn missing_in(verdict: &Result<Agreement, Fault>) -> u64
-    ensures { result ≡ cond (is_missing verdict.now) 1 0 }
-{
-    match verdict {
-        Ok(Agreement::Missing) => 1,
-        _ => 0,
-    }
-}
-
-/// 1 where something else is held at the frame's offset, else 0.
-fn other_in(verdict: &Result<Agreement, Fault>) -> u64
-    ensures { result ≡ cond (is_other verdict.now) 1 0 }
-{
-    match verdict {
-        Ok(Agreement::Differs) => 1,
-        _ => 0,
     }
 }
 

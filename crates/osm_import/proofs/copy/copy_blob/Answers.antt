@@ -1,12 +1,11 @@
-use Rattle.std.proofs.Common.{◌≡◌, ◌==◌, ◌∙◌, ◌<◌, ℕ, List, length, Some, refl, sym, subst, ap, inl, inr, rules}
+use Rattle.std.proofs.Common.{◌≡◌, ◌==◌, ◌∙◌, ◌<◌, Some, refl, sym, subst, ap, inl, inr, rules}
 use Rattle.std.specs.Prelude.{find}
 use Rattle.std.specs.FinMap.{insert}
 use Rattle.std.proofs.lemmas.Slice.Eq.{bytes_eq-Decides}
 use Rattle.std.proofs.lemmas.Bool.Decides.{not_from_Decides}
-use Rattle.osm_value.specs.declared.element.Element.{Element}
-use Rattle.osm_store.specs.Held.{Blob, IsFree, HaveFewTexts}
+use Rattle.osm_store.specs.Held.{Blob, IsFree}
 use Rattle.osm_store.specs.declared.keeper.Extent.{Extent}
-use Rattle.osm_import.proofs.Delivering.{found-at, unheld-at, free-of}
+use Rattle.osm_import.proofs.Delivering.{addable, found-at, unheld-at}
 use Rattle.osm_import.proofs.CopyLemmas.{blob_put, met_of}
 use Rattle.osm_import.proofs.copy.copy_blob.Goals as goal
 
@@ -44,82 +43,68 @@ returns-then-not-is_empty-clause-step g c = λ source held blob from_holds from_
 
 pub returns-in-Ok-clause-step : goal.returns-in-Ok-clause-step
 returns-in-Ok-clause-step g c = λ source held blob from_holds from_honest holds honest of is.
-    let off : ℕ = c.args.extent.now.off in
     let earlier = c.put.ensures.adds.honest honest in
-    let none : length c.in_ok-touched.touched.items ≡ 0 = search rules in
-    let free = free-of held off c.args.extent.now.fin c.in_ok-touched.touched.items (c.in_ok-touched.ensures.touching held holds earlier) none in
-    let are : c.deref-2.result.now ≡ blob.elements = c.deref-2.ensures.value ∙ c.in_ok-elements.ensures blob.elements (c.in_ok-loaded.ensures.rows source blob from_holds from_honest of) in
-    let few = subst (λ (es : List Element). HaveFewTexts es) (sym are) (g.met.F.Reader.has_few_texts _ source from_holds off blob of) in
-    let one = blob_put off c.args.extent.now blob c.deref-2.result.now is are in (
-      insert held off blob,
-      (subst (λ (e : Extent). IsFree held off e.fin) is free, refl),
-      subst (λ (b : Blob). g.T.Reader.holds c.put.new.self (insert held off b)) one (c.in-Ok.ensures.adds.ok honest held (c.in_ok-touched.ensures.reads.ok earlier held holds) (record { free = free; few_texts = few })),
+    let are = c.deref-2.ensures.value ∙ c.in_ok-elements.ensures blob.elements (c.in_ok-loaded.ensures.rows source blob from_holds from_honest of) in
+    let can = addable held c.args.extent.now.off c.args.extent.now.fin c.in_ok-touched.touched.items c.args.extent.now.digest c.args.extent.now.kind c.deref-2.result.now blob.elements
+    (c.in_ok-touched.ensures.touching held holds earlier) (search rules) are (g.met.F.Reader.has_few_texts _ source from_holds c.args.extent.now.off blob of) in
+    let one = blob_put c.args.extent.now.off c.args.extent.now blob c.deref-2.result.now is are in (
+      insert held c.args.extent.now.off blob,
+      (subst (λ (e : Extent). IsFree held c.args.extent.now.off e.fin) is can.free, refl),
+      subst (λ (b : Blob). g.T.Reader.holds c.put.new.self (insert held c.args.extent.now.off b)) one (c.in-Ok.ensures.adds.ok honest held (c.in_ok-touched.ensures.reads.ok earlier held holds) can),
     )
 
 pub returns-in-Ok-clause-crash : goal.returns-in-Ok-clause-crash
 returns-in-Ok-clause-crash g c = λ source held blob from_holds from_honest holds honest of is left leaves.
-    let off : ℕ = c.args.extent.now.off in
     let earlier = c.put.ensures.adds.honest honest in
-    let none : length c.in_ok-touched.touched.items ≡ 0 = search rules in
-    let free = free-of held off c.args.extent.now.fin c.in_ok-touched.touched.items (c.in_ok-touched.ensures.touching held holds earlier) none in
-    let are : c.deref-2.result.now ≡ blob.elements = c.deref-2.ensures.value ∙ c.in_ok-elements.ensures blob.elements (c.in_ok-loaded.ensures.rows source blob from_holds from_honest of) in
-    let few = subst (λ (es : List Element). HaveFewTexts es) (sym are) (g.met.F.Reader.has_few_texts _ source from_holds off blob of) in
-    let one = blob_put off c.args.extent.now blob c.deref-2.result.now is are in
-    elim (c.put.ensures.adds.crash honest held left (c.in_ok-touched.ensures.reads.ok earlier held holds) (record { free = free; few_texts = few }) leaves) [
+    let are = c.deref-2.ensures.value ∙ c.in_ok-elements.ensures blob.elements (c.in_ok-loaded.ensures.rows source blob from_holds from_honest of) in
+    let can = addable held c.args.extent.now.off c.args.extent.now.fin c.in_ok-touched.touched.items c.args.extent.now.digest c.args.extent.now.kind c.deref-2.result.now blob.elements
+    (c.in_ok-touched.ensures.touching held holds earlier) (search rules) are (g.met.F.Reader.has_few_texts _ source from_holds c.args.extent.now.off blob of) in
+    let one = blob_put c.args.extent.now.off c.args.extent.now blob c.deref-2.result.now is are in
+    elim (c.put.ensures.adds.crash honest held left (c.in_ok-touched.ensures.reads.ok earlier held holds) can leaves) [
       | inl old ↦ inl (g.met.T.Reader.settled _ held left holds (c.in_ok-touched.ensures.reads.crash earlier left old))
-      | inr new ↦ inr (subst (λ (e : Extent). IsFree held off e.fin) is free, new ∙ ap (insert held off) one)
+      | inr new ↦ inr (subst (λ (e : Extent). IsFree held c.args.extent.now.off e.fin) is can.free, new ∙ ap (insert held c.args.extent.now.off) one)
     ]
 
 pub returns-in-Ok-clause-whole : goal.returns-in-Ok-clause-whole
 returns-in-Ok-clause-whole g c = λ source held blob from_holds from_honest holds honest of is.
-    let off : ℕ = c.args.extent.now.off in
     let earlier = c.put.ensures.adds.honest honest in
-    let none : length c.in_ok-touched.touched.items ≡ 0 = search rules in
-    let free = free-of held off c.args.extent.now.fin c.in_ok-touched.touched.items (c.in_ok-touched.ensures.touching held holds earlier) none in
-    let are : c.deref-2.result.now ≡ blob.elements = c.deref-2.ensures.value ∙ c.in_ok-elements.ensures blob.elements (c.in_ok-loaded.ensures.rows source blob from_holds from_honest of) in
-    let few = subst (λ (es : List Element). HaveFewTexts es) (sym are) (g.met.F.Reader.has_few_texts _ source from_holds off blob of) in
-    c.put.ensures.adds.whole honest held (c.in_ok-touched.ensures.reads.ok earlier held holds) (record { free = free; few_texts = few })
+    let are = c.deref-2.ensures.value ∙ c.in_ok-elements.ensures blob.elements (c.in_ok-loaded.ensures.rows source blob from_holds from_honest of) in
+    let can = addable held c.args.extent.now.off c.args.extent.now.fin c.in_ok-touched.touched.items c.args.extent.now.digest c.args.extent.now.kind c.deref-2.result.now blob.elements
+    (c.in_ok-touched.ensures.touching held holds earlier) (search rules) are (g.met.F.Reader.has_few_texts _ source from_holds c.args.extent.now.off blob of) in
+    c.put.ensures.adds.whole honest held (c.in_ok-touched.ensures.reads.ok earlier held holds) can
 
 pub returns-clause-step : goal.returns-clause-step
 returns-clause-step g c = λ source held blob from_holds from_honest holds honest of is open_now.
-    let off : ℕ = c.args.extent.now.off in
     let earlier = c.put.ensures.adds.honest honest in
-    let none : length c.in_ok-touched.touched.items ≡ 0 = search rules in
-    let free = free-of held off c.args.extent.now.fin c.in_ok-touched.touched.items (c.in_ok-touched.ensures.touching held holds earlier) none in
-    let are : c.deref-2.result.now ≡ blob.elements = c.deref-2.ensures.value ∙ c.in_ok-elements.ensures blob.elements (c.in_ok-loaded.ensures.rows source blob from_holds from_honest of) in
-    let few = subst (λ (es : List Element). HaveFewTexts es) (sym are) (g.met.F.Reader.has_few_texts _ source from_holds off blob of) in
-    c.in-Err.ensures.adds.err honest open_now held (c.in_ok-touched.ensures.reads.ok earlier held holds) (record { free = free; few_texts = few })
+    let are = c.deref-2.ensures.value ∙ c.in_ok-elements.ensures blob.elements (c.in_ok-loaded.ensures.rows source blob from_holds from_honest of) in
+    let can = addable held c.args.extent.now.off c.args.extent.now.fin c.in_ok-touched.touched.items c.args.extent.now.digest c.args.extent.now.kind c.deref-2.result.now blob.elements
+    (c.in_ok-touched.ensures.touching held holds earlier) (search rules) are (g.met.F.Reader.has_few_texts _ source from_holds c.args.extent.now.off blob of) in
+    c.in-Err.ensures.adds.err honest open_now held (c.in_ok-touched.ensures.reads.ok earlier held holds) can
 
 pub returns-clause-crash : goal.returns-clause-crash
 returns-clause-crash g c = λ source held blob from_holds from_honest holds honest of is left leaves.
-    let off : ℕ = c.args.extent.now.off in
     let earlier = c.put.ensures.adds.honest honest in
-    let none : length c.in_ok-touched.touched.items ≡ 0 = search rules in
-    let free = free-of held off c.args.extent.now.fin c.in_ok-touched.touched.items (c.in_ok-touched.ensures.touching held holds earlier) none in
-    let are : c.deref-2.result.now ≡ blob.elements = c.deref-2.ensures.value ∙ c.in_ok-elements.ensures blob.elements (c.in_ok-loaded.ensures.rows source blob from_holds from_honest of) in
-    let few = subst (λ (es : List Element). HaveFewTexts es) (sym are) (g.met.F.Reader.has_few_texts _ source from_holds off blob of) in
-    let one = blob_put off c.args.extent.now blob c.deref-2.result.now is are in
-    elim (c.put.ensures.adds.crash honest held left (c.in_ok-touched.ensures.reads.ok earlier held holds) (record { free = free; few_texts = few }) leaves) [
+    let are = c.deref-2.ensures.value ∙ c.in_ok-elements.ensures blob.elements (c.in_ok-loaded.ensures.rows source blob from_holds from_honest of) in
+    let can = addable held c.args.extent.now.off c.args.extent.now.fin c.in_ok-touched.touched.items c.args.extent.now.digest c.args.extent.now.kind c.deref-2.result.now blob.elements
+    (c.in_ok-touched.ensures.touching held holds earlier) (search rules) are (g.met.F.Reader.has_few_texts _ source from_holds c.args.extent.now.off blob of) in
+    let one = blob_put c.args.extent.now.off c.args.extent.now blob c.deref-2.result.now is are in
+    elim (c.put.ensures.adds.crash honest held left (c.in_ok-touched.ensures.reads.ok earlier held holds) can leaves) [
       | inl old ↦ inl (g.met.T.Reader.settled _ held left holds (c.in_ok-touched.ensures.reads.crash earlier left old))
-      | inr new ↦ inr (subst (λ (e : Extent). IsFree held off e.fin) is free, new ∙ ap (insert held off) one)
+      | inr new ↦ inr (subst (λ (e : Extent). IsFree held c.args.extent.now.off e.fin) is can.free, new ∙ ap (insert held c.args.extent.now.off) one)
     ]
 
 pub returns-clause-whole : goal.returns-clause-whole
 returns-clause-whole g c = λ source held blob from_holds from_honest holds honest of is.
-    let off : ℕ = c.args.extent.now.off in
     let earlier = c.put.ensures.adds.honest honest in
-    let none : length c.in_ok-touched.touched.items ≡ 0 = search rules in
-    let free = free-of held off c.args.extent.now.fin c.in_ok-touched.touched.items (c.in_ok-touched.ensures.touching held holds earlier) none in
-    let are : c.deref-2.result.now ≡ blob.elements = c.deref-2.ensures.value ∙ c.in_ok-elements.ensures blob.elements (c.in_ok-loaded.ensures.rows source blob from_holds from_honest of) in
-    let few = subst (λ (es : List Element). HaveFewTexts es) (sym are) (g.met.F.Reader.has_few_texts _ source from_holds off blob of) in
-    c.put.ensures.adds.whole honest held (c.in_ok-touched.ensures.reads.ok earlier held holds) (record { free = free; few_texts = few })
+    let are = c.deref-2.ensures.value ∙ c.in_ok-elements.ensures blob.elements (c.in_ok-loaded.ensures.rows source blob from_holds from_honest of) in
+    let can = addable held c.args.extent.now.off c.args.extent.now.fin c.in_ok-touched.touched.items c.args.extent.now.digest c.args.extent.now.kind c.deref-2.result.now blob.elements
+    (c.in_ok-touched.ensures.touching held holds earlier) (search rules) are (g.met.F.Reader.has_few_texts _ source from_holds c.args.extent.now.off blob of) in
+    c.put.ensures.adds.whole honest held (c.in_ok-touched.ensures.reads.ok earlier held holds) can
 
 pub returns-clause-own : goal.returns-clause-own
 returns-clause-own g c = λ source held blob from_holds from_honest holds honest of is.
-    let off : ℕ = c.args.extent.now.off in
     let earlier = c.put.ensures.adds.honest honest in
-    let none : length c.in_ok-touched.touched.items ≡ 0 = search rules in
-    let free = free-of held off c.args.extent.now.fin c.in_ok-touched.touched.items (c.in_ok-touched.ensures.touching held holds earlier) none in
-    let are : c.deref-2.result.now ≡ blob.elements = c.deref-2.ensures.value ∙ c.in_ok-elements.ensures blob.elements (c.in_ok-loaded.ensures.rows source blob from_holds from_honest of) in
-    let few = subst (λ (es : List Element). HaveFewTexts es) (sym are) (g.met.F.Reader.has_few_texts _ source from_holds off blob of) in
-    c.in-Err.ensures.adds.own held (c.in_ok-touched.ensures.reads.ok earlier held holds) honest (record { free = free; few_texts = few })
+    let are = c.deref-2.ensures.value ∙ c.in_ok-elements.ensures blob.elements (c.in_ok-loaded.ensures.rows source blob from_holds from_honest of) in
+    let can = addable held c.args.extent.now.off c.args.extent.now.fin c.in_ok-touched.touched.items c.args.extent.now.digest c.args.extent.now.kind c.deref-2.result.now blob.elements
+    (c.in_ok-touched.ensures.touching held holds earlier) (search rules) are (g.met.F.Reader.has_few_texts _ source from_holds c.args.extent.now.off blob of) in
+    c.in-Err.ensures.adds.own held (c.in_ok-touched.ensures.reads.ok earlier held holds) honest can

@@ -5,7 +5,7 @@ use Rattle.std.proofs.lemmas.Bool.Decides.{not_from_Decides}
 use Rattle.osm_store.specs.Held.{HaveFewTexts}
 use Rattle.osm_value.specs.declared.element.Element.{Element}
 use Rattle.osm_store.specs.declared.keeper.Extent.{Extent}
-use Rattle.osm_import.proofs.Delivering.{held_already, held_otherwise, overlapping, free-of, storing, few-texts}
+use Rattle.osm_import.proofs.Delivering.{addable, held_already, held_otherwise, overlapping, free-of, storing, few-texts}
 use Rattle.osm_import.proofs.delivery.deliver_good.Goals as goal
 
 pub returns-then-eq-clause-step : goal.returns-then-eq-clause-step
@@ -61,62 +61,48 @@ pub returns-in-Ok-put-clause-crash : goal.returns-in-Ok-put-clause-crash
 returns-in-Ok-put-clause-crash g c = λ held holds honest left leaves.
     let earlier = c.put.ensures.adds.honest honest in
     let kept = c.in-Ok.ensures.reads.ok earlier held holds in
-    let none : length c.in-Ok.touched.items ≡ 0 = search rules in
-    let free = free-of held c.args.off (c.args.off + length c.args.bytes.now) c.in-Ok.touched.items (c.in-Ok.ensures.touching held holds earlier) none in
-    elim (c.put.ensures.adds.crash honest held left kept (record { free = free; few_texts = subst (λ (es : List Element). HaveFewTexts es) (sym c.deref-2.ensures.value) (few-texts c.args.off c.args.bytes.now c.args.good.now.kind c.args.good.now.elements.items c.requires) }) leaves) [
+    let can = addable held c.args.off (c.args.off + length c.args.bytes.now) c.in-Ok.touched.items c.digest-digest.result c.args.good.now.kind c.deref-2.result.now c.args.good.now.elements.items (c.in-Ok.ensures.touching held holds earlier) (search rules) c.deref-2.ensures.value (few-texts c.args.off c.args.bytes.now c.args.good.now.kind c.args.good.now.elements.items c.requires) in
+    elim (c.put.ensures.adds.crash honest held left kept can leaves) [
       | inl old ↦ inl (g.met.K.Reader.settled _ held left holds (c.in-Ok.ensures.reads.crash earlier left old))
-      | inr new ↦ inr (length c.deref-2.result.now, storing held c.args.off c.args.bytes.now c.args.good.now.kind c.args.good.now.elements.items c.deref-2.result.now c.digest-digest.result _ left c.requires c.deref-2.ensures.value c.digest-digest.ensures (g.met.K.Reader.is_apart _ held holds) free refl new)
+      | inr new ↦ inr (length c.deref-2.result.now, storing held c.args.off c.args.bytes.now c.args.good.now.kind c.args.good.now.elements.items c.deref-2.result.now c.digest-digest.result _ left c.requires c.deref-2.ensures.value c.digest-digest.ensures (g.met.K.Reader.is_apart _ held holds) can.free refl new)
     ]
 
 pub returns-clause-step : goal.returns-clause-step
 returns-clause-step g c = λ held holds honest open_now.
     let earlier = c.put.ensures.adds.honest honest in
-    let none : length c.in-Ok.touched.items ≡ 0 = search rules in
-    let free = free-of held c.args.off (c.args.off + length c.args.bytes.now) c.in-Ok.touched.items (c.in-Ok.ensures.touching held holds earlier) none in
-    c.in-Err-put.ensures.adds.err honest open_now held (c.in-Ok.ensures.reads.ok earlier held holds) (record { free = free; few_texts = subst (λ (es : List Element). HaveFewTexts es) (sym c.deref-2.ensures.value) (few-texts c.args.off c.args.bytes.now c.args.good.now.kind c.args.good.now.elements.items c.requires) })
+    c.in-Err-put.ensures.adds.err honest open_now held (c.in-Ok.ensures.reads.ok earlier held holds) (addable held c.args.off (c.args.off + length c.args.bytes.now) c.in-Ok.touched.items c.digest-digest.result c.args.good.now.kind c.deref-2.result.now c.args.good.now.elements.items (c.in-Ok.ensures.touching held holds earlier) (search rules) c.deref-2.ensures.value (few-texts c.args.off c.args.bytes.now c.args.good.now.kind c.args.good.now.elements.items c.requires))
 
 pub returns-clause-crash : goal.returns-clause-crash
 returns-clause-crash g c = λ held holds honest left leaves.
     let earlier = c.put.ensures.adds.honest honest in
     let kept = c.in-Ok.ensures.reads.ok earlier held holds in
-    let none : length c.in-Ok.touched.items ≡ 0 = search rules in
-    let free = free-of held c.args.off (c.args.off + length c.args.bytes.now) c.in-Ok.touched.items (c.in-Ok.ensures.touching held holds earlier) none in
-    elim (c.put.ensures.adds.crash honest held left kept (record { free = free; few_texts = subst (λ (es : List Element). HaveFewTexts es) (sym c.deref-2.ensures.value) (few-texts c.args.off c.args.bytes.now c.args.good.now.kind c.args.good.now.elements.items c.requires) }) leaves) [
+    let can = addable held c.args.off (c.args.off + length c.args.bytes.now) c.in-Ok.touched.items c.digest-digest.result c.args.good.now.kind c.deref-2.result.now c.args.good.now.elements.items (c.in-Ok.ensures.touching held holds earlier) (search rules) c.deref-2.ensures.value (few-texts c.args.off c.args.bytes.now c.args.good.now.kind c.args.good.now.elements.items c.requires) in
+    elim (c.put.ensures.adds.crash honest held left kept can leaves) [
       | inl old ↦ inl (g.met.K.Reader.settled _ held left holds (c.in-Ok.ensures.reads.crash earlier left old))
-      | inr new ↦ inr (length c.deref-2.result.now, storing held c.args.off c.args.bytes.now c.args.good.now.kind c.args.good.now.elements.items c.deref-2.result.now c.digest-digest.result _ left c.requires c.deref-2.ensures.value c.digest-digest.ensures (g.met.K.Reader.is_apart _ held holds) free refl new)
+      | inr new ↦ inr (length c.deref-2.result.now, storing held c.args.off c.args.bytes.now c.args.good.now.kind c.args.good.now.elements.items c.deref-2.result.now c.digest-digest.result _ left c.requires c.deref-2.ensures.value c.digest-digest.ensures (g.met.K.Reader.is_apart _ held holds) can.free refl new)
     ]
 
 pub returns-in-Ok-put-clause-whole : goal.returns-in-Ok-put-clause-whole
 returns-in-Ok-put-clause-whole g c = λ held holds honest.
     let earlier = c.put.ensures.adds.honest honest in
-    let none : length c.in-Ok.touched.items ≡ 0 = search rules in
-    let free = free-of held c.args.off (c.args.off + length c.args.bytes.now) c.in-Ok.touched.items (c.in-Ok.ensures.touching held holds earlier) none in
-    c.put.ensures.adds.whole honest held (c.in-Ok.ensures.reads.ok earlier held holds) (record { free = free; few_texts = subst (λ (es : List Element). HaveFewTexts es) (sym c.deref-2.ensures.value) (few-texts c.args.off c.args.bytes.now c.args.good.now.kind c.args.good.now.elements.items c.requires) })
+    c.put.ensures.adds.whole honest held (c.in-Ok.ensures.reads.ok earlier held holds) (addable held c.args.off (c.args.off + length c.args.bytes.now) c.in-Ok.touched.items c.digest-digest.result c.args.good.now.kind c.deref-2.result.now c.args.good.now.elements.items (c.in-Ok.ensures.touching held holds earlier) (search rules) c.deref-2.ensures.value (few-texts c.args.off c.args.bytes.now c.args.good.now.kind c.args.good.now.elements.items c.requires))
 
 pub returns-in-Ok-put-clause-alone : goal.returns-in-Ok-put-clause-alone
 returns-in-Ok-put-clause-alone g c = λ held holds honest alone.
     let earlier = c.put.ensures.adds.honest honest in
-    let none : length c.in-Ok.touched.items ≡ 0 = search rules in
-    let free = free-of held c.args.off (c.args.off + length c.args.bytes.now) c.in-Ok.touched.items (c.in-Ok.ensures.touching held holds earlier) none in
-    c.put.ensures.adds.alone honest held (c.in-Ok.ensures.reads.ok earlier held holds) (record { free = free; few_texts = subst (λ (es : List Element). HaveFewTexts es) (sym c.deref-2.ensures.value) (few-texts c.args.off c.args.bytes.now c.args.good.now.kind c.args.good.now.elements.items c.requires) }) (c.in-Ok.ensures.reads.alone earlier alone)
+    c.put.ensures.adds.alone honest held (c.in-Ok.ensures.reads.ok earlier held holds) (addable held c.args.off (c.args.off + length c.args.bytes.now) c.in-Ok.touched.items c.digest-digest.result c.args.good.now.kind c.deref-2.result.now c.args.good.now.elements.items (c.in-Ok.ensures.touching held holds earlier) (search rules) c.deref-2.ensures.value (few-texts c.args.off c.args.bytes.now c.args.good.now.kind c.args.good.now.elements.items c.requires)) (c.in-Ok.ensures.reads.alone earlier alone)
 
 pub returns-clause-whole : goal.returns-clause-whole
 returns-clause-whole g c = λ held holds honest.
     let earlier = c.put.ensures.adds.honest honest in
-    let none : length c.in-Ok.touched.items ≡ 0 = search rules in
-    let free = free-of held c.args.off (c.args.off + length c.args.bytes.now) c.in-Ok.touched.items (c.in-Ok.ensures.touching held holds earlier) none in
-    c.put.ensures.adds.whole honest held (c.in-Ok.ensures.reads.ok earlier held holds) (record { free = free; few_texts = subst (λ (es : List Element). HaveFewTexts es) (sym c.deref-2.ensures.value) (few-texts c.args.off c.args.bytes.now c.args.good.now.kind c.args.good.now.elements.items c.requires) })
+    c.put.ensures.adds.whole honest held (c.in-Ok.ensures.reads.ok earlier held holds) (addable held c.args.off (c.args.off + length c.args.bytes.now) c.in-Ok.touched.items c.digest-digest.result c.args.good.now.kind c.deref-2.result.now c.args.good.now.elements.items (c.in-Ok.ensures.touching held holds earlier) (search rules) c.deref-2.ensures.value (few-texts c.args.off c.args.bytes.now c.args.good.now.kind c.args.good.now.elements.items c.requires))
 
 pub returns-clause-alone : goal.returns-clause-alone
 returns-clause-alone g c = λ held holds honest alone.
     let earlier = c.put.ensures.adds.honest honest in
-    let none : length c.in-Ok.touched.items ≡ 0 = search rules in
-    let free = free-of held c.args.off (c.args.off + length c.args.bytes.now) c.in-Ok.touched.items (c.in-Ok.ensures.touching held holds earlier) none in
-    c.put.ensures.adds.alone honest held (c.in-Ok.ensures.reads.ok earlier held holds) (record { free = free; few_texts = subst (λ (es : List Element). HaveFewTexts es) (sym c.deref-2.ensures.value) (few-texts c.args.off c.args.bytes.now c.args.good.now.kind c.args.good.now.elements.items c.requires) }) (c.in-Ok.ensures.reads.alone earlier alone)
+    c.put.ensures.adds.alone honest held (c.in-Ok.ensures.reads.ok earlier held holds) (addable held c.args.off (c.args.off + length c.args.bytes.now) c.in-Ok.touched.items c.digest-digest.result c.args.good.now.kind c.deref-2.result.now c.args.good.now.elements.items (c.in-Ok.ensures.touching held holds earlier) (search rules) c.deref-2.ensures.value (few-texts c.args.off c.args.bytes.now c.args.good.now.kind c.args.good.now.elements.items c.requires)) (c.in-Ok.ensures.reads.alone earlier alone)
 
 pub returns-clause-own : goal.returns-clause-own
 returns-clause-own g c = λ held holds honest.
     let earlier = c.put.ensures.adds.honest honest in
-    let none : length c.in-Ok.touched.items ≡ 0 = search rules in
-    let free = free-of held c.args.off (c.args.off + length c.args.bytes.now) c.in-Ok.touched.items (c.in-Ok.ensures.touching held holds earlier) none in
-    c.in-Err-put.ensures.adds.own held (c.in-Ok.ensures.reads.ok earlier held holds) honest (record { free = free; few_texts = subst (λ (es : List Element). HaveFewTexts es) (sym c.deref-2.ensures.value) (few-texts c.args.off c.args.bytes.now c.args.good.now.kind c.args.good.now.elements.items c.requires) })
+    c.in-Err-put.ensures.adds.own held (c.in-Ok.ensures.reads.ok earlier held holds) honest (addable held c.args.off (c.args.off + length c.args.bytes.now) c.in-Ok.touched.items c.digest-digest.result c.args.good.now.kind c.deref-2.result.now c.args.good.now.elements.items (c.in-Ok.ensures.touching held holds earlier) (search rules) c.deref-2.ensures.value (few-texts c.args.off c.args.bytes.now c.args.good.now.kind c.args.good.now.elements.items c.requires))

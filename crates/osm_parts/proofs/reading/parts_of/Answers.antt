@@ -1,5 +1,3 @@
-use Rattle.std.proofs.Common.{◌∙◌, length}
-use Rattle.osm_parts.specs.PartsFaults.{IsOfMaps}
 use Rattle.osm_parts.proofs.PieceLemmas.{stores-long}
 use Rattle.osm_parts.proofs.reading.parts_of.Goals as goal
 

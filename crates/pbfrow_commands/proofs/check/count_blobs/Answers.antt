@@ -3,7 +3,7 @@ use Rattle.osm_import.specs.FrameReads.{GivesFrame, Halts}
 use Rattle.pbfrow_commands.specs.Checking.{checked_line}
 use Rattle.pbfrow_commands.specs.Verdicts.{HasVerdict}
 use Rattle.pbfrow_commands.specs.Walks.{TellsFrames}
-use Rattle.pbfrow_commands.proofs.Walking.{Going, going-none, going-on, going-more, tells-early, tells-nothing, tells-refused, tells-unwritten}
+use Rattle.pbfrow_commands.proofs.Walking.{going-none, going-on, going-more, tells-early, tells-nothing, tells-refused, tells-unwritten}
 use Rattle.pbfrow_commands.proofs.check.count_blobs.Goals as goal
 
 pub returns-in-Err : goal.returns-in-Err
@@ -19,65 +19,39 @@ loop-frames-init g c =
 pub returns-in_default : goal.returns-in_default
 returns-in_default g c =
     let so_far = c.loop-frames.invariant in
-    let flushed = c.flush_to_wait.new.out in (
-      so_far.0,
-      tells-unwritten HasVerdict checked_line (g.R.Read.remaining c.args.input.now) c.loop-frames.frames (g.W.Write.contents c.args.out.now.writer) (g.W.Write.contents c.loop-frames.out.writer) (g.W.Write.contents flushed.writer)
-          c.loop-frames.out.has_failed flushed.has_failed so_far.0 c.in_default.ensures.err c.in_default.ensures.kept so_far.1,
-      so_far.2,
-    )
+    (so_far.0, tells-unwritten HasVerdict checked_line _ _ _ _ _ _ _ _ c.in_default.ensures.err c.in_default.ensures.kept so_far.1, so_far.2)
 
 pub loop-frames-preserved : goal.loop-frames-preserved
 loop-frames-preserved g c =
-    let left = g.R.Read.remaining c.args.input.now in
-    let was = c.flush_to_wait.new.frames in
-    let now = c.next.follows.lender-at-none in
-    let old = g.W.Write.contents c.args.out.now.writer in
-    let flushed = c.flush_to_wait.new.out in
-    let mid = g.W.Write.contents flushed.writer in
     let frames = c.loop-frames.invariant.0 in
     let fine = c.in-Ok-flush_to_wait.ensures in
-    let so_far : Going HasVerdict checked_line left was old mid flushed.has_failed frames =
-    going-on HasVerdict checked_line left c.loop-frames.frames was old (g.W.Write.contents c.loop-frames.out.writer) mid c.loop-frames.out.has_failed flushed.has_failed frames fine.frames fine.ok.0 fine.kept c.loop-frames.invariant.1 in
-    let gives : GivesFrame was now c.in-Ok-Some.at c.in-Ok-Some.bytes.now = rw (c.in-Ok-Some.is, c.in-Ok-Some.field-0-is) at c.next.follows.holds-at-none in
+    let so_far = going-on HasVerdict checked_line _ _ _ _ _ (g.W.Write.contents c.flush_to_wait.new.out.writer) _ c.flush_to_wait.new.out.has_failed _ fine.frames fine.ok.0 fine.kept c.loop-frames.invariant.1 in
+    let gives : GivesFrame c.flush_to_wait.new.frames c.next.follows.lender-at-none c.in-Ok-Some.at c.in-Ok-Some.bytes.now = rw (c.in-Ok-Some.is, c.in-Ok-Some.field-0-is) at c.next.follows.holds-at-none in
     let counted = c.in-Ok-count_blob.ensures.ok in
     let p = counted.0 in (
       frames ++ p ∷ [],
-      going-more HasVerdict checked_line left was now c.in-Ok-Some.at c.in-Ok-Some.bytes.now old mid (g.W.Write.contents c.count_blob.new.out.writer) flushed.has_failed c.count_blob.new.out.has_failed frames p so_far gives counted.1.0
+      going-more HasVerdict checked_line _ _ _ c.in-Ok-Some.at c.in-Ok-Some.bytes.now _ _ (g.W.Write.contents c.count_blob.new.out.writer) _ c.count_blob.new.out.has_failed frames p so_far gives counted.1.0
           counted.1.1 counted.1.2 counted.2,
       counted.3 frames c.loop-frames.invariant.2,
     )
 
 pub returns-in-Err-next : goal.returns-in-Err-next
 returns-in-Err-next g c =
-    let left = g.R.Read.remaining c.args.input.now in
-    let was = c.flush_to_wait.new.frames in
-    let now = c.next.follows.lender-at-none in
-    let old = g.W.Write.contents c.args.out.now.writer in
-    let flushed = c.flush_to_wait.new.out in
-    let mid = g.W.Write.contents flushed.writer in
     let frames = c.loop-frames.invariant.0 in
     let fine = c.in-Ok-flush_to_wait.ensures in
-    let so_far : Going HasVerdict checked_line left was old mid flushed.has_failed frames =
-    going-on HasVerdict checked_line left c.loop-frames.frames was old (g.W.Write.contents c.loop-frames.out.writer) mid c.loop-frames.out.has_failed flushed.has_failed frames fine.frames fine.ok.0 fine.kept c.loop-frames.invariant.1 in
-    let halts : Halts was now c.in-Err-next.stop = rw c.in-Err-next.is at c.next.follows.holds-at-none in
-    (frames, tells-early HasVerdict checked_line left was now old mid flushed.has_failed frames c.in-Err-next.stop so_far halts, c.loop-frames.invariant.2)
+    let so_far = going-on HasVerdict checked_line _ _ _ _ _ (g.W.Write.contents c.flush_to_wait.new.out.writer) _ c.flush_to_wait.new.out.has_failed _ fine.frames fine.ok.0 fine.kept c.loop-frames.invariant.1 in
+    let halts : Halts c.flush_to_wait.new.frames c.next.follows.lender-at-none c.in-Err-next.stop = rw c.in-Err-next.is at c.next.follows.holds-at-none in
+    (frames, tells-early HasVerdict checked_line _ _ _ _ _ _ frames c.in-Err-next.stop so_far halts, c.loop-frames.invariant.2)
 
 pub returns-in-Err-count_blob : goal.returns-in-Err-count_blob
 returns-in-Err-count_blob g c =
-    let left = g.R.Read.remaining c.args.input.now in
-    let was = c.flush_to_wait.new.frames in
-    let now = c.next.follows.lender-at-none in
-    let old = g.W.Write.contents c.args.out.now.writer in
-    let flushed = c.flush_to_wait.new.out in
-    let mid = g.W.Write.contents flushed.writer in
     let frames = c.loop-frames.invariant.0 in
     let fine = c.in-Ok-flush_to_wait.ensures in
-    let so_far : Going HasVerdict checked_line left was old mid flushed.has_failed frames =
-    going-on HasVerdict checked_line left c.loop-frames.frames was old (g.W.Write.contents c.loop-frames.out.writer) mid c.loop-frames.out.has_failed flushed.has_failed frames fine.frames fine.ok.0 fine.kept c.loop-frames.invariant.1 in
-    let gives : GivesFrame was now c.in-Ok-Some.at c.in-Ok-Some.bytes.now = rw (c.in-Ok-Some.is, c.in-Ok-Some.field-0-is) at c.next.follows.holds-at-none in
+    let so_far = going-on HasVerdict checked_line _ _ _ _ _ (g.W.Write.contents c.flush_to_wait.new.out.writer) _ c.flush_to_wait.new.out.has_failed _ fine.frames fine.ok.0 fine.kept c.loop-frames.invariant.1 in
+    let gives : GivesFrame c.flush_to_wait.new.frames c.next.follows.lender-at-none c.in-Ok-Some.at c.in-Ok-Some.bytes.now = rw (c.in-Ok-Some.is, c.in-Ok-Some.field-0-is) at c.next.follows.holds-at-none in
     let same = c.in-Err-count_blob.ensures.err in (
       frames,
-      subst (λ o. TellsFrames HasVerdict checked_line left old (g.W.Write.contents o.writer) o.has_failed frames c.refused.result) (sym same.0)
-          (tells-refused HasVerdict checked_line left was now c.in-Ok-Some.at c.in-Ok-Some.bytes.now old mid flushed.has_failed frames c.refused.result so_far gives c.refused.ensures),
+      subst (λ o. TellsFrames HasVerdict checked_line (g.R.Read.remaining c.args.input.now) (g.W.Write.contents c.args.out.now.writer) (g.W.Write.contents o.writer) o.has_failed frames c.refused.result) (sym same.0)
+          (tells-refused HasVerdict checked_line _ _ _ c.in-Ok-Some.at c.in-Ok-Some.bytes.now _ _ _ frames c.refused.result so_far gives c.refused.ensures),
       same.1 ∙ c.loop-frames.invariant.2,
     )

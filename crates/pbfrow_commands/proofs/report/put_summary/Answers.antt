@@ -5,4 +5,4 @@ use Rattle.pbfrow_commands.proofs.report.put_summary.Goals as goal
 pub returns : goal.returns
 returns g c = λ start before h.
     Wrote-text start _ _ _ _ (summary_parts before c.args.summary.now)
-    (c.put-3.ensures start _ (c.put_digits-2.ensures start _ (c.put-2.ensures start _ (c.put_digits.ensures start _ (c.put.ensures start _ (c.put_kept.ensures start before h))))))
+    (c.put.ensures start _ (c.put_total-4.ensures start _ (c.put_total-3.ensures start _ (c.put_total-2.ensures start _ (c.put_total.ensures start before h)))))

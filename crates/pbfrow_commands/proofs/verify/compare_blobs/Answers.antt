@@ -7,7 +7,7 @@ use Rattle.pbfrow_commands.specs.Verifying.{HasCompared, HasSeen, HasSeenInput, 
 use Rattle.pbfrow_commands.specs.declared.verify.Close.{Close}
 use Rattle.pbfrow_commands.specs.declared.verify.Close.TheVariants.{Early}
 use Rattle.pbfrow_commands.proofs.VerifyLemmas.{Reads, reads-none, reads-more, rows-held, rows-push, seen-whole, cause-later, closing-later, closes-nothing, closes-early, closes-broken, closes-unwritten, closes-whole}
-use Rattle.pbfrow_commands.proofs.Walking.{Going, going-none, going-on, going-more}
+use Rattle.pbfrow_commands.proofs.Walking.{going-none, going-on, going-more}
 use Rattle.pbfrow_commands.proofs.verify.compare_blobs.Goals as goal
 
 pub returns-in-Err-clause-told : goal.returns-in-Err-clause-told
@@ -36,12 +36,7 @@ loop-frames-init g c =
 pub returns-in_default-clause-told : goal.returns-in_default-clause-told
 returns-in_default-clause-told g c = λ held holds honest.
     let before = c.loop-frames.invariant.going held holds honest in
-    let flushed = c.flush_to_wait.new.out in (
-      before.0,
-      closes-unwritten c.args.depth held (g.R.Read.remaining c.args.input.now) c.loop-frames.frames (g.W.Write.contents c.args.out.now.writer) (g.W.Write.contents c.loop-frames.out.writer) (g.W.Write.contents flushed.writer)
-          c.loop-frames.out.has_failed flushed.has_failed _ _ before.0 c.in_default.ensures.err c.in_default.ensures.kept before.1,
-      before.2,
-    )
+    (before.0, closes-unwritten c.args.depth held _ _ _ _ _ _ _ _ _ _ c.in_default.ensures.err c.in_default.ensures.kept before.1, before.2)
 
 pub loop-frames-preserved : goal.loop-frames-preserved
 loop-frames-preserved g c =
@@ -60,21 +55,14 @@ loop-frames-preserved g c =
       end = end;
       limit = subst (λ n. n ≤ 4611686018427387904) (sym end) gives.limit;
       going = λ held holds honest.
-          let left = g.R.Read.remaining c.args.input.now in
-          let was = c.flush_to_wait.new.frames in
-          let now = c.next.follows.lender-at-none in
-          let old = g.W.Write.contents c.args.out.now.writer in
-          let flushed = c.flush_to_wait.new.out in
-          let mid = g.W.Write.contents flushed.writer in
           let fine = c.in-Ok-flush_to_wait.ensures in
           let before = c.loop-frames.invariant.going held holds (stays.honest honest) in
           let blobs = before.0 in
-          let so_far : Going (HasCompared c.args.depth held) compared_lines left was old mid flushed.has_failed blobs =
-          going-on (HasCompared c.args.depth held) compared_lines left c.loop-frames.frames was old (g.W.Write.contents c.loop-frames.out.writer) mid c.loop-frames.out.has_failed flushed.has_failed blobs fine.frames fine.ok.0 fine.kept before.1 in
+          let so_far = going-on (HasCompared c.args.depth held) compared_lines _ _ _ _ _ (g.W.Write.contents c.flush_to_wait.new.out.writer) _ c.flush_to_wait.new.out.has_failed _ fine.frames fine.ok.0 fine.kept before.1 in
           let told = ok.told held (inv.kept (stays.honest honest) held holds) honest in
           let p = told.0 in (
             blobs ++ p ∷ [],
-            going-more (HasCompared c.args.depth held) compared_lines left was now c.in-Ok-Some.at c.in-Ok-Some.bytes.now old mid (g.W.Write.contents c.compare_blob.new.out.writer) flushed.has_failed c.compare_blob.new.out.has_failed blobs p
+            going-more (HasCompared c.args.depth held) compared_lines _ _ _ c.in-Ok-Some.at c.in-Ok-Some.bytes.now _ _ (g.W.Write.contents c.compare_blob.new.out.writer) _ c.compare_blob.new.out.has_failed blobs p
                 so_far gives told.1 told.2 told.3 told.4,
             told.5 blobs before.2,
             rows-push blobs p _ _ told.6 before.3,
@@ -84,8 +72,6 @@ loop-frames-preserved g c =
           let K = g.K.Reader in
           let A = g.K.Audited in
           let fine = c.in-Ok-flush_to_wait.ensures in
-          let was = c.flush_to_wait.new.frames in
-          let now = c.next.follows.lender-at-none in
           let first = c.args.store.now in
           let before = inv.reads in
           let blobs = before.0 in
@@ -95,7 +81,7 @@ loop-frames-preserved g c =
           let told = ok.seen in
           let p = told.0 in (
             blobs ++ p ∷ [],
-            reads-more _ (K.is_honest c.compare_blob.new.store × K.is_open c.compare_blob.new.store × A.has_tables first) (A.has_rows db) c.args.depth _ was now c.in-Ok-Some.at c.in-Ok-Some.bytes.now _ _ _ _ blobs p
+            reads-more _ (K.is_honest c.compare_blob.new.store × K.is_open c.compare_blob.new.store × A.has_tables first) (A.has_rows db) c.args.depth _ _ _ c.in-Ok-Some.at c.in-Ok-Some.bytes.now _ _ _ _ blobs p
                 (λ trust. (stays.honest trust.0, stays.open_if trust.1, trust.2)) so_far gives told.1 told.2 told.3 told.4 told.5
                 (λ trust.
                 let same = inv.same (stays.honest trust.0) (stays.open_if trust.1) in
@@ -107,18 +93,11 @@ pub returns-in-Err-compare_blob-clause-told : goal.returns-in-Err-compare_blob-c
 returns-in-Err-compare_blob-clause-told g c = λ held holds honest.
     let failed = c.in-Err-compare_blob.ensures in
     let earlier = failed.rereads.stays.honest honest in
-    let left = g.R.Read.remaining c.args.input.now in
-    let was = c.flush_to_wait.new.frames in
-    let now = c.next.follows.lender-at-none in
-    let old = g.W.Write.contents c.args.out.now.writer in
-    let flushed = c.flush_to_wait.new.out in
-    let mid = g.W.Write.contents flushed.writer in
     let fine = c.in-Ok-flush_to_wait.ensures in
     let before = c.loop-frames.invariant.going held holds earlier in
     let blobs = before.0 in
-    let so_far : Going (HasCompared c.args.depth held) compared_lines left was old mid flushed.has_failed blobs =
-    going-on (HasCompared c.args.depth held) compared_lines left c.loop-frames.frames was old (g.W.Write.contents c.loop-frames.out.writer) mid c.loop-frames.out.has_failed flushed.has_failed blobs fine.frames fine.ok.0 fine.kept before.1 in
-    let gives : GivesFrame was now c.in-Ok-Some.at c.in-Ok-Some.bytes.now = rw (c.in-Ok-Some.is, c.in-Ok-Some.field-0-is) at c.next.follows.holds-at-none in
+    let so_far = going-on (HasCompared c.args.depth held) compared_lines _ _ _ _ _ (g.W.Write.contents c.flush_to_wait.new.out.writer) _ c.flush_to_wait.new.out.has_failed _ fine.frames fine.ok.0 fine.kept before.1 in
+    let gives : GivesFrame c.flush_to_wait.new.frames c.next.follows.lender-at-none c.in-Ok-Some.at c.in-Ok-Some.bytes.now = rw (c.in-Ok-Some.is, c.in-Ok-Some.field-0-is) at c.next.follows.holds-at-none in
     let first = g.K.Reader.failures c.args.store.now in
     let last = g.K.Reader.failures c.compare_blob.new.store in
     let stop : StreamFault = record { fault = Store c.in-Err-compare_blob.fault; at = c.in-Ok-Some.at } in
@@ -131,51 +110,37 @@ returns-in-Err-compare_blob-clause-told g c = λ held holds honest.
     } in
     let same = failed.err in (
       blobs,
-      subst (λ (close : Close). ComparesBlobs c.args.depth held left old (g.W.Write.contents c.compare_blob.new.out.writer) c.compare_blob.new.out.has_failed first last blobs close) (sym c.broken.ensures)
-          (subst (λ o. ComparesBlobs c.args.depth held left old (g.W.Write.contents o.writer) o.has_failed first last blobs (Early stop)) (sym same.0)
-          (closes-broken c.args.depth held left was old mid flushed.has_failed first last blobs stop c.in-Ok-Some.at so_far gives.here broken)),
+      subst (λ (close : Close). ComparesBlobs c.args.depth held (g.R.Read.remaining c.args.input.now) (g.W.Write.contents c.args.out.now.writer) (g.W.Write.contents c.compare_blob.new.out.writer) c.compare_blob.new.out.has_failed first last blobs close) (sym c.broken.ensures)
+          (subst (λ o. ComparesBlobs c.args.depth held (g.R.Read.remaining c.args.input.now) (g.W.Write.contents c.args.out.now.writer) (g.W.Write.contents o.writer) o.has_failed first last blobs (Early stop)) (sym same.0)
+          (closes-broken c.args.depth held _ _ _ _ _ first last blobs stop c.in-Ok-Some.at so_far gives.here broken)),
       same.1 ∙ before.2,
     )
 
 pub returns-in-Ok-None-clause-told : goal.returns-in-Ok-None-clause-told
 returns-in-Ok-None-clause-told g c = λ held holds honest.
     let earlier = c.close_whole.ensures.stays.honest honest in
-    let left = g.R.Read.remaining c.args.input.now in
-    let was = c.flush_to_wait.new.frames in
-    let now = c.next.follows.lender-at-none in
-    let old = g.W.Write.contents c.args.out.now.writer in
-    let flushed = c.flush_to_wait.new.out in
-    let mid = g.W.Write.contents flushed.writer in
     let fine = c.in-Ok-flush_to_wait.ensures in
     let before = c.loop-frames.invariant.going held holds earlier in
     let blobs = before.0 in
-    let so_far : Going (HasCompared c.args.depth held) compared_lines left was old mid flushed.has_failed blobs =
-    going-on (HasCompared c.args.depth held) compared_lines left c.loop-frames.frames was old (g.W.Write.contents c.loop-frames.out.writer) mid c.loop-frames.out.has_failed flushed.has_failed blobs fine.frames fine.ok.0 fine.kept before.1 in
-    let ends : ReadsFrame was now (Ok None) = rw (c.in-Ok-None.is, c.in-Ok-None.field-0-is) at c.next.follows.holds-at-none in
-    let here : c.loop-frames.end ≡ was.offset = c.loop-frames.invariant.end ∙ sym (ap (λ (r : Reading). r.offset) fine.frames) in
+    let so_far = going-on (HasCompared c.args.depth held) compared_lines _ _ _ _ _ (g.W.Write.contents c.flush_to_wait.new.out.writer) _ c.flush_to_wait.new.out.has_failed _ fine.frames fine.ok.0 fine.kept before.1 in
+    let ends : ReadsFrame c.flush_to_wait.new.frames c.next.follows.lender-at-none (Ok None) = rw (c.in-Ok-None.is, c.in-Ok-None.field-0-is) at c.next.follows.holds-at-none in
+    let here : c.loop-frames.end ≡ c.flush_to_wait.new.frames.offset = c.loop-frames.invariant.end ∙ sym (ap (λ (r : Reading). r.offset) fine.frames) in
     let kept = c.loop-frames.invariant.kept earlier held holds in
     let rows = rows-held c.args.depth held blobs c.loop-frames.end _ _ (g.met.K.Reader.is_apart _ held kept) before.1.found (here ∙ so_far.stands) before.2 before.3 in
     let closing = closing-later held c.loop-frames.end (g.K.Reader.failures c.args.store.now) _ _ c.close_whole.result c.loop-frames.invariant.counted (c.close_whole.ensures.extras held kept honest rows) in (
       blobs,
-      closes-whole c.args.depth held left was old mid flushed.has_failed _ _ blobs c.loop-frames.end c.close_whole.result so_far ends.0 here closing,
+      closes-whole c.args.depth held _ _ _ _ _ _ _ blobs c.loop-frames.end c.close_whole.result so_far ends.0 here closing,
       before.2,
     )
 
 pub returns-in-Err-next-clause-told : goal.returns-in-Err-next-clause-told
 returns-in-Err-next-clause-told g c = λ held holds honest.
-    let left = g.R.Read.remaining c.args.input.now in
-    let was = c.flush_to_wait.new.frames in
-    let now = c.next.follows.lender-at-none in
-    let old = g.W.Write.contents c.args.out.now.writer in
-    let flushed = c.flush_to_wait.new.out in
-    let mid = g.W.Write.contents flushed.writer in
     let fine = c.in-Ok-flush_to_wait.ensures in
     let before = c.loop-frames.invariant.going held holds honest in
     let blobs = before.0 in
-    let so_far : Going (HasCompared c.args.depth held) compared_lines left was old mid flushed.has_failed blobs =
-    going-on (HasCompared c.args.depth held) compared_lines left c.loop-frames.frames was old (g.W.Write.contents c.loop-frames.out.writer) mid c.loop-frames.out.has_failed flushed.has_failed blobs fine.frames fine.ok.0 fine.kept before.1 in
-    let halts : Halts was now c.in-Err-next.stop = rw c.in-Err-next.is at c.next.follows.holds-at-none in
-    (blobs, closes-early c.args.depth held left was now old mid flushed.has_failed _ _ blobs c.in-Err-next.stop so_far halts, before.2)
+    let so_far = going-on (HasCompared c.args.depth held) compared_lines _ _ _ _ _ (g.W.Write.contents c.flush_to_wait.new.out.writer) _ c.flush_to_wait.new.out.has_failed _ fine.frames fine.ok.0 fine.kept before.1 in
+    let halts : Halts c.flush_to_wait.new.frames c.next.follows.lender-at-none c.in-Err-next.stop = rw c.in-Err-next.is at c.next.follows.holds-at-none in
+    (blobs, closes-early c.args.depth held _ _ _ _ _ _ _ _ blobs c.in-Err-next.stop so_far halts, before.2)
 
 -- ---- whatever rows the tables have
 
