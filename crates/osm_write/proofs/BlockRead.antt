@@ -11,14 +11,14 @@ use Rattle.pbf_wire.specs.Field.{Entry}
 use Rattle.pbf_wire.specs.Readings.{fields, wire, int32, int64, last, each, sub}
 use Rattle.osm_value.specs.declared.element.Element.{Element}
 use Rattle.osm_value.specs.declared.element.Element.TheVariants as elements
-use Rattle.osm_value.specs.Elements.{IsElement}
+use Rattle.osm_value.specs.Elements.{IsElement, info_of_element}
 use Rattle.osm_value.specs.Value.{Text, InfoValue, MemberValue}
 use Rattle.osm_value.specs.Ranges.{IsText, IsTextOrNone, IsInfo, AreTags, IsMember}
 use Rattle.osm_value.proofs.Ranges.{all_append, all_front, all_back, all_mapped, all_weaker}
 use Rattle.osm_block.specs.declared.fields.TheConstants.{BLOCK_DATE_GRANULARITY, BLOCK_GRANULARITY, BLOCK_LAT_OFFSET, BLOCK_LON_OFFSET, BLOCK_PRIMITIVEGROUP, BLOCK_STRINGTABLE, STRINGTABLE_S}
 use Rattle.osm_block.specs.Message.{Context, context}
 use Rattle.osm_block.specs.Block.{Block, GroupOf, Joins}
-use Rattle.osm_write.specs.Canon.{Scale, number_field, bytes_field, optional, tag_texts, texts_of, first_uses, index_in, coordinates_of, info_of, divisor, scale_of, groups_of, group_bytes, granularity_field, block_bytes, canon}
+use Rattle.osm_write.specs.Canon.{Scale, number_field, bytes_field, optional, tag_texts, texts_of, first_uses, index_in, coordinates_of, divisor, scale_of, groups_of, group_bytes, granularity_field, block_bytes, canon}
 use Rattle.osm_write.specs.Texts.{has}
 use Rattle.osm_write.specs.Laws.{FewTexts, ReadsBack}
 use Rattle.osm_write.proofs.TextsRead.{text_at_index, first_uses_has}
@@ -99,7 +99,7 @@ divisor_is n zs h = by (list_all (λ z. unsigned_abs z % n == 0) zs)
 -- ---- each element is known
 
 abbrev pub times_of : Element → List ℤ
-times_of e = option_to_list (info_of e).time
+times_of e = option_to_list (info_of_element e).time
 
 info_known : (s : Scale) (i : InfoValue) → IsInfo i → AllByRecursion (IsKnown s) (option_to_list i.user) → AllByRecursion (Whole s.date_granularity) (option_to_list i.time) → IsWritten s i
 info_known s i h user time = record { in_range = h; user = user; time = time }

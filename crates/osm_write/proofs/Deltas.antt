@@ -1,27 +1,64 @@
--- One more number of an array of differences.
-use Rattle.std.proofs.Common.{◌≡◌, ℕ, ◌+◌, ◌<◌, List, [], ◌∷◌, ◌++◌, length, map, drop, get_or, ℤ, pos, ◌-ℤ◌, append_assoc, subst, arith, Option, Some, None, IsTrue}
+-- One more number of an array, and what the numbers of an array are.
+use Rattle.std.proofs.Common.{◌≡◌, ℕ, ◌+◌, ◌<◌, ◌≤◌, List, [], ◌∷◌, ◌++◌, length, map, drop, get_or, ℤ, ◌-ℤ◌, append_assoc, append-nil, arith, refl, sym, ap, subst, ◌∙◌, Option, Some, None, IsTrue, Bor}
 use Rattle.std.proofs.lemmas.Int.{ints}
-use Rattle.std.specs.List.{flat_map}
-use Rattle.std.proofs.lemmas.List.{drop_more}
+use Rattle.std.specs.List.{flat_map, filter_map, cons_option, AllByRecursion}
+use Rattle.std.proofs.lemmas.List.{drop_all, drop_more}
 use Rattle.pbf_wire.specs.Write.{shortest, zigzag}
-use Rattle.osm_value.specs.Ranges.{IsWide, IsInfo, is_uid, passes}
-use Rattle.osm_value.specs.Value.{InfoValue}
-use Rattle.osm_value.proofs.Ranges.{all_push, uid_bounds, wide_within}
-use Rattle.osm_write.specs.Arrays.{AllWide, IsWideOrNone}
+use Rattle.osm_value.specs.Ranges.{IsInfo, IsWide, is_uid, passes}
+use Rattle.osm_value.specs.Value.{InfoValue, NodeValue}
+use Rattle.osm_value.proofs.Ranges.{uid_bounds, wide_within}
+use Rattle.osm_write.specs.Arrays.{IsWideOrNone}
 use Rattle.osm_block.specs.Differences.{differences_from}
 
-pub delta_more : (xs : List ℤ) (i : ℕ) (before v : ℤ) (front new total : List ℕ) → i < length xs → v ≡ get_or xs i (pos 0)
-    → new ≡ front ++ shortest (zigzag (v -ℤ before))
-    → front ++ flat_map shortest (map zigzag (differences_from before (drop i xs))) ≡ total
-    → new ++ flat_map shortest (map zigzag (differences_from v (drop (i + 1) xs))) ≡ total
-delta_more xs i before v front new total within is is_new e =
-    rw (is_new, append_assoc, is) (let f = rw (drop_more xs i (pos 0) within) at e in f)
+-- ---- from an item on
 
-pub wide_first : (xs : List ℤ) (i : ℕ) → i < length xs → AllWide (drop i xs) → IsWide (get_or xs i (pos 0)) × AllWide (drop (i + 1) xs)
-wide_first xs i within all = subst AllWide (drop_more xs i (pos 0) within) all
+pub from_some : {T B : Type 0} (number : T → Option B) (items : List T) (i : ℕ) (x : T) (n : B) → i < length items → x ≡ get_or items i x → Some n ≡ number x
+    → filter_map number (drop i items) ≡ n ∷ filter_map number (drop (i + 1) items)
+from_some number items i x n within is some =
+    ap (filter_map number) (drop_more items i x within) ∙ ap (λ y. cons_option (number y) (filter_map number (drop (i + 1) items))) (sym is)
+    ∙ ap (λ o. cons_option o (filter_map number (drop (i + 1) items))) (sym some)
 
-pub wide_push : (xs : List ℤ) (x : ℤ) → AllWide xs → IsWide x → AllWide (xs ++ x ∷ [])
-wide_push xs x all wide = all_push IsWide xs x all wide
+pub delta_more : (before v : ℤ) (front new total : List ℕ) (rest more : List ℤ) → new ≡ front ++ shortest (zigzag (v -ℤ before)) → rest ≡ v ∷ more
+    → front ++ flat_map shortest (map zigzag (differences_from before rest)) ≡ total
+    → new ++ flat_map shortest (map zigzag (differences_from v more)) ≡ total
+delta_more before v front new total rest more is_new is e = rw (is_new, append_assoc) (let f = rw is at e in f)
+
+-- behind the last item
+pub all_written : {T B : Type 0} (spell : List B → List ℕ) (number : T → Option B) (items : List T) (i : ℕ) (written array total : List ℕ) → spell [] ≡ [] → length items ≤ i → written ≡ array
+    → array ++ spell (filter_map number (drop i items)) ≡ total → written ≡ total
+all_written spell number items i written array total none over is e =
+    is ∙ sym (append-nil array) ∙ (rw (drop_all i items over, none) at e)
+
+-- ---- what the numbers are
+
+pub each_is : {T : Type 0} (P : T → Type 0) → ((x : T) → P x) → (items : List T) → AllByRecursion P items
+each_is P given [] = tt
+each_is P given (x ∷ items) = (given x, each_is P given items)
+
+-- a number of each item
+pub of_all : {A B : Type 0} (number : A → B) (items : List A) → filter_map (λ x. Some (number x)) items ≡ map number items
+of_all number [] = refl
+of_all number (x ∷ items) = ap (λ ns. number x ∷ ns) (of_all number items)
+
+-- and of each item seen through a view
+pub of_each : {A B C : Type 0} (number : B → C) (view : A → B) (items : List A) → filter_map (λ x. Some (number (view x))) items ≡ map number (map view items)
+of_each number view [] = refl
+of_each number view (x ∷ items) = ap (λ ns. number (view x) ∷ ns) (of_each number view items)
+
+pub of_same : {A : Type 0} (items : List A) → filter_map (λ x. Some x) items ≡ items
+of_same [] = refl
+of_same (x ∷ items) = ap (λ xs. x ∷ xs) (of_same items)
+
+-- a number of what is known of each node
+pub of_infos : {C : Type 0} (number : InfoValue → Option C) (nodes : List (Bor NodeValue)) →
+    filter_map (λ (n : Bor NodeValue). number n.now.info) nodes ≡ filter_map number (map (λ (n : NodeValue). n.info) (map (λ (n : Bor NodeValue). n.now) nodes))
+of_infos number [] = refl
+of_infos number (n ∷ nodes) = ap (cons_option (number n.now.info)) (of_infos number nodes)
+
+-- ---- wide numbers
+
+pub some_is_wide : (o : Option ℤ) (z : ℤ) → o ≡ Some z → IsWide z → IsWideOrNone o
+some_is_wide o z is wide = subst IsWideOrNone (sym is) wide
 
 some_uid_is_wide : (o : Option ℤ) → IsTrue (passes is_uid o) → IsWideOrNone o
 some_uid_is_wide None h = tt

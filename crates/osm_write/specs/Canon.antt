@@ -7,6 +7,7 @@ use Rattle.osm_value.specs.declared.element.MemberKind.{MemberKind}
 use Rattle.osm_value.specs.declared.element.MemberKind.TheVariants as kinds
 use Rattle.osm_value.specs.declared.element.Element.{Element}
 use Rattle.osm_value.specs.declared.element.Element.TheVariants.{Node, Way, Relation}
+use Rattle.osm_value.specs.Elements.{info_of_element}
 use Rattle.osm_value.specs.Value.{Text, InfoValue, MemberValue, NodeValue, WayValue, RelationValue}
 use Rattle.osm_block.specs.declared.fields.TheConstants.{BLOCK_DATE_GRANULARITY, BLOCK_GRANULARITY, BLOCK_PRIMITIVEGROUP, BLOCK_STRINGTABLE, DENSEINFO_CHANGESET, DENSEINFO_TIMESTAMP, DENSEINFO_UID, DENSEINFO_USER_SID, DENSEINFO_VERSION, DENSEINFO_VISIBLE, DENSE_DENSEINFO, DENSE_ID, DENSE_KEYS_VALS, DENSE_LAT, DENSE_LON, ELEMENT_ID, ELEMENT_INFO, ELEMENT_KEYS, ELEMENT_VALS, GROUP_DENSE, GROUP_RELATIONS, GROUP_WAYS, INFO_CHANGESET, INFO_TIMESTAMP, INFO_UID, INFO_USER_SID, INFO_VERSION, INFO_VISIBLE, RELATION_MEMIDS, RELATION_ROLES_SID, RELATION_TYPES, STRINGTABLE_S, WAY_REFS}
 use Rattle.osm_block.specs.Differences.{differences}
@@ -84,11 +85,6 @@ abbrev pub coordinates_of : Element → List ℤ
 coordinates_of (Node n) = n.lat ∷ n.lon ∷ []
 coordinates_of _ = []
 
-abbrev pub info_of : Element → InfoValue
-info_of (Node n) = n.info
-info_of (Way w) = w.info
-info_of (Relation r) = r.info
-
 -- the number, where it divides each of these, or else 1
 abbrev pub divisor : ℕ → List ℤ → ℕ
 divisor n zs = if list_all (λ z. unsigned_abs z % n == 0) zs then n else 1
@@ -97,7 +93,7 @@ unfoldable pub scale_of : List Element → Scale
 scale_of es = record {
   texts = first_uses (flat_map texts_of es);
   granularity = divisor 100 (flat_map coordinates_of es);
-  date_granularity = divisor 1000 (flat_map (λ e. option_to_list (info_of e).time) es);
+  date_granularity = divisor 1000 (flat_map (λ e. option_to_list (info_of_element e).time) es);
 }
 
 -- ---- elements with a message of their own

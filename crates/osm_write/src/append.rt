@@ -1,8 +1,8 @@
 //! Fields, appended to the bytes of a message.
 
-ghost use Rattle.std.specs.Prelude.{◌≡◌, ◌++◌, List, OnOk, map, length};
-ghost use Rattle.osm_write.specs.Arrays.{AllWide};
-ghost use Rattle.osm_block.specs.Differences.{differences};
+ghost use Rattle.std.specs.Prelude.{◌≡◌, ◌++◌, ℕ, ℤ, Option, OnOk, length};
+ghost use Rattle.std.specs.List.{filter_map};
+ghost use Rattle.osm_write.specs.Arrays.{AnswerEach, IsWideOrNone};
 ghost use Rattle.osm_write.specs.Canon.{number_field, int_field, bytes_field, message_field, packed_field, delta_field, optional};
 
 use pbf_wire::{write_number, zigzag};
@@ -42,37 +42,49 @@ pub(crate) fn append_message(field: u32, bytes: &[u8], out: &mut Vec<u8>) -> Res
     }
 }
 
-/// Appends an array of numbers; its bytes are gathered in `array` first.
-pub(crate) fn append_packed(
+/// Appends an array with the number of each item that has one; its bytes are gathered in `array` first.
+pub(crate) fn append_packed<T, F: Fn(&T) -> Option<u64>>(
     field: u32,
-    numbers: &[u64],
+    items: &[T],
+    number_of: F,
     array: &mut Vec<u8>,
     out: &mut Vec<u8>,
 ) -> Result<(), AllocError>
-    ensures { OnOk result (out.new.items ≡ out.old.items ++ packed_field field numbers.now) }
+    requires { F.IsAlwaysCallable number_of }
+    ensures { OnOk result ((number : T → Option ℕ) → AnswerEach F.Fn number_of (λ x r. r ≡ number x) items.now
+        → out.new.items ≡ out.old.items ++ packed_field field (filter_map number items.now)) }
 {
     array.clear();
-    for number in numbers {
-        write_number(*number, array)?;
+    for item in items {
+        let Some(number) = number_of(item) else {
+            continue;
+        };
+        write_number(number, array)?;
     }
     append_message(field, array, out)
 }
 
-/// Appends an array of numbers, each as its difference from the one before it.
-pub(crate) fn append_deltas(
+/// The same for signed numbers, each as its difference from the one before it.
+pub(crate) fn append_deltas<T, F: Fn(&T) -> Option<i64>>(
     field: u32,
-    numbers: &[i64],
+    items: &[T],
+    number_of: F,
     array: &mut Vec<u8>,
     out: &mut Vec<u8>,
 ) -> Result<(), AllocError>
-    requires { AllWide numbers.now }
-    ensures { OnOk result (out.new.items ≡ out.old.items ++ delta_field field numbers.now) }
+    requires callable { F.IsAlwaysCallable number_of }
+    requires wide { AnswerEach F.Fn number_of (λ _ r. IsWideOrNone r) items.now }
+    ensures { OnOk result ((number : T → Option ℤ) → AnswerEach F.Fn number_of (λ x r. r ≡ number x) items.now
+        → out.new.items ≡ out.old.items ++ delta_field field (filter_map number items.now)) }
 {
     array.clear();
     let mut before = 0;
-    for number in numbers {
-        write_number(zigzag(*number - before), array)?;
-        before = *number;
+    for item in items {
+        let Some(number) = number_of(item) else {
+            continue;
+        };
+        write_number(zigzag(number - before), array)?;
+        before = number;
     }
     append_message(field, array, out)
 }

@@ -3,11 +3,11 @@
 ghost use Rattle.std.specs.Prelude.{◌≡◌, ◌<◌, ◌%◌, ◌==◌, OnOk, IfOk, map, List, option_to_list, unsigned_abs, ◌++◌};
 ghost use Rattle.std.specs.Option.{option_copied};
 ghost use Rattle.std.specs.List.{flat_map, list_all, AllByRecursion};
-ghost use Rattle.osm_value.specs.Elements.{IsElement};
+ghost use Rattle.osm_value.specs.Elements.{IsElement, info_of_element};
 ghost use Rattle.osm_value.specs.Value.{Text};
 ghost use Rattle.osm_write.specs.Texts.{with_texts};
 ghost use Rattle.osm_write.specs.Scale.{view};
-ghost use Rattle.osm_write.specs.Canon.{tag_texts, texts_of, coordinates_of, info_of, scale_of};
+ghost use Rattle.osm_write.specs.Canon.{tag_texts, texts_of, coordinates_of, scale_of};
 
 use crate::scale::Scale;
 use crate::texts::TextTable;
@@ -47,20 +47,11 @@ fn add_element<'a>(table: &mut TextTable<'a>, element: &Element<'a>) -> Result<(
     ensures exact { OnOk result (table.new ≡ with_texts table.old (texts_of element.now)) }
     ensures in_range { OnOk result (IsElement element.now) }
 {
+    add_tags(table, element.tags())?;
+    add_user(table, element.info())?;
     match element {
-        Element::Node(node) => {
-            add_tags(table, node.tags())?;
-            add_user(table, node.info())
-        }
-        Element::Way(way) => {
-            add_tags(table, way.tags())?;
-            add_user(table, way.info())
-        }
-        Element::Relation(relation) => {
-            add_tags(table, relation.tags())?;
-            add_user(table, relation.info())?;
-            add_roles(table, relation.members())
-        }
+        Element::Relation(relation) => add_roles(table, relation.members()),
+        _ => Ok(()),
     }
 }
 
@@ -89,14 +80,9 @@ fn coordinate_is_whole(element: &Element) -> bool
 }
 
 fn time_is_whole(element: &Element) -> bool
-    ensures { result ≡ list_all (λ z. unsigned_abs z % 1000 == 0) (option_to_list (info_of element.now).time) }
+    ensures { result ≡ list_all (λ z. unsigned_abs z % 1000 == 0) (option_to_list (info_of_element element.now).time) }
 {
-    let info = match element {
-        Element::Node(node) => node.info(),
-        Element::Way(way) => way.info(),
-        Element::Relation(relation) => relation.info(),
-    };
-    match info.time() {
+    match element.info().time() {
         Some(time) => time.unsigned_abs() % 1000 == 0,
         None => true,
     }
@@ -114,7 +100,7 @@ fn coordinates_are_whole(elements: &[Element]) -> bool
 }
 
 fn times_are_whole(elements: &[Element]) -> bool
-    ensures { result ≡ list_all (λ z. unsigned_abs z % 1000 == 0) (flat_map (λ e. option_to_list (info_of e).time) elements.now) }
+    ensures { result ≡ list_all (λ z. unsigned_abs z % 1000 == 0) (flat_map (λ e. option_to_list (info_of_element e).time) elements.now) }
 {
     for element in elements {
         if !time_is_whole(element) {

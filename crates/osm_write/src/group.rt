@@ -32,14 +32,14 @@ fn append_nodes(
     alloc: Global,
     scale: &Scale,
     elements: &[Element],
-    scratch: &mut Scratch,
+    array: &mut Vec<u8>,
     out: &mut Vec<u8>,
 ) -> Result<(), AllocError>
     ensures { OnOk result (out.new.items ≡ out.old.items ++ message_field GROUP_DENSE (dense_bytes (view scale.now) (filter_map node_of elements.now))) }
 {
     let nodes = nodes_of(alloc, elements)?;
     let mut message = Vec::new(alloc);
-    append_dense(alloc, scale, &nodes, scratch, &mut message)?;
+    append_dense(alloc, scale, &nodes, array, &mut message)?;
     append_message(GROUP_DENSE, &message, out)
 }
 
@@ -92,6 +92,6 @@ pub(crate) fn append_group(
 ) -> Result<(), AllocError>
     ensures { OnOk result (out.new.items ≡ out.old.items ++ group_bytes (view scale.now) elements.now) }
 {
-    append_nodes(alloc, scale, elements, scratch, out)?;
+    append_nodes(alloc, scale, elements, &mut scratch.array, out)?;
     append_elements(alloc, scale, elements, scratch, out)
 }

@@ -25,10 +25,14 @@ pub(crate) fn uid_of(info: &Info) -> Option<i64>
 pub(crate) fn version_number(info: &Info) -> Option<u64>
     ensures { result ≡ option_map (cast_unsigned w64) info.now.version }
 {
-    match version_of(info) {
-        Some(version) => Some(version.cast_unsigned()),
-        None => None,
-    }
+    version_of(info).map(i64::cast_unsigned)
+}
+
+/// The flag of visibility as it is written.
+pub(crate) fn visible_number(info: &Info) -> Option<u64>
+    ensures { result ≡ option_map flag_number info.now.visible }
+{
+    info.visible().map(flag_number)
 }
 
 /// A flag as it is written.

@@ -1,12 +1,13 @@
 //! What a block says for all its elements: its texts and its granularities.
 
-ghost use Rattle.std.specs.Prelude.{◌≡◌, ◌<◌, ◌^◌, ◌-◌, ◌≤ℤ◌, pos, int_div};
+ghost use Rattle.std.specs.Prelude.{◌≡◌, ◌<◌, ◌^◌, ◌-◌, ◌≤ℤ◌, pos, int_div, option_map};
 ghost use Rattle.osm_value.specs.Ranges.{IsWide};
 ghost use Rattle.osm_write.specs.Arrays.{IsWideOrNone};
 ghost use Rattle.osm_write.specs.Canon.{index_of, raw_coordinate, times_of};
 ghost use Rattle.osm_write.specs.Scale.{view};
 
 use crate::texts::TextTable;
+use osm_value::Info;
 
 #[derive(Drop)]
 pub(crate) struct Scale<'a> {
@@ -23,6 +24,17 @@ impl<'a> Scale<'a> {
         ensures small { result < 2 ^ 62 - 1 }
     {
         self.texts.index_of(text) as u64 + 1
+    }
+
+    /// The index of the user, where one is known.
+    pub(crate) fn index_of_user(&self, info: &Info) -> Option<i64>
+        ensures exact { result ≡ option_map (λ t. pos (index_of (view self.now) t)) info.now.user }
+        ensures in_range { IsWideOrNone result }
+    {
+        match info.user() {
+            Some(user) => Some(self.index_of(user) as i64),
+            None => None,
+        }
     }
 
     /// The number that stands for a coordinate.
