@@ -132,3 +132,13 @@ gives vs ds e fit =
 
 pub stops : (b : Bool) → b ≡ false → when (not b) faults.SumTooLarge ≡ Some faults.SumTooLarge
 stops b e = ap (λ c. when (not c) faults.SumTooLarge) e
+
+-- there are as many numbers as differences
+differences_length : (before : ℤ) (vs : List ℤ) → length (differences_from before vs) ≡ length vs
+differences_length before [] = refl
+differences_length before (v ∷ vs) =
+    let rest : length (differences_from v vs) ≡ length vs = differences_length v vs in
+    omega arith
+
+pub Diff-as_long : (vs ds : List ℤ) → Diff vs ds → length vs ≡ length ds
+Diff-as_long vs ds h = sym (differences_length (pos 0) vs) ∙ ap length h.are

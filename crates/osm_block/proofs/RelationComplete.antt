@@ -1,5 +1,5 @@
 -- A message that stands to a relation has no phase that stands.
-use Rattle.std.proofs.Common.{◌≡◌, List, [], ◌∷◌, ◌++◌, map, length, refl, sym, ap, ◌∙◌, ℤ, pos, Some, None, Bool, true, not, ◌&&◌, eq-eqb, is_none, arith}
+use Rattle.std.proofs.Common.{◌≡◌, List, [], ◌∷◌, ◌++◌, map, length, refl, sym, ap, ◌∙◌, ℤ, Some, None, Bool, true, not, ◌&&◌, eq-eqb, is_none}
 use Rattle.std.specs.Prelude.{is_some}
 use Rattle.std.specs.List.{list_all, AllByRecursion}
 use Rattle.std.proofs.lemmas.List.{length-map}
@@ -9,22 +9,13 @@ use Rattle.osm_value.specs.Value.{RelationValue, MemberValue}
 use Rattle.osm_value.specs.Ranges.{is_wide, passes, IsMember}
 use Rattle.osm_block.specs.Message.{Context, RelationMessage}
 use Rattle.osm_block.specs.Block.{RelationOf, text_at, kind}
-use Rattle.osm_block.specs.Differences.{Diff, differences_from, front_sums, fits_i64}
+use Rattle.osm_block.specs.Differences.{front_sums, fits_i64}
 use Rattle.osm_block.specs.Phases.{first, when, relation_phases, is_index, all_in, same_length, info_in_range, user_indexes}
-use Rattle.osm_block.proofs.DifferencesLemmas.{Diff-are_sums, gives}
+use Rattle.osm_block.proofs.DifferencesLemmas.{Diff-are_sums, Diff-as_long, gives}
 use Rattle.osm_block.proofs.PhaseLemmas.{skip, pass}
 use Rattle.osm_block.proofs.RelationPhases.{relations_range, lengths, indexes, kinds_known}
 use Rattle.osm_block.proofs.RangeLemmas.{both}
 use Rattle.osm_block.proofs.WayComplete.{all_indexes_there, user_there, info_range}
-
-differences_length : (before : ℤ) (vs : List ℤ) → length (differences_from before vs) ≡ length vs
-differences_length before [] = refl
-differences_length before (v ∷ vs) =
-    let rest : length (differences_from v vs) ≡ length vs = differences_length v vs in
-    omega arith
-
-pub Diff-as_long : (vs ds : List ℤ) → Diff vs ds → length vs ≡ length ds
-Diff-as_long vs ds h = sym (differences_length (pos 0) vs) ∙ ap length h.are
 
 ids_wide : (ms : List MemberValue) → AllByRecursion IsMember ms → list_all is_wide (map (λ x. x.id) ms) ≡ true
 ids_wide [] h = refl

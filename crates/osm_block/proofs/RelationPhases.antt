@@ -1,5 +1,5 @@
 -- The first phase of a relation that stands, where the ones before it don't.
-use Rattle.std.proofs.Common.{◌≡◌, Bool, true, false, not, ◌&&◌, ◌==◌, refl, sym, ap, subst, ◌∙◌, ℤ, ℕ, List, [], ◌∷◌, ◌++◌, map, length, Some, None, is_none, arith, pos, eqb-true}
+use Rattle.std.proofs.Common.{◌≡◌, Bool, true, false, not, ◌&&◌, ◌==◌, refl, sym, ap, subst, ◌∙◌, ℤ, ℕ, List, [], ◌∷◌, ◌++◌, map, length, Some, None, is_none, eqb-true}
 use Rattle.std.specs.Prelude.{is_some}
 use Rattle.std.specs.List.{list_all}
 use Rattle.std.proofs.lemmas.List.{length-map}
@@ -10,10 +10,10 @@ use Rattle.osm_block.specs.declared.fault.BlockFault.TheVariants as faults
 use Rattle.osm_block.specs.Message.{Context, RelationMessage}
 use Rattle.osm_block.specs.Block.{kind}
 use Rattle.osm_block.specs.Members.{MembersAt}
-use Rattle.osm_block.specs.Differences.{Diff, differences_from, front_sums, fits_i64}
+use Rattle.osm_block.specs.Differences.{Diff, front_sums, fits_i64}
 use Rattle.osm_block.specs.Phases.{Phase, first, when, relation_phases, same_length, info_in_range, all_in, user_indexes, is_index}
 use Rattle.osm_block.proofs.IndexesLemmas.{and_left, and_right}
-use Rattle.osm_block.proofs.DifferencesLemmas.{Diff-are_sums}
+use Rattle.osm_block.proofs.DifferencesLemmas.{Diff-are_sums, Diff-as_long}
 use Rattle.osm_block.proofs.PhaseLemmas.{skip, pass, stop}
 
 abbrev pub lengths : RelationMessage → Bool
@@ -50,14 +50,8 @@ lengths_are ks vs rs ms ts =
     ∙ ap (λ x. same_length (map uint32 ks) (map uint32 vs) && x && length ts == length ms) (same_mapped int32 sint64 rs ms)
     ∙ ap (λ x. same_length (map uint32 ks) (map uint32 vs) && same_length (map int32 rs) (map sint64 ms) && x) (same_mapped int32 sint64 ts ms)
 
-differences_length : (before : ℤ) (vs : List ℤ) → length (differences_from before vs) ≡ length vs
-differences_length before [] = refl
-differences_length before (v ∷ vs) =
-    let rest : length (differences_from v vs) ≡ length vs = differences_length v vs in
-    omega arith
-
 pub Diff-length : (vs : List ℤ) (ds : List ℕ) → Diff vs (map sint64 ds) → length ds ≡ length vs
-Diff-length vs ds h = sym (length-map ds sint64) ∙ sym (ap length h.are) ∙ differences_length (pos 0) vs
+Diff-length vs ds h = sym (length-map ds sint64) ∙ sym (Diff-as_long vs (map sint64 ds) h)
 
 pub as_long : (xs ms : List ℕ) (ids : List ℤ) → (length xs == length ms) ≡ true → Diff ids (map sint64 ms) → length xs ≡ length ids
 as_long xs ms ids e h = eqb-true (length xs) (length ms) e ∙ Diff-length ids ms h
