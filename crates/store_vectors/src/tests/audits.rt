@@ -1,27 +1,25 @@
 //! Whether a store has the rows of blobs and no others, over rows as they were put and over rows that statements over its
 //! connection have changed, by SQL and by its trees; which row belongs to no blob; and whether the indexes of trees are whole.
 
-use super::fixtures::{NOTHING, PLACED_HEADER, PLACED_NODES, PLACED_WAYS, THREE_WAYS, TWO_NODES};
-use super::memory::{BodiesInMemory, NewSqlStore, TablesInMemory};
-use super::spoiled::{FIVE_BLOBS, RELATION_AT_137, WAY_AT_203};
-use super::steps::{PUT_HEADER, PUT_NODES, Step, followed};
-use super::tables::{RELATION, WAY};
+use crate::damage::{add_entry, take_entry, write_element};
+use crate::fixtures::{
+    NOTHING, PLACED_HEADER, PLACED_NODES, PLACED_WAYS, RELATION, RELATION_AT_137, THREE_WAYS,
+    TWO_NODES, WAY, WAY_AT_203,
+};
+use crate::memory::{BodiesInMemory, NewSqlStore, TablesInMemory};
+use crate::steps::{FIVE_BLOBS, PUT_HEADER, PUT_NODES, Step, followed};
 use osm_block::read_block;
 use osm_checked::CheckedStore;
-use osm_databases::stores::with_whole_added_indexes;
 use osm_store::{Audited, Counts, Extent, StoreFault, TableStore};
-use osm_tree_audits::trees::{ELEMENT_BY_ID, ELEMENT_KEY, ELEMENTS, LINK_KEY, TAG_KEY};
+use osm_tree_audits::trees::{ELEMENT_BY_ID, ELEMENT_KEY, LINK_KEY, TAG_KEY};
 use osm_tree_audits::{
     ElementTable, Look, Looked, StoreIndex, Stray, TableLook, look_at_indexes, stray_row,
 };
 use osm_trees::TreeStore;
 use osm_value::Element;
 use sqlite::{Alter, MemStore};
-use sqlite_trees::store::{Direction, Shape, Store};
-use sqlite_value::keys::Order;
-use sqlite_value::row::Row;
-use sqlite_value::value::ValueRef;
-use std::alloc::{AllocError, Global};
+use sqlite_trees::store::Store;
+use std::alloc::Global;
 use std::process::Abort;
 use std::test::*;
 
@@ -181,7 +179,7 @@ fn expect_changes<K: NewSqlStore, R: Abort + Alloc<A = Global>>(
     table: &[Changed],
 ) -> Result<(), Fail> {
     for (sql, asked) in table {
-        let mut store: K = followed(rt, layout, FIVE_BLOBS)?;
+        let mut store: K = followed(rt.alloc(), layout, FIVE_BLOBS)?;
         let before = asked.is_there(rt.alloc(), &mut store);
         assert_eq!(rt; before, Ok(true), "before {sql} over {layout}");
         let mut store = store.changed(sql).ok_or("a store")?;
@@ -211,7 +209,7 @@ fn expect_changes_after<R: Abort + Alloc<A = Global>>(
     table: &[Changed],
 ) -> Result<(), Fail> {
     for (sql, asked) in table {
-        let store: TablesInMemory = followed(rt, "tables", steps)?;
+        let store: TablesInMemory = followed(rt.alloc(), "tables", steps)?;
         let changed = store.changed(sql).ok_or("a store")?;
         let mut trees = checked_below(rt.alloc(), changed).ok_or("whole indexes")?;
         let after = asked.is_there(rt.alloc(), &mut trees);
@@ -231,13 +229,13 @@ fn expect_changes_below<R: Abort + Alloc<A = Global>>(
 
 #[test]
 fn rows_as_they_were_put(rt: HostRuntime) -> Result<(), Fail> {
-    let mut bodies: BodiesInMemory = followed(&rt, "bodies", FIVE_BLOBS)?;
+    let mut bodies: BodiesInMemory = followed(rt.alloc(), "bodies", FIVE_BLOBS)?;
     expect_all(&rt, "bodies", &mut bodies);
-    let mut tables: TablesInMemory = followed(&rt, "tables", FIVE_BLOBS)?;
+    let mut tables: TablesInMemory = followed(rt.alloc(), "tables", FIVE_BLOBS)?;
     expect_all(&rt, "tables", &mut tables);
     let mut trees = checked_below(rt.alloc(), tables).ok_or("whole indexes")?;
     expect_all(&rt, "trees", &mut trees);
-    let tables: TablesInMemory = followed(&rt, "tables", LAST_FIRST)?;
+    let tables: TablesInMemory = followed(rt.alloc(), "tables", LAST_FIRST)?;
     let mut trees = checked_below(rt.alloc(), tables).ok_or("whole indexes")?;
     expect_all(&rt, "trees, the last blob first", &mut trees);
     Ok(())
@@ -359,8 +357,8 @@ fn counts_of_blobs(rt: HostRuntime) -> Result<(), Fail> {
 }
 
 /// The trees of the five blobs.
-fn five_blobs<R: Abort + Alloc<A = Global>>(rt: &R) -> Result<MemStore, Fail> {
-    let store: TablesInMemory = followed(rt, "tables", FIVE_BLOBS)?;
+fn five_blobs(alloc: Global) -> Result<MemStore, Fail> {
+    let store: TablesInMemory = followed(alloc, "tables", FIVE_BLOBS)?;
     Ok(store.into_connection().into_store())
 }
 
@@ -409,73 +407,13 @@ fn stray_rows(rt: HostRuntime) -> Result<(), Fail> {
         ),
     ];
     for (sql, expected) in TABLE {
-        let store: TablesInMemory = followed(&rt, "tables", FIVE_BLOBS)?;
+        let store: TablesInMemory = followed(rt.alloc(), "tables", FIVE_BLOBS)?;
         let changed = store.changed(sql).ok_or("a store")?;
         let mut trees = changed.into_connection().into_store();
         let found = stray_row(rt.alloc(), &mut trees);
         assert_eq!(rt; found, Ok(*expected), "{sql}");
     }
     Ok(())
-}
-
-/// Takes the first entry from an index, and leaves its row.
-fn take_entry<S: Store>(alloc: Global, trees: &mut S, index: u32) -> Option<()> {
-    let mut entry = Row::new(alloc);
-    trees.seek(0, index, &entry, Direction::Forward).ok()?;
-    if !trees.next(0, &mut entry).ok()? || trees.shape(index) != Shape::Index(Order::PLAIN) {
-        return None;
-    }
-    trees.remove(index, &entry).ok()?;
-    trees.commit().ok()
-}
-
-/// Adds an entry of no row to an index.
-fn add_entry<S: Store>(alloc: Global, trees: &mut S, index: u32) -> Option<()> {
-    let mut entry = Row::new(alloc);
-    for number in [1000, 0, 0, 99] {
-        entry.push(ValueRef::Int(number)).ok()?;
-    }
-    if trees.shape(index) != Shape::Index(Order::PLAIN) {
-        return None;
-    }
-    trees.insert(index, &entry).ok()?;
-    trees.commit().ok()
-}
-
-/// The first row of the table of elements.
-fn first_element<S: Store>(alloc: Global, trees: &mut S) -> Option<Row> {
-    let start = Row::new(alloc);
-    trees.seek(0, ELEMENTS, &start, Direction::Forward).ok()?;
-    let mut row = Row::new(alloc);
-    if trees.next(0, &mut row).ok()? {
-        Some(row)
-    } else {
-        None
-    }
-}
-
-/// A row of the table of elements up to this place, with this id.
-fn changed_element(alloc: Global, row: &Row, end: usize, id: i64) -> Option<Row> {
-    let mut changed = Row::new(alloc);
-    for at in 0..row.len().min(end) {
-        if at == 4 {
-            changed.push(ValueRef::Int(id)).ok()?;
-        } else {
-            changed.push(row.get(at)).ok()?;
-        }
-    }
-    Some(changed)
-}
-
-/// Writes the first row of the table of elements again, up to this place, with this id.
-fn write_element<S: Store>(alloc: Global, trees: &mut S, end: usize, id: i64) -> Option<()> {
-    let row = first_element(alloc, trees)?;
-    let changed = changed_element(alloc, &row, end, id)?;
-    if trees.shape(ELEMENTS) != Shape::Table || !matches!(changed.get(0), ValueRef::Int(_)) {
-        return None;
-    }
-    trees.put(ELEMENTS, &changed).ok()?;
-    trees.commit().ok()
 }
 
 const INDEXES: [(u32, StoreIndex); 4] = [
@@ -487,10 +425,10 @@ const INDEXES: [(u32, StoreIndex); 4] = [
 
 #[test]
 fn whole_indexes(rt: HostRuntime) -> Result<(), Fail> {
-    let mut trees = five_blobs(&rt)?;
+    let mut trees = five_blobs(rt.alloc())?;
     let found = look_at_indexes(rt.alloc(), &mut trees);
     assert_eq!(rt; found, Ok(Looked::Whole(IN_ORDER)));
-    let store: TablesInMemory = followed(&rt, "tables", LAST_FIRST)?;
+    let store: TablesInMemory = followed(rt.alloc(), "tables", LAST_FIRST)?;
     let mut trees = store.into_connection().into_store();
     let found = look_at_indexes(rt.alloc(), &mut trees);
     assert_eq!(rt; found, Ok(Looked::Whole(OUT_OF_ORDER)));
@@ -615,7 +553,7 @@ fn rows_in_order_and_out_of_it(rt: HostRuntime) -> Result<(), Fail> {
     ];
     let alloc = rt.alloc();
     for (sql, look, asked) in TABLE {
-        let store: TablesInMemory = followed(&rt, "tables", FIVE_BLOBS)?;
+        let store: TablesInMemory = followed(rt.alloc(), "tables", FIVE_BLOBS)?;
         let changed = store.changed(sql).ok_or("a store")?;
         let mut trees = changed.into_connection().into_store();
         let found = look_at_indexes(alloc, &mut trees);
@@ -636,14 +574,14 @@ fn rows_in_order_and_out_of_it(rt: HostRuntime) -> Result<(), Fail> {
 fn faulty_indexes(rt: HostRuntime) -> Result<(), Fail> {
     let alloc = rt.alloc();
     for (tree, index) in INDEXES {
-        let mut trees = five_blobs(&rt)?;
+        let mut trees = five_blobs(alloc)?;
         take_entry(alloc, &mut trees, tree).ok_or("an entry")?;
         assert_eq!(rt;
             look_at_indexes(alloc, &mut trees),
             Ok(Looked::Faulty(index)),
             "one less"
         );
-        let mut trees = five_blobs(&rt)?;
+        let mut trees = five_blobs(alloc)?;
         add_entry(alloc, &mut trees, tree).ok_or("an entry")?;
         assert_eq!(rt;
             look_at_indexes(alloc, &mut trees),
@@ -651,7 +589,7 @@ fn faulty_indexes(rt: HostRuntime) -> Result<(), Fail> {
             "one more"
         );
     }
-    let mut trees = five_blobs(&rt)?;
+    let mut trees = five_blobs(alloc)?;
     write_element(alloc, &mut trees, 13, 5).ok_or("a row")?;
     let found = look_at_indexes(alloc, &mut trees);
     assert_eq!(rt;
@@ -662,55 +600,12 @@ fn faulty_indexes(rt: HostRuntime) -> Result<(), Fail> {
     Ok(())
 }
 
-/// Indexes of one's own: one in the plain order, and two in others. Their trees are those behind the nine of a store.
-const ADDED: &str =
-    "CREATE INDEX tag_by_key ON tag (key, val); CREATE INDEX backwards ON element (id DESC, kind); CREATE INDEX link_by_role ON link (role COLLATE NOCASE DESC, ref)";
-
-/// The tree of the first of them.
-const TAG_BY_KEY: u32 = 9;
-
-/// The trees of the five blobs, with these indexes.
-fn indexed_blobs<R: Abort + Alloc<A = Global>>(rt: &R) -> Result<MemStore, Fail> {
-    let store: TablesInMemory = followed(rt, "tables", FIVE_BLOBS)?;
-    let mut connection = store.into_connection();
-    connection.execute_batch(ADDED)?;
-    Ok(connection.into_store())
-}
-
-/// The fault of trees of which an index that somebody has added isn't whole, and what is said of it.
-fn told_of_added<S: Alter + Drop>(alloc: Global, trees: S) -> Result<String, AllocError> {
-    match with_whole_added_indexes(alloc, trees) {
-        Ok(_) => format!(in alloc; "whole"),
-        Err(refusal) => format!(in alloc; "{:?}, {}", refusal.fault, refusal.reason),
-    }
-}
-
-/// Indexes that somebody has added: whole, without an entry, with one too many, and with that of another row.
-#[test]
-fn added_indexes(rt: HostRuntime) -> Result<(), Fail> {
-    const TAGS_TOLD: &str = "Disk, damaged: its index tag_by_key has not one entry for each row";
-    const ELEMENTS_TOLD: &str = "Disk, damaged: its index backwards has not one entry for each row";
-    let alloc = rt.alloc();
-    let trees = indexed_blobs(&rt)?;
-    assert_eq!(rt; told_of_added(alloc, trees)?.as_str(), "whole");
-    let mut trees = indexed_blobs(&rt)?;
-    take_entry(alloc, &mut trees, TAG_BY_KEY).ok_or("an entry")?;
-    assert_eq!(rt; told_of_added(alloc, trees)?.as_str(), TAGS_TOLD);
-    let mut trees = indexed_blobs(&rt)?;
-    add_entry(alloc, &mut trees, TAG_BY_KEY).ok_or("an entry")?;
-    assert_eq!(rt; told_of_added(alloc, trees)?.as_str(), TAGS_TOLD);
-    let mut trees = indexed_blobs(&rt)?;
-    write_element(alloc, &mut trees, 13, 5).ok_or("a row")?;
-    assert_eq!(rt; told_of_added(alloc, trees)?.as_str(), ELEMENTS_TOLD);
-    Ok(())
-}
-
 /// A row that lacks its last value, which is NULL: a query can't tell, and the trees can.
 #[test]
 fn a_shorter_row(rt: HostRuntime) -> Result<(), Fail> {
     let alloc = rt.alloc();
     for (end, same) in [(13, true), (12, false)] {
-        let mut trees = five_blobs(&rt)?;
+        let mut trees = five_blobs(alloc)?;
         write_element(alloc, &mut trees, end, 1).ok_or("a row")?;
         let mut store = checked(alloc, trees).ok_or("whole indexes")?;
         let answer = NODES_AT_47.is_there(alloc, &mut store);

@@ -3,8 +3,9 @@
 
 ghost use Rattle.osm_value.specs.Ranges.{IsWide};
 
-use super::memory::{CountedRows, NewStore, TablesInMemory, expect_rows};
-use super::steps::loaded_lines;
+use super::tables::expect_rows;
+use crate::memory::{CountedRows, NewStore, TablesInMemory};
+use crate::steps::loaded_lines;
 use osm_store::{Keeper, StoreFault};
 use osm_value::{Element, Info, Member, MemberKind, Node, Relation, Way};
 use pbf_frame::Kind;

@@ -1,8 +1,9 @@
 //! The rows of stores of bodies in memory, by values from outside, and which databases are stores of this kind.
 
-use super::fixtures::{HELD_HEADER, HELD_NODES};
-use super::memory::{BodiesInMemory, CountedRows, NODES_AS_BODIES, expect_rows};
-use super::steps::{PUT_HEADER, PUT_NODES, STORE_EXTRA, STORE_HEADER, STORE_NODES, Step, followed};
+use super::tables::expect_rows;
+use crate::fixtures::{HELD_HEADER, HELD_NODES};
+use crate::memory::{BodiesInMemory, CountedRows, NODES_AS_BODIES};
+use crate::steps::{PUT_HEADER, PUT_NODES, STORE_EXTRA, STORE_HEADER, STORE_NODES, Step, followed};
 use osm_store::{BodyStore, StoreFault};
 use sqlite::{Connection, MemStore};
 use std::alloc::Global;
@@ -65,11 +66,8 @@ const THREE_BLOBS: &[CountedRows] = &[
 ];
 
 /// The database of a new store of bodies after these steps.
-fn database_after<R: Abort + Alloc<A = Global>>(
-    rt: &R,
-    steps: &[Step],
-) -> Result<Connection<MemStore>, Fail> {
-    let store: BodiesInMemory = followed(rt, "bodies", steps)?;
+fn database_after(alloc: Global, steps: &[Step]) -> Result<Connection<MemStore>, Fail> {
+    let store: BodiesInMemory = followed(alloc, "bodies", steps)?;
     Ok(store.into_connection())
 }
 
@@ -79,7 +77,7 @@ fn expect_rows_after<R: Abort + Alloc<A = Global>>(
     steps: &[Step],
     tables: &[&[CountedRows]],
 ) -> Result<(), Fail> {
-    let mut database = database_after(rt, steps)?;
+    let mut database = database_after(rt.alloc(), steps)?;
     for rows in tables {
         expect_rows(rt, &mut database, rows);
     }
@@ -135,17 +133,17 @@ fn adopted_databases(rt: HostRuntime) -> Result<(), Fail> {
     const STEPS: &[Step] = &[PUT_NODES, PUT_HEADER];
     let empty = Connection::open_in_memory(rt.alloc())?;
     assert_eq!(rt; adopting(empty), Some(StoreFault::NotThisStore(None)));
-    let mut other = database_after(&rt, STEPS)?;
+    let mut other = database_after(rt.alloc(), STEPS)?;
     other.execute("UPDATE meta SET version = 2", &[])?;
     assert_eq!(rt; adopting(other), Some(StoreFault::NotThisStore(Some(2))));
-    assert_eq!(rt; adopting(database_after(&rt, STEPS)?), None);
+    assert_eq!(rt; adopting(database_after(rt.alloc(), STEPS)?), None);
     Ok(())
 }
 
 /// Tables of a store, and one of somebody else.
 #[test]
 fn a_table_stands_already(rt: HostRuntime) -> Result<(), Fail> {
-    let store = database_after(&rt, &[PUT_NODES, PUT_HEADER])?;
+    let store = database_after(rt.alloc(), &[PUT_NODES, PUT_HEADER])?;
     assert_eq!(rt; creating(store), Some(StoreFault::NotThisStore(None)));
     let mut other = Connection::open_in_memory(rt.alloc())?;
     other.execute("CREATE TABLE note (id INTEGER PRIMARY KEY) STRICT", &[])?;

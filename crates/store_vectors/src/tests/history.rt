@@ -1,10 +1,13 @@
 //! Flags of visibility, in stores in memory of both layouts and in exports: blocks and frames are made by hand from
 //! osmformat.proto and fileformat.proto.
 
-use super::fixtures::{HEADER, HELD_HEADER, LINES, NODES, THREE_WAYS, WRITTEN_HEADER};
-use super::memory::{CountedRows, expect_rows};
-use super::steps::{PUT_HEADER, PUT_NODES, STORE_HEADER, STORE_NODES, Step, over_all_stores};
-use super::tables::{PLACED_RELATION, PLACED_WAY, RELATION, WAY, filled};
+use super::tables::{expect_rows, filled};
+use crate::fixtures::{
+    HEADER, HELD_HEADER, LINES, NODES, PLACED_RELATION, PLACED_WAY, RELATION, THREE_WAYS, WAY,
+    WRITTEN_HEADER,
+};
+use crate::memory::CountedRows;
+use crate::steps::{PUT_HEADER, PUT_NODES, STORE_HEADER, STORE_NODES, Step, over_all_stores};
 use osm_import::Answer;
 use osm_store::Extent;
 use osm_value::MemberKind;
@@ -81,7 +84,7 @@ fn a_file_with_a_flag(rt: HostRuntime) -> Result<(), Fail> {
         Step::Lines(Some(118), &[VISIBLE_NODE_LINE]),
         Step::Pbf(Some(118), &[HISTORIC_HEADER, VISIBLE_NODE]),
     ];
-    over_all_stores(&rt, STEPS)
+    over_all_stores(rt.alloc(), STEPS)
 }
 
 /// A header that requires history says nothing of flags: where no element has one, the plain header is written.
@@ -95,7 +98,7 @@ fn a_header_with_history_alone(rt: HostRuntime) -> Result<(), Fail> {
         Step::Lines(Some(116), &[LINES]),
         Step::Pbf(Some(116), &[WRITTEN_HEADER, NODES]),
     ];
-    over_all_stores(&rt, STEPS)
+    over_all_stores(rt.alloc(), STEPS)
 }
 
 /// Nodes, ways and a relation without flags are held, and then an element with one behind them, of each kind.
@@ -124,7 +127,7 @@ fn the_last_element_has_a_flag(rt: HostRuntime) -> Result<(), Fail> {
         Step::PartialPbf(&[HISTORIC_HEADER, NODES, VISIBLE_NODE]),
         Step::Failures(0),
     ];
-    over_all_stores(&rt, STEPS)
+    over_all_stores(rt.alloc(), STEPS)
 }
 
 /// The first element has a flag, and none behind it.
@@ -141,7 +144,7 @@ fn the_first_element_has_a_flag(rt: HostRuntime) -> Result<(), Fail> {
         Step::Loads(300, b"w 7 () [x=0] {}\n"),
         Step::Failures(0),
     ];
-    over_all_stores(&rt, STEPS)
+    over_all_stores(rt.alloc(), STEPS)
 }
 
 /// A flag is 0 or 1 in its column, and NULL where there is none.
@@ -166,7 +169,7 @@ fn rows_of_flags(rt: HostRuntime) -> Result<(), Fail> {
         ),
         ("SELECT count(*) FROM element", 3),
     ];
-    let mut tables = filled(&rt, STEPS)?;
+    let mut tables = filled(rt.alloc(), STEPS)?;
     expect_rows(&rt, &mut tables, ROWS);
     Ok(())
 }

@@ -1,15 +1,14 @@
 //! Rows that are those of no map, made by statements over a store's connection, and the reads that meet them.
 
-use super::deliveries::exported;
-use super::fixtures::{
-    LINES, NODES, PLACED_HEADER, PLACED_NODES, PLACED_WAYS, THREE_WAYS, THREE_WAYS_LINES,
-    WRITTEN_HEADER,
+use crate::deliveries::exported;
+use crate::fixtures::{
+    LINES, NODES, PLACED_HEADER, PLACED_NODES, PLACED_WAYS, RELATION_AT_137, THREE_WAYS_LINES,
+    WAY_AT_203, WRITTEN_HEADER,
 };
-use super::memory::{BodiesInMemory, NewSqlStore, NewStore, TablesInMemory};
-use super::steps::{PUT_HEADER, PUT_NODES, Step, are_joined, followed};
-use super::tables::{PLACED_RELATION, PLACED_WAY, RELATION, WAY};
+use crate::memory::{BodiesInMemory, NewSqlStore, NewStore, TablesInMemory};
+use crate::steps::{FIVE_BLOBS, Step, are_joined, followed};
 use osm_import::{CopyFault, CopyStop, ExportFault, copy_held};
-use osm_store::{Extent, StoreFault};
+use osm_store::StoreFault;
 use osm_value::{Form, MemberKind};
 use std::alloc::Global;
 use std::process::Abort;
@@ -17,27 +16,6 @@ use std::test::*;
 
 /// A statement that spoils the rows of the five blobs, and a read of them with its answer before.
 type Spoiled = (&'static str, Step);
-
-/// Relation 9, and way 7 over four nodes, behind the three ways.
-pub(crate) const RELATION_AT_137: Extent = Extent {
-    off: 137,
-    fin: 203,
-    ..PLACED_RELATION
-};
-
-pub(crate) const WAY_AT_203: Extent = Extent {
-    off: 203,
-    fin: 252,
-    ..PLACED_WAY
-};
-
-pub(crate) const FIVE_BLOBS: &[Step] = &[
-    PUT_HEADER,
-    PUT_NODES,
-    Step::Put(PLACED_WAYS, THREE_WAYS, Ok(())),
-    Step::Put(RELATION_AT_137, RELATION, Ok(())),
-    Step::Put(WAY_AT_203, WAY, Ok(())),
-];
 
 const RELATION_LINE: &[u8] = b"r 9 (n1@outer,w-2@) [] {name=a%20b%2Cc}\n";
 
@@ -80,7 +58,7 @@ fn expect_refusals<K: NewSqlStore, R: Abort + Alloc<A = Global>>(
     table: &[Spoiled],
 ) -> Result<(), Fail> {
     for (sql, read) in table {
-        let mut store: K = followed(rt, layout, FIVE_BLOBS)?;
+        let mut store: K = followed(rt.alloc(), layout, FIVE_BLOBS)?;
         let before = read.is_met(rt.alloc(), &mut store);
         assert_eq!(rt; before, Ok(true), "before {sql} over {layout}");
         let mut store = store.changed(sql).ok_or("a store")?;
@@ -359,7 +337,7 @@ fn expect_stops<K: NewSqlStore, R: Abort + Alloc<A = Global>>(
     pbf: &[&[u8]],
 ) -> Result<(), Fail> {
     for sql in statements {
-        let store: K = followed(rt, layout, FIVE_BLOBS)?;
+        let store: K = followed(rt.alloc(), layout, FIVE_BLOBS)?;
         let mut store = store.changed(sql).ok_or("a store")?;
         expect_front(rt, &mut store, Form::Lines, &[LINES], sql);
         expect_front(rt, &mut store, Form::Pbf, pbf, sql);
@@ -384,7 +362,7 @@ fn expect_whole<K: NewStore, R: Abort + Alloc<A = Global>>(
     rt: &R,
     layout: &str,
 ) -> Result<(), Fail> {
-    let mut store: K = followed(rt, layout, FIVE_BLOBS)?;
+    let mut store: K = followed(rt.alloc(), layout, FIVE_BLOBS)?;
     let whole = ALL_LINES.is_met(rt.alloc(), &mut store);
     assert_eq!(rt; whole, Ok(true), "{layout}");
     Ok(())

@@ -1,11 +1,11 @@
 //! The answers of stores in memory of both layouts, by values from outside.
 
-use super::fixtures::{
+use crate::fixtures::{
     LINES, NOTHING, PLACED_EXTRA, PLACED_HEADER, PLACED_NODES, PLACED_WAYS, THREE_WAYS,
     THREE_WAYS_LINES, TWO_NODES,
 };
-use super::memory::{BodiesInMemory, NewSqlStore, NewStore, TablesInMemory};
-use super::steps::{
+use crate::memory::{BodiesInMemory, NewSqlStore, NewStore, TablesInMemory};
+use crate::steps::{
     PUT_EXTRA, PUT_HEADER, PUT_NODES, Step, over_all_stores, over_both_layouts, put_block,
 };
 use osm_store::{Extent, Reader, StoreFault};
@@ -33,7 +33,7 @@ fn found_node(rt: HostRuntime) -> Result<(), Fail> {
         Step::Finds(MemberKind::Node, 2, b"47 1 n 2 900 -100 [] {}\n"),
         Step::Finds(MemberKind::Way, 2, b""),
     ];
-    over_all_stores(&rt, STEPS)
+    over_all_stores(rt.alloc(), STEPS)
 }
 
 #[test]
@@ -49,7 +49,7 @@ fn found_in_two_blobs(rt: HostRuntime) -> Result<(), Fail> {
             b"100 2 w 1 () [] {}\n137 2 w 1 () [] {}\n",
         ),
     ];
-    over_all_stores(&rt, STEPS)
+    over_all_stores(rt.alloc(), STEPS)
 }
 
 #[test]
@@ -60,7 +60,7 @@ fn all_extents(rt: HostRuntime) -> Result<(), Fail> {
         PUT_EXTRA,
         Step::Extents(&[PLACED_HEADER, PLACED_NODES, PLACED_EXTRA]),
     ];
-    over_all_stores(&rt, STEPS)
+    over_all_stores(rt.alloc(), STEPS)
 }
 
 #[test]
@@ -72,7 +72,7 @@ fn touching_one(rt: HostRuntime) -> Result<(), Fail> {
         Step::Touching(60, 61, &[PLACED_NODES]),
         Step::Touching(84, 121, &[]),
     ];
-    over_all_stores(&rt, STEPS)
+    over_all_stores(rt.alloc(), STEPS)
 }
 
 #[test]
@@ -96,7 +96,7 @@ fn touching_several(rt: HostRuntime) -> Result<(), Fail> {
             ],
         ),
     ];
-    over_all_stores(&rt, STEPS)
+    over_all_stores(rt.alloc(), STEPS)
 }
 
 #[test]
@@ -110,7 +110,7 @@ fn loaded_elements(rt: HostRuntime) -> Result<(), Fail> {
         Step::Loads(47, LINES),
         Step::Loads(84, b""),
     ];
-    over_all_stores(&rt, STEPS)
+    over_all_stores(rt.alloc(), STEPS)
 }
 
 /// Rows that have the place of those of a blob refuse it, and nothing is changed.
@@ -123,7 +123,7 @@ fn a_blob_that_is_held(rt: HostRuntime) -> Result<(), Fail> {
         Step::Loads(47, LINES),
         Step::Finds(MemberKind::Node, 2, b"47 1 n 2 900 -100 [] {}\n"),
     ];
-    over_all_stores(&rt, STEPS)
+    over_all_stores(rt.alloc(), STEPS)
 }
 
 /// A call that is refused, and one that is broken off, are counted.
@@ -143,7 +143,7 @@ fn counted_failures(rt: HostRuntime) -> Result<(), Fail> {
         Step::Extents(&[PLACED_HEADER, PLACED_NODES, PLACED_EXTRA]),
         Step::Failures(2),
     ];
-    over_both_layouts(&rt, STEPS)
+    over_both_layouts(rt.alloc(), STEPS)
 }
 
 /// A store with the blob of a header, that of two nodes and one of another type.

@@ -1,43 +1,21 @@
 //! The rows of numbers and texts of stores in memory, by values from outside, and the answers of both layouts for elements
 //! with tags, nodes and members.
 
-use super::fixtures::{LINES, PLACED_HEADER, PLACED_NODES, RELATION_FRAME, WAY_FRAME};
-use super::memory::{CountedRows, NODES_AS_ROWS, TablesInMemory, expect_rows};
-use super::steps::{
+use crate::fixtures::{
+    LINES, PLACED_HEADER, PLACED_NODES, PLACED_RELATION, PLACED_WAY, RELATION, RELATION_FRAME, WAY,
+    WAY_FRAME,
+};
+use crate::memory::{CountedRows, NODES_AS_ROWS, TablesInMemory, number};
+use crate::steps::{
     PUT_HEADER, PUT_NODES, STORE_HEADER, STORE_NODES, Step, followed, over_all_stores,
 };
 use osm_import::Answer;
-use osm_store::{BodyStore, Extent, StoreFault, TableStore};
+use osm_store::{BodyStore, StoreFault, TableStore};
 use osm_value::MemberKind;
-use pbf_frame::Kind;
-use sqlite::{Connection, MemStore};
+use sqlite::{Alter, Connection, MemStore};
 use std::alloc::Global;
 use std::process::Abort;
 use std::test::*;
-
-/// The block of relation 9 with a name, node 1 as its outer member, and way -2 without a role.
-pub(crate) const RELATION: &[u8] =
-    b"\x0A\x16\x0A\x00\x0A\x04name\x0A\x05a b,c\x0A\x05outer\x12\x16\x22\x14\x08\x09\x12\x01\x01\x1A\x01\x02\x42\x02\x03\x00\x4A\x02\x02\x05\x52\x02\x00\x01";
-
-/// That of way 7 over the nodes 5, 6, 7 and 6.
-pub(crate) const WAY: &[u8] =
-    b"\x0A\x08\x0A\x00\x0A\x01a\x0A\x01b\x12\x10\x1A\x0E\x08\x07\x12\x01\x01\x1A\x01\x02\x42\x04\x0A\x02\x02\x01";
-
-pub(crate) const PLACED_RELATION: Extent = Extent {
-    off: 84,
-    fin: 150,
-    digest: [3; 32],
-    kind: Kind::OsmData,
-    n: 1,
-};
-
-pub(crate) const PLACED_WAY: Extent = Extent {
-    off: 150,
-    fin: 199,
-    digest: [4; 32],
-    kind: Kind::OsmData,
-    n: 1,
-};
 
 const PUT_RELATION: Step = Step::Put(PLACED_RELATION, RELATION, Ok(()));
 
@@ -116,17 +94,25 @@ const ROWS: &[CountedRows] = &[
 ];
 
 /// The tables once these steps were taken.
-pub(crate) fn filled<R: Abort + Alloc<A = Global>>(
-    rt: &R,
-    steps: &[Step],
-) -> Result<Connection<MemStore>, Fail> {
-    let store: TablesInMemory = followed(rt, "tables", steps)?;
+pub(crate) fn filled(alloc: Global, steps: &[Step]) -> Result<Connection<MemStore>, Fail> {
+    let store: TablesInMemory = followed(alloc, "tables", steps)?;
     Ok(store.into_connection())
+}
+
+/// Expects that each query shows its number.
+pub(crate) fn expect_rows<S: Alter, R: Abort>(
+    rt: &R,
+    connection: &mut Connection<S>,
+    rows: &[CountedRows],
+) {
+    for (sql, wanted) in rows {
+        assert_eq!(rt; number(connection, sql), Some(*wanted), "{sql}");
+    }
 }
 
 #[test]
 fn rows_of_four_blobs(rt: HostRuntime) -> Result<(), Fail> {
-    let mut tables = filled(&rt, FOUR_BLOBS)?;
+    let mut tables = filled(rt.alloc(), FOUR_BLOBS)?;
     expect_rows(&rt, &mut tables, ROWS);
     expect_rows(&rt, &mut tables, NODES_AS_ROWS);
     Ok(())
@@ -134,7 +120,7 @@ fn rows_of_four_blobs(rt: HostRuntime) -> Result<(), Fail> {
 
 #[test]
 fn another_layout_is_refused(rt: HostRuntime) -> Result<(), Fail> {
-    let tables = filled(&rt, FOUR_BLOBS)?;
+    let tables = filled(rt.alloc(), FOUR_BLOBS)?;
     assert!(rt; tables.is_autocommit());
     match BodyStore::adopt(tables) {
         Ok(_) => return Err("a store of bodies".into()),
@@ -181,7 +167,7 @@ fn loaded_and_found_elements(rt: HostRuntime) -> Result<(), Fail> {
         Step::Touching(83, 85, &[PLACED_NODES, PLACED_RELATION]),
         Step::Failures(0),
     ];
-    over_all_stores(&rt, STEPS)
+    over_all_stores(rt.alloc(), STEPS)
 }
 
 /// Why tables that these statements changed aren't adopted.
@@ -216,11 +202,11 @@ fn tables_that_are_not_whole(rt: HostRuntime) -> Result<(), Fail> {
         ],
     ];
     for change in CHANGES {
-        let fault = adopting_after(filled(&rt, FOUR_BLOBS)?, change)?;
+        let fault = adopting_after(filled(rt.alloc(), FOUR_BLOBS)?, change)?;
         assert_eq!(rt; fault, Some(StoreFault::NotThisStore(None)));
     }
     let beside = ["CREATE INDEX tag_by_key ON tag (key)"];
-    let fault = adopting_after(filled(&rt, FOUR_BLOBS)?, &beside)?;
+    let fault = adopting_after(filled(rt.alloc(), FOUR_BLOBS)?, &beside)?;
     assert_eq!(rt; fault, None);
     Ok(())
 }

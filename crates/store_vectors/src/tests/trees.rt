@@ -1,9 +1,11 @@
 //! Reads below SQL, over the trees of stores in memory: the answers of the same calls over connections.
 
-use super::fixtures::{LINES, PLACED_HEADER, PLACED_NODES};
 use super::history::{SECOND_WAY_DELETED, TWO_LAST};
-use super::steps::{PUT_HEADER, PUT_NODES, Step};
-use super::tables::{PLACED_RELATION, PLACED_WAY, RELATION, WAY, filled};
+use super::tables::filled;
+use crate::fixtures::{
+    LINES, PLACED_HEADER, PLACED_NODES, PLACED_RELATION, PLACED_WAY, RELATION, WAY,
+};
+use crate::steps::{PUT_HEADER, PUT_NODES, Step};
 use osm_trees::TreeStore;
 use osm_value::MemberKind;
 use std::alloc::Global;
@@ -18,7 +20,7 @@ fn expect_reads<R: Abort + Alloc<A = Global>>(
     reads: &[Step],
 ) -> Result<(), Fail> {
     let alloc = rt.alloc();
-    let mut reader = TreeStore::new(filled(rt, steps)?.into_store());
+    let mut reader = TreeStore::new(filled(alloc, steps)?.into_store());
     for (number, read) in reads.iter().enumerate() {
         let outcome = read.is_read(alloc, &mut reader);
         assert_eq!(rt; outcome, Ok(true), "read {number}");

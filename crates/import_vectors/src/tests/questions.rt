@@ -1,11 +1,11 @@
 //! What can be asked of a store, with what it tells as bytes.
 
-use super::deliveries::exported;
-use super::steps::{found_lines, loaded_lines};
 use osm_import::{ExportFault, gaps};
 use osm_store::{Reader, StoreFault};
 use osm_value::{Form, MemberKind};
 use std::alloc::Global;
+use store_vectors::deliveries::exported;
+use store_vectors::steps::{found_lines, loaded_lines};
 
 /// What is asked of a store.
 #[derive(Clone, Copy, Debug)]

@@ -1,6 +1,5 @@
 //! An import that stops.
 
-use super::super::memory::KnownLayout;
 use super::{
     Outcome, Reached, STOPS, Source, Stopped, TaggedFile, Unsynced, Work, found_after, new_files,
     session,
@@ -9,6 +8,7 @@ use osm_store::{Bodies, Tables};
 use std::alloc::Global;
 use std::process::Abort;
 use std::test::*;
+use store_vectors::memory::KnownLayout;
 
 /// A call that wasn't answered has changed nothing.
 const UNCHANGED: [Outcome; 6] = [

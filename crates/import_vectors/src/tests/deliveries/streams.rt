@@ -1,8 +1,5 @@
 //! Streams of frames.
 
-use crate::tests::fixtures::{FILE_BYTES, HELD_HEADER, HELD_NODES};
-use crate::tests::memory::{BodiesInMemory, NewStore, TablesInMemory, TreesInMemory};
-use crate::tests::steps::{Step, import, over_all_stores};
 use osm_import::{Inlet, Stop, StreamFault, Summary, gaps, import_stream};
 use osm_store::Extent;
 use osm_value::Outlet;
@@ -11,6 +8,9 @@ use pbf_frame::FrameFault;
 use std::alloc::Global;
 use std::process::Abort;
 use std::test::*;
+use store_vectors::fixtures::{FILE_BYTES, HELD_HEADER, HELD_NODES};
+use store_vectors::memory::{BodiesInMemory, NewStore, TablesInMemory, TreesInMemory};
+use store_vectors::steps::{Step, import, over_all_stores};
 
 /// Of an import of the whole file.
 const BOTH_STORED: Summary = Summary {
@@ -68,7 +68,7 @@ fn limits_of_blobs(rt: HostRuntime) -> Result<(), Fail> {
         Step::Import((0, 84), 2, Ok(BOTH_STORED), b"0 stored 0\n47 stored 2\n"),
         Step::Gaps(84, &[]),
     ];
-    over_all_stores(&rt, STEPS)
+    over_all_stores(rt.alloc(), STEPS)
 }
 
 #[test]
@@ -77,7 +77,7 @@ fn the_same_file_again(rt: HostRuntime) -> Result<(), Fail> {
         Step::Import((0, 84), 9, Ok(BOTH_STORED), b"0 stored 0\n47 stored 2\n"),
         Step::Import((0, 84), 9, Ok(BOTH_HELD), b"0 held\n47 held\n"),
     ];
-    over_all_stores(&rt, STEPS)
+    over_all_stores(rt.alloc(), STEPS)
 }
 
 #[test]
@@ -89,7 +89,7 @@ fn streams_that_end_early(rt: HostRuntime) -> Result<(), Fail> {
         Step::NewStore,
         Step::Import((47, 84), 9, Ok(ONE_BAD), b"fault 61 NoHeaderFirst at 0\n"),
     ];
-    over_all_stores(&rt, STEPS)
+    over_all_stores(rt.alloc(), STEPS)
 }
 
 fn readers_that_fail_of<K: NewStore, R: Abort + Alloc<A = Global>>(rt: &R) -> Result<(), Fail> {

@@ -1,13 +1,5 @@
 //! Two stores in memory, of which one at a time is open, read as one.
 
-use super::deliveries::answers_to;
-use super::fixtures::{
-    EXTRA, EXTRA_AT_84, FILE, Frame, HEADER_AT_0, HELD_EXTRA, HELD_HEADER, HELD_NODES,
-    HELD_NODES_AT_100, HELD_TAGGED, LINES, NODES, NODES_AT_47, NODES_AT_100, TAGGED_AT_84,
-    TAGGED_LINES, WRITTEN_HEADER,
-};
-use super::memory::{BodiesInMemory, NewStore, TablesInMemory};
-use super::steps::are_joined;
 use osm_import::{Conflict, ExportFault};
 use osm_parts::{
     Openings, Part, PartsFault, Shelf, export_parts_as_lines, export_parts_as_pbf,
@@ -19,6 +11,14 @@ use osm_vectors::FailingWriter;
 use std::alloc::Global;
 use std::process::Abort;
 use std::test::*;
+use store_vectors::deliveries::answers_to;
+use store_vectors::fixtures::{
+    EXTRA, EXTRA_AT_84, FILE, Frame, HEADER_AT_0, HELD_EXTRA, HELD_HEADER, HELD_NODES,
+    HELD_NODES_AT_100, HELD_TAGGED, LINES, NODES, NODES_AT_47, NODES_AT_100, TAGGED_AT_84,
+    TAGGED_LINES, WRITTEN_HEADER,
+};
+use store_vectors::memory::{BodiesInMemory, NewStore, TablesInMemory};
+use store_vectors::steps::are_joined;
 
 /// The nodes over the last byte of the file.
 const NODES_AT_83: Frame = (83, NODES);

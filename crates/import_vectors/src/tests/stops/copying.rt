@@ -1,15 +1,16 @@
 //! Copies that stop, of what a store of the earlier layout holds into a new one: what the next opening finds is a front of
 //! it, and the same copy, begun again, goes on.
 
-use super::super::deliveries::answers_to;
-use super::super::fixtures::TAGGED_FILE;
-use super::super::memory::{BodiesInMemory, KnownLayout};
-use super::{Reached, Source, below, extents_of, has_rows_of, imports, is_whole};
+use super::{Reached, Source, below, extents_of, has_rows_of, imports};
 use osm_import::{CopyCounts, CopyFault, CopyStop, copy_held};
 use osm_store::{Extent, Keeper, StoreFault, Tables};
 use sqlite::{Alter, Connection};
 use std::alloc::Global;
 use std::test::*;
+use store_vectors::deliveries::answers_to;
+use store_vectors::fixtures::TAGGED_FILE;
+use store_vectors::memory::{BodiesInMemory, KnownLayout};
+use store_vectors::steps::holds_the_tagged_file;
 
 /// How much was copied where a copy stopped at the blob at an offset.
 fn copied_below(off: u64) -> Option<Reached> {
@@ -63,7 +64,9 @@ impl Source for BodiesInMemory {
     fn goes_on<K: Keeper>(&mut self, alloc: Global, store: &mut K, held: Reached) -> Option<bool> {
         let outcome = copy_held(alloc, self, store);
         Some(
-            outcome == Ok(counts_behind(held)) && is_whole(alloc, store)? && is_whole(alloc, self)?,
+            outcome == Ok(counts_behind(held))
+                && holds_the_tagged_file(alloc, store).ok()?
+                && holds_the_tagged_file(alloc, self).ok()?,
         )
     }
 }

@@ -1,9 +1,8 @@
 //! Imports below SQL that stop: what the next opening finds, by SQL and by trees, and how each goes on.
 
-use super::super::memory::{NewSqlStore, NewStore, TablesInMemory};
 use super::{
-    Fused, OPTIONS, Outcome, Reached, STOPS, Source, Stopped, TaggedFile, Unsynced, Work,
-    after_stop, copies, new_files, session,
+    Fused, Outcome, Reached, STOPS, Source, Stopped, TaggedFile, Unsynced, Work, after_stop,
+    copies, new_files, session,
 };
 use osm_openings::open_checked_tables;
 use osm_store::{Reader, Tables};
@@ -13,6 +12,8 @@ use sqlite_disk::Disk;
 use std::alloc::Global;
 use std::process::Abort;
 use std::test::*;
+use store_vectors::files::OPTIONS;
+use store_vectors::memory::{NewSqlStore, NewStore, TablesInMemory};
 
 /// A call that wasn't answered has changed nothing. The log's copy leaves what it copies.
 const UNCHANGED: [Outcome; 7] = [

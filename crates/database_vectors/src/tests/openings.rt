@@ -5,14 +5,19 @@ ghost use Rattle.sqlite_wal.specs.Files.{seen_image};
 ghost use Rattle.osm_openings.specs.Presumed.{ArePresumedTables};
 
 use super::shared::Machine;
-use super::stops::{OPTIONS, filled_by_trees, is_whole, opened};
+use osm_import::{Answer, deliver_all};
 use osm_openings::{Obstacle, find_obstacle, open_checked_tables, open_tables};
-use osm_store::{Reader, StoreFault};
+use osm_store::{BodyStore, Keeper, Reader, StoreFault, TableStore};
 use osm_trees::TreeStore;
 use sqlite::{Alter, Connection, FileStore, Files};
 use sqlite_disk::Disk;
 use std::alloc::{AllocError, Global};
 use std::test::*;
+use store_vectors::deliveries::deliveries_of;
+use store_vectors::files::{OPTIONS, opened};
+use store_vectors::fixtures::TAGGED_FILE;
+use store_vectors::memory::below;
+use store_vectors::steps::holds_the_tagged_file;
 
 /// What is held.
 #[derive(Clone, Copy, Debug, PartialEq, Eq)]
@@ -29,7 +34,7 @@ pub(super) enum Held {
 pub(super) fn held_by<R: Reader>(alloc: Global, store: &mut R) -> Held {
     match store.extents(alloc) {
         Ok(extents) if extents.is_empty() => Held::Nothing,
-        Ok(_) if is_whole(alloc, store) == Some(true) => Held::All,
+        Ok(_) if holds_the_tagged_file(alloc, store) == Ok(true) => Held::All,
         _ => Held::Else,
     }
 }
@@ -40,12 +45,41 @@ fn held_in<S: Alter + Drop>(alloc: Global, trees: Option<S>) -> Option<Held> {
     Some(held_by(alloc, &mut reader))
 }
 
-/// A machine with a database that was filled by its trees and closed, and nothing in its log.
-pub(super) fn filled_machine(alloc: Global) -> Result<Machine, Fail> {
-    let machine = Machine::new(alloc, b"")?;
-    filled_by_trees(alloc, machine.files(alloc)?).ok_or("no whole database")?;
-    machine.clear_log();
-    Ok(machine)
+/// What is done in a database.
+#[derive(Clone, Copy)]
+enum Work<'a> {
+    /// A new store is made, and the file of three frames is delivered to its trees.
+    Fill,
+    /// The same of a store of blocks, by SQL.
+    FillBlocks,
+    /// Statements are run.
+    Run(&'a str),
+}
+
+/// Delivers the file of three frames to a store that holds nothing.
+fn fill<K: Keeper>(alloc: Global, store: &mut K) -> Option<()> {
+    const STORED: [Answer; 3] = [Answer::Stored(0), Answer::Stored(2), Answer::Stored(2)];
+    let deliveries = deliveries_of(alloc, TAGGED_FILE).ok()?;
+    let answers = deliver_all(alloc, store, &deliveries).ok()?;
+    (answers.as_slice() == STORED.as_slice()).then_some(())
+}
+
+fn filled_by_trees<S: Alter + Drop>(alloc: Global, database: Connection<S>) -> Option<S> {
+    if !database.is_autocommit() {
+        return None;
+    }
+    let mut trees = below(TableStore::create(database).ok()?);
+    fill(alloc, &mut trees)?;
+    Some(trees.into_store())
+}
+
+fn filled_by_sql<S: Alter + Drop>(alloc: Global, database: Connection<S>) -> Option<S> {
+    if !database.is_autocommit() {
+        return None;
+    }
+    let mut store = BodyStore::create(database).ok()?;
+    fill(alloc, &mut store)?;
+    Some(store.into_connection().into_store())
 }
 
 /// Runs these statements. What the database lies in.
@@ -54,23 +88,55 @@ fn after<S: Alter + Drop>(mut database: Connection<S>, sql: &str) -> Option<S> {
     Some(database.into_store())
 }
 
-/// Copies the log, and closes the files.
-fn closed<D: Disk + Drop>(mut store: FileStore<D>) -> Option<Files<D>> {
-    store.checkpoint().ok()?;
+fn worked<S: Alter + Drop>(alloc: Global, database: Connection<S>, work: Work<'_>) -> Option<S> {
+    match work {
+        Work::Fill => filled_by_trees(alloc, database),
+        Work::FillBlocks => filled_by_sql(alloc, database),
+        Work::Run(sql) => after(database, sql),
+    }
+}
+
+/// Closes the files. The log is copied, but not that of a store of blocks: its opening reads it.
+fn closed<D: Disk + Drop>(mut store: FileStore<D>, work: Work<'_>) -> Option<Files<D>> {
+    if !matches!(work, Work::FillBlocks) {
+        store.checkpoint().ok()?;
+    }
     Some(store.close())
 }
 
-/// Runs these statements in the database in these files, and copies the log.
-fn changed<D: Disk + Drop>(alloc: Global, files: Files<D>, sql: &str) -> Option<Files<D>> {
+/// Does this work in the database in these files. Each kind goes through here, since what holds the database itself takes long
+/// to prove.
+fn changed<D: Disk + Drop>(alloc: Global, files: Files<D>, work: Work<'_>) -> Option<Files<D>> {
     match opened(alloc, files, 8) {
-        Ok(database) => closed(after(database, sql)?),
+        Ok(database) => closed(worked(alloc, database, work)?, work),
         Err(_) => None,
     }
 }
 
+/// The same in the database of a machine.
+fn work_in(alloc: Global, machine: &Machine, work: Work<'_>) -> Result<(), Fail> {
+    changed(alloc, machine.files(alloc)?, work).ok_or("work that isn't done")?;
+    Ok(())
+}
+
+/// A machine with a database that was filled by its trees and closed, and nothing in its log.
+pub(super) fn filled_machine(alloc: Global) -> Result<Machine, Fail> {
+    let machine = Machine::new(alloc, b"")?;
+    work_in(alloc, &machine, Work::Fill)?;
+    machine.clear_log();
+    Ok(machine)
+}
+
+/// One with a store of blocks, of which a part is in its log.
+pub(super) fn machine_of_blocks(alloc: Global) -> Result<Machine, Fail> {
+    let machine = Machine::new(alloc, b"")?;
+    work_in(alloc, &machine, Work::FillBlocks)?;
+    Ok(machine)
+}
+
 /// Runs these statements in the database of a machine. Nothing is left in its log.
 pub(super) fn change(alloc: Global, machine: &Machine, sql: &str) -> Result<(), Fail> {
-    changed(alloc, machine.files(alloc)?, sql).ok_or("a statement that isn't run")?;
+    work_in(alloc, machine, Work::Run(sql))?;
     machine.clear_log();
     Ok(())
 }

@@ -1,12 +1,8 @@
 //! Stores over connections in memory and in the files of a machine: which store each is, and how it is opened to be asked or
 //! filled.
 
-use super::deliveries::{answers_to, deliveries_of};
-use super::fixtures::TAGGED_FILE;
-use super::memory::{BodiesInMemory, TablesInMemory, number};
-use super::openings::{Held, change, filled_machine, held_by};
+use super::openings::{Held, change, filled_machine, held_by, machine_of_blocks};
 use super::shared::{Machine, SharedFile};
-use super::stops::filled_by_sql;
 use osm_databases::databases::{
     CheckedDatabases, Databases, close, opened, opened_checked, opened_of_any_version,
     opened_or_made, source_of_blocks, source_of_rows,
@@ -18,11 +14,14 @@ use osm_databases::trees::{
 };
 use osm_import::deliver_all;
 use osm_openings::Obstacle;
-use osm_store::{Bodies, Keeper, Reader, StoreFault, TableStore};
+use osm_store::{Keeper, Reader, StoreFault, TableStore};
 use osm_trees::{Opened, TreeStore};
 use sqlite::{Alter, Connection, FileStore, MemStore};
 use std::alloc::Global;
 use std::test::*;
+use store_vectors::deliveries::{answers_to, deliveries_of};
+use store_vectors::fixtures::TAGGED_FILE;
+use store_vectors::memory::{BodiesInMemory, TablesInMemory, number};
 
 /// How a store is read.
 #[derive(Clone, Copy, Debug, PartialEq, Eq)]
@@ -310,9 +309,7 @@ fn a_database_of_this_version(rt: HostRuntime) -> Result<(), Fail> {
 
 #[test]
 fn a_database_of_blocks(rt: HostRuntime) -> Result<(), Fail> {
-    let machine = Machine::new(rt.alloc(), b"")?;
-    let files = machine.files(rt.alloc())?;
-    assert!(rt; filled_by_sql::<_, Bodies>(rt.alloc(), files).is_some());
+    let machine = machine_of_blocks(rt.alloc())?;
     let blocks = Ok((Way::Blocks, Held::All));
     assert_eq!(rt;
         of_machine(&rt, &machine),

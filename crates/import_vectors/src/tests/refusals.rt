@@ -1,18 +1,18 @@
 //! What a store holds after a delivery that isn't stored, and what a read that is broken off has told.
 
-use super::deliveries::answers_to;
-use super::fixtures::{
-    FILE, LINES, NODES, RELATION_FRAME, TAGGED, TAGGED_LINES, WAY_FRAME, WRITTEN_HEADER,
-};
-use super::memory::{BodiesInMemory, NewSqlStore, NewStore, TablesInMemory, TreesInMemory};
 use super::questions::{Question, answer_to};
-use super::steps::are_joined;
 use osm_import::{Answer, ExportFault, deliver};
 use osm_store::{Reader, StoreFault};
 use osm_vectors::vectors::TWO_NODES_FRAME;
 use std::alloc::Global;
 use std::process::Abort;
 use std::test::*;
+use store_vectors::deliveries::answers_to;
+use store_vectors::fixtures::{
+    FILE, LINES, NODES, RELATION_FRAME, TAGGED, TAGGED_LINES, WAY_FRAME, WRITTEN_HEADER,
+};
+use store_vectors::memory::{BodiesInMemory, NewSqlStore, NewStore, TablesInMemory, TreesInMemory};
+use store_vectors::steps::are_joined;
 
 /// The nodes 1, 2 and 3 at 0, 0.
 const THREE_NODES: &[u8] = &[

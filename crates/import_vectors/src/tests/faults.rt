@@ -1,11 +1,11 @@
 //! The numbers, names and texts of faults, as the program prints them.
 
-use super::fixtures::HEADER;
 use osm_import::{Conflict, CopyFault, CopyStop, ExamineFault, Fault, Stop, examine};
 use osm_parts::PartsFault;
 use osm_store::StoreFault;
 use pbf_frame::FrameFault;
 use std::test::*;
+use store_vectors::fixtures::HEADER;
 
 #[test]
 fn refusals(rt: HostRuntime) {

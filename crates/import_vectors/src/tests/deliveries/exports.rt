@@ -1,15 +1,16 @@
 //! Gaps and exports.
 
-use super::{export_as, file_store};
-use crate::tests::fixtures::{LINES, NODES, WRITTEN_HEADER};
-use crate::tests::memory::{BodiesInMemory, NewStore, TablesInMemory};
-use crate::tests::steps::{STORE_EXTRA, STORE_HEADER, STORE_NODES, Step, over_all_stores};
+use super::file_store;
 use osm_import::{Answer, ExportFault};
 use osm_value::{Form, Outlet};
 use osm_vectors::FailingWriter;
 use std::alloc::Global;
 use std::process::Abort;
 use std::test::*;
+use store_vectors::deliveries::export_as;
+use store_vectors::fixtures::{LINES, NODES, WRITTEN_HEADER};
+use store_vectors::memory::{BodiesInMemory, NewStore, TablesInMemory};
+use store_vectors::steps::{STORE_EXTRA, STORE_HEADER, STORE_NODES, Step, over_all_stores};
 
 #[test]
 fn sizes_of_a_whole_file(rt: HostRuntime) -> Result<(), Fail> {
@@ -23,7 +24,7 @@ fn sizes_of_a_whole_file(rt: HostRuntime) -> Result<(), Fail> {
         Step::NoExport(Some(83), ExportFault::PastEnd(84)),
         Step::NoExport(Some(85), ExportFault::Incomplete(84, 85)),
     ];
-    over_all_stores(&rt, STEPS)
+    over_all_stores(rt.alloc(), STEPS)
 }
 
 #[test]
@@ -34,7 +35,7 @@ fn a_gap_before_the_data(rt: HostRuntime) -> Result<(), Fail> {
         Step::NoExport(None, ExportFault::Incomplete(0, 47)),
         Step::PartialLines(&[LINES]),
     ];
-    over_all_stores(&rt, STEPS)
+    over_all_stores(rt.alloc(), STEPS)
 }
 
 #[test]
@@ -45,7 +46,7 @@ fn a_store_that_holds_nothing(rt: HostRuntime) -> Result<(), Fail> {
         Step::PartialLines(&[]),
         Step::PartialPbf(&[WRITTEN_HEADER]),
     ];
-    over_all_stores(&rt, STEPS)
+    over_all_stores(rt.alloc(), STEPS)
 }
 
 /// What was exported is delivered again, where it stands in the new file of 93 bytes.
@@ -60,7 +61,7 @@ fn a_file_as_pbf(rt: HostRuntime) -> Result<(), Fail> {
         Step::Deliver(56, NODES, Answer::Stored(2)),
         Step::Lines(Some(93), &[LINES]),
     ];
-    over_all_stores(&rt, STEPS)
+    over_all_stores(rt.alloc(), STEPS)
 }
 
 const _: () = prove!(WRITTEN_HEADER.len() + 2 * NODES.len() == 130);
@@ -75,7 +76,7 @@ fn a_file_with_another_type_as_pbf(rt: HostRuntime) -> Result<(), Fail> {
         STORE_HEADER,
         Step::Pbf(Some(137), &[WRITTEN_HEADER, NODES, NODES]),
     ];
-    over_all_stores(&rt, STEPS)
+    over_all_stores(rt.alloc(), STEPS)
 }
 
 /// What the exports of the file write, in pieces.

@@ -1,12 +1,7 @@
-//! The importer over stores in memory, of both layouts.
+//! Frames that are delivered to a store, and what exports of it write.
 
-mod every_list;
-mod exports;
-mod orders;
-mod streams;
-
-use super::fixtures::{FILE, Frame};
-use super::memory::NewStore;
+use crate::fixtures::Frame;
+use crate::memory::NewStore;
 use osm_import::{Answer, Delivery, ExportFault, deliver_all, export_lines, export_pbf};
 use osm_store::Reader;
 use osm_value::{Form, Outlet, Sink};
@@ -14,7 +9,7 @@ use std::alloc::{AllocError, Global};
 use std::test::Fail;
 
 /// These frames as they are delivered.
-pub(crate) fn deliveries_of<'a>(
+pub fn deliveries_of<'a>(
     alloc: Global,
     frames: &[Frame<'a>],
 ) -> Result<Vec<Delivery<'a>>, AllocError> {
@@ -27,7 +22,7 @@ pub(crate) fn deliveries_of<'a>(
 }
 
 /// The answers to these frames, delivered to a new store, and the store.
-pub(crate) fn answers_to<K: NewStore>(
+pub fn answers_to<K: NewStore>(
     alloc: Global,
     frames: &[Frame<'_>],
 ) -> Result<(Vec<Answer>, K), Fail> {
@@ -37,13 +32,8 @@ pub(crate) fn answers_to<K: NewStore>(
     Ok((answers, store))
 }
 
-/// A store that holds the file of two frames.
-pub(crate) fn file_store<K: NewStore>(alloc: Global) -> Result<K, Fail> {
-    let (_, store) = answers_to(alloc, FILE)?;
-    Ok(store)
-}
-
-pub(crate) fn export_as<K: Reader, S: Sink>(
+/// An export in this form.
+pub fn export_as<K: Reader, S: Sink>(
     alloc: Global,
     store: &mut K,
     form: Form,
@@ -58,7 +48,7 @@ pub(crate) fn export_as<K: Reader, S: Sink>(
 }
 
 /// What an export answers, and what it has written.
-pub(crate) fn exported<K: Reader>(
+pub fn exported<K: Reader>(
     alloc: Global,
     store: &mut K,
     form: Form,

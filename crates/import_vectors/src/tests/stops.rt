@@ -7,28 +7,19 @@ mod imports;
 mod openings;
 mod reads;
 
-use super::deliveries::{deliveries_of, exported};
-use super::fixtures::{HELD_HEADER, HELD_NODES, HELD_TAGGED, LINES, TAGGED_FILE, TAGGED_LINES};
-use super::memory::{KnownLayout, below, has_rows, number, rows_of};
 use super::questions::{Question, answer_to};
-use super::steps::are_joined;
 use osm_import::{Answer, ExportFault, deliver_all};
-use osm_store::{BlobStore, Extent, Keeper, Reader, StoreFault, StoreLayout, TableStore, Tables};
-use osm_value::Form;
-use sqlite::{Alter, Connection, FileStore, Files, Options};
+use osm_store::{BlobStore, Extent, Keeper, Reader, StoreFault, StoreLayout, TableStore};
+use sqlite::{Alter, Connection, FileStore, Files};
 use sqlite_disk::{Crash, Disk, Fuse, Memory};
 use std::alloc::Global;
+use store_vectors::deliveries::deliveries_of;
+use store_vectors::files::opened;
+use store_vectors::fixtures::{HELD_HEADER, HELD_NODES, HELD_TAGGED, TAGGED_FILE};
+use store_vectors::memory::{KnownLayout, below, has_rows, number, rows_of};
+use store_vectors::steps::{are_joined, holds_the_tagged_file};
 
 type Fused = Fuse<Memory>;
-
-/// Few pages in memory, and each log is copied before the next commit, so that each call of a store makes many calls
-/// of both files.
-pub(super) const OPTIONS: Options = Options {
-    cache_pages: 8,
-    spill_pages: 2,
-    checkpoint_frames: 1,
-    seed: 7,
-};
 
 /// The file that stops.
 #[derive(Clone, Copy, Debug, PartialEq, Eq)]
@@ -136,26 +127,10 @@ impl Source for TaggedFile {
     fn goes_on<K: Keeper>(&mut self, alloc: Global, store: &mut K, held: Reached) -> Option<bool> {
         let deliveries = deliveries_of(alloc, TAGGED_FILE).ok()?;
         let answers = deliver_all(alloc, store, &deliveries).ok()?;
-        Some(answers.as_slice() == wanted(held).as_slice() && is_whole(alloc, store)?)
-    }
-}
-
-/// The database in these files; or the files, where one of them stops or can't be used.
-pub(super) fn opened<D: Disk + Drop>(
-    alloc: Global,
-    files: Files<D>,
-    cache_pages: usize,
-) -> Result<Connection<FileStore<D>>, Files<D>> {
-    if !files.may_be_used() {
-        return Err(files);
-    }
-    let options = Options {
-        cache_pages,
-        ..OPTIONS
-    };
-    match Connection::open_files(alloc, files, options) {
-        Ok(database) => Ok(database),
-        Err((_, left)) => Err(left.into_files()),
+        Some(
+            answers.as_slice() == wanted(held).as_slice()
+                && holds_the_tagged_file(alloc, store).ok()?,
+        )
     }
 }
 
@@ -411,17 +386,6 @@ fn wanted(held: Reached) -> [Answer; 3] {
     }
 }
 
-/// Whether a store holds the whole file and nothing else.
-pub(super) fn is_whole<R: Reader>(alloc: Global, store: &mut R) -> Option<bool> {
-    let extents = store.extents(alloc).ok()?;
-    let (result, lines) = exported(alloc, store, Form::Lines, None, false);
-    Some(
-        extents_of(&extents) == Some(Reached::All)
-            && result == Ok(())
-            && are_joined(&lines, &[LINES, TAGGED_LINES]),
-    )
-}
-
 /// What a database held, if it goes on to hold all; and the database.
 fn continued<S: Alter + Drop, L: KnownLayout, F: Source>(
     alloc: Global,
@@ -487,26 +451,6 @@ fn session<D: Disk + Drop, L: KnownLayout, F: Source>(
         }
         Err(files) => Some((Reached::Nothing, files)),
     }
-}
-
-/// The files of a new store of this layout that was filled by SQL.
-pub(super) fn filled_by_sql<D: Disk + Drop, L: KnownLayout>(
-    alloc: Global,
-    files: Files<D>,
-) -> Option<Files<D>> {
-    let (reached, files) = session::<_, L, _>(alloc, files, Work::Import, &mut TaggedFile)?;
-    (reached == Reached::All).then_some(files)
-}
-
-/// The files of a new store that was filled by its trees, with the log copied.
-pub(super) fn filled_by_trees<D: Disk + Drop>(alloc: Global, files: Files<D>) -> Option<Files<D>> {
-    let (reached, files) = session::<_, Tables, _>(
-        alloc,
-        files,
-        Work::ImportBelow,
-        &mut TaggedFile,
-    )?;
-    (reached == Reached::Copied).then_some(files)
 }
 
 /// What the next opening finds in files after a stop, if it goes on to hold all.

@@ -1,11 +1,12 @@
 //! Tests as tables: the calls of a store one after the other, each with what it has to answer.
 
-use super::deliveries::{deliveries_of, exported};
-use super::fixtures::{
-    EXTRA, FILE_BYTES, Frame, HEADER, HELD_HEADER, HELD_NODES, LINES, NODES, NOTHING, PLACED_EXTRA,
-    PLACED_HEADER, PLACED_NODES, TAGGED, TWO_NODES, WRITTEN_HEADER,
+use crate::deliveries::{deliveries_of, exported};
+use crate::fixtures::{
+    EXTRA, FILE_BYTES, Frame, HEADER, HELD_HEADER, HELD_NODES, HELD_TAGGED, LINES, NODES, NOTHING,
+    PLACED_EXTRA, PLACED_HEADER, PLACED_NODES, PLACED_WAYS, RELATION, RELATION_AT_137,
+    TAGGED_LINES, THREE_WAYS, TWO_NODES, WAY, WAY_AT_203, WRITTEN_HEADER,
 };
-use super::memory::{BodiesInMemory, NewStore, TablesInMemory, TreesInMemory};
+use crate::memory::{BodiesInMemory, NewStore, TablesInMemory, TreesInMemory};
 use osm_block::read_block;
 use osm_import::{
     Answer, ExportFault, Inlet, StreamFault, Summary, deliver, deliver_all, gaps, import_stream,
@@ -14,11 +15,10 @@ use osm_store::{Extent, Keeper, Reader, StoreFault};
 use osm_value::{Element, Form, MemberKind, Outlet, write_line};
 use std::alloc::Global;
 use std::io::Read;
-use std::process::Abort;
-use std::test::*;
+use std::test::Fail;
 
 /// A call of a store, and behind its arguments what it has to answer.
-pub(crate) enum Step {
+pub enum Step {
     /// Goes on with a new store, which holds nothing.
     NewStore,
     /// Each later statement may take so many steps; None is no limit.
@@ -63,30 +63,32 @@ pub(crate) enum Step {
 }
 
 /// The deliveries with which most tests begin.
-pub(crate) const STORE_HEADER: Step = Step::Deliver(0, HEADER, Answer::Stored(0));
+pub const STORE_HEADER: Step = Step::Deliver(0, HEADER, Answer::Stored(0));
 
-pub(crate) const STORE_NODES: Step = Step::Deliver(47, NODES, Answer::Stored(2));
+pub const STORE_NODES: Step = Step::Deliver(47, NODES, Answer::Stored(2));
 
 /// Behind the file.
-pub(crate) const STORE_EXTRA: Step = Step::Deliver(84, EXTRA, Answer::Stored(0));
-
-/// The tagged way and relation in its place.
-pub(crate) const STORE_TAGGED: Step = Step::Deliver(84, TAGGED, Answer::Stored(2));
+pub const STORE_EXTRA: Step = Step::Deliver(84, EXTRA, Answer::Stored(0));
 
 /// The same blobs, put without their frames.
-pub(crate) const PUT_HEADER: Step = Step::Put(PLACED_HEADER, NOTHING, Ok(()));
+pub const PUT_HEADER: Step = Step::Put(PLACED_HEADER, NOTHING, Ok(()));
 
-pub(crate) const PUT_NODES: Step = Step::Put(PLACED_NODES, TWO_NODES, Ok(()));
+pub const PUT_NODES: Step = Step::Put(PLACED_NODES, TWO_NODES, Ok(()));
 
-pub(crate) const PUT_EXTRA: Step = Step::Put(PLACED_EXTRA, NOTHING, Ok(()));
+pub const PUT_EXTRA: Step = Step::Put(PLACED_EXTRA, NOTHING, Ok(()));
+
+/// Header and nodes, three ways, and behind them relation 9, and way 7 over four nodes.
+pub const FIVE_BLOBS: &[Step] = &[
+    PUT_HEADER,
+    PUT_NODES,
+    Step::Put(PLACED_WAYS, THREE_WAYS, Ok(())),
+    Step::Put(RELATION_AT_137, RELATION, Ok(())),
+    Step::Put(WAY_AT_203, WAY, Ok(())),
+];
 
 impl Step {
     /// Makes the call, and says whether it is answered as it has to be.
-    pub(crate) fn is_met<K: NewStore>(
-        &self,
-        alloc: Global,
-        store: &mut K,
-    ) -> Result<bool, StoreFault> {
+    pub fn is_met<K: NewStore>(&self, alloc: Global, store: &mut K) -> Result<bool, StoreFault> {
         match *self {
             Step::NewStore => {
                 *store = K::new_store(alloc)?;
@@ -113,11 +115,7 @@ impl Step {
     }
 
     /// The same of the calls that read what is held.
-    pub(crate) fn is_read<K: Reader>(
-        &self,
-        alloc: Global,
-        store: &mut K,
-    ) -> Result<bool, StoreFault> {
+    pub fn is_read<K: Reader>(&self, alloc: Global, store: &mut K) -> Result<bool, StoreFault> {
         match *self {
             Step::Failures(count) => Ok(store.failures() == count),
             Step::Extents(extents) => Ok(store.extents(alloc)?.as_slice() == extents),
@@ -151,7 +149,7 @@ impl Step {
 }
 
 /// Puts the elements of a block where the extent says. `NotThisStore(None)` where the block or the extent is none.
-pub(crate) fn put_block<K: Keeper>(
+pub fn put_block<K: Keeper>(
     alloc: Global,
     store: &mut K,
     extent: &Extent,
@@ -168,7 +166,7 @@ pub(crate) fn put_block<K: Keeper>(
 }
 
 /// Imports what a reader gives, from 0 and at most so many blobs: the outcome, and the lines that are written.
-pub(crate) fn import<K: Keeper, R: Read + Drop>(
+pub fn import<K: Keeper, R: Read + Drop>(
     alloc: Global,
     store: &mut K,
     reader: R,
@@ -219,7 +217,7 @@ fn loads<K: Reader>(
 }
 
 /// The lines of the elements that are loaded of the blob at an offset.
-pub(crate) fn loaded_lines<K: Reader>(
+pub fn loaded_lines<K: Reader>(
     alloc: Global,
     store: &mut K,
     off: u64,
@@ -245,7 +243,7 @@ fn finds<K: Reader>(
 }
 
 /// The lines of the elements of this kind and id, each behind its blob's offset and its position.
-pub(crate) fn found_lines<K: Reader>(
+pub fn found_lines<K: Reader>(
     alloc: Global,
     store: &mut K,
     kind: MemberKind,
@@ -303,7 +301,7 @@ fn refuses<K: Reader>(
     result == Err(fault) && bytes.is_empty()
 }
 
-pub(crate) fn holds_the_file<K: Reader>(alloc: Global, store: &mut K) -> Result<bool, StoreFault> {
+pub fn holds_the_file<K: Reader>(alloc: Global, store: &mut K) -> Result<bool, StoreFault> {
     let extents = store.extents(alloc)?;
     Ok(
         extents.as_slice() == [HELD_HEADER, HELD_NODES].as_slice()
@@ -312,8 +310,17 @@ pub(crate) fn holds_the_file<K: Reader>(alloc: Global, store: &mut K) -> Result<
     )
 }
 
+/// Whether the file of three frames is held and nothing else, and an export gives its lines.
+pub fn holds_the_tagged_file<K: Reader>(alloc: Global, store: &mut K) -> Result<bool, StoreFault> {
+    let extents = store.extents(alloc)?;
+    Ok(
+        extents.as_slice() == [HELD_HEADER, HELD_NODES, HELD_TAGGED].as_slice()
+            && exports(alloc, store, Form::Lines, None, &[LINES, TAGGED_LINES]),
+    )
+}
+
 /// Whether the bytes are these pieces, one behind the other.
-pub(crate) fn are_joined(bytes: &[u8], pieces: &[&[u8]]) -> bool {
+pub fn are_joined(bytes: &[u8], pieces: &[&[u8]]) -> bool {
     let mut rest = bytes;
     for piece in pieces {
         match rest.strip_prefix(*piece) {
@@ -324,42 +331,33 @@ pub(crate) fn are_joined(bytes: &[u8], pieces: &[&[u8]]) -> bool {
     rest.is_empty()
 }
 
-/// Takes the steps in turn over a new store, which is handed back.
-pub(crate) fn followed<K: NewStore, R: Abort + Alloc<A = Global>>(
-    rt: &R,
-    layout: &str,
-    steps: &[Step],
-) -> Result<K, Fail> {
-    let alloc = rt.alloc();
+/// Takes the steps in turn over a new store, which is handed back. A step that isn't met is named by its number, from 0.
+pub fn followed<K: NewStore>(alloc: Global, layout: &str, steps: &[Step]) -> Result<K, Fail> {
     let mut store = K::new_store(alloc)?;
     for (number, step) in steps.iter().enumerate() {
         let outcome = step.is_met(alloc, &mut store);
-        assert_eq!(rt; outcome, Ok(true), "step {number} over {layout}");
+        if outcome != Ok(true) {
+            return Err(Fail::new(format_args!("step {number} over {layout}: {outcome:?}")));
+        }
     }
     Ok(store)
 }
 
-/// Takes the steps in turn over a new store of each layout. A step that isn't met is named by its number, from 0.
-pub(crate) fn over_both_layouts<R: Abort + Alloc<A = Global>>(
-    rt: &R,
-    steps: &[Step],
-) -> Result<(), Fail> {
-    followed::<BodiesInMemory, _>(rt, "bodies", steps)?;
-    followed::<TablesInMemory, _>(rt, "tables", steps)?;
+/// Takes the steps in turn over a new store of each layout.
+pub fn over_both_layouts(alloc: Global, steps: &[Step]) -> Result<(), Fail> {
+    followed::<BodiesInMemory>(alloc, "bodies", steps)?;
+    followed::<TablesInMemory>(alloc, "tables", steps)?;
     Ok(())
 }
 
 /// The same below SQL.
-fn over_trees<R: Abort + Alloc<A = Global>>(rt: &R, steps: &[Step]) -> Result<(), Fail> {
-    followed::<TreesInMemory, _>(rt, "trees", steps)?;
+fn over_trees(alloc: Global, steps: &[Step]) -> Result<(), Fail> {
+    followed::<TreesInMemory>(alloc, "trees", steps)?;
     Ok(())
 }
 
 /// Takes the steps in turn over a new store of each layout, and over one that is read and written below SQL.
-pub(crate) fn over_all_stores<R: Abort + Alloc<A = Global>>(
-    rt: &R,
-    steps: &[Step],
-) -> Result<(), Fail> {
-    over_both_layouts(rt, steps)?;
-    over_trees(rt, steps)
+pub fn over_all_stores(alloc: Global, steps: &[Step]) -> Result<(), Fail> {
+    over_both_layouts(alloc, steps)?;
+    over_trees(alloc, steps)
 }

@@ -1,15 +1,15 @@
 //! Deliveries in any order, again, and in the way of one another.
 
-use crate::tests::fixtures::{
-    CHANGED, EXTRA, FILE, HEADER, HEADER_AT_0, LINES, NODES, NODES_AT_47,
-};
-use crate::tests::steps::{
-    STORE_EXTRA, STORE_HEADER, STORE_NODES, Step, over_all_stores, over_both_layouts,
-};
 use osm_import::{Answer, Conflict, Fault, examine};
 use osm_store::StoreFault;
 use pbf_frame::Kind;
 use std::test::*;
+use store_vectors::fixtures::{
+    CHANGED, EXTRA, FILE, HEADER, HEADER_AT_0, LINES, NODES, NODES_AT_47,
+};
+use store_vectors::steps::{
+    STORE_EXTRA, STORE_HEADER, STORE_NODES, Step, over_all_stores, over_both_layouts,
+};
 
 #[test]
 fn frames_in_any_order_and_again(rt: HostRuntime) -> Result<(), Fail> {
@@ -20,7 +20,7 @@ fn frames_in_any_order_and_again(rt: HostRuntime) -> Result<(), Fail> {
         Step::Deliver(47, NODES, Answer::AlreadyHeld),
         Step::Lines(None, &[LINES]),
     ];
-    over_all_stores(&rt, STEPS)
+    over_all_stores(rt.alloc(), STEPS)
 }
 
 #[test]
@@ -32,7 +32,7 @@ fn a_frame_of_another_type(rt: HostRuntime) -> Result<(), Fail> {
         Step::Deliver(100, NODES, Answer::Stored(2)),
         Step::Lines(Some(137), &[LINES, LINES]),
     ];
-    over_all_stores(&rt, STEPS)
+    over_all_stores(rt.alloc(), STEPS)
 }
 
 #[test]
@@ -46,7 +46,7 @@ fn what_is_in_the_way(rt: HostRuntime) -> Result<(), Fail> {
         Step::Deliver(0, NODES, Answer::Bad(Fault::NoHeaderFirst)),
         Step::Lines(None, &[LINES]),
     ];
-    over_all_stores(&rt, STEPS)
+    over_all_stores(rt.alloc(), STEPS)
 }
 
 /// Each is answered, also behind a call of the store that fails, and the next deliveries go on.
@@ -60,7 +60,7 @@ fn deliveries_behind_a_fault(rt: HostRuntime) -> Result<(), Fail> {
         Step::LimitSteps(None),
         Step::DeliverAll(FILE, &[Answer::AlreadyHeld, Answer::AlreadyHeld]),
     ];
-    over_both_layouts(&rt, STEPS)
+    over_both_layouts(rt.alloc(), STEPS)
 }
 
 #[test]

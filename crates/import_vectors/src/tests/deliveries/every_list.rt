@@ -1,8 +1,5 @@
 //! Every list of up to four deliveries, against a small program that keeps the blobs that it has stored in a list.
 
-use super::{answers_to, exported};
-use crate::tests::fixtures::{CHANGED, CHANGED_LINES, EXTRA, Frame, HEADER, LINES, NODES};
-use crate::tests::memory::{BodiesInMemory, NewStore, TablesInMemory, TreesInMemory};
 use osm_block::BlockFault;
 use osm_import::{Answer, Conflict, Fault, gaps};
 use osm_store::{Extent, Reader};
@@ -11,6 +8,9 @@ use pbf_wire::{WireFault, WireFaultKind};
 use std::alloc::{AllocError, Global};
 use std::process::Abort;
 use std::test::*;
+use store_vectors::deliveries::{answers_to, exported};
+use store_vectors::fixtures::{CHANGED, CHANGED_LINES, EXTRA, Frame, HEADER, LINES, NODES};
+use store_vectors::memory::{BodiesInMemory, NewStore, TablesInMemory, TreesInMemory};
 
 /// A delivery: where its frame stands and ends, what it is answered with where nothing is held, and its lines.
 #[derive(Drop)]

@@ -1,11 +1,6 @@
 //! Copies of the blobs of one store in memory into another, between both layouts.
 
 use super::deliveries::file_store;
-use super::fixtures::{
-    CHANGED, CHANGED_LINES, HELD_EXTRA, HELD_HEADER, HELD_NODES, HELD_NODES_AT_200, LINES, NODES,
-};
-use super::memory::{BodiesInMemory, NewStore, TablesInMemory, TreesInMemory};
-use super::steps::{STORE_EXTRA, STORE_HEADER, STORE_NODES, Step, holds_the_file};
 use osm_import::{
     Answer, Conflict, CopyCounts, CopyFault, CopyStop, MigrateFault, copy_held, deliver, migrate,
 };
@@ -13,6 +8,11 @@ use osm_store::{Reader, StoreFault};
 use std::alloc::Global;
 use std::process::Abort;
 use std::test::*;
+use store_vectors::fixtures::{
+    CHANGED, CHANGED_LINES, HELD_EXTRA, HELD_HEADER, HELD_NODES, HELD_NODES_AT_200, LINES, NODES,
+};
+use store_vectors::memory::{BodiesInMemory, NewStore, TablesInMemory, TreesInMemory};
+use store_vectors::steps::{STORE_EXTRA, STORE_HEADER, STORE_NODES, Step, holds_the_file};
 
 /// A step of a test over two stores.
 enum CopyStep {

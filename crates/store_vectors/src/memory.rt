@@ -6,23 +6,21 @@ use osm_store::{
 use osm_trees::TreeStore;
 use sqlite::{Alter, Connection, MemStore};
 use std::alloc::Global;
-use std::process::Abort;
-use std::test::*;
 
 /// A store in memory that keeps each element as one block of bytes.
-pub(crate) type BodiesInMemory = BodyStore<MemStore>;
+pub type BodiesInMemory = BodyStore<MemStore>;
 
 /// One that keeps each as rows of numbers and texts.
-pub(crate) type TablesInMemory = TableStore<MemStore>;
+pub type TablesInMemory = TableStore<MemStore>;
 
 /// One of rows that is read and written below SQL.
-pub(crate) type TreesInMemory = TreeStore<MemStore>;
+pub type TreesInMemory = TreeStore<MemStore>;
 
 /// A query, and the number that it shows.
-pub(crate) type CountedRows = (&'static str, i64);
+pub type CountedRows = (&'static str, i64);
 
 /// A layout whose rows are known.
-pub(crate) trait KnownLayout: StoreLayout {
+pub trait KnownLayout: StoreLayout {
     /// The queries for the numbers of rows that elements have, by tables.
     const COUNTS: &'static [&'static str];
 
@@ -75,7 +73,7 @@ impl KnownLayout for Tables {
 }
 
 /// The nodes at 47, each as its block: node 1 at 1000, -100 and node 2 at 900, -100.
-pub(crate) const NODES_AS_BODIES: &[CountedRows] = &[
+pub const NODES_AS_BODIES: &[CountedRows] = &[
     (
         "SELECT count(*) FROM body WHERE off = 47 AND pos = 0 AND kind = 0 AND id = 1 AND data = x'0A020A00120B12090A01024201144A0101'",
         1,
@@ -87,7 +85,7 @@ pub(crate) const NODES_AS_BODIES: &[CountedRows] = &[
 ];
 
 /// The same as numbers.
-pub(crate) const NODES_AS_ROWS: &[CountedRows] = &[
+pub const NODES_AS_ROWS: &[CountedRows] = &[
     (
         "SELECT count(*) FROM element WHERE off = 47 AND pos = 0 AND kind = 0 AND id = 1 AND lat = 1000 AND lon = -100",
         1,
@@ -99,7 +97,7 @@ pub(crate) const NODES_AS_ROWS: &[CountedRows] = &[
 ];
 
 /// A store in memory, which holds nothing at first.
-pub(crate) trait NewStore: Keeper + Drop {
+pub trait NewStore: Keeper + Drop {
     fn new_store(alloc: Global) -> Result<Self, StoreFault>;
 
     /// How many steps each later statement may take; None is no limit. Below SQL there are no statements.
@@ -107,7 +105,7 @@ pub(crate) trait NewStore: Keeper + Drop {
 }
 
 /// One whose rows are asked for and changed by statements.
-pub(crate) trait NewSqlStore: NewStore + Audited {
+pub trait NewSqlStore: NewStore + Audited {
     /// The store, opened again after a statement has changed its rows.
     fn changed(self, sql: &str) -> Option<Self>;
 
@@ -151,7 +149,7 @@ impl<L: KnownLayout> NewSqlStore for BlobStore<MemStore, L> {
 }
 
 /// The store of tables, to be read and written by its trees.
-pub(crate) fn below<S: Alter + Drop>(store: TableStore<S>) -> TreeStore<S> {
+pub fn below<S: Alter + Drop>(store: TableStore<S>) -> TreeStore<S> {
     TreeStore::new(store.into_connection().into_store())
 }
 
@@ -164,7 +162,7 @@ impl NewStore for TreeStore<MemStore> {
 }
 
 /// The rows that these queries show, as text.
-pub(crate) fn rows_of<S: Alter>(
+pub fn rows_of<S: Alter>(
     alloc: Global,
     connection: &mut Connection<S>,
     queries: &[&str],
@@ -178,7 +176,7 @@ pub(crate) fn rows_of<S: Alter>(
 }
 
 /// The number that a query shows.
-pub(crate) fn number<S: Alter>(connection: &mut Connection<S>, sql: &str) -> Option<i64> {
+pub fn number<S: Alter>(connection: &mut Connection<S>, sql: &str) -> Option<i64> {
     match connection.query_row(sql, &[]) {
         Ok(row) => row.get(0).ok(),
         Err(_) => None,
@@ -186,22 +184,11 @@ pub(crate) fn number<S: Alter>(connection: &mut Connection<S>, sql: &str) -> Opt
 }
 
 /// Whether each query shows its number.
-pub(crate) fn has_rows<S: Alter>(connection: &mut Connection<S>, rows: &[CountedRows]) -> bool {
+pub fn has_rows<S: Alter>(connection: &mut Connection<S>, rows: &[CountedRows]) -> bool {
     for (sql, wanted) in rows {
         if number(connection, sql) != Some(*wanted) {
             return false;
         }
     }
     true
-}
-
-/// Expects that each query shows its number.
-pub(crate) fn expect_rows<S: Alter, R: Abort>(
-    rt: &R,
-    connection: &mut Connection<S>,
-    rows: &[CountedRows],
-) {
-    for (sql, wanted) in rows {
-        assert_eq!(rt; number(connection, sql), Some(*wanted), "{sql}");
-    }
 }

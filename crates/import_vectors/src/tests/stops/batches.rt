@@ -1,9 +1,6 @@
 //! Imports that stop in a blob whose rows fill several statements, and below SQL are made in two parts: the next opening
 //! finds the whole blob or nothing of it, and it is delivered again.
 
-use super::super::deliveries::{deliveries_of, exported};
-use super::super::fixtures::{HEADER_AT_0, HELD_HEADER};
-use super::super::memory::KnownLayout;
 use super::below::rows_by_sql;
 use super::{Outcome, Reached, STOPS, Source, Stopped, Unsynced, below, imports, sum};
 use osm_import::{Answer, deliver_all};
@@ -15,6 +12,9 @@ use sqlite::{Alter, Connection};
 use std::alloc::Global;
 use std::process::Abort;
 use std::test::*;
+use store_vectors::deliveries::{deliveries_of, exported};
+use store_vectors::fixtures::{HEADER_AT_0, HELD_HEADER};
+use store_vectors::memory::KnownLayout;
 
 /// How many nodes the blob has. By SQL the rows of 32 are written by one statement, and below SQL those of 64 are made at
 /// once.

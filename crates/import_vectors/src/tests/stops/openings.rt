@@ -1,6 +1,5 @@
 //! Openings that stop, of what an import has left that stopped: a third opening finds what the second would have found.
 
-use super::super::memory::KnownLayout;
 use super::{
     Fused, Outcome, Reached, STOPS, Stopped, TaggedFile, Unsynced, Work, after_stop, copies,
     found_after, new_files, session,
@@ -10,6 +9,7 @@ use sqlite::Files;
 use std::alloc::Global;
 use std::process::Abort;
 use std::test::*;
+use store_vectors::memory::KnownLayout;
 
 /// How many calls lie between two stops of an import.
 const IMPORT_STRIDE: u64 = 23;

@@ -1,12 +1,9 @@
 //! Reads that stop: each tells a front of what it is asked, and the next opening finds the whole file.
 
-use super::super::fixtures::{LINES, NODES, TAGGED, TAGGED_LINES, WRITTEN_HEADER};
-use super::super::memory::KnownLayout;
 use super::super::questions::{Question, answer_to};
-use super::super::steps::are_joined;
 use super::{
     Fused, Outcome, Reached, STOPS, Stopped, TaggedFile, Unsynced, Work, copies, found_after,
-    new_files, opened, session,
+    new_files, session,
 };
 use osm_store::{Bodies, Tables};
 use osm_trees::TreeStore;
@@ -15,6 +12,10 @@ use sqlite_disk::Disk;
 use std::alloc::Global;
 use std::process::Abort;
 use std::test::*;
+use store_vectors::files::opened;
+use store_vectors::fixtures::{LINES, NODES, TAGGED, TAGGED_LINES, WRITTEN_HEADER};
+use store_vectors::memory::KnownLayout;
+use store_vectors::steps::are_joined;
 
 /// The questions, and the pieces of what is told of the file of three frames.
 const QUESTIONS: &[(Question, &[&[u8]])] = &[
