@@ -3,8 +3,7 @@ use Rattle.std.proofs.Common.{◌≡◌, ◌<◌, inr, ℕ, pos, true, false, Li
 use Rattle.std.specs.Prelude.{flat_map, ◌↔◌}
 use Rattle.sqlite.specs.declared.types.Value.TheVariants.{Null, Int}
 use Rattle.sqlite.specs.Command.TheVariants.{Select}
-use Rattle.sqlite.specs.Order.{Row, column}
-use Rattle.sqlite.specs.Query.{Output}
+use Rattle.sqlite.specs.Order.{Row}
 use Rattle.sqlite.specs.Program.{overlay}
 use Rattle.sqlite.specs.State.{State}
 use Rattle.sqlite.specs.Term.{col}
@@ -34,8 +33,8 @@ use Rattle.osm_store.specs.TableRows.{element_row, element_rows, tag_row, tag_ro
 use Rattle.osm_store.proofs.AuditLemmas.AtOffset.{exactly}
 use Rattle.osm_store.proofs.LoadLemmas.BodyTexts.{compares, extent_columns, extent_names, body_shown, body_order, rows_are}
 use Rattle.osm_store.proofs.LoadLemmas.OneTable.{select}
-use Rattle.osm_store.proofs.LoadLemmas.ReadLemmas.{alone, in_order, ascending_among}
-use Rattle.osm_store.proofs.LoadLemmas.TableReads.{parts_in_order, twelve_places, five_places, six_places}
+use Rattle.osm_store.proofs.LoadLemmas.ReadLemmas.{alone, extent_output, in_order, ascending_among, body_output}
+use Rattle.osm_store.proofs.LoadLemmas.TableReads.{parts_in_order, twelve_places, five_places, six_places, element_output, tag_output, link_output}
 use Rattle.osm_store.proofs.LoadLemmas.TableTexts.{element_shown, tag_shown, link_shown, by_place, by_part, at_off, elements_are, tags_are, links_are}
 use Rattle.osm_store.proofs.MapLemmas.PartLaws.{all_parts_rise}
 use Rattle.osm_store.proofs.MapLemmas.PlacedLaws.{Entry, here, by_position}
@@ -55,9 +54,6 @@ unfolding understood everything
 extent_is Bodies = (refl, refl, (refl, refl))
 extent_is Tables = (refl, refl, (refl, refl))
 
-abbrev extent_output : Row → Output
-extent_output v = (column v 0 ∷ [], column v 0 ∷ column v 1 ∷ column v 2 ∷ column v 3 ∷ column v 4 ∷ [])
-
 extent_told : (layout : Layout) (old new : State) (rows : List Row) (extent : Extent) → old.now.schema ≡ schema_of layout → IsAnswered SELECT_EXTENT.now (Int (pos extent.off) ∷ []) old new rows
     → (rows ≡ shown_extent extent ∷ []) ↔ HasAt extent.off (shown_extent extent ∷ []) (seen_extents old.now.trees)
 extent_told layout old new rows extent schema answered =
@@ -68,9 +64,6 @@ extent_told layout old new rows extent schema answered =
 
 -- ---- the layout of bodies
 
-abbrev body_output : Row → Output
-body_output v = (column v 0 ∷ column v 1 ∷ [], column v 0 ∷ column v 1 ∷ column v 2 ∷ column v 3 ∷ column v 4 ∷ [])
-
 bodies_told : (old new : State) (rows : List Row) (off : ℕ) (es : List Element) → old.now.schema ≡ body_schema → IsAnswered SELECT_BODIES.now (Int (pos off) ∷ []) old new rows
     → (rows ≡ map body_row (placed off 0 es)) ↔ HasAt off (map body_row (placed off 0 es)) (seen_bodies old.now.trees)
 bodies_told old new rows off es schema answered =
@@ -80,15 +73,6 @@ bodies_told old new rows off es schema answered =
     (is_at off) (λ r. alone _) body_output (λ r. refl) (λ r. refl) (read.answer Null) body_row (placed off 0 es) (ascending_weaker _ _ in_order (placed off 0 es) (placed_ascend off es)) (λ x. refl)
 
 -- ---- the layout of tables
-
-abbrev element_output : Row → Output
-element_output v = (column v 0 ∷ column v 1 ∷ [], column v 0 ∷ column v 1 ∷ column v 2 ∷ column v 3 ∷ column v 4 ∷ column v 5 ∷ column v 6 ∷ column v 7 ∷ column v 8 ∷ column v 9 ∷ column v 10 ∷ column v 11 ∷ [])
-
-abbrev tag_output : Row → Output
-tag_output v = (column v 0 ∷ column v 1 ∷ column v 2 ∷ [], column v 0 ∷ column v 1 ∷ column v 2 ∷ column v 3 ∷ column v 4 ∷ [])
-
-abbrev link_output : Row → Output
-link_output v = (column v 0 ∷ column v 1 ∷ column v 2 ∷ [], column v 0 ∷ column v 1 ∷ column v 2 ∷ column v 3 ∷ column v 4 ∷ column v 5 ∷ [])
 
 module _ (old new : State) (rows : List Row) (off : ℕ) (es : List Element) (schema : old.now.schema ≡ table_schema) where
   elements_told : IsAnswered SELECT_ELEMENTS.now (Int (pos off) ∷ []) old new rows → (rows ≡ element_rows (placed off 0 es)) ↔ HasAt off (element_rows (placed off 0 es)) (seen_elements old.now.trees)

@@ -82,7 +82,7 @@ abbrev pub is : CompareOp → Value → Value → Bool
 is op a b = is_true (binary (Compare op Binary) a b)
 
 -- what a query on `blob` is sorted by, and what it shows
-abbrev extent_output : Row → Output
+abbrev pub extent_output : Row → Output
 extent_output v = (column v 0 ∷ [], column v 0 ∷ column v 1 ∷ column v 2 ∷ column v 3 ∷ column v 4 ∷ [])
 
 by_offset : (x y : Extent) → x.off < y.off → ordering_then (value_cmp (Int (pos x.off)) (Int (pos y.off))) Equal ≡ Less
@@ -154,7 +154,7 @@ ascending_among {X} P R S f (x ∷ xs) all up = (each xs all.1 up.0, ascending_a
     each [] p r = tt
     each (y ∷ ys) p r = (f x y all.0 p.0 r.0, each ys p.1 r.1)
 
-abbrev body_output : Row → Output
+abbrev pub body_output : Row → Output
 body_output v = (column v 0 ∷ column v 1 ∷ [], column v 0 ∷ column v 1 ∷ column v 2 ∷ column v 3 ∷ column v 4 ∷ [])
 
 module _ (old new : State) (rows : List Row) (held : List Placed) (h : HasElements old.now held) where

@@ -61,13 +61,13 @@ parts_in_order x y (inr (off, inr (position, low))) =
     ap₂ (λ o p. ordering_then o (ordering_then p (ordering_then (value_cmp (Int (pos x.number)) (Int (pos y.number))) Equal))) (numbers_tied x.off y.off off) (numbers_tied x.position y.position position)
     ∙ ap (λ o. ordering_then Equal (ordering_then Equal (ordering_then o Equal))) (numbers_below x.number y.number low)
 
-abbrev element_output : Row → Output
+abbrev pub element_output : Row → Output
 element_output v = (column v 0 ∷ column v 1 ∷ [], column v 0 ∷ column v 1 ∷ column v 2 ∷ column v 3 ∷ column v 4 ∷ column v 5 ∷ column v 6 ∷ column v 7 ∷ column v 8 ∷ column v 9 ∷ column v 10 ∷ column v 11 ∷ [])
 
-abbrev tag_output : Row → Output
+abbrev pub tag_output : Row → Output
 tag_output v = (column v 0 ∷ column v 1 ∷ column v 2 ∷ [], column v 0 ∷ column v 1 ∷ column v 2 ∷ column v 3 ∷ column v 4 ∷ [])
 
-abbrev link_output : Row → Output
+abbrev pub link_output : Row → Output
 link_output v = (column v 0 ∷ column v 1 ∷ column v 2 ∷ [], column v 0 ∷ column v 1 ∷ column v 2 ∷ column v 3 ∷ column v 4 ∷ column v 5 ∷ [])
 
 module _ (old new : State) (rows : List Row) (held : List Placed) (h : HasTables old.now held) where

@@ -58,40 +58,16 @@ returns-clause-held g c clean held holds =
     )
 
 pub returns-clause-asks : goal.returns-clause-asks
-returns-clause-asks g c =
-    let old = state g.S.Store c.args.connection.now in
-    let one = state g.S.Store c.answer.new.connection in
-    let two = state g.S.Store c.answer-2.new.connection in
-    let three = state g.S.Store c.answer-3.new.connection in
-    asks_then old two three (asks_then old one two c.answer.ensures.asks c.answer-2.ensures.asks) c.answer-3.ensures.asks
+returns-clause-asks g c = asks_then _ _ _ (asks_then _ _ _ c.answer.ensures.asks c.answer-2.ensures.asks) c.answer-3.ensures.asks
 
 pub returns-in_err-tags-clause-asks : goal.returns-in_err-tags-clause-asks
-returns-in_err-tags-clause-asks g c =
-    let old = state g.S.Store c.args.connection.now in
-    let one = state g.S.Store c.answer.new.connection in
-    let two = state g.S.Store c.answer-2.new.connection in
-    asks_then old one two c.answer.ensures.asks c.answer-2.ensures.asks
+returns-in_err-tags-clause-asks g c = asks_then _ _ _ c.answer.ensures.asks c.answer-2.ensures.asks
 
 pub returns-in_err-links-clause-asks : goal.returns-in_err-links-clause-asks
-returns-in_err-links-clause-asks g c =
-    let old = state g.S.Store c.args.connection.now in
-    let one = state g.S.Store c.answer.new.connection in
-    let two = state g.S.Store c.answer-2.new.connection in
-    let three = state g.S.Store c.answer-3.new.connection in
-    asks_then old two three (asks_then old one two c.answer.ensures.asks c.answer-2.ensures.asks) c.answer-3.ensures.asks
+returns-in_err-links-clause-asks g c = asks_then _ _ _ (asks_then _ _ _ c.answer.ensures.asks c.answer-2.ensures.asks) c.answer-3.ensures.asks
 
 pub returns-in_err-all-clause-asks : goal.returns-in_err-all-clause-asks
-returns-in_err-all-clause-asks g c =
-    let old = state g.S.Store c.args.connection.now in
-    let one = state g.S.Store c.answer.new.connection in
-    let two = state g.S.Store c.answer-2.new.connection in
-    let three = state g.S.Store c.answer-3.new.connection in
-    asks_then old two three (asks_then old one two c.answer.ensures.asks c.answer-2.ensures.asks) c.answer-3.ensures.asks
+returns-in_err-all-clause-asks g c = asks_then _ _ _ (asks_then _ _ _ c.answer.ensures.asks c.answer-2.ensures.asks) c.answer-3.ensures.asks
 
 pub returns-in_err-all-2-clause-asks : goal.returns-in_err-all-2-clause-asks
-returns-in_err-all-2-clause-asks g c =
-    let old = state g.S.Store c.args.connection.now in
-    let one = state g.S.Store c.answer.new.connection in
-    let two = state g.S.Store c.answer-2.new.connection in
-    let three = state g.S.Store c.answer-3.new.connection in
-    asks_then old two three (asks_then old one two c.answer.ensures.asks c.answer-2.ensures.asks) c.answer-3.ensures.asks
+returns-in_err-all-2-clause-asks g c = asks_then _ _ _ (asks_then _ _ _ c.answer.ensures.asks c.answer-2.ensures.asks) c.answer-3.ensures.asks

@@ -25,8 +25,7 @@ unfolding everything
 answer-requires g c = refl
 
 pub returns-clause-asks : goal.returns-clause-asks
-returns-clause-asks g c =
-    asks_then (state g.S.Store c.args.connection.now) (state g.S.Store c.answer.new.connection) (state g.S.Store c.all_parts.new.connection) c.answer.ensures.asks c.all_parts.ensures.asks
+returns-clause-asks g c = asks_then _ _ _ c.answer.ensures.asks c.all_parts.ensures.asks
 
 pub returns-clause-held : goal.returns-clause-held
 returns-clause-held g c clean held holds =
@@ -67,5 +66,4 @@ returns-in_err-tags-clause-held g c clean held holds =
     rw (p.1, p.2) (c.in_err-tags.ensures.held clean held found still (c.deref.ensures.value ∙ read) (all-filter _ (is_of c.args.kind c.args.id) (placed_in held) (all_alone held)))
 
 pub returns-in_err-tags-clause-asks : goal.returns-in_err-tags-clause-asks
-returns-in_err-tags-clause-asks g c =
-    asks_then (state g.S.Store c.args.connection.now) (state g.S.Store c.answer.new.connection) (state g.S.Store c.all_parts.new.connection) c.answer.ensures.asks c.all_parts.ensures.asks
+returns-in_err-tags-clause-asks g c = asks_then _ _ _ c.answer.ensures.asks c.all_parts.ensures.asks

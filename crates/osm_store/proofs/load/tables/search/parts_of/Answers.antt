@@ -45,13 +45,10 @@ returns-clause-held g c clean held p holds is alone =
     (c.in_ok-all.ensures ∙ tags ∙ ap (map tag_row) alone.tags, c.in_ok-all-2.ensures ∙ links ∙ ap (map link_row) alone.links, second.is_open)
 
 pub returns-clause-asks : goal.returns-clause-asks
-returns-clause-asks g c =
-    asks_then (state g.S.Store c.args.connection.now) (state g.S.Store c.answer.new.connection) (state g.S.Store c.answer-2.new.connection) c.answer.ensures.asks c.answer-2.ensures.asks
+returns-clause-asks g c = asks_then _ _ _ c.answer.ensures.asks c.answer-2.ensures.asks
 
 pub returns-in_err-all-clause-asks : goal.returns-in_err-all-clause-asks
-returns-in_err-all-clause-asks g c =
-    asks_then (state g.S.Store c.args.connection.now) (state g.S.Store c.answer.new.connection) (state g.S.Store c.answer-2.new.connection) c.answer.ensures.asks c.answer-2.ensures.asks
+returns-in_err-all-clause-asks g c = asks_then _ _ _ c.answer.ensures.asks c.answer-2.ensures.asks
 
 pub returns-in_err-all-2-clause-asks : goal.returns-in_err-all-2-clause-asks
-returns-in_err-all-2-clause-asks g c =
-    asks_then (state g.S.Store c.args.connection.now) (state g.S.Store c.answer.new.connection) (state g.S.Store c.answer-2.new.connection) c.answer.ensures.asks c.answer-2.ensures.asks
+returns-in_err-all-2-clause-asks g c = asks_then _ _ _ c.answer.ensures.asks c.answer-2.ensures.asks
