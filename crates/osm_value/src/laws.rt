@@ -9,17 +9,7 @@ use crate::element::Element;
 pub fn element_in_range(element: &Element)
     ensures { IsElement element.now }
 {
-    match element {
-        Element::Node(node) => {
-            let _ = node.id();
-        }
-        Element::Way(way) => {
-            let _ = way.id();
-        }
-        Element::Relation(relation) => {
-            let _ = relation.id();
-        }
-    }
+    let _ = element.id();
 }
 
 /// Each of some elements is inside its ranges.

@@ -11,7 +11,7 @@ ghost use Rattle.std.specs.Prelude.{◌≡◌, ℕ, ◌+◌, ◌<◌, ◌≤◌,
 ghost use Rattle.std.specs.Io.KnownBytes.{Appends};
 ghost use Rattle.std.specs.Fmt.{signed_decimal};
 ghost use Rattle.osm_value.specs.declared.element.Element.TheVariants as elements;
-ghost use Rattle.osm_value.specs.Sink.{AppendsFront, Wrote, Writes};
+ghost use Rattle.osm_value.specs.Sink.{AppendsFront, Wrote, Writes, WritesEach};
 ghost use Rattle.osm_value.specs.Line.{commas, comma_before, tag_text, line, tail_text, info_texts, number_info, user_info, visible_digit, visible_info, letter_of, member_text};
 
 use crate::element::{Element, Info, Member, MemberKind, Node, Relation, Way};
@@ -66,7 +66,7 @@ fn put_way<S: Sink>(sink: &mut S, way: &Way)
     put(sink, b"w ");
     put_number(sink, way.id());
     put(sink, b" (");
-    put_refs(sink, way.refs());
+    put_joined(sink, way.refs(), put_ref);
     put(sink, b")");
     put_tail(sink, way.info(), way.tags());
 }
@@ -77,7 +77,7 @@ fn put_relation<S: Sink>(sink: &mut S, relation: &Relation)
     put(sink, b"r ");
     put_number(sink, relation.id());
     put(sink, b" (");
-    put_members(sink, relation.members());
+    put_joined(sink, relation.members(), put_member);
     put(sink, b")");
     put_tail(sink, relation.info(), relation.tags());
 }
@@ -89,7 +89,7 @@ fn put_tail<S: Sink>(sink: &mut S, info: &Info, tags: &[(&str, &str)])
     put(sink, b" [");
     put_info(sink, info);
     put(sink, b"] {");
-    put_tags(sink, tags);
+    put_joined(sink, tags, put_tag);
     put(sink, b"}\n");
 }
 
@@ -103,24 +103,22 @@ fn put_comma<S: Sink>(sink: &mut S, at: usize)
     put(sink, b",");
 }
 
-/// Writes the references of a way, joined by commas.
-fn put_refs<S: Sink>(sink: &mut S, refs: &[i64])
-    ensures { Writes (S.written sink.old) (S.has_failed sink.old) (S.written sink.new) (S.has_failed sink.new) (commas (map signed_decimal refs.now)) }
+/// Writes the items, joined by commas.
+fn put_joined<S: Sink, T, F: Fn(&mut S, &T)>(sink: &mut S, items: &[T], put_item: F)
+    requires { F.IsAlwaysCallable put_item }
+    ensures { (text : T → List ℕ) → WritesEach S.written S.has_failed F.Fn put_item text
+        → Writes (S.written sink.old) (S.has_failed sink.old) (S.written sink.new) (S.has_failed sink.new) (commas (map text items.now)) }
 {
-    for (at, id) in refs.iter().enumerate() {
+    for (at, item) in items.iter().enumerate() {
         put_comma(sink, at);
-        put_number(sink, *id);
+        put_item(sink, item);
     }
 }
 
-/// Writes the members of a relation, joined by commas.
-fn put_members<S: Sink>(sink: &mut S, members: &[Member])
-    ensures { Writes (S.written sink.old) (S.has_failed sink.old) (S.written sink.new) (S.has_failed sink.new) (commas (map member_text members.now)) }
+fn put_ref<S: Sink>(sink: &mut S, id: &i64)
+    ensures { Writes (S.written sink.old) (S.has_failed sink.old) (S.written sink.new) (S.has_failed sink.new) (signed_decimal id.now) }
 {
-    for (at, member) in members.iter().enumerate() {
-        put_comma(sink, at);
-        put_member(sink, member);
-    }
+    put_number(sink, *id);
 }
 
 fn put_member<S: Sink>(sink: &mut S, member: &Member)
@@ -142,22 +140,12 @@ fn letter_of(kind: MemberKind) -> u8
     }
 }
 
-/// Writes the tags, joined by commas.
-fn put_tags<S: Sink>(sink: &mut S, tags: &[(&str, &str)])
-    ensures { Writes (S.written sink.old) (S.has_failed sink.old) (S.written sink.new) (S.has_failed sink.new) (commas (map tag_text (map (λ t. (t.0.now, t.1.now)) tags.now))) }
+fn put_tag<S: Sink>(sink: &mut S, tag: &(&str, &str))
+    ensures { Writes (S.written sink.old) (S.has_failed sink.old) (S.written sink.new) (S.has_failed sink.new) (tag_text (tag.now.0.now, tag.now.1.now)) }
 {
-    for (at, tag) in tags.iter().enumerate() {
-        put_comma(sink, at);
-        put_tag(sink, tag.0, tag.1);
-    }
-}
-
-fn put_tag<S: Sink>(sink: &mut S, key: &str, value: &str)
-    ensures { Writes (S.written sink.old) (S.has_failed sink.old) (S.written sink.new) (S.has_failed sink.new) (tag_text (key.now, value.now)) }
-{
-    put_escaped(sink, key);
+    put_escaped(sink, tag.0);
     put(sink, b"=");
-    put_escaped(sink, value);
+    put_escaped(sink, tag.1);
 }
 
 /// Writes what is there of the info, joined by commas.

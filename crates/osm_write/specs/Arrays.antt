@@ -5,9 +5,6 @@ use Rattle.std.specs.Fn.{Shared}
 use Rattle.std.specs.List.{AllByRecursion}
 use Rattle.osm_value.specs.Ranges.{IsWide}
 
-abbrev pub AllWide : List ℤ → Type 0
-AllWide zs = AllByRecursion IsWide zs
-
 abbrev pub IsWideOrNone : Option ℤ → Type 0
 IsWideOrNone None = Unit {0}
 IsWideOrNone (Some z) = IsWide z

@@ -1,9 +1,0 @@
-use Rattle.std.proofs.Common.{ℕ, List, ◌++◌, Option, take, map}
-use Rattle.osm_value.specs.Sink.{Wrote}
-use Rattle.osm_value.specs.Line.{commas, tag_text}
-use Rattle.osm_value.proofs.line.put_tags.Given as goal
-
--- written up to the place
-abbrev pub invariant-loop-at : goal.invariant-loop-at
-invariant-loop-at g l = (start : Option (List ℕ)) (before : List ℕ) → Wrote start before (g.S.Sink.written l.fn.sink) (g.S.Sink.has_failed l.fn.sink)
-    → Wrote start (before ++ commas (map (λ t. tag_text (t.0.now, t.1.now)) (take l.at l.tags))) (g.S.Sink.written l.sink) (g.S.Sink.has_failed l.sink)
