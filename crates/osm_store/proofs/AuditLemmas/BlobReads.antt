@@ -1,5 +1,5 @@
 -- What the queries for the rows of one blob say of the tables, whatever rows these have.
-use Rattle.std.proofs.Common.{◌≡◌, ◌<◌, inr, ℕ, pos, true, false, List, [], ◌∷◌, map, refl, sym, ◌∙◌}
+use Rattle.std.proofs.Common.{◌≡◌, ◌<◌, inr, ℕ, pos, true, false, List, [], ◌∷◌, refl, sym, ◌∙◌}
 use Rattle.std.specs.Prelude.{flat_map, ◌↔◌}
 use Rattle.sqlite.specs.declared.types.Value.TheVariants.{Null, Int}
 use Rattle.sqlite.specs.Command.TheVariants.{Select}
@@ -15,7 +15,7 @@ use Rattle.sqlite_trees.specs.Tree.{IsAscending}
 use Rattle.sqlite_trees.proofs.ListLemmas.{ascending_weaker}
 use Rattle.osm_value.specs.declared.element.Element.{Element}
 use Rattle.osm_value.specs.Elements.{tags_of_element}
-use Rattle.osm_store.specs.Audit.{is_at, HasAt, seen_extents, seen_bodies, seen_elements, seen_tags, seen_links}
+use Rattle.osm_store.specs.Audit.{is_at, HasAt}
 use Rattle.osm_store.specs.declared.audit.table.AuditedTable.{AuditedTable}
 use Rattle.osm_store.specs.declared.audit.table.AuditedTable.TheVariants as table
 use Rattle.osm_store.specs.AuditedTables.{HasTable, rows_in, seen_in, select_statement}
@@ -29,7 +29,7 @@ use Rattle.osm_store.specs.Rows.{Placed, IsBefore, placed, body_row, extent_colu
 use Rattle.osm_store.specs.Schema.Bodies.{body_schema}
 use Rattle.osm_store.specs.Schema.Layouts.{schema_of}
 use Rattle.osm_store.specs.Schema.Tables.{table_schema}
-use Rattle.osm_store.specs.TableRows.{element_row, element_rows, tag_row, tag_rows, tags_at, link_row, link_rows, links_at, links_of}
+use Rattle.osm_store.specs.TableRows.{element_row, tag_row, tags_at, link_row, links_at, links_of}
 use Rattle.osm_store.proofs.AuditLemmas.AtOffset.{exactly}
 use Rattle.osm_store.proofs.LoadLemmas.BodyTexts.{compares, extent_columns, extent_names, body_shown, body_order, rows_are}
 use Rattle.osm_store.proofs.LoadLemmas.OneTable.{select}
@@ -47,58 +47,12 @@ placed_ascend off es =
     let entry : Entry = (off, record { fin = 0; digest = []; kind = Other; elements = es }) in
     ascending_among (λ (p : Placed). p.0 ≡ off) (λ (a b : Placed). a.1 < b.1) IsBefore (λ a b at too low. inr (at ∙ sym too, low)) (placed off 0 es) (here entry) (by_position entry)
 
--- ---- the table `blob`
+-- what the query on `blob` means, which both layouts have
 
 extent_is : (layout : Layout) → (command_of (understood (schema_of layout) SELECT_EXTENT.now) ≡ Select (record { lets = []; body = select 1 (compares Eq (col 1 0) (col 0 0) ∷ []) extent_columns (col 1 0 ∷ []) }) extent_names) × (reads_listing (schema_of layout) SELECT_EXTENT.now ≡ false) × IsPlain (understood (schema_of layout) SELECT_EXTENT.now)
 unfolding understood everything
 extent_is Bodies = (refl, refl, (refl, refl))
 extent_is Tables = (refl, refl, (refl, refl))
-
-extent_told : (layout : Layout) (old new : State) (rows : List Row) (extent : Extent) → old.now.schema ≡ schema_of layout → IsAnswered SELECT_EXTENT.now (Int (pos extent.off) ∷ []) old new rows
-    → (rows ≡ shown_extent extent ∷ []) ↔ HasAt extent.off (shown_extent extent ∷ []) (seen_extents old.now.trees)
-extent_told layout old new rows extent schema answered =
-    let params = Int (pos extent.off) ∷ [] in
-    let read = reads_as SELECT_EXTENT.now params old new (schema_of layout) schema _ (extent_is layout).0 (extent_is layout).2 (extent_is layout).1 rows answered.shown in
-    exactly 1 (compares Eq (col 1 0) (col 0 0) ∷ []) extent_columns (col 1 0 ∷ []) (overlay old.now.trees []) params rows (0 ∷ 2 ∷ 3 ∷ 4 ∷ 5 ∷ [])
-    (is_at extent.off) (λ r. alone _) extent_output (λ r. refl) (λ r. refl) (read.answer Null) shown_extent (extent ∷ []) (tt, tt) (λ x. refl)
-
--- ---- the layout of bodies
-
-bodies_told : (old new : State) (rows : List Row) (off : ℕ) (es : List Element) → old.now.schema ≡ body_schema → IsAnswered SELECT_BODIES.now (Int (pos off) ∷ []) old new rows
-    → (rows ≡ map body_row (placed off 0 es)) ↔ HasAt off (map body_row (placed off 0 es)) (seen_bodies old.now.trees)
-bodies_told old new rows off es schema answered =
-    let params = Int (pos off) ∷ [] in
-    let read = reads_as SELECT_BODIES.now params old new body_schema schema _ rows_are.0 rows_are.2 rows_are.1 rows answered.shown in
-    exactly 2 (compares Eq (col 1 1) (col 0 0) ∷ []) body_shown body_order (overlay old.now.trees []) params rows (1 ∷ 2 ∷ 3 ∷ 4 ∷ 5 ∷ [])
-    (is_at off) (λ r. alone _) body_output (λ r. refl) (λ r. refl) (read.answer Null) body_row (placed off 0 es) (ascending_weaker _ _ in_order (placed off 0 es) (placed_ascend off es)) (λ x. refl)
-
--- ---- the layout of tables
-
-module _ (old new : State) (rows : List Row) (off : ℕ) (es : List Element) (schema : old.now.schema ≡ table_schema) where
-  elements_told : IsAnswered SELECT_ELEMENTS.now (Int (pos off) ∷ []) old new rows → (rows ≡ element_rows (placed off 0 es)) ↔ HasAt off (element_rows (placed off 0 es)) (seen_elements old.now.trees)
-  elements_told answered =
-      let params = Int (pos off) ∷ [] in
-      let read = reads_as SELECT_ELEMENTS.now params old new table_schema schema _ elements_are.0 elements_are.2 elements_are.1 rows answered.shown in
-      exactly 2 at_off element_shown by_place (overlay old.now.trees []) params rows twelve_places
-      (is_at off) (λ r. alone _) element_output (λ r. refl) (λ r. refl) (read.answer Null) element_row (placed off 0 es) (ascending_weaker _ _ in_order (placed off 0 es) (placed_ascend off es)) (λ x. refl)
-
-  tags_told : IsAnswered SELECT_TAGS.now (Int (pos off) ∷ []) old new rows → (rows ≡ tag_rows (placed off 0 es)) ↔ HasAt off (tag_rows (placed off 0 es)) (seen_tags old.now.trees)
-  tags_told answered =
-      let params = Int (pos off) ∷ [] in
-      let read = reads_as SELECT_TAGS.now params old new table_schema schema _ tags_are.0 tags_are.2 tags_are.1 rows answered.shown in
-      exactly 4 at_off tag_shown by_part (overlay old.now.trees []) params rows five_places
-      (is_at off) (λ r. alone _) tag_output (λ r. refl) (λ r. refl) (read.answer Null) tag_row (flat_map tags_at (placed off 0 es))
-      (ascending_weaker _ _ parts_in_order _ (all_parts_rise (λ (p : Placed). tags_of_element p.2) (placed off 0 es) (placed_ascend off es))) (λ x. refl)
-
-  links_told : IsAnswered SELECT_LINKS.now (Int (pos off) ∷ []) old new rows → (rows ≡ link_rows (placed off 0 es)) ↔ HasAt off (link_rows (placed off 0 es)) (seen_links old.now.trees)
-  links_told answered =
-      let params = Int (pos off) ∷ [] in
-      let read = reads_as SELECT_LINKS.now params old new table_schema schema _ links_are.0 links_are.2 links_are.1 rows answered.shown in
-      exactly 6 at_off link_shown by_part (overlay old.now.trees []) params rows six_places
-      (is_at off) (λ r. alone _) link_output (λ r. refl) (λ r. refl) (read.answer Null) link_row (flat_map links_at (placed off 0 es))
-      (ascending_weaker _ _ parts_in_order _ (all_parts_rise (λ (p : Placed). links_of p.2) (placed off 0 es) (placed_ascend off es))) (λ x. refl)
-
--- ---- any of them
 
 pub selects_rows : (table : AuditedTable) → selects (select_statement table) ≡ true
 unfolding everything
@@ -108,10 +62,33 @@ selects_rows table.Elements = refl
 selects_rows table.Tags = refl
 selects_rows table.Links = refl
 
+-- the answer is the rows of the blob where these are at its offset, and no others
 pub rows_told : (table : AuditedTable) (old new : State) (rows : List Row) (extent : Extent) (es : List Element) → HasTable table old.now.schema → IsAnswered (select_statement table) (Int (pos extent.off) ∷ []) old new rows
     → (rows ≡ rows_in table extent es) ↔ HasAt extent.off (rows_in table extent es) (seen_in table old.now.trees)
-rows_told table.Blobs old new rows extent es (layout, schema) answered = extent_told layout old new rows extent schema answered
-rows_told table.Bodies old new rows extent es schema answered = bodies_told old new rows extent.off es schema answered
-rows_told table.Elements old new rows extent es schema answered = elements_told old new rows extent.off es schema answered
-rows_told table.Tags old new rows extent es schema answered = tags_told old new rows extent.off es schema answered
-rows_told table.Links old new rows extent es schema answered = links_told old new rows extent.off es schema answered
+rows_told table.Blobs old new rows extent es (layout, schema) answered =
+    let params = Int (pos extent.off) ∷ [] in
+    let read = reads_as SELECT_EXTENT.now params old new (schema_of layout) schema _ (extent_is layout).0 (extent_is layout).2 (extent_is layout).1 rows answered.shown in
+    exactly 1 (compares Eq (col 1 0) (col 0 0) ∷ []) extent_columns (col 1 0 ∷ []) (overlay old.now.trees []) params rows (0 ∷ 2 ∷ 3 ∷ 4 ∷ 5 ∷ [])
+    (is_at extent.off) (λ r. alone _) extent_output (λ r. refl) (λ r. refl) (read.answer Null) shown_extent (extent ∷ []) (tt, tt) (λ x. refl)
+rows_told table.Bodies old new rows extent es schema answered =
+    let params = Int (pos extent.off) ∷ [] in
+    let read = reads_as SELECT_BODIES.now params old new body_schema schema _ rows_are.0 rows_are.2 rows_are.1 rows answered.shown in
+    exactly 2 (compares Eq (col 1 1) (col 0 0) ∷ []) body_shown body_order (overlay old.now.trees []) params rows (1 ∷ 2 ∷ 3 ∷ 4 ∷ 5 ∷ [])
+    (is_at extent.off) (λ r. alone _) body_output (λ r. refl) (λ r. refl) (read.answer Null) body_row (placed extent.off 0 es) (ascending_weaker _ _ in_order (placed extent.off 0 es) (placed_ascend extent.off es)) (λ x. refl)
+rows_told table.Elements old new rows extent es schema answered =
+    let params = Int (pos extent.off) ∷ [] in
+    let read = reads_as SELECT_ELEMENTS.now params old new table_schema schema _ elements_are.0 elements_are.2 elements_are.1 rows answered.shown in
+    exactly 2 at_off element_shown by_place (overlay old.now.trees []) params rows twelve_places
+    (is_at extent.off) (λ r. alone _) element_output (λ r. refl) (λ r. refl) (read.answer Null) element_row (placed extent.off 0 es) (ascending_weaker _ _ in_order (placed extent.off 0 es) (placed_ascend extent.off es)) (λ x. refl)
+rows_told table.Tags old new rows extent es schema answered =
+    let params = Int (pos extent.off) ∷ [] in
+    let read = reads_as SELECT_TAGS.now params old new table_schema schema _ tags_are.0 tags_are.2 tags_are.1 rows answered.shown in
+    exactly 4 at_off tag_shown by_part (overlay old.now.trees []) params rows five_places
+    (is_at extent.off) (λ r. alone _) tag_output (λ r. refl) (λ r. refl) (read.answer Null) tag_row (flat_map tags_at (placed extent.off 0 es))
+    (ascending_weaker _ _ parts_in_order _ (all_parts_rise (λ (p : Placed). tags_of_element p.2) (placed extent.off 0 es) (placed_ascend extent.off es))) (λ x. refl)
+rows_told table.Links old new rows extent es schema answered =
+    let params = Int (pos extent.off) ∷ [] in
+    let read = reads_as SELECT_LINKS.now params old new table_schema schema _ links_are.0 links_are.2 links_are.1 rows answered.shown in
+    exactly 6 at_off link_shown by_part (overlay old.now.trees []) params rows six_places
+    (is_at extent.off) (λ r. alone _) link_output (λ r. refl) (λ r. refl) (read.answer Null) link_row (flat_map links_at (placed extent.off 0 es))
+    (ascending_weaker _ _ parts_in_order _ (all_parts_rise (λ (p : Placed). links_of p.2) (placed extent.off 0 es) (placed_ascend extent.off es))) (λ x. refl)

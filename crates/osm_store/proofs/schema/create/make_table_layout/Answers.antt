@@ -14,22 +14,13 @@ pub make-requires-4 : goal.make-requires-4
 make-requires-4 g c clean = (c.in_ok-make-3.ensures.made clean).becomes.over
 
 pub returns-in_err-make-2-clause-goes_on : goal.returns-in_err-make-2-clause-goes_on
-returns-in_err-make-2-clause-goes_on g c = goes_on_then g.S.Store c.args.transaction.now.conn c.make.new.transaction.conn c.make-2.new.transaction.conn c.make.ensures.goes_on c.make-2.ensures.goes_on
+returns-in_err-make-2-clause-goes_on g c = goes_on_then g.S.Store _ _ _ c.make.ensures.goes_on c.make-2.ensures.goes_on
 
 pub returns-in_err-make-3-clause-goes_on : goal.returns-in_err-make-3-clause-goes_on
-returns-in_err-make-3-clause-goes_on g c =
-    let one = c.make.new.transaction.conn in
-    let two = c.make-2.new.transaction.conn in
-    goes_on_then g.S.Store c.args.transaction.now.conn two c.make-3.new.transaction.conn (goes_on_then g.S.Store c.args.transaction.now.conn one two c.make.ensures.goes_on c.make-2.ensures.goes_on) c.make-3.ensures.goes_on
+returns-in_err-make-3-clause-goes_on g c = goes_on_then g.S.Store _ _ _ (goes_on_then g.S.Store _ _ _ c.make.ensures.goes_on c.make-2.ensures.goes_on) c.make-3.ensures.goes_on
 
 pub returns-clause-goes_on : goal.returns-clause-goes_on
-returns-clause-goes_on g c =
-    let one = c.make.new.transaction.conn in
-    let two = c.make-2.new.transaction.conn in
-    let three = c.make-3.new.transaction.conn in
-    let after_two = goes_on_then g.S.Store c.args.transaction.now.conn one two c.make.ensures.goes_on c.make-2.ensures.goes_on in
-    let after_three = goes_on_then g.S.Store c.args.transaction.now.conn two three after_two c.make-3.ensures.goes_on in
-    goes_on_then g.S.Store c.args.transaction.now.conn three c.make-4.new.transaction.conn after_three c.make-4.ensures.goes_on
+returns-clause-goes_on g c = goes_on_then g.S.Store _ _ _ (goes_on_then g.S.Store _ _ _ (goes_on_then g.S.Store _ _ _ c.make.ensures.goes_on c.make-2.ensures.goes_on) c.make-3.ensures.goes_on) c.make-4.ensures.goes_on
 
 pub returns-clause-made : goal.returns-clause-made
 returns-clause-made g c clean_new =
