@@ -1,15 +1,13 @@
 //! Primitive blocks.
 
-ghost use Rattle.std.specs.Prelude.{◌≡◌, map, pos, OnOk, IfOk, ⊤, ◌≤ℤ◌, ◌&&◌, int_le, IsTrue, option_map, unwrap_or};
-ghost use Rattle.std.specs.List.{flat_map, AllByRecursion};
-ghost use Rattle.pbf_wire.specs.Readings.{fields, wire};
-ghost use Rattle.pbf_wire.specs.Readings.{each, last, int64};
+ghost use Rattle.std.specs.Prelude.{◌≡◌, pos, IfOk, ⊤, ◌≤ℤ◌, ◌&&◌, int_le, IsTrue, option_map, unwrap_or};
+ghost use Rattle.pbf_wire.specs.Readings.{fields};
+ghost use Rattle.pbf_wire.specs.Readings.{last, int64};
 ghost use Rattle.osm_block.specs.Message.{context};
 ghost use Rattle.osm_block.specs.Block.{Block};
-ghost use Rattle.osm_value.specs.Ranges.{IsText};
 ghost use Rattle.osm_block.specs.Head.{HeadRead};
 ghost use Rattle.osm_block.specs.Fields.{context_of};
-ghost use Rattle.osm_block.specs.Phases.{Gives, first, fault, text_phases, head_phases};
+ghost use Rattle.osm_block.specs.Phases.{Gives, first, fault, head_phases};
 
 use crate::fault::{BlockError, BlockFault};
 use crate::fields::{
@@ -22,7 +20,7 @@ use crate::payloads::{check_all, each, each_of_all, last_number, wire_of};
 use crate::scale::Scale;
 use crate::texts::read_texts;
 use osm_value::Element;
-use std::alloc::{AllocError, Global};
+use std::alloc::Global;
 
 /// What the block says for all its elements.
 fn read_scale<'a>(alloc: Global, bytes: &'a [u8]) -> Result<Scale<'a>, BlockError>
