@@ -1,15 +1,13 @@
 //! Primitive blocks.
 
-ghost use Rattle.std.specs.Prelude.{◌≡◌, map, pos, OnOk, IfOk, ⊤, ◌≤ℤ◌, ◌&&◌, int_le, IsTrue, option_map, unwrap_or};
-ghost use Rattle.std.specs.List.{flat_map, AllByRecursion};
-ghost use Rattle.pbf_wire.specs.Readings.{fields, wire};
-ghost use Rattle.pbf_wire.specs.Readings.{each, last, int64};
+ghost use Rattle.std.specs.Prelude.{◌≡◌, pos, IfOk, ⊤, ◌≤ℤ◌, ◌&&◌, int_le, IsTrue, option_map, unwrap_or};
+ghost use Rattle.pbf_wire.specs.Readings.{fields};
+ghost use Rattle.pbf_wire.specs.Readings.{last, int64};
 ghost use Rattle.osm_block.specs.Message.{context};
 ghost use Rattle.osm_block.specs.Block.{Block};
-ghost use Rattle.osm_value.specs.Ranges.{IsText};
 ghost use Rattle.osm_block.specs.Head.{HeadRead};
 ghost use Rattle.osm_block.specs.Fields.{context_of};
-ghost use Rattle.osm_block.specs.Phases.{Gives, first, fault, text_phases, head_phases};
+ghost use Rattle.osm_block.specs.Phases.{Gives, first, fault, head_phases};
 
 use crate::fault::{BlockError, BlockFault};
 use crate::fields::{
@@ -18,11 +16,11 @@ use crate::fields::{
 };
 use crate::group::{GroupPayloads, Scratch, read_groups, some_there};
 use crate::info::{optional_i32, optional_i64};
-use crate::payloads::{check_all, each, each_of_all, last_number, read_payloads, wire_of};
+use crate::payloads::{check_all, each, each_of_all, last_number, wire_of};
 use crate::scale::Scale;
 use crate::texts::read_texts;
 use osm_value::Element;
-use std::alloc::{AllocError, Global};
+use std::alloc::Global;
 
 /// What the block says for all its elements.
 fn read_scale<'a>(alloc: Global, bytes: &'a [u8]) -> Result<Scale<'a>, BlockError>
@@ -33,13 +31,13 @@ fn read_scale<'a>(alloc: Global, bytes: &'a [u8]) -> Result<Scale<'a>, BlockErro
         return Err(BlockError::Fault(BlockFault::BlockWire(fault)));
     }
     let mut tables = Vec::new(alloc);
-    read_payloads(bytes, BLOCK_STRINGTABLE, &mut tables)?;
+    each(bytes, BLOCK_STRINGTABLE, &mut tables)?;
     if !some_there(&tables) {
         return Err(BlockError::Fault(BlockFault::NoStringTable));
     }
     check_all(&tables)?;
     let mut raw = Vec::new(alloc);
-    read_payloads_of_all(&tables, STRINGTABLE_S, &mut raw)?;
+    each_of_all(&tables, STRINGTABLE_S, &mut raw)?;
     let table = read_texts(alloc, &raw)?;
     let granularity = granularity_of(bytes);
     let date_granularity = date_granularity_of(bytes);
@@ -90,18 +88,6 @@ fn are_scales(granularity: i32, date_granularity: i32) -> bool
     let coordinates = granularity >= 1;
     let times = date_granularity >= 1;
     coordinates & times
-}
-
-/// Reads the payloads of the fields `number` of all payloads.
-fn read_payloads_of_all<'a>(
-    payloads: &[&'a [u8]],
-    number: u32,
-    out: &mut Vec<&'a [u8]>,
-) -> Result<(), AllocError>
-    ensures { OnOk result (map (λ p. p.now) out.new.items ≡ each (flat_map fields (map (λ p. p.now) payloads.now)) number) }
-{
-    out.clear();
-    each_of_all(payloads, number, out)
 }
 
 /// The elements of a primitive block, in the order of its groups and of their fields (osmformat.proto, PrimitiveBlock):

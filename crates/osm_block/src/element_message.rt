@@ -1,6 +1,6 @@
 //! Messages that stand to one element each: nodes, ways and relations.
 
-ghost use Rattle.std.specs.Prelude.{◌≡◌, ◌∷◌, [], ◌++◌, ℕ, List, map, ⊤, OnOk, option_map};
+ghost use Rattle.std.specs.Prelude.{◌≡◌, ◌∷◌, [], ◌++◌, ℕ, List, map, ⊤, OnOk};
 ghost use Rattle.std.specs.List.{flat_map};
 ghost use Rattle.pbf_wire.specs.Field.{Entry, view};
 ghost use Rattle.pbf_wire.specs.Readings.{fields, wire, each};
@@ -11,7 +11,7 @@ ghost use Rattle.osm_block.specs.Block.{MessageOf};
 ghost use Rattle.osm_block.specs.Fields.{context_of};
 ghost use Rattle.osm_block.specs.FieldsLeft.{first_there};
 ghost use Rattle.osm_block.specs.Phases.{Gives, first, message_phases, phases_after_wire, wire_phases};
-ghost use Rattle.osm_block.specs.Reads.{Appended, Says};
+ghost use Rattle.osm_block.specs.Reads.{Appended};
 
 use crate::fault::BlockError;
 use crate::scale::Scale;

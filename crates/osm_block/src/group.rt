@@ -3,7 +3,6 @@
 ghost use Rattle.std.specs.Prelude.{◌≡◌, map, option_map, OnOk, ⊤, not, nat_le, ◌∷◌, []};
 ghost use Rattle.std.specs.List.{flat_map, count_by};
 ghost use Rattle.pbf_wire.specs.Readings.{fields, wire};
-ghost use Rattle.osm_block.specs.Message.{Plain, Way, Relation};
 ghost use Rattle.pbf_wire.specs.Readings.{each, is_there};
 ghost use Rattle.osm_block.specs.Block.{GroupOf};
 ghost use Rattle.osm_block.specs.GroupMessages.{messages_of};

@@ -99,15 +99,3 @@ pub(crate) fn low_32(numbers: &mut [u64])
         *number %= 1 << 32;
     }
 }
-
-/// Reads the payloads of the fields `number`.
-pub(crate) fn read_payloads<'a>(
-    payload: &'a [u8],
-    number: u32,
-    out: &mut Vec<&'a [u8]>,
-) -> Result<(), AllocError>
-    ensures { OnOk result (map (λ p. p.now) out.new.items ≡ each (fields payload.now) number) }
-{
-    out.clear();
-    each(payload, number, out)
-}

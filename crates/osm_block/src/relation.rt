@@ -1,8 +1,7 @@
 //! Relations.
 
-ghost use Rattle.std.specs.Prelude.{◌≡◌, ◌&&◌, ◌==◌, ◌∷◌, [], List, map, length, not, true, is_some, Some};
+ghost use Rattle.std.specs.Prelude.{◌≡◌, ◌&&◌, ◌==◌, ◌∷◌, [], map, length, not, true, is_some, Some};
 ghost use Rattle.std.specs.List.{list_all};
-ghost use Rattle.pbf_wire.specs.Field.{Entry};
 ghost use Rattle.pbf_wire.specs.Readings.{int32};
 ghost use Rattle.osm_value.specs.declared.element.Element.TheVariants as elements;
 ghost use Rattle.osm_value.specs.Ranges.{is_wide};

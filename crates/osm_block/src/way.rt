@@ -1,7 +1,6 @@
 //! Ways.
 
-ghost use Rattle.std.specs.Prelude.{◌≡◌, ◌∷◌, [], List};
-ghost use Rattle.pbf_wire.specs.Field.{Entry};
+ghost use Rattle.std.specs.Prelude.{◌≡◌, ◌∷◌, []};
 ghost use Rattle.osm_value.specs.declared.element.Element.TheVariants as elements;
 ghost use Rattle.osm_value.specs.Value.{WayValue};
 ghost use Rattle.osm_block.specs.Block.{WayOf};

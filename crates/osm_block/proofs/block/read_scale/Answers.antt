@@ -1,4 +1,4 @@
-use Rattle.std.proofs.Common.{rules, ◌≡◌, ◌∙◌, ap, sym, subst, map, List, Err, None, true, ℕ, ℤ, pos, FitsSigned, w32, w64}
+use Rattle.std.proofs.Common.{rules, ◌≡◌, ◌∙◌, ◌++◌, ap, sym, subst, map, List, Err, None, true, ℕ, ℤ, pos, FitsSigned, w32, w64}
 use Rattle.std.proofs.lemmas.Int.{to_z-of_z}
 use Rattle.std.specs.Prelude.{⊤, ◌≤ℤ◌}
 use Rattle.std.specs.List.{flat_map, AllByRecursion}
@@ -19,10 +19,11 @@ pub returns-in_err-check_all-clause-phase : goal.returns-in_err-check_all-clause
 returns-in_err-check_all-clause-phase c =
     let w = c.args.bytes.now in
     let none : wire w ≡ None = search rules in
-    let found = ap (map (λ x. x.now)) c.deref.ensures.value ∙ c.in_ok-read_payloads.ensures in
+    let read = c.in_ok-each.ensures ∙ ap (λ l. map (λ x. x.now) l ++ each (fields w) BLOCK_STRINGTABLE) c.new-tables.ensures.items in
+    let found = ap (map (λ x. x.now)) c.deref.ensures.value ∙ read in
     let there : is_there (each (fields w) BLOCK_STRINGTABLE) ≡ true = sym (ap is_there found) ∙ sym c.some_there.ensures ∙ c.if-not-some_there.false in
     let past = past_table w none there in
-    let tables = ap (λ l. first (wire_phases (map wire l))) (ap (map (λ x. x.now)) c.deref-2.ensures.value ∙ c.in_ok-read_payloads.ensures) in
+    let tables = ap (λ l. first (wire_phases (map wire l))) (ap (map (λ x. x.now)) c.deref-2.ensures.value ∙ read) in
     let refused : Gives {A = Scale} (λ _. ⊤) (first (head_phases w)) (Err c.in_err-check_all.field-0.0) =
     Gives-err {A = Unit {0}} (λ _. ⊤) (λ (s : Scale). ⊤) _ _ _ (λ f s. stop_tables w _ past f (sym tables ∙ s)) c.in_err-check_all.ensures in
     search rules
@@ -31,11 +32,12 @@ pub returns-in_err-table-clause-phase : goal.returns-in_err-table-clause-phase
 returns-in_err-table-clause-phase c =
     let w = c.args.bytes.now in
     let none : wire w ≡ None = search rules in
-    let found = ap (map (λ x. x.now)) c.deref.ensures.value ∙ c.in_ok-read_payloads.ensures in
+    let read = c.in_ok-each.ensures ∙ ap (λ l. map (λ x. x.now) l ++ each (fields w) BLOCK_STRINGTABLE) c.new-tables.ensures.items in
+    let found = ap (map (λ x. x.now)) c.deref.ensures.value ∙ read in
     let there : is_there (each (fields w) BLOCK_STRINGTABLE) ≡ true = sym (ap is_there found) ∙ sym c.some_there.ensures ∙ c.if-not-some_there.false in
     let past = past_table w none there in
-    let tables = ap (λ l. first (wire_phases (map wire l))) (ap (map (λ x. x.now)) c.deref-2.ensures.value ∙ c.in_ok-read_payloads.ensures) in
-    let raw = ap (map (λ x. x.now)) c.deref-4.ensures.value ∙ c.in_ok-read_payloads_of_all.ensures ∙ ap (λ l. each (flat_map fields l) STRINGTABLE_S) (ap (map (λ x. x.now)) c.deref-3.ensures.value ∙ c.in_ok-read_payloads.ensures) in
+    let tables = ap (λ l. first (wire_phases (map wire l))) (ap (map (λ x. x.now)) c.deref-2.ensures.value ∙ read) in
+    let raw = ap (map (λ x. x.now)) c.deref-4.ensures.value ∙ c.in_ok-each_of_all.ensures ∙ ap (λ l. map (λ x. x.now) l ++ each (flat_map fields (map (λ x. x.now) c.deref-3.result.now)) STRINGTABLE_S) c.new-raw.ensures.items ∙ ap (λ l. each (flat_map fields l) STRINGTABLE_S) (ap (map (λ x. x.now)) c.deref-3.ensures.value ∙ read) in
     let texts = ap (λ l. first (flat_map text_phases l)) raw in
     let no_tables = sym tables ∙ c.in_ok-check_all.ensures.0 in
     let refused : Gives {A = Scale} (λ _. ⊤) (first (head_phases w)) (Err c.in_err-table.field-0.0) =
@@ -46,11 +48,12 @@ pub returns-then-not-are_scales-clause-phase : goal.returns-then-not-are_scales-
 returns-then-not-are_scales-clause-phase c =
     let w = c.args.bytes.now in
     let none : wire w ≡ None = search rules in
-    let found = ap (map (λ x. x.now)) c.deref.ensures.value ∙ c.in_ok-read_payloads.ensures in
+    let read = c.in_ok-each.ensures ∙ ap (λ l. map (λ x. x.now) l ++ each (fields w) BLOCK_STRINGTABLE) c.new-tables.ensures.items in
+    let found = ap (map (λ x. x.now)) c.deref.ensures.value ∙ read in
     let there : is_there (each (fields w) BLOCK_STRINGTABLE) ≡ true = sym (ap is_there found) ∙ sym c.some_there.ensures ∙ c.if-not-some_there.false in
     let past = past_table w none there in
-    let tables = ap (λ l. first (wire_phases (map wire l))) (ap (map (λ x. x.now)) c.deref-2.ensures.value ∙ c.in_ok-read_payloads.ensures) in
-    let raw = ap (map (λ x. x.now)) c.deref-4.ensures.value ∙ c.in_ok-read_payloads_of_all.ensures ∙ ap (λ l. each (flat_map fields l) STRINGTABLE_S) (ap (map (λ x. x.now)) c.deref-3.ensures.value ∙ c.in_ok-read_payloads.ensures) in
+    let tables = ap (λ l. first (wire_phases (map wire l))) (ap (map (λ x. x.now)) c.deref-2.ensures.value ∙ read) in
+    let raw = ap (map (λ x. x.now)) c.deref-4.ensures.value ∙ c.in_ok-each_of_all.ensures ∙ ap (λ l. map (λ x. x.now) l ++ each (flat_map fields (map (λ x. x.now) c.deref-3.result.now)) STRINGTABLE_S) c.new-raw.ensures.items ∙ ap (λ l. each (flat_map fields l) STRINGTABLE_S) (ap (map (λ x. x.now)) c.deref-3.ensures.value ∙ read) in
     let texts = ap (λ l. first (flat_map text_phases l)) raw in
     let no_tables = sym tables ∙ c.in_ok-check_all.ensures.0 in
     let rest = past_texts w _ past no_tables (sym texts ∙ c.in_ok-table.ensures.phase.0) in
@@ -65,11 +68,12 @@ pub returns-clause-phase : goal.returns-clause-phase
 returns-clause-phase c =
     let w = c.args.bytes.now in
     let none : wire w ≡ None = search rules in
-    let found = ap (map (λ x. x.now)) c.deref.ensures.value ∙ c.in_ok-read_payloads.ensures in
+    let read = c.in_ok-each.ensures ∙ ap (λ l. map (λ x. x.now) l ++ each (fields w) BLOCK_STRINGTABLE) c.new-tables.ensures.items in
+    let found = ap (map (λ x. x.now)) c.deref.ensures.value ∙ read in
     let there : is_there (each (fields w) BLOCK_STRINGTABLE) ≡ true = sym (ap is_there found) ∙ sym c.some_there.ensures ∙ c.if-not-some_there.false in
     let past = past_table w none there in
-    let tables = ap (λ l. first (wire_phases (map wire l))) (ap (map (λ x. x.now)) c.deref-2.ensures.value ∙ c.in_ok-read_payloads.ensures) in
-    let raw = ap (map (λ x. x.now)) c.deref-4.ensures.value ∙ c.in_ok-read_payloads_of_all.ensures ∙ ap (λ l. each (flat_map fields l) STRINGTABLE_S) (ap (map (λ x. x.now)) c.deref-3.ensures.value ∙ c.in_ok-read_payloads.ensures) in
+    let tables = ap (λ l. first (wire_phases (map wire l))) (ap (map (λ x. x.now)) c.deref-2.ensures.value ∙ read) in
+    let raw = ap (map (λ x. x.now)) c.deref-4.ensures.value ∙ c.in_ok-each_of_all.ensures ∙ ap (λ l. map (λ x. x.now) l ++ each (flat_map fields (map (λ x. x.now) c.deref-3.result.now)) STRINGTABLE_S) c.new-raw.ensures.items ∙ ap (λ l. each (flat_map fields l) STRINGTABLE_S) (ap (map (λ x. x.now)) c.deref-3.ensures.value ∙ read) in
     let texts = ap (λ l. first (flat_map text_phases l)) raw in
     let no_tables = sym tables ∙ c.in_ok-check_all.ensures.0 in
     let rest = past_texts w _ past no_tables (sym texts ∙ c.in_ok-table.ensures.phase.0) in
@@ -84,11 +88,12 @@ pub returns-clause-read : goal.returns-clause-read
 returns-clause-read c =
     let w = c.args.bytes.now in
     let none : wire w ≡ None = search rules in
-    let found = ap (map (λ x. x.now)) c.deref.ensures.value ∙ c.in_ok-read_payloads.ensures in
+    let read = c.in_ok-each.ensures ∙ ap (λ l. map (λ x. x.now) l ++ each (fields w) BLOCK_STRINGTABLE) c.new-tables.ensures.items in
+    let found = ap (map (λ x. x.now)) c.deref.ensures.value ∙ read in
     let there : is_there (each (fields w) BLOCK_STRINGTABLE) ≡ true = sym (ap is_there found) ∙ sym c.some_there.ensures ∙ c.if-not-some_there.false in
     let past = past_table w none there in
-    let tables = ap (λ l. first (wire_phases (map wire l))) (ap (map (λ x. x.now)) c.deref-2.ensures.value ∙ c.in_ok-read_payloads.ensures) in
-    let raw = ap (map (λ x. x.now)) c.deref-4.ensures.value ∙ c.in_ok-read_payloads_of_all.ensures ∙ ap (λ l. each (flat_map fields l) STRINGTABLE_S) (ap (map (λ x. x.now)) c.deref-3.ensures.value ∙ c.in_ok-read_payloads.ensures) in
+    let tables = ap (λ l. first (wire_phases (map wire l))) (ap (map (λ x. x.now)) c.deref-2.ensures.value ∙ read) in
+    let raw = ap (map (λ x. x.now)) c.deref-4.ensures.value ∙ c.in_ok-each_of_all.ensures ∙ ap (λ l. map (λ x. x.now) l ++ each (flat_map fields (map (λ x. x.now) c.deref-3.result.now)) STRINGTABLE_S) c.new-raw.ensures.items ∙ ap (λ l. each (flat_map fields l) STRINGTABLE_S) (ap (map (λ x. x.now)) c.deref-3.ensures.value ∙ read) in
     let texts = ap (λ l. first (flat_map text_phases l)) raw in
     let no_tables = sym tables ∙ c.in_ok-check_all.ensures.0 in
     let fg : FitsSigned w32 c.granularity_of-granularity.result = search rules in
