@@ -56,33 +56,6 @@ fn compare_in<D: CheckedDatabases, R: Read, W: Write>(
     }
 }
 
-/// Compares a file with a database, and answers the exit status. If there is no database, none is made.
-fn compare<D: CheckedDatabases>(
-    rt: &HostRuntime,
-    files: &D,
-    file: &str,
-    database: &str,
-    depth: Depth,
-) -> u8 {
-    let meter = Meter::new(rt, true);
-    let mut out = match standard_output(rt, &meter, Some(0)) {
-        Ok(out) => out,
-        Err(status) => return status,
-    };
-    let status = match File::open(rt, file) {
-        Ok(input) => {
-            meter.measure(&input);
-            let mut input = MeteredReader {
-                reader: input,
-                watcher: &meter,
-            };
-            compare_in(rt, files, &mut input, database, depth, &meter, &mut out)
-        }
-        Err(_) => refuse_input(&mut out),
-    };
-    end(&mut out, &meter, status)
-}
-
 /// Opens databases, each page and index of which is looked at.
 #[derive(Drop)]
 struct CheckedParts<'a, D> {
@@ -106,8 +79,34 @@ impl<D: CheckedDatabases> OpensNamed<CheckedStore<D::Trees>> for CheckedParts<'_
     }
 }
 
-/// Compares a file with several databases that hold parts of it, and answers the exit status. None is made.
-fn compare_parts<D: CheckedDatabases>(
+/// Compares a file with several databases that hold parts of it, and answers the exit status.
+fn compare_parts<D: CheckedDatabases, W: Write>(
+    rt: &HostRuntime,
+    files: &D,
+    file: File,
+    names: &[&str],
+    depth: Depth,
+    meter: &Meter,
+    out: &mut Outlet<W>,
+) -> u8 {
+    let mut parts = InTurn::new(CheckedParts { rt, files }, names);
+    let count = names.len() as u64;
+    let mut file = MeteredFile {
+        file,
+        watcher: meter,
+    };
+    verify_parts::<CheckedStore<D::Trees>, _, _, _>(
+        rt.alloc(),
+        &mut parts,
+        count,
+        &mut file,
+        depth,
+        out,
+    )
+}
+
+/// Compares a file with a database, or with several that hold parts of it, and answers the exit status. No database is made.
+pub(crate) fn compare_all<D: CheckedDatabases>(
     rt: &HostRuntime,
     files: &D,
     file: &str,
@@ -119,40 +118,20 @@ fn compare_parts<D: CheckedDatabases>(
         Ok(out) => out,
         Err(status) => return status,
     };
-    let mut parts = InTurn::new(CheckedParts { rt, files }, names);
-    let count = names.len() as u64;
     let status = match File::open(rt, file) {
         Ok(file) => {
             meter.measure(&file);
-            let mut file = MeteredFile {
-                file,
-                watcher: &meter,
-            };
-            verify_parts::<CheckedStore<D::Trees>, _, _, _>(
-                rt.alloc(),
-                &mut parts,
-                count,
-                &mut file,
-                depth,
-                &mut out,
-            )
+            if names.len() == 1 {
+                let mut input = MeteredReader {
+                    reader: file,
+                    watcher: &meter,
+                };
+                compare_in(rt, files, &mut input, names[0], depth, &meter, &mut out)
+            } else {
+                compare_parts(rt, files, file, names, depth, &meter, &mut out)
+            }
         }
         Err(_) => refuse_input(&mut out),
     };
     end(&mut out, &meter, status)
-}
-
-/// Compares a file with a database, or with several that hold parts of it, and answers the exit status.
-pub(crate) fn compare_all<D: CheckedDatabases>(
-    rt: &HostRuntime,
-    files: &D,
-    file: &str,
-    names: &[&str],
-    depth: Depth,
-) -> u8 {
-    if names.len() == 1 {
-        compare(rt, files, file, names[0], depth)
-    } else {
-        compare_parts(rt, files, file, names, depth)
-    }
 }
