@@ -1,5 +1,5 @@
-//! The tests of stores in memory; and what they share with the tests of the importer and of databases in files: frames and
-//! blocks and where they stand, new stores, calls with what they have to answer, and changes below SQL.
+//! What the tests of stores, of the importer and of databases in files share: frames and blocks and where they stand, new
+//! stores, calls with what they have to answer, and changes below SQL. It has no tests, so it is proved once.
 #![tactic(auto)]
 
 pub mod damage;
@@ -8,5 +8,3 @@ pub mod files;
 pub mod fixtures;
 pub mod memory;
 pub mod steps;
-#[cfg(test)]
-mod tests;

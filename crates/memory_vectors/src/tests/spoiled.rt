@@ -1,18 +1,18 @@
 //! Rows that are those of no map, made by statements over a store's connection, and the reads that meet them.
 
-use crate::deliveries::exported;
-use crate::fixtures::{
-    LINES, NODES, PLACED_HEADER, PLACED_NODES, PLACED_WAYS, RELATION_AT_137, THREE_WAYS_LINES,
-    WAY_AT_203, WRITTEN_HEADER,
-};
-use crate::memory::{BodiesInMemory, NewSqlStore, NewStore, TablesInMemory};
-use crate::steps::{FIVE_BLOBS, Step, are_joined, followed};
 use osm_import::{CopyFault, CopyStop, ExportFault, copy_held};
 use osm_store::StoreFault;
 use osm_value::{Form, MemberKind};
 use std::alloc::Global;
 use std::process::Abort;
 use std::test::*;
+use store_vectors::deliveries::exported;
+use store_vectors::fixtures::{
+    LINES, NODES, PLACED_HEADER, PLACED_NODES, PLACED_WAYS, RELATION_AT_137, THREE_WAYS_LINES,
+    WAY_AT_203, WRITTEN_HEADER,
+};
+use store_vectors::memory::{BodiesInMemory, NewSqlStore, NewStore, TablesInMemory};
+use store_vectors::steps::{FIVE_BLOBS, Step, are_joined, followed};
 
 /// A statement that spoils the rows of the five blobs, and a read of them with its answer before.
 type Spoiled = (&'static str, Step);

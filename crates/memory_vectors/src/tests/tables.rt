@@ -1,14 +1,6 @@
 //! The rows of numbers and texts of stores in memory, by values from outside, and the answers of both layouts for elements
 //! with tags, nodes and members.
 
-use crate::fixtures::{
-    LINES, PLACED_HEADER, PLACED_NODES, PLACED_RELATION, PLACED_WAY, RELATION, RELATION_FRAME, WAY,
-    WAY_FRAME,
-};
-use crate::memory::{CountedRows, NODES_AS_ROWS, TablesInMemory, number};
-use crate::steps::{
-    PUT_HEADER, PUT_NODES, STORE_HEADER, STORE_NODES, Step, followed, over_all_stores,
-};
 use osm_import::Answer;
 use osm_store::{BodyStore, StoreFault, TableStore};
 use osm_value::MemberKind;
@@ -16,6 +8,14 @@ use sqlite::{Alter, Connection, MemStore};
 use std::alloc::Global;
 use std::process::Abort;
 use std::test::*;
+use store_vectors::fixtures::{
+    LINES, PLACED_HEADER, PLACED_NODES, PLACED_RELATION, PLACED_WAY, RELATION, RELATION_FRAME, WAY,
+    WAY_FRAME,
+};
+use store_vectors::memory::{CountedRows, NODES_AS_ROWS, TablesInMemory, number};
+use store_vectors::steps::{
+    PUT_HEADER, PUT_NODES, STORE_HEADER, STORE_NODES, Step, followed, over_all_stores,
+};
 
 const PUT_RELATION: Step = Step::Put(PLACED_RELATION, RELATION, Ok(()));
 

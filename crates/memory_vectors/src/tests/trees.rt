@@ -2,15 +2,15 @@
 
 use super::history::{SECOND_WAY_DELETED, TWO_LAST};
 use super::tables::filled;
-use crate::fixtures::{
-    LINES, PLACED_HEADER, PLACED_NODES, PLACED_RELATION, PLACED_WAY, RELATION, WAY,
-};
-use crate::steps::{PUT_HEADER, PUT_NODES, Step};
 use osm_trees::TreeStore;
 use osm_value::MemberKind;
 use std::alloc::Global;
 use std::process::Abort;
 use std::test::*;
+use store_vectors::fixtures::{
+    LINES, PLACED_HEADER, PLACED_NODES, PLACED_RELATION, PLACED_WAY, RELATION, WAY,
+};
+use store_vectors::steps::{PUT_HEADER, PUT_NODES, Step};
 
 /// Makes the reads in turn over the trees of tables once the steps were taken. A read that isn't met is named by its
 /// number, from 0.

@@ -4,13 +4,13 @@
 ghost use Rattle.osm_value.specs.Ranges.{IsWide};
 
 use super::tables::expect_rows;
-use crate::memory::{CountedRows, NewStore, TablesInMemory};
-use crate::steps::loaded_lines;
 use osm_store::{Keeper, StoreFault};
 use osm_value::{Element, Info, Member, MemberKind, Node, Relation, Way};
 use pbf_frame::Kind;
 use std::alloc::{AllocError, Global};
 use std::test::*;
+use store_vectors::memory::{CountedRows, NewStore, TablesInMemory};
+use store_vectors::steps::loaded_lines;
 
 /// How many elements a blob has, in turn.
 const SIZES: [u8; 7] = [0, 1, 31, 32, 33, 64, 65];

@@ -2,17 +2,19 @@
 //! osmformat.proto and fileformat.proto.
 
 use super::tables::{expect_rows, filled};
-use crate::fixtures::{
-    HEADER, HELD_HEADER, LINES, NODES, PLACED_RELATION, PLACED_WAY, RELATION, THREE_WAYS, WAY,
-    WRITTEN_HEADER,
-};
-use crate::memory::CountedRows;
-use crate::steps::{PUT_HEADER, PUT_NODES, STORE_HEADER, STORE_NODES, Step, over_all_stores};
 use osm_import::Answer;
 use osm_store::Extent;
 use osm_value::MemberKind;
 use pbf_frame::Kind;
 use std::test::*;
+use store_vectors::fixtures::{
+    HEADER, HELD_HEADER, LINES, NODES, PLACED_RELATION, PLACED_WAY, RELATION, THREE_WAYS, WAY,
+    WRITTEN_HEADER,
+};
+use store_vectors::memory::CountedRows;
+use store_vectors::steps::{
+    PUT_HEADER, PUT_NODES, STORE_HEADER, STORE_NODES, Step, over_all_stores,
+};
 
 /// The header frame that an export writes where an element has a flag: it requires `HistoricalInformation`, too.
 const HISTORIC_HEADER: &[u8] =

@@ -1,18 +1,18 @@
 //! The answers of stores in memory of both layouts, by values from outside.
 
-use crate::fixtures::{
-    LINES, NOTHING, PLACED_EXTRA, PLACED_HEADER, PLACED_NODES, PLACED_WAYS, THREE_WAYS,
-    THREE_WAYS_LINES, TWO_NODES,
-};
-use crate::memory::{BodiesInMemory, NewSqlStore, NewStore, TablesInMemory};
-use crate::steps::{
-    PUT_EXTRA, PUT_HEADER, PUT_NODES, Step, over_all_stores, over_both_layouts, put_block,
-};
 use osm_store::{Extent, Reader, StoreFault};
 use osm_value::MemberKind;
 use std::alloc::Global;
 use std::process::Abort;
 use std::test::*;
+use store_vectors::fixtures::{
+    LINES, NOTHING, PLACED_EXTRA, PLACED_HEADER, PLACED_NODES, PLACED_WAYS, THREE_WAYS,
+    THREE_WAYS_LINES, TWO_NODES,
+};
+use store_vectors::memory::{BodiesInMemory, NewSqlStore, NewStore, TablesInMemory};
+use store_vectors::steps::{
+    PUT_EXTRA, PUT_HEADER, PUT_NODES, Step, over_all_stores, over_both_layouts, put_block,
+};
 
 /// The three ways elsewhere.
 const PLACED_WAYS_AT_137: Extent = Extent {

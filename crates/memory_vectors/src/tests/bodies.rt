@@ -1,14 +1,16 @@
 //! The rows of stores of bodies in memory, by values from outside, and which databases are stores of this kind.
 
 use super::tables::expect_rows;
-use crate::fixtures::{HELD_HEADER, HELD_NODES};
-use crate::memory::{BodiesInMemory, CountedRows, NODES_AS_BODIES};
-use crate::steps::{PUT_HEADER, PUT_NODES, STORE_EXTRA, STORE_HEADER, STORE_NODES, Step, followed};
 use osm_store::{BodyStore, StoreFault};
 use sqlite::{Connection, MemStore};
 use std::alloc::Global;
 use std::process::Abort;
 use std::test::*;
+use store_vectors::fixtures::{HELD_HEADER, HELD_NODES};
+use store_vectors::memory::{BodiesInMemory, CountedRows, NODES_AS_BODIES};
+use store_vectors::steps::{
+    PUT_HEADER, PUT_NODES, STORE_EXTRA, STORE_HEADER, STORE_NODES, Step, followed,
+};
 
 /// Of a header's blob at 0 and a blob of two nodes at 47.
 const TWO_BLOBS: &[CountedRows] = &[

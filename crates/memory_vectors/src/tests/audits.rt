@@ -1,13 +1,6 @@
 //! Whether a store has the rows of blobs and no others, over rows as they were put and over rows that statements over its
 //! connection have changed, by SQL and by its trees; which row belongs to no blob; and whether the indexes of trees are whole.
 
-use crate::damage::{add_entry, take_entry, write_element};
-use crate::fixtures::{
-    NOTHING, PLACED_HEADER, PLACED_NODES, PLACED_WAYS, RELATION, RELATION_AT_137, THREE_WAYS,
-    TWO_NODES, WAY, WAY_AT_203,
-};
-use crate::memory::{BodiesInMemory, NewSqlStore, TablesInMemory};
-use crate::steps::{FIVE_BLOBS, PUT_HEADER, PUT_NODES, Step, followed};
 use osm_block::read_block;
 use osm_checked::CheckedStore;
 use osm_store::{Audited, Counts, Extent, StoreFault, TableStore};
@@ -22,6 +15,13 @@ use sqlite_trees::store::Store;
 use std::alloc::Global;
 use std::process::Abort;
 use std::test::*;
+use store_vectors::damage::{add_entry, take_entry, write_element};
+use store_vectors::fixtures::{
+    NOTHING, PLACED_HEADER, PLACED_NODES, PLACED_WAYS, RELATION, RELATION_AT_137, THREE_WAYS,
+    TWO_NODES, WAY, WAY_AT_203,
+};
+use store_vectors::memory::{BodiesInMemory, NewSqlStore, TablesInMemory};
+use store_vectors::steps::{FIVE_BLOBS, PUT_HEADER, PUT_NODES, Step, followed};
 
 /// The five blobs, the last of which is put first: the rows of no table stand in the order of its primary key.
 const LAST_FIRST: &[Step] = &[
