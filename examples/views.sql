@@ -4,8 +4,8 @@
 
 -- tags by their key and value
 CREATE INDEX IF NOT EXISTS tag_by_key ON tag (key, val);
--- ways and relations by what they refer to
-CREATE INDEX IF NOT EXISTS link_by_ref ON link (kind, ref);
+-- ways and relations by what they refer to; the id first, since most links are to nodes, so that their kinds tell little
+CREATE INDEX IF NOT EXISTS link_by_ref ON link (ref, kind);
 
 -- nodes, in degrees
 CREATE VIEW IF NOT EXISTS node AS
