@@ -123,7 +123,11 @@ fn explained<S: Alter>(
 }
 
 /// The databases in files of this machine that take blobs. One that is missing is made.
-pub struct FilledFiles;
+#[derive(Clone, Copy)]
+pub struct FilledFiles {
+    /// How many pages of one that were read are kept in memory, and how many that were changed.
+    pub pages: usize,
+}
 
 impl Databases for FilledFiles {
     type Trees = FileStore<WriteFile>;
@@ -134,7 +138,7 @@ impl Databases for FilledFiles {
         name: &str,
     ) -> Result<Option<FileStore<WriteFile>>, StoreFault> {
         let files = written(rt, name)?;
-        told(rt, name, trees_in(rt, files, MANY_PAGES))
+        told(rt, name, trees_in(rt, files, self.pages))
     }
 
     fn connection(
@@ -144,7 +148,7 @@ impl Databases for FilledFiles {
     ) -> Result<Connection<FileStore<WriteFile>>, StoreFault> {
         let found = obstruction_of(rt, name);
         let files = written(rt, name)?;
-        explained(rt, name, found, connection_in(rt, files))
+        explained(rt, name, found, connection_in(rt, files, self.pages))
     }
 
     fn close(&self, trees: FileStore<WriteFile>) {
@@ -174,7 +178,7 @@ impl Databases for AskedFiles {
     ) -> Result<Connection<FileStore<ReadFile>>, StoreFault> {
         let found = obstruction_of(rt, name);
         let files = read_alone(rt, name)?;
-        explained(rt, name, found, connection_in(rt, files))
+        explained(rt, name, found, connection_in(rt, files, MANY_PAGES))
     }
 
     fn close(&self, _trees: FileStore<ReadFile>) {}

@@ -23,38 +23,41 @@ use std::hash::{BuildHasher, RandomState};
 /// and each copy several times, so one copy serves many blobs.
 const CHECKPOINT_FRAMES: usize = 16_384;
 
-/// How many pages that were read are kept in memory of a database that is written to, checked as a whole or opened by SQL,
-/// each of 4,096 bytes: the entries of an index may be sought in any order.
+/// How many pages of a database that is written to, checked as a whole or opened by SQL are kept in memory, each of 4,096
+/// bytes: so many that were read, since the entries of an index may be sought in any order, and so many that were changed,
+/// before they go to the log.
 pub const MANY_PAGES: usize = 2_000;
 
-/// The same of one that is only asked: its trees are read from some place on.
+/// The same of one that is only asked, since its trees are read from some place on, and of one that others are merged into,
+/// since a merge also holds the rows of a blob, and its elements.
 pub const FEW_PAGES: usize = 250;
 
-/// How a database is opened, of which at most so many pages that were read are kept in memory.
-fn options(rt: &HostRuntime, cache_pages: usize) -> Result<Options, Refusal> {
+/// How a database is opened, of which at most so many pages that were read and so many that were changed are kept in memory.
+fn options(rt: &HostRuntime, pages: usize) -> Result<Options, Refusal> {
     let random = match RandomState::new(rt) {
         Ok(random) => random,
         Err(error) => return Err(OpenFault::Io(error).into()),
     };
     let mut options = Options::new(random.hash_one(&0u8));
-    options.cache_pages = cache_pages;
+    options.cache_pages = pages;
+    options.spill_pages = pages;
     options.checkpoint_frames = CHECKPOINT_FRAMES;
     Ok(options)
 }
 
-/// The trees of files that are a database of this version, of which at most so many pages that were read are kept in memory.
-/// They are what the files' bytes read as, if these are those of a sound database.
+/// The trees of files that are a database of this version, of which at most so many pages that were read, and so many that
+/// were changed, are kept in memory. They are what the files' bytes read as, if these are those of a sound database.
 pub fn trees_in<D: Disk + Drop>(
     rt: &HostRuntime,
     files: Files<D>,
-    cache_pages: usize,
+    pages: usize,
 ) -> Result<Option<FileStore<D>>, Refusal>
     requires log { IsTrue (D.Disk.is_usable files.log) }
     requires db { IsTrue (D.Disk.is_usable files.db) }
     requires presumed { ArePresumedTables (seen_image D.Disk files.log files.db) }
     ensures reads { IfOk result (λ found. IfSome found (λ store. IsTrue (view store).is_clean → ReadsAs (seen_image D.Disk files.log files.db) (view store).trees)) }
 {
-    let options = options(rt, cache_pages)?;
+    let options = options(rt, pages)?;
     match open_tables(rt.alloc(), files, options) {
         Ok(found) => Ok(found),
         Err(refused) => Err(refused.into()),
@@ -65,30 +68,31 @@ pub fn trees_in<D: Disk + Drop>(
 pub fn checked_trees_in<D: Disk + Drop>(
     rt: &HostRuntime,
     files: Files<D>,
-    cache_pages: usize,
+    pages: usize,
 ) -> Result<Option<FileStore<D>>, Refusal>
     requires log { IsTrue (D.Disk.is_usable files.log) }
     requires db { IsTrue (D.Disk.is_usable files.db) }
     ensures version { IfOk result (λ found. IfSome found (λ store. IsClean (view store) → IsOfVersion (view store))) }
     ensures reads { IfOk result (λ found. IfSome found (λ store. IsTrue (view store).is_clean → ReadsAs (seen_image D.Disk files.log files.db) (view store).trees)) }
 {
-    let options = options(rt, cache_pages)?;
+    let options = options(rt, pages)?;
     match open_checked_tables(rt.alloc(), files, options) {
         Ok(found) => Ok(found),
         Err(refused) => Err(refused.into()),
     }
 }
 
-/// Files, opened by SQL.
+/// Files, opened by SQL, of which at most so many pages that were read, and so many that were changed, are kept in memory.
 pub fn connection_in<D: Disk + Drop>(
     rt: &HostRuntime,
     files: Files<D>,
+    pages: usize,
 ) -> Result<Connection<FileStore<D>>, Refusal>
     requires log { IsTrue (D.Disk.is_usable files.log) }
     requires db { IsTrue (D.Disk.is_usable files.db) }
     ensures { IfOk result IsNew }
 {
-    let options = options(rt, MANY_PAGES)?;
+    let options = options(rt, pages)?;
     match Connection::open_files(rt.alloc(), files, options) {
         Ok(connection) => Ok(connection),
         Err((error, _)) => Err(unopened(error)),

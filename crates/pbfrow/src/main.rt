@@ -17,6 +17,7 @@ use database::{Query, ask, fill};
 use merging::merge;
 use osm_databases::databases::Databases;
 use osm_databases::files::{AskedFiles, FilledFiles};
+use osm_databases::trees::{FEW_PAGES, MANY_PAGES};
 use osm_value::{MemberKind, Outlet};
 use osm_verify::Depth;
 use parts::ask_parts;
@@ -44,8 +45,8 @@ use verifying::compare_all;
 /// The exit status for invalid arguments.
 const INVALID_ARGUMENTS: u8 = 2;
 
-/// How many bytes are taken once and given back: nearly the most, 32 MiB, by which glibc's limits grow.
-const KEPT_MEMORY: usize = 31 << 20;
+/// How many bytes are taken once and given back. Vectors that are longer grow in place, and leave no gap behind.
+const KEPT_MEMORY: usize = 8 << 20;
 
 fn main(rt: HostRuntime) -> ExitCode {
     let status = match entered(rt) {
@@ -56,8 +57,8 @@ fn main(rt: HostRuntime) -> ExitCode {
 }
 
 /// Takes memory and gives it back at once. From then on glibc's allocator keeps up to twice as much that is given back
-/// (mallopt(3), M_MMAP_THRESHOLD), and doesn't return that of each blob to the system, to take it anew for the next. Where
-/// it is refused nothing is lost.
+/// (mallopt(3), M_MMAP_THRESHOLD), and doesn't return that of each blob to the system, to take it anew for the next. What is
+/// longer it maps by itself, moves as it grows and returns at once. Where this is refused nothing is lost.
 fn keep_memory(alloc: Global) {
     let _given_back = Vec::<u8>::with_capacity(alloc, KEPT_MEMORY);
 }
@@ -157,17 +158,21 @@ fn import_file(rt: &HostRuntime, file: &str, database: &str, start: Start, to: O
     requires drops { start.dropped ≤ start.at }
     requires ends { IfSome to (λ n. (start.at < n) × (n ≤ MAX_OFFSET)) }
 {
-    fill(rt, &FilledFiles, file, database, start, to)
+    let files = FilledFiles { pages: MANY_PAGES };
+    fill(rt, &files, file, database, start, to)
 }
 
 /// `migrate`, which fills a database from another.
 fn migrate_file(rt: &HostRuntime, old: &str, new: &str) -> u8 {
-    copy(rt, &FilledFiles, old, new)
+    let files = FilledFiles { pages: MANY_PAGES };
+    copy(rt, &files, old, new)
 }
 
 /// `merge`, which fills a database from others.
 fn merge_files(rt: &HostRuntime, into: &str, from: &[&str]) -> u8 {
-    merge(rt, &FilledFiles, into, from)
+    // it also holds the rows of a blob that it reads, and its elements
+    let files = FilledFiles { pages: FEW_PAGES };
+    merge(rt, &files, into, from)
 }
 
 /// `verify`, which compares a file with databases.

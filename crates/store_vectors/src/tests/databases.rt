@@ -228,7 +228,7 @@ impl Databases for Machine {
         name: &str,
     ) -> Result<Connection<FileStore<SharedFile>>, StoreFault> {
         let files = self.files(rt.alloc())?;
-        told(rt, name, connection_in(rt, files))
+        told(rt, name, connection_in(rt, files, FEW_PAGES))
     }
 
     fn close(&self, trees: FileStore<SharedFile>) {
