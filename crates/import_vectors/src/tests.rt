@@ -1,7 +1,0 @@
-mod copies;
-mod deliveries;
-mod faults;
-mod parts;
-mod questions;
-mod refusals;
-mod stops;
