@@ -45,7 +45,7 @@ use verifying::compare_all;
 /// The exit status for invalid arguments.
 const INVALID_ARGUMENTS: u8 = 2;
 
-/// How many bytes are taken once and given back. Vectors that are longer grow in place, and leave no gap behind.
+/// How many bytes are taken once and given back, by which glibc's limits grow.
 const KEPT_MEMORY: usize = 8 << 20;
 
 fn main(rt: HostRuntime) -> ExitCode {
@@ -58,7 +58,8 @@ fn main(rt: HostRuntime) -> ExitCode {
 
 /// Takes memory and gives it back at once. From then on glibc's allocator keeps up to twice as much that is given back
 /// (mallopt(3), M_MMAP_THRESHOLD), and doesn't return that of each blob to the system, to take it anew for the next. What is
-/// longer it maps by itself, moves as it grows and returns at once. Where this is refused nothing is lost.
+/// longer it maps by itself, until the first of these is given back and the limits grow again. Where it is refused nothing is
+/// lost.
 fn keep_memory(alloc: Global) {
     let _given_back = Vec::<u8>::with_capacity(alloc, KEPT_MEMORY);
 }
