@@ -1,0 +1,5 @@
+mod added_indexes;
+mod databases;
+mod openings;
+mod reasons;
+mod shared;

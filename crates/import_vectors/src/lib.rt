@@ -1,0 +1,6 @@
+//! The tests of the importer: what it is delivered, copies and takes from streams, over stores in memory and in files that
+//! stop at a call; and of parts.
+#![tactic(auto)]
+
+#[cfg(test)]
+mod tests;

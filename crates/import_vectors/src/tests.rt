@@ -1,0 +1,7 @@
+mod copies;
+mod deliveries;
+mod faults;
+mod parts;
+mod questions;
+mod refusals;
+mod stops;
