@@ -1,5 +1,5 @@
 -- What the short form of a row of `tag` or `link` stands for.
-use Rattle.std.specs.Prelude.{ℕ, pos, List, [], ◌∷◌, take, drop, codes}
+use Rattle.std.specs.Prelude.{ℕ, ◌+◌, ◌*◌, pos, List, [], ◌∷◌, take, drop, codes}
 use Rattle.sqlite.specs.declared.types.Value.TheVariants.{Int, Text as Words}
 use Rattle.sqlite.specs.Order.{Row}
 use Rattle.osm_store.specs.declared.load.tables.usual_role.UsualRole.{UsualRole}
@@ -7,6 +7,8 @@ use Rattle.osm_store.specs.declared.load.tables.usual_role.UsualRole.TheVariants
 use Rattle.osm_store.specs.declared.load.tables.part_row.PartForm.{PartForm}
 use Rattle.osm_store.specs.declared.load.tables.part_row.PartForm.TheVariants.{Tag, NodeLink, WayLink, RelationLink, Other}
 use Rattle.osm_store.specs.declared.load.tables.part_row.ShortLink.{ShortLink}
+use Rattle.osm_store.specs.declared.load.tables.part_row.ShortTag.{ShortTag}
+use Rattle.osm_value.specs.declared.element.MemberKind.{MemberKind}
 use Rattle.osm_value.specs.declared.element.MemberKind.TheVariants as kind
 use Rattle.osm_store.specs.Rows.{element_code}
 
@@ -42,10 +44,18 @@ role_text role.Subarea = codes "subarea"
 abbrev pub link_columns : ShortLink → Row
 link_columns link = Int link.off ∷ Int (pos link.position) ∷ Int (pos link.number) ∷ Int (pos (element_code link.kind)) ∷ Int link.id ∷ Words (role_text link.role) ∷ []
 
+-- the values of a tag's row, column by column
+abbrev pub tag_columns : ShortTag → Row
+tag_columns tag = Int tag.off ∷ Int (pos tag.position) ∷ Int (pos tag.number) ∷ Words (take tag.key_length tag.texts.items) ∷ Words (drop tag.key_length tag.texts.items) ∷ []
+
+-- the link with these numbers, the two long ones by the bits above their lower 32 and by those
+abbrev pub link_of : MemberKind → UsualRole → ℕ → ℕ → ℕ → ℕ → ℕ → ℕ → ShortLink
+link_of kind role number position off_upper id_upper off_lower id_lower = record { off = pos (off_upper * 4294967296 + off_lower); id = pos (id_upper * 4294967296 + id_lower); position = position; number = number; kind = kind; role = role }
+
 -- the values of the row, column by column
 abbrev pub columns_of : PartForm → Row
-columns_of (Tag key_length number position off texts) = Int off ∷ Int (pos position) ∷ Int (pos number) ∷ Words (take key_length texts.value.items) ∷ Words (drop key_length texts.value.items) ∷ []
-columns_of (NodeLink role number position off id) = link_columns (record { off = off; id = id; position = position; number = number; kind = kind.Node; role = role })
-columns_of (WayLink role number position off id) = link_columns (record { off = off; id = id; position = position; number = number; kind = kind.Way; role = role })
-columns_of (RelationLink role number position off id) = link_columns (record { off = off; id = id; position = position; number = number; kind = kind.Relation; role = role })
+columns_of (Tag tag) = tag_columns tag.value
+columns_of (NodeLink role number position off_upper id_upper off_lower id_lower) = link_columns (link_of kind.Node role number position off_upper id_upper off_lower id_lower)
+columns_of (WayLink role number position off_upper id_upper off_lower id_lower) = link_columns (link_of kind.Way role number position off_upper id_upper off_lower id_lower)
+columns_of (RelationLink role number position off_upper id_upper off_lower id_lower) = link_columns (link_of kind.Relation role number position off_upper id_upper off_lower id_lower)
 columns_of (Other row) = row.value

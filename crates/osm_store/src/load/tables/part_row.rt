@@ -1,11 +1,11 @@
 //! Rows of the tables `tag` and `link`. A blob of relations may have half a million of them, so most are held in a short form.
 
-ghost use Rattle.std.specs.Prelude.{◌≡◌, ◌↔◌, ◌++◌, pos, ℕ, take, drop, Some, IfOk, IfSome, IsTrue};
+ghost use Rattle.std.specs.Prelude.{◌≡◌, ◌↔◌, ◌+◌, ◌*◌, ◌++◌, pos, ℕ, take, drop, Some, IfOk, IfSome, IsTrue};
 ghost use Rattle.sqlite.specs.declared.types.Value.TheVariants.{Int};
 ghost use Rattle.sqlite.specs.Order.{column};
 ghost use Rattle.sqlite.specs.Value.{owned};
 ghost use Rattle.osm_store.specs.Load.Numbering.{AreNumbered};
-ghost use Rattle.osm_store.specs.Load.PartRows.{columns_of, link_columns};
+ghost use Rattle.osm_store.specs.Load.PartRows.{columns_of, link_columns, tag_columns};
 
 use crate::load::tables::usual_role::UsualRole;
 use crate::load::values::{kind_of, number_of};
@@ -29,38 +29,47 @@ struct ShortLink {
     role: UsualRole,
 }
 
-/// A row in a short form, or whatever other row it is. Fields stand in the order of their sizes, which leaves no gaps, and the
-/// kind of a link is told by its variant.
+/// A tag whose numbers are small and whose key is short. Its value lies behind its key.
+#[derive(Debug, Drop)]
+struct ShortTag {
+    off: i64,
+    texts: Vec<u8>,
+    position: u32,
+    number: u16,
+    key_length: u8,
+}
+
+/// A row in a short form, or whatever other row it is. The kind of a link is told by its variant, and its offset and its
+/// element's number by their upper eight bits and their lower 32. Fields stand in an order that leaves no gaps.
 #[derive(Debug, Drop)]
 enum PartForm {
-    /// A tag whose numbers are small and whose key is short. Its value lies behind its key.
-    Tag {
-        key_length: u8,
-        number: u16,
-        position: u32,
-        off: i64,
-        texts: Box<Vec<u8>>,
-    },
+    Tag(Box<ShortTag>),
     NodeLink {
         role: UsualRole,
         number: u16,
-        position: u32,
-        off: i64,
-        id: i64,
+        position: u16,
+        off_upper: u8,
+        id_upper: u8,
+        off_lower: u32,
+        id_lower: u32,
     },
     WayLink {
         role: UsualRole,
         number: u16,
-        position: u32,
-        off: i64,
-        id: i64,
+        position: u16,
+        off_upper: u8,
+        id_upper: u8,
+        off_lower: u32,
+        id_lower: u32,
     },
     RelationLink {
         role: UsualRole,
         number: u16,
-        position: u32,
-        off: i64,
-        id: i64,
+        position: u16,
+        off_upper: u8,
+        id_upper: u8,
+        off_lower: u32,
+        id_lower: u32,
     },
     Other(Box<Row>),
 }
@@ -72,7 +81,7 @@ pub struct PartRow {
 }
 
 // Of a blob with a million links each byte here is a megabyte.
-const _: () = prove!(size_of::<PartRow>() == 24);
+const _: () = prove!(size_of::<PartRow>() == 16);
 
 impl Model for PartRow {
     ghost use Rattle.std.specs.Prelude.{List};
@@ -92,10 +101,8 @@ impl FromRow for PartRow {
     ghost from_row_gives = { λ r. r };
 
     fn from_row(alloc: Global, row: &row::Row) -> Result<PartRow, AllocError> {
-        if let Some(link) = short_link(row) {
-            return Ok(PartRow {
-                form: link.packed(),
-            });
+        if let Some(form) = short_link(row).and_then(ShortLink::packed) {
+            return Ok(PartRow { form });
         }
         if let Some(form) = short_tag(alloc, row)? {
             return Ok(PartRow { form });
@@ -230,14 +237,14 @@ fn short_tag(alloc: Global, row: &row::Row) -> Result<Option<PartForm>, AllocErr
     let Ok(key_length) = u8::try_from(key.len()) else {
         return Ok(None);
     };
-    let texts = Box::new(alloc, joined(alloc, key, val)?)?;
-    Ok(Some(PartForm::Tag {
-        key_length,
-        number,
-        position,
+    let tag = ShortTag {
         off,
-        texts,
-    }))
+        texts: joined(alloc, key, val)?,
+        position,
+        number,
+        key_length,
+    };
+    Ok(Some(PartForm::Tag(Box::new(alloc, tag)?)))
 }
 
 /// The key, which has this many bytes, and the value behind it.
@@ -251,6 +258,23 @@ fn split_texts(texts: &[u8], key_length: u8) -> (&[u8], &[u8])
     } else {
         (texts, &[])
     }
+}
+
+/// The number with these eight bits above its lower 32.
+fn whole_number(upper: u8, lower: u32) -> i64
+    ensures { result ≡ pos (upper * 4294967296 + lower) }
+{
+    i64::from(upper) * (1 << 32) + i64::from(lower)
+}
+
+/// The eight bits above the lower 32 of a number below 2^40, and the lower 32.
+fn halves(number: i64) -> Option<(u8, u32)>
+    ensures { IfSome result (λ halves. pos (halves.0 * 4294967296 + halves.1) ≡ number) }
+{
+    let number = u64::try_from(number).ok()?;
+    let upper = u8::try_from(number / (1 << 32)).ok()?;
+    let lower = u32::try_from(number % (1 << 32)).ok()?;
+    Some((upper, lower))
 }
 
 impl ShortLink {
@@ -274,9 +298,9 @@ impl ShortLink {
         }
     }
 
-    /// The same in fewer bytes.
-    fn packed(self) -> PartForm
-        ensures { columns_of result ≡ link_columns self }
+    /// The same in 16 bytes, where its position is below 2^16 and its offset and number below 2^40.
+    fn packed(self) -> Option<PartForm>
+        ensures { IfSome result (λ form. columns_of form ≡ link_columns self) }
     {
         let ShortLink {
             off,
@@ -286,29 +310,38 @@ impl ShortLink {
             kind,
             role,
         } = self;
-        match kind {
+        let position = u16::try_from(position).ok()?;
+        let (off_upper, off_lower) = halves(off)?;
+        let (id_upper, id_lower) = halves(id)?;
+        Some(match kind {
             MemberKind::Node => PartForm::NodeLink {
                 role,
                 number,
                 position,
-                off,
-                id,
+                off_upper,
+                id_upper,
+                off_lower,
+                id_lower,
             },
             MemberKind::Way => PartForm::WayLink {
                 role,
                 number,
                 position,
-                off,
-                id,
+                off_upper,
+                id_upper,
+                off_lower,
+                id_lower,
             },
             MemberKind::Relation => PartForm::RelationLink {
                 role,
                 number,
                 position,
-                off,
-                id,
+                off_upper,
+                id_upper,
+                off_lower,
+                id_lower,
             },
-        }
+        })
     }
 
     /// The value in a column, and NULL past the end.
@@ -327,49 +360,81 @@ impl ShortLink {
     }
 }
 
+impl ShortTag {
+    /// The value in a column, and NULL past the end.
+    fn value(&self, at: usize) -> ValueRef<'_>
+        ensures { owned result ≡ column (tag_columns self.now) at }
+    {
+        let texts = self.texts.as_slice();
+        match at {
+            0 => ValueRef::Int(self.off),
+            1 => ValueRef::Int(i64::from(self.position)),
+            2 => ValueRef::Int(i64::from(self.number)),
+            3 => ValueRef::Text(split_texts(texts, self.key_length).0),
+            4 => ValueRef::Text(split_texts(texts, self.key_length).1),
+            _ => ValueRef::Null,
+        }
+    }
+}
+
 impl PartForm {
     /// The value in a column, and NULL past the end.
     fn value(&self, at: usize) -> ValueRef<'_>
         ensures { owned result ≡ column (columns_of self.now) at }
     {
         match self {
-            PartForm::Tag {
-                key_length,
-                number,
-                position,
-                off,
-                texts,
-            } => match at {
-                0 => ValueRef::Int(*off),
-                1 => ValueRef::Int(i64::from(*position)),
-                2 => ValueRef::Int(i64::from(*number)),
-                3 => ValueRef::Text(split_texts(texts.as_slice(), *key_length).0),
-                4 => ValueRef::Text(split_texts(texts.as_slice(), *key_length).1),
-                _ => ValueRef::Null,
-            },
+            PartForm::Tag(tag) => tag.value(at),
             PartForm::NodeLink {
                 role,
                 number,
                 position,
-                off,
-                id,
-            } => ShortLink::of(MemberKind::Node, *role, *number, *position, *off, *id).value(at),
+                off_upper,
+                id_upper,
+                off_lower,
+                id_lower,
+            } => ShortLink::of(
+                MemberKind::Node,
+                *role,
+                *number,
+                u32::from(*position),
+                whole_number(*off_upper, *off_lower),
+                whole_number(*id_upper, *id_lower),
+            )
+            .value(at),
             PartForm::WayLink {
                 role,
                 number,
                 position,
-                off,
-                id,
-            } => ShortLink::of(MemberKind::Way, *role, *number, *position, *off, *id).value(at),
+                off_upper,
+                id_upper,
+                off_lower,
+                id_lower,
+            } => ShortLink::of(
+                MemberKind::Way,
+                *role,
+                *number,
+                u32::from(*position),
+                whole_number(*off_upper, *off_lower),
+                whole_number(*id_upper, *id_lower),
+            )
+            .value(at),
             PartForm::RelationLink {
                 role,
                 number,
                 position,
-                off,
-                id,
-            } => ShortLink::of(MemberKind::Relation, *role, *number, *position, *off, *id).value(
-                at,
-            ),
+                off_upper,
+                id_upper,
+                off_lower,
+                id_lower,
+            } => ShortLink::of(
+                MemberKind::Relation,
+                *role,
+                *number,
+                u32::from(*position),
+                whole_number(*off_upper, *off_lower),
+                whole_number(*id_upper, *id_lower),
+            )
+            .value(at),
             PartForm::Other(row) => value_at(row, at),
         }
     }
