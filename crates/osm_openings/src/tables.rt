@@ -18,6 +18,7 @@ use osm_store::{
     CREATE_BLOB, CREATE_ELEMENT, CREATE_ELEMENT_INDEX, CREATE_LINK, CREATE_META, CREATE_TAG,
     TABLE_VERSION,
 };
+use osm_tree_writes::trees::META;
 use sqlite_disk::{Disk, Files};
 use sqlite_pager::Options;
 use sqlite_store::FileStore;
@@ -27,9 +28,6 @@ use sqlite_value::keys::Order;
 use sqlite_value::row::Row;
 use sqlite_value::value::ValueRef;
 use std::alloc::{AllocError, Global};
-
-/// The tree of the table that names the version.
-const META: u32 = 0;
 
 /// A table, as a statement makes it.
 fn table(name: &'static str, sql: &'static str) -> Object<'static>

@@ -9,9 +9,9 @@ ghost use Rattle.osm_store.specs.Keeping.{IsForeign};
 ghost use Rattle.osm_tree_audits.specs.Looks.{IsCount, IsLook};
 
 use crate::look::Look;
-use crate::trees::BLOBS;
 use osm_store::{Counts, StoreFault};
 use osm_tree_writes::fault_of;
+use osm_tree_writes::trees::BLOBS;
 use sqlite_trees::store::{Direction, Store};
 use sqlite_value::row::Row;
 use std::alloc::Global;

@@ -13,7 +13,6 @@ mod matching;
 mod rows;
 mod strays;
 mod tables;
-pub mod trees;
 mod values;
 mod walk;
 mod ways;

@@ -10,8 +10,10 @@ ghost use Rattle.osm_tree_audits.specs.Indexes.{IsWhole};
 ghost use Rattle.osm_tree_audits.specs.Looks.{IsLook, MatchLooked};
 
 use crate::indexes::{StoreIndex, counts_in_step, look_at, look_on};
-use crate::trees::{ELEMENT_BY_ID, ELEMENT_KEY, ELEMENTS, LINK_KEY, LINKS, TAG_KEY, TAGS};
 use osm_store::StoreFault;
+use osm_tree_writes::trees::{
+    ELEMENT_BY_ID, ELEMENT_KEY, ELEMENTS, LINK_KEY, LINKS, TAG_KEY, TAGS,
+};
 use sqlite_trees::store::Store;
 use sqlite_value::keys::Order;
 use std::alloc::Global;

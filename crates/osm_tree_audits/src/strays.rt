@@ -10,9 +10,9 @@ ghost use Rattle.osm_tree_audits.specs.ElementTables.{table_of};
 ghost use Rattle.osm_tree_audits.specs.Strays.{HasBlob, IsStrayRow, LacksBlob};
 
 use crate::tables::ElementTable;
-use crate::trees::BLOBS;
 use osm_store::StoreFault;
 use osm_tree_writes::fault_of;
+use osm_tree_writes::trees::BLOBS;
 use sqlite_trees::store::{Direction, Shape, Store};
 use sqlite_value::row::Row;
 use sqlite_value::value::ValueRef;

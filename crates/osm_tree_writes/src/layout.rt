@@ -3,6 +3,8 @@
 ghost use Rattle.std.specs.Prelude.{◌≡◌, ◌⊎◌, ◌↔◌, ◌<◌, ◌≤◌, ◌^◌, IsTrue};
 ghost use Rattle.osm_tree_writes.specs.Appending.{IsIndexAt, IsTableAt, RiseFrom};
 
+use crate::trees;
+use crate::trees::TREES;
 use sqlite_schema::schema::Index;
 use sqlite_trees::store::{Shape, Store};
 use sqlite_value::keys::Order;
@@ -27,30 +29,24 @@ pub(crate) struct TableTree {
     pub(crate) by_id: Option<IndexTree>,
 }
 
-/// How many trees a store has.
-const TREES: u64 = 9;
-
-/// The tree of the table of blobs.
-pub(crate) const BLOBS: u32 = 1;
-
 pub(crate) const ELEMENTS: TableTree = TableTree {
-    tree: 2,
+    tree: trees::ELEMENTS,
     key: IndexTree {
-        tree: 3,
+        tree: trees::ELEMENT_KEY,
         first: 1,
         width: 2,
     },
     by_id: Some(IndexTree {
-        tree: 8,
+        tree: trees::ELEMENT_BY_ID,
         first: 3,
         width: 2,
     }),
 };
 
 pub(crate) const TAGS: TableTree = TableTree {
-    tree: 4,
+    tree: trees::TAGS,
     key: IndexTree {
-        tree: 5,
+        tree: trees::TAG_KEY,
         first: 1,
         width: 3,
     },
@@ -58,9 +54,9 @@ pub(crate) const TAGS: TableTree = TableTree {
 };
 
 pub(crate) const LINKS: TableTree = TableTree {
-    tree: 6,
+    tree: trees::LINKS,
     key: IndexTree {
-        tree: 7,
+        tree: trees::LINK_KEY,
         first: 1,
         width: 3,
     },
@@ -89,7 +85,7 @@ pub(crate) fn has_table<S: Store>(store: &S, table: &TableTree) -> bool
 fn has_elements(table: u32) -> bool
     ensures { IsTrue result ↔ ((table ≡ 2) ⊎ ((table ≡ 4) ⊎ (table ≡ 6))) }
 {
-    table == 2 || table == 4 || table == 6
+    table == trees::ELEMENTS || table == trees::TAGS || table == trees::LINKS
 }
 
 /// Whether the trees have this index that somebody has added, from this number on and over a table of elements.

@@ -8,6 +8,7 @@ pub mod laws;
 mod layout;
 mod put;
 mod rowid;
+pub mod trees;
 
 pub use fault::fault_of;
 pub use put::{put_blob, takes_blobs};

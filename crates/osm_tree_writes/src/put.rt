@@ -16,7 +16,8 @@ ghost use Rattle.osm_tree_writes.specs.Putting.{PutsBelow, Writes, WritesElement
 use crate::append::{append_rows, put_table_row};
 use crate::fault::fault_of;
 use crate::free::are_places_free;
-use crate::layout::{BLOBS, ELEMENTS, LINKS, TAGS, has_more, has_table};
+use crate::layout::{ELEMENTS, LINKS, TAGS, has_more, has_table};
+use crate::trees::BLOBS;
 use osm_added_indexes::plain_indexes;
 use osm_store::{Extent, StoreFault, blob_code, element_rows, link_rows, tag_rows};
 use osm_value::Element;

@@ -14,8 +14,8 @@ ghost use Rattle.osm_trees.specs.Below.{HoldsBelow, Looks};
 
 use crate::row::extent_of;
 use osm_store::{Extent, StoreFault, are_apart};
-use osm_tree_audits::trees::BLOBS;
 use osm_tree_writes::fault_of;
+use osm_tree_writes::trees::BLOBS;
 use pbf_frame::MAX_OFFSET;
 use sqlite_trees::store::{Direction, Shape, Store};
 use sqlite_value::row::Row;

@@ -11,8 +11,8 @@ ghost use Rattle.osm_store.specs.Keeping.{IsForeign};
 ghost use Rattle.osm_trees.specs.Below.{HoldsBelow, Looks, is_flagged};
 
 use osm_store::StoreFault;
-use osm_tree_audits::trees::ELEMENTS;
 use osm_tree_writes::fault_of;
+use osm_tree_writes::trees::ELEMENTS;
 use sqlite_trees::store::{Direction, Store};
 use sqlite_value::row::Row;
 use sqlite_value::value::ValueRef;

@@ -16,7 +16,7 @@ ghost use Rattle.osm_trees.specs.Below.{HoldsBelow, Looks};
 
 use osm_store::{PartRow, StoreFault};
 use osm_tree_audits::rows_with;
-use osm_tree_audits::trees::{ELEMENT_KEY, ELEMENTS, LINK_KEY, LINKS, TAG_KEY, TAGS};
+use osm_tree_writes::trees::{ELEMENT_KEY, ELEMENTS, LINK_KEY, LINKS, TAG_KEY, TAGS};
 use sqlite::Row;
 use sqlite_trees::store::Store;
 use sqlite_value::row;

@@ -18,7 +18,7 @@ ghost use Rattle.osm_trees.specs.Below.{HoldsBelow, Looks};
 use crate::parts::parts_of;
 use osm_store::{PartRow, StoreFault, element_code};
 use osm_tree_audits::rows_with;
-use osm_tree_audits::trees::{ELEMENT_BY_ID, ELEMENTS};
+use osm_tree_writes::trees::{ELEMENT_BY_ID, ELEMENTS};
 use osm_value::MemberKind;
 use sqlite::Row;
 use sqlite_exec::work::FromRow;

@@ -1,5 +1,8 @@
 //! The numbers of a store's trees: its tables and their indexes.
 
+/// The table of the layout's version.
+pub const META: u32 = 0;
+
 /// The table of blobs.
 pub const BLOBS: u32 = 1;
 
@@ -23,3 +26,6 @@ pub const LINK_KEY: u32 = 7;
 
 /// The index of elements by kind and id.
 pub const ELEMENT_BY_ID: u32 = 8;
+
+/// How many trees a store has. Those from this number on are somebody else's.
+pub const TREES: u64 = 9;
