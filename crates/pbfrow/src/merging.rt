@@ -10,7 +10,8 @@ use pbfrow_answers::ending::refuse;
 use pbfrow_answers::meter::Meter;
 use pbfrow_answers::turns::{InTurn, OpensNamed};
 use pbfrow_commands::merge::merge_all;
-use pbfrow_commands::metered::{MeteredOutput, MeteredStore};
+use pbfrow_commands::metered::MeteredStore;
+use pbfrow_reading::metered::MeteredOutput;
 use std::io;
 use std::io::Write;
 
