@@ -2,13 +2,13 @@
 
 ghost use Rattle.std.specs.Prelude.{◌≡◌, ◌==◌, ◌≤◌, find};
 ghost use Rattle.osm_store.specs.Held.{HeldMap};
-ghost use Rattle.osm_reading.specs.Good.{IsGood};
+ghost use Rattle.osm_import.specs.Good.{IsGood};
 ghost use Rattle.osm_import.specs.Step.{Delivers, CrashLeaves, FaultHasCause, IsOwn};
 ghost use Rattle.osm_import.specs.Runs.{IsStored, StaysShut};
 ghost use Rattle.osm_import.specs.Histories.{LeavesEvents};
 
 use crate::answer::{Answer, Conflict};
-use osm_reading::{ExamineFault, Good, examine};
+use crate::examination::{ExamineFault, Good, examine};
 use osm_store::{Extent, Keeper, StoreFault};
 use sha2::{Digest, Sha256};
 use std::alloc::Global;

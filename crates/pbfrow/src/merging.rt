@@ -10,8 +10,7 @@ use pbfrow_answers::ending::refuse;
 use pbfrow_answers::meter::Meter;
 use pbfrow_answers::turns::{InTurn, OpensNamed};
 use pbfrow_commands::merge::merge_all;
-use pbfrow_commands::metered::MeteredStore;
-use pbfrow_reading::metered::MeteredOutput;
+use pbfrow_commands::metered::{MeteredOutput, MeteredStore};
 use std::io;
 use std::io::Write;
 

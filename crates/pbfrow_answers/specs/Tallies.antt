@@ -1,7 +1,7 @@
 -- When a progress line is due, and what draws it.
 use Rattle.std.specs.Prelude.{◌≡◌, ℕ, ◌+◌, ◌≤◌, List, ◌∷◌, ◌++◌, codes, max, Option, Some, None, false}
-use Rattle.pbfrow_reading.specs.Progress.{progress_line}
-use Rattle.pbfrow_reading.specs.declared.progress.Progress.{Progress}
+use Rattle.pbfrow_commands.specs.Progress.{progress_line}
+use Rattle.pbfrow_commands.specs.declared.progress.Progress.{Progress}
 use Rattle.pbfrow_answers.specs.declared.tally.Tally.{Tally}
 
 -- the command has worked for a second, its line has stood for a fifth of one, and no line of the output is in its way

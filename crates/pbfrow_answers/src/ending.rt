@@ -3,12 +3,12 @@
 ghost use Rattle.std.specs.Prelude.{◌≡◌, ◌⊎◌, true};
 ghost use Rattle.std.specs.Io.KnownBytes.{Keeps};
 ghost use Rattle.osm_value.specs.Sink.{Writes};
-ghost use Rattle.pbfrow_reading.specs.CommandLines.{store_fault_line};
+ghost use Rattle.pbfrow_commands.specs.CommandLines.{store_fault_line};
 
 use crate::meter::Meter;
 use osm_store::{Reader, StoreFault};
 use osm_value::{Outlet, Sink};
-use pbfrow_reading::report::put_store_fault;
+use pbfrow_commands::report::put_store_fault;
 use std::io::Write;
 
 /// The exit status if a fault was printed or the output couldn't be written.

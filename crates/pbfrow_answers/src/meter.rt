@@ -4,8 +4,8 @@ ghost use Rattle.std.specs.Prelude.{◌≡◌, ◌<◌, ◌++◌, OnOk};
 ghost use Rattle.pbfrow_answers.specs.Tallies.{erasing_line};
 
 use crate::tally::Tally;
-use pbfrow_reading::progress::{Progress, print_progress};
-use pbfrow_reading::watcher::Watcher;
+use pbfrow_commands::progress::{Progress, print_progress};
+use pbfrow_commands::watcher::Watcher;
 use std::cell::Cell;
 use std::fs::File;
 use std::io;

@@ -4,8 +4,8 @@ ghost use Rattle.std.specs.Prelude.{◌≡◌, false, IfOk, IfErr};
 
 use crate::meter::Meter;
 use osm_value::Outlet;
-use pbfrow_reading::metered::MeteredOutput;
-use pbfrow_reading::report::refuse_memory;
+use pbfrow_commands::metered::MeteredOutput;
+use pbfrow_commands::report::refuse_memory;
 use std::io;
 use std::io::{BufWriter, Printer};
 

@@ -1,10 +1,10 @@
 //! What a command has done so far, and whether its progress line is due.
 
 ghost use Rattle.std.specs.Prelude.{◌≡◌, ◌↔◌, ◌+◌, ◌==◌, ◌<◌, ◌++◌, ◌∷◌, [], ℕ, List, Some, true, false, not, IsTrue};
-ghost use Rattle.pbfrow_reading.specs.Checking.{capped};
+ghost use Rattle.pbfrow_commands.specs.Checking.{capped};
 ghost use Rattle.pbfrow_answers.specs.Tallies.{IsDue, at_least};
 
-use pbfrow_reading::progress::Progress;
+use pbfrow_commands::progress::Progress;
 
 /// How long a command works before its line is drawn, in milliseconds.
 const PATIENCE: u64 = 1000;

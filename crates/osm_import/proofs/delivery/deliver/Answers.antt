@@ -1,6 +1,6 @@
 use Rattle.std.proofs.Common.{refl, subst, sym}
-use Rattle.osm_reading.specs.Bad.{IsBad}
-use Rattle.osm_reading.specs.declared.fault.Fault.{Fault}
+use Rattle.osm_import.specs.Bad.{IsBad}
+use Rattle.osm_import.specs.declared.fault.Fault.{Fault}
 use Rattle.osm_import.proofs.EventLemmas.{leaves-events}
 use Rattle.osm_import.proofs.delivery.deliver.Goals as goal
 

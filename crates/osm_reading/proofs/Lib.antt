@@ -1,7 +1,0 @@
-pub mod Begun
-pub mod ExamineLemmas
-pub mod FaultLines
-pub mod Filling
-pub mod GoodLaws
-pub mod Moves
-pub mod NextFrame
