@@ -7,6 +7,8 @@ than 2^16 relations, one node more than 2^16 tags, and another keys of 255 bytes
 """
 import sys
 
+from wire import field, number
+
 IDS = [0, 2**31 - 1, 2**31, 2**32 - 1, 2**32, 2**40 - 1, 2**40, 2**62 - 1, 0, -1, -(2**40), 1 - 2**62, -1, 1]
 ROLES = ["", "outer", "inner", "a role of its own", "subarea"]
 # behind the roles in the table of texts
@@ -15,22 +17,8 @@ LETTERS = "nwr"
 MANY = 2**16 + 4
 
 
-def number(value):
-    """A number as a varint."""
-    made = b""
-    while value > 127:
-        made += bytes([value % 128 + 128])
-        value //= 128
-    return made + bytes([value])
-
-
 def zigzag(value):
     return number(2 * value if value >= 0 else -2 * value - 1)
-
-
-def field(place, payload):
-    """A field whose payload follows its length."""
-    return number(8 * place + 2) + number(len(payload)) + payload
 
 
 def differences(ids):

@@ -6,25 +6,13 @@ lines of its elements; and header.osm.pbf, blob.osm.pbf and raw.osm.pbf, in each
 """
 import sys
 
+from wire import field, number
+
 GREATEST_HEADER = 65_535
 GREATEST_BLOB = 33_619_968
 GREATEST_RAW = 33_554_431
 # the texts of as many nodes fill nearly all of a block
 NODES, TEXT = 16, 2_000_000
-
-
-def number(value):
-    """A number as a varint."""
-    made = b""
-    while value > 127:
-        made += bytes([value % 128 + 128])
-        value //= 128
-    return made + bytes([value])
-
-
-def field(place, payload):
-    """A field whose payload follows its length."""
-    return number(8 * place + 2) + number(len(payload)) + payload
 
 
 def padded(front, size):
