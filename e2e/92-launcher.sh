@@ -1,6 +1,7 @@
 #!/usr/bin/env bash
-# How the launcher builds: along the graph, once at a time, and only what has changed. It runs in a copy of its scripts, over six
-# small crates, with a command `rt` that proves nothing: it waits, and writes what the real one would.
+# How the launcher builds: along the graph, once at a time, and only what has changed; and for a command that only reads a file
+# the small program alone. It runs in a copy of its scripts, over seven small crates, with a command `rt` that proves nothing: it
+# waits, and writes what the real one would.
 set -u
 top=$(cd "$(dirname -- "${BASH_SOURCE[0]}")/.." && pwd)
 . "$top/e2e/checks.sh"
@@ -18,15 +19,16 @@ mkdir -p bin repository/gate repository/edits repository/.git
 cp "$top/pbfrow" repository
 cp "$top/gate/build" "$top/gate/graph.py" "$top/gate/run" "$top/gate/sources" repository/gate
 cat > repository/crates.txt <<'CRATES'
-# Two crates on one, one beside them, the program on all three, and its tests
+# Two crates on one, one beside them, the program on all three, its tests, and the small program
 low:
 left: low std
 right: low
 beside:
 pbfrow: left right beside clap
 vectors: low left
+pbfrow_reader: low
 CRATES
-for crate in low left right beside pbfrow vectors; do
+for crate in low left right beside pbfrow vectors pbfrow_reader; do
   mkdir -p "repository/crates/$crate/src"
   echo "// $crate" > "repository/crates/$crate/src/lib.rt"
 done
@@ -34,17 +36,19 @@ done
 cat > bin/rt <<'RT'
 #!/usr/bin/env bash
 # Stands for `rt`: `rt lib` and `rt run` lock the folders of a crate and of those below it, build what has changed in a time
-# that is set, and refuse a source with the word "wrong". A line of $STUB_STEPS tells each begin and end. `rt ci` leaves a
-# program.
+# that is set, and refuse a source with the word "wrong". A line of $STUB_STEPS tells each begin and end. `rt ci` leaves both
+# programs.
 set -u
 case $1 in
 version) cat "$STUB_KIT"; exit ;;
 ci)
   echo "begin gate" >> "$STUB_STEPS"
   sleep "$STUB_SECONDS"
-  rm -rf crates/pbfrow/out && mkdir crates/pbfrow/out
-  printf '#!/bin/sh\necho "the program of the gate: $*"\n' > crates/pbfrow/out/pbfrow
-  chmod 755 crates/pbfrow/out/pbfrow
+  for it in pbfrow pbfrow_reader; do
+    rm -rf "crates/$it/out" && mkdir "crates/$it/out"
+    printf '#!/bin/sh\necho "%s of the gate: $*"\n' "$it" > "crates/$it/out/$it"
+    chmod 755 "crates/$it/out/$it"
+  done
   echo "1 passed, 0 failed"
   exit
   ;;
@@ -76,12 +80,12 @@ if [ "$(cat out/rlib/stamp 2> /dev/null)" != "$(stamp "$name")" ]; then
   built_of=$(stamp "$name")
   sleep "$STUB_SECONDS"
   if grep -q wrong src/lib.rt; then echo "fn $name::f: not proved"; exit 1; fi
-  [ "$1" = lib ] || { printf '#!/bin/sh\necho "the program: $*"\n' > out/pbfrow && chmod 755 out/pbfrow; }
+  [ "$1" = lib ] || { printf '#!/bin/sh\necho "%s: $*"\n' "$name" > "out/$name" && chmod 755 "out/$name"; }
   echo "$built_of" > out/rlib/stamp
   echo "end $name" >> "$STUB_STEPS"
 fi
 echo "$name: rt $*"
-[ "$1" = lib ] || out/pbfrow list /dev/null
+[ "$1" = lib ] || "out/$name" list /dev/null
 RT
 printf '#!/bin/sh\n' | tee bin/rattle > repository/edits/check
 chmod 755 bin/rt bin/rattle repository/edits/check
@@ -116,7 +120,29 @@ in_order() {
   done
 }
 
-builds "a fresh clone is built" 0
+# runs NAME STDOUT WORD..: the launcher, called with these words, writes this line; steps.txt has what was built, said.txt what it
+# said.
+runs() {
+  : > steps.txt
+  repository/pbfrow "${@:3}" > got.txt 2> said.txt
+  echo "$2" > want.txt
+  same "$1" got.txt want.txt
+}
+
+runs "in a fresh clone a command that only reads a file is run by the small program" "pbfrow_reader: list a.pbf" list a.pbf
+are_built "for which the whole program isn't built" low pbfrow_reader
+grep -q '^pbfrow: proving and building the part of the program that only reads files first' said.txt && pass "and which is said to be a part" || fail "and which is said to be a part"
+repository/pbfrow --is-current && fail "the program isn't there by that" || pass "the program isn't there by that"
+for words in "check a.pbf" "show a.pbf" "ranges a.pbf" "help import" --help --version ""; do
+  # shellcheck disable=SC2086
+  runs "so are the words '$words'" "pbfrow_reader: $words" $words
+  are_built "without building more"
+done
+echo "// more" >> repository/crates/pbfrow_reader/src/lib.rt
+runs "a changed source of the small program is built" "pbfrow_reader: check b.pbf" check b.pbf
+are_built "and no other" pbfrow_reader
+rm -rf repository/crates/*/out
+STUB_SECONDS=1 builds "a fresh clone is built" 0
 are_built "each crate that the program stands on is built once, and no other" low left right beside pbfrow
 in_order "end low" "begin left" "end left" "begin pbfrow" && in_order "end low" "begin right" "end right" "begin pbfrow" &&
   in_order "end beside" "begin pbfrow" && pass "a crate begins when those that it stands on are there" ||
@@ -136,13 +162,14 @@ same "nothing is left of where crates were built" got.txt want.txt
 
 : > steps.txt
 repository/pbfrow show a.pbf > got.txt 2> said.txt
-echo "the program: show a.pbf" > want.txt
-same "the program runs with the launcher's words" got.txt want.txt
+echo "pbfrow: show a.pbf" > want.txt
+same "the program runs with the launcher's words, also those of the small one" got.txt want.txt
+are_built "which isn't built then"
 touch repository/crates.txt repository/crates/*/src/lib.rt
 repository/pbfrow --is-current && pass "touched sources are the same sources" || fail "touched sources are the same sources"
 touch -d '1 hour ago' repository/crates/pbfrow/out/pbfrow
 repository/pbfrow --is-current && fail "of another program than the noted one the time decides" || pass "of another program than the noted one the time decides"
-repository/gate/sources note "$(repository/gate/sources)"
+repository/gate/sources pbfrow note "$(repository/gate/sources pbfrow)"
 repository/pbfrow --is-current && pass "what a program is made of can be noted" || fail "what a program is made of can be noted"
 echo "// more tests" >> repository/crates/vectors/src/lib.rt
 repository/pbfrow --is-current && pass "the program isn't made of the tests" || fail "the program isn't made of the tests"
@@ -173,13 +200,13 @@ began() { for _ in {1..600}; do grep -qx "begin $1" steps.txt && return; sleep 0
 
 echo "// more" >> repository/crates/low/src/lib.rt
 : > steps.txt
-repository/pbfrow list first > first.txt 2> said.txt &
+repository/pbfrow import first > first.txt 2> said.txt &
 began low
 repository/pbfrow list second > second.txt 2> waited.txt
 wait $!
 cat first.txt second.txt > got.txt
-lines "the program: list first" "the program: list second" > want.txt
-same "of two starts at once both run the program" got.txt want.txt
+lines "pbfrow: import first" "pbfrow: list second" > want.txt
+same "of two starts at once both run the program, also where the small one would do for the second" got.txt want.txt
 are_built "which is built once" low left right pbfrow
 grep -q '^pbfrow: another process builds it already ([0-9]*); waiting' waited.txt && pass "the second says that it waits" || fail "the second says that it waits"
 grep -q 'crates, ' waited.txt && fail "and builds nothing" || pass "and builds nothing"
@@ -215,7 +242,7 @@ builds "a crate that isn't proved ends with 2" 2
 grep -qx "fn right::f: not proved" said.txt && grep -q "^pbfrow: right isn't proved or built; the whole log is .*/crates/right/out/build.log$" said.txt &&
   pass "it is named, with the end of its log" || { fail "it is named, with the end of its log"; sed 's/^/    /' said.txt; }
 grep -q "^begin pbfrow" steps.txt && fail "and what stands on it isn't begun" || pass "and what stands on it isn't begun"
-repository/pbfrow list a > got.txt 2> said.txt
+repository/pbfrow import a > got.txt 2> said.txt
 [ $? = 2 ] && [ ! -s got.txt ] && pass "no program runs that isn't of its sources" || fail "no program runs that isn't of its sources"
 sed -i '/wrong/d' repository/crates/right/src/lib.rt
 builds "once that is mended it is built" 0
@@ -226,8 +253,9 @@ echo "1 passed, 0 failed" > want.txt
 same "the gate passes" got.txt want.txt
 touch repository/crates/*/src/lib.rt
 repository/pbfrow list a > got.txt 2> said.txt
-echo "the program of the gate: list a" > want.txt
+echo "pbfrow of the gate: list a" > want.txt
 same "the program that it leaves is taken, whatever the time of the sources" got.txt want.txt
+repository/gate/sources pbfrow_reader match && pass "and so is the small one" || fail "and so is the small one"
 : > steps.txt
 repository/gate/run > got.txt 2> said.txt &
 began gate

@@ -165,6 +165,9 @@ SAYS = {
     "pbf_frame": "frames and raw blobs",
     "osm_block": "reading blocks",
     "osm_write": "writing blocks",
+    "osm_faults": "why a store fails",
+    "osm_reading": "frames read, good or bad",
+    "pbfrow_reading": "commands on a file alone",
     "osm_store": "blobs in a database",
     "osm_added_indexes": "indexes of one's own",
     "osm_tree_writes": "blobs put below SQL",
@@ -186,8 +189,11 @@ SAYS = {
     "command_vectors": "tests of the commands",
     "pbfrow_words": "the command line",
     "pbfrow_commands": "what each command does",
-    "pbfrow_answers": "what all commands share",
+    "pbfrow_meters": "progress, exit statuses",
+    "pbfrow_cli": "how a program begins",
+    "pbfrow_answers": "what questions call",
     "pbfrow": "the program",
+    "pbfrow_reader": "the small program",
 }
 UNNAMED = ("thiserror",)  # texts of errors, used nearly everywhere
 

@@ -1,7 +1,7 @@
 -- Which fault it is that a database's files can't be opened.
 use Rattle.std.specs.Prelude.{None}
-use Rattle.osm_store.specs.declared.fault.StoreFault.{StoreFault}
-use Rattle.osm_store.specs.declared.fault.StoreFault.TheVariants as fault
+use Rattle.osm_faults.specs.declared.fault.StoreFault.{StoreFault}
+use Rattle.osm_faults.specs.declared.fault.StoreFault.TheVariants as fault
 use Rattle.pbfrow_files.specs.declared.fault.OpenFault.{OpenFault}
 use Rattle.pbfrow_files.specs.declared.fault.OpenFault.TheVariants as file
 

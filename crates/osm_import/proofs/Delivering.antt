@@ -4,7 +4,7 @@ use Rattle.std.specs.Prelude.{find}
 use Rattle.std.specs.FinMap.{get, insert, entries, get-entries, entries_sorted}
 use Rattle.sha2.specs.Sha256.{sha256}
 use Rattle.osm_value.specs.declared.element.Element.{Element}
-use Rattle.osm_import.specs.Good.{IsGood, HasElements}
+use Rattle.osm_reading.specs.Good.{IsGood, HasElements}
 use Rattle.pbf_frame.specs.declared.kind.Kind.{Kind}
 use Rattle.pbf_frame.specs.declared.kind.Kind.TheVariants.{OsmHeader, OsmData, Other}
 use Rattle.osm_store.specs.Held.{Blob, HeldMap, IsFree, IsApart, HaveFewTexts}
@@ -12,7 +12,7 @@ use Rattle.osm_store.specs.HeldLaws.{IsFree-unheld}
 use Rattle.osm_store.specs.Keeping.{IsAddable, touches, extents_of, extent_of}
 use Rattle.osm_store.specs.declared.keeper.Extent.{Extent}
 use Rattle.osm_import.specs.Step.{IsEntry, IsHeldAlready, IsHeldOtherwise, IsOverlapping, IsStoring}
-use Rattle.osm_import.proofs.GoodLaws.{frame-filled}
+use Rattle.osm_reading.proofs.GoodLaws.{frame-filled}
 use Rattle.osm_import.proofs.FewTexts.{block_uses_few_texts}
 use Rattle.osm_import.proofs.Touching.{extent_found, find_touching, free-none, touching-meets, Meets}
 

@@ -4,12 +4,12 @@ use Rattle.std.specs.Io.KnownBytes.{Consumes, IsAtEnd}
 use Rattle.std.proofs.lemmas.List.{length-append}
 use Rattle.pbf_frame.specs.declared.fault.FrameFault.{FrameFault}
 use Rattle.pbf_frame.specs.Framer.{Framing, FaultStands, IsUnfinished}
-use Rattle.osm_import.specs.Exports.{Known}
-use Rattle.osm_import.specs.FrameReads.{Reading, GivesFrame, Halts, LacksFrame, framing_of}
-use Rattle.osm_import.specs.declared.stream.fault.Stop.{Stop}
-use Rattle.osm_import.specs.declared.stream.fault.Stop.TheVariants.{Frame}
-use Rattle.osm_import.specs.declared.stream.fault.StreamFault.{StreamFault}
-use Rattle.osm_import.proofs.Filling.{empty-full}
+use Rattle.osm_reading.specs.Framings.{Known}
+use Rattle.osm_reading.specs.FrameReads.{Reading, GivesFrame, Halts, LacksFrame, framing_of}
+use Rattle.osm_reading.specs.declared.stream.fault.Stop.{Stop}
+use Rattle.osm_reading.specs.declared.stream.fault.Stop.TheVariants.{Frame}
+use Rattle.osm_reading.specs.declared.stream.fault.StreamFault.{StreamFault}
+use Rattle.osm_reading.proofs.Filling.{empty-full}
 
 stands-in-a-byte : (w : List ℕ) (fault : FrameFault) (f : Framing) → f.rest ≡ w → FaultStands fault f → 0 < length f.rest
 stands-in-a-byte [] fault f empty stands = absurd (empty-full f empty (inr (fault, stands)))

@@ -9,14 +9,15 @@ use Rattle.std.specs.Io.KnownBytes.{Appends}
 use Rattle.std.proofs.KnownBytes.{Appends-trans, Appends-nil}
 use Rattle.osm_value.specs.declared.element.Element.{Element}
 use Rattle.osm_import.proofs.WritingLemmas.{lines_of-append, front-of-piece}
-use Rattle.osm_import.proofs.GoodLaws.{frame-filled}
+use Rattle.osm_reading.proofs.GoodLaws.{frame-filled}
 use Rattle.osm_store.specs.Held.{Blob, HeldMap, IsApart}
 use Rattle.osm_store.specs.Keeping.{extents_of, extent_of}
 use Rattle.osm_store.specs.declared.keeper.Extent.{Extent}
 use Rattle.osm_import.specs.Gaps.{AreGaps, Tiles, ranges_between}
 use Rattle.osm_import.specs.Files.{AreFrames, StandsAt, IsFile, IsHeldOfFile, joined}
 use Rattle.osm_import.specs.Step.{IsEntry}
-use Rattle.osm_import.specs.Exports.{Known, lines_of, blob_lines, AreElements, greatest_end, size_of, IsRefusalOf, AreTiling, IsRefusal, WritesLines, WritesFile, IsExport, IsUnbegun, IsAskedFor}
+use Rattle.osm_reading.specs.Framings.{Known}
+use Rattle.osm_import.specs.Exports.{lines_of, blob_lines, AreElements, greatest_end, size_of, IsRefusalOf, AreTiling, IsRefusal, WritesLines, WritesFile, IsExport, IsUnbegun, IsAskedFor}
 use Rattle.osm_import.specs.Walks.{elements_at, WritesInTurn, Walks}
 use Rattle.osm_import.specs.declared.export.fault.ExportFault.{ExportFault}
 use Rattle.osm_import.specs.declared.export.fault.ExportFault.TheVariants.{Incomplete, PastEnd, WriteFailed, BlockTooLarge, Store}

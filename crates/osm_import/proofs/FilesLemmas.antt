@@ -3,7 +3,7 @@ use Rattle.std.proofs.Common.{◌≡◌, ℕ, ◌+◌, ◌<◌, ◌≤◌, List,
 use Rattle.osm_store.specs.Held.{Blob}
 use Rattle.osm_import.specs.Files.{AreFrames, StandsAt}
 use Rattle.osm_import.specs.Step.{IsEntry}
-use Rattle.osm_import.proofs.GoodLaws.{good-same, frame-filled}
+use Rattle.osm_reading.proofs.GoodLaws.{good-same, frame-filled}
 
 pub stands-from : (start : ℕ) (frames : List (List ℕ)) (off : ℕ) (frame : List ℕ) → StandsAt start frames off frame → start ≤ off
 stands-from start [] off frame stands = absurd stands

@@ -1,16 +1,15 @@
 -- One frame of a stream: from what its calls say to what was done.
-use Rattle.std.proofs.Common.{◌≡◌, ◌⊎◌, ℕ, Bool, List, [], ◌++◌, Some, None, Ok, refl, sym, ap, subst, ◌∙◌, inl, inr}
-use Rattle.std.specs.Io.KnownBytes.{Consumes, IsAtEnd, prepend_known}
+use Rattle.std.proofs.Common.{◌≡◌, ◌⊎◌, ℕ, Bool, List, [], ◌++◌, None, Ok, refl, sym, ap, subst, ◌∙◌, inl, inr}
+use Rattle.std.specs.Io.KnownBytes.{Consumes, IsAtEnd}
 use Rattle.pbf_frame.specs.declared.fault.FrameFault.{FrameFault}
 use Rattle.pbf_frame.specs.Framer.{Framing, FaultStands, IsUnfinished, waiting}
-use Rattle.osm_import.specs.Exports.{Known}
-use Rattle.osm_import.specs.Streams.{Moved}
-use Rattle.osm_import.specs.FrameReads.{HasFrame, LacksFrame}
-use Rattle.osm_import.specs.StreamSteps.{IsBegun, HasNoFrame, FrameStop}
+use Rattle.osm_reading.specs.Framings.{Known, Moved, IsBegun, HasNoFrame}
+use Rattle.osm_reading.specs.FrameReads.{HasFrame, LacksFrame}
+use Rattle.osm_import.specs.StreamSteps.{FrameStop}
 use Rattle.osm_import.specs.declared.answer.Answer.{Answer}
-use Rattle.osm_import.specs.declared.stream.fault.Stop.{Stop}
-use Rattle.osm_import.specs.declared.stream.fault.Stop.TheVariants.{Frame, NoHeaderFirst, WriteFailed, Store, ReadFailed, BlobLimit}
-use Rattle.osm_import.proofs.Begun.{no-frame}
+use Rattle.osm_reading.specs.declared.stream.fault.Stop.{Stop}
+use Rattle.osm_reading.specs.declared.stream.fault.Stop.TheVariants.{Frame, NoHeaderFirst, WriteFailed, Store, ReadFailed, BlobLimit}
+use Rattle.osm_reading.proofs.Begun.{no-frame}
 use Rattle.osm_import.proofs.StreamLemmas.{none-waits}
 
 -- what the framer has is what the input lost
@@ -46,7 +45,3 @@ reading-stopped f before after written source_failed sink_failed Same One g Blob
 pub nothing-held : (f : Framing) (left : Known) → waiting f ≡ Ok None → HasFrame f left → (f.rest ≡ []) × IsAtEnd left
 nothing-held f left none (inl waits) = absurd (none-waits f none waits)
 nothing-held f left none (inr held) = held
-
-pub end-known : (piece : List ℕ) (left : Known) → (piece ≡ []) × IsAtEnd left → IsAtEnd (prepend_known piece left)
-end-known piece None h = tt
-end-known piece (Some xs) h = ap (λ (v : List ℕ). v ++ xs) h.0 ∙ h.1

@@ -1,12 +1,10 @@
 pub mod Delivering
-pub mod ExamineLemmas
 pub mod PbfLemmas
 pub mod PbfFile
 pub mod ExportLemmas
 pub mod FewTexts
 pub mod FilesLemmas
 pub mod GapsLemmas
-pub mod GoodLaws
 pub mod HistoryLemmas
 pub mod RunsLemmas
 pub mod RepeatLemmas
@@ -20,11 +18,7 @@ pub mod HandedOn
 pub mod WalkLemmas
 pub mod AnswerLines
 pub mod FrameLemmas
-pub mod Moves
-pub mod Filling
 pub mod EndOfInput
-pub mod Begun
-pub mod NextFrame
 pub mod StreamLists
 pub mod StreamTakes
 pub mod StreamLemmas

@@ -16,11 +16,11 @@ use Rattle.osm_import.specs.Step.{IsEntry}
 use Rattle.osm_import.specs.Copies.{IsMerged, IsUnited}
 use Rattle.osm_import.specs.Merges.{AreUnited, IsImported, AreImported, all_of, UnionsAreImports, UnionsAreUnrefused, UnionsStay, placed_from, frames_in, AreRuns, PartsAreOneImport, UnionsAreTakenAgain, ImportsPart}
 use Rattle.std.specs.Io.KnownBytes.{Consumes, IsAtEnd}
-use Rattle.osm_import.specs.Exports.{Known}
+use Rattle.osm_reading.specs.Framings.{Known}
 use Rattle.osm_import.specs.Flows.{Input, Output}
 use Rattle.osm_import.specs.Streams.{Reply, frames_of, answers_of, deliveries_at, Streams}
 use Rattle.osm_import.specs.declared.stream.summary.Summary.{Summary}
-use Rattle.osm_import.specs.declared.stream.fault.StreamFault.{StreamFault}
+use Rattle.osm_reading.specs.declared.stream.fault.StreamFault.{StreamFault}
 use Rattle.osm_import.specs.declared.answer.Conflict.TheVariants.{Differs, Overlap}
 use Rattle.osm_import.proofs.FilesLemmas.{stands-apart, stands-same, entry-same}
 use Rattle.osm_import.proofs.HistoryLemmas.{among-good, nothing-held}

@@ -25,16 +25,17 @@ use Rattle.osm_write.proofs.HeaderRead.{header_reads}
 use Rattle.osm_store.specs.Flags.{has_flags}
 use Rattle.osm_store.specs.Held.{Blob, HeldMap, IsApart}
 use Rattle.osm_store.specs.Keeping.{extents_of}
-use Rattle.osm_import.specs.Good.{IsGood, HasElements}
+use Rattle.osm_reading.specs.Good.{IsGood, HasElements}
 use Rattle.osm_import.specs.Gaps.{Tiles}
 use Rattle.osm_import.specs.Files.{AreFrames, IsFile, IsHeldOfFile, joined}
-use Rattle.osm_import.specs.Exports.{Known, AreElements, IsAskedFor, size_of}
+use Rattle.osm_reading.specs.Framings.{Known}
+use Rattle.osm_import.specs.Exports.{AreElements, IsAskedFor, size_of}
 use Rattle.osm_import.specs.Pbf.{header_frame, data_frame, data_frames, Cuts, AreFramesOf, IsPbfExport, WritesPbfFile}
 use Rattle.osm_import.specs.declared.export.fault.ExportFault.{ExportFault}
 use Rattle.osm_import.specs.declared.export.fault.ExportFault.TheVariants.{Incomplete, PastEnd, WriteFailed, BlockTooLarge, Store}
 use Rattle.osm_import.proofs.Touching.{find-tail, find-head, sorted-tail}
 use Rattle.osm_import.proofs.Delivering.{true-of}
-use Rattle.osm_import.proofs.GoodLaws.{frame-filled}
+use Rattle.osm_reading.proofs.GoodLaws.{frame-filled}
 use Rattle.osm_import.proofs.ExportLemmas.{elements_in, file-elements, unrefused}
 use Rattle.osm_import.proofs.PbfLemmas.{header-small}
 

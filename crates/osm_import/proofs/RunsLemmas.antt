@@ -13,7 +13,7 @@ use Rattle.osm_import.specs.declared.answer.Answer.{Answer}
 use Rattle.osm_import.specs.declared.answer.Answer.TheVariants.{Stored, AlreadyHeld, Bad, Refused, Fault}
 use Rattle.osm_import.specs.declared.answer.Conflict.TheVariants.{Differs, Overlap}
 use Rattle.osm_import.proofs.FilesLemmas.{stands-apart, stands-same, entry-same}
-use Rattle.osm_import.proofs.GoodLaws.{good-not_bad}
+use Rattle.osm_reading.proofs.GoodLaws.{good-not_bad}
 
 -- what a step holds was held before, or is the new entry
 pub step-back : (held : HeldMap) (o : ℕ) (w : List ℕ) (answer : Answer) (next : HeldMap) → IsStep held o w answer next

@@ -9,15 +9,15 @@ use Rattle.osm_value.specs.declared.element.Element.{Element}
 use Rattle.pbf_frame.specs.declared.kind.Kind.{Kind}
 use Rattle.osm_store.specs.Held.{Blob, HeldMap}
 use Rattle.osm_store.specs.Keeping.{touches, extents_of}
-use Rattle.osm_import.specs.Good.{IsGood}
-use Rattle.osm_import.specs.Bad.{IsBad}
+use Rattle.osm_reading.specs.Good.{IsGood}
+use Rattle.osm_reading.specs.Bad.{IsBad}
 use Rattle.osm_import.specs.Step.{IsStep, IsEntry, IsHeldAlready, IsHeldOtherwise, IsOverlapping, IsStoring}
 use Rattle.osm_import.specs.Runs.{IsFault}
-use Rattle.osm_import.specs.declared.fault.Fault as the
+use Rattle.osm_reading.specs.declared.fault.Fault as the
 use Rattle.osm_import.specs.declared.answer.Conflict.TheVariants.{Differs, Overlap}
 use Rattle.osm_import.specs.declared.answer.Answer.{Answer}
 use Rattle.osm_import.specs.declared.answer.Answer.TheVariants.{Stored, AlreadyHeld, Bad, Refused, Fault}
-use Rattle.osm_import.proofs.GoodLaws.{good-or-bad, good-not_bad, bad-one}
+use Rattle.osm_reading.proofs.GoodLaws.{good-or-bad, good-not_bad, bad-one}
 use Rattle.osm_import.proofs.FilesLemmas.{entry-same}
 use Rattle.osm_import.proofs.Delivering.{true-of, entry_at, entry_at-is, free-of, both-held, not-held}
 use Rattle.osm_import.proofs.Touching.{Meets, touching-meets}

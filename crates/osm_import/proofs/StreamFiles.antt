@@ -13,13 +13,13 @@ use Rattle.osm_import.specs.Files.{AreFrames, joined, IsFile, StandsAt, IsFrameA
 use Rattle.osm_import.specs.Gaps.{IsCovered, Tiles}
 use Rattle.osm_import.specs.Step.{IsStep}
 use Rattle.osm_import.specs.Runs.{IsRun, Runs, IsFault, IsRefused, IsNone}
-use Rattle.osm_import.specs.Exports.{Known}
+use Rattle.osm_reading.specs.Framings.{Known}
 use Rattle.osm_import.specs.Flows.{Input, Output}
 use Rattle.osm_import.specs.Streams.{Reply, frames_of, answers_of, deliveries_at, is_bad, EndsWell, Streams, ImportsFile}
 use Rattle.osm_import.specs.declared.answer.Answer.{Answer}
 use Rattle.osm_import.specs.declared.answer.Answer.TheVariants.{Stored, AlreadyHeld, Bad, Refused, Fault}
 use Rattle.osm_import.specs.declared.stream.summary.Summary.{Summary}
-use Rattle.osm_import.specs.declared.stream.fault.StreamFault.{StreamFault}
+use Rattle.osm_reading.specs.declared.stream.fault.StreamFault.{StreamFault}
 use Rattle.osm_import.proofs.FilesLemmas.{stands-same}
 use Rattle.osm_import.proofs.RunsLemmas.{run-keep, run-imports}
 

@@ -7,24 +7,24 @@ use Rattle.pbf_frame.specs.declared.fault.FrameFault.{FrameFault}
 use Rattle.pbf_frame.specs.Framer.{Framing, FrameWaits, FaultStands, IsUnfinished, waiting}
 use Rattle.pbf_frame.proofs.WaitingLaws.{waiting_again}
 use Rattle.pbf_wire.proofs.Choices.{ok_is}
-use Rattle.osm_store.specs.declared.fault.StoreFault.TheVariants.{Memory}
-use Rattle.osm_import.specs.Good.{IsFrame}
+use Rattle.osm_faults.specs.declared.fault.StoreFault.TheVariants.{Memory}
+use Rattle.osm_reading.specs.Good.{IsFrame}
 use Rattle.osm_import.specs.Files.{AreFrames, joined}
 use Rattle.osm_import.specs.Deliveries.{DeliveryValue}
-use Rattle.osm_import.specs.Exports.{Known}
+use Rattle.osm_reading.specs.Framings.{Known, HasNoFrame}
 use Rattle.osm_import.specs.Flows.{Input, Output}
 use Rattle.osm_import.specs.Runs.{IsFault, IsNone}
 use Rattle.osm_import.specs.Lines.{answer_line}
 use Rattle.osm_import.specs.Streams.{Reply, frames_of, answers_of, deliveries_at, lines_at, end_at, summary_of, ended_at, IsStop, Stops, Streams}
-use Rattle.osm_import.specs.StreamSteps.{HasNoFrame, FrameAnswered, FrameStop}
+use Rattle.osm_import.specs.StreamSteps.{FrameAnswered, FrameStop}
 use Rattle.osm_import.specs.declared.answer.Answer.{Answer}
 use Rattle.osm_import.specs.declared.answer.Answer.TheVariants as answers
 use Rattle.osm_import.specs.declared.stream.summary.Summary.{Summary}
 use Rattle.osm_import.specs.declared.stream.run.Delivered.{Delivered}
-use Rattle.osm_import.specs.declared.stream.fault.Stop.{Stop}
-use Rattle.osm_import.specs.declared.stream.fault.Stop.TheVariants.{Frame, NoHeaderFirst, WriteFailed, Store, ReadFailed, BlobLimit}
+use Rattle.osm_reading.specs.declared.stream.fault.Stop.{Stop}
+use Rattle.osm_reading.specs.declared.stream.fault.Stop.TheVariants.{Frame, NoHeaderFirst, WriteFailed, Store, ReadFailed, BlobLimit}
 use Rattle.osm_import.proofs.RunsLemmas.{none-push}
-use Rattle.osm_import.proofs.GoodLaws.{frame-filled}
+use Rattle.osm_reading.proofs.GoodLaws.{frame-filled}
 use Rattle.osm_import.proofs.WritingLemmas.{front-of-piece}
 use Rattle.osm_import.proofs.StreamLists.{frames-push, answers-push, delivery_of, deliveries-push, answers-length, lines-push, end-push, frames-more, joined-push, Small, small-of}
 

@@ -1,7 +1,7 @@
 -- One more frame and its answer.
 use Rattle.std.proofs.Common.{◌≡◌, ℕ, suc, ◌+◌, ◌≤◌, List, [], ◌∷◌, ◌++◌, length, refl, sym, ap, ◌∙◌, append_assoc, append-nil}
 use Rattle.std.proofs.lemmas.List.Sums.{count_by-le-length}
-use Rattle.osm_import.specs.Good.{IsFrame}
+use Rattle.osm_reading.specs.Good.{IsFrame}
 use Rattle.osm_import.specs.Files.{AreFrames, joined}
 use Rattle.osm_import.specs.Deliveries.{DeliveryValue}
 use Rattle.osm_import.specs.Lines.{answer_line}

@@ -4,7 +4,7 @@ use Rattle.std.specs.FinMap.{entries}
 use Rattle.osm_value.specs.declared.element.Element.{Element}
 use Rattle.osm_write.specs.Cutter.{is_too_large, Halved, Start, Half, first_count, StepOk, ComesToOne}
 use Rattle.osm_store.specs.Held.{Blob, HeldMap}
-use Rattle.osm_import.specs.Exports.{Known}
+use Rattle.osm_reading.specs.Framings.{Known}
 use Rattle.osm_import.specs.Pbf.{Cuts, AreFramesOf, IsPbfExport}
 use Rattle.osm_import.specs.TooLarge.{IsTooLargeExactly, FirstIsTooLarge}
 use Rattle.osm_import.specs.Walks.{elements_at}

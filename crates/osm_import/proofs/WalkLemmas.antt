@@ -8,8 +8,8 @@ use Rattle.osm_value.specs.declared.element.Element.{Element}
 use Rattle.osm_store.specs.Held.{Blob, HeldMap}
 use Rattle.osm_store.specs.Keeping.{extents_of, extent_of, IsForeign}
 use Rattle.osm_store.specs.declared.keeper.Extent.{Extent}
-use Rattle.osm_store.specs.declared.fault.StoreFault.{StoreFault}
-use Rattle.osm_import.specs.Exports.{Known}
+use Rattle.osm_faults.specs.declared.fault.StoreFault.{StoreFault}
+use Rattle.osm_reading.specs.Framings.{Known}
 use Rattle.osm_import.specs.ExportCauses.{ExportHasCause, ExportIsOwn, WriteHasCause}
 use Rattle.osm_import.specs.Walks.{Writing, elements_at, WritesOne, WritesInTurn, StopsAt}
 use Rattle.osm_import.specs.declared.export.fault.ExportFault.{ExportFault}

@@ -6,7 +6,8 @@ use Rattle.std.proofs.KnownBytes.{Appends-trans}
 use Rattle.osm_value.specs.declared.element.Element.{Element}
 use Rattle.osm_value.specs.Line.{line}
 use Rattle.osm_value.specs.Sink.{AppendsFront}
-use Rattle.osm_import.specs.Exports.{Known, lines_of}
+use Rattle.osm_reading.specs.Framings.{Known}
+use Rattle.osm_import.specs.Exports.{lines_of}
 
 pub lines_of-append : (xs ys : List Element) → lines_of (xs ++ ys) ≡ lines_of xs ++ lines_of ys
 lines_of-append [] ys = refl

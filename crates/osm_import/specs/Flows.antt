@@ -2,8 +2,8 @@
 use Rattle.std.specs.Prelude.{ℕ, Bool, List}
 use Rattle.std.specs.Io.KnownBytes.{prepend_known}
 use Rattle.osm_value.specs.declared.sink.Sink.{Ghosts as SinkOf}
-use Rattle.osm_import.specs.Exports.{Known}
-use Rattle.osm_import.specs.declared.stream.source.Source.{Ghosts as SourceOf}
+use Rattle.osm_reading.specs.Framings.{Known}
+use Rattle.osm_reading.specs.declared.stream.source.Source.{Ghosts as SourceOf}
 
 -- an input: the bytes left before and after, where they are known, and whether a read has failed so far
 pub record Input : Type 0 where

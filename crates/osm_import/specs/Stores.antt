@@ -14,7 +14,8 @@ use Rattle.osm_import.specs.declared.answer.Answer.{Answer}
 use Rattle.osm_import.specs.declared.copy.CopyCounts.{CopyCounts}
 use Rattle.osm_import.specs.declared.copy.CopyStop.{CopyStop}
 
--- All that `deliver` promises of one delivery. Where nothing is stored, the tables are as they were, whatever rows they have.
+-- All that `deliver` promises of one delivery: what it answers and leaves, what a crash may leave now, why a fault is answered,
+-- and what becomes of the store. Where nothing is stored, the tables are as they were, whatever rows they have.
 pub record TakesOne {S : Type 0} (store : Ghosts S) (old new : S) (off : ℕ) (bytes : List ℕ) (answer : Answer) : Type 0 where
   pub step : (held : HeldMap) → store.holds old held → store.is_honest new → Delivers (store.is_open new) (store.holds new) held off bytes answer
   pub crash : (held : HeldMap) → store.holds old held → store.is_honest new → CrashLeaves (store.leaves new) held off bytes

@@ -1,31 +1,20 @@
 -- What reading and delivering one frame of a stream does.
-use Rattle.std.specs.Prelude.{◌≡◌, ◌⊎◌, ℕ, ◌+◌, ◌<◌, ◌≤◌, true, List, [], ◌++◌, length, Option, Some, None, Result, Ok, Err}
+use Rattle.std.specs.Prelude.{◌≡◌, ◌⊎◌, ℕ, ◌+◌, ◌≤◌, true, List, [], length, Option, Some, None, Result, Ok, Err}
 use Rattle.std.specs.Io.KnownBytes.{Appends, Consumes, IsAtEnd}
 use Rattle.pbf_frame.specs.declared.fault.FrameFault.{FrameFault}
 use Rattle.pbf_frame.specs.Framer.{Framing, FrameWaits, FaultStands, IsUnfinished, waiting}
 use Rattle.osm_value.specs.Sink.{AppendsFront}
-use Rattle.osm_store.specs.declared.fault.StoreFault.TheVariants.{Memory}
-use Rattle.osm_import.specs.Good.{IsFrame}
+use Rattle.osm_faults.specs.declared.fault.StoreFault.TheVariants.{Memory}
+use Rattle.osm_reading.specs.Good.{IsFrame}
 use Rattle.osm_import.specs.Flows.{Input, Output}
 use Rattle.osm_import.specs.Runs.{IsFault}
 use Rattle.osm_import.specs.Lines.{answer_line}
 use Rattle.osm_import.specs.declared.answer.Answer.{Answer}
 use Rattle.osm_import.specs.declared.answer.Answer.TheVariants as answers
 use Rattle.osm_import.specs.declared.stream.run.Delivered.{Delivered}
-use Rattle.osm_import.specs.declared.stream.fault.Stop.{Stop}
-use Rattle.osm_import.specs.declared.stream.fault.Stop.TheVariants.{Frame, NoHeaderFirst, WriteFailed, Store, ReadFailed, BlobLimit}
-
--- the framer takes no more: a frame waits or a fault applies
-abbrev pub IsFull : Framing → Type 0
-IsFull f = FrameWaits f ⊎ ((fault : FrameFault) × FaultStands fault f)
-
--- No front of these bytes, which stand at this offset, is a whole frame or has a fault that stands.
-abbrev pub HasNoFrame : ℕ → List ℕ → Type 0
-HasNoFrame offset bytes = (front more : List ℕ) → bytes ≡ front ++ more → IsFull (record { offset = offset; rest = front; lent = [] }) → ⊥
-
--- No frame ends, and no fault applies, before the end of what the framer holds.
-abbrev pub IsBegun : Framing → Type 0
-IsBegun f = (front more : List ℕ) → f.rest ≡ front ++ more → 0 < length more → IsFull (record { offset = f.offset; rest = front; lent = [] }) → ⊥
+use Rattle.osm_reading.specs.declared.stream.fault.Stop.{Stop}
+use Rattle.osm_reading.specs.declared.stream.fault.Stop.TheVariants.{Frame, NoHeaderFirst, WriteFailed, Store, ReadFailed, BlobLimit}
+use Rattle.osm_reading.specs.Framings.{HasNoFrame}
 
 -- what the call for the frame that waits has given
 abbrev pub Gave : Framing → Framing → Type 0 → (ℕ → List ℕ → Answer → Type 0) → Result (Option Delivered) FrameFault → Type 0

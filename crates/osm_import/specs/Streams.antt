@@ -2,24 +2,23 @@
 use Rattle.std.specs.Prelude.{◌≡◌, ◌≢◌, ◌⊎◌, ℕ, ◌+◌, ◌^◌, ◌==◌, ◌&&◌, if◌then◌else◌, ◌<◌, ◌≤◌, Bool, true, false, List, [], ◌∷◌, ◌++◌, length, Result, Ok, Err}
 use Rattle.std.specs.List.{count_by}
 use Rattle.std.specs.Io.KnownBytes.{Appends, Consumes, IsAtEnd, prepend_known}
-use Rattle.pbf_frame.specs.Framer.{Framing, FaultStands, IsUnfinished}
+use Rattle.pbf_frame.specs.Framer.{FaultStands, IsUnfinished}
 use Rattle.osm_value.specs.Sink.{AppendsFront}
 use Rattle.osm_store.specs.Held.{HeldMap}
-use Rattle.osm_store.specs.declared.fault.StoreFault.TheVariants.{Memory}
+use Rattle.osm_faults.specs.declared.fault.StoreFault.TheVariants.{Memory}
 use Rattle.osm_import.specs.Files.{AreFrames, joined, IsFile, IsHeldOfFile}
 use Rattle.osm_import.specs.Gaps.{Tiles}
 use Rattle.osm_import.specs.Deliveries.{DeliveryValue}
-use Rattle.osm_import.specs.Exports.{Known}
 use Rattle.osm_import.specs.Flows.{Input, Output}
 use Rattle.osm_import.specs.Runs.{IsFault, IsNone}
 use Rattle.osm_import.specs.Lines.{answer_line}
-use Rattle.osm_import.specs.StreamSteps.{HasNoFrame}
+use Rattle.osm_reading.specs.Framings.{HasNoFrame}
 use Rattle.osm_import.specs.declared.answer.Answer.{Answer}
 use Rattle.osm_import.specs.declared.answer.Answer.TheVariants as answers
 use Rattle.osm_import.specs.declared.stream.summary.Summary.{Summary}
-use Rattle.osm_import.specs.declared.stream.fault.Stop.{Stop}
-use Rattle.osm_import.specs.declared.stream.fault.Stop.TheVariants.{Frame, NoHeaderFirst, WriteFailed, Store, ReadFailed, BlobLimit}
-use Rattle.osm_import.specs.declared.stream.fault.StreamFault.{StreamFault}
+use Rattle.osm_reading.specs.declared.stream.fault.Stop.{Stop}
+use Rattle.osm_reading.specs.declared.stream.fault.Stop.TheVariants.{Frame, NoHeaderFirst, WriteFailed, Store, ReadFailed, BlobLimit}
+use Rattle.osm_reading.specs.declared.stream.fault.StreamFault.{StreamFault}
 
 -- ---- frames and their answers
 
@@ -81,18 +80,6 @@ pub record HasRoom (s : Summary) : Type 0 where
 -- what is said at the end of an input that stood at `from` at its start
 abbrev pub ended_at : ℕ → Summary → Result Summary StreamFault
 ended_at from summary = if from == 0 && summary.next == 0 then Err (record { fault = NoHeaderFirst; at = 0 }) else Ok summary
-
--- ---- what is read
-
--- the framer's rest grew by the bytes that the input lost
-abbrev pub Moved : Framing → Framing → Known → Known → Type 0
-Moved f g before after = (x : List ℕ) × (g.offset ≡ f.offset) × (g.rest ≡ f.rest ++ x) × Consumes before after x
-
--- why a piece isn't read: a read failed, or memory was refused
-abbrev pub ReadHasCause : Bool → Stop → Type 0
-ReadHasCause failed ReadFailed = failed ≡ true
-ReadHasCause failed (Store fault) = fault ≡ Memory
-ReadHasCause failed _ = ⊥
 
 -- ---- how the import of a stream ends
 

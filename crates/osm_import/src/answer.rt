@@ -3,7 +3,7 @@
 ghost use Rattle.std.specs.Prelude.{◌≡◌};
 ghost use Rattle.osm_import.specs.Faults.{conflict_number_of, conflict_name_of};
 
-use crate::fault::Fault;
+use osm_reading::Fault;
 use osm_store::StoreFault;
 use thiserror::Error;
 

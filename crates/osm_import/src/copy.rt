@@ -5,7 +5,7 @@ ghost use Rattle.std.specs.FinMap.{get};
 ghost use Rattle.osm_store.specs.Held.{Blob, HeldMap};
 ghost use Rattle.osm_store.specs.Keeping.{IsRange, extent_of, extents_of};
 ghost use Rattle.osm_import.specs.Copies.{BlobCopied, CopiesBlob, Copies, CrashLeavesBlob, CrashLeavesSome, BlobHasCause, CopyHasCause, IsOwnBlob, IsOwnCopy, ComeTo, is_added};
-ghost use Rattle.osm_store.specs.declared.fault.StoreFault.TheVariants.{Memory};
+ghost use Rattle.osm_faults.specs.declared.fault.StoreFault.TheVariants.{Memory};
 ghost use Rattle.osm_import.specs.declared.copy.CopyFault.TheVariants.{Store};
 ghost use Rattle.osm_import.specs.CopyFaults.{copy_number_of, copy_name_of};
 ghost use Rattle.osm_import.specs.Stores.{CopiesEach, CopiesInTurn, Rereads};

@@ -2,13 +2,13 @@
 
 ghost use Rattle.std.specs.Prelude.{◌≡◌, ◌==◌, ◌≤◌, find};
 ghost use Rattle.osm_store.specs.Held.{HeldMap};
-ghost use Rattle.osm_import.specs.Good.{IsGood};
+ghost use Rattle.osm_reading.specs.Good.{IsGood};
 ghost use Rattle.osm_import.specs.Step.{Delivers, CrashLeaves, FaultHasCause, IsOwn};
 ghost use Rattle.osm_import.specs.Runs.{IsStored, StaysShut};
-ghost use Rattle.osm_import.specs.Histories.{LeavesEvents};
+ghost use Rattle.osm_import.specs.Stores.{TakesOne};
 
 use crate::answer::{Answer, Conflict};
-use crate::examination::{ExamineFault, Good, examine};
+use osm_reading::{ExamineFault, Good, examine};
 use osm_store::{Extent, Keeper, StoreFault};
 use sha2::{Digest, Sha256};
 use std::alloc::Global;
@@ -79,25 +79,7 @@ fn deliver_good<K: Keeper>(
 /// stores nothing, and a crash leaves what it could leave before. Where the store can go on, each answer but `Stored`
 /// leaves the tables as they were, whatever rows they have.
 pub fn deliver<K: Keeper>(alloc: Global, keeper: &mut K, off: u64, bytes: &[u8]) -> Answer
-    ensures step { (held : HeldMap) → K.holds keeper.old held → K.is_honest keeper.new
-        → Delivers (K.is_open keeper.new) (K.holds keeper.new) held off bytes.now result }
-
-    // What a crash may leave now.
-    ensures crash { (held : HeldMap) → K.holds keeper.old held → K.is_honest keeper.new → CrashLeaves (K.leaves keeper.new) held off bytes.now }
-    ensures events { (held : HeldMap) → K.holds keeper.old held → K.is_honest keeper.new
-        → LeavesEvents (K.leaves keeper.new) held (record { off = off; bytes = bytes.now }) result }
-    ensures whole { (held : HeldMap) → K.holds keeper.old held → K.is_honest keeper.new → K.leaves_a_map keeper.new }
-    ensures alone { (held : HeldMap) → K.holds keeper.old held → K.is_honest keeper.new → K.is_alone keeper.old → K.is_alone keeper.new }
-
-    // Why a fault is answered.
-    ensures own { (held : HeldMap) → K.holds keeper.old held → K.is_honest keeper.new → IsOwn result }
-    ensures cause { FaultHasCause (K.failures keeper.old) (K.failures keeper.new) result }
-    ensures honest { K.is_honest keeper.new → K.is_honest keeper.old }
-    ensures open_if { K.is_open keeper.new → K.is_open keeper.old }
-    ensures same { K.is_honest keeper.new → K.is_open keeper.new → ¬ (IsStored result) → K.same_tables keeper.old keeper.new }
-    ensures shut { K.is_honest keeper.new → ¬ (K.is_open keeper.old)
-        → StaysShut (K.leaves keeper.old) (K.leaves keeper.new) (K.leaves_a_map keeper.old) (K.leaves_a_map keeper.new) result }
-    ensures counted { K.failures keeper.old ≤ K.failures keeper.new }
+    ensures { TakesOne K.Reader keeper.old keeper.new off bytes.now result }
 {
     match examine(alloc, off, bytes) {
         Ok(good) => deliver_good(alloc, keeper, off, bytes, &good),

@@ -10,19 +10,19 @@ ghost use Rattle.osm_store.specs.Held.{HeldMap};
 ghost use Rattle.osm_import.specs.Step.{IsStep};
 ghost use Rattle.osm_import.specs.Runs.{IsFault, RepeatsChangeNothing};
 ghost use Rattle.osm_import.specs.declared.answer.Answer.{Answer};
-ghost use Rattle.osm_import.specs.Good.{IsGood};
-ghost use Rattle.osm_import.specs.Bad.{IsBad};
+ghost use Rattle.osm_reading.specs.Good.{IsGood};
+ghost use Rattle.osm_reading.specs.Bad.{IsBad};
 ghost use Rattle.osm_import.specs.Files.{AreFrames, IsFrameAt};
-ghost use Rattle.osm_import.specs.declared.fault.Fault.{Fault};
-ghost use Rattle.osm_import.specs.Exports.{Known};
+ghost use Rattle.osm_reading.specs.declared.fault.Fault.{Fault};
+ghost use Rattle.osm_reading.specs.Framings.{Known};
 ghost use Rattle.osm_import.specs.Pbf.{IsPbfExport};
 ghost use Rattle.osm_import.specs.TooLarge.{IsTooLargeExactly, FirstIsTooLarge};
 ghost use Rattle.osm_import.specs.declared.export.fault.ExportFault.{ExportFault};
-ghost use Rattle.osm_import.specs.FrameReads.{Reading, GivesFrame, Halts};
+ghost use Rattle.osm_reading.specs.FrameReads.{Reading, GivesFrame, Halts};
 ghost use Rattle.osm_import.specs.Histories.{HistoriesRestart};
 ghost use Rattle.osm_import.specs.Merges.{UnionsAreImports, UnionsAreUnrefused, UnionsStay, UnionsAreTakenAgain, PartsAreOneImport};
-ghost use Rattle.osm_import.specs.declared.stream.fault.Stop.TheVariants.{Frame};
-ghost use Rattle.osm_import.specs.declared.stream.fault.StreamFault.{StreamFault};
+ghost use Rattle.osm_reading.specs.declared.stream.fault.Stop.TheVariants.{Frame};
+ghost use Rattle.osm_reading.specs.declared.stream.fault.StreamFault.{StreamFault};
 
 /// A delivery has a fault exactly where it isn't good for any kind and elements; it has one fault, or one kind and one
 /// list of elements.

@@ -6,9 +6,7 @@ mod answer;
 mod copy;
 mod deliveries;
 mod delivery;
-mod examination;
 mod export;
-mod fault;
 mod gap;
 pub mod laws;
 mod migration;
@@ -18,15 +16,14 @@ pub use answer::{Answer, Conflict};
 pub use copy::{BlobCopy, CopyCounts, CopyFault, CopyStop, copy_held};
 pub use deliveries::{Delivery, deliver_all};
 pub use delivery::deliver;
-pub use examination::{ExamineFault, Good, examine, examine_frame};
 pub use export::{
     BlobStep, Blocks, ExportFault, Lines, export_lines, export_pbf, greatest_end, refused,
     write_blobs, write_header,
 };
-pub use fault::Fault;
 pub use gap::{gaps, gaps_between};
 pub use migration::{MigrateFault, migrate};
-pub use stream::{
-    FrameReader, Inlet, Source, SourceFailed, Stop, StreamFault, Summary, import_stream,
-    put_fault_at, put_plain_fault,
+pub use osm_reading::{
+    ExamineFault, Fault, FrameReader, Good, Inlet, Source, SourceFailed, Stop, StreamFault,
+    examine, examine_frame, put_fault_at, put_plain_fault,
 };
+pub use stream::{Summary, import_stream};

@@ -15,7 +15,7 @@ use Rattle.osm_store.specs.Keeping.{extent_of, extents_of}
 use Rattle.osm_store.specs.declared.keeper.Extent.{Extent}
 use Rattle.osm_import.specs.Files.{AreFrames, StandsAt, joined}
 use Rattle.osm_import.specs.Gaps.{AreGaps, IsCovered}
-use Rattle.osm_import.specs.Good.{IsFrame}
+use Rattle.osm_reading.specs.Good.{IsFrame}
 use Rattle.osm_import.proofs.Touching.{find-cons, find-tail, find-head, sorted-tail}
 use Rattle.osm_import.proofs.Delivering.{true-of}
 use Rattle.osm_parts.specs.Parts.{IsInPart}

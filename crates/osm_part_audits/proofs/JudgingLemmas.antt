@@ -10,15 +10,15 @@ use Rattle.osm_store.specs.Audit.{elements_held}
 use Rattle.osm_store.specs.Held.{Blob, HeldMap}
 use Rattle.osm_store.specs.Keeping.{extent_of, extents_of}
 use Rattle.osm_store.specs.declared.keeper.Extent.{Extent}
-use Rattle.osm_import.specs.Bad.{IsBad, IsFinding}
-use Rattle.osm_import.specs.declared.examination.ExamineFault.{ExamineFault}
-use Rattle.osm_import.specs.declared.examination.ExamineFault.TheVariants as examined
-use Rattle.osm_import.specs.Exports.{Known}
+use Rattle.osm_reading.specs.Bad.{IsBad, IsFinding}
+use Rattle.osm_reading.specs.declared.examination.ExamineFault.{ExamineFault}
+use Rattle.osm_reading.specs.declared.examination.ExamineFault.TheVariants as examined
+use Rattle.osm_reading.specs.Framings.{Known}
 use Rattle.osm_import.specs.Step.{IsEntry}
-use Rattle.osm_import.specs.declared.fault.Fault.{Fault}
+use Rattle.osm_reading.specs.declared.fault.Fault.{Fault}
 use Rattle.osm_import.proofs.Delivering.{true-of}
 use Rattle.osm_import.proofs.FilesLemmas.{entry-same}
-use Rattle.osm_import.proofs.GoodLaws.{good-not_bad}
+use Rattle.osm_reading.proofs.GoodLaws.{good-not_bad}
 use Rattle.osm_import.proofs.WalkLemmas.{read-is}
 use Rattle.pbf_frame.specs.declared.kind.Kind.TheVariants.{OsmHeader}
 use Rattle.osm_import.proofs.Touching.{find-head, find-tail, sorted-tail}

@@ -1,6 +1,6 @@
 -- Bytes of a file at an offset.
 use Rattle.std.specs.Prelude.{◌≡◌, ℕ, ◌+◌, ◌<◌, Bool, true, false, List, ◌++◌, length, drop, Some, None}
-use Rattle.osm_import.specs.Exports.{Known}
+use Rattle.osm_reading.specs.Framings.{Known}
 
 -- the bytes stand in the file, from this offset on
 abbrev pub StandsIn : List ℕ → ℕ → List ℕ → Type 0

@@ -9,7 +9,7 @@ use Rattle.osm_store.specs.Keeping.{AscendApart}
 use Rattle.osm_store.specs.declared.audit.counts.Counts.{Counts}
 use Rattle.osm_store.specs.declared.keeper.Extent.{Extent}
 use Rattle.osm_store.specs.declared.schema.layout.Layout.{Layout}
-use Rattle.osm_import.specs.Exports.{Known}
+use Rattle.osm_reading.specs.Framings.{Known}
 use Rattle.osm_import.specs.Step.{IsEntry}
 use Rattle.osm_verify.specs.Agreements.{IsSame}
 use Rattle.osm_verify.specs.Audits.{IsEntryOf}

@@ -1,7 +1,7 @@
 //! A file whose bytes can be read at any offset.
 
 ghost use Rattle.std.specs.Prelude.{◌≡◌, IfOk, IfSome, Some, length};
-ghost use Rattle.osm_import.specs.Exports.{Known};
+ghost use Rattle.osm_reading.specs.Framings.{Known};
 ghost use Rattle.osm_part_audits.specs.InFile.{Fills};
 
 use osm_import::SourceFailed;

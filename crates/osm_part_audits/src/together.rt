@@ -3,7 +3,7 @@
 ghost use Rattle.std.specs.Prelude.{◌≡◌, ◌↔◌, ◌≤◌, ◌++◌, [], ℕ, Some, IsTrue, false, List, length, slice_get, IfOk, IfErr, IfSome};
 ghost use Rattle.osm_store.specs.Held.{HeldMap, IsApart};
 ghost use Rattle.osm_store.specs.Keeping.{extents_of};
-ghost use Rattle.osm_import.specs.Exports.{Known};
+ghost use Rattle.osm_reading.specs.Framings.{Known};
 ghost use Rattle.osm_parts.specs.Opening.{OnlyOpens};
 ghost use Rattle.osm_parts.specs.Reading.{AreRead, AreStores};
 ghost use Rattle.osm_verify.specs.declared.comparing.Depth.{Depth as DepthValue};

@@ -4,8 +4,8 @@ use Rattle.std.specs.FinMap.{entries, insert}
 use Rattle.pbf_frame.specs.declared.part.TheConstants.{MAX_OFFSET}
 use Rattle.osm_store.specs.Held.{Blob, HeldMap, IsFree, HaveFewTexts}
 use Rattle.osm_store.specs.declared.keeper.Extent.{Extent}
-use Rattle.osm_store.specs.declared.fault.StoreFault.{StoreFault}
-use Rattle.osm_store.specs.declared.fault.StoreFault.TheVariants.{NotThisStore}
+use Rattle.osm_faults.specs.declared.fault.StoreFault.{StoreFault}
+use Rattle.osm_faults.specs.declared.fault.StoreFault.TheVariants.{NotThisStore}
 
 -- the extent of a held blob
 abbrev pub extent_of : ℕ × Blob → Extent

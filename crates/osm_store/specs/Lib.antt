@@ -9,7 +9,6 @@ pub mod Rows
 pub mod TableRows
 pub mod RowExamples
 pub mod Flags
-pub mod Faults
 pub mod LayoutHolding
 pub mod EarlierRows
 pub mod Store

@@ -9,3 +9,4 @@ pub mod Asking
 pub mod Selects
 pub mod Finding
 pub mod Starting
+pub mod Unread

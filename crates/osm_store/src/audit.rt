@@ -16,10 +16,10 @@ ghost use Rattle.osm_store.specs.Audit.{ShowsBlob, ShowsCounts, AreCountable, Is
 ghost use Rattle.osm_store.specs.Held.{Blob, HeldMap};
 ghost use Rattle.osm_store.specs.Keeping.{OnlyReads};
 
-use crate::fault::StoreFault;
 use crate::keeper::Reader;
 pub use counts::Counts;
 pub(crate) use counts::has_counts_of;
+use osm_faults::StoreFault;
 use osm_value::Element;
 use pbf_frame::{Kind, MAX_OFFSET};
 pub(crate) use rows::has_rows_of;

@@ -5,7 +5,7 @@ ghost use Rattle.std.specs.FinMap.{empty};
 ghost use Rattle.sqlite.specs.State.{HasCleanDisk};
 ghost use Rattle.sqlite.specs.Held.{state};
 ghost use Rattle.osm_store.specs.Load.Asking.{JustAsks, NamesVersion};
-ghost use Rattle.osm_store.specs.Faults.{NamesNoVersion};
+ghost use Rattle.osm_faults.specs.Faults.{NamesNoVersion};
 ghost use Rattle.osm_store.specs.Held.{HeldMap};
 ghost use Rattle.osm_store.specs.LayoutHolding.{Holds, TablesHold};
 ghost use Rattle.osm_store.specs.Keeping.{IsForeign};
@@ -14,13 +14,14 @@ ghost use Rattle.osm_store.specs.Schema.Bodies.{no_schema};
 ghost use Rattle.osm_store.specs.Schema.Named.{HasTables};
 
 use crate::audit::{Audited, Counts, has_counts_of, has_rows_of};
-use crate::fault::{StoreFault, failures_after};
+use crate::failures::failures_after;
 use crate::keeper::{Extent, Keeper, Reader};
 use crate::load::{
     Found, Loaded, all_extents, any_flag_held, find_held, load_held, touched_extents,
 };
 use crate::put::put_rows;
 use crate::schema::{Bodies, StoreLayout, Tables, adopt_store, create_store};
+use osm_faults::StoreFault;
 use osm_value::{Element, MemberKind};
 use pbf_frame::Kind;
 use sqlite::{Alter, Connection};

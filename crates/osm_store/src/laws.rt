@@ -17,8 +17,8 @@ ghost use Rattle.osm_store.specs.Keeping.{IsForeign};
 ghost use Rattle.osm_store.specs.LayoutHolding.{Holds, IsKept, LeavesAMap, MayLeave, TablesHold};
 
 use crate::blob_store::BlobStore;
-use crate::fault::StoreFault;
 use crate::schema::{Layout, StoreLayout};
+use osm_faults::StoreFault;
 use sqlite::{Alter, Connection, MemStore};
 
 /// The rows of a map are those of no other map.

@@ -3,7 +3,7 @@
 
 mod audit;
 mod blob_store;
-mod fault;
+mod failures;
 mod keeper;
 pub mod laws;
 mod load;
@@ -12,9 +12,9 @@ mod schema;
 
 pub use audit::{Audited, Counts, have_columns};
 pub use blob_store::{BlobStore, BodyStore, TableStore};
-pub use fault::StoreFault;
 pub use keeper::{Extent, Keeper, Reader};
 pub use load::{Found, Loaded, PartRow, are_apart};
+pub use osm_faults::StoreFault;
 pub use put::{ElementRow, LinkRow, TableRow, TagRow, element_rows, link_rows, tag_rows};
 pub use schema::codes::{blob_code, element_code};
 pub use schema::sql::{

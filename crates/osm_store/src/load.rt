@@ -18,4 +18,4 @@ pub use found::Found;
 pub(crate) use held::{any_flag_held, find_held, load_held};
 pub use loaded::Loaded;
 pub use tables::PartRow;
-pub(crate) use values::number_at;
+pub(crate) use values::{number_at, unread};

@@ -1,5 +1,6 @@
 pub mod Appending
 pub mod Beside
 pub mod Faults
+pub mod Harmless
 pub mod Putting
 pub mod Tables

@@ -1,15 +1,15 @@
 //! Rows put behind the last one of a table, each with its entries in the table's indexes.
 
-ghost use Rattle.std.specs.Prelude.{◌≡◌, ◌∷◌, ◌++◌, [], map, false, IsTrue, IfErr, OnOk, OnErr};
+ghost use Rattle.std.specs.Prelude.{◌≡◌, ◌∷◌, ◌++◌, [], map, false, IsTrue, OnOk};
 ghost use Rattle.sqlite_value.specs.declared.value.Value.TheVariants.{Int};
 ghost use Rattle.sqlite_value.specs.Keys.{plain};
 ghost use Rattle.sqlite_trees.specs.declared.store.Shape.TheVariants.{Table};
 ghost use Rattle.sqlite_trees.specs.Tree.{rowid, put_row, insert_entry};
-ghost use Rattle.sqlite_trees.specs.View.{IsClean, IsQuiet, KeepsSchema, KeepsCommitted, OnlyWrites, SetsTree, is_int};
+ghost use Rattle.sqlite_trees.specs.View.{IsClean, OnlyWrites, SetsTree, is_int};
 ghost use Rattle.sqlite_sql.specs.Catalog.{entry_of};
 ghost use Rattle.sqlite.specs.Values.{bound};
-ghost use Rattle.osm_store.specs.Keeping.{IsForeign};
 ghost use Rattle.osm_tree_writes.specs.Appending.{columns_of, AreIndexesAt, IsAfter, IsApart, IsApartOf, IsIndexAt, IsTableAt, Appends, PutsEntries};
+ghost use Rattle.osm_tree_writes.specs.Harmless.{IsHarmless};
 
 use crate::fault::fault_of;
 use crate::layout::{IndexTree, TableTree};
@@ -44,10 +44,7 @@ fn put_entry<S: Store>(
 ) -> Result<(), StoreFault>
     requires { IsClean (S.Store.view store.old) → IsIndexAt (S.Store.view store.old).shape index }
     ensures ok { OnOk result (IsClean (S.Store.view store.new) → SetsTree (S.Store.view store.old) (S.Store.view store.new) index.tree (insert_entry plain (entry_of (columns_of index) row.now))) }
-    ensures kept { IsClean (S.Store.view store.new) → OnErr result (KeepsCommitted (S.Store.view store.old) (S.Store.view store.new)) }
-    ensures schema { KeepsSchema (S.Store.view store.old) (S.Store.view store.new) }
-    ensures ours { IfErr result (λ fault. ¬ (IsForeign fault)) }
-    ensures quiet { IsQuiet S.Store.view S.Store.faults S.Store.recovers S.Store.is_shielded store.old store.new }
+    ensures harmless { IsHarmless S.Store.view S.Store.faults S.Store.recovers S.Store.is_shielded store.old result store.new }
 {
     make_entry(entry, index, row)?;
     store.insert(index.tree, entry).map_err(fault_of)
@@ -62,10 +59,7 @@ pub(crate) fn put_table_row<S: Store>(
     requires table { IsClean (S.Store.view store.old) → (S.Store.view store.old).shape table ≡ Table }
     requires keyed { IsTrue (is_int (rowid row.now)) }
     ensures ok { OnOk result (IsClean (S.Store.view store.new) → SetsTree (S.Store.view store.old) (S.Store.view store.new) table (put_row row.now)) }
-    ensures kept { IsClean (S.Store.view store.new) → OnErr result (KeepsCommitted (S.Store.view store.old) (S.Store.view store.new)) }
-    ensures schema { KeepsSchema (S.Store.view store.old) (S.Store.view store.new) }
-    ensures ours { IfErr result (λ fault. ¬ (IsForeign fault)) }
-    ensures quiet { IsQuiet S.Store.view S.Store.faults S.Store.recovers S.Store.is_shielded store.old store.new }
+    ensures harmless { IsHarmless S.Store.view S.Store.faults S.Store.recovers S.Store.is_shielded store.old result store.new }
 {
     store.put(table, row).map_err(fault_of)
 }
@@ -90,10 +84,7 @@ fn put_entry_of<S: Store>(
 ) -> Result<(), StoreFault>
     requires { IsClean (S.Store.view store.old) → (S.Store.view store.old).shape added.now.tree ≡ Shape.Index added.now.order }
     ensures ok { OnOk result (IsClean (S.Store.view store.new) → SetsTree (S.Store.view store.old) (S.Store.view store.new) added.now.tree (insert_entry added.now.order (entry_of added.now.columns row.now))) }
-    ensures kept { IsClean (S.Store.view store.new) → OnErr result (KeepsCommitted (S.Store.view store.old) (S.Store.view store.new)) }
-    ensures schema { KeepsSchema (S.Store.view store.old) (S.Store.view store.new) }
-    ensures ours { IfErr result (λ fault. ¬ (IsForeign fault)) }
-    ensures quiet { IsQuiet S.Store.view S.Store.faults S.Store.recovers S.Store.is_shielded store.old store.new }
+    ensures harmless { IsHarmless S.Store.view S.Store.faults S.Store.recovers S.Store.is_shielded store.old result store.new }
 {
     make_entry_of(entry, added.columns.as_slice(), row)?;
     store.insert(added.tree, entry).map_err(fault_of)
@@ -109,10 +100,7 @@ fn put_entries<S: Store>(
 ) -> Result<(), StoreFault>
     requires { IsClean (S.Store.view store.old) → AreIndexesAt (S.Store.view store.old).shape more.now }
     ensures ok { OnOk result (IsClean (S.Store.view store.new) → PutsEntries more.now table row.now (S.Store.view store.old) (S.Store.view store.new)) }
-    ensures kept { IsClean (S.Store.view store.new) → OnErr result (KeepsCommitted (S.Store.view store.old) (S.Store.view store.new)) }
-    ensures schema { KeepsSchema (S.Store.view store.old) (S.Store.view store.new) }
-    ensures ours { IfErr result (λ fault. ¬ (IsForeign fault)) }
-    ensures quiet { IsQuiet S.Store.view S.Store.faults S.Store.recovers S.Store.is_shielded store.old store.new }
+    ensures harmless { IsHarmless S.Store.view S.Store.faults S.Store.recovers S.Store.is_shielded store.old result store.new }
 {
     for index in more {
         if index.table == table {
@@ -135,10 +123,7 @@ fn append_own<S: Store>(
     ensures appended { OnOk result (IsClean (S.Store.view store.new) → (next : _) (columns : _) → row.now ≡ Int next ∷ columns → IsAfter next ((S.Store.view store.old).trees table.now.tree)
         → Appends table.now [] (columns ∷ []) (S.Store.view store.old) (S.Store.view store.new) × ((S.Store.view store.new).trees table.now.tree ≡ (S.Store.view store.old).trees table.now.tree ++ row.now ∷ [])) }
     ensures frame { OnOk result (IsClean (S.Store.view store.new) → OnlyWrites (S.Store.view store.old) (S.Store.view store.new)) }
-    ensures kept { IsClean (S.Store.view store.new) → OnErr result (KeepsCommitted (S.Store.view store.old) (S.Store.view store.new)) }
-    ensures schema { KeepsSchema (S.Store.view store.old) (S.Store.view store.new) }
-    ensures ours { IfErr result (λ fault. ¬ (IsForeign fault)) }
-    ensures quiet { IsQuiet S.Store.view S.Store.faults S.Store.recovers S.Store.is_shielded store.old store.new }
+    ensures harmless { IsHarmless S.Store.view S.Store.faults S.Store.recovers S.Store.is_shielded store.old result store.new }
 {
     put_table_row(store, table.tree, row)?;
     put_entry(store, table.key, row, entry)?;
@@ -163,10 +148,7 @@ fn append_row<S: Store>(
     requires keyed { IsTrue (is_int (rowid row.now)) }
     ensures appended { OnOk result (IsClean (S.Store.view store.new) → (next : _) (columns : _) → row.now ≡ Int next ∷ columns → IsAfter next ((S.Store.view store.old).trees table.now.tree)
         → Appends table.now more.now (columns ∷ []) (S.Store.view store.old) (S.Store.view store.new) × ((S.Store.view store.new).trees table.now.tree ≡ (S.Store.view store.old).trees table.now.tree ++ row.now ∷ [])) }
-    ensures kept { IsClean (S.Store.view store.new) → OnErr result (KeepsCommitted (S.Store.view store.old) (S.Store.view store.new)) }
-    ensures schema { KeepsSchema (S.Store.view store.old) (S.Store.view store.new) }
-    ensures ours { IfErr result (λ fault. ¬ (IsForeign fault)) }
-    ensures quiet { IsQuiet S.Store.view S.Store.faults S.Store.recovers S.Store.is_shielded store.old store.new }
+    ensures harmless { IsHarmless S.Store.view S.Store.faults S.Store.recovers S.Store.is_shielded store.old result store.new }
 {
     append_own(store, table, row, entry)?;
     put_entries(store, table.tree, more, row, entry)
@@ -200,10 +182,7 @@ pub(crate) fn append_rows<S: Store, R: TableRow>(
     requires apart { IsApart table.now }
     requires apart_of { IsApartOf table.now more.now }
     ensures appended { OnOk result (IsClean (S.Store.view store.new) → Appends table.now more.now (map R.columns rows.now) (S.Store.view store.old) (S.Store.view store.new)) }
-    ensures kept { IsClean (S.Store.view store.new) → OnErr result (KeepsCommitted (S.Store.view store.old) (S.Store.view store.new)) }
-    ensures schema { KeepsSchema (S.Store.view store.old) (S.Store.view store.new) }
-    ensures ours { IfErr result (λ fault. ¬ (IsForeign fault)) }
-    ensures quiet { IsQuiet S.Store.view S.Store.faults S.Store.recovers S.Store.is_shielded store.old store.new }
+    ensures harmless { IsHarmless S.Store.view S.Store.faults S.Store.recovers S.Store.is_shielded store.old result store.new }
 {
     let mut rowid = next_rowid(alloc, store, table.tree)?;
     let mut values = Vec::new(alloc);

@@ -1,10 +1,10 @@
 //! Whether the places of a blob's rows are free.
 
-ghost use Rattle.std.specs.Prelude.{◌≡◌, ◌∷◌, [], ◌≤◌, pos, IfOk, IfErr, OnOk, OnErr};
+ghost use Rattle.std.specs.Prelude.{◌≡◌, ◌∷◌, [], ◌≤◌, pos, IfOk, OnOk};
 ghost use Rattle.sqlite_value.specs.declared.value.Value.TheVariants.{Int};
-ghost use Rattle.sqlite_trees.specs.View.{IsClean, IsQuiet, IsRowidKey, KeepsSchema, KeepsCommitted};
+ghost use Rattle.sqlite_trees.specs.View.{IsClean, IsRowidKey};
 ghost use Rattle.sqlite_exec.specs.Calls.{OnlyReads};
-ghost use Rattle.osm_store.specs.Keeping.{IsForeign};
+ghost use Rattle.osm_tree_writes.specs.Harmless.{IsHarmless};
 
 use crate::fault::fault_of;
 use crate::layout::{ELEMENTS, IndexTree, LINKS, TAGS};
@@ -36,10 +36,7 @@ fn has_none<S: Store>(
 ) -> Result<bool, StoreFault>
     requires { IsRowidKey key.now }
     ensures reads { OnOk result (IsClean (S.Store.view store.new) → OnlyReads (S.Store.view store.old) (S.Store.view store.new)) }
-    ensures kept { IsClean (S.Store.view store.new) → OnErr result (KeepsCommitted (S.Store.view store.old) (S.Store.view store.new)) }
-    ensures schema { KeepsSchema (S.Store.view store.old) (S.Store.view store.new) }
-    ensures ours { IfErr result (λ fault. ¬ (IsForeign fault)) }
-    ensures quiet { IsQuiet S.Store.view S.Store.faults S.Store.recovers S.Store.is_shielded store.old store.new }
+    ensures harmless { IsHarmless S.Store.view S.Store.faults S.Store.recovers S.Store.is_shielded store.old result store.new }
 {
     let mut entry = Row::new(alloc);
     if let Err(error) = store.seek(0, index.tree, key, Direction::Forward) {
@@ -61,10 +58,7 @@ pub(crate) fn are_places_free<S: Store>(
 ) -> Result<bool, StoreFault>
     requires { off ≤ MAX_OFFSET }
     ensures reads { OnOk result (IsClean (S.Store.view store.new) → OnlyReads (S.Store.view store.old) (S.Store.view store.new)) }
-    ensures kept { IsClean (S.Store.view store.new) → OnErr result (KeepsCommitted (S.Store.view store.old) (S.Store.view store.new)) }
-    ensures schema { KeepsSchema (S.Store.view store.old) (S.Store.view store.new) }
-    ensures ours { IfErr result (λ fault. ¬ (IsForeign fault)) }
-    ensures quiet { IsQuiet S.Store.view S.Store.faults S.Store.recovers S.Store.is_shielded store.old store.new }
+    ensures harmless { IsHarmless S.Store.view S.Store.faults S.Store.recovers S.Store.is_shielded store.old result store.new }
 {
     let key = offset_key(alloc, off)?;
     let has_no_elements = has_none(alloc, store, ELEMENTS.key, &key)?;

@@ -5,12 +5,13 @@ ghost use Rattle.std.specs.List.{AllByRecursion};
 ghost use Rattle.sqlite_trees.specs.declared.store.Shape.TheVariants.{Table};
 ghost use Rattle.sqlite_trees.specs.Objects.{catalog_tree};
 ghost use Rattle.sqlite_trees.specs.Tree.{Trees, put_row};
-ghost use Rattle.sqlite_trees.specs.View.{doubt, IsClean, IsQuiet, KeepsSchema, KeepsCommitted, SetsTree};
+ghost use Rattle.sqlite_trees.specs.View.{doubt, IsClean, SetsTree};
 ghost use Rattle.osm_value.specs.Elements.{IsElement};
 ghost use Rattle.osm_store.specs.Keeping.{IsForeign};
 ghost use Rattle.osm_store.specs.Rows.{placed, extent_row};
 ghost use Rattle.osm_added_indexes.specs.Added.{AreKept, plain_indexes};
 ghost use Rattle.osm_tree_writes.specs.Appending.{AreBehind, AreIndexesAt, IsStoreAt, RiseFrom, TakeBlobs};
+ghost use Rattle.osm_tree_writes.specs.Harmless.{IsHarmless};
 ghost use Rattle.osm_tree_writes.specs.Putting.{PutsBelow, Writes, WritesElements};
 
 use crate::append::{append_rows, put_table_row};
@@ -92,10 +93,7 @@ fn put_extent<S: Store>(alloc: Global, store: &mut S, extent: &Extent) -> Result
     requires shaped { IsClean (S.Store.view store.old) → (S.Store.view store.old).shape 1 ≡ Table }
     requires bounds { (extent.now.off ≤ MAX_OFFSET) × (extent.now.fin ≤ MAX_OFFSET) × (extent.now.n < 2 ^ 63) }
     ensures ok { OnOk result (IsClean (S.Store.view store.new) → SetsTree (S.Store.view store.old) (S.Store.view store.new) 1 (put_row (extent_row extent.now))) }
-    ensures kept { IsClean (S.Store.view store.new) → OnErr result (KeepsCommitted (S.Store.view store.old) (S.Store.view store.new)) }
-    ensures schema { KeepsSchema (S.Store.view store.old) (S.Store.view store.new) }
-    ensures ours { IfErr result (λ fault. ¬ (IsForeign fault)) }
-    ensures quiet { IsQuiet S.Store.view S.Store.faults S.Store.recovers S.Store.is_shielded store.old store.new }
+    ensures harmless { IsHarmless S.Store.view S.Store.faults S.Store.recovers S.Store.is_shielded store.old result store.new }
 {
     let row = extent_row(alloc, extent)?;
     put_table_row(store, BLOBS, &row)
@@ -115,10 +113,7 @@ fn append_some<S: Store>(
     requires more { IsClean (S.Store.view store.old) → AreIndexesAt (S.Store.view store.old).shape more.now }
     requires behind { AreBehind more.now }
     ensures written { OnOk result (IsClean (S.Store.view store.new) → WritesElements more.now (S.Store.view store.old) (S.Store.view store.new) (placed off first elements.now)) }
-    ensures kept { IsClean (S.Store.view store.new) → OnErr result (KeepsCommitted (S.Store.view store.old) (S.Store.view store.new)) }
-    ensures schema { KeepsSchema (S.Store.view store.old) (S.Store.view store.new) }
-    ensures ours { IfErr result (λ fault. ¬ (IsForeign fault)) }
-    ensures quiet { IsQuiet S.Store.view S.Store.faults S.Store.recovers S.Store.is_shielded store.old store.new }
+    ensures harmless { IsHarmless S.Store.view S.Store.faults S.Store.recovers S.Store.is_shielded store.old result store.new }
 {
     let rows = element_rows(alloc, off, first, elements)?;
     append_rows(alloc, store, &ELEMENTS, more, &rows)?;
@@ -142,10 +137,7 @@ fn append_elements<S: Store>(
     requires more { IsClean (S.Store.view store.old) → AreIndexesAt (S.Store.view store.old).shape more.now }
     requires behind { AreBehind more.now }
     ensures written { OnOk result (IsClean (S.Store.view store.new) → WritesElements more.now (S.Store.view store.old) (S.Store.view store.new) (placed off 0 elements.now)) }
-    ensures kept { IsClean (S.Store.view store.new) → OnErr result (KeepsCommitted (S.Store.view store.old) (S.Store.view store.new)) }
-    ensures schema { KeepsSchema (S.Store.view store.old) (S.Store.view store.new) }
-    ensures ours { IfErr result (λ fault. ¬ (IsForeign fault)) }
-    ensures quiet { IsQuiet S.Store.view S.Store.faults S.Store.recovers S.Store.is_shielded store.old store.new }
+    ensures harmless { IsHarmless S.Store.view S.Store.faults S.Store.recovers S.Store.is_shielded store.old result store.new }
 {
     // The first part is written even where a blob has no elements: only a call that ends well shows that the store has
     // the three tables.
@@ -171,9 +163,7 @@ fn write_rows<S: Alter>(
     ensures written { OnOk result (IsClean (S.Store.view store.new) → Writes (plain_indexes ((S.Store.view store.old).trees catalog_tree)) (S.Store.view store.old) (S.Store.view store.new) extent.now (placed extent.now.off 0 elements.now)) }
     ensures can_store { OnOk result (AllByRecursion IsElement elements.now) }
     ensures indexed { OnOk result (IsClean (S.Store.view store.old) → TakeBlobs (S.Store.view store.old).shape ((S.Store.view store.old).trees catalog_tree)) }
-    ensures kept { IsClean (S.Store.view store.new) → OnErr result (KeepsCommitted (S.Store.view store.old) (S.Store.view store.new)) }
-    ensures ours { IfErr result (λ fault. ¬ (IsForeign fault)) }
-    ensures quiet { IsQuiet S.Store.view S.Store.faults S.Store.recovers S.Store.is_shielded store.old store.new }
+    ensures harmless { IsHarmless S.Store.view S.Store.faults S.Store.recovers S.Store.is_shielded store.old result store.new }
 {
     elements_in_range(elements);
     let Some(more) = indexes_to_keep(alloc, store)? else {

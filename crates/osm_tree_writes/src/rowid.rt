@@ -1,10 +1,10 @@
 //! The rowid after the last one of a table.
 
-ghost use Rattle.std.specs.Prelude.{◌≡◌, false, IfOk, IfErr, OnOk, OnErr};
-ghost use Rattle.sqlite_trees.specs.View.{IsClean, IsQuiet, KeepsSchema, KeepsCommitted};
+ghost use Rattle.std.specs.Prelude.{◌≡◌, false, IfOk, OnOk};
+ghost use Rattle.sqlite_trees.specs.View.{IsClean};
 ghost use Rattle.sqlite_exec.specs.Calls.{OnlyReads};
-ghost use Rattle.osm_store.specs.Keeping.{IsForeign};
 ghost use Rattle.osm_tree_writes.specs.Appending.{IsAfter};
+ghost use Rattle.osm_tree_writes.specs.Harmless.{IsHarmless};
 
 use crate::fault::fault_of;
 use osm_store::StoreFault;
@@ -24,10 +24,7 @@ pub(crate) fn next_rowid<S: Store>(
     ensures after { IfOk result (λ next. IsClean (S.Store.view store.new) → IsAfter next ((S.Store.view store.old).trees table)) }
     ensures same { OnOk result (IsClean (S.Store.view store.new) → OnlyReads (S.Store.view store.old) (S.Store.view store.new)) }
     ensures sound { OnOk result (IsClean (S.Store.view store.new) → (S.Store.view store.old).is_broken ≡ false) }
-    ensures kept { IsClean (S.Store.view store.new) → OnErr result (KeepsCommitted (S.Store.view store.old) (S.Store.view store.new)) }
-    ensures schema { KeepsSchema (S.Store.view store.old) (S.Store.view store.new) }
-    ensures ours { IfErr result (λ fault. ¬ (IsForeign fault)) }
-    ensures quiet { IsQuiet S.Store.view S.Store.faults S.Store.recovers S.Store.is_shielded store.old store.new }
+    ensures harmless { IsHarmless S.Store.view S.Store.faults S.Store.recovers S.Store.is_shielded store.old result store.new }
 {
     let mut row = Row::new(alloc);
     match last(store, table, &mut row) {

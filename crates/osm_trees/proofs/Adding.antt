@@ -8,7 +8,7 @@ use Rattle.sqlite_trees.specs.View.{doubt, IsClean}
 use Rattle.sqlite_trees.specs.Objects.{catalog_tree}
 use Rattle.pbf_frame.specs.declared.part.TheConstants.{MAX_OFFSET}
 use Rattle.osm_value.specs.Elements.{IsElement}
-use Rattle.osm_store.specs.declared.fault.StoreFault.{StoreFault}
+use Rattle.osm_faults.specs.declared.fault.StoreFault.{StoreFault}
 use Rattle.osm_store.specs.declared.schema.layout.Layout.TheVariants.{Tables}
 use Rattle.osm_store.specs.Held.{Blob, HeldMap}
 use Rattle.osm_store.specs.Keeping.{IsAddable, IsForeign, extent_of, failures_after, with_blob}

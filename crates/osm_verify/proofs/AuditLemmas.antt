@@ -18,7 +18,7 @@ use Rattle.osm_import.specs.Merges.{IsImported, placed_from}
 use Rattle.osm_import.specs.Runs.{IsGoodIn}
 use Rattle.osm_import.specs.Step.{IsEntry}
 use Rattle.osm_import.proofs.FilesLemmas.{entry-same}
-use Rattle.osm_import.proofs.GoodLaws.{frame-filled}
+use Rattle.osm_reading.proofs.GoodLaws.{frame-filled}
 use Rattle.osm_verify.specs.declared.comparing.Depth.TheVariants.{Elements}
 use Rattle.osm_verify.specs.Agreements.{IsSame}
 use Rattle.osm_verify.specs.Audits.{AreEntries, IsEntryOf, AuditedShowsImport, KeepsImport}

@@ -8,7 +8,7 @@ use Rattle.pbf_frame.specs.declared.kind.Kind.{Kind}
 use Rattle.osm_store.specs.Held.{Blob, HeldMap, IsApart}
 use Rattle.osm_store.specs.Keeping.{extent_of}
 use Rattle.osm_store.specs.declared.keeper.Extent.{Extent}
-use Rattle.osm_import.specs.Good.{IsGood}
+use Rattle.osm_reading.specs.Good.{IsGood}
 use Rattle.osm_import.proofs.Touching.{extent_found, find_touching}
 use Rattle.osm_import.proofs.Delivering.{AreTouching, entry_at, entry_at-is, good-filled, unheld-at}
 use Rattle.osm_verify.specs.declared.comparing.Depth.{Depth}

@@ -7,10 +7,11 @@ use osm_databases::files::AskedFiles;
 use osm_store::{Keeper, StoreFault};
 use osm_value::Outlet;
 use pbfrow_answers::ending::refuse;
-use pbfrow_answers::meter::Meter;
 use pbfrow_answers::turns::{InTurn, OpensNamed};
 use pbfrow_commands::merge::merge_all;
-use pbfrow_commands::metered::{MeteredOutput, MeteredStore};
+use pbfrow_commands::metered::MeteredStore;
+use pbfrow_meters::meter::Meter;
+use pbfrow_reading::metered::MeteredOutput;
 use std::io;
 use std::io::Write;
 

@@ -3,12 +3,12 @@
 use osm_databases::databases::{Databases, opened};
 use osm_databases::stores::OpenedStore;
 use osm_store::StoreFault;
-use pbfrow_answers::ending::end;
-use pbfrow_answers::meter::Meter;
-use pbfrow_answers::output::standard_output;
 use pbfrow_answers::questions::{ask_in_turn, goes_by_blobs};
 use pbfrow_answers::turns::{InTurn, OpensNamed};
 use pbfrow_commands::metered::MeteredStore;
+use pbfrow_meters::ending::end;
+use pbfrow_meters::meter::Meter;
+use pbfrow_meters::output::standard_output;
 use pbfrow_words::Question;
 
 /// A store that tells the meter of its blobs.

@@ -1,11 +1,8 @@
-//! What the commands of the program have in common, whatever its databases lie in: what a question calls, where an import
-//! begins, what a meter counts and when its line is due, and the exit status.
+//! What the commands on databases have in common, whatever those lie in: what a question calls, where an import begins, and
+//! how a command ends with a store.
 #![tactic(auto)]
 
 pub mod ending;
-pub mod meter;
-pub mod output;
 pub mod questions;
 pub mod starting;
-pub mod tally;
 pub mod turns;

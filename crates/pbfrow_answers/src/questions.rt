@@ -4,7 +4,8 @@ ghost use Rattle.std.specs.Prelude.{◌≡◌, ℕ, List, Option, Bool, Result, 
 ghost use Rattle.osm_store.specs.Held.{HeldMap};
 ghost use Rattle.osm_store.specs.Keeping.{extents_of};
 ghost use Rattle.osm_import.specs.ExportCauses.{ExportHasCause, ExportIsOwn};
-ghost use Rattle.osm_import.specs.Exports.{IsExport, Known, size_of};
+ghost use Rattle.osm_import.specs.Exports.{IsExport, size_of};
+ghost use Rattle.osm_reading.specs.Framings.{Known};
 ghost use Rattle.osm_import.specs.Pbf.{IsPbfExport};
 ghost use Rattle.osm_import.specs.Stores.{Stays};
 ghost use Rattle.osm_import.specs.declared.export.fault.ExportFault.{ExportFault as ExportFaultValue};

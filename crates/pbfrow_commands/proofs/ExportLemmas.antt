@@ -2,7 +2,7 @@
 use Rattle.std.proofs.Common.{◌≡◌, ◌≢◌, ℕ, Bool, Result, Ok, Err, refl, ◌∙◌}
 use Rattle.osm_value.specs.Sink.{Wrote}
 use Rattle.osm_import.specs.ExportCauses.{ExportHasCause}
-use Rattle.osm_import.specs.Exports.{Known}
+use Rattle.osm_reading.specs.Framings.{Known}
 use Rattle.osm_import.specs.declared.export.fault.ExportFault.{ExportFault}
 use Rattle.osm_import.specs.declared.export.fault.ExportFault.TheVariants.{Incomplete, PastEnd, WriteFailed, BlockTooLarge, Store}
 use Rattle.pbfrow_commands.specs.Exporting.{EndsExport, export_fault_line}

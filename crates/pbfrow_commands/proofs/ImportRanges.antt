@@ -10,7 +10,7 @@ use Rattle.osm_store.specs.Held.{Blob, HeldMap}
 use Rattle.osm_store.specs.HeldLaws.{get-insert_here}
 use Rattle.osm_store.specs.declared.keeper.Reader.{Ghosts}
 use Rattle.osm_import.specs.Deliveries.{DeliveryValue}
-use Rattle.osm_import.specs.Exports.{Known}
+use Rattle.osm_reading.specs.Framings.{Known}
 use Rattle.osm_import.specs.Files.{joined}
 use Rattle.osm_import.specs.Flows.{Input, Output}
 use Rattle.osm_import.specs.Runs.{IsRun, IsFault, IsNone, IsStoredIn}
@@ -20,9 +20,9 @@ use Rattle.osm_import.specs.Streams.{Reply, frames_of, answers_of, deliveries_at
 use Rattle.osm_import.specs.declared.answer.Answer.{Answer}
 use Rattle.osm_import.specs.declared.answer.Answer.TheVariants.{Stored, AlreadyHeld, Bad, Refused, Fault}
 use Rattle.osm_import.specs.declared.stream.summary.Summary.{Summary}
-use Rattle.osm_import.specs.declared.stream.fault.Stop.{Stop}
-use Rattle.osm_import.specs.declared.stream.fault.Stop.TheVariants.{WriteFailed}
-use Rattle.osm_import.specs.declared.stream.fault.StreamFault.{StreamFault}
+use Rattle.osm_reading.specs.declared.stream.fault.Stop.{Stop}
+use Rattle.osm_reading.specs.declared.stream.fault.Stop.TheVariants.{WriteFailed}
+use Rattle.osm_reading.specs.declared.stream.fault.StreamFault.{StreamFault}
 use Rattle.osm_import.proofs.RunsLemmas.{run-back, run-keep}
 use Rattle.osm_import.proofs.StreamFiles.{AreKept, IsKept}
 use Rattle.pbfrow_commands.specs.Importing.{Skips, Imports, ImportsRange, AreHeld, IsOfFrames, HoldsRange, IsTold, ends_input, front_of, import_status}

@@ -9,7 +9,7 @@ use Rattle.osm_value.specs.Sink.{Wrote, Writes}
 use Rattle.osm_value.proofs.SinkLemmas.{Wrote-text}
 use Rattle.osm_store.specs.Held.{Blob, HeldMap}
 use Rattle.osm_import.specs.Copies.{IsMerged, IsUnited, Copies, CrashLeavesSome, Stops, held_among, FaultIsCaused, CopyHasCause, IsOwnCopy}
-use Rattle.osm_import.specs.Exports.{Known}
+use Rattle.osm_reading.specs.Framings.{Known}
 use Rattle.osm_import.specs.declared.copy.CopyCounts.{CopyCounts}
 use Rattle.osm_import.specs.declared.copy.CopyFault.{CopyFault}
 use Rattle.osm_import.specs.declared.copy.CopyFault.TheVariants.{Refused, Store}
@@ -21,7 +21,7 @@ use Rattle.pbfrow_commands.specs.Copying.{copied_line, outcome_line}
 use Rattle.pbfrow_commands.specs.Merging.{TakesOf, IsMergeOf, AreCopied, CopiesAt, Merges, total_of, end_line, merged_of, store_line, MergeHasCause, IsOwnMerge}
 use Rattle.pbfrow_commands.specs.declared.merge.MergeStop.{MergeStop}
 use Rattle.pbfrow_commands.specs.declared.merge.MergeStop.TheVariants.{Unopened, Stopped}
-use Rattle.pbfrow_commands.proofs.CheckLemmas.{capped-more}
+use Rattle.pbfrow_reading.proofs.CheckLemmas.{capped-more}
 
 -- ---- maps in a list
 

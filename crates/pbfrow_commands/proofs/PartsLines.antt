@@ -3,9 +3,9 @@ use Rattle.std.proofs.Common.{◌≡◌, ℕ, Bool, List, refl, sym, ◌∙◌, 
 use Rattle.std.specs.Prelude.{codes}
 use Rattle.osm_value.specs.Sink.{Wrote}
 use Rattle.osm_store.specs.Held.{HeldMap}
-use Rattle.osm_import.specs.Exports.{Known}
+use Rattle.osm_reading.specs.Framings.{Known}
 use Rattle.osm_import.specs.Faults.{conflict_number_of, conflict_name_of}
-use Rattle.osm_import.specs.Lines.{fault_line}
+use Rattle.osm_reading.specs.Lines.{fault_line}
 use Rattle.osm_import.specs.declared.answer.Conflict.{Conflict}
 use Rattle.osm_parts.specs.Opening.{KeepsMaps}
 use Rattle.osm_parts.specs.PartsFaults.{IsOfMaps, PartsFaultHasCause}

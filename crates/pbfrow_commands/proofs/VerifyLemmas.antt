@@ -17,20 +17,20 @@ use Rattle.osm_store.specs.Audit.{AreCountable, ShowsBlob, ShowsCounts, counts_o
 use Rattle.osm_store.specs.Held.{Blob, HeldMap, IsApart}
 use Rattle.osm_store.specs.Keeping.{extents_of}
 use Rattle.osm_store.specs.declared.audit.counts.Counts.{Counts as Rows}
-use Rattle.osm_store.specs.declared.fault.StoreFault.{StoreFault}
+use Rattle.osm_faults.specs.declared.fault.StoreFault.{StoreFault}
 use Rattle.osm_store.specs.declared.keeper.Extent.{Extent}
 use Rattle.osm_store.specs.declared.schema.layout.Layout.{Layout}
-use Rattle.osm_import.specs.Exports.{Known}
+use Rattle.osm_reading.specs.Framings.{Known}
 use Rattle.osm_import.specs.Files.{AreFrames, IsFile}
 use Rattle.osm_import.specs.Files as files
-use Rattle.osm_import.specs.Faults.{number_of, name_of}
-use Rattle.osm_import.specs.Lines.{fault_line}
-use Rattle.osm_import.specs.FrameReads.{Reading, GivesFrame, Halts}
+use Rattle.osm_reading.specs.Faults.{number_of, name_of}
+use Rattle.osm_reading.specs.Lines.{fault_line}
+use Rattle.osm_reading.specs.FrameReads.{Reading, GivesFrame, Halts}
 use Rattle.osm_import.specs.Step.{HasCause}
-use Rattle.osm_import.specs.declared.fault.Fault.{Fault}
-use Rattle.osm_import.specs.declared.stream.fault.Stop.{Stop}
-use Rattle.osm_import.specs.declared.stream.fault.Stop.TheVariants.{Frame, NoHeaderFirst, WriteFailed, Store, ReadFailed, BlobLimit}
-use Rattle.osm_import.specs.declared.stream.fault.StreamFault.{StreamFault}
+use Rattle.osm_reading.specs.declared.fault.Fault.{Fault}
+use Rattle.osm_reading.specs.declared.stream.fault.Stop.{Stop}
+use Rattle.osm_reading.specs.declared.stream.fault.Stop.TheVariants.{Frame, NoHeaderFirst, WriteFailed, Store, ReadFailed, BlobLimit}
+use Rattle.osm_reading.specs.declared.stream.fault.StreamFault.{StreamFault}
 use Rattle.osm_verify.specs.Agreements.{begins}
 use Rattle.osm_verify.specs.Audits.{AreEntries, CountsMore, Trees}
 use Rattle.osm_verify.specs.Laws.{AreSame, AreAlone, IsExact}
@@ -40,15 +40,15 @@ use Rattle.osm_verify.specs.declared.comparing.Agreement.{Agreement}
 use Rattle.osm_verify.specs.declared.comparing.Agreement.TheVariants.{Same, Missing, Differs}
 use Rattle.osm_verify.proofs.AuditLemmas.{audited-keeps-import, audited-shows-import, entries-weaker, imported-elements}
 use Rattle.osm_verify.proofs.LawLemmas.{verified-is-exact}
-use Rattle.pbfrow_commands.specs.Checking.{capped}
-use Rattle.pbfrow_commands.specs.CommandLines.{stop_line}
-use Rattle.pbfrow_commands.specs.Walks.{Part, IsPart, joined, lines_from, AreFound, status_of}
+use Rattle.pbfrow_reading.specs.Checking.{capped}
+use Rattle.pbfrow_reading.specs.CommandLines.{stop_line}
+use Rattle.pbfrow_reading.specs.Walks.{Part, IsPart, joined, lines_from, AreFound, status_of}
 use Rattle.pbfrow_commands.specs.Verifying.{Comparison, Compared, IsComparison, HasCompared, HasCountedRows, HasElements, HasOwnElements, HasSeen, HasSeenInput, ShowsFile, agree, rows_of, is_whole, first_extra, is_missing, is_other, counts_of, agreement_line, comparison_line, IsBroken, IsClosing, HasClosed, close_text, counts_behind, counts_line, header_line, extra_lines, compared_lines, is_agreed, ComparesBlobs, VerifiesInput}
 use Rattle.pbfrow_commands.specs.declared.verify.Close.{Close}
 use Rattle.pbfrow_commands.specs.declared.verify.Close.TheVariants.{Whole, Early, Unwritten}
 use Rattle.pbfrow_commands.specs.declared.verify.Counts.{Counts}
 use Rattle.pbfrow_commands.proofs.CommandTexts.{four-counts}
-use Rattle.pbfrow_commands.proofs.Walking.{Going, found-push, joined-push, refused, tells-early, tells-nothing, lines-unwritten, status-zero}
+use Rattle.pbfrow_reading.proofs.Walking.{Going, found-push, joined-push, refused, tells-early, tells-nothing, lines-unwritten, status-zero}
 
 -- ---- pieces of lines, joined
 

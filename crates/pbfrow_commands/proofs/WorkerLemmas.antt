@@ -15,22 +15,22 @@ use Rattle.pbf_ranges.specs.declared.Range.{Range}
 use Rattle.osm_store.specs.Held.{Blob, HeldMap, IsApart}
 use Rattle.osm_import.specs.Copies.{IsUnited}
 use Rattle.osm_import.specs.Deliveries.{DeliveryValue}
-use Rattle.osm_import.specs.Exports.{Known}
+use Rattle.osm_reading.specs.Framings.{Known}
 use Rattle.osm_import.specs.Files.{AreFrames, StandsAt, joined}
-use Rattle.osm_import.specs.Good.{IsFrame}
+use Rattle.osm_reading.specs.Good.{IsFrame}
 use Rattle.osm_import.specs.Merges.{AreUnited, IsImported, AreImported, all_of, placed_from, frames_in}
 use Rattle.osm_import.specs.Runs.{IsGoodIn}
 use Rattle.osm_import.specs.Step.{IsEntry, IsHeldAlready}
 use Rattle.osm_import.proofs.FilesLemmas.{stands-apart, stands-from, stands-same, entry-same}
-use Rattle.osm_import.proofs.GoodLaws.{frame-filled}
+use Rattle.osm_reading.proofs.GoodLaws.{frame-filled}
 use Rattle.osm_import.proofs.MergeLemmas.{good_both, one_map}
 use Rattle.osm_parts.specs.Parts.{AreApart, AreParts, LiesIn, FollowFrom, IsInPart}
 use Rattle.osm_parts.proofs.WholeLemmas.{whole-exists}
 use Rattle.osm_verify.proofs.LawLemmas.{good-stands}
 use Rattle.pbfrow_commands.specs.Importing.{AreHeld, IsOfFrames}
-use Rattle.pbfrow_commands.specs.Ranging.{ends_from}
-use Rattle.pbfrow_commands.specs.Walks as walks
-use Rattle.pbfrow_commands.proofs.RangesLemmas.{last_end-ends_from}
+use Rattle.pbfrow_reading.specs.Ranging.{ends_from}
+use Rattle.pbfrow_reading.specs.Walks as walks
+use Rattle.pbfrow_reading.proofs.RangesLemmas.{last_end-ends_from}
 use Rattle.pbfrow_commands.specs.Workers.{PlanTiles, FileGives, PieceGives, bytes_between, HasFilled, HaveFilled, HasFilledOwn, FramesAreOne, OneDatabaseHoldsAll, StaysFilled, FilledRangesStay, DatabasesAreParts}
 
 -- ---- the plan

@@ -1,28 +1,10 @@
 -- The lines of commands, beside those of the importer.
-use Rattle.std.specs.Prelude.{ℕ, List, ◌++◌, Option, Some, None, codes}
+use Rattle.std.specs.Prelude.{ℕ, List, ◌++◌, codes}
 use Rattle.std.specs.List.{flat_map}
 use Rattle.std.specs.Fmt.{decimal}
 use Rattle.osm_value.specs.Line.{line}
-use Rattle.osm_store.specs.Faults.{number_of, name_of}
 use Rattle.osm_store.specs.Rows.{Placed}
-use Rattle.osm_store.specs.declared.fault.StoreFault.{StoreFault}
-use Rattle.osm_store.specs.declared.fault.StoreFault.TheVariants.{Memory}
-use Rattle.osm_import.specs.Lines.{plain_fault_line, fault_line}
-use Rattle.osm_import.specs.StopFaults.{stop_number_of, stop_name_of}
-use Rattle.osm_import.specs.declared.stream.fault.Stop.{Stop}
 use Rattle.osm_import.specs.declared.stream.summary.Summary.{Summary}
-
-abbrev pub store_fault_line : StoreFault → List ℕ
-store_fault_line fault = plain_fault_line (number_of fault) (name_of fault)
-
--- refused memory: of a command as a whole, or at an offset
-abbrev pub memory_line : Option ℕ → List ℕ
-memory_line None = store_fault_line Memory
-memory_line (Some at) = fault_line (number_of Memory) (name_of Memory) at
-
--- what ended an input early, at an offset
-abbrev pub stop_line : Stop → ℕ → List ℕ
-stop_line fault at = fault_line (stop_number_of fault) (stop_name_of fault) at
 
 -- the last line of an import
 abbrev pub summary_line : Summary → List ℕ

@@ -5,7 +5,7 @@ use Rattle.osm_store.specs.Held.{HeldMap}
 use Rattle.osm_store.specs.declared.keeper.Reader.{Ghosts}
 use Rattle.osm_import.specs.Copies.{Copies, CopyHasCause, CrashLeavesSome, IsOwnCopy}
 use Rattle.osm_import.specs.CopyFaults.{copy_number_of, copy_name_of}
-use Rattle.osm_import.specs.Lines.{fault_line}
+use Rattle.osm_reading.specs.Lines.{fault_line}
 use Rattle.osm_import.specs.declared.copy.CopyStop.{CopyStop}
 use Rattle.osm_import.specs.declared.copy.CopyCounts.{CopyCounts}
 

@@ -2,8 +2,8 @@
 use Rattle.std.specs.Prelude.{◌≡◌, ℕ, Bool, List, Result, Ok, Err}
 use Rattle.osm_value.specs.Sink.{Wrote}
 use Rattle.osm_import.specs.ExportFaults.{export_number_of, export_name_of}
-use Rattle.osm_import.specs.Exports.{Known}
-use Rattle.osm_import.specs.Lines.{plain_fault_line}
+use Rattle.osm_reading.specs.Framings.{Known}
+use Rattle.osm_reading.specs.Lines.{plain_fault_line}
 use Rattle.osm_import.specs.declared.export.fault.ExportFault.{ExportFault}
 use Rattle.osm_import.specs.declared.export.fault.ExportFault.TheVariants.{Incomplete, PastEnd, WriteFailed, BlockTooLarge, Store}
 

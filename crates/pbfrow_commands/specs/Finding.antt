@@ -1,7 +1,7 @@
 -- What the command `find` tells.
 use Rattle.std.specs.Prelude.{ℕ, ◌⊎◌, Bool, List}
 use Rattle.osm_store.specs.Rows.{Placed}
-use Rattle.osm_import.specs.Exports.{Known}
+use Rattle.osm_reading.specs.Framings.{Known}
 use Rattle.pbfrow_commands.specs.CommandLines.{match_lines}
 use Rattle.pbfrow_commands.specs.Status.{Tells, TellsFault}
 

@@ -6,17 +6,18 @@ use Rattle.osm_value.specs.Sink.{Wrote}
 use Rattle.std.specs.FinMap.{get}
 use Rattle.osm_store.specs.Held.{Blob, HeldMap}
 use Rattle.osm_import.specs.Deliveries.{DeliveryValue}
-use Rattle.osm_import.specs.Exports.{Known}
+use Rattle.osm_reading.specs.Framings.{Known}
 use Rattle.osm_import.specs.Files.{AreFrames, IsFile, IsHeldOfFile, StandsAt, joined}
 use Rattle.osm_import.specs.Flows.{Input, Output}
 use Rattle.osm_import.specs.Step.{IsEntry, IsHeldAlready}
 use Rattle.osm_import.specs.Streams.{Streams, TilesFile}
 use Rattle.osm_import.specs.declared.answer.Answer.{Answer}
 use Rattle.osm_import.specs.declared.stream.summary.Summary.{Summary}
-use Rattle.osm_import.specs.declared.stream.fault.Stop.{Stop}
-use Rattle.osm_import.specs.declared.stream.fault.Stop.TheVariants.{Frame, NoHeaderFirst, WriteFailed, Store, ReadFailed, BlobLimit}
-use Rattle.osm_import.specs.declared.stream.fault.StreamFault.{StreamFault}
-use Rattle.pbfrow_commands.specs.CommandLines.{summary_line, stop_line}
+use Rattle.osm_reading.specs.declared.stream.fault.Stop.{Stop}
+use Rattle.osm_reading.specs.declared.stream.fault.Stop.TheVariants.{Frame, NoHeaderFirst, WriteFailed, Store, ReadFailed, BlobLimit}
+use Rattle.osm_reading.specs.declared.stream.fault.StreamFault.{StreamFault}
+use Rattle.pbfrow_commands.specs.CommandLines.{summary_line}
+use Rattle.pbfrow_reading.specs.CommandLines.{stop_line}
 
 -- so many bytes were read
 pub record Skips (count : ℕ) (old new : Known) : Type 0 where

@@ -4,16 +4,17 @@ use Rattle.osm_value.specs.Sink.{Wrote}
 use Rattle.osm_store.specs.Held.{HeldMap}
 use Rattle.osm_store.specs.Keeping.{extents_of}
 use Rattle.osm_import.specs.ExportCauses.{ExportHasCause, ExportIsOwn}
-use Rattle.osm_import.specs.Exports.{IsExport, Known, size_of}
+use Rattle.osm_import.specs.Exports.{IsExport, size_of}
+use Rattle.osm_reading.specs.Framings.{Known}
 use Rattle.osm_import.specs.Faults.{conflict_number_of, conflict_name_of}
-use Rattle.osm_import.specs.Lines.{fault_line}
+use Rattle.osm_reading.specs.Lines.{fault_line}
 use Rattle.osm_import.specs.Pbf.{IsHeadedExport}
 use Rattle.osm_import.specs.declared.export.fault.ExportFault.{ExportFault}
 use Rattle.osm_parts.specs.PartsFaults.{IsOfMaps, PartsFaultHasCause}
 use Rattle.osm_parts.specs.Unions.{IsUnionOf, IsHistoryOf}
 use Rattle.osm_parts.specs.declared.fault.PartsFault.{PartsFault}
 use Rattle.osm_parts.specs.declared.fault.PartsFault.TheVariants.{Interleaved, Refused, Store}
-use Rattle.pbfrow_commands.specs.CommandLines.{store_fault_line}
+use Rattle.pbfrow_reading.specs.CommandLines.{store_fault_line}
 use Rattle.pbfrow_commands.specs.Exporting.{EndsExport}
 
 -- the line of what keeps stores from being read as one

@@ -11,28 +11,28 @@ use Rattle.osm_store.specs.Audit.{AreCountable, ShowsCounts, counts_of as counts
 use Rattle.osm_store.specs.Held.{Blob, HeldMap}
 use Rattle.osm_store.specs.Keeping.{IsForeign, extents_of}
 use Rattle.osm_store.specs.declared.audit.counts.Counts.{Counts as Rows}
-use Rattle.osm_store.specs.declared.fault.StoreFault.{StoreFault}
+use Rattle.osm_faults.specs.declared.fault.StoreFault.{StoreFault}
 use Rattle.osm_store.specs.declared.keeper.Extent.{Extent}
 use Rattle.osm_store.specs.declared.schema.layout.Layout.{Layout}
-use Rattle.osm_import.specs.Bad.{IsBad}
-use Rattle.osm_import.specs.Exports.{Known}
-use Rattle.osm_import.specs.Faults.{number_of, name_of}
-use Rattle.osm_import.specs.Lines.{fault_line}
+use Rattle.osm_reading.specs.Bad.{IsBad}
+use Rattle.osm_reading.specs.Framings.{Known}
+use Rattle.osm_reading.specs.Faults.{number_of, name_of}
+use Rattle.osm_reading.specs.Lines.{fault_line}
 use Rattle.osm_import.specs.Step.{HasCause}
-use Rattle.osm_import.specs.declared.fault.Fault.{Fault}
-use Rattle.osm_import.specs.declared.stream.fault.Stop.{Stop}
-use Rattle.osm_import.specs.declared.stream.fault.Stop.TheVariants.{Frame, NoHeaderFirst, Store}
-use Rattle.osm_import.specs.declared.stream.fault.StreamFault.{StreamFault}
+use Rattle.osm_reading.specs.declared.fault.Fault.{Fault}
+use Rattle.osm_reading.specs.declared.stream.fault.Stop.{Stop}
+use Rattle.osm_reading.specs.declared.stream.fault.Stop.TheVariants.{Frame, NoHeaderFirst, Store}
+use Rattle.osm_reading.specs.declared.stream.fault.StreamFault.{StreamFault}
 use Rattle.osm_verify.specs.Agreements.{IsAgreement, begins}
 use Rattle.osm_verify.specs.Audits.{Trees, IsEntryOf, AreEntries, KeepsImport, ShowsImport}
 use Rattle.osm_verify.specs.declared.comparing.Depth.{Depth}
 use Rattle.osm_verify.specs.declared.comparing.Depth.TheVariants.{Elements}
 use Rattle.osm_verify.specs.declared.comparing.Agreement.{Agreement}
 use Rattle.osm_verify.specs.declared.comparing.Agreement.TheVariants.{Same, Missing, Differs}
-use Rattle.pbfrow_commands.specs.Checking.{capped}
-use Rattle.pbfrow_commands.specs.CommandLines.{stop_line}
-use Rattle.pbfrow_commands.specs.Walks.{Part, joined, lines_from, AreFound, HasEnded, status_of}
-use Rattle.pbfrow_commands.specs.declared.input.Ending.TheVariants as ending
+use Rattle.pbfrow_reading.specs.Checking.{capped}
+use Rattle.pbfrow_reading.specs.CommandLines.{stop_line}
+use Rattle.pbfrow_reading.specs.Walks.{Part, joined, lines_from, AreFound, HasEnded, status_of}
+use Rattle.pbfrow_reading.specs.declared.input.Ending.TheVariants as ending
 use Rattle.pbfrow_commands.specs.declared.verify.Close.{Close}
 use Rattle.pbfrow_commands.specs.declared.verify.Close.TheVariants.{Whole, Early, Unwritten}
 use Rattle.pbfrow_commands.specs.declared.verify.Counts.{Counts}

@@ -4,8 +4,8 @@ use Rattle.std.specs.List.{count_by, flat_map}
 use Rattle.std.specs.Fmt.{decimal}
 use Rattle.osm_value.specs.Sink.{Wrote}
 use Rattle.osm_store.specs.Held.{HeldMap}
-use Rattle.osm_import.specs.Exports.{Known}
-use Rattle.osm_import.specs.declared.stream.fault.Stop.TheVariants.{ReadFailed}
+use Rattle.osm_reading.specs.Framings.{Known}
+use Rattle.osm_reading.specs.declared.stream.fault.Stop.TheVariants.{ReadFailed}
 use Rattle.osm_part_audits.specs.Faults.{AuditHasCause, IsOfParts}
 use Rattle.osm_part_audits.specs.Together.{IsClean, IsVerdict}
 use Rattle.osm_part_audits.specs.declared.auditing.Finding.{Finding}
@@ -14,9 +14,10 @@ use Rattle.osm_part_audits.specs.declared.fault.AuditFault.{AuditFault}
 use Rattle.osm_part_audits.specs.declared.fault.AuditFault.TheVariants.{Unread, Parts}
 use Rattle.osm_part_audits.specs.declared.together.Verdict.{Verdict}
 use Rattle.osm_verify.specs.declared.comparing.Depth.{Depth}
-use Rattle.pbfrow_commands.specs.CommandLines.{gap_lines, stop_line}
+use Rattle.pbfrow_commands.specs.CommandLines.{gap_lines}
+use Rattle.pbfrow_reading.specs.CommandLines.{stop_line}
 use Rattle.pbfrow_commands.specs.InParts.{parts_fault_line}
-use Rattle.pbfrow_commands.specs.Walks.{status_of}
+use Rattle.pbfrow_reading.specs.Walks.{status_of}
 
 -- the line of a held blob that isn't one of the file
 abbrev pub finding_line : Finding → List ℕ

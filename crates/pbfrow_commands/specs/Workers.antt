@@ -3,14 +3,14 @@ use Rattle.std.specs.Prelude.{◌≡◌, ℕ, ◌+◌, ◌-◌, List, [], ◌∷
 use Rattle.std.specs.List.{AllZip}
 use Rattle.std.specs.FinMap.{get, empty}
 use Rattle.osm_store.specs.Held.{Blob, HeldMap}
-use Rattle.osm_import.specs.Exports.{Known}
+use Rattle.osm_reading.specs.Framings.{Known}
 use Rattle.osm_import.specs.Files.{AreFrames, IsHeldOfFile, joined}
 use Rattle.osm_import.specs.Merges.{AreUnited, IsImported, placed_from}
 use Rattle.osm_parts.specs.Parts.{AreApart, AreParts, FollowFrom}
 use Rattle.pbf_ranges.specs.Cutting.{Tile}
 use Rattle.pbf_ranges.specs.declared.Range.{Range}
 use Rattle.pbfrow_commands.specs.Importing.{AreHeld, HoldsRange, IsOfFrames}
-use Rattle.pbfrow_commands.specs.Ranging.{Cuts}
+use Rattle.pbfrow_reading.specs.Ranging.{Cuts}
 
 -- the bytes of a file from one offset to another
 abbrev pub bytes_between : ℕ → ℕ → List ℕ → List ℕ

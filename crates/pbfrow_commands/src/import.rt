@@ -3,20 +3,21 @@
 ghost use Rattle.std.specs.Prelude.{◌≡◌, ◌≤◌, ◌<◌, ◌+◌, ◌-◌, List, ℕ, Some, Err, Result, OnOk, OnErr, IfOk, IfSome, take};
 ghost use Rattle.std.specs.FinMap.{empty};
 ghost use Rattle.osm_store.specs.Held.{HeldMap};
-ghost use Rattle.osm_import.specs.Exports.{Known};
+ghost use Rattle.osm_reading.specs.Framings.{Known};
 ghost use Rattle.osm_import.specs.Flows.{Input, input, output};
 ghost use Rattle.osm_import.specs.Stores.{Takes};
 ghost use Rattle.osm_import.specs.Merges.{ImportsPart};
 ghost use Rattle.osm_import.specs.Streams.{ImportsFile};
 ghost use Rattle.osm_import.specs.declared.stream.summary.Summary.{Summary as SummaryValue};
-ghost use Rattle.osm_import.specs.declared.stream.fault.StreamFault.{StreamFault as StreamFaultValue};
+ghost use Rattle.osm_reading.specs.declared.stream.fault.StreamFault.{StreamFault as StreamFaultValue};
 ghost use Rattle.pbfrow_commands.specs.Importing.{Skips, IsShort, Imports, ImportsRange, EndsBefore, EndsLine, EndsStop, import_status, HoldsFile, HoldsRange, IsTold, ends_input, front_of};
 
-use crate::report::{put_fault_at, put_summary};
+use crate::report::put_summary;
 use osm_import::{Inlet, Source, Stop, StreamFault, Summary, import_stream};
 use osm_store::Keeper;
 use osm_value::Sink;
 use pbf_frame::{FrameFault, MAX_OFFSET};
+use pbfrow_reading::report::put_fault_at;
 use std::alloc::Global;
 use std::io::{Read, Seek, SeekFrom};
 

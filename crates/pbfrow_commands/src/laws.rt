@@ -1,15 +1,6 @@
 //! What the definitions imply: theorems, with no code.
 
-ghost use Rattle.std.specs.Prelude.{◌≡◌, Bool, ℕ, List};
-ghost use Rattle.pbfrow_commands.specs.Listing.{Lists};
-ghost use Rattle.pbfrow_commands.specs.Reading.{listing};
 ghost use Rattle.pbfrow_commands.specs.Workers.{PlanTiles, FileGives, PieceGives, FramesAreOne, OneDatabaseHoldsAll, FilledRangesStay, DatabasesAreParts};
-
-/// Bytes have exactly one listing, and it is the one that is read frame after frame.
-pub fn listing_is_read()
-    ensures read { (bytes : List ℕ) → Lists (listing bytes).whole bytes (listing bytes).text }
-    ensures one { (whole other : Bool) (bytes text text' : List ℕ) → Lists whole bytes text → Lists other bytes text' → (whole ≡ other) × (text ≡ text') }
-{}
 
 /// Workers that ended with 0, each with its range of a plan, are one import of the file.
 ///

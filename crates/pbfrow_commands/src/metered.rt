@@ -1,35 +1,16 @@
-//! Readers, writers and stores that tell a watcher what they do. Each does what the one inside it does.
+//! Files, writers and stores that tell a watcher what they do. Each does what the one inside it does.
 
 ghost use Rattle.std.specs.Prelude.{None};
 ghost use Rattle.osm_store.specs.Held.{HeldMap};
 
-use crate::watcher::Watcher;
 use osm_import::SourceFailed;
 use osm_part_audits::FileBytes;
 use osm_store::{Extent, Found, Loaded, Reader, StoreFault};
 use osm_value::MemberKind;
+use pbfrow_reading::watcher::Watcher;
 use std::alloc::Global;
 use std::io;
 use std::io::{ErrorKind, Read, Seek, SeekFrom, Write};
-
-/// A reader that tells how many bytes it gave.
-#[derive(Drop)]
-pub struct MeteredReader<'a, R, P> {
-    pub reader: R,
-    pub watcher: &'a P,
-}
-
-impl<R: Read, P: Watcher> Read for MeteredReader<'_, R, P> {
-    ghost remaining = { λ m. R.remaining m.reader };
-
-    fn read(&mut self, buf: &mut [u8]) -> io::Result<usize> {
-        let result = self.reader.read(buf);
-        if let Ok(count) = &result {
-            self.watcher.see_bytes(*count as u64);
-        }
-        result
-    }
-}
 
 /// A file that can seek and tells how many bytes were read of it, and of each read as of a blob. What it holds is said nowhere:
 /// no contract of `Seek` says what is read behind a seek.
@@ -62,30 +43,6 @@ impl<R: Read + Seek, P: Watcher> FileBytes for MeteredFile<'_, R, P> {
             Err(error) if error.kind() == ErrorKind::UnexpectedEof => Ok(false),
             Err(_) => Err(SourceFailed),
         }
-    }
-}
-
-/// A writer to standard output, for which the progress line makes room.
-#[derive(Drop)]
-pub struct MeteredOutput<'a, W, P> {
-    pub writer: W,
-    pub watcher: &'a P,
-}
-
-impl<W: Write, P: Watcher> Write for MeteredOutput<'_, W, P> {
-    ghost contents = { λ m. W.contents m.writer };
-
-    fn write(&mut self, buf: &[u8]) -> io::Result<usize> {
-        self.watcher.give_way();
-        let result = self.writer.write(buf);
-        if let Ok(count) = &result {
-            self.watcher.see_output(&buf[..*count]);
-        }
-        result
-    }
-
-    fn flush(&mut self) -> io::Result<()> {
-        self.writer.flush()
     }
 }
 

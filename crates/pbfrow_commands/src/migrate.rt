@@ -7,11 +7,11 @@ ghost use Rattle.osm_import.specs.declared.copy.CopyCounts.{CopyCounts as CopyCo
 ghost use Rattle.osm_import.specs.declared.copy.CopyStop.{CopyStop as CopyStopValue};
 ghost use Rattle.pbfrow_commands.specs.Copying.{CopiesStore, copied_line, outcome_line, copy_status};
 
-use crate::check::put_total;
-use crate::report::put_fault_at;
 use osm_import::{CopyCounts, CopyStop, copy_held};
 use osm_store::{Keeper, Reader};
 use osm_value::{Sink, put};
+use pbfrow_reading::check::put_total;
+use pbfrow_reading::report::put_fault_at;
 use std::alloc::Global;
 
 /// Writes `copied COPIED held HELD`.

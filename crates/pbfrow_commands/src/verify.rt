@@ -9,18 +9,15 @@ ghost use Rattle.osm_store.specs.Audit.{AreCountable, ShowsCounts, counts_of as 
 ghost use Rattle.osm_store.specs.Held.{HeldMap};
 ghost use Rattle.osm_store.specs.Keeping.{IsForeign, extents_of};
 ghost use Rattle.osm_import.specs.Files.{IsFile};
-ghost use Rattle.osm_import.specs.Good.{IsFrame};
+ghost use Rattle.osm_reading.specs.Good.{IsFrame};
 ghost use Rattle.osm_import.specs.Step.{HasCause};
 ghost use Rattle.osm_import.specs.Stores.{Rereads, Stays};
 ghost use Rattle.osm_verify.specs.Agreements.{begins};
 ghost use Rattle.osm_verify.specs.Audits.{CountsMore};
 ghost use Rattle.osm_verify.specs.Laws.{IsExact};
 ghost use Rattle.pbfrow_commands.specs.Verifying.{Compared, HasCompared, HasCountedRows, HasElements, HasOwnElements, HasSeen, HasSeenInput, IsClosing, IsComparison, IsCompared, IsSeen, ComparesBlobs, ShowsFile, VerifiesInput, agree, agreement_line, close_text, compared_lines, comparison_line, counts_line, counts_of, extra_line, extra_lines, first_extra, header_line, is_agreed, is_whole};
-ghost use Rattle.pbfrow_commands.specs.Walks.{IsPart, Part, status_of};
+ghost use Rattle.pbfrow_reading.specs.Walks.{IsPart, Part, status_of};
 
-use crate::check::put_total;
-use crate::input::{flush_to_wait, frame_of, put_stop, status, store_stop};
-use crate::watcher::Watcher;
 use osm_import::{
     ExamineFault, Fault, FrameReader, Inlet, Stop, StreamFault, examine_frame, put_fault_at,
 };
@@ -28,6 +25,9 @@ use osm_store::{Audited, Counts as Rows, Extent, Reader, StoreFault};
 use osm_value::{Outlet, Sink, put, put_digits};
 use osm_verify::{Agreement, Depth, compare, extents_beginning, has_rows};
 use pbf_frame::MAX_OFFSET;
+use pbfrow_reading::check::put_total;
+use pbfrow_reading::input::{flush_to_wait, frame_of, put_stop, status, store_stop};
+use pbfrow_reading::watcher::Watcher;
 use std::alloc::Global;
 use std::io::{Read, Write};
 

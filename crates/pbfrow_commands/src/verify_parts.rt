@@ -9,8 +9,6 @@ ghost use Rattle.osm_parts.specs.Opening.{KeepsMaps};
 ghost use Rattle.osm_part_audits.specs.Together.{HoldFile};
 ghost use Rattle.pbfrow_commands.specs.VerifyingParts.{VerifiesParts, audit_fault_line, finding_line, finding_lines, is_other, verdict_line, verdict_text};
 
-use crate::check::put_total;
-use crate::input::{put_stop, status};
 use crate::parts::put_parts_fault;
 use crate::status::put_gaps;
 use crate::verify::put_at;
@@ -20,6 +18,8 @@ use osm_parts::Openings;
 use osm_store::Audited;
 use osm_value::{Sink, put};
 use osm_verify::Depth;
+use pbfrow_reading::check::put_total;
+use pbfrow_reading::input::{put_stop, status};
 use std::alloc::Global;
 
 /// Writes the line of a held blob that isn't one of the file.

@@ -4,7 +4,7 @@ use super::support::{
     Breaking, Closed, Dripping, EXTRA, PLAIN_NODE, TWO_NODES, Unwatched, file_of,
 };
 use osm_value::Outlet;
-use pbfrow_commands::check::check;
+use pbfrow_reading::check::check;
 use std::alloc::{AllocError, Global};
 use std::io::Cursor;
 use std::process::Abort;

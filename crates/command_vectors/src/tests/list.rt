@@ -2,7 +2,7 @@
 
 use super::support::{Breaking, Closed, Dripping, PLAIN_NODE, TWO_NODES};
 use osm_value::Outlet;
-use pbfrow_commands::list::list;
+use pbfrow_reading::list::list;
 use std::alloc::Global;
 use std::io::{Cursor, Read};
 use std::process::Abort;

@@ -1,6 +1,6 @@
 //! Tests of the progress line of a command.
 
-use pbfrow_commands::progress::{Progress, print_progress};
+use pbfrow_reading::progress::{Progress, print_progress};
 use std::alloc::Global;
 use std::process::Abort;
 use std::test::*;

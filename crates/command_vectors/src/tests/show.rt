@@ -2,7 +2,7 @@
 
 use super::support::{Breaking, Closed, Dripping, EXTRA, TWO_NODES, file_of};
 use osm_value::Outlet;
-use pbfrow_commands::show::show;
+use pbfrow_reading::show::show;
 use std::alloc::{AllocError, Global};
 use std::io::Cursor;
 use std::process::Abort;

@@ -1,7 +1,7 @@
 //! What the tests of several commands share.
 
 use pbf_frame::{Kind, write_frame};
-use pbfrow_commands::watcher::Watcher;
+use pbfrow_reading::watcher::Watcher;
 use std::alloc::{AllocError, Global};
 use std::io;
 use std::io::{Read, Write};

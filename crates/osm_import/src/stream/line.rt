@@ -1,40 +1,13 @@
-//! The lines of answered blobs and of faults.
+//! The lines of answered blobs.
 
 ghost use Rattle.std.specs.Prelude.{◌≡◌, ◌++◌, OnOk, OnErr, IsTrue};
 ghost use Rattle.std.specs.Io.KnownBytes.{Appends};
 ghost use Rattle.osm_value.specs.Sink.{AppendsFront, Writes};
-ghost use Rattle.osm_import.specs.Lines.{answer_line, stored_line, held_line, fault_text, plain_fault_line, fault_line};
+ghost use Rattle.osm_import.specs.Lines.{answer_line, stored_line, held_line};
 
 use crate::answer::Answer;
+use osm_reading::put_fault_at;
 use osm_value::{Sink, put, put_digits};
-
-/// Writes `fault NUMBER NAME` and what follows it on the line.
-fn put_fault_and<S: Sink>(out: &mut S, number: u8, name: &str, behind: &[u8])
-    ensures { Writes (S.written out.old) (S.has_failed out.old) (S.written out.new) (S.has_failed out.new) (fault_text number name.now ++ behind.now) }
-{
-    put(out, b"fault ");
-    put_digits(out, u64::from(number));
-    put(out, b" ");
-    put(out, name.as_bytes());
-    put(out, behind);
-}
-
-/// Writes `fault NUMBER NAME` and a line feed: a fault of a store as a whole. A sink that fails is met as by `put`.
-pub fn put_plain_fault<S: Sink>(out: &mut S, number: u8, name: &str)
-    ensures { Writes (S.written out.old) (S.has_failed out.old) (S.written out.new) (S.has_failed out.new) (plain_fault_line number name.now) }
-{
-    put_fault_and(out, number, name, b"\n");
-}
-
-/// Writes `fault NUMBER NAME at OFFSET` and a line feed: a fault at this offset of a file, in bytes. A sink that fails
-/// is met as by `put`.
-pub fn put_fault_at<S: Sink>(out: &mut S, number: u8, name: &str, off: u64)
-    ensures { Writes (S.written out.old) (S.has_failed out.old) (S.written out.new) (S.has_failed out.new) (fault_line number name.now off) }
-{
-    put_fault_and(out, number, name, b" at ");
-    put_digits(out, off);
-    put(out, b"\n");
-}
 
 /// Writes `OFFSET stored COUNT`.
 fn put_stored<S: Sink>(out: &mut S, off: u64, count: u64)

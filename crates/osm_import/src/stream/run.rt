@@ -9,14 +9,11 @@ ghost use Rattle.osm_import.specs.Stores.{Takes, TakesOne};
 ghost use Rattle.osm_import.specs.Streams.{Streams, ended_at, ImportsFile};
 ghost use Rattle.osm_import.specs.StreamSteps.{FrameStep, Gave};
 
-use super::fault::{Stop, StreamFault};
 use super::line::write_answer;
-use super::piece::Piece;
-use super::reading::{has_more, read_frame};
-use super::source::Source;
 use super::summary::Summary;
 use crate::answer::Answer;
 use crate::delivery::deliver;
+use osm_reading::{Piece, Source, Stop, StreamFault, has_more, read_frame};
 use osm_store::{Keeper, StoreFault};
 use osm_value::Sink;
 use pbf_frame::{FrameFault, Framer, MAX_OFFSET};

@@ -1,5 +1,5 @@
 -- Why a query that the database understands fails.
-use Rattle.std.proofs.Common.{◌≡◌, inl, inr, ℕ, ◌≤◌, ◌&&◌, ◌==◌, Bool, true, false, true≢false, List, [], length, Ok, Err, Result, sym, ap, subst, subst₂, ◌∙◌, arith, append-nil}
+use Rattle.std.proofs.Common.{◌≡◌, inl, inr, ℕ, ◌≤◌, ◌&&◌, ◌==◌, Bool, true, false, true≢false, List, [], length, Ok, Err, Result, sym, ap, subst, subst₂, ◌∙◌, arith, append-nil, ◌⊎◌}
 use Rattle.std.specs.Prelude.{nat_le}
 use Rattle.std.proofs.lemmas.Bool.Decides.{nat_tests}
 use Rattle.sqlite.specs.Order.{Row}
@@ -7,7 +7,7 @@ use Rattle.sqlite.specs.Term.{Term}
 use Rattle.sqlite.specs.declared.error.Error.{Error}
 use Rattle.sqlite.specs.Listing.{understood, reads_listing, IsSourceOf}
 use Rattle.sqlite.specs.Effect.{RefusesToRead}
-use Rattle.sqlite.specs.State.{State, IsNoStatement, IsNotRun, FailsToQuery}
+use Rattle.sqlite.specs.State.{State, IsNoStatement, IsNotRun, FailsToQuery, store_error}
 use Rattle.sqlite.specs.Schema.{Schema}
 use Rattle.sqlite.specs.Command.TheVariants.{Select}
 use Rattle.sqlite.specs.Tree.{Trees}
@@ -16,13 +16,11 @@ use Rattle.sqlite.proofs.Callers.{command_of}
 use Rattle.sqlite_typing.specs.Types.{accepts_program}
 use Rattle.sqlite_resolve.specs.declared.compiled.Compiled.{Compiled}
 use Rattle.sqlite_resolve.specs.declared.error.CompileError.{CompileError}
-use Rattle.std.proofs.Common.{◌⊎◌}
 use Rattle.sqlite.specs.declared.error.Error.TheVariants.{SqliteFailure}
 use Rattle.sqlite.specs.declared.error.ErrorCode.TheVariants.{OperationInterrupted}
-use Rattle.sqlite.specs.State.{store_error}
 use Rattle.sqlite_trees.specs.declared.error.StoreError.{StoreError}
 use Rattle.sqlite_trees.specs.declared.error.StoreError.TheVariants.{OutOfMemory, Io, Corrupt, Full, Broken, Unstorable}
-use Rattle.osm_store.specs.Faults.{fault_over_unknown}
+use Rattle.osm_faults.specs.Faults.{fault_over_unknown}
 use Rattle.osm_store.specs.Keeping.{IsForeign}
 use Rattle.osm_store.specs.Load.Selects.{selects}
 use Rattle.osm_store.proofs.LoadLemmas.SelectLemmas.{query_plain}

@@ -14,8 +14,8 @@ use Rattle.sqlite_trees.specs.Tree.{IsAscending}
 use Rattle.sqlite_trees.proofs.ListLemmas.{all_of, all_weaker, all_both, all-map, ascending-map, ascending-filter, ascending-get_or, filter_same}
 use Rattle.osm_store.specs.declared.keeper.Extent.{Extent}
 use Rattle.osm_store.specs.Held.{HeldMap, IsApart}
-use Rattle.osm_store.specs.declared.fault.StoreFault.{StoreFault}
-use Rattle.osm_store.specs.declared.fault.StoreFault.TheVariants.{Memory}
+use Rattle.osm_faults.specs.declared.fault.StoreFault.{StoreFault}
+use Rattle.osm_faults.specs.declared.fault.StoreFault.TheVariants.{Memory}
 use Rattle.osm_store.specs.Keeping.{IsForeign, AscendApart, extent_of, extents_of, touches}
 use Rattle.osm_store.specs.declared.schema.layout.Layout.{Layout}
 use Rattle.osm_store.specs.LayoutHolding.{IsBlob, IsKept, IsKeptExtent}

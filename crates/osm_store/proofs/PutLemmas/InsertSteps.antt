@@ -30,7 +30,7 @@ use Rattle.std.specs.Option.{option_copied}
 use Rattle.osm_store.specs.Schema.Over.{IsWriting}
 use Rattle.osm_store.specs.Put.Steps.{Gains, AddsRows}
 use Rattle.osm_store.specs.Put.Batches.{rows_of, statement_of}
-use Rattle.osm_store.specs.declared.fault.StoreFault.{StoreFault}
+use Rattle.osm_faults.specs.declared.fault.StoreFault.{StoreFault}
 use Rattle.osm_store.specs.declared.put.table_row.Batch.{Batch}
 use Rattle.osm_store.proofs.PutLemmas.Inserts.{inserts_all}
 use Rattle.osm_store.proofs.SchemaLemmas.MakeSteps.{becomes}

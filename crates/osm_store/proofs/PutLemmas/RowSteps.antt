@@ -1,10 +1,9 @@
 -- What the row functions do, from what `sqlite` says of their statements.
-use Rattle.std.proofs.Common.{◌≡◌, ◌≢◌, ℕ, ℤ, List, [], ◌∷◌, ◌++◌, map, drop, Ok, true, IsTrue, refl, sym, subst, ◌∙◌, append-nil, append_assoc, inl, arith}
+use Rattle.std.proofs.Common.{◌≡◌, ◌≢◌, ℕ, ℤ, List, [], ◌∷◌, ◌++◌, map, drop, Ok, true, IsTrue, refl, sym, subst, ◌∙◌, append-nil, append_assoc, inl, arith, Result, false, inr, true≢false, Err}
 use Rattle.std.specs.List.Sorted.{IsPermutation}
 use Rattle.std.proofs.lemmas.List.Sorted.{IsPermutation-refl, IsPermutation-trans, IsPermutation-append_left}
 use Rattle.sqlite.proofs.InsideLemmas.{keeps_then, inside_keeps}
 use Rattle.sqlite.specs.Order.{Row}
-use Rattle.std.proofs.Common.{Result, false, inr}
 use Rattle.std.proofs.lemmas.Bool.{cases_Bool}
 use Rattle.sqlite.specs.Store.{Ghosts}
 use Rattle.sqlite.specs.Held.{Held, state}
@@ -14,12 +13,10 @@ use Rattle.sqlite.specs.Tree.{Trees}
 use Rattle.sqlite.proofs.StateLemmas.{survives_then}
 use Rattle.sqlite.proofs.Callers.{survives_begin}
 use Rattle.sqlite.specs.Steps.{FailsToCommit}
-use Rattle.std.proofs.Common.{true≢false}
 use Rattle.osm_store.specs.declared.keeper.Extent.{Extent}
 use Rattle.sqlite.specs.Table.{Table}
 use Rattle.std.specs.Prelude.{OnOk}
-use Rattle.std.proofs.Common.{Err}
-use Rattle.osm_store.specs.declared.fault.StoreFault.{StoreFault}
+use Rattle.osm_faults.specs.declared.fault.StoreFault.{StoreFault}
 use Rattle.std.specs.List.{AllByRecursion}
 use Rattle.sqlite.specs.declared.types.Value.TheVariants.{Int, Blob as Octets}
 use Rattle.osm_store.specs.declared.schema.layout.Layout.{Layout}

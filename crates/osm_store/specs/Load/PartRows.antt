@@ -41,12 +41,12 @@ role_text role.Label = codes "label"
 role_text role.Subarea = codes "subarea"
 
 -- the values of a link's row, column by column
-abbrev pub link_columns : ShortLink → Row
-link_columns link = Int link.off ∷ Int (pos link.position) ∷ Int (pos link.number) ∷ Int (pos (element_code link.kind)) ∷ Int link.id ∷ Words (role_text link.role) ∷ []
+abbrev pub short_link_values : ShortLink → Row
+short_link_values link = Int link.off ∷ Int (pos link.position) ∷ Int (pos link.number) ∷ Int (pos (element_code link.kind)) ∷ Int link.id ∷ Words (role_text link.role) ∷ []
 
 -- the values of a tag's row, column by column
-abbrev pub tag_columns : ShortTag → Row
-tag_columns tag = Int tag.off ∷ Int (pos tag.position) ∷ Int (pos tag.number) ∷ Words (take tag.key_length tag.texts.items) ∷ Words (drop tag.key_length tag.texts.items) ∷ []
+abbrev pub short_tag_values : ShortTag → Row
+short_tag_values tag = Int tag.off ∷ Int (pos tag.position) ∷ Int (pos tag.number) ∷ Words (take tag.key_length tag.texts.items) ∷ Words (drop tag.key_length tag.texts.items) ∷ []
 
 -- the link with these numbers, the two long ones by the bits above their lower 32 and by those
 abbrev pub link_of : MemberKind → UsualRole → ℕ → ℕ → ℕ → ℕ → ℕ → ℕ → ShortLink
@@ -54,8 +54,8 @@ link_of kind role number position off_upper id_upper off_lower id_lower = record
 
 -- the values of the row, column by column
 abbrev pub columns_of : PartForm → Row
-columns_of (Tag tag) = tag_columns tag.value
-columns_of (NodeLink role number position off_upper id_upper off_lower id_lower) = link_columns (link_of kind.Node role number position off_upper id_upper off_lower id_lower)
-columns_of (WayLink role number position off_upper id_upper off_lower id_lower) = link_columns (link_of kind.Way role number position off_upper id_upper off_lower id_lower)
-columns_of (RelationLink role number position off_upper id_upper off_lower id_lower) = link_columns (link_of kind.Relation role number position off_upper id_upper off_lower id_lower)
+columns_of (Tag tag) = short_tag_values tag.value
+columns_of (NodeLink role number position off_upper id_upper off_lower id_lower) = short_link_values (link_of kind.Node role number position off_upper id_upper off_lower id_lower)
+columns_of (WayLink role number position off_upper id_upper off_lower id_lower) = short_link_values (link_of kind.Way role number position off_upper id_upper off_lower id_lower)
+columns_of (RelationLink role number position off_upper id_upper off_lower id_lower) = short_link_values (link_of kind.Relation role number position off_upper id_upper off_lower id_lower)
 columns_of (Other row) = row.value

@@ -5,8 +5,8 @@ ghost use Rattle.osm_store.specs.Keeping.{IsForeign};
 ghost use Rattle.osm_store.specs.Rows.{placed, body_columns, body_row};
 
 use crate::audit::same::has_values;
-use crate::fault::StoreFault;
 use crate::schema::codes::element_code;
+use osm_faults::StoreFault;
 use osm_value::{Element, MemberKind};
 use osm_write::encode_one;
 use pbf_frame::MAX_OFFSET;

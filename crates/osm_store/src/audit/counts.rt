@@ -14,9 +14,9 @@ ghost use Rattle.osm_store.specs.Schema.Layouts.{schema_of};
 ghost use Rattle.osm_store.specs.TableRows.{links_of};
 
 use crate::audit::table::AuditedTable;
-use crate::fault::StoreFault;
 use crate::load::{answer, number_at};
 use crate::schema::Layout;
+use osm_faults::StoreFault;
 use osm_value::Element;
 use sqlite::{Alter, Connection, Row};
 

@@ -6,8 +6,8 @@ ghost use Rattle.sqlite.specs.Value.{owned};
 ghost use Rattle.sqlite.specs.Values.{bound, bound_value};
 ghost use Rattle.osm_store.specs.Keeping.{IsForeign};
 
-use crate::fault::StoreFault;
 use crate::put::TableRow;
+use osm_faults::StoreFault;
 use sqlite::Row;
 use sqlite::types::ValueRef;
 use sqlite_value::order::is_same;

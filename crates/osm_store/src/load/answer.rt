@@ -10,7 +10,7 @@ ghost use Rattle.osm_store.specs.Load.Asking.{JustAsks, IsAnswered};
 ghost use Rattle.osm_store.specs.Keeping.{IsForeign};
 ghost use Rattle.osm_store.specs.Load.Selects.{selects};
 
-use crate::fault::StoreFault;
+use osm_faults::StoreFault;
 use sqlite::types::ValueRef;
 use sqlite::{Alter, Connection, Error, Row};
 

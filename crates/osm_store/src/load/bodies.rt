@@ -15,7 +15,6 @@ ghost use Rattle.osm_store.specs.Keeping.{IsForeign};
 ghost use Rattle.osm_store.specs.Load.Loading.{HasRowsOf, IsInPlace};
 ghost use Rattle.osm_store.specs.Rows.{is_of, placed_in};
 
-use crate::fault::StoreFault;
 use crate::load::answer::{answer, integer, number};
 use crate::load::found::Found;
 use crate::load::loaded::Loaded;
@@ -25,6 +24,7 @@ use crate::schema::Layout;
 use crate::schema::codes::element_code;
 use crate::schema::sql::{FIND_BODIES, SELECT_BODIES};
 pub(crate) use flags::any_flag_in_bodies;
+use osm_faults::StoreFault;
 use osm_value::MemberKind;
 use pbf_frame::MAX_OFFSET;
 pub(crate) use rows::BodyRows;

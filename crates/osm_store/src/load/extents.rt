@@ -12,12 +12,13 @@ ghost use Rattle.osm_store.specs.Keeping.{IsForeign, IsRange, AscendApart, exten
 ghost use Rattle.osm_store.specs.Rows.{extent_columns};
 ghost use Rattle.osm_store.specs.Load.Starting.{IsStart};
 
-use crate::fault::{StoreFault, unread};
 use crate::keeper::Extent;
 use crate::load::answer::{answer, integer, number};
+use crate::load::values::unread;
 use crate::schema::Layout;
 use crate::schema::codes::blob_kind;
 use crate::schema::sql::{SELECT_EXTENTS, SELECT_LAST_START, SELECT_TOUCHING};
+use osm_faults::StoreFault;
 use pbf_frame::MAX_OFFSET;
 use sqlite::{Alter, Connection, Row};
 use std::alloc::Global;

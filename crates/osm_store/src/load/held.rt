@@ -13,12 +13,12 @@ ghost use Rattle.osm_store.specs.Keeping.{IsForeign};
 ghost use Rattle.osm_store.specs.Load.Loading.{HasRowsOf, IsInPlace};
 ghost use Rattle.osm_store.specs.Rows.{is_of, placed_in};
 
-use crate::fault::StoreFault;
 use crate::load::bodies::{any_flag_in_bodies, find_bodies, load_bodies};
 use crate::load::found::Found;
 use crate::load::loaded::Loaded;
 use crate::load::tables::{any_flag_in_tables, find_tables, load_tables};
 use crate::schema::Layout;
+use osm_faults::StoreFault;
 use osm_value::MemberKind;
 use sqlite::{Alter, Connection};
 use std::alloc::Global;

@@ -20,12 +20,12 @@ ghost use Rattle.osm_store.specs.Keeping.{IsForeign};
 ghost use Rattle.osm_store.specs.Load.Loading.{HasRowsOf, IsInPlace};
 ghost use Rattle.osm_store.specs.Rows.{is_of, placed_in};
 
-use crate::fault::StoreFault;
 use crate::load::found::Found;
 use crate::load::loaded::Loaded;
 use crate::load::rows::ElementRows;
 use crate::schema::Layout;
 pub(crate) use flags::any_flag_in_tables;
+use osm_faults::StoreFault;
 use osm_value::MemberKind;
 pub use part_row::PartRow;
 use pbf_frame::MAX_OFFSET;

@@ -9,11 +9,11 @@ ghost use Rattle.osm_store.specs.Schema.Over.{IsWriting};
 ghost use Rattle.osm_store.specs.Put.Steps.{AddsRow, AddsRows};
 ghost use Rattle.osm_store.specs.Rows.{placed, body_columns, body_row, HasBlock};
 
-use crate::fault::StoreFault;
 use crate::put::execute::execute;
 use crate::schema::Layout;
 use crate::schema::codes::element_code;
 use crate::schema::sql::INSERT_BODY;
+use osm_faults::StoreFault;
 use osm_value::{Element, MemberKind};
 use osm_write::encode_one;
 use pbf_frame::MAX_OFFSET;

@@ -6,7 +6,7 @@ ghost use Rattle.sqlite.specs.State.{HasCleanDisk, ExecutesInside};
 ghost use Rattle.sqlite.specs.Held.{state};
 ghost use Rattle.osm_store.specs.Inside.{WorksInside};
 
-use crate::fault::StoreFault;
+use osm_faults::StoreFault;
 use sqlite::types::ValueRef;
 use sqlite::{Alter, Transaction};
 

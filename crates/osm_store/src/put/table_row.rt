@@ -11,13 +11,13 @@ ghost use Rattle.osm_store.specs.Schema.Over.{IsWriting};
 ghost use Rattle.osm_store.specs.Put.Steps.{AddsRows};
 ghost use Rattle.osm_store.specs.Put.Batches.{rows_of, statement_of};
 
-use crate::fault::StoreFault;
 use crate::put::execute::execute;
 use crate::schema::Layout;
 use crate::schema::codes::element_code;
 use crate::schema::sql::{
     INSERT_ELEMENT, INSERT_ELEMENTS, INSERT_LINK, INSERT_LINKS, INSERT_TAG, INSERT_TAGS,
 };
+use osm_faults::StoreFault;
 use osm_value::MemberKind;
 use sqlite::types::ValueRef;
 use sqlite::{Alter, Transaction, params};

@@ -11,9 +11,9 @@ ghost use Rattle.osm_store.specs.Put.WrittenRows.{element_columns, tag_columns, 
 ghost use Rattle.osm_store.specs.Schema.Over.{IsWriting};
 ghost use Rattle.osm_store.specs.Put.Steps.{AddsElements};
 
-use crate::fault::StoreFault;
 use crate::put::table_row::{ElementRow, LinkRow, TagRow, add_rows};
 use crate::schema::Layout;
+use osm_faults::StoreFault;
 use osm_value::laws::elements_in_range;
 use osm_value::{Element, Member, MemberKind};
 use pbf_frame::MAX_OFFSET;

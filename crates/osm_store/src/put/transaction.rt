@@ -11,7 +11,6 @@ ghost use Rattle.osm_store.specs.Rows.{blob_code, placed, extent_row, CanStore};
 ghost use Rattle.osm_store.specs.Schema.Over.{IsWriting};
 ghost use Rattle.osm_store.specs.Put.Steps.{AddsElements, AddsExtent, Puts, Writes};
 
-use crate::fault::StoreFault;
 use crate::keeper::Extent;
 use crate::put::bodies::add_bodies;
 use crate::put::execute::execute;
@@ -19,6 +18,7 @@ use crate::put::tables::add_table_rows;
 use crate::schema::Layout;
 use crate::schema::codes::blob_code;
 use crate::schema::sql::INSERT_BLOB;
+use osm_faults::StoreFault;
 use osm_value::Element;
 use pbf_frame::MAX_OFFSET;
 use sqlite::{Alter, Connection, Transaction, params};

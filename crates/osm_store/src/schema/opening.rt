@@ -5,7 +5,7 @@ ghost use Rattle.std.specs.FinMap.{empty};
 ghost use Rattle.sqlite.specs.State.{HasCleanDisk};
 ghost use Rattle.sqlite.specs.Held.{state};
 ghost use Rattle.osm_store.specs.Load.Asking.{JustAsks, NamesVersion};
-ghost use Rattle.osm_store.specs.Faults.{NamesNoVersion};
+ghost use Rattle.osm_faults.specs.Faults.{NamesNoVersion};
 ghost use Rattle.osm_store.specs.Held.{HeldMap};
 ghost use Rattle.osm_store.specs.LayoutHolding.{Holds, TablesHold};
 ghost use Rattle.osm_store.specs.Keeping.{IsForeign};
@@ -13,12 +13,12 @@ ghost use Rattle.osm_store.specs.Schema.Layouts.{version_of};
 ghost use Rattle.osm_store.specs.Schema.Bodies.{no_schema};
 ghost use Rattle.osm_store.specs.Schema.Named.{HasTables};
 
-use crate::fault::{StoreFault, fault_over_unknown};
 use crate::schema::Layout;
 use crate::schema::create::create_tables;
 use crate::schema::sql::{BODY_VERSION, TABLE_VERSION};
 use crate::schema::tables::has_tables;
 use crate::schema::version::version;
+use osm_faults::{StoreFault, fault_over_unknown};
 use sqlite::{Alter, Connection};
 use sqlite_schema::schema::Schema;
 

@@ -6,16 +6,16 @@ ghost use Rattle.sqlite.specs.Order.{Row, column};
 ghost use Rattle.sqlite.specs.State.{HasCleanDisk};
 ghost use Rattle.sqlite.specs.Held.{state};
 ghost use Rattle.osm_store.specs.Load.Asking.{JustAsks, NamesVersion};
-ghost use Rattle.osm_store.specs.Faults.{NamesNoVersion};
+ghost use Rattle.osm_faults.specs.Faults.{NamesNoVersion};
 ghost use Rattle.osm_store.specs.Held.{HeldMap};
 ghost use Rattle.osm_store.specs.LayoutHolding.{Holds};
 ghost use Rattle.osm_store.specs.Keeping.{IsForeign};
 ghost use Rattle.osm_store.specs.Schema.Layouts.{version_of};
 
-use crate::fault::{StoreFault, fault_over_unknown, unread};
-use crate::load::ask;
+use crate::load::{ask, unread};
 use crate::schema::Layout;
 use crate::schema::sql::SELECT_VERSION;
+use osm_faults::{StoreFault, fault_over_unknown};
 use sqlite::{Alter, Connection, Row};
 
 /// The one version that the rows of `meta` name.

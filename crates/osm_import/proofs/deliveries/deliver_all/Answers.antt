@@ -11,23 +11,9 @@ loop-delivery-init g c = record { room = search rules; count = search rules; eac
 
 pub loop-delivery-preserved : goal.loop-delivery-preserved
 loop-delivery-preserved g c =
-    let made = c.deliver.ensures in
     let pushed : c.push.new.self.items ≡ c.loop-delivery.answers.items ++ c.deliver.result ∷ [] = rw c.unwrap.ensures at c.push.ensures.items in
     let one : TakesOne g.K.Reader c.loop-delivery.keeper c.deliver.new.keeper c.delivery.inside.off c.delivery.inside.bytes.now c.deliver.result
-    = record {
-      step = made.step;
-      crash = made.crash;
-      events = made.events;
-      whole = made.whole;
-      alone = made.alone;
-      own = made.own;
-      cause = made.cause;
-      same = made.same;
-      shut = made.shut;
-      honest = made.honest;
-      open_if = made.open_if;
-      counted = made.counted;
-    } in
+    = c.deliver.ensures in
     record {
       room = search rules;
       count = grind (arith, common_steps);

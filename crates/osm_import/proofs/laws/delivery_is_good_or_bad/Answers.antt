@@ -1,4 +1,4 @@
-use Rattle.osm_import.proofs.GoodLaws.{good-or-bad, good-not_bad, bad-one, good-same}
+use Rattle.osm_reading.proofs.GoodLaws.{good-or-bad, good-not_bad, bad-one, good-same}
 use Rattle.osm_import.proofs.laws.delivery_is_good_or_bad.Goals as goal
 
 pub returns : goal.returns

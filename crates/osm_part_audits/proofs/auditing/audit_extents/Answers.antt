@@ -6,7 +6,7 @@ use Rattle.osm_value.specs.declared.element.Element.{Element}
 use Rattle.osm_store.specs.Audit.{counts_of, elements_held}
 use Rattle.osm_store.specs.Held.{HeldMap}
 use Rattle.osm_store.specs.declared.keeper.Extent.{Extent}
-use Rattle.osm_import.specs.Exports.{Known}
+use Rattle.osm_reading.specs.Framings.{Known}
 use Rattle.osm_verify.specs.Agreements.{IsSame}
 use Rattle.osm_verify.specs.Audits.{IsEntryOf}
 use Rattle.osm_verify.specs.declared.comparing.Depth.{Depth}

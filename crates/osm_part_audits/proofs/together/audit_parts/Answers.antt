@@ -1,6 +1,6 @@
 use Rattle.std.proofs.Common.{◌≡◌, ◌∙◌, false, List, sym, subst}
 use Rattle.std.proofs.lemmas.Result.{IfOk-weaker}
-use Rattle.osm_import.specs.Exports.{Known}
+use Rattle.osm_reading.specs.Framings.{Known}
 use Rattle.osm_parts.specs.Reading.{AreRead, AreStores}
 use Rattle.osm_parts.specs.declared.runs.Part.{Part}
 use Rattle.osm_parts.proofs.OpeningLemmas.{if-err}

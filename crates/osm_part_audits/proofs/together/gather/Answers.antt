@@ -1,7 +1,7 @@
 use Rattle.std.proofs.Common.{◌≡◌, ◌≤◌, ◌<◌, ◌+◌, ◌++◌, ◌∷◌, ◌∙◌, [], false, List, length, take, refl, sym, ap, subst, arith}
 use Rattle.std.proofs.lemmas.List.{take_all, length-take}
 use Rattle.osm_store.specs.Held.{HeldMap}
-use Rattle.osm_import.specs.Exports.{Known}
+use Rattle.osm_reading.specs.Framings.{Known}
 use Rattle.osm_parts.specs.Reading.{AreStores, IsReadOf}
 use Rattle.osm_parts.specs.declared.runs.Part.{Part}
 use Rattle.osm_parts.proofs.PieceLemmas.{held-at}

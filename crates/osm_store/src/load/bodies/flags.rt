@@ -11,11 +11,11 @@ ghost use Rattle.osm_store.specs.Held.{Blob, HeldMap};
 ghost use Rattle.osm_store.specs.LayoutHolding.{Holds};
 ghost use Rattle.osm_store.specs.Keeping.{IsForeign, extents_of};
 
-use crate::fault::StoreFault;
 use crate::keeper::Extent;
 use crate::load::bodies::load_bodies;
 use crate::load::extents::all_extents;
 use crate::schema::Layout;
+use osm_faults::StoreFault;
 use osm_value::Element;
 use sqlite::{Alter, Connection};
 use std::alloc::Global;

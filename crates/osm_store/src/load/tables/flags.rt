@@ -9,10 +9,10 @@ ghost use Rattle.osm_store.specs.Held.{HeldMap};
 ghost use Rattle.osm_store.specs.LayoutHolding.{Holds};
 ghost use Rattle.osm_store.specs.Keeping.{IsForeign};
 
-use crate::fault::StoreFault;
 use crate::load::answer::answer;
 use crate::schema::Layout;
 use crate::schema::sql::SELECT_FLAG;
+use osm_faults::StoreFault;
 use sqlite::{Alter, Connection};
 
 /// Whether any held element has a flag. The query ends at the first that it meets.

@@ -5,7 +5,7 @@ ghost use Rattle.sqlite.specs.declared.types.Value.TheVariants.{Int};
 ghost use Rattle.sqlite.specs.Order.{column};
 ghost use Rattle.sqlite.specs.Value.{owned};
 ghost use Rattle.osm_store.specs.Load.Numbering.{AreNumbered};
-ghost use Rattle.osm_store.specs.Load.PartRows.{columns_of, link_columns, tag_columns};
+ghost use Rattle.osm_store.specs.Load.PartRows.{columns_of, short_link_values, short_tag_values};
 
 use crate::load::tables::usual_role::UsualRole;
 use crate::load::values::{kind_of, number_of};
@@ -39,8 +39,9 @@ struct ShortTag {
     key_length: u8,
 }
 
-/// A row in a short form, or whatever other row it is. The kind of a link is told by its variant, and its offset and its
-/// element's number by their upper eight bits and their lower 32. Fields stand in an order that leaves no gaps.
+/// A row in a short form, or whatever other row it is. The kind of a link is told by its variant; its offset and the id of
+/// the element that it leads to are each kept as their upper eight bits and their lower 32. Fields stand in an order that
+/// leaves no gaps.
 #[derive(Debug, Drop)]
 enum PartForm {
     Tag(Box<ShortTag>),
@@ -190,7 +191,7 @@ fn short_place(row: &row::Row) -> Option<(i64, u32, u16)>
 
 /// The short form of a link.
 fn short_link(row: &row::Row) -> Option<ShortLink>
-    ensures { IfSome result (λ link. link_columns link ≡ row.now) }
+    ensures { IfSome result (λ link. short_link_values link ≡ row.now) }
 {
     if row.len() != 6 {
         return None;
@@ -298,9 +299,9 @@ impl ShortLink {
         }
     }
 
-    /// The same in 16 bytes, where its position is below 2^16 and its offset and number below 2^40.
+    /// The same in 16 bytes, where its position is below 2^16 and its offset and id are below 2^40.
     fn packed(self) -> Option<PartForm>
-        ensures { IfSome result (λ form. columns_of form ≡ link_columns self) }
+        ensures { IfSome result (λ form. columns_of form ≡ short_link_values self) }
     {
         let ShortLink {
             off,
@@ -346,7 +347,7 @@ impl ShortLink {
 
     /// The value in a column, and NULL past the end.
     fn value(self, at: usize) -> ValueRef<'static>
-        ensures { owned result ≡ column (link_columns self) at }
+        ensures { owned result ≡ column (short_link_values self) at }
     {
         match at {
             0 => ValueRef::Int(self.off),
@@ -363,7 +364,7 @@ impl ShortLink {
 impl ShortTag {
     /// The value in a column, and NULL past the end.
     fn value(&self, at: usize) -> ValueRef<'_>
-        ensures { owned result ≡ column (tag_columns self.now) at }
+        ensures { owned result ≡ column (short_tag_values self.now) at }
     {
         let texts = self.texts.as_slice();
         match at {

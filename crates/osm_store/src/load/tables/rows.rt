@@ -10,11 +10,11 @@ ghost use Rattle.osm_store.specs.LayoutHolding.{Holds};
 ghost use Rattle.osm_store.specs.Keeping.{IsForeign};
 ghost use Rattle.osm_store.specs.Rows.{is_in, placed_in};
 
-use crate::fault::StoreFault;
 use crate::load::answer::{answer, number};
 use crate::load::tables::part_row::PartRow;
 use crate::schema::Layout;
 use crate::schema::sql::{SELECT_ELEMENTS, SELECT_LINKS, SELECT_TAGS};
+use osm_faults::StoreFault;
 use pbf_frame::MAX_OFFSET;
 use sqlite::{Alter, Connection, Row};
 use std::alloc::Global;

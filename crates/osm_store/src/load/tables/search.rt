@@ -13,13 +13,14 @@ ghost use Rattle.osm_store.specs.LayoutHolding.{Holds};
 ghost use Rattle.osm_store.specs.Keeping.{IsForeign};
 ghost use Rattle.osm_store.specs.Rows.{Placed, is_of, placed_in};
 
-use crate::fault::{StoreFault, unread};
 use crate::load::answer::{answer, integer, number};
 use crate::load::tables::TableRows;
 use crate::load::tables::part_row::PartRow;
+use crate::load::values::unread;
 use crate::schema::Layout;
 use crate::schema::codes::element_code;
 use crate::schema::sql::{FIND_ELEMENTS, SELECT_ITS_LINKS, SELECT_ITS_TAGS};
+use osm_faults::StoreFault;
 use osm_value::MemberKind;
 use sqlite::{Alter, Connection, Row};
 use std::alloc::Global;

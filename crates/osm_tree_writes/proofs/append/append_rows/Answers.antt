@@ -10,8 +10,14 @@ use Rattle.osm_tree_writes.specs.Appending.{IsAfter}
 use Rattle.osm_tree_writes.proofs.AppendLemmas.{after_more, appends_next, appends_nothing}
 use Rattle.osm_tree_writes.proofs.append.append_rows.Goals as goal
 
-pub returns-in_err-append_row-clause-quiet : goal.returns-in_err-append_row-clause-quiet
-returns-in_err-append_row-clause-quiet g c = search rules
+pub returns-in_err-push_values-clause-harmless : goal.returns-in_err-push_values-clause-harmless
+returns-in_err-push_values-clause-harmless g c = record { kept = search rules; schema = search rules; ours = search rules; quiet = search rules }
+
+pub returns-in_err-make_row-clause-harmless : goal.returns-in_err-make_row-clause-harmless
+returns-in_err-make_row-clause-harmless g c = record { kept = search rules; schema = search rules; ours = search rules; quiet = search rules }
+
+pub returns-in_err-append_row-clause-harmless : goal.returns-in_err-append_row-clause-harmless
+returns-in_err-append_row-clause-harmless g c = record { kept = search rules; schema = search rules; ours = search rules; quiet = search rules }
 
 pub loop-written-init : goal.loop-written-init
 loop-written-init g c = record {
@@ -37,7 +43,7 @@ loop-written-preserved g c = record {
       let old = g.S.Store.view c.loop-written.store in
       let new = g.S.Store.view c.append_row.new.store in
       let row = c.make_row.new.row in
-      let clean_old : IsClean old = omega (arith, clean, c.append_row.ensures.quiet.clean) in
+      let clean_old : IsClean old = omega (arith, clean, c.append_row.ensures.harmless.quiet.clean) in
       let before = c.loop-written.invariant.appended clean_old in
       let values : bound c.deref.result.now ≡ columns = ap bound c.deref.ensures.value ∙ c.in_ok-push_values.ensures.pushed ∙ ap (λ (vs : List ValueRef). bound vs ++ columns) c.clear.ensures.items in
       let is : row ≡ Int id ∷ columns = subst (λ (r : Row). row ≡ Int id ∷ r) values c.in_ok-make_row.ensures in
@@ -52,8 +58,5 @@ loop-written-preserved g c = record {
   quiet = search rules;
 }
 
-pub returns-in_default-clause-kept : goal.returns-in_default-clause-kept
-returns-in_default-clause-kept g c = search rules
-
-pub returns-in_default-clause-quiet : goal.returns-in_default-clause-quiet
-returns-in_default-clause-quiet g c = search rules
+pub returns-in_default-clause-harmless : goal.returns-in_default-clause-harmless
+returns-in_default-clause-harmless g c = record { kept = search rules; schema = search rules; ours = search rules; quiet = search rules }

@@ -18,7 +18,7 @@ loop-index-preserved g c =
       | then-index-table+in_ok-put_entry_of w ↦ (
         rw w.store-is (λ clean.
             rw (w.in_ok-put_entry_of.ensures.ok clean).is
-            (with_entry c.args.table row index later db w.if-index-table.true ∙ (rw step at (c.loop-index.invariant.0 (omega (arith, clean, w.put_entry_of.ensures.quiet.clean)))))),
+            (with_entry c.args.table row index later db w.if-index-table.true ∙ (rw step at (c.loop-index.invariant.0 (omega (arith, clean, w.put_entry_of.ensures.harmless.quiet.clean)))))),
         search rules,
         search rules,
         search rules,

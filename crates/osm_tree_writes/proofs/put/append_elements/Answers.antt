@@ -32,7 +32,7 @@ loop-rest-preserved g c =
       record {
         whole = it.whole ∙ ap (λ l. done ++ l) split ∙ sym (append_assoc done some after);
         written = λ clean.
-            let clean_old : IsClean old = omega (arith, clean, c.append_some-in-loop-rest.ensures.quiet.clean) in
+            let clean_old : IsClean old = omega (arith, clean, c.append_some-in-loop-rest.ensures.harmless.quiet.clean) in
             rw (placed-append c.args.off 0 done some)
             (written_more c.args.more.now start old new (placed c.args.off 0 done) (placed c.args.off (0 + length done) some) (it.written clean_old) (rw first at (c.in_ok-append_some-2.ensures.written clean)));
         schema = search rules;

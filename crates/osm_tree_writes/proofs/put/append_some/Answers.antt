@@ -12,8 +12,8 @@ returns-clause-written g c =
     let v2 = g.S.Store.view c.append_rows-2.new.store in
     on_ok_weaker c.append_rows-3.result (λ done clean.
     let v3 = g.S.Store.view c.append_rows-3.new.store in
-    let clean_2 : IsClean v2 = omega (arith, clean, c.append_rows-3.ensures.quiet.clean) in
-    let clean_1 : IsClean v1 = omega (arith, clean_2, c.append_rows-2.ensures.quiet.clean) in
+    let clean_2 : IsClean v2 = omega (arith, clean, c.append_rows-3.ensures.harmless.quiet.clean) in
+    let clean_1 : IsClean v1 = omega (arith, clean_2, c.append_rows-2.ensures.harmless.quiet.clean) in
     appended c.args.more.now c.requires.behind v0 v1 v2 v3 (placed c.args.off c.args.first c.args.elements.now)
     (rw (c.deref.ensures.value, c.in_ok-rows.ensures) at (c.in_ok-append_rows.ensures.appended clean_1))
     (rw (c.deref-2.ensures.value, c.in_ok-tags.ensures) at (c.in_ok-append_rows-2.ensures.appended clean_2))

@@ -12,7 +12,7 @@ pub append_elements-requires-clause-more : goal.append_elements-requires-clause-
 append_elements-requires-clause-more g c clean =
     let before = g.S.Store.view c.args.store.now in
     let v1 = g.S.Store.view c.put_extent.new.store in
-    let shape : v1.shape ≡ before.shape = c.put_extent.ensures.schema.shape ∙ c.are_places_free.ensures.schema.shape in
+    let shape : v1.shape ≡ before.shape = c.put_extent.ensures.harmless.schema.shape ∙ c.are_places_free.ensures.harmless.schema.shape in
     let shaped = rw c.in-Some.is at c.in_ok-more.ensures.shaped in
     subst (λ s. AreIndexesAt s c.as_slice.result.now) (sym shape) (subst (AreIndexesAt before.shape) (sym c.as_slice.ensures.value) (rise_behind before.shape c.in-Some.more.items shaped.1).0)
 
@@ -35,10 +35,10 @@ returns-clause-written g c =
     let behind : AreBehind more = (rise_behind before.shape more shaped.1).1 in
     on_ok_weaker c.append_elements.result (λ done clean.
     let v2 = g.S.Store.view c.append_elements.new.store in
-    let clean_1 : IsClean v1 = omega (arith, clean, c.append_elements.ensures.quiet.clean) in
-    let clean_0 : IsClean v0 = omega (arith, clean_1, c.put_extent.ensures.quiet.clean) in
-    let clean_before : IsClean before = omega (arith, clean_0, c.are_places_free.ensures.quiet.clean) in
-    let shape : v0.shape ≡ before.shape = c.are_places_free.ensures.schema.shape in
+    let clean_1 : IsClean v1 = omega (arith, clean, c.append_elements.ensures.harmless.quiet.clean) in
+    let clean_0 : IsClean v0 = omega (arith, clean_1, c.put_extent.ensures.harmless.quiet.clean) in
+    let clean_before : IsClean before = omega (arith, clean_0, c.are_places_free.ensures.harmless.quiet.clean) in
+    let shape : v0.shape ≡ before.shape = c.are_places_free.ensures.harmless.schema.shape in
     let elements : WritesElements more v1 v2 ps = subst (λ (m : List Index). WritesElements m v1 v2 ps) c.as_slice.ensures.value (done clean) in
     let wrote : Writes more before v2 extent ps =
     written_after more before v0 v2 extent ps (c.in_ok-are_free.ensures.reads clean_0)

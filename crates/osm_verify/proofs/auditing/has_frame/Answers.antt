@@ -5,7 +5,7 @@ use Rattle.osm_value.specs.declared.element.Element.{Element}
 use Rattle.osm_value.specs.Elements.{IsElement}
 use Rattle.osm_store.specs.Audit.{ShowsBlob}
 use Rattle.osm_store.specs.Held.{Blob}
-use Rattle.osm_import.specs.Good.{IsGood}
+use Rattle.osm_reading.specs.Good.{IsGood}
 use Rattle.osm_import.specs.Step.{IsEntry}
 use Rattle.osm_import.proofs.Delivering.{few-texts}
 use Rattle.osm_verify.proofs.AuditLemmas.{entry-weaker, held-told, plain-each, shown-told}

@@ -2,7 +2,7 @@ use Rattle.std.proofs.Common.{List, ℕ, [], Err, refl, sym, subst}
 use Rattle.osm_value.specs.Sink.{Wrote}
 use Rattle.osm_value.proofs.SinkLemmas.{started}
 use Rattle.osm_import.specs.declared.export.fault.ExportFault.{ExportFault}
-use Rattle.osm_import.specs.Lines.{plain_fault_line}
+use Rattle.osm_reading.specs.Lines.{plain_fault_line}
 use Rattle.osm_import.specs.ExportFaults.{export_name_of}
 use Rattle.pbfrow_commands.specs.Exporting.{EndsExport}
 use Rattle.pbfrow_commands.proofs.ExportLemmas.{ends-export}

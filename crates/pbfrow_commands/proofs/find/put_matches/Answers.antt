@@ -1,5 +1,5 @@
 use Rattle.pbfrow_commands.specs.CommandLines.{match_line}
-use Rattle.pbfrow_commands.proofs.StatusLemmas.{lines-all, lines-more-at, lines-none}
+use Rattle.pbfrow_reading.proofs.LineLemmas.{lines-all, lines-more-at, lines-none}
 use Rattle.pbfrow_commands.proofs.find.put_matches.Goals as goal
 
 pub loop-off-init : goal.loop-off-init

@@ -1,7 +1,7 @@
 use Rattle.std.proofs.Common.{[], Result, sym, subst}
 use Rattle.osm_value.proofs.SinkLemmas.{started}
 use Rattle.osm_import.specs.declared.stream.summary.Summary.{Summary}
-use Rattle.osm_import.specs.declared.stream.fault.StreamFault.{StreamFault}
+use Rattle.osm_reading.specs.declared.stream.fault.StreamFault.{StreamFault}
 use Rattle.pbfrow_commands.specs.Importing.{EndsLine}
 use Rattle.pbfrow_commands.proofs.import.finish.Goals as goal
 

@@ -1,9 +1,9 @@
 use Rattle.std.proofs.Common.{List, ℕ, [], refl, sym, subst}
 use Rattle.osm_value.specs.Sink.{Wrote}
 use Rattle.osm_value.proofs.SinkLemmas.{started}
-use Rattle.osm_import.specs.StopFaults.{stop_name_of}
-use Rattle.osm_import.specs.declared.stream.fault.Stop.{Stop}
-use Rattle.osm_import.specs.Lines.{fault_line}
+use Rattle.osm_reading.specs.StopFaults.{stop_name_of}
+use Rattle.osm_reading.specs.declared.stream.fault.Stop.{Stop}
+use Rattle.osm_reading.specs.Lines.{fault_line}
 use Rattle.pbfrow_commands.specs.Importing.{EndsStop}
 use Rattle.pbfrow_commands.proofs.ImportLemmas.{ends-stop}
 use Rattle.pbfrow_commands.proofs.import.put_stop.Goals as goal

@@ -8,7 +8,7 @@ use Rattle.osm_parts.proofs.PieceLemmas.{held-at}
 use Rattle.pbfrow_commands.specs.Merging.{AreCopied, IsTotal, MergesStores, TakesOf, store_lines}
 use Rattle.pbfrow_commands.specs.declared.merge.MergeStop.{MergeStop}
 use Rattle.pbfrow_commands.proofs.MergingLemmas.{parted, take-next, take-none, copied-merges, copied-more, left-takes, merge-cause-later, line-more, lines-end}
-use Rattle.pbfrow_commands.proofs.StatusLemmas.{lines-none}
+use Rattle.pbfrow_reading.proofs.LineLemmas.{lines-none}
 use Rattle.pbfrow_commands.proofs.merge.merge_each.Goals as goal
 
 pub loop-place-init : goal.loop-place-init

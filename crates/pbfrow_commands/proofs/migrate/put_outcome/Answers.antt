@@ -1,7 +1,7 @@
 use Rattle.std.proofs.Common.{List, ℕ, Result, sym, subst}
 use Rattle.osm_value.specs.Sink.{Writes}
 use Rattle.osm_import.specs.CopyFaults.{copy_name_of}
-use Rattle.osm_import.specs.Lines.{fault_line}
+use Rattle.osm_reading.specs.Lines.{fault_line}
 use Rattle.osm_import.specs.declared.copy.CopyCounts.{CopyCounts}
 use Rattle.osm_import.specs.declared.copy.CopyStop.{CopyStop}
 use Rattle.pbfrow_commands.specs.Copying.{outcome_line}

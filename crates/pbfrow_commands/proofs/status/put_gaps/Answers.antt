@@ -1,6 +1,6 @@
 use Rattle.std.proofs.Common.{ℕ}
 use Rattle.pbfrow_commands.specs.CommandLines.{gap_line}
-use Rattle.pbfrow_commands.proofs.StatusLemmas.{lines-all, lines-more, lines-none}
+use Rattle.pbfrow_reading.proofs.LineLemmas.{lines-all, lines-more, lines-none}
 use Rattle.pbfrow_commands.proofs.status.put_gaps.Goals as goal
 
 pub loop-from-init : goal.loop-from-init

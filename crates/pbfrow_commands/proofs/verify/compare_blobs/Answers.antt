@@ -1,13 +1,13 @@
 use Rattle.std.proofs.Common.{◌≡◌, ◌≤◌, ◌∙◌, ◌++◌, [], ◌∷◌, Ok, None, refl, sym, subst, ap, arith, rules}
 use Rattle.osm_verify.specs.Audits.{Trees}
-use Rattle.osm_import.specs.FrameReads.{GivesFrame, Halts, Reading, ReadsFrame}
-use Rattle.osm_import.specs.declared.stream.fault.Stop.TheVariants.{Store}
-use Rattle.osm_import.specs.declared.stream.fault.StreamFault.{StreamFault}
+use Rattle.osm_reading.specs.FrameReads.{GivesFrame, Halts, Reading, ReadsFrame}
+use Rattle.osm_reading.specs.declared.stream.fault.Stop.TheVariants.{Store}
+use Rattle.osm_reading.specs.declared.stream.fault.StreamFault.{StreamFault}
 use Rattle.pbfrow_commands.specs.Verifying.{HasCompared, HasSeen, HasSeenInput, ComparesBlobs, IsBroken, compared_lines}
 use Rattle.pbfrow_commands.specs.declared.verify.Close.{Close}
 use Rattle.pbfrow_commands.specs.declared.verify.Close.TheVariants.{Early}
 use Rattle.pbfrow_commands.proofs.VerifyLemmas.{Reads, reads-none, reads-more, rows-held, rows-push, seen-whole, cause-later, closing-later, closes-nothing, closes-early, closes-broken, closes-unwritten, closes-whole}
-use Rattle.pbfrow_commands.proofs.Walking.{going-none, going-on, going-more}
+use Rattle.pbfrow_reading.proofs.Walking.{going-none, going-on, going-more}
 use Rattle.pbfrow_commands.proofs.verify.compare_blobs.Goals as goal
 
 pub returns-in-Err-clause-told : goal.returns-in-Err-clause-told

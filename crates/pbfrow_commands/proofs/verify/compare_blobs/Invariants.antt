@@ -1,9 +1,9 @@
 use Rattle.std.proofs.Common.{◌≡◌, ◌≤◌, ◌-◌, List}
 use Rattle.osm_store.specs.Held.{HeldMap}
 use Rattle.pbfrow_commands.specs.Verifying.{Compared, HasCompared, compared_lines, counts_of, rows_of}
-use Rattle.pbfrow_commands.specs.Walks.{Part}
+use Rattle.pbfrow_reading.specs.Walks.{Part}
 use Rattle.pbfrow_commands.proofs.VerifyLemmas.{Reads}
-use Rattle.pbfrow_commands.proofs.Walking.{Going}
+use Rattle.pbfrow_reading.proofs.Walking.{Going}
 use Rattle.pbfrow_commands.proofs.verify.compare_blobs.Given as goal
 
 abbrev pub invariant-loop-frames : goal.invariant-loop-frames

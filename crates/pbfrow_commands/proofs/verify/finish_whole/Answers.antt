@@ -1,7 +1,7 @@
 use Rattle.std.proofs.Common.{◌≡◌, ◌∙◌, length, ap}
 use Rattle.osm_value.proofs.SinkLemmas.{Wrote-text}
 use Rattle.pbfrow_commands.specs.Verifying.{agree, counts_of}
-use Rattle.pbfrow_commands.specs.Walks.{status_of}
+use Rattle.pbfrow_reading.specs.Walks.{status_of}
 use Rattle.pbfrow_commands.proofs.VerifyLemmas.{whole-parts}
 use Rattle.pbfrow_commands.proofs.verify.finish_whole.Goals as goal
 

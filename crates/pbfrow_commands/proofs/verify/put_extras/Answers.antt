@@ -1,5 +1,5 @@
 use Rattle.pbfrow_commands.specs.Verifying.{extra_line}
-use Rattle.pbfrow_commands.proofs.StatusLemmas.{lines-all, lines-more, lines-none}
+use Rattle.pbfrow_reading.proofs.LineLemmas.{lines-all, lines-more, lines-none}
 use Rattle.pbfrow_commands.proofs.verify.put_extras.Goals as goal
 
 pub loop-extent-init : goal.loop-extent-init

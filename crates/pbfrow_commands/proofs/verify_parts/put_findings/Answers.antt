@@ -1,6 +1,6 @@
 use Rattle.osm_part_audits.specs.declared.auditing.Finding.TheVariants.{Differs}
 use Rattle.pbfrow_commands.specs.VerifyingParts.{finding_line}
-use Rattle.pbfrow_commands.proofs.StatusLemmas.{lines-all, lines-more, lines-none}
+use Rattle.pbfrow_reading.proofs.LineLemmas.{lines-all, lines-more, lines-none}
 use Rattle.pbfrow_commands.proofs.verify_parts.put_findings.Goals as goal
 
 pub loop-finding-init : goal.loop-finding-init

@@ -1,7 +1,9 @@
 use Rattle.std.proofs.Common.{◌++◌, List, ℕ, sym, subst}
 use Rattle.osm_value.specs.Sink.{Wrote}
-use Rattle.osm_import.specs.Faults.{name_of, conflict_name_of}
-use Rattle.osm_import.specs.Lines.{answer_line, fault_line}
+use Rattle.osm_reading.specs.Faults.{name_of}
+use Rattle.osm_import.specs.Faults.{conflict_name_of}
+use Rattle.osm_import.specs.Lines.{answer_line}
+use Rattle.osm_reading.specs.Lines.{fault_line}
 use Rattle.osm_import.specs.declared.answer.Answer.{Answer}
 use Rattle.osm_import.proofs.stream.line.put_answer.Goals as goal
 

@@ -9,7 +9,6 @@ returns g c =
     let K = g.K.Reader in
     let f = c.args.framer.now in
     let lent = c.in-Ok-Some.lent in
-    let made = c.deliver-answer.ensures in
     let state : c.next_frame.follows.lender-at-none ≡ given f (waiting f) = search rules in
     let shown_is : Ok (Some (lent.0, lent.1.now)) ≡ waiting f = rw c.in-Ok-Some.field-0-is at c.in-Ok-Some.ensures.exact in
     let read = waiting_read f (lent.0, lent.1.now) (sym shown_is) in
@@ -21,18 +20,5 @@ returns g c =
       ap (λ (x : ℕ × List ℕ). x.0 + length x.1) read.0,
       ap (λ (h : Framing). h.offset) is,
       ap (λ (h : Framing). h.rest) is,
-      subst (λ (x : ℕ × List ℕ). TakesOne K c.args.keeper.now c.deliver-answer.new.keeper x.0 x.1 c.deliver-answer.result) read.0 (record {
-        step = made.step;
-        crash = made.crash;
-        events = made.events;
-        whole = made.whole;
-        alone = made.alone;
-        own = made.own;
-        cause = made.cause;
-        same = made.same;
-        shut = made.shut;
-        honest = made.honest;
-        open_if = made.open_if;
-        counted = made.counted;
-      }),
+      subst (λ (x : ℕ × List ℕ). TakesOne K c.args.keeper.now c.deliver-answer.new.keeper x.0 x.1 c.deliver-answer.result) read.0 c.deliver-answer.ensures,
     )

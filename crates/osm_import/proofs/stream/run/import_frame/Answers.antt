@@ -3,9 +3,9 @@ use Rattle.std.specs.Io.KnownBytes.{Consumes, prepend_known}
 use Rattle.osm_import.specs.Flows.{input_behind, output}
 use Rattle.osm_import.specs.Stores.{TakesOne}
 use Rattle.osm_import.specs.StreamSteps.{FrameStep}
-use Rattle.osm_import.specs.declared.stream.fault.Stop.{Stop}
+use Rattle.osm_reading.specs.declared.stream.fault.Stop.{Stop}
 use Rattle.osm_import.specs.declared.stream.run.Delivered.{Delivered}
-use Rattle.osm_import.proofs.Begun.{begun-empty}
+use Rattle.osm_reading.proofs.Begun.{begun-empty}
 use Rattle.osm_import.proofs.HandedOn.{handed}
 use Rattle.osm_import.proofs.FrameLemmas.{got-of, reading-stopped, frame-stopped, nothing-held}
 use Rattle.osm_import.proofs.stream.run.import_frame.Goals as goal

@@ -5,11 +5,11 @@ use Rattle.pbf_frame.specs.Framer.{Framing}
 use Rattle.osm_import.specs.Flows.{input, input_behind, output}
 use Rattle.osm_import.specs.Stores.{Takes, TakesOne}
 use Rattle.osm_import.specs.Streams.{Streams, summary_of, end_at}
-use Rattle.osm_import.specs.declared.stream.fault.StreamFault.{StreamFault}
-use Rattle.osm_import.specs.declared.stream.fault.Stop.TheVariants.{ReadFailed, BlobLimit}
+use Rattle.osm_reading.specs.declared.stream.fault.StreamFault.{StreamFault}
+use Rattle.osm_reading.specs.declared.stream.fault.Stop.TheVariants.{ReadFailed, BlobLimit}
 use Rattle.osm_import.specs.declared.stream.summary.Summary.{Summary}
-use Rattle.osm_import.proofs.Begun.{no-frame-in-nothing}
-use Rattle.osm_import.proofs.FrameLemmas.{end-known}
+use Rattle.osm_reading.proofs.Begun.{no-frame-in-nothing}
+use Rattle.osm_reading.proofs.Filling.{end-known}
 use Rattle.osm_import.proofs.MergeLemmas.{stream_part}
 use Rattle.osm_import.proofs.StreamFiles.{stream-one-file}
 use Rattle.osm_import.proofs.StreamLemmas.{InStream, stream-more, stream-ends, stop-between, stream-stops, stream-begins, never-begun, stream-stays}

@@ -1,4 +1,0 @@
-use Rattle.osm_import.proofs.stream.line.put_plain_fault.Goals as goal
-
-pub returns : goal.returns
-returns g c = c.put_fault_and.ensures

@@ -1,0 +1,32 @@
+use Rattle.std.proofs.Common.{[], refl, sym, append-nil}
+use Rattle.std.specs.Io.KnownBytes.{prepend_known}
+use Rattle.osm_reading.proofs.Filling.{moved_absorbed}
+use Rattle.osm_reading.proofs.Moves.{moved_both}
+use Rattle.osm_reading.proofs.stream.reading.fill.Goals as goal
+
+pub returns-in-Ok-true-clause-moved : goal.returns-in-Ok-true-clause-moved
+returns-in-Ok-true-clause-moved g c =
+    moved_absorbed c.args.framer.now c.loop-piece.framer c.absorb.new.framer (prepend_known c.args.piece.now (g.R.Source.bytes_left c.args.reader.now)) c.loop-piece.piece c.absorb.new.piece (g.R.Source.bytes_left c.loop-piece.reader)
+    c.loop-piece.invariant.moved c.absorb.ensures.moved
+
+pub returns-in-Ok-true-clause-begun : goal.returns-in-Ok-true-clause-begun
+returns-in-Ok-true-clause-begun g c = λ begun. c.absorb.ensures.begun (c.loop-piece.invariant.begun begun)
+
+pub returns-in-Err-clause-begun : goal.returns-in-Err-clause-begun
+returns-in-Err-clause-begun g c = λ begun. c.absorb.ensures.begun (c.loop-piece.invariant.begun begun)
+
+pub loop-piece-preserved : goal.loop-piece-preserved
+loop-piece-preserved g c = record {
+  moved = moved_both c.args.framer.now c.absorb.new.framer c.absorb.new.framer (prepend_known c.args.piece.now (g.R.Source.bytes_left c.args.reader.now)) (prepend_known c.absorb.new.piece (g.R.Source.bytes_left c.loop-piece.reader))
+      (prepend_known c.has_more.new.piece (g.R.Source.bytes_left c.has_more.new.reader))
+      (moved_absorbed c.args.framer.now c.loop-piece.framer c.absorb.new.framer (prepend_known c.args.piece.now (g.R.Source.bytes_left c.args.reader.now)) c.loop-piece.piece c.absorb.new.piece (g.R.Source.bytes_left c.loop-piece.reader)
+      c.loop-piece.invariant.moved c.absorb.ensures.moved)
+      ([], refl, sym (append-nil c.absorb.new.framer.rest), c.has_more.ensures.kept);
+  begun = λ begun. c.absorb.ensures.begun (c.loop-piece.invariant.begun begun);
+}
+
+pub returns-in-Ok-false-has_more-clause-begun : goal.returns-in-Ok-false-has_more-clause-begun
+returns-in-Ok-false-has_more-clause-begun g c = λ begun. c.absorb.ensures.begun (c.loop-piece.invariant.begun begun)
+
+pub returns-in-Err-has_more-clause-begun : goal.returns-in-Err-has_more-clause-begun
+returns-in-Err-has_more-clause-begun g c = λ begun. c.absorb.ensures.begun (c.loop-piece.invariant.begun begun)

@@ -1,0 +1,9 @@
+pub mod Bad
+pub mod ExamineFaults
+pub mod Faults
+pub mod FrameReads
+pub mod Framings
+pub mod Good
+pub mod Inlets
+pub mod Lines
+pub mod StopFaults

@@ -1,0 +1,97 @@
+//! How a program begins: the words that it was started with, and the command that they name.
+
+ghost use Rattle.pbfrow_words.specs.Words.{BeginsWithin, CutsSome, EndsWithin};
+
+use clap::Error;
+use osm_value::Outlet;
+use pbfrow_meters::ending::FAULTY;
+use pbfrow_reading::report::refuse_memory;
+use pbfrow_words::{Words, read_words};
+use std::alloc::{AllocError, Global};
+use std::io::ErrorKind;
+use std::process::ExitCode;
+use std::{env, io};
+
+/// The exit status for invalid arguments.
+pub const INVALID_ARGUMENTS: u8 = 2;
+
+/// How many bytes are taken once and given back, by which glibc's limits grow.
+const KEPT_MEMORY: usize = 31 << 20;
+
+/// A program, by what it does with a command.
+pub trait Program {
+    /// Runs a command, and answers the exit status.
+    fn run(&self, rt: HostRuntime, words: Words) -> u8
+        requires begins { BeginsWithin words }
+        requires ends { EndsWithin words }
+        requires cuts { CutsSome words };
+}
+
+/// Runs a program with the words that it was started with. Its exit status is that of the command that they name, 2 where
+/// they name none, and 1 where they can't be read or what they ask for can't be written.
+pub fn start<P: Program>(program: &P, rt: HostRuntime) -> ExitCode {
+    let status = match entered(program, rt) {
+        Ok(status) => status,
+        Err(_) => FAULTY,
+    };
+    ExitCode::from(status)
+}
+
+/// Takes memory and gives it back at once. From then on glibc's allocator keeps up to twice as much that is given back
+/// (mallopt(3), M_MMAP_THRESHOLD), and doesn't return that of each blob to the system, to take it anew for the next. Where it
+/// is refused nothing is lost.
+fn keep_memory(alloc: Global) {
+    let _given_back = Vec::<u8>::with_capacity(alloc, KEPT_MEMORY);
+}
+
+/// Runs the program with the words that it was started with, and answers the exit status.
+fn entered<P: Program>(program: &P, rt: HostRuntime) -> io::Result<u8> {
+    keep_memory(rt.alloc());
+    let words = match words_of(&rt) {
+        Ok(words) => words,
+        Err(error) => return refuse_words(&rt, error),
+    };
+    let Ok(texts) = texts_of(rt.alloc(), &words) else {
+        return Ok(refuse_memory(&mut Outlet::new(io::writer(&rt)), None));
+    };
+    match read_words(rt.alloc(), texts.as_slice()) {
+        Ok(words) => Ok(program.run(rt, words)),
+        Err(error) => refuse(rt, error),
+    }
+}
+
+fn words_of(rt: &HostRuntime) -> io::Result<Vec<String>> {
+    Ok(env::args(rt)?.collect(rt.alloc())?)
+}
+
+fn texts_of<'a>(alloc: Global, words: &'a [String]) -> Result<Vec<&'a str>, AllocError> {
+    let mut texts = Vec::new(alloc);
+    for word in words {
+        texts.push(word.as_str())?;
+    }
+    Ok(texts)
+}
+
+/// Reports that an argument isn't UTF-8, or that memory was refused, and answers the exit status. Any other error is
+/// passed on.
+fn refuse_words(rt: &HostRuntime, error: io::Error) -> io::Result<u8> {
+    match error.kind() {
+        ErrorKind::InvalidData => {
+            // the status is the same if this can't be written
+            let _told = eprintln!(rt; "pbfrow: an argument isn't valid UTF-8");
+            Ok(INVALID_ARGUMENTS)
+        }
+        ErrorKind::OutOfMemory => Ok(refuse_memory(&mut Outlet::new(io::writer(rt)), None)),
+        _ => Err(error),
+    }
+}
+
+/// Prints the help that was asked for, or why the arguments are invalid, and answers the exit status. If the help can't
+/// be written, that is an error; invalid arguments have their status even if the message can't be written.
+fn refuse(rt: HostRuntime, error: Error) -> io::Result<u8> {
+    let printed = error.print(&rt);
+    if !error.use_stderr() {
+        printed?;
+    }
+    Ok(error.exit_code() as u8)
+}

@@ -1,9 +1,0 @@
-use Rattle.osm_value.proofs.SinkLemmas.{Wrote-text}
-use Rattle.pbfrow_commands.proofs.CommandTexts.{blob_parts}
-use Rattle.pbfrow_commands.proofs.show.put_blob.Goals as goal
-
-pub returns : goal.returns
-returns g c = λ start before h.
-    Wrote-text start _ _ _ _ (blob_parts before c.args.at c.args.frame.now.type_name.now c.args.frame.now.length)
-    (c.put-4.ensures start _
-    (c.put_digits-2.ensures start _ (c.put-3.ensures start _ (c.put_type.ensures start _ (c.put-2.ensures start _ (c.put_digits.ensures start _ (c.put.ensures start before h)))))))

@@ -1,0 +1,9 @@
+pub mod Checking
+pub mod CommandLines
+pub mod Listing
+pub mod Progress
+pub mod Ranging
+pub mod Reading
+pub mod Showing
+pub mod Verdicts
+pub mod Walks

@@ -1,0 +1,31 @@
+//! The lines of faults of a store and of refused memory.
+
+ghost use Rattle.std.specs.Prelude.{◌≡◌};
+ghost use Rattle.osm_value.specs.Sink.{Writes};
+ghost use Rattle.pbfrow_reading.specs.CommandLines.{memory_line, store_fault_line};
+
+use osm_faults::StoreFault;
+pub use osm_reading::put_fault_at;
+use osm_reading::put_plain_fault;
+use osm_value::Sink;
+
+/// Writes the line of a fault of the store.
+pub fn put_store_fault<S: Sink>(out: &mut S, fault: StoreFault)
+    ensures { Writes (S.written out.old) (S.has_failed out.old) (S.written out.new) (S.has_failed out.new) (store_fault_line fault) }
+{
+    put_plain_fault(out, fault.number(), fault.name());
+}
+
+/// Writes the line of refused memory, with the offset where the command has one, and answers the exit status, 1. The line
+/// itself takes no memory.
+pub fn refuse_memory<S: Sink>(out: &mut S, at: Option<u64>) -> u8
+    ensures line { Writes (S.written out.old) (S.has_failed out.old) (S.written out.new) (S.has_failed out.new) (memory_line at) }
+    ensures status { result ≡ 1 }
+{
+    let fault = StoreFault::Memory;
+    match at {
+        Some(off) => put_fault_at(out, fault.number(), fault.name(), off),
+        None => put_store_fault(out, fault),
+    }
+    1
+}
