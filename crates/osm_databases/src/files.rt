@@ -8,7 +8,8 @@ ghost use Rattle.osm_openings.specs.Presumed.{ArePresumedTables};
 use crate::databases::{CheckedDatabases, Databases};
 use crate::reason::{Reason, Refusal, tell_of_obstruction, told};
 use crate::trees::{
-    FEW_PAGES, MANY_PAGES, checked_trees_in, close_files, connection_in, obstacle_in, trees_in,
+    FEW_PAGES, KeptPages, MANY_PAGES, checked_trees_in, close_files, connection_in, obstacle_in,
+    trees_in,
 };
 use osm_openings::{Obstacle, Obstruction};
 use osm_store::StoreFault;
@@ -125,8 +126,8 @@ fn explained<S: Alter>(
 /// The databases in files of this machine that take blobs. One that is missing is made.
 #[derive(Clone, Copy)]
 pub struct FilledFiles {
-    /// How many pages of one that were read are kept in memory, and how many that were changed.
-    pub pages: usize,
+    /// How many pages of one are kept in memory.
+    pub pages: KeptPages,
 }
 
 impl Databases for FilledFiles {

@@ -23,34 +23,49 @@ use std::hash::{BuildHasher, RandomState};
 /// and each copy several times, so one copy serves many blobs.
 const CHECKPOINT_FRAMES: usize = 16_384;
 
-/// How many pages of a database that is written to, checked as a whole or opened by SQL are kept in memory, each of 4,096
-/// bytes: so many that were read, since the entries of an index may be sought in any order, and so many that were changed,
-/// before they go to the log.
-pub const MANY_PAGES: usize = 2_000;
+/// How many pages of a database are kept in memory, each of 4,096 bytes.
+#[derive(Clone, Copy, Debug)]
+pub struct KeptPages {
+    /// Of those that were read.
+    pub read: usize,
+    /// Of those that were changed, before they go to the log. The fewer, the oftener a page goes there, and what is kept in
+    /// memory of the log grows with it.
+    pub changed: usize,
+}
 
-/// The same of one that is only asked, since its trees are read from some place on, and of one that others are merged into,
+/// The pages of a database that is written to, checked as a whole or opened by SQL: many, since the entries of an index may be
+/// sought in any order.
+pub const MANY_PAGES: KeptPages = KeptPages {
+    read: 2_000,
+    changed: 2_000,
+};
+
+/// The pages of one that is only asked, since its trees are read from some place on, and of one that others are merged into,
 /// since a merge also holds the rows of a blob, and its elements.
-pub const FEW_PAGES: usize = 250;
+pub const FEW_PAGES: KeptPages = KeptPages {
+    read: 100,
+    changed: 250,
+};
 
-/// How a database is opened, of which at most so many pages that were read and so many that were changed are kept in memory.
-fn options(rt: &HostRuntime, pages: usize) -> Result<Options, Refusal> {
+/// How a database is opened, of which at most these pages are kept in memory.
+fn options(rt: &HostRuntime, pages: KeptPages) -> Result<Options, Refusal> {
     let random = match RandomState::new(rt) {
         Ok(random) => random,
         Err(error) => return Err(OpenFault::Io(error).into()),
     };
     let mut options = Options::new(random.hash_one(&0u8));
-    options.cache_pages = pages;
-    options.spill_pages = pages;
+    options.cache_pages = pages.read;
+    options.spill_pages = pages.changed;
     options.checkpoint_frames = CHECKPOINT_FRAMES;
     Ok(options)
 }
 
-/// The trees of files that are a database of this version, of which at most so many pages that were read, and so many that
-/// were changed, are kept in memory. They are what the files' bytes read as, if these are those of a sound database.
+/// The trees of files that are a database of this version, of which at most these pages are kept in memory. They are what the
+/// files' bytes read as, if these are those of a sound database.
 pub fn trees_in<D: Disk + Drop>(
     rt: &HostRuntime,
     files: Files<D>,
-    pages: usize,
+    pages: KeptPages,
 ) -> Result<Option<FileStore<D>>, Refusal>
     requires log { IsTrue (D.Disk.is_usable files.log) }
     requires db { IsTrue (D.Disk.is_usable files.db) }
@@ -68,7 +83,7 @@ pub fn trees_in<D: Disk + Drop>(
 pub fn checked_trees_in<D: Disk + Drop>(
     rt: &HostRuntime,
     files: Files<D>,
-    pages: usize,
+    pages: KeptPages,
 ) -> Result<Option<FileStore<D>>, Refusal>
     requires log { IsTrue (D.Disk.is_usable files.log) }
     requires db { IsTrue (D.Disk.is_usable files.db) }
@@ -82,11 +97,11 @@ pub fn checked_trees_in<D: Disk + Drop>(
     }
 }
 
-/// Files, opened by SQL, of which at most so many pages that were read, and so many that were changed, are kept in memory.
+/// Files, opened by SQL, of which at most these pages are kept in memory.
 pub fn connection_in<D: Disk + Drop>(
     rt: &HostRuntime,
     files: Files<D>,
-    pages: usize,
+    pages: KeptPages,
 ) -> Result<Connection<FileStore<D>>, Refusal>
     requires log { IsTrue (D.Disk.is_usable files.log) }
     requires db { IsTrue (D.Disk.is_usable files.db) }
