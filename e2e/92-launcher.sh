@@ -89,6 +89,7 @@ echo "$name: rt $*"
 RT
 printf '#!/bin/sh\n' | tee bin/rattle > repository/edits/check
 chmod 755 bin/rt bin/rattle repository/edits/check
+path_without_stub=$PATH
 export STUB_KIT=$work/kit.txt STUB_STEPS=$work/steps.txt STUB_SECONDS=0.3 RT_JOBS=4 PATH="$work/bin:$PATH"
 echo "a kit" > kit.txt
 
@@ -262,4 +263,22 @@ began gate
 echo "// meanwhile" >> repository/crates/right/src/lib.rt
 wait $!
 repository/pbfrow --is-current && fail "unless a source has changed since it began" || pass "unless a source has changed since it began"
+
+# the two real programs, of which the gate leaves the small one, too
+PATH=$path_without_stub
+if "$top/gate/sources" pbfrow match && "$top/gate/sources" pbfrow_reader match; then
+  whole=$top/crates/pbfrow/out/pbfrow
+  pbfrow=$top/crates/pbfrow_reader/out/pbfrow_reader
+  large=$top/data/liechtenstein-raw.osm.pbf
+  tail -c +50 "$large" > damaged.osm.pbf
+  for words in "list $large" "check $large" "show $large" "ranges $large 3" "list damaged.osm.pbf" "check damaged.osm.pbf" "show missing.osm.pbf"; do
+    # shellcheck disable=SC2086
+    { "$whole" $words > want.txt; echo "status $?" >> want.txt; "$pbfrow" $words > got.txt; echo "status $?" >> got.txt; } 2> /dev/null
+    same "the small program does as the whole one: ${words//"$top/"/}" got.txt want.txt
+  done
+  expect "it has no import" 2 "" import "$top/data/two-nodes.osm.pbf" made.db
+  grep -q '^pbfrow_reader: this program has no databases' stderr.txt && [ ! -e made.db ] && pass "says so, and makes no database" || fail "says so, and makes no database"
+else
+  skip "the small program beside the whole one" "they aren't both built of these sources"
+fi
 counted
