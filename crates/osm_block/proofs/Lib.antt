@@ -20,7 +20,7 @@ pub mod RangeLemmas
 pub mod RangeTests
 pub mod CoordinateLemmas
 pub mod MemberLemmas
-pub mod EarlierLemmas
+pub mod FlaglessLemmas
 pub mod Unique
 pub mod UniqueDense
 pub mod VectorBlocks

@@ -2,7 +2,7 @@ pub mod Message
 pub mod Differences
 pub mod DenseTags
 pub mod Block
-pub mod EarlierBlock
+pub mod Flagless
 pub mod Phases
 pub mod Vectors
 pub mod VectorElements

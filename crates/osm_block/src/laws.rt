@@ -5,7 +5,7 @@ ghost use Rattle.std.specs.List.{AllByRecursion};
 ghost use Rattle.osm_value.specs.declared.element.Element.{Element};
 ghost use Rattle.osm_value.specs.Elements.{info_of_element};
 ghost use Rattle.osm_block.specs.Block.{Block};
-ghost use Rattle.osm_block.specs.EarlierBlock as earlier;
+ghost use Rattle.osm_block.specs.Flagless.{HasNoFlags};
 ghost use Rattle.osm_block.specs.DenseTags.{Pair, Tags, pairs_for};
 ghost use Rattle.osm_block.specs.declared.fault.BlockFault.TheVariants.{TagsUneven};
 ghost use Rattle.osm_block.specs.Differences.{Diff};
@@ -39,8 +39,7 @@ pub fn faultless_blocks_say()
     ensures { FaultlessBlocksSay }
 {}
 
-/// A block that was read before flags of visibility were still says the same elements, and none of them has a flag.
-pub fn earlier_blocks_say_the_same()
-    ensures same { (es : List Element) (w : List ℕ) → earlier.Block es w → Block es w }
-    ensures unseen { (es : List Element) (w : List ℕ) → earlier.Block es w → AllByRecursion (λ e. (info_of_element e).visible ≡ None) es }
+/// A block of which no info has a flag of visibility says elements without one.
+pub fn blocks_without_flags_say_none()
+    ensures { (es : List Element) (w : List ℕ) → Block es w → HasNoFlags w → AllByRecursion (λ e. (info_of_element e).visible ≡ None) es }
 {}

@@ -1,16 +1,14 @@
 -- The rows that a held map stood for before flags of visibility were read and written: what of `Rows` and `LayoutHolding` was
 -- another then. No element had a flag. A body was the block of that time; the columns of tables were those of now, the flag's
 -- being NULL. It is kept for the law that these rows hold the same map.
-use Rattle.std.specs.Prelude.{◌≡◌, ℕ, ◌^◌, ◌<◌, List, [], ◌∷◌, map, length}
+use Rattle.std.specs.Prelude.{◌≡◌, ℕ, ◌^◌, ◌<◌, List, [], ◌∷◌, map, length, None}
 use Rattle.std.specs.List.{AllByRecursion}
 use Rattle.std.specs.FinMap.{entries}
 use Rattle.sqlite.specs.Order.{Row}
 use Rattle.sqlite.specs.Tree.{Trees}
 use Rattle.sqlite_catalog.specs.Listing.{IsSound}
 use Rattle.osm_value.specs.declared.element.Element.{Element}
-use Rattle.osm_value.specs.declared.element.Element.TheVariants.{Node, Way, Relation}
-use Rattle.osm_value.specs.Elements.{kind_of_element, id_of_element}
-use Rattle.osm_block.specs.EarlierBlock.{IsNode, IsWay, IsRelation}
+use Rattle.osm_value.specs.Elements.{IsElement, info_of_element, kind_of_element, id_of_element}
 use Rattle.osm_write.specs.EarlierCanon.{canon}
 use Rattle.osm_store.specs.declared.schema.layout.Layout.{Layout}
 use Rattle.osm_store.specs.declared.schema.layout.Layout.TheVariants.{Bodies, Tables}
@@ -23,19 +21,17 @@ use Rattle.osm_store.specs.Schema.Layouts.{schema_of}
 
 -- ---- what could be kept
 
--- inside its ranges, without a flag
-abbrev pub IsElement : Element → Type 0
-IsElement (Node n) = IsNode n
-IsElement (Way w) = IsWay w
-IsElement (Relation r) = IsRelation r
+pub record IsFlagless (e : Element) : Type 0 where
+  pub in_range : IsElement e
+  pub no_flag : (info_of_element e).visible ≡ None
 
 pub record HasBlock (e : Element) : Type 0 where
-  pub in_range : IsElement e
+  pub element : IsFlagless e
   pub short : length (canon (e ∷ [])) < 2 ^ 64
 
 abbrev pub CanStore : Layout → Element → Type 0
 CanStore Bodies e = HasBlock e
-CanStore Tables e = IsElement e
+CanStore Tables e = IsFlagless e
 
 pub record IsBlob (layout : Layout) (blob : Blob) : Type 0 where
   pub digest : length blob.digest ≡ 32

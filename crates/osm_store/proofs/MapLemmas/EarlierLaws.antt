@@ -1,5 +1,5 @@
 -- Rows that were stored before flags of visibility were read hold the same map.
-use Rattle.std.proofs.Common.{◌≡◌, ℕ, ◌+◌, ◌^◌, ◌<◌, List, [], ◌∷◌, ◌++◌, map, length, refl, sym, ap, ◌∙◌, subst, None}
+use Rattle.std.proofs.Common.{◌≡◌, ℕ, ◌+◌, ◌^◌, ◌<◌, List, [], ◌∷◌, ◌++◌, map, length, refl, sym, ap, ◌∙◌, subst}
 use Rattle.std.specs.Prelude.{flat_map}
 use Rattle.std.specs.List.{AllByRecursion}
 use Rattle.std.specs.FinMap.{entries}
@@ -7,11 +7,7 @@ use Rattle.std.proofs.lemmas.List.{map-append}
 use Rattle.sqlite.specs.Order.{Row}
 use Rattle.sqlite.specs.Tree.{Trees}
 use Rattle.osm_value.specs.declared.element.Element.{Element}
-use Rattle.osm_value.specs.declared.element.Element.TheVariants.{Node, Way, Relation}
-use Rattle.osm_value.specs.Elements.{IsElement, info_of_element, kind_of_element, id_of_element}
-use Rattle.osm_value.specs.Value.{InfoValue}
-use Rattle.osm_value.specs.Ranges.{IsInfo}
-use Rattle.osm_block.specs.EarlierBlock as block
+use Rattle.osm_value.specs.Elements.{kind_of_element, id_of_element}
 use Rattle.osm_write.specs.Canon.{canon}
 use Rattle.osm_write.specs.EarlierCanon as written
 use Rattle.osm_write.proofs.EarlierBlocks.{canon_is}
@@ -24,29 +20,16 @@ use Rattle.osm_store.specs.EarlierRows as earlier
 
 -- ---- elements
 
-info_now : (i : InfoValue) → block.IsInfo i → IsInfo i
-info_now i h = record { version = h.version; time = h.time; changeset = h.changeset; uid = h.uid; user = h.user }
+body_now : (e : Element) → earlier.IsFlagless e → written.canon (e ∷ []) ≡ canon (e ∷ [])
+body_now e h = canon_is (e ∷ []) (h.no_flag, tt)
 
-element_now : (e : Element) → earlier.IsElement e → IsElement e
-element_now (Node n) h = record { id = h.id; lat = h.lat; lon = h.lon; tags = h.tags; info = info_now n.info h.info }
-element_now (Way w) h = record { id = h.id; refs = h.refs; tags = h.tags; info = info_now w.info h.info }
-element_now (Relation r) h = record { id = h.id; members = h.members; tags = h.tags; info = info_now r.info h.info }
-
-no_flag : (e : Element) → earlier.IsElement e → (info_of_element e).visible ≡ None
-no_flag (Node n) h = h.info.visible
-no_flag (Way w) h = h.info.visible
-no_flag (Relation r) h = h.info.visible
-
-body_now : (e : Element) → earlier.IsElement e → written.canon (e ∷ []) ≡ canon (e ∷ [])
-body_now e h = canon_is (e ∷ []) (no_flag e h, tt)
-
-in_range : (layout : Layout) (e : Element) → earlier.CanStore layout e → earlier.IsElement e
-in_range Bodies e h = h.in_range
-in_range Tables e h = h
+flagless : (layout : Layout) (e : Element) → earlier.CanStore layout e → earlier.IsFlagless e
+flagless Bodies e h = h.element
+flagless Tables e h = h
 
 can_store_now : (layout : Layout) (e : Element) → earlier.CanStore layout e → CanStore layout e
-can_store_now Bodies e h = record { in_range = element_now e h.in_range; short = subst (λ (w : List ℕ). length w < 2 ^ 64) (body_now e h.in_range) h.short }
-can_store_now Tables e h = element_now e h
+can_store_now Bodies e h = record { in_range = h.element.in_range; short = subst (λ (w : List ℕ). length w < 2 ^ 64) (body_now e h.element) h.short }
+can_store_now Tables e h = h.in_range
 
 -- ---- maps
 
@@ -73,7 +56,7 @@ kept_now layout held kept = record { apart = kept.apart; blobs = blobs_now layou
 -- ---- bodies
 
 row_now : (layout : Layout) (off position : ℕ) (e : Element) → earlier.CanStore layout e → earlier.body_row (off, position, e) ≡ body_row (off, position, e)
-row_now layout off position e can = ap (body_columns off position (kind_of_element e) (id_of_element e)) (body_now e (in_range layout e can))
+row_now layout off position e can = ap (body_columns off position (kind_of_element e) (id_of_element e)) (body_now e (flagless layout e can))
 
 rows_now : (layout : Layout) (off position : ℕ) (es : List Element) → AllByRecursion (earlier.CanStore layout) es → map earlier.body_row (placed off position es) ≡ map body_row (placed off position es)
 rows_now layout off position [] all = refl

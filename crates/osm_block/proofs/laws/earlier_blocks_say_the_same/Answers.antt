@@ -1,5 +1,0 @@
-use Rattle.osm_block.proofs.EarlierLemmas.{block_now, block_unseen}
-use Rattle.osm_block.proofs.laws.earlier_blocks_say_the_same.Goals as goal
-
-pub returns : goal.returns
-returns c = record { same = block_now; unseen = block_unseen }
