@@ -4,7 +4,7 @@ ghost use Rattle.std.specs.Prelude.{◌<◌, ◌≤◌, IfSome};
 
 use osm_databases::databases::{Databases, close, opened, opened_or_made};
 use osm_import::{Inlet, Stop};
-use osm_store::{Keeper, Reader};
+use osm_store::Keeper;
 use osm_value::{MemberKind, Outlet};
 use pbf_frame::MAX_OFFSET;
 use pbfrow_answers::ending::refuse;
@@ -49,24 +49,6 @@ fn imported<R: Read + Drop, K: Keeper, W: Write>(
     match to {
         None => import(alloc, &mut Inlet::new(reader), store, start, out),
         Some(to) => import_to(alloc, &mut reader, store, start, to, out),
-    }
-}
-
-/// Asks a store, and answers the exit status. The meter is told of its blobs.
-fn answer<K: Reader + Drop, W: Write>(
-    alloc: Global,
-    store: K,
-    query: Query,
-    meter: &Meter,
-    out: &mut Outlet<W>,
-) -> u8 {
-    let mut store = MeteredStore {
-        store,
-        watcher: meter,
-    };
-    match query {
-        Query::Whole(question) => ask_one(alloc, &mut store, question, out),
-        Query::Element(kind, id) => find(alloc, &mut store, kind, id, out),
     }
 }
 
@@ -149,7 +131,16 @@ pub(crate) fn ask<D: Databases>(rt: &HostRuntime, files: &D, database: &str, que
         Err(status) => return status,
     };
     let status = match opened(rt, files, database) {
-        Ok(store) => answer(rt.alloc(), store, query, &meter, &mut out),
+        Ok(store) => {
+            let mut store = MeteredStore {
+                store,
+                watcher: &meter,
+            };
+            match query {
+                Query::Whole(question) => ask_one(rt.alloc(), &mut store, question, &mut out),
+                Query::Element(kind, id) => find(rt.alloc(), &mut store, kind, id, &mut out),
+            }
+        }
         Err(fault) => refuse(&mut out, fault),
     };
     end(&mut out, &meter, status)

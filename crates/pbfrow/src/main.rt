@@ -13,10 +13,8 @@ mod verifying;
 use copying::copy;
 use database::{Query, ask, fill};
 use merging::merge;
-use osm_databases::databases::Databases;
 use osm_databases::files::{AskedFiles, FilledFiles};
 use osm_databases::trees::{FEW_PAGES, MANY_PAGES};
-use osm_value::MemberKind;
 use osm_verify::Depth;
 use parts::ask_parts;
 use pbf_frame::MAX_OFFSET;
@@ -56,8 +54,16 @@ impl Program for Whole {
             Words::Ask {
                 databases,
                 question,
-            } => ask_files(&rt, databases.as_slice(), question),
-            Words::Find { database, kind, id } => find_in_file(&rt, database, kind, id),
+            } => {
+                if databases.len() == 1 {
+                    ask_file(&rt, databases[0], Query::Whole(question))
+                } else {
+                    ask_files(&rt, databases.as_slice(), question)
+                }
+            }
+            Words::Find { database, kind, id } => {
+                ask_file(&rt, database, Query::Element(kind, id))
+            }
         }
     }
 }
@@ -93,21 +99,12 @@ fn verify_files(rt: &HostRuntime, file: &str, databases: &[&str], depth: Depth) 
     compare_all(rt, &AskedFiles, file, databases, depth)
 }
 
-/// The commands that ask one database or several.
+/// The commands that ask one database.
+fn ask_file(rt: &HostRuntime, database: &str, query: Query) -> u8 {
+    ask(rt, &AskedFiles, database, query)
+}
+
+/// Those that ask several, which hold parts of one file.
 fn ask_files(rt: &HostRuntime, databases: &[&str], question: Question) -> u8 {
-    ask_all(rt, &AskedFiles, databases, question)
-}
-
-/// `find`, which asks one database.
-fn find_in_file(rt: &HostRuntime, database: &str, kind: MemberKind, id: i64) -> u8 {
-    ask(rt, &AskedFiles, database, Query::Element(kind, id))
-}
-
-/// Asks a question of one database, or of several that hold parts of one file, and answers the exit status.
-fn ask_all<D: Databases>(rt: &HostRuntime, files: &D, names: &[&str], question: Question) -> u8 {
-    if names.len() == 1 {
-        ask(rt, files, names[0], Query::Whole(question))
-    } else {
-        ask_parts(rt, files, names, question)
-    }
+    ask_parts(rt, &AskedFiles, databases, question)
 }

@@ -30,9 +30,17 @@ pub trait Program {
 /// Runs a program with the words that it was started with. Its exit status is that of the command that they name, 2 where
 /// they name none, and 1 where they can't be read or what they ask for can't be written.
 pub fn start<P: Program>(program: &P, rt: HostRuntime) -> ExitCode {
-    let status = match entered(program, rt) {
-        Ok(status) => status,
-        Err(_) => FAULTY,
+    keep_memory(rt.alloc());
+    let words = match words_of(&rt) {
+        Ok(words) => words,
+        Err(error) => return ExitCode::from(refuse_words(&rt, error)),
+    };
+    let Ok(texts) = texts_of(rt.alloc(), &words) else {
+        return ExitCode::from(refuse_memory(&mut Outlet::new(io::writer(&rt)), None));
+    };
+    let status = match read_words(rt.alloc(), texts.as_slice()) {
+        Ok(words) => program.run(rt, words),
+        Err(error) => refuse(&rt, error),
     };
     ExitCode::from(status)
 }
@@ -42,22 +50,6 @@ pub fn start<P: Program>(program: &P, rt: HostRuntime) -> ExitCode {
 /// is refused nothing is lost.
 fn keep_memory(alloc: Global) {
     let _given_back = Vec::<u8>::with_capacity(alloc, KEPT_MEMORY);
-}
-
-/// Runs the program with the words that it was started with, and answers the exit status.
-fn entered<P: Program>(program: &P, rt: HostRuntime) -> io::Result<u8> {
-    keep_memory(rt.alloc());
-    let words = match words_of(&rt) {
-        Ok(words) => words,
-        Err(error) => return refuse_words(&rt, error),
-    };
-    let Ok(texts) = texts_of(rt.alloc(), &words) else {
-        return Ok(refuse_memory(&mut Outlet::new(io::writer(&rt)), None));
-    };
-    match read_words(rt.alloc(), texts.as_slice()) {
-        Ok(words) => Ok(program.run(rt, words)),
-        Err(error) => refuse(rt, error),
-    }
 }
 
 fn words_of(rt: &HostRuntime) -> io::Result<Vec<String>> {
@@ -72,26 +64,25 @@ fn texts_of<'a>(alloc: Global, words: &'a [String]) -> Result<Vec<&'a str>, Allo
     Ok(texts)
 }
 
-/// Reports that an argument isn't UTF-8, or that memory was refused, and answers the exit status. Any other error is
-/// passed on.
-fn refuse_words(rt: &HostRuntime, error: io::Error) -> io::Result<u8> {
+/// Reports that an argument isn't UTF-8, or that memory was refused, and answers the exit status.
+fn refuse_words(rt: &HostRuntime, error: io::Error) -> u8 {
     match error.kind() {
         ErrorKind::InvalidData => {
             // the status is the same if this can't be written
             let _told = eprintln!(rt; "pbfrow: an argument isn't valid UTF-8");
-            Ok(INVALID_ARGUMENTS)
+            INVALID_ARGUMENTS
         }
-        ErrorKind::OutOfMemory => Ok(refuse_memory(&mut Outlet::new(io::writer(rt)), None)),
-        _ => Err(error),
+        ErrorKind::OutOfMemory => refuse_memory(&mut Outlet::new(io::writer(rt)), None),
+        _ => FAULTY,
     }
 }
 
-/// Prints the help that was asked for, or why the arguments are invalid, and answers the exit status. If the help can't
-/// be written, that is an error; invalid arguments have their status even if the message can't be written.
-fn refuse(rt: HostRuntime, error: Error) -> io::Result<u8> {
-    let printed = error.print(&rt);
-    if !error.use_stderr() {
-        printed?;
+/// Prints the help that was asked for, or why the arguments are invalid, and answers the exit status. Invalid arguments
+/// have theirs even if the message can't be written.
+fn refuse(rt: &HostRuntime, error: Error) -> u8 {
+    let printed = error.print(rt);
+    if printed.is_err() && !error.use_stderr() {
+        return FAULTY;
     }
-    Ok(error.exit_code() as u8)
+    error.exit_code() as u8
 }
