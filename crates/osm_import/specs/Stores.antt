@@ -2,6 +2,7 @@
 use Rattle.std.specs.Prelude.{◌≡◌, ℕ, ◌≤◌, false, List, [], ◌∷◌, Some, Result, OnOk}
 use Rattle.std.specs.FinMap.{get}
 use Rattle.osm_store.specs.Held.{Blob, HeldMap}
+use Rattle.osm_store.specs.Calls.{OfHeld}
 use Rattle.osm_store.specs.Keeping.{extent_of}
 use Rattle.osm_store.specs.declared.keeper.Extent.{Extent}
 use Rattle.osm_store.specs.declared.keeper.Reader.{Ghosts}
@@ -17,12 +18,12 @@ use Rattle.osm_import.specs.declared.copy.CopyStop.{CopyStop}
 -- All that `deliver` promises of one delivery: what it answers and leaves, what a crash may leave now, why a fault is answered,
 -- and what becomes of the store. Where nothing is stored, the tables are as they were, whatever rows they have.
 pub record TakesOne {S : Type 0} (store : Ghosts S) (old new : S) (off : ℕ) (bytes : List ℕ) (answer : Answer) : Type 0 where
-  pub step : (held : HeldMap) → store.holds old held → store.is_honest new → Delivers (store.is_open new) (store.holds new) held off bytes answer
-  pub crash : (held : HeldMap) → store.holds old held → store.is_honest new → CrashLeaves (store.leaves new) held off bytes
-  pub events : (held : HeldMap) → store.holds old held → store.is_honest new → LeavesEvents (store.leaves new) held (record { off = off; bytes = bytes }) answer
-  pub whole : (held : HeldMap) → store.holds old held → store.is_honest new → store.leaves_a_map new
-  pub alone : (held : HeldMap) → store.holds old held → store.is_honest new → store.is_alone old → store.is_alone new
-  pub own : (held : HeldMap) → store.holds old held → store.is_honest new → IsOwn answer
+  pub step : OfHeld store old new (λ held. Delivers (store.is_open new) (store.holds new) held off bytes answer)
+  pub crash : OfHeld store old new (λ held. CrashLeaves (store.leaves new) held off bytes)
+  pub events : OfHeld store old new (λ held. LeavesEvents (store.leaves new) held (record { off = off; bytes = bytes }) answer)
+  pub whole : OfHeld store old new (λ _. store.leaves_a_map new)
+  pub alone : OfHeld store old new (λ _. store.is_alone old → store.is_alone new)
+  pub own : OfHeld store old new (λ _. IsOwn answer)
   pub cause : FaultHasCause (store.failures old) (store.failures new) answer
   pub same : store.is_honest new → store.is_open new → ¬ (IsStored answer) → store.same_tables old new
   pub shut : store.is_honest new → ¬ (store.is_open old)
@@ -43,11 +44,11 @@ TakesEach {S} store old new (delivery ∷ deliveries) (answer ∷ answers) =
 -- leaves the map after the answered ones, or after a fault alone that map with the blob at fault.
 pub record Takes {S : Type 0} (store : Ghosts S) (old new : S) (deliveries : List DeliveryValue) (replies : List Answer) : Type 0 where
   pub each : TakesEach store old new deliveries replies
-  pub run : (held : HeldMap) → store.holds old held → store.is_honest new → store.is_open new → Runs (store.holds new) held deliveries replies
-  pub unbroken : (held : HeldMap) → store.holds old held → store.is_honest new → IsNone IsFault replies → Runs (store.holds new) held deliveries replies
-  pub crash : (held : HeldMap) → store.holds old held → store.is_honest new → LeavesAfter (store.leaves new) held deliveries replies
-  pub whole : (held : HeldMap) → store.holds old held → store.is_honest new → store.leaves_a_map new
-  pub own : (held : HeldMap) → store.holds old held → store.is_honest new → AreOwn replies
+  pub run : OfHeld store old new (λ held. store.is_open new → Runs (store.holds new) held deliveries replies)
+  pub unbroken : OfHeld store old new (λ held. IsNone IsFault replies → Runs (store.holds new) held deliveries replies)
+  pub crash : OfHeld store old new (λ held. LeavesAfter (store.leaves new) held deliveries replies)
+  pub whole : OfHeld store old new (λ _. store.leaves_a_map new)
+  pub own : OfHeld store old new (λ _. AreOwn replies)
   pub causes : HaveCauses (store.failures old) (store.failures new) replies
   pub same : store.is_honest new → store.is_open new → IsNone IsStored replies → store.same_tables old new
   pub honest : store.is_honest new → store.is_honest old

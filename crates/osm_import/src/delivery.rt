@@ -1,7 +1,7 @@
 //! One delivery.
 
 ghost use Rattle.std.specs.Prelude.{◌≡◌, ◌==◌, ◌≤◌, find};
-ghost use Rattle.osm_store.specs.Held.{HeldMap};
+ghost use Rattle.osm_store.specs.Calls.{OfHeld};
 ghost use Rattle.osm_reading.specs.Good.{IsGood};
 ghost use Rattle.osm_import.specs.Step.{Delivers, CrashLeaves, FaultHasCause, IsOwn};
 ghost use Rattle.osm_import.specs.Runs.{IsStored, StaysShut};
@@ -33,12 +33,11 @@ fn deliver_good<K: Keeper>(
     good: &Good<'_>,
 ) -> Answer
     requires { IsGood off bytes.now good.now.kind good.now.elements.items }
-    ensures step { (held : HeldMap) → K.holds keeper.old held → K.is_honest keeper.new
-        → Delivers (K.is_open keeper.new) (K.holds keeper.new) held off bytes.now result }
-    ensures crash { (held : HeldMap) → K.holds keeper.old held → K.is_honest keeper.new → CrashLeaves (K.leaves keeper.new) held off bytes.now }
-    ensures whole { (held : HeldMap) → K.holds keeper.old held → K.is_honest keeper.new → K.leaves_a_map keeper.new }
-    ensures alone { (held : HeldMap) → K.holds keeper.old held → K.is_honest keeper.new → K.is_alone keeper.old → K.is_alone keeper.new }
-    ensures own { (held : HeldMap) → K.holds keeper.old held → K.is_honest keeper.new → IsOwn result }
+    ensures step { OfHeld K.Reader keeper.old keeper.new (λ held. Delivers (K.is_open keeper.new) (K.holds keeper.new) held off bytes.now result) }
+    ensures crash { OfHeld K.Reader keeper.old keeper.new (λ held. CrashLeaves (K.leaves keeper.new) held off bytes.now) }
+    ensures whole { OfHeld K.Reader keeper.old keeper.new (λ _. K.leaves_a_map keeper.new) }
+    ensures alone { OfHeld K.Reader keeper.old keeper.new (λ _. K.is_alone keeper.old → K.is_alone keeper.new) }
+    ensures own { OfHeld K.Reader keeper.old keeper.new (λ _. IsOwn result) }
     ensures cause { FaultHasCause (K.failures keeper.old) (K.failures keeper.new) result }
     ensures honest { K.is_honest keeper.new → K.is_honest keeper.old }
     ensures open_if { K.is_open keeper.new → K.is_open keeper.old }

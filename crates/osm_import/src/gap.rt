@@ -1,7 +1,7 @@
 //! What no held extent covers.
 
 ghost use Rattle.std.specs.Prelude.{◌≡◌, IfOk, IfErr};
-ghost use Rattle.osm_store.specs.Held.{HeldMap};
+ghost use Rattle.osm_store.specs.Calls.{OfHeld};
 ghost use Rattle.osm_store.specs.Keeping.{IsForeign};
 ghost use Rattle.osm_import.specs.Gaps.{AreGaps, gap_before, ranges_between};
 ghost use Rattle.osm_import.specs.Step.{HasCause};
@@ -51,9 +51,9 @@ pub fn gaps<K: Reader>(
     keeper: &mut K,
     size: u64,
 ) -> Result<Vec<(u64, u64)>, StoreFault>
-    ensures gaps { (held : HeldMap) → K.holds keeper.old held → K.is_honest keeper.new → IfOk result (λ gaps. AreGaps held size gaps.items) }
+    ensures gaps { OfHeld K.Reader keeper.old keeper.new (λ held. IfOk result (λ gaps. AreGaps held size gaps.items)) }
     ensures rereads { Rereads K.Reader keeper.old result keeper.new }
-    ensures own { (held : HeldMap) → K.holds keeper.old held → K.is_honest keeper.new → IfErr result (λ fault. ¬ (IsForeign fault)) }
+    ensures own { OfHeld K.Reader keeper.old keeper.new (λ _. IfErr result (λ fault. ¬ (IsForeign fault))) }
     ensures cause { IfErr result (HasCause (K.failures keeper.old) (K.failures keeper.new)) }
 {
     let extents = keeper.extents(alloc)?;

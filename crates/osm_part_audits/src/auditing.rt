@@ -4,7 +4,7 @@ ghost use Rattle.std.specs.Prelude.{◌≡◌, ◌+◌, ◌++◌, ◌≤◌, ℕ
 ghost use Rattle.std.specs.List.{cons_option};
 ghost use Rattle.osm_value.specs.declared.element.Element.{Element as ElementValue};
 ghost use Rattle.osm_store.specs.Audit.{AreCountable, ShowsCounts, counts_of, elements_held};
-ghost use Rattle.osm_store.specs.Held.{HeldMap};
+ghost use Rattle.osm_store.specs.Calls.{KeepsTables, OfHeld};
 ghost use Rattle.osm_store.specs.Keeping.{IsForeign, IsRange, extents_of};
 ghost use Rattle.osm_import.specs.Step.{HasCause};
 ghost use Rattle.osm_import.specs.Stores.{Rereads};
@@ -87,12 +87,12 @@ fn judge<K: Audited>(
     depth: Depth,
     rows: &mut Counts,
 ) -> Result<Option<Finding>, AuditFault>
-    ensures found { (held : HeldMap) → K.holds store.old held → K.is_honest store.new → IfOk result (IsFound depth held off bytes.now) }
+    ensures found { OfHeld K.Reader store.old store.new (λ held. IfOk result (IsFound depth held off bytes.now)) }
     ensures seen { IfOk result (λ found. IsNone found → (elements : List ElementValue) × IsEntryOf (λ entry. Unit {0}) off bytes.now elements × CountsMore rows.old elements rows.new
         × (K.is_honest store.new → K.is_open store.new → K.has_tables store.old → depth ≡ Depth.Elements → IsEntryOf (K.has_rows (K.trees store.old) off) off bytes.now elements)) }
-    ensures same { K.is_honest store.new → K.is_open store.new → K.same_tables store.old store.new }
+    ensures same { KeepsTables K.Reader store.old store.new }
     ensures rereads { Rereads K.Reader store.old result store.new }
-    ensures own { (held : HeldMap) → K.holds store.old held → K.is_honest store.new → IfErr result IsOwn }
+    ensures own { OfHeld K.Reader store.old store.new (λ _. IfErr result IsOwn) }
     ensures cause { IfErr result (AuditHasCause (K.failures store.old) (K.failures store.new)) }
     ensures counted { K.failures store.old ≤ K.failures store.new }
 {
@@ -117,14 +117,14 @@ fn audit_extent<K: Audited, F: FileBytes>(
     rows: &mut Counts,
 ) -> Result<Option<Finding>, AuditFault>
     requires { IsRange extent.now }
-    ensures found { (held : HeldMap) → K.holds store.old held → K.is_honest store.new → IfOk result (IsJudged depth held (F.bytes file.old) extent.now) }
+    ensures found { OfHeld K.Reader store.old store.new (λ held. IfOk result (IsJudged depth held (F.bytes file.old) extent.now)) }
     ensures seen { IfOk result (λ found. IsNone found → (elements : List ElementValue) × (frame : List ℕ) × IsIn (F.bytes file.old) extent.now.off frame × IsEntryOf (λ entry. Unit {0}) extent.now.off frame elements
         × CountsMore rows.old elements rows.new
-        × ((held : HeldMap) → K.holds store.old held → K.is_honest store.new → IsSame depth held extent.now.off frame)
+        × (OfHeld K.Reader store.old store.new (λ held. IsSame depth held extent.now.off frame))
         × (K.is_honest store.new → K.is_open store.new → K.has_tables store.old → depth ≡ Depth.Elements → IsEntryOf (K.has_rows (K.trees store.old) extent.now.off) extent.now.off frame elements)) }
-    ensures same { K.is_honest store.new → K.is_open store.new → K.same_tables store.old store.new }
+    ensures same { KeepsTables K.Reader store.old store.new }
     ensures rereads { Rereads K.Reader store.old result store.new }
-    ensures own { (held : HeldMap) → K.holds store.old held → K.is_honest store.new → IfErr result IsOwn }
+    ensures own { OfHeld K.Reader store.old store.new (λ _. IfErr result IsOwn) }
     ensures cause { IfErr result (AuditHasCause (K.failures store.old) (K.failures store.new)) }
     ensures counted { K.failures store.old ≤ K.failures store.new }
     ensures kept { F.bytes file.new ≡ F.bytes file.old }
@@ -156,14 +156,14 @@ fn audit_extents<K: Audited, F: FileBytes>(
 ) -> Result<Vec<Finding>, AuditFault>
     requires ranges { All IsRange extents.now }
     requires none { rows.old ≡ counts_of [] }
-    ensures found { (held : HeldMap) → K.holds store.old held → K.is_honest store.new → IfOk result (λ findings. AreJudged depth held (F.bytes file.old) extents.now findings.items) }
-    ensures held_rows { (held : HeldMap) → K.holds store.old held → K.is_honest store.new → extents.now ≡ extents_of held → depth ≡ Depth.Elements
-        → IfOk result (λ findings. findings.items ≡ [] → rows.new ≡ counts_of (elements_held held)) }
+    ensures found { OfHeld K.Reader store.old store.new (λ held. IfOk result (λ findings. AreJudged depth held (F.bytes file.old) extents.now findings.items)) }
+    ensures held_rows { OfHeld K.Reader store.old store.new (λ held. extents.now ≡ extents_of held → depth ≡ Depth.Elements
+        → IfOk result (λ findings. findings.items ≡ [] → rows.new ≡ counts_of (elements_held held))) }
     ensures seen { IfOk result (λ findings. findings.items ≡ [] → (blobs : List (List ElementValue)) × (rows.new ≡ counts_of blobs) × AreEntriesIn (λ off blob. Unit {0}) (F.bytes file.old) extents.now blobs
         × (K.is_honest store.new → K.is_open store.new → K.has_tables store.old → depth ≡ Depth.Elements → AreEntriesIn (K.has_rows (K.trees store.old)) (F.bytes file.old) extents.now blobs)) }
-    ensures same { K.is_honest store.new → K.is_open store.new → K.same_tables store.old store.new }
+    ensures same { KeepsTables K.Reader store.old store.new }
     ensures rereads { Rereads K.Reader store.old result store.new }
-    ensures own { (held : HeldMap) → K.holds store.old held → K.is_honest store.new → IfErr result IsOwn }
+    ensures own { OfHeld K.Reader store.old store.new (λ _. IfErr result IsOwn) }
     ensures cause { IfErr result (AuditHasCause (K.failures store.old) (K.failures store.new)) }
     ensures counted { K.failures store.old ≤ K.failures store.new }
     ensures kept { F.bytes file.new ≡ F.bytes file.old }
@@ -186,10 +186,10 @@ fn refuse_other_rows<K: Audited>(
 ) -> Result<(), AuditFault>
     ensures shown { K.is_honest store.new → AreCountable rows.now → findings.now ≡ [] → depth ≡ Depth.Elements
         → OnOk result (K.is_open store.new × (K.has_tables store.old → ShowsCounts K.layout (K.trees store.old) rows.now)) }
-    ensures same { K.is_honest store.new → K.is_open store.new → K.same_tables store.old store.new }
+    ensures same { KeepsTables K.Reader store.old store.new }
     ensures rereads { Rereads K.Reader store.old result store.new }
-    ensures own { (held : HeldMap) → K.holds store.old held → K.is_honest store.new → (findings.now ≡ [] → depth ≡ Depth.Elements → rows.now ≡ counts_of (elements_held held)) → IfErr result IsOwn }
-    ensures cause { (held : HeldMap) → K.holds store.old held → K.is_honest store.new → (findings.now ≡ [] → depth ≡ Depth.Elements → rows.now ≡ counts_of (elements_held held)) → IfErr result (AuditHasCause (K.failures store.old) (K.failures store.new)) }
+    ensures own { OfHeld K.Reader store.old store.new (λ held. (findings.now ≡ [] → depth ≡ Depth.Elements → rows.now ≡ counts_of (elements_held held)) → IfErr result IsOwn) }
+    ensures cause { OfHeld K.Reader store.old store.new (λ held. (findings.now ≡ [] → depth ≡ Depth.Elements → rows.now ≡ counts_of (elements_held held)) → IfErr result (AuditHasCause (K.failures store.old) (K.failures store.new))) }
     ensures counted { K.failures store.old ≤ K.failures store.new }
 {
     if depth == Depth::Extents || !findings.is_empty() {
@@ -214,16 +214,15 @@ pub fn audit_part<K: Audited, F: FileBytes>(
     file: &mut F,
     depth: Depth,
 ) -> Result<Audit, AuditFault>
-    ensures extents { (held : HeldMap) → K.holds store.old held → K.is_honest store.new → IfOk result (λ audit. audit.extents.items ≡ extents_of held) }
-    ensures found { (held : HeldMap) → K.holds store.old held → K.is_honest store.new
-        → IfOk result (λ audit. AreJudged depth held (F.bytes file.old) (extents_of held) audit.findings.items) }
+    ensures extents { OfHeld K.Reader store.old store.new (λ held. IfOk result (λ audit. audit.extents.items ≡ extents_of held)) }
+    ensures found { OfHeld K.Reader store.old store.new (λ held. IfOk result (λ audit. AreJudged depth held (F.bytes file.old) (extents_of held) audit.findings.items)) }
     // Whatever rows the tables have had: where by elements nothing was found, they have the rows of the file's blobs at these
     // extents, and no others. That leaves out more rows than SQL can count.
     ensures shown { K.is_honest store.new → K.has_tables store.old → depth ≡ Depth.Elements
         → IfOk result (λ audit. audit.findings.items ≡ [] → ShowsPart (K.has_rows (K.trees store.old)) K.layout (K.trees store.old) (F.bytes file.old) audit.extents.items) }
     ensures rereads { Rereads K.Reader store.old result store.new }
-    ensures own { (held : HeldMap) → K.holds store.old held → K.is_honest store.new → IfErr result IsOwn }
-    ensures cause { (held : HeldMap) → K.holds store.old held → K.is_honest store.new → IfErr result (AuditHasCause (K.failures store.old) (K.failures store.new)) }
+    ensures own { OfHeld K.Reader store.old store.new (λ _. IfErr result IsOwn) }
+    ensures cause { OfHeld K.Reader store.old store.new (λ _. IfErr result (AuditHasCause (K.failures store.old) (K.failures store.new))) }
     ensures counted { K.failures store.old ≤ K.failures store.new }
     ensures kept { F.bytes file.new ≡ F.bytes file.old }
 {

@@ -3,6 +3,7 @@
 ghost use Rattle.std.specs.Prelude.{◌≡◌, ◌≤◌, ℕ, Bool, ◌&&◌, List, Some, IfOk, IfErr, length, slice_get};
 ghost use Rattle.osm_store.specs.Flags.{has_flags};
 ghost use Rattle.osm_store.specs.Held.{HeldMap, IsApart};
+ghost use Rattle.osm_store.specs.Calls.{OfHeld};
 ghost use Rattle.osm_store.specs.Keeping.{IsForeign, extents_of};
 ghost use Rattle.osm_import.specs.Gaps.{AreGaps};
 ghost use Rattle.osm_import.specs.Step.{HasCause};
@@ -24,9 +25,9 @@ use std::alloc::{AllocError, Global};
 
 /// Whether one of its elements has a flag of visibility, if that is asked.
 fn history_of<K: Reader>(alloc: Global, store: &mut K, asked: bool) -> Result<bool, StoreFault>
-    ensures flags { (held : HeldMap) → K.holds store.old held → K.is_honest store.new → IfOk result (λ found. found ≡ (asked && has_flags held)) }
+    ensures flags { OfHeld K.Reader store.old store.new (λ held. IfOk result (λ found. found ≡ (asked && has_flags held))) }
     ensures rereads { Rereads K.Reader store.old result store.new }
-    ensures own { (held : HeldMap) → K.holds store.old held → K.is_honest store.new → IfErr result (λ fault. ¬ (IsForeign fault)) }
+    ensures own { OfHeld K.Reader store.old store.new (λ _. IfErr result (λ fault. ¬ (IsForeign fault))) }
     ensures cause { IfErr result (HasCause (K.failures store.old) (K.failures store.new)) }
     ensures counted { K.failures store.old ≤ K.failures store.new }
 {
@@ -44,9 +45,9 @@ fn read_store<K: Reader>(
     place: u64,
     asks_history: bool,
 ) -> Result<Part, StoreFault>
-    ensures told { (held : HeldMap) → K.holds store.old held → K.is_honest store.new → IfOk result (IsReadOf asks_history place held) }
+    ensures told { OfHeld K.Reader store.old store.new (λ held. IfOk result (IsReadOf asks_history place held)) }
     ensures rereads { Rereads K.Reader store.old result store.new }
-    ensures own { (held : HeldMap) → K.holds store.old held → K.is_honest store.new → IfErr result (λ fault. ¬ (IsForeign fault)) }
+    ensures own { OfHeld K.Reader store.old store.new (λ _. IfErr result (λ fault. ¬ (IsForeign fault))) }
     ensures cause { IfErr result (HasCause (K.failures store.old) (K.failures store.new)) }
 {
     let extents = store.extents(alloc)?;

@@ -1,5 +1,6 @@
 pub mod Held
 pub mod Keeping
+pub mod Calls
 pub mod HeldLaws
 pub mod Load
 pub mod Inside

@@ -2,6 +2,7 @@ pub mod Value
 pub mod Ranges
 pub mod Elements
 pub mod Sink
+pub mod Printing
 pub mod Outlet
 pub mod Escape
 pub mod Line

@@ -11,7 +11,8 @@ ghost use Rattle.std.specs.Prelude.{◌≡◌, ℕ, ◌+◌, ◌<◌, ◌≤◌,
 ghost use Rattle.std.specs.Io.KnownBytes.{Appends};
 ghost use Rattle.std.specs.Fmt.{signed_decimal};
 ghost use Rattle.osm_value.specs.declared.element.Element.TheVariants as elements;
-ghost use Rattle.osm_value.specs.Sink.{AppendsFront, Wrote, Writes, WritesEach};
+ghost use Rattle.osm_value.specs.Sink.{AppendsFront, Wrote, WritesEach};
+ghost use Rattle.osm_value.specs.Printing.{Prints};
 ghost use Rattle.osm_value.specs.Line.{commas, comma_before, tag_text, line, tail_text, info_texts, number_info, user_info, visible_digit, visible_info, letter_of, member_text};
 
 use crate::element::{Element, Info, Member, MemberKind, Node, Relation, Way};
@@ -29,7 +30,7 @@ pub fn write_line<S: Sink>(element: &Element, sink: &mut S) -> Result<(), LineFa
     // What went out is a front of the line.
     ensures front { OnErr result (AppendsFront (S.written sink.old) (S.written sink.new) (line element.now)) }
     ensures failed { IsErr result ↔ IsTrue (S.has_failed sink.new) }
-    ensures writes { Writes (S.written sink.old) (S.has_failed sink.old) (S.written sink.new) (S.has_failed sink.new) (line element.now) }
+    ensures writes { Prints S.Sink sink.old sink.new (line element.now) }
 {
     put_line(sink, element);
     if sink.failed() {
@@ -39,7 +40,7 @@ pub fn write_line<S: Sink>(element: &Element, sink: &mut S) -> Result<(), LineFa
 }
 
 fn put_line<S: Sink>(sink: &mut S, element: &Element)
-    ensures { Writes (S.written sink.old) (S.has_failed sink.old) (S.written sink.new) (S.has_failed sink.new) (line element.now) }
+    ensures { Prints S.Sink sink.old sink.new (line element.now) }
 {
     match element {
         Element::Node(node) => put_node(sink, node),
@@ -49,7 +50,7 @@ fn put_line<S: Sink>(sink: &mut S, element: &Element)
 }
 
 fn put_node<S: Sink>(sink: &mut S, node: &Node)
-    ensures { Writes (S.written sink.old) (S.has_failed sink.old) (S.written sink.new) (S.has_failed sink.new) (line (elements.Node node.now)) }
+    ensures { Prints S.Sink sink.old sink.new (line (elements.Node node.now)) }
 {
     put(sink, b"n ");
     put_number(sink, node.id());
@@ -61,7 +62,7 @@ fn put_node<S: Sink>(sink: &mut S, node: &Node)
 }
 
 fn put_way<S: Sink>(sink: &mut S, way: &Way)
-    ensures { Writes (S.written sink.old) (S.has_failed sink.old) (S.written sink.new) (S.has_failed sink.new) (line (elements.Way way.now)) }
+    ensures { Prints S.Sink sink.old sink.new (line (elements.Way way.now)) }
 {
     put(sink, b"w ");
     put_number(sink, way.id());
@@ -72,7 +73,7 @@ fn put_way<S: Sink>(sink: &mut S, way: &Way)
 }
 
 fn put_relation<S: Sink>(sink: &mut S, relation: &Relation)
-    ensures { Writes (S.written sink.old) (S.has_failed sink.old) (S.written sink.new) (S.has_failed sink.new) (line (elements.Relation relation.now)) }
+    ensures { Prints S.Sink sink.old sink.new (line (elements.Relation relation.now)) }
 {
     put(sink, b"r ");
     put_number(sink, relation.id());
@@ -84,7 +85,7 @@ fn put_relation<S: Sink>(sink: &mut S, relation: &Relation)
 
 /// Writes info and tags, and the line feed.
 fn put_tail<S: Sink>(sink: &mut S, info: &Info, tags: &[(&str, &str)])
-    ensures { Writes (S.written sink.old) (S.has_failed sink.old) (S.written sink.new) (S.has_failed sink.new) (tail_text info.now (map (λ t. (t.0.now, t.1.now)) tags.now)) }
+    ensures { Prints S.Sink sink.old sink.new (tail_text info.now (map (λ t. (t.0.now, t.1.now)) tags.now)) }
 {
     put(sink, b" [");
     put_info(sink, info);
@@ -95,7 +96,7 @@ fn put_tail<S: Sink>(sink: &mut S, info: &Info, tags: &[(&str, &str)])
 
 /// Writes a comma, but before the first piece.
 fn put_comma<S: Sink>(sink: &mut S, at: usize)
-    ensures { Writes (S.written sink.old) (S.has_failed sink.old) (S.written sink.new) (S.has_failed sink.new) (comma_before at) }
+    ensures { Prints S.Sink sink.old sink.new (comma_before at) }
 {
     if at == 0 {
         return;
@@ -107,7 +108,7 @@ fn put_comma<S: Sink>(sink: &mut S, at: usize)
 fn put_joined<S: Sink, T, F: Fn(&mut S, &T)>(sink: &mut S, items: &[T], put_item: F)
     requires { F.IsAlwaysCallable put_item }
     ensures { (text : T → List ℕ) → WritesEach S.written S.has_failed F.Fn put_item text
-        → Writes (S.written sink.old) (S.has_failed sink.old) (S.written sink.new) (S.has_failed sink.new) (commas (map text items.now)) }
+        → Prints S.Sink sink.old sink.new (commas (map text items.now)) }
 {
     for (at, item) in items.iter().enumerate() {
         put_comma(sink, at);
@@ -116,13 +117,13 @@ fn put_joined<S: Sink, T, F: Fn(&mut S, &T)>(sink: &mut S, items: &[T], put_item
 }
 
 fn put_ref<S: Sink>(sink: &mut S, id: &i64)
-    ensures { Writes (S.written sink.old) (S.has_failed sink.old) (S.written sink.new) (S.has_failed sink.new) (signed_decimal id.now) }
+    ensures { Prints S.Sink sink.old sink.new (signed_decimal id.now) }
 {
     put_number(sink, *id);
 }
 
 fn put_member<S: Sink>(sink: &mut S, member: &Member)
-    ensures { Writes (S.written sink.old) (S.has_failed sink.old) (S.written sink.new) (S.has_failed sink.new) (member_text member.now) }
+    ensures { Prints S.Sink sink.old sink.new (member_text member.now) }
 {
     put(sink, &[letter_of(member.kind())]);
     put_number(sink, member.id());
@@ -141,7 +142,7 @@ fn letter_of(kind: MemberKind) -> u8
 }
 
 fn put_tag<S: Sink>(sink: &mut S, tag: &(&str, &str))
-    ensures { Writes (S.written sink.old) (S.has_failed sink.old) (S.written sink.new) (S.has_failed sink.new) (tag_text (tag.now.0.now, tag.now.1.now)) }
+    ensures { Prints S.Sink sink.old sink.new (tag_text (tag.now.0.now, tag.now.1.now)) }
 {
     put_escaped(sink, tag.0);
     put(sink, b"=");
@@ -150,7 +151,7 @@ fn put_tag<S: Sink>(sink: &mut S, tag: &(&str, &str))
 
 /// Writes what is there of the info, joined by commas.
 fn put_info<S: Sink>(sink: &mut S, info: &Info)
-    ensures { Writes (S.written sink.old) (S.has_failed sink.old) (S.written sink.new) (S.has_failed sink.new) (commas (info_texts info.now)) }
+    ensures { Prints S.Sink sink.old sink.new (commas (info_texts info.now)) }
 {
     let at = put_info_number(sink, 0, b'v', widened(info.version()));
     let at = put_info_number(sink, at, b't', info.time());

@@ -3,7 +3,7 @@
 
 ghost use Rattle.std.specs.Prelude.{◌≡◌, ◌<◌};
 ghost use Rattle.std.specs.Fmt.{decimal, signed_decimal};
-ghost use Rattle.osm_value.specs.Sink.{Writes};
+ghost use Rattle.osm_value.specs.Printing.{Prints};
 ghost use Rattle.osm_value.specs.Escape.{is_escaped, escaped, hex_digit};
 
 use crate::sink::Sink;
@@ -12,7 +12,7 @@ use itoa::Buffer;
 /// Writes all of the piece. Where the sink has failed nothing is written, and where it fails a front of the piece went
 /// out; `failed` tells of both.
 pub fn put<S: Sink>(sink: &mut S, piece: &[u8])
-    ensures { Writes (S.written sink.old) (S.has_failed sink.old) (S.written sink.new) (S.has_failed sink.new) piece.now }
+    ensures { Prints S.Sink sink.old sink.new piece.now }
 {
     let mut at = 0;
     while at < piece.len() {
@@ -32,7 +32,7 @@ pub fn put<S: Sink>(sink: &mut S, piece: &[u8])
 
 /// Writes a number in decimal, with `-` before one below 0. A sink that fails is met as by `put`.
 pub fn put_number<S: Sink>(sink: &mut S, number: i64)
-    ensures { Writes (S.written sink.old) (S.has_failed sink.old) (S.written sink.new) (S.has_failed sink.new) (signed_decimal number) }
+    ensures { Prints S.Sink sink.old sink.new (signed_decimal number) }
 {
     let mut text = Buffer::new();
     put(sink, text.format(number).as_bytes());
@@ -40,7 +40,7 @@ pub fn put_number<S: Sink>(sink: &mut S, number: i64)
 
 /// Writes a number that isn't negative in decimal, 1 to 20 digits. A sink that fails is met as by `put`.
 pub fn put_digits<S: Sink>(sink: &mut S, number: u64)
-    ensures { Writes (S.written sink.old) (S.has_failed sink.old) (S.written sink.new) (S.has_failed sink.new) (decimal number) }
+    ensures { Prints S.Sink sink.old sink.new (decimal number) }
 {
     let mut digits = Buffer::new();
     put(sink, digits.format(number).as_bytes());
@@ -49,7 +49,7 @@ pub fn put_digits<S: Sink>(sink: &mut S, number: u64)
 /// Writes a text. Each byte that separates or isn't printed is `%` and two upper-case hexadecimal digits: those below
 /// 33, 127, and each of `%=,@[]{}()`; bytes from 128 on stay. A sink that fails is met as by `put`.
 pub fn put_escaped<S: Sink>(sink: &mut S, text: &str)
-    ensures { Writes (S.written sink.old) (S.has_failed sink.old) (S.written sink.new) (S.has_failed sink.new) (escaped text.now) }
+    ensures { Prints S.Sink sink.old sink.new (escaped text.now) }
 {
     let bytes = text.as_bytes();
     let mut plain = 0;

@@ -2,7 +2,7 @@
 
 ghost use Rattle.std.specs.Prelude.{◌≡◌, ◌↔◌, ◌≤◌, IsTrue, IfOk, IfErr};
 ghost use Rattle.osm_store.specs.Audit.{AreCountable, ShowsCounts, counts_of, elements_held};
-ghost use Rattle.osm_store.specs.Held.{HeldMap};
+ghost use Rattle.osm_store.specs.Calls.{KeepsTables, OfHeld};
 ghost use Rattle.osm_store.specs.Keeping.{IsForeign};
 ghost use Rattle.osm_reading.specs.Good.{IsGood};
 ghost use Rattle.osm_import.specs.Step.{HasCause};
@@ -38,10 +38,10 @@ pub fn has_frame<K: Audited>(
     ensures shown { K.is_honest store.new → K.has_tables store.old
         → IfOk result (λ told. IsTrue told → IsShown K.layout (K.trees store.old) off bytes.now good.now.elements.items) }
     // over a held map, it is whether the map has the frame's blob there
-    ensures held { (held : HeldMap) → K.holds store.old held → K.is_honest store.new → IfOk result (λ told. IsTrue told ↔ IsSame Elements held off bytes.now) }
-    ensures same { K.is_honest store.new → K.is_open store.new → K.same_tables store.old store.new }
+    ensures held { OfHeld K.Reader store.old store.new (λ held. IfOk result (λ told. IsTrue told ↔ IsSame Elements held off bytes.now)) }
+    ensures same { KeepsTables K.Reader store.old store.new }
     ensures rereads { Rereads K.Reader store.old result store.new }
-    ensures own { (held : HeldMap) → K.holds store.old held → K.is_honest store.new → IfErr result (λ fault. ¬ (IsForeign fault)) }
+    ensures own { OfHeld K.Reader store.old store.new (λ _. IfErr result (λ fault. ¬ (IsForeign fault))) }
     ensures cause { IfErr result (HasCause (K.failures store.old) (K.failures store.new)) }
     ensures counted { K.failures store.old ≤ K.failures store.new }
 {
@@ -57,12 +57,12 @@ pub fn has_frame<K: Audited>(
 /// where memory was refused. Over an honest disk, where the store holds a map, it is never `NotThisStore`.
 pub fn has_rows<K: Audited>(alloc: Global, store: &mut K, rows: &Counts) -> Result<bool, StoreFault>
     // the tables of a held map have as many rows as the map
-    ensures held { (held : HeldMap) → K.holds store.old held → K.is_honest store.new → rows.now ≡ counts_of (elements_held held) → IfOk result IsTrue }
+    ensures held { OfHeld K.Reader store.old store.new (λ held. rows.now ≡ counts_of (elements_held held) → IfOk result IsTrue) }
     ensures shown { K.is_honest store.new → AreCountable rows.now
         → IfOk result (λ told. K.is_open store.new × (K.has_tables store.old → (IsTrue told ↔ ShowsCounts K.layout (K.trees store.old) rows.now))) }
-    ensures same { K.is_honest store.new → K.is_open store.new → K.same_tables store.old store.new }
+    ensures same { KeepsTables K.Reader store.old store.new }
     ensures rereads { Rereads K.Reader store.old result store.new }
-    ensures own { (held : HeldMap) → K.holds store.old held → K.is_honest store.new → IfErr result (λ fault. ¬ (IsForeign fault)) }
+    ensures own { OfHeld K.Reader store.old store.new (λ _. IfErr result (λ fault. ¬ (IsForeign fault))) }
     ensures cause { IfErr result (HasCause (K.failures store.old) (K.failures store.new)) }
     ensures counted { K.failures store.old ≤ K.failures store.new }
 {

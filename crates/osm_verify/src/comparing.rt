@@ -2,7 +2,7 @@
 
 ghost use Rattle.std.specs.Prelude.{◌≡◌, ◌==◌, ◌+◌, ◌<◌, ◌≤◌, length, find, filter, nat_le, IfOk, IfErr};
 ghost use Rattle.sha2.specs.Sha256.{sha256};
-ghost use Rattle.osm_store.specs.Held.{HeldMap};
+ghost use Rattle.osm_store.specs.Calls.{KeepsTables, OfHeld};
 ghost use Rattle.osm_store.specs.Keeping.{IsForeign, extents_of};
 ghost use Rattle.osm_reading.specs.Good.{IsGood};
 ghost use Rattle.osm_import.specs.Step.{HasCause};
@@ -79,12 +79,12 @@ pub fn compare<K: Audited>(
     depth: Depth,
 ) -> Result<Agreement, StoreFault>
     requires { IsGood off bytes.now good.now.kind good.now.elements.items }
-    ensures compared { (held : HeldMap) → K.holds store.old held → K.is_honest store.new → IfOk result (IsAgreement depth held off bytes.now) }
+    ensures compared { OfHeld K.Reader store.old store.new (λ held. IfOk result (IsAgreement depth held off bytes.now)) }
     ensures rows { K.is_honest store.new → K.is_open store.new → K.has_tables store.old → depth ≡ Depth.Elements
         → IfOk result (λ agreement. agreement ≡ Agreement.Same → IsEntryOf (K.has_rows (K.trees store.old) off) off bytes.now good.now.elements.items) }
-    ensures same { K.is_honest store.new → K.is_open store.new → K.same_tables store.old store.new }
+    ensures same { KeepsTables K.Reader store.old store.new }
     ensures rereads { Rereads K.Reader store.old result store.new }
-    ensures own { (held : HeldMap) → K.holds store.old held → K.is_honest store.new → IfErr result (λ fault. ¬ (IsForeign fault)) }
+    ensures own { OfHeld K.Reader store.old store.new (λ _. IfErr result (λ fault. ¬ (IsForeign fault))) }
     ensures cause { IfErr result (HasCause (K.failures store.old) (K.failures store.new)) }
     ensures counted { K.failures store.old ≤ K.failures store.new }
 {
@@ -133,11 +133,10 @@ pub fn extents_beginning<K: Reader>(
 ) -> Result<Vec<Extent>, StoreFault>
     requires order { from ≤ to }
     requires limit { to ≤ MAX_OFFSET }
-    ensures all { (held : HeldMap) → K.holds store.old held → K.is_honest store.new
-        → IfOk result (λ extents. extents.items ≡ filter (begins from to) (extents_of held)) }
-    ensures same { K.is_honest store.new → K.is_open store.new → K.same_tables store.old store.new }
+    ensures all { OfHeld K.Reader store.old store.new (λ held. IfOk result (λ extents. extents.items ≡ filter (begins from to) (extents_of held))) }
+    ensures same { KeepsTables K.Reader store.old store.new }
     ensures rereads { Rereads K.Reader store.old result store.new }
-    ensures own { (held : HeldMap) → K.holds store.old held → K.is_honest store.new → IfErr result (λ fault. ¬ (IsForeign fault)) }
+    ensures own { OfHeld K.Reader store.old store.new (λ _. IfErr result (λ fault. ¬ (IsForeign fault))) }
     ensures cause { IfErr result (HasCause (K.failures store.old) (K.failures store.new)) }
     ensures counted { K.failures store.old ≤ K.failures store.new }
 {

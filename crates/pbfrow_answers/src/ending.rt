@@ -1,7 +1,7 @@
 //! How a command ends with a store.
 
 ghost use Rattle.std.specs.Prelude.{◌≡◌};
-ghost use Rattle.osm_value.specs.Sink.{Writes};
+ghost use Rattle.osm_value.specs.Printing.{Prints};
 ghost use Rattle.pbfrow_reading.specs.CommandLines.{store_fault_line};
 
 use osm_store::{Reader, StoreFault};
@@ -11,7 +11,7 @@ use pbfrow_reading::report::put_store_fault;
 
 /// Writes the line of a fault of a database, and answers the exit status.
 pub fn refuse<S: Sink>(out: &mut S, fault: StoreFault) -> u8
-    ensures line { Writes (S.written out.old) (S.has_failed out.old) (S.written out.new) (S.has_failed out.new) (store_fault_line fault) }
+    ensures line { Prints S.Sink out.old out.new (store_fault_line fault) }
     ensures status { result ≡ 1 }
 {
     put_store_fault(out, fault);

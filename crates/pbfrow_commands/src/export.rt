@@ -1,7 +1,7 @@
 //! The command `export`: the elements of a store.
 
 ghost use Rattle.std.specs.Prelude.{◌≡◌, Err, Result};
-ghost use Rattle.osm_store.specs.Held.{HeldMap};
+ghost use Rattle.osm_store.specs.Calls.{OfHeld};
 ghost use Rattle.osm_store.specs.Keeping.{extents_of};
 ghost use Rattle.osm_import.specs.ExportCauses.{ExportHasCause, ExportIsOwn};
 ghost use Rattle.osm_import.specs.Exports.{IsExport, size_of};
@@ -52,14 +52,14 @@ pub fn export<K: Reader, S: Sink>(
     form: Form,
     out: &mut S,
 ) -> u8
-    ensures lines { (held : HeldMap) → K.holds store.old held → K.is_honest store.new → form ≡ Form.Lines
+    ensures lines { OfHeld K.Reader store.old store.new (λ held. form ≡ Form.Lines
         → (answer : Result (Unit {0}) ExportFaultValue) × (text : Known) × IsExport held (size_of size (extents_of held)) partial (S.written out.old) text answer
         × ExportHasCause (K.failures store.old) (K.failures store.new) (S.has_failed out.new) answer × ExportIsOwn answer
-        × EndsExport text (S.written out.new) (S.has_failed out.new) result answer }
-    ensures pbf { (held : HeldMap) → K.holds store.old held → K.is_honest store.new → form ≡ Form.Pbf
+        × EndsExport text (S.written out.new) (S.has_failed out.new) result answer) }
+    ensures pbf { OfHeld K.Reader store.old store.new (λ held. form ≡ Form.Pbf
         → (answer : Result (Unit {0}) ExportFaultValue) × (text : Known) × IsPbfExport held (size_of size (extents_of held)) partial (S.written out.old) text answer
         × ExportHasCause (K.failures store.old) (K.failures store.new) (S.has_failed out.new) answer × ExportIsOwn answer
-        × EndsExport text (S.written out.new) (S.has_failed out.new) result answer }
+        × EndsExport text (S.written out.new) (S.has_failed out.new) result answer) }
     ensures stays { Stays K.Reader store.old store.new }
 {
     match form {

@@ -1,9 +1,9 @@
 //! The command `find`: the occurrences of an element in a store.
 
 ghost use Rattle.std.specs.Prelude.{◌≡◌, List, OnOk, OnErr, filter};
-ghost use Rattle.osm_value.specs.Sink.{Writes};
+ghost use Rattle.osm_value.specs.Printing.{Prints};
 ghost use Rattle.osm_store.specs.Load.Finding.{AreMatches};
-ghost use Rattle.osm_store.specs.Held.{HeldMap};
+ghost use Rattle.osm_store.specs.Calls.{OfHeld};
 ghost use Rattle.osm_store.specs.Rows.{Placed, is_of, placed_in};
 ghost use Rattle.osm_import.specs.Stores.{Stays};
 ghost use Rattle.pbfrow_commands.specs.CommandLines.{match_line, match_lines};
@@ -16,7 +16,7 @@ use std::alloc::{AllocError, Global};
 
 /// Writes `OFFSET POSITION LINE`.
 fn put_match<S: Sink>(out: &mut S, off: u64, position: u64, element: &Element)
-    ensures { Writes (S.written out.old) (S.has_failed out.old) (S.written out.new) (S.has_failed out.new) (match_line (off, position, element.now)) }
+    ensures { Prints S.Sink out.old out.new (match_line (off, position, element.now)) }
 {
     put_digits(out, off);
     put(out, b" ");
@@ -27,7 +27,7 @@ fn put_match<S: Sink>(out: &mut S, off: u64, position: u64, element: &Element)
 
 /// Writes a line for each element.
 fn put_matches<S: Sink>(out: &mut S, matches: &[(u64, u64, Element)])
-    ensures { Writes (S.written out.old) (S.has_failed out.old) (S.written out.new) (S.has_failed out.new) (match_lines matches.now) }
+    ensures { Prints S.Sink out.old out.new (match_lines matches.now) }
 {
     for (off, position, element) in matches {
         put_match(out, *off, *position, element);
@@ -37,7 +37,7 @@ fn put_matches<S: Sink>(out: &mut S, matches: &[(u64, u64, Element)])
 /// Writes a line for each element that was found.
 fn write_found<S: Sink>(alloc: Global, found: &Found, out: &mut S) -> Result<(), AllocError>
     ensures lines { (matches : List Placed) → AreMatches found.now matches
-        → OnOk result (Writes (S.written out.old) (S.has_failed out.old) (S.written out.new) (S.has_failed out.new) (match_lines matches)) }
+        → OnOk result (Prints S.Sink out.old out.new (match_lines matches)) }
     ensures none { OnErr result (out.new ≡ out.old) }
 {
     let matches = found.matches(alloc)?;
@@ -56,8 +56,7 @@ pub fn find<K: Reader, S: Sink>(
     id: i64,
     out: &mut S,
 ) -> u8
-    ensures told { (held : HeldMap) → K.holds store.old held → K.is_honest store.new
-        → TellsMatches (filter (is_of kind id) (placed_in held)) (K.failures store.old) (K.failures store.new) (S.written out.old) (S.written out.new) (S.has_failed out.new) result }
+    ensures told { OfHeld K.Reader store.old store.new (λ held. TellsMatches (filter (is_of kind id) (placed_in held)) (K.failures store.old) (K.failures store.new) (S.written out.old) (S.written out.new) (S.has_failed out.new) result) }
     ensures stays { Stays K.Reader store.old store.new }
 {
     let found = match store.find(alloc, kind, id) {

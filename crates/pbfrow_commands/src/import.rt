@@ -3,6 +3,7 @@
 ghost use Rattle.std.specs.Prelude.{◌≡◌, ◌≤◌, ◌<◌, ◌+◌, ◌-◌, List, ℕ, Some, Err, Result, OnOk, OnErr, IfOk, IfSome, take};
 ghost use Rattle.std.specs.FinMap.{empty};
 ghost use Rattle.osm_store.specs.Held.{HeldMap};
+ghost use Rattle.osm_store.specs.Calls.{OfHeld};
 ghost use Rattle.osm_reading.specs.Framings.{Known};
 ghost use Rattle.osm_import.specs.Flows.{Input, input, output};
 ghost use Rattle.osm_import.specs.Stores.{Takes};
@@ -246,7 +247,7 @@ pub fn import_to<R: Read, K: Keeper, S: Sink>(
     requires begins { start.at < to }
     requires ends { to ≤ MAX_OFFSET }
     ensures imports { ImportsRange start.dropped start.at to (R.remaining reader.old) (output S.Sink out.old out.new) (store.new ≡ store.old) (Takes K.Reader store.old store.new) result }
-    ensures whole { (held : HeldMap) → K.holds store.old held → K.is_honest store.new → result ≡ 0 → HoldsRange (K.holds store.new) held start.dropped start.at to (R.remaining reader.old) }
+    ensures whole { OfHeld K.Reader store.old store.new (λ held. result ≡ 0 → HoldsRange (K.holds store.new) held start.dropped start.at to (R.remaining reader.old)) }
     ensures part { (bytes : List ℕ) → R.remaining reader.old ≡ Some bytes → start.dropped ≡ 0 → K.holds store.old empty → K.is_honest store.new
         → result ≡ 0 → ImportsPart (K.holds store.new) start.at (take (to - start.at) bytes) }
 {

@@ -1,7 +1,8 @@
 //! The command `merge`: what several stores hold is copied into one, store after store.
 
 ghost use Rattle.std.specs.Prelude.{◌≡◌, ◌≤◌, [], ◌∷◌, ◌++◌, List, Ok, Some, Result, length, slice_get};
-ghost use Rattle.osm_value.specs.Sink.{Writes, Wrote};
+ghost use Rattle.osm_value.specs.Sink.{Wrote};
+ghost use Rattle.osm_value.specs.Printing.{Prints};
 ghost use Rattle.osm_store.specs.Held.{HeldMap};
 ghost use Rattle.osm_import.specs.Stores.{Rereads};
 ghost use Rattle.osm_import.specs.declared.copy.CopyCounts.{CopyCounts as CopyCountsValue};
@@ -38,7 +39,7 @@ pub fn merge_one<F: Reader, T: Keeper, S: Sink>(
     out: &mut S,
 ) -> Result<CopyCounts, CopyStop>
     ensures copies { CopiesStore F.Reader T.Reader from.old from.new into.old into.new result }
-    ensures line { Writes (S.written out.old) (S.has_failed out.old) (S.written out.new) (S.has_failed out.new) (outcome_line result) }
+    ensures line { Prints S.Sink out.old out.new (outcome_line result) }
     ensures source { Rereads F.Reader from.old result from.new }
     ensures honest { T.is_honest into.new → T.is_honest into.old }
     ensures open_if { T.is_open into.new → T.is_open into.old }
@@ -52,7 +53,7 @@ pub fn merge_one<F: Reader, T: Keeper, S: Sink>(
 /// Ends a merge: writes how many blobs were added and how many were held already, of all stores together, and answers
 /// the exit status, 0 if the line was written, else 1.
 pub fn end_merge<S: Sink>(out: &mut S, counts: CopyCounts) -> u8
-    ensures line { Writes (S.written out.old) (S.has_failed out.old) (S.written out.new) (S.has_failed out.new) (total_line counts) }
+    ensures line { Prints S.Sink out.old out.new (total_line counts) }
     ensures status { result ≡ copy_status (Ok counts) (S.has_failed out.new) }
 {
     put(out, b"blobs ");
@@ -86,7 +87,7 @@ fn merge_at<F: Reader + Drop, O: Openings<F>, T: Keeper, S: Sink>(
         → T.leaves_a_map into.new }
     ensures own { (maps : List HeldMap) (source held : HeldMap) → O.holds openings.old maps → O.is_honest openings.new → slice_get maps place ≡ Some source → T.holds into.old held → T.is_honest into.new
         → IsOwnMerge result }
-    ensures line { Writes (S.written out.old) (S.has_failed out.old) (S.written out.new) (S.has_failed out.new) (store_line result) }
+    ensures line { Prints S.Sink out.old out.new (store_line result) }
     ensures opens { OnlyOpens O.holds O.is_honest O.is_open openings.old result openings.new }
     ensures cause { MergeHasCause (O.failures openings.old) (O.failures openings.new) (T.failures into.new) result }
     ensures honest { T.is_honest into.new → T.is_honest into.old }
@@ -125,7 +126,7 @@ fn merge_each<F: Reader + Drop, O: Openings<F>, T: Keeper, S: Sink>(
     out: &mut S,
 ) -> Result<CopyCounts, MergeStop>
     ensures merges { (counts : List CopyCountsValue) × MergesStores O.holds O.is_honest O.failures T.Reader openings.old openings.new count into.old into.new counts result
-        × IsTotal counts result × Writes (S.written out.old) (S.has_failed out.old) (S.written out.new) (S.has_failed out.new) (store_lines counts result) }
+        × IsTotal counts result × Prints S.Sink out.old out.new (store_lines counts result) }
     ensures keeps { KeepsMaps O.holds O.is_honest O.is_open openings.old openings.new }
     ensures honest { T.is_honest into.new → T.is_honest into.old }
     ensures open_if { T.is_open into.new → T.is_open into.old }

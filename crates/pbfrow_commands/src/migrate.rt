@@ -1,7 +1,8 @@
 //! The command `migrate`: what one store holds is copied into another.
 
 ghost use Rattle.std.specs.Prelude.{◌≡◌, Result};
-ghost use Rattle.osm_value.specs.Sink.{Writes, Wrote};
+ghost use Rattle.osm_value.specs.Sink.{Wrote};
+ghost use Rattle.osm_value.specs.Printing.{Prints};
 ghost use Rattle.osm_import.specs.Stores.{Stays};
 ghost use Rattle.osm_import.specs.declared.copy.CopyCounts.{CopyCounts as CopyCountsValue};
 ghost use Rattle.osm_import.specs.declared.copy.CopyStop.{CopyStop as CopyStopValue};
@@ -16,7 +17,7 @@ use std::alloc::Global;
 
 /// Writes `copied COPIED held HELD`.
 pub(crate) fn put_copied<S: Sink>(out: &mut S, counts: CopyCounts)
-    ensures { Writes (S.written out.old) (S.has_failed out.old) (S.written out.new) (S.has_failed out.new) (copied_line counts) }
+    ensures { Prints S.Sink out.old out.new (copied_line counts) }
 {
     put_total(out, b"copied ", counts.copied);
     put_total(out, b" held ", counts.held);
@@ -25,7 +26,7 @@ pub(crate) fn put_copied<S: Sink>(out: &mut S, counts: CopyCounts)
 
 /// Writes the line of what a copy came to, and answers the exit status.
 pub(crate) fn put_outcome<S: Sink>(out: &mut S, outcome: Result<CopyCounts, CopyStop>) -> u8
-    ensures line { Writes (S.written out.old) (S.has_failed out.old) (S.written out.new) (S.has_failed out.new) (outcome_line outcome) }
+    ensures line { Prints S.Sink out.old out.new (outcome_line outcome) }
     ensures status { result ≡ copy_status outcome (S.has_failed out.new) }
 {
     match outcome {

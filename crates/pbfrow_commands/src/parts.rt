@@ -1,7 +1,7 @@
 //! The commands `status` and `export` on several stores that hold blobs of one file.
 
 ghost use Rattle.std.specs.Prelude.{◌≡◌, List, IfOk, IfErr, length};
-ghost use Rattle.osm_value.specs.Sink.{Writes};
+ghost use Rattle.osm_value.specs.Printing.{Prints};
 ghost use Rattle.osm_store.specs.Held.{HeldMap};
 ghost use Rattle.osm_parts.specs.Opening.{KeepsMaps, OnlyOpens};
 ghost use Rattle.osm_parts.specs.PartsFaults.{IsOfMaps, PartsFaultHasCause};
@@ -20,7 +20,7 @@ use std::alloc::Global;
 
 /// Writes the line of what keeps stores from being read as one.
 pub(crate) fn put_parts_fault<S: Sink>(out: &mut S, fault: PartsFault)
-    ensures { Writes (S.written out.old) (S.has_failed out.old) (S.written out.new) (S.has_failed out.new) (parts_fault_line fault) }
+    ensures { Prints S.Sink out.old out.new (parts_fault_line fault) }
 {
     match fault {
         PartsFault::Interleaved(off) => put_fault_at(out, fault.number(), fault.name(), off),

@@ -1,6 +1,6 @@
 //! The last line of an import.
 
-ghost use Rattle.osm_value.specs.Sink.{Writes};
+ghost use Rattle.osm_value.specs.Printing.{Prints};
 ghost use Rattle.pbfrow_commands.specs.CommandLines.{summary_line};
 
 use osm_import::Summary;
@@ -9,7 +9,7 @@ use pbfrow_reading::check::put_total;
 
 /// Writes `blobs stored STORED held HELD bad BAD refused REFUSED`.
 pub(crate) fn put_summary<S: Sink>(out: &mut S, summary: &Summary)
-    ensures { Writes (S.written out.old) (S.has_failed out.old) (S.written out.new) (S.has_failed out.new) (summary_line summary.now) }
+    ensures { Prints S.Sink out.old out.new (summary_line summary.now) }
 {
     put_total(out, b"blobs stored ", summary.stored);
     put_total(out, b" held ", summary.held);

@@ -1,8 +1,9 @@
 //! The command `status`: the byte ranges that a store is missing.
 
 ghost use Rattle.std.specs.Prelude.{◌≡◌, ℕ, Option, IfOk, IfErr};
-ghost use Rattle.osm_value.specs.Sink.{Writes};
+ghost use Rattle.osm_value.specs.Printing.{Prints};
 ghost use Rattle.osm_store.specs.Held.{HeldMap, IsApart};
+ghost use Rattle.osm_store.specs.Calls.{OfHeld};
 ghost use Rattle.osm_store.specs.Keeping.{IsForeign, extents_of};
 ghost use Rattle.osm_import.specs.Step.{HasCause};
 ghost use Rattle.osm_import.specs.Stores.{Rereads, Stays};
@@ -47,9 +48,9 @@ fn survey<K: Reader>(
     store: &mut K,
     size: Option<u64>,
 ) -> Result<Holdings, StoreFault>
-    ensures told { (held : HeldMap) → K.holds store.old held → K.is_honest store.new → IfOk result (IsSurvey held size) }
+    ensures told { OfHeld K.Reader store.old store.new (λ held. IfOk result (IsSurvey held size)) }
     ensures rereads { Rereads K.Reader store.old result store.new }
-    ensures own { (held : HeldMap) → K.holds store.old held → K.is_honest store.new → IfErr result (λ fault. ¬ (IsForeign fault)) }
+    ensures own { OfHeld K.Reader store.old store.new (λ _. IfErr result (λ fault. ¬ (IsForeign fault))) }
     ensures cause { IfErr result (HasCause (K.failures store.old) (K.failures store.new)) }
 {
     let extents = store.extents(alloc)?;
@@ -59,7 +60,7 @@ fn survey<K: Reader>(
 
 /// Writes `gap FROM TO`.
 fn put_gap<S: Sink>(out: &mut S, from: u64, to: u64)
-    ensures { Writes (S.written out.old) (S.has_failed out.old) (S.written out.new) (S.has_failed out.new) (gap_line (from, to)) }
+    ensures { Prints S.Sink out.old out.new (gap_line (from, to)) }
 {
     put(out, b"gap ");
     put_digits(out, from);
@@ -70,7 +71,7 @@ fn put_gap<S: Sink>(out: &mut S, from: u64, to: u64)
 
 /// Writes a line for each gap.
 pub(crate) fn put_gaps<S: Sink>(out: &mut S, gaps: &[(u64, u64)])
-    ensures { Writes (S.written out.old) (S.has_failed out.old) (S.written out.new) (S.has_failed out.new) (gap_lines gaps.now) }
+    ensures { Prints S.Sink out.old out.new (gap_lines gaps.now) }
 {
     for (from, to) in gaps {
         put_gap(out, *from, *to);
@@ -79,7 +80,7 @@ pub(crate) fn put_gaps<S: Sink>(out: &mut S, gaps: &[(u64, u64)])
 
 /// Writes `blobs BLOBS end END gaps GAPS`.
 fn put_counts<S: Sink>(out: &mut S, blobs: u64, end: u64, gaps: u64)
-    ensures { Writes (S.written out.old) (S.has_failed out.old) (S.written out.new) (S.has_failed out.new) (counts_line blobs end gaps) }
+    ensures { Prints S.Sink out.old out.new (counts_line blobs end gaps) }
 {
     put_total(out, b"blobs ", blobs);
     put_total(out, b" end ", end);
@@ -111,8 +112,7 @@ pub fn status<K: Reader, S: Sink>(
     size: Option<u64>,
     out: &mut S,
 ) -> u8
-    ensures told { (held : HeldMap) → K.holds store.old held → K.is_honest store.new
-        → TellsStatus held size (K.failures store.old) (K.failures store.new) (S.written out.old) (S.written out.new) (S.has_failed out.new) result }
+    ensures told { OfHeld K.Reader store.old store.new (λ held. TellsStatus held size (K.failures store.old) (K.failures store.new) (S.written out.old) (S.written out.new) (S.has_failed out.new) result) }
     ensures stays { Stays K.Reader store.old store.new }
 {
     match survey(alloc, store, size) {

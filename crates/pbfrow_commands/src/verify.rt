@@ -3,10 +3,10 @@
 ghost use Rattle.std.specs.Prelude.{◌≡◌, ◌↔◌, ◌+◌, ◌-◌, ◌<◌, ◌≤◌, ◌++◌, ◌∷◌, [], filter, length, codes, true, ℕ, List, IsTrue, IfOk, IfErr, IfSome, OnOk, OnErr};
 ghost use Rattle.std.specs.Fmt.{decimal};
 ghost use Rattle.pbf_frame.specs.declared.part.TheConstants.{MAX_OFFSET as LAST};
-ghost use Rattle.osm_value.specs.Sink.{Writes};
+ghost use Rattle.osm_value.specs.Printing.{Prints};
 ghost use Rattle.osm_value.specs.declared.element.Element.{Element as ElementValue};
 ghost use Rattle.osm_store.specs.Audit.{AreCountable, ShowsCounts, counts_of as counts_of_rows, elements_held};
-ghost use Rattle.osm_store.specs.Held.{HeldMap};
+ghost use Rattle.osm_store.specs.Calls.{KeepsTables, OfHeld};
 ghost use Rattle.osm_store.specs.Keeping.{IsForeign, extents_of};
 ghost use Rattle.osm_import.specs.Files.{IsFile};
 ghost use Rattle.osm_reading.specs.Good.{IsFrame};
@@ -130,11 +130,10 @@ pub fn verify<K: Audited, R: Read, P: Watcher, W: Write>(
     watcher: &P,
     out: &mut Outlet<W>,
 ) -> u8
-    ensures verified { (held : HeldMap) → K.holds store.old held → K.is_honest store.new
-        → VerifiesInput depth held (R.remaining input.old) (W.contents out.old.writer) (W.contents out.new.writer) out.new.has_failed (K.failures store.old) (K.failures store.new) result }
+    ensures verified { OfHeld K.Reader store.old store.new (λ held. VerifiesInput depth held (R.remaining input.old) (W.contents out.old.writer) (W.contents out.new.writer) out.new.has_failed (K.failures store.old) (K.failures store.new) result) }
     // At 0 the input is a file of good blobs, and the store holds what an import of it comes to.
-    ensures exact { (held : HeldMap) → K.holds store.old held → K.is_honest store.new → result ≡ 0
-        → IfSome (R.remaining input.old) (λ bytes. (frames : List (List ℕ)) × IsFile bytes frames × IsExact depth held frames) }
+    ensures exact { OfHeld K.Reader store.old store.new (λ held. result ≡ 0
+        → IfSome (R.remaining input.old) (λ bytes. (frames : List (List ℕ)) × IsFile bytes frames × IsExact depth held frames)) }
     // At 0 by elements, whatever rows the tables have had: they are those that an import of the input writes (`has_rows`), and
     // no others, and queries see these. That leaves out an input of more rows than SQL can count.
     ensures shown { K.is_honest store.new → K.has_tables store.old → depth ≡ Depth.Elements → result ≡ 0
@@ -157,9 +156,8 @@ fn compare_blobs<K: Audited, R: Read, P: Watcher, W: Write>(
     out: &mut Outlet<W>,
 ) -> Close
     requires { counts.old ≡ counts_of [] 0 }
-    ensures told { (held : HeldMap) → K.holds store.old held → K.is_honest store.new
-        → (blobs : List (Part Compared)) × ComparesBlobs depth held (R.remaining input.old) (W.contents out.old.writer) (W.contents out.new.writer) out.new.has_failed (K.failures store.old) (K.failures store.new) blobs result
-        × (counts.new ≡ counts_of blobs 0) }
+    ensures told { OfHeld K.Reader store.old store.new (λ held. (blobs : List (Part Compared)) × ComparesBlobs depth held (R.remaining input.old) (W.contents out.old.writer) (W.contents out.new.writer) out.new.has_failed (K.failures store.old) (K.failures store.new) blobs result
+        × (counts.new ≡ counts_of blobs 0)) }
     ensures seen { K.is_honest store.new → K.has_tables store.old → HasSeenInput (K.has_rows (K.trees store.old)) K.layout (K.trees store.old) depth (R.remaining input.old) counts.new result }
     ensures stays { Stays K.Reader store.old store.new }
 {
@@ -200,11 +198,10 @@ fn close_whole<K: Audited>(
     rows: &Rows,
 ) -> Close
     requires { end ≤ LAST }
-    ensures extras { (held : HeldMap) → K.holds store.old held → K.is_honest store.new
-        → (depth ≡ Depth.Elements → agree counts.now ≡ true → filter (begins end LAST) (extents_of held) ≡ [] → rows.now ≡ counts_of_rows (elements_held held))
-        → IsClosing held end (K.failures store.old) (K.failures store.new) result }
+    ensures extras { OfHeld K.Reader store.old store.new (λ held. (depth ≡ Depth.Elements → agree counts.now ≡ true → filter (begins end LAST) (extents_of held) ≡ [] → rows.now ≡ counts_of_rows (elements_held held))
+        → IsClosing held end (K.failures store.old) (K.failures store.new) result) }
     ensures shown { K.is_honest store.new → HasCountedRows (K.is_open store.new) (K.has_tables store.old) K.layout (K.trees store.old) depth counts.now rows.now result }
-    ensures same { K.is_honest store.new → K.is_open store.new → K.same_tables store.old store.new }
+    ensures same { KeepsTables K.Reader store.old store.new }
     ensures stays { Stays K.Reader store.old store.new }
     ensures counted { K.failures store.old ≤ K.failures store.new }
 {
@@ -243,20 +240,19 @@ fn compare_blob<K: Audited, S: Sink>(
 ) -> Result<u64, StoreFault>
     requires frame { IsFrame bytes.now }
     requires limit { at + length bytes.now ≤ LAST }
-    ensures told { (held : HeldMap) → K.holds store.old held → K.is_honest store.new
-        → OnOk result ((p : Part Compared) × (p.bytes ≡ bytes.now) × IsPart p × HasCompared depth held at p
-        × Writes (S.written out.old) (S.has_failed out.old) (S.written out.new) (S.has_failed out.new) (compared_lines at p)
+    ensures told { OfHeld K.Reader store.old store.new (λ held. OnOk result ((p : Part Compared) × (p.bytes ≡ bytes.now) × IsPart p × HasCompared depth held at p
+        × Prints S.Sink out.old out.new (compared_lines at p)
         × ((blobs : List (Part Compared)) → counts.old ≡ counts_of blobs 0 → counts.new ≡ counts_of (blobs ++ p ∷ []) 0)
-        × CountsMore rows.old p.found.elements rows.new) }
+        × CountsMore rows.old p.found.elements rows.new)) }
     ensures seen { OnOk result ((p : Part Compared) × (p.bytes ≡ bytes.now) × IsPart p × HasOwnElements at p
         × ((blobs : List (Part Compared)) → counts.old ≡ counts_of blobs 0 → counts.new ≡ counts_of (blobs ++ p ∷ []) 0)
         × CountsMore rows.old p.found.elements rows.new
         × (K.is_honest store.new → K.is_open store.new → K.has_tables store.old → HasSeen (K.has_rows (K.trees store.old)) depth at p)) }
-    ensures same { K.is_honest store.new → K.is_open store.new → K.same_tables store.old store.new }
+    ensures same { KeepsTables K.Reader store.old store.new }
     ensures end { IfOk result (λ end. end ≡ at + length bytes.now) }
     ensures err { OnErr result ((out.new ≡ out.old) × (counts.new ≡ counts.old)) }
     ensures rereads { Rereads K.Reader store.old result store.new }
-    ensures own { (held : HeldMap) → K.holds store.old held → K.is_honest store.new → IfErr result (λ fault. ¬ (IsForeign fault)) }
+    ensures own { OfHeld K.Reader store.old store.new (λ _. IfErr result (λ fault. ¬ (IsForeign fault))) }
     ensures cause { IfErr result (HasCause (K.failures store.old) (K.failures store.new)) }
     ensures counted { K.failures store.old ≤ K.failures store.new }
 {
@@ -282,12 +278,11 @@ fn inspect<K: Audited>(
     requires frame { IsFrame bytes.now }
     requires limit { at + length bytes.now ≤ LAST }
     ensures found { IfOk result (λ finding. (elements : List ElementValue) × HasElements at bytes.now finding.verdict elements × CountsMore rows.old elements rows.new
-        × ((held : HeldMap) → K.holds store.old held → K.is_honest store.new
-        → IsCompared depth held at bytes.now (record { verdict = finding.verdict; extras = finding.extras.items; elements = elements }))
+        × (OfHeld K.Reader store.old store.new (λ held. IsCompared depth held at bytes.now (record { verdict = finding.verdict; extras = finding.extras.items; elements = elements })))
         × (K.is_honest store.new → K.is_open store.new → K.has_tables store.old → IsSeen (K.has_rows (K.trees store.old)) depth at bytes.now finding.verdict elements)) }
-    ensures same { K.is_honest store.new → K.is_open store.new → K.same_tables store.old store.new }
+    ensures same { KeepsTables K.Reader store.old store.new }
     ensures rereads { Rereads K.Reader store.old result store.new }
-    ensures own { (held : HeldMap) → K.holds store.old held → K.is_honest store.new → IfErr result (λ fault. ¬ (IsForeign fault)) }
+    ensures own { OfHeld K.Reader store.old store.new (λ _. IfErr result (λ fault. ¬ (IsForeign fault))) }
     ensures cause { IfErr result (HasCause (K.failures store.old) (K.failures store.new)) }
     ensures counted { K.failures store.old ≤ K.failures store.new }
 {
@@ -324,11 +319,11 @@ fn judge<K: Audited>(
 ) -> Result<Result<Agreement, Fault>, StoreFault>
     requires { IsFrame bytes.now }
     ensures judged { IfOk result (λ verdict. (elements : List ElementValue) × HasElements at bytes.now verdict elements × CountsMore rows.old elements rows.new
-        × ((held : HeldMap) → K.holds store.old held → K.is_honest store.new → IsComparison depth held at bytes.now verdict)
+        × (OfHeld K.Reader store.old store.new (λ held. IsComparison depth held at bytes.now verdict))
         × (K.is_honest store.new → K.is_open store.new → K.has_tables store.old → IsSeen (K.has_rows (K.trees store.old)) depth at bytes.now verdict elements)) }
-    ensures same { K.is_honest store.new → K.is_open store.new → K.same_tables store.old store.new }
+    ensures same { KeepsTables K.Reader store.old store.new }
     ensures rereads { Rereads K.Reader store.old result store.new }
-    ensures own { (held : HeldMap) → K.holds store.old held → K.is_honest store.new → IfErr result (λ fault. ¬ (IsForeign fault)) }
+    ensures own { OfHeld K.Reader store.old store.new (λ _. IfErr result (λ fault. ¬ (IsForeign fault))) }
     ensures cause { IfErr result (HasCause (K.failures store.old) (K.failures store.new)) }
     ensures counted { K.failures store.old ≤ K.failures store.new }
 {
@@ -350,7 +345,7 @@ fn judge<K: Audited>(
 
 /// Writes the line of a frame that doesn't agree, or that is bad.
 fn put_verdict<S: Sink>(out: &mut S, at: u64, verdict: Result<Agreement, Fault>)
-    ensures { Writes (S.written out.old) (S.has_failed out.old) (S.written out.new) (S.has_failed out.new) (comparison_line at verdict) }
+    ensures { Prints S.Sink out.old out.new (comparison_line at verdict) }
 {
     match verdict {
         Ok(agreement) => put_agreement(out, at, agreement),
@@ -360,7 +355,7 @@ fn put_verdict<S: Sink>(out: &mut S, at: u64, verdict: Result<Agreement, Fault>)
 
 /// Writes the line of a good frame that doesn't agree.
 fn put_agreement<S: Sink>(out: &mut S, at: u64, agreement: Agreement)
-    ensures { Writes (S.written out.old) (S.has_failed out.old) (S.written out.new) (S.has_failed out.new) (agreement_line at agreement) }
+    ensures { Prints S.Sink out.old out.new (agreement_line at agreement) }
 {
     match agreement {
         Agreement::Same => {}
@@ -371,7 +366,7 @@ fn put_agreement<S: Sink>(out: &mut S, at: u64, agreement: Agreement)
 
 /// Writes `LABEL OFFSET`.
 pub(crate) fn put_at<S: Sink>(out: &mut S, label: &[u8], off: u64)
-    ensures { Writes (S.written out.old) (S.has_failed out.old) (S.written out.new) (S.has_failed out.new) (label.now ++ decimal off ++ codes "\n") }
+    ensures { Prints S.Sink out.old out.new (label.now ++ decimal off ++ codes "\n") }
 {
     put(out, label);
     put_digits(out, off);
@@ -380,7 +375,7 @@ pub(crate) fn put_at<S: Sink>(out: &mut S, label: &[u8], off: u64)
 
 /// Writes `extra OFFSET` for each extent.
 fn put_extras<S: Sink>(out: &mut S, extras: &[Extent])
-    ensures { Writes (S.written out.old) (S.has_failed out.old) (S.written out.new) (S.has_failed out.new) (extra_lines extras.now) }
+    ensures { Prints S.Sink out.old out.new (extra_lines extras.now) }
 {
     for extent in extras {
         put_at(out, b"extra ", extent.off);
@@ -390,7 +385,7 @@ fn put_extras<S: Sink>(out: &mut S, extras: &[Extent])
 /// Writes what stands behind the lines of the blobs, and answers the exit status.
 fn finish<S: Sink>(out: &mut S, counts: &mut Counts, close: &Close) -> u8
     ensures line { (blobs : List (Part Compared)) → counts.old ≡ counts_of blobs 0
-        → Writes (S.written out.old) (S.has_failed out.old) (S.written out.new) (S.has_failed out.new) (close_text close.now blobs) }
+        → Prints S.Sink out.old out.new (close_text close.now blobs) }
     ensures status { (blobs : List (Part Compared)) → counts.old ≡ counts_of blobs 0 → result ≡ status_of (is_agreed close.now blobs) (S.has_failed out.new) }
     ensures whole { result ≡ 0 → is_whole close.now ≡ true }
     ensures unwritten { close.now ≡ Close.Unwritten → S.has_failed out.new ≡ S.has_failed out.old }
@@ -409,7 +404,7 @@ fn finish<S: Sink>(out: &mut S, counts: &mut Counts, close: &Close) -> u8
 /// its header, which is a fault. Answers the exit status.
 fn finish_whole<S: Sink>(out: &mut S, counts: &mut Counts, extras: &[Extent]) -> u8
     ensures line { (blobs : List (Part Compared)) → counts.old ≡ counts_of blobs 0
-        → Writes (S.written out.old) (S.has_failed out.old) (S.written out.new) (S.has_failed out.new) (header_line blobs ++ extra_lines extras.now ++ counts_line (counts_of blobs (length extras.now))) }
+        → Prints S.Sink out.old out.new (header_line blobs ++ extra_lines extras.now ++ counts_line (counts_of blobs (length extras.now))) }
     ensures status { (blobs : List (Part Compared)) → counts.old ≡ counts_of blobs 0 → result ≡ status_of (agree (counts_of blobs (length extras.now))) (S.has_failed out.new) }
 {
     put_lack(out, counts);
@@ -422,7 +417,7 @@ fn finish_whole<S: Sink>(out: &mut S, counts: &mut Counts, extras: &[Extent]) ->
 /// Writes the line of an input with no blob, which lacks its header.
 fn put_lack<S: Sink>(out: &mut S, counts: &Counts)
     ensures { (blobs : List (Part Compared)) → counts.now ≡ counts_of blobs 0
-        → Writes (S.written out.old) (S.has_failed out.old) (S.written out.new) (S.has_failed out.new) (header_line blobs) }
+        → Prints S.Sink out.old out.new (header_line blobs) }
 {
     if counts.blobs == 0 {
         let fault = Stop::NoHeaderFirst;
@@ -433,7 +428,7 @@ fn put_lack<S: Sink>(out: &mut S, counts: &Counts)
 /// Writes the line of what ended the frames early and, where that is a fault of a frame, the counts.
 fn finish_early<S: Sink>(out: &mut S, counts: &Counts, stop: StreamFault)
     ensures { (blobs : List (Part Compared)) → counts.now ≡ counts_of blobs 0
-        → Writes (S.written out.old) (S.has_failed out.old) (S.written out.new) (S.has_failed out.new) (close_text (Close.Early stop) blobs) }
+        → Prints S.Sink out.old out.new (close_text (Close.Early stop) blobs) }
 {
     put_stop(out, stop);
     if let Stop::Frame(_) = stop.fault {
@@ -443,7 +438,7 @@ fn finish_early<S: Sink>(out: &mut S, counts: &Counts, stop: StreamFault)
 
 /// Writes `blobs BLOBS missing MISSING differs DIFFERS extra EXTRA`.
 fn put_counts<S: Sink>(out: &mut S, counts: &Counts)
-    ensures { Writes (S.written out.old) (S.has_failed out.old) (S.written out.new) (S.has_failed out.new) (counts_line counts.now) }
+    ensures { Prints S.Sink out.old out.new (counts_line counts.now) }
 {
     put_total(out, b"blobs ", counts.blobs);
     put_total(out, b" missing ", counts.missing);

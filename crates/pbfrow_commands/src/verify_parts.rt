@@ -3,7 +3,7 @@
 ghost use Rattle.std.specs.Prelude.{◌≡◌, ◌++◌, List, codes, length, IfSome};
 ghost use Rattle.std.specs.Fmt.{decimal};
 ghost use Rattle.std.specs.List.{count_by};
-ghost use Rattle.osm_value.specs.Sink.{Writes};
+ghost use Rattle.osm_value.specs.Printing.{Prints};
 ghost use Rattle.osm_store.specs.Held.{HeldMap};
 ghost use Rattle.osm_parts.specs.Opening.{KeepsMaps};
 ghost use Rattle.osm_part_audits.specs.Together.{HoldFile};
@@ -24,7 +24,7 @@ use std::alloc::Global;
 
 /// Writes the line of a held blob that isn't one of the file.
 fn put_finding<S: Sink>(out: &mut S, finding: Finding)
-    ensures { Writes (S.written out.old) (S.has_failed out.old) (S.written out.new) (S.has_failed out.new) (finding_line finding) }
+    ensures { Prints S.Sink out.old out.new (finding_line finding) }
 {
     match finding {
         Finding::Differs(off) => put_at(out, b"differs ", off),
@@ -34,7 +34,7 @@ fn put_finding<S: Sink>(out: &mut S, finding: Finding)
 
 /// Writes a line for each of them.
 fn put_findings<S: Sink>(out: &mut S, findings: &[Finding])
-    ensures { Writes (S.written out.old) (S.has_failed out.old) (S.written out.new) (S.has_failed out.new) (finding_lines findings.now) }
+    ensures { Prints S.Sink out.old out.new (finding_lines findings.now) }
 {
     for finding in findings {
         put_finding(out, *finding);
@@ -66,7 +66,7 @@ fn count_others(findings: &[Finding]) -> u64
 
 /// Writes `blobs BLOBS gaps GAPS differs DIFFERS extra EXTRA`.
 fn put_counts<S: Sink>(out: &mut S, blobs: u64, gaps: u64, others: u64, extra: u64)
-    ensures { Writes (S.written out.old) (S.has_failed out.old) (S.written out.new) (S.has_failed out.new) (verdict_line blobs gaps others extra) }
+    ensures { Prints S.Sink out.old out.new (verdict_line blobs gaps others extra) }
 {
     put_total(out, b"blobs ", blobs);
     put_total(out, b" gaps ", gaps);
@@ -77,7 +77,7 @@ fn put_counts<S: Sink>(out: &mut S, blobs: u64, gaps: u64, others: u64, extra: u
 
 /// Writes all that is found: first the blobs, then the ranges that none covers, and last the counts.
 fn put_verdict<S: Sink>(out: &mut S, verdict: &Verdict)
-    ensures { Writes (S.written out.old) (S.has_failed out.old) (S.written out.new) (S.has_failed out.new) (verdict_text verdict.now) }
+    ensures { Prints S.Sink out.old out.new (verdict_text verdict.now) }
 {
     put_findings(out, &verdict.findings);
     put_gaps(out, &verdict.gaps);
@@ -88,7 +88,7 @@ fn put_verdict<S: Sink>(out: &mut S, verdict: &Verdict)
 
 /// Writes the line of what keeps stores from being compared with a file.
 fn put_audit_fault<S: Sink>(out: &mut S, fault: AuditFault)
-    ensures { Writes (S.written out.old) (S.has_failed out.old) (S.written out.new) (S.has_failed out.new) (audit_fault_line fault) }
+    ensures { Prints S.Sink out.old out.new (audit_fault_line fault) }
 {
     match fault {
         AuditFault::Unread(at) => put_stop(

@@ -3,7 +3,7 @@
 ghost use Rattle.std.specs.Prelude.{◌≡◌, ◌+◌, ◌&&◌, ℕ, List, [], ◌∷◌, ◌++◌, IfSome, OnOk, OnErr};
 ghost use Rattle.std.specs.Fmt.{decimal};
 ghost use Rattle.std.specs.Io.KnownBytes.{Appends};
-ghost use Rattle.osm_value.specs.Sink.{Writes};
+ghost use Rattle.osm_value.specs.Printing.{Prints};
 ghost use Rattle.osm_value.specs.declared.element.Element.{Element as ElementValue};
 ghost use Rattle.osm_reading.specs.Good.{IsFrame};
 ghost use Rattle.pbfrow_reading.specs.Checking.{ChecksInput, Passes, checked_line, check_end, counts_at_end, counts_of, some_good, tally, totals_line};
@@ -129,7 +129,7 @@ fn count_blob<S: Sink>(
     out: &mut S,
 ) -> Result<(), AllocError>
     requires { IsFrame bytes.now }
-    ensures ok { OnOk result ((p : Judged) × IsJudged at bytes.now p × Writes (S.written out.old) (S.has_failed out.old) (S.written out.new) (S.has_failed out.new) (checked_line at p)
+    ensures ok { OnOk result ((p : Judged) × IsJudged at bytes.now p × Prints S.Sink out.old out.new (checked_line at p)
         × ((blobs : List Judged) → counts.old ≡ counts_of blobs 0 → counts.new ≡ counts_of (blobs ++ p ∷ []) 0)) }
     ensures err { OnErr result ((out.new ≡ out.old) × (counts.new ≡ counts.old)) }
 {
@@ -152,7 +152,7 @@ fn count_blob<S: Sink>(
 /// Writes what stands behind the lines of the blobs, and answers the exit status.
 fn finish<S: Sink>(out: &mut S, counts: &mut Counts, ending: Ending) -> u8
     ensures line { (blobs : List Judged) → counts.old ≡ counts_of blobs 0
-        → Writes (S.written out.old) (S.has_failed out.old) (S.written out.new) (S.has_failed out.new) (check_end ending blobs) }
+        → Prints S.Sink out.old out.new (check_end ending blobs) }
     ensures status { (blobs : List Judged) → counts.old ≡ counts_of blobs 0 → result ≡ status_of (is_whole ending && some_good blobs) (S.has_failed out.new) }
     ensures unwritten { ending ≡ Ending.Unwritten → S.has_failed out.new ≡ S.has_failed out.old }
 {
@@ -170,7 +170,7 @@ fn finish<S: Sink>(out: &mut S, counts: &mut Counts, ending: Ending) -> u8
 /// status.
 fn finish_whole<S: Sink>(out: &mut S, counts: &mut Counts) -> u8
     ensures line { (blobs : List Judged) → counts.old ≡ counts_of blobs 0
-        → Writes (S.written out.old) (S.has_failed out.old) (S.written out.new) (S.has_failed out.new) (counts_at_end blobs) }
+        → Prints S.Sink out.old out.new (counts_at_end blobs) }
     ensures status { (blobs : List Judged) → counts.old ≡ counts_of blobs 0 → result ≡ status_of (some_good blobs) (S.has_failed out.new) }
 {
     if counts.blobs == 0 {
@@ -187,7 +187,7 @@ fn finish_whole<S: Sink>(out: &mut S, counts: &mut Counts) -> u8
 /// Writes the line of what ended the frames early and, where that is a fault of a frame, the counts with it.
 fn finish_early<S: Sink>(out: &mut S, counts: &mut Counts, stop: StreamFault)
     ensures { (blobs : List Judged) → counts.old ≡ counts_of blobs 0
-        → Writes (S.written out.old) (S.has_failed out.old) (S.written out.new) (S.has_failed out.new) (check_end (Ending.Early stop) blobs) }
+        → Prints S.Sink out.old out.new (check_end (Ending.Early stop) blobs) }
 {
     put_stop(out, stop);
     if let Stop::Frame(_) = stop.fault {
@@ -198,7 +198,7 @@ fn finish_early<S: Sink>(out: &mut S, counts: &mut Counts, stop: StreamFault)
 
 /// Writes `blobs BLOBS nodes NODES ways WAYS relations RELATIONS faults FAULTS`.
 fn put_totals<S: Sink>(out: &mut S, counts: &Counts)
-    ensures { Writes (S.written out.old) (S.has_failed out.old) (S.written out.new) (S.has_failed out.new) (totals_line counts.now) }
+    ensures { Prints S.Sink out.old out.new (totals_line counts.now) }
 {
     put_total(out, b"blobs ", counts.blobs);
     put_total(out, b" nodes ", counts.nodes);
@@ -210,7 +210,7 @@ fn put_totals<S: Sink>(out: &mut S, counts: &Counts)
 
 /// Writes a label and a count.
 pub fn put_total<S: Sink>(out: &mut S, label: &[u8], count: u64)
-    ensures { Writes (S.written out.old) (S.has_failed out.old) (S.written out.new) (S.has_failed out.new) (label.now ++ decimal count) }
+    ensures { Prints S.Sink out.old out.new (label.now ++ decimal count) }
 {
     put(out, label);
     put_digits(out, count);

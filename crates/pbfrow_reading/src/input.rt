@@ -2,7 +2,7 @@
 
 ghost use Rattle.std.specs.Prelude.{◌≡◌, ◌&&◌, true, false, length, Ok, OnOk, OnErr};
 ghost use Rattle.std.specs.Io.KnownBytes.{Keeps};
-ghost use Rattle.osm_value.specs.Sink.{Writes};
+ghost use Rattle.osm_value.specs.Printing.{Prints};
 ghost use Rattle.osm_reading.specs.Good.{IsFrame};
 ghost use Rattle.pbf_frame.specs.Frame as definitions;
 ghost use Rattle.pbf_frame.specs.View.{found};
@@ -49,7 +49,7 @@ impl Ending {
 /// Writes the line of an input that can't be opened: a read that failed at 0. Answers the exit status, 1, whether or not
 /// the line can be written.
 pub fn refuse_input<S: Sink>(out: &mut S) -> u8
-    ensures line { Writes (S.written out.old) (S.has_failed out.old) (S.written out.new) (S.has_failed out.new) (stop_line ReadFailed 0) }
+    ensures line { Prints S.Sink out.old out.new (stop_line ReadFailed 0) }
     ensures status { result ≡ 1 }
 {
     let fault = Stop::ReadFailed;
@@ -59,7 +59,7 @@ pub fn refuse_input<S: Sink>(out: &mut S) -> u8
 
 /// Writes the line of what ended an input early.
 pub fn put_stop<S: Sink>(out: &mut S, stop: StreamFault)
-    ensures { Writes (S.written out.old) (S.has_failed out.old) (S.written out.new) (S.has_failed out.new) (stop_line stop.fault stop.at) }
+    ensures { Prints S.Sink out.old out.new (stop_line stop.fault stop.at) }
 {
     put_fault_at(out, stop.number(), stop.name(), stop.at);
 }
@@ -107,7 +107,7 @@ pub fn status<S: Sink>(out: &S, is_well: bool) -> u8
 /// Writes the line of what ended the frames early, if anything did. Answers the exit status: 0 if nothing did, all was
 /// well before, and the output hasn't failed.
 pub(crate) fn finish<S: Sink>(out: &mut S, ending: Ending, is_well: bool) -> u8
-    ensures line { Writes (S.written out.old) (S.has_failed out.old) (S.written out.new) (S.has_failed out.new) (ending_line ending) }
+    ensures line { Prints S.Sink out.old out.new (ending_line ending) }
     ensures status { result ≡ status_of (is_whole ending && is_well) (S.has_failed out.new) }
     ensures unwritten { ending ≡ Ending.Unwritten → S.has_failed out.new ≡ S.has_failed out.old }
 {

@@ -4,7 +4,7 @@ ghost use Rattle.std.specs.Prelude.{◌≡◌, ◌<◌, List, ℕ, true, IfSome}
 ghost use Rattle.std.specs.List.{flat_map};
 ghost use Rattle.std.specs.Io.KnownBytes.{Appends};
 ghost use Rattle.osm_value.specs.Escape.{hex_digit};
-ghost use Rattle.osm_value.specs.Sink.{Writes};
+ghost use Rattle.osm_value.specs.Printing.{Prints};
 ghost use Rattle.pbfrow_reading.specs.Listing.{HasAny, Lists, ListsInput, Plain, byte_text, frame_line, listed_line};
 ghost use Rattle.pbfrow_reading.specs.Walks.{TellsFrames};
 
@@ -49,7 +49,7 @@ fn list_frames<R: Read, W: Write>(alloc: Global, input: &mut R, out: &mut Outlet
 
 /// Writes `OFFSET TYPE DATASIZE`.
 fn put_frame<S: Sink>(out: &mut S, at: u64, frame: &Frame)
-    ensures { Writes (S.written out.old) (S.has_failed out.old) (S.written out.new) (S.has_failed out.new) (frame_line at frame.now.type_name.now frame.now.blob.now) }
+    ensures { Prints S.Sink out.old out.new (frame_line at frame.now.type_name.now frame.now.blob.now) }
 {
     put_digits(out, at);
     put(out, b" ");
@@ -61,7 +61,7 @@ fn put_frame<S: Sink>(out: &mut S, at: u64, frame: &Frame)
 
 /// Writes a type; each byte below 33 or above 126, and `%`, is `%` and two upper-case hexadecimal digits.
 pub(crate) fn put_type<S: Sink>(out: &mut S, type_name: &[u8])
-    ensures { Writes (S.written out.old) (S.has_failed out.old) (S.written out.new) (S.has_failed out.new) (flat_map byte_text type_name.now) }
+    ensures { Prints S.Sink out.old out.new (flat_map byte_text type_name.now) }
 {
     for byte in type_name {
         put_byte(out, *byte);
@@ -70,7 +70,7 @@ pub(crate) fn put_type<S: Sink>(out: &mut S, type_name: &[u8])
 
 /// Writes a byte of a type as it stands, or as `%` and two digits.
 fn put_byte<S: Sink>(out: &mut S, byte: u8)
-    ensures { Writes (S.written out.old) (S.has_failed out.old) (S.written out.new) (S.has_failed out.new) (byte_text byte) }
+    ensures { Prints S.Sink out.old out.new (byte_text byte) }
 {
     if byte < 33 || byte > 126 || byte == b'%' {
         put(out, &[b'%', hex_digit(byte / 16), hex_digit(byte % 16)]);

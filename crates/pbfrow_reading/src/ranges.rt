@@ -2,7 +2,7 @@
 
 ghost use Rattle.std.specs.Prelude.{◌≡◌, ◌<◌, List, false, IfOk, IfErr, IfSome};
 ghost use Rattle.std.specs.Io.KnownBytes.{Appends};
-ghost use Rattle.osm_value.specs.Sink.{Writes};
+ghost use Rattle.osm_value.specs.Printing.{Prints};
 ghost use Rattle.pbf_ranges.specs.Cutting.{AreEnds, AreRanges};
 ghost use Rattle.pbf_ranges.specs.declared.Range.{Range as RangeValue};
 ghost use Rattle.pbfrow_reading.specs.Listing.{HasAny, Plain};
@@ -60,7 +60,7 @@ fn cut<R: Read>(alloc: Global, input: &mut R, count: u64) -> Result<Vec<Range>, 
 
 /// Writes `FROM TO`.
 fn put_range<S: Sink>(out: &mut S, range: Range)
-    ensures { Writes (S.written out.old) (S.has_failed out.old) (S.written out.new) (S.has_failed out.new) (range_line range) }
+    ensures { Prints S.Sink out.old out.new (range_line range) }
 {
     put_digits(out, range.from);
     put(out, b" ");
@@ -70,7 +70,7 @@ fn put_range<S: Sink>(out: &mut S, range: Range)
 
 /// Writes a line for each range.
 fn put_ranges<S: Sink>(out: &mut S, ranges: &[Range])
-    ensures { Writes (S.written out.old) (S.has_failed out.old) (S.written out.new) (S.has_failed out.new) (range_lines ranges.now) }
+    ensures { Prints S.Sink out.old out.new (range_lines ranges.now) }
 {
     for range in ranges {
         put_range(out, *range);

@@ -5,7 +5,7 @@ ghost use Rattle.std.specs.List.{flat_map};
 ghost use Rattle.std.specs.Option.{option_copied};
 ghost use Rattle.osm_block.specs.HeaderTexts.{texts_left};
 ghost use Rattle.osm_value.specs.Line.{line};
-ghost use Rattle.osm_value.specs.Sink.{Writes};
+ghost use Rattle.osm_value.specs.Printing.{Prints};
 ghost use Rattle.osm_reading.specs.Good.{IsFrame};
 ghost use Rattle.pbfrow_reading.specs.Listing.{Plain};
 ghost use Rattle.pbfrow_reading.specs.Showing.{ShowsBlobs, ShowsInput, blob_line, box_line, content_lines, header_lines, number_line, of_option, shown_lines, text_line};
@@ -66,8 +66,8 @@ fn show_blobs<R: Read, W: Write>(
 /// Where memory is refused, nothing follows the line.
 fn show_blob<S: Sink>(alloc: Global, at: u64, bytes: &[u8], out: &mut S) -> Result<bool, AllocError>
     requires { IsFrame bytes.now }
-    ensures ok { IfOk result (λ is_good. (p : Judged) × IsJudged at bytes.now p × Writes (S.written out.old) (S.has_failed out.old) (S.written out.new) (S.has_failed out.new) (shown_lines at p) × (is_good ≡ is_ok p.found)) }
-    ensures err { OnErr result ((p : Plain) × (p.bytes ≡ bytes.now) × IsPart p × Writes (S.written out.old) (S.has_failed out.old) (S.written out.new) (S.has_failed out.new) (blob_line at p.type_name (length p.bytes))) }
+    ensures ok { IfOk result (λ is_good. (p : Judged) × IsJudged at bytes.now p × Prints S.Sink out.old out.new (shown_lines at p) × (is_good ≡ is_ok p.found)) }
+    ensures err { OnErr result ((p : Plain) × (p.bytes ≡ bytes.now) × IsPart p × Prints S.Sink out.old out.new (blob_line at p.type_name (length p.bytes))) }
 {
     let frame = frame_of(bytes);
     put_blob(out, at, &frame);
@@ -86,7 +86,7 @@ fn show_blob<S: Sink>(alloc: Global, at: u64, bytes: &[u8], out: &mut S) -> Resu
 
 /// Writes `blob OFFSET TYPE LENGTH`.
 fn put_blob<S: Sink>(out: &mut S, at: u64, frame: &Frame)
-    ensures { Writes (S.written out.old) (S.has_failed out.old) (S.written out.new) (S.has_failed out.new) (blob_line at frame.now.type_name.now frame.now.length) }
+    ensures { Prints S.Sink out.old out.new (blob_line at frame.now.type_name.now frame.now.length) }
 {
     put(out, b"blob ");
     put_digits(out, at);
@@ -99,7 +99,7 @@ fn put_blob<S: Sink>(out: &mut S, at: u64, frame: &Frame)
 
 /// Writes the lines of a good blob.
 fn put_content<S: Sink>(out: &mut S, good: &Good)
-    ensures { Writes (S.written out.old) (S.has_failed out.old) (S.written out.new) (S.has_failed out.new) (content_lines good.now.header good.now.elements.items) }
+    ensures { Prints S.Sink out.old out.new (content_lines good.now.header good.now.elements.items) }
 {
     match &good.header {
         Some(header) => put_header(out, header),
@@ -109,7 +109,7 @@ fn put_content<S: Sink>(out: &mut S, good: &Good)
 
 /// Writes a header block, a line for each field that is there.
 fn put_header<S: Sink>(out: &mut S, header: &HeaderBlock)
-    ensures { Writes (S.written out.old) (S.has_failed out.old) (S.written out.new) (S.has_failed out.new) (header_lines header.now) }
+    ensures { Prints S.Sink out.old out.new (header_lines header.now) }
 {
     put_box(out, header.bbox());
     put_texts(out, b"required ", header.required());
@@ -123,7 +123,7 @@ fn put_header<S: Sink>(out: &mut S, header: &HeaderBlock)
 
 /// Writes `bbox LEFT RIGHT TOP BOTTOM` of a box that is there.
 fn put_box<S: Sink>(out: &mut S, bbox: Option<BBox>)
-    ensures { Writes (S.written out.old) (S.has_failed out.old) (S.written out.new) (S.has_failed out.new) (of_option box_line bbox) }
+    ensures { Prints S.Sink out.old out.new (of_option box_line bbox) }
 {
     let Some(bbox) = bbox else {
         return;
@@ -141,7 +141,7 @@ fn put_box<S: Sink>(out: &mut S, bbox: Option<BBox>)
 
 /// Writes a line for each text.
 fn put_texts<S: Sink>(out: &mut S, label: &[u8], texts: Texts)
-    ensures { Writes (S.written out.old) (S.has_failed out.old) (S.written out.new) (S.has_failed out.new) (flat_map (text_line label.now) (texts_left texts.entry)) }
+    ensures { Prints S.Sink out.old out.new (flat_map (text_line label.now) (texts_left texts.entry)) }
 {
     for text in texts {
         put_text(out, label, text);
@@ -150,7 +150,7 @@ fn put_texts<S: Sink>(out: &mut S, label: &[u8], texts: Texts)
 
 /// Writes the line of a text that is there.
 fn put_optional_text<S: Sink>(out: &mut S, label: &[u8], text: Option<&str>)
-    ensures { Writes (S.written out.old) (S.has_failed out.old) (S.written out.new) (S.has_failed out.new) (of_option (text_line label.now) (option_copied text.entry)) }
+    ensures { Prints S.Sink out.old out.new (of_option (text_line label.now) (option_copied text.entry)) }
 {
     let Some(text) = text else {
         return;
@@ -160,7 +160,7 @@ fn put_optional_text<S: Sink>(out: &mut S, label: &[u8], text: Option<&str>)
 
 /// Writes a label and a text, escaped as in the line of an element.
 fn put_text<S: Sink>(out: &mut S, label: &[u8], text: &str)
-    ensures { Writes (S.written out.old) (S.has_failed out.old) (S.written out.new) (S.has_failed out.new) (text_line label.now text.now) }
+    ensures { Prints S.Sink out.old out.new (text_line label.now text.now) }
 {
     put(out, label);
     put_escaped(out, text);
@@ -169,7 +169,7 @@ fn put_text<S: Sink>(out: &mut S, label: &[u8], text: &str)
 
 /// Writes a label and a number that is there.
 fn put_optional_number<S: Sink>(out: &mut S, label: &[u8], number: Option<i64>)
-    ensures { Writes (S.written out.old) (S.has_failed out.old) (S.written out.new) (S.has_failed out.new) (of_option (number_line label.now) number) }
+    ensures { Prints S.Sink out.old out.new (of_option (number_line label.now) number) }
 {
     let Some(number) = number else {
         return;
@@ -181,7 +181,7 @@ fn put_optional_number<S: Sink>(out: &mut S, label: &[u8], number: Option<i64>)
 
 /// Writes a line for each element.
 fn put_elements<S: Sink>(out: &mut S, elements: &[Element])
-    ensures { Writes (S.written out.old) (S.has_failed out.old) (S.written out.new) (S.has_failed out.new) (flat_map line elements.now) }
+    ensures { Prints S.Sink out.old out.new (flat_map line elements.now) }
 {
     for element in elements {
         let _written = write_line(element, out);

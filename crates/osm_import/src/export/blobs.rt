@@ -3,6 +3,7 @@
 ghost use Rattle.std.specs.Prelude.{◌≡◌, ◌≤◌, false, Some, Err, IfOk, IfErr, OnOk};
 ghost use Rattle.std.specs.FinMap.{get, entries};
 ghost use Rattle.osm_store.specs.Held.{Blob, HeldMap};
+ghost use Rattle.osm_store.specs.Calls.{OfHeld};
 ghost use Rattle.osm_store.specs.Keeping.{extents_of};
 ghost use Rattle.osm_import.specs.Gaps.{Tiles};
 ghost use Rattle.osm_import.specs.Exports.{size_of, IsUnbegun};
@@ -35,11 +36,11 @@ pub(super) fn extents_to_export<K: Reader>(
     size: Option<u64>,
     partial: bool,
 ) -> Result<Vec<Extent>, ExportFault>
-    ensures all { (held : HeldMap) → K.holds keeper.old held → K.is_honest keeper.new → IfOk result (λ extents. extents.items ≡ extents_of held) }
-    ensures tiled { (held : HeldMap) → K.holds keeper.old held → K.is_honest keeper.new → partial ≡ false → OnOk result (Tiles held (size_of size (extents_of held))) }
-    ensures refused { (held : HeldMap) → K.holds keeper.old held → K.is_honest keeper.new → IfErr result (IsUnbegun held (size_of size (extents_of held)) partial) }
+    ensures all { OfHeld K.Reader keeper.old keeper.new (λ held. IfOk result (λ extents. extents.items ≡ extents_of held)) }
+    ensures tiled { OfHeld K.Reader keeper.old keeper.new (λ held. partial ≡ false → OnOk result (Tiles held (size_of size (extents_of held)))) }
+    ensures refused { OfHeld K.Reader keeper.old keeper.new (λ held. IfErr result (IsUnbegun held (size_of size (extents_of held)) partial)) }
     ensures rereads { Rereads K.Reader keeper.old result keeper.new }
-    ensures own { (held : HeldMap) → K.holds keeper.old held → K.is_honest keeper.new → IfErr result (λ fault. ExportIsOwn (Err fault)) }
+    ensures own { OfHeld K.Reader keeper.old keeper.new (λ _. IfErr result (λ fault. ExportIsOwn (Err fault))) }
     ensures cause { IfErr result (λ fault. ExportHasCause (K.failures keeper.old) (K.failures keeper.new) false (Err fault)) }
     ensures counted { K.failures keeper.old ≤ K.failures keeper.new }
 {
@@ -63,7 +64,7 @@ fn write_blob<K: Reader, S: Sink, W: BlobStep<S>>(
     ensures wrote { (held : HeldMap) (blob : Blob) → K.holds keeper.old held → K.is_honest keeper.new → get held off ≡ Some blob
         → WritesOne W.writes (S.written out.old) blob.elements (S.written out.new) result }
     ensures rereads { Rereads K.Reader keeper.old result keeper.new }
-    ensures own { (held : HeldMap) → K.holds keeper.old held → K.is_honest keeper.new → ExportIsOwn result }
+    ensures own { OfHeld K.Reader keeper.old keeper.new (λ _. ExportIsOwn result) }
     ensures cause { ExportHasCause (K.failures keeper.old) (K.failures keeper.new) (S.has_failed out.new) result }
     ensures counted { K.failures keeper.old ≤ K.failures keeper.new }
 {
@@ -84,7 +85,7 @@ pub fn write_blobs<K: Reader, S: Sink, W: BlobStep<S>>(
     ensures wrote { (held run : HeldMap) → K.holds keeper.old held → K.is_honest keeper.new → IsWithin run held → extents.now ≡ extents_of run
         → Walks W.writes (S.written out.old) (entries run) (S.written out.new) result }
     ensures rereads { Rereads K.Reader keeper.old result keeper.new }
-    ensures own { (held : HeldMap) → K.holds keeper.old held → K.is_honest keeper.new → ExportIsOwn result }
+    ensures own { OfHeld K.Reader keeper.old keeper.new (λ _. ExportIsOwn result) }
     ensures cause { ExportHasCause (K.failures keeper.old) (K.failures keeper.new) (S.has_failed out.new) result }
     ensures counted { K.failures keeper.old ≤ K.failures keeper.new }
 {

@@ -4,6 +4,7 @@ ghost use Rattle.std.specs.Prelude.{ℕ, List, OnOk, OnErr, IsTrue, length};
 ghost use Rattle.std.specs.Io.KnownBytes.{Appends};
 ghost use Rattle.osm_value.specs.Sink.{AppendsFront};
 ghost use Rattle.osm_store.specs.Held.{HeldMap};
+ghost use Rattle.osm_store.specs.Calls.{OfHeld};
 ghost use Rattle.osm_store.specs.Keeping.{extents_of};
 ghost use Rattle.osm_import.specs.Gaps.{Tiles};
 ghost use Rattle.osm_import.specs.Files.{IsFile, IsHeldOfFile};
@@ -59,15 +60,14 @@ pub fn export_lines<K: Reader, S: Sink>(
     partial: bool,
     out: &mut S,
 ) -> Result<(), ExportFault>
-    ensures export { (held : HeldMap) → K.holds keeper.old held → K.is_honest keeper.new
-        → IsExport held (size_of size (extents_of held)) partial (S.written out.old) (S.written out.new) result }
+    ensures export { OfHeld K.Reader keeper.old keeper.new (λ held. IsExport held (size_of size (extents_of held)) partial (S.written out.old) (S.written out.new) result) }
 
     // Over a map that tiles a file, with its size or with none, it isn't refused, and writes the lines of the file's elements.
     ensures one_file { (held : HeldMap) (file : List ℕ) (frames : List (List ℕ)) → K.holds keeper.old held → K.is_honest keeper.new
         → IsFile file frames → IsHeldOfFile frames held → Tiles held (length file) → IsAskedFor size (length file) → WritesFile frames (S.written out.old) (S.written out.new) result }
 
     ensures rereads { Rereads K.Reader keeper.old result keeper.new }
-    ensures own { (held : HeldMap) → K.holds keeper.old held → K.is_honest keeper.new → ExportIsOwn result }
+    ensures own { OfHeld K.Reader keeper.old keeper.new (λ _. ExportIsOwn result) }
     ensures cause { ExportHasCause (K.failures keeper.old) (K.failures keeper.new) (S.has_failed out.new) result }
 {
     let extents = extents_to_export(alloc, keeper, size, partial)?;

@@ -4,6 +4,7 @@ ghost use Rattle.std.specs.Prelude.{◌≢◌, ◌≤◌, ℕ, List, length};
 ghost use Rattle.pbf_frame.specs.declared.kind.Kind.TheVariants.{Other};
 ghost use Rattle.pbf_frame.specs.Write.{frame_bytes, type_name_of};
 ghost use Rattle.osm_store.specs.Held.{HeldMap};
+ghost use Rattle.osm_store.specs.Calls.{OfHeld};
 ghost use Rattle.osm_store.specs.Keeping.{extents_of};
 ghost use Rattle.osm_import.specs.Gaps.{Tiles};
 ghost use Rattle.osm_import.specs.Files.{IsFile, IsHeldOfFile};
@@ -109,15 +110,14 @@ pub fn export_pbf<K: Reader, S: Sink>(
     partial: bool,
     out: &mut S,
 ) -> Result<(), ExportFault>
-    ensures export { (held : HeldMap) → K.holds keeper.old held → K.is_honest keeper.new
-        → IsPbfExport held (size_of size (extents_of held)) partial (S.written out.old) (S.written out.new) result }
+    ensures export { OfHeld K.Reader keeper.old keeper.new (λ held. IsPbfExport held (size_of size (extents_of held)) partial (S.written out.old) (S.written out.new) result) }
 
     // Over a map that tiles a file, with its size or with none, it isn't refused, and writes a file of the same elements.
     ensures one_file { (held : HeldMap) (file : List ℕ) (frames : List (List ℕ)) → K.holds keeper.old held → K.is_honest keeper.new
         → IsFile file frames → IsHeldOfFile frames held → Tiles held (length file) → IsAskedFor size (length file) → WritesPbfFile frames (S.written out.old) (S.written out.new) result }
 
     ensures rereads { Rereads K.Reader keeper.old result keeper.new }
-    ensures own { (held : HeldMap) → K.holds keeper.old held → K.is_honest keeper.new → ExportIsOwn result }
+    ensures own { OfHeld K.Reader keeper.old keeper.new (λ _. ExportIsOwn result) }
     ensures cause { ExportHasCause (K.failures keeper.old) (K.failures keeper.new) (S.has_failed out.new) result }
 {
     let extents = extents_to_export(alloc, keeper, size, partial)?;

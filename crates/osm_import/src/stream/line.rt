@@ -2,7 +2,8 @@
 
 ghost use Rattle.std.specs.Prelude.{◌≡◌, ◌++◌, OnOk, OnErr, IsTrue};
 ghost use Rattle.std.specs.Io.KnownBytes.{Appends};
-ghost use Rattle.osm_value.specs.Sink.{AppendsFront, Writes};
+ghost use Rattle.osm_value.specs.Sink.{AppendsFront};
+ghost use Rattle.osm_value.specs.Printing.{Prints};
 ghost use Rattle.osm_import.specs.Lines.{answer_line, stored_line, held_line};
 
 use crate::answer::Answer;
@@ -11,7 +12,7 @@ use osm_value::{Sink, put, put_digits};
 
 /// Writes `OFFSET stored COUNT`.
 fn put_stored<S: Sink>(out: &mut S, off: u64, count: u64)
-    ensures { Writes (S.written out.old) (S.has_failed out.old) (S.written out.new) (S.has_failed out.new) (stored_line off count) }
+    ensures { Prints S.Sink out.old out.new (stored_line off count) }
 {
     put_digits(out, off);
     put(out, b" stored ");
@@ -21,7 +22,7 @@ fn put_stored<S: Sink>(out: &mut S, off: u64, count: u64)
 
 /// Writes `OFFSET held`.
 fn put_held<S: Sink>(out: &mut S, off: u64)
-    ensures { Writes (S.written out.old) (S.has_failed out.old) (S.written out.new) (S.has_failed out.new) (held_line off) }
+    ensures { Prints S.Sink out.old out.new (held_line off) }
 {
     put_digits(out, off);
     put(out, b" held\n");
@@ -29,7 +30,7 @@ fn put_held<S: Sink>(out: &mut S, off: u64)
 
 /// Writes the line of an answered blob, and none for a fault of the store.
 fn put_answer<S: Sink>(out: &mut S, off: u64, answer: &Answer)
-    ensures { Writes (S.written out.old) (S.has_failed out.old) (S.written out.new) (S.has_failed out.new) (answer_line off answer.now) }
+    ensures { Prints S.Sink out.old out.new (answer_line off answer.now) }
 {
     match answer {
         Answer::Stored(count) => put_stored(out, off, *count),
