@@ -43,6 +43,7 @@ case $1 in
 version) cat "$STUB_KIT"; exit ;;
 ci)
   echo "begin gate" >> "$STUB_STEPS"
+  echo "tasks ${RT_JOBS:-as rt plans}" >> "$STUB_STEPS"
   sleep "$STUB_SECONDS"
   for it in pbfrow pbfrow_reader; do
     rm -rf "crates/$it/out" && mkdir "crates/$it/out"
@@ -263,6 +264,20 @@ began gate
 echo "// meanwhile" >> repository/crates/right/src/lib.rt
 wait $!
 repository/pbfrow --is-current && fail "unless a source has changed since it began" || pass "unless a source has changed since it began"
+
+# where the machine holds more than two, the gate says how many tasks run at a time, unless that is said already
+: > steps.txt
+repository/gate/run > got.txt 2> said.txt
+grep -qx "tasks 4" steps.txt && pass "the gate has as many tasks at a time as RT_JOBS says" || fail "the gate has as many tasks at a time as RT_JOBS says"
+: > steps.txt
+env -u RT_JOBS repository/gate/run > got.txt 2> said.txt
+tasks=$(sed -n 's/^tasks //p' steps.txt)
+if [ "$tasks" = "as rt plans" ] || { [ "$tasks" -gt 2 ] && [ "$tasks" -le "$(nproc)" ]; }; then
+  pass "or three or more, up to one for each processor, or as rt plans"
+else
+  fail "or three or more, up to one for each processor, or as rt plans"
+  echo "  tasks $tasks"
+fi
 
 # the two real programs, of which the gate leaves the small one, too
 PATH=$path_without_stub
