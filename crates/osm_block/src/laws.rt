@@ -1,6 +1,6 @@
 //! What holds of the definitions, over all inputs.
 
-ghost use Rattle.std.specs.Prelude.{◌≡◌, ◌↔◌, ℕ, ℤ, List, length, Some, None};
+ghost use Rattle.std.specs.Prelude.{◌≡◌, ◌≢◌, ◌↔◌, ℕ, ℤ, List, [], length, Some, None};
 ghost use Rattle.std.specs.List.{AllByRecursion};
 ghost use Rattle.osm_value.specs.declared.element.Element.{Element};
 ghost use Rattle.osm_value.specs.Elements.{info_of_element};
@@ -42,4 +42,9 @@ pub fn faultless_blocks_say()
 /// A block of which no info has a flag of visibility says elements without one.
 pub fn blocks_without_flags_say_none()
     ensures { (es : List Element) (w : List ℕ) → Block es w → HasNoFlags w → AllByRecursion (λ e. (info_of_element e).visible ≡ None) es }
+{}
+
+/// There is a block with elements of which no info has such a flag.
+pub fn some_block_has_no_flags()
+    ensures { (es : List Element) × (w : List ℕ) × (es ≢ []) × Block es w × HasNoFlags w }
 {}
