@@ -5,3 +5,4 @@ pub mod Walking
 pub mod Indexes
 pub mod Strays
 pub mod Looks
+pub mod Looking

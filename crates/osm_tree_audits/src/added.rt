@@ -1,9 +1,9 @@
 //! Whether each index that somebody has added to the tables of a store has one entry for each row of its table, and no other.
 
 ghost use Rattle.std.specs.Prelude.{◌≡◌, ◌<◌, false, length, slice_get, Some, IfSome, IfOk, IfErr, OnOk, MatchOption};
-ghost use Rattle.sqlite_trees.specs.View.{IsClean, IsQuiet};
-ghost use Rattle.sqlite_exec.specs.Calls.{OnlyReads};
+ghost use Rattle.sqlite_trees.specs.View.{IsClean};
 ghost use Rattle.osm_store.specs.Keeping.{IsForeign};
+ghost use Rattle.osm_tree_audits.specs.Looking.{Looks};
 ghost use Rattle.osm_tree_audits.specs.Indexes.{AreWhole, IsWholeAdded};
 
 use crate::indexes::is_indexed;
@@ -28,9 +28,8 @@ pub fn faulty_added_index<S: Store>(
         → MatchOption found (AreWhole (S.Store.view store.old).trees indexes.now) (λ at. (index : _) → slice_get indexes.now at ≡ Some index → ¬ (IsWholeAdded (S.Store.view store.old).trees index))) }
     ensures within { IfOk result (λ found. IfSome found (λ at. at < length indexes.now)) }
     ensures sound { OnOk result (IsClean (S.Store.view store.new) → (S.Store.view store.new).is_broken ≡ false) }
-    ensures reads { IsClean (S.Store.view store.new) → (S.Store.view store.new).is_broken ≡ false → OnlyReads (S.Store.view store.old) (S.Store.view store.new) }
     ensures ours { IfErr result (λ fault. ¬ (IsForeign fault)) }
-    ensures quiet { IsQuiet S.Store.view S.Store.faults S.Store.recovers S.Store.is_shielded store.old store.new }
+    ensures looks { Looks S.Store store.old store.new }
 {
     if store.is_broken() {
         return Err(StoreFault::Disk);

@@ -1,11 +1,11 @@
 //! How many rows the tables of a store have.
 
 ghost use Rattle.std.specs.Prelude.{◌≡◌, ◌↔◌, ◌<◌, ◌-◌, ◌^◌, false, length, IsTrue, IfOk, IfErr, OnOk};
-ghost use Rattle.sqlite_trees.specs.View.{IsClean, IsQuiet};
-ghost use Rattle.sqlite_exec.specs.Calls.{OnlyReads};
+ghost use Rattle.sqlite_trees.specs.View.{IsClean};
 ghost use Rattle.osm_store.specs.Audit.{HasCount, ShowsCounts};
 ghost use Rattle.osm_store.specs.declared.schema.layout.Layout.TheVariants.{Tables};
 ghost use Rattle.osm_store.specs.Keeping.{IsForeign};
+ghost use Rattle.osm_tree_audits.specs.Looking.{Looks};
 ghost use Rattle.osm_tree_audits.specs.Looks.{IsCount, IsLook};
 
 use crate::look::Look;
@@ -23,9 +23,8 @@ const MOST_ROWS: u64 = 9_223_372_036_854_775_807;
 pub(crate) fn count<S: Store>(alloc: Global, store: &mut S, tree: u32) -> Result<u64, StoreFault>
     ensures count { IfOk result (λ n. IsClean (S.Store.view store.new) → n ≡ length ((S.Store.view store.old).trees tree)) }
     ensures sound { OnOk result (IsClean (S.Store.view store.new) → (S.Store.view store.new).is_broken ≡ false) }
-    ensures reads { IsClean (S.Store.view store.new) → (S.Store.view store.new).is_broken ≡ false → OnlyReads (S.Store.view store.old) (S.Store.view store.new) }
     ensures ours { IfErr result (λ fault. ¬ (IsForeign fault)) }
-    ensures quiet { IsQuiet S.Store.view S.Store.faults S.Store.recovers S.Store.is_shielded store.old store.new }
+    ensures looks { Looks S.Store store.old store.new }
 {
     let mut row = Row::new(alloc);
     if let Err(error) = store.seek(0, tree, &row, Direction::Forward) {
@@ -60,9 +59,8 @@ fn has_count<S: Store>(
 ) -> Result<bool, StoreFault>
     ensures told { IfOk result (λ told. IsClean (S.Store.view store.new) → (IsTrue told ↔ HasCount ((S.Store.view store.old).trees tree) expected)) }
     ensures sound { OnOk result (IsClean (S.Store.view store.new) → (S.Store.view store.new).is_broken ≡ false) }
-    ensures reads { IsClean (S.Store.view store.new) → (S.Store.view store.new).is_broken ≡ false → OnlyReads (S.Store.view store.old) (S.Store.view store.new) }
     ensures ours { IfErr result (λ fault. ¬ (IsForeign fault)) }
-    ensures quiet { IsQuiet S.Store.view S.Store.faults S.Store.recovers S.Store.is_shielded store.old store.new }
+    ensures looks { Looks S.Store store.old store.new }
 {
     let found = count(alloc, store, tree)?;
     Ok(is_count(found, expected))
@@ -89,9 +87,8 @@ pub fn has_row_counts<S: Store>(
 ) -> Result<bool, StoreFault>
     ensures told { IsClean (S.Store.view store.new) → IsLook (S.Store.view store.old).trees look.now → IfOk result (λ told. IsTrue told ↔ ShowsCounts Tables (S.Store.view store.old).trees counts.now) }
     ensures sound { OnOk result (IsClean (S.Store.view store.new) → (S.Store.view store.new).is_broken ≡ false) }
-    ensures reads { IsClean (S.Store.view store.new) → (S.Store.view store.new).is_broken ≡ false → OnlyReads (S.Store.view store.old) (S.Store.view store.new) }
     ensures ours { IfErr result (λ fault. ¬ (IsForeign fault)) }
-    ensures quiet { IsQuiet S.Store.view S.Store.faults S.Store.recovers S.Store.is_shielded store.old store.new }
+    ensures looks { Looks S.Store store.old store.new }
 {
     if !has_count(alloc, store, BLOBS, counts.blobs)? {
         return Ok(false);

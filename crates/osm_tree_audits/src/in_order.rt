@@ -2,10 +2,10 @@
 //! the index is asked only where they begin.
 
 ghost use Rattle.std.specs.Prelude.{◌≡◌, false, length, IsSome, IsTrue, IfOk, IfErr, OnOk};
-ghost use Rattle.sqlite_trees.specs.View.{IsClean, IsQuiet, StayLive};
-ghost use Rattle.sqlite_exec.specs.Calls.{OnlyReads};
+ghost use Rattle.sqlite_trees.specs.View.{IsClean, StayLive};
 ghost use Rattle.sqlite_exec.specs.Loops.{left_of};
 ghost use Rattle.osm_store.specs.Keeping.{IsForeign};
+ghost use Rattle.osm_tree_audits.specs.Looking.{Looks};
 ghost use Rattle.osm_tree_audits.specs.declared.tables.ElementTable.{ElementTable as AnyTable};
 ghost use Rattle.osm_tree_audits.specs.ElementTables.{index_of, key_of, table_of};
 ghost use Rattle.osm_tree_audits.specs.Looks.{IsInOrder};
@@ -36,9 +36,8 @@ fn seek_row<S: Store>(
     ensures rows { OnOk result (IsSome ((S.Store.view store.new).cursors 1)) }
     ensures stay { OnOk result (StayLive (S.Store.view store.old) (S.Store.view store.new)) }
     ensures sound { OnOk result (IsClean (S.Store.view store.new) → (S.Store.view store.new).is_broken ≡ false) }
-    ensures reads { IsClean (S.Store.view store.new) → (S.Store.view store.new).is_broken ≡ false → OnlyReads (S.Store.view store.old) (S.Store.view store.new) }
     ensures ours { IfErr result (λ fault. ¬ (IsForeign fault)) }
-    ensures quiet { IsQuiet S.Store.view S.Store.faults S.Store.recovers S.Store.is_shielded store.old store.new }
+    ensures looks { Looks S.Store store.old store.new }
 {
     let ValueRef::Int(id) = entry.get(width) else {
         return Err(StoreFault::Disk);
@@ -67,9 +66,8 @@ pub(crate) fn begin_in_order<S: Store>(
     ensures entries { OnOk result (IsSome ((S.Store.view store.new).cursors 0)) }
     ensures rows { IfOk result (λ begun. IsTrue begun → IsSome ((S.Store.view store.new).cursors 1)) }
     ensures sound { OnOk result (IsClean (S.Store.view store.new) → (S.Store.view store.new).is_broken ≡ false) }
-    ensures reads { IsClean (S.Store.view store.new) → (S.Store.view store.new).is_broken ≡ false → OnlyReads (S.Store.view store.old) (S.Store.view store.new) }
     ensures ours { IfErr result (λ fault. ¬ (IsForeign fault)) }
-    ensures quiet { IsQuiet S.Store.view S.Store.faults S.Store.recovers S.Store.is_shielded store.old store.new }
+    ensures looks { Looks S.Store store.old store.new }
 {
     let mut entry = Row::new(alloc);
     if let Err(error) = store.seek(0, of.index(), key, Direction::Forward) {
@@ -98,9 +96,8 @@ pub(crate) fn next_in_order<S: Store>(
     ensures walk { OnOk result (IsClean (S.Store.view store.new) → (of : AnyTable) → AreInOrder (S.Store.view store.old) (key_of of) → AreInOrder (S.Store.view store.new) (key_of of)) }
     ensures stay { OnOk result (StayLive (S.Store.view store.old) (S.Store.view store.new)) }
     ensures sound { OnOk result (IsClean (S.Store.view store.new) → (S.Store.view store.new).is_broken ≡ false) }
-    ensures reads { IsClean (S.Store.view store.new) → (S.Store.view store.new).is_broken ≡ false → OnlyReads (S.Store.view store.old) (S.Store.view store.new) }
     ensures ours { IfErr result (λ fault. ¬ (IsForeign fault)) }
-    ensures quiet { IsQuiet S.Store.view S.Store.faults S.Store.recovers S.Store.is_shielded store.old store.new }
+    ensures looks { Looks S.Store store.old store.new }
 {
     match store.next(1, row) {
         Ok(true) => {}

@@ -2,11 +2,11 @@
 
 ghost use Rattle.std.specs.Prelude.{◌≡◌, ◌≢◌, ◌↔◌, ◌∷◌, [], ℕ, false, length, map, All, Contains, IsSome, IsTrue, IfOk, IfErr, IfSome, OnOk, MatchOption};
 ghost use Rattle.sqlite_trees.specs.Tree.{IsIndexShape};
-ghost use Rattle.sqlite_trees.specs.View.{IsClean, IsQuiet, StayLive};
+ghost use Rattle.sqlite_trees.specs.View.{IsClean, StayLive};
 ghost use Rattle.sqlite_sql.specs.Catalog.{entry_of, IsIndexOf};
-ghost use Rattle.sqlite_exec.specs.Calls.{OnlyReads};
 ghost use Rattle.sqlite_exec.specs.Loops.{left_of};
 ghost use Rattle.osm_store.specs.Keeping.{IsForeign};
+ghost use Rattle.osm_tree_audits.specs.Looking.{Looks};
 ghost use Rattle.osm_tree_audits.specs.Looks.{IsInStep, IsSeen};
 ghost use Rattle.osm_tree_audits.specs.Walking.{IsNext, AreAmong};
 
@@ -65,9 +65,8 @@ fn next_is<S: Store>(store: &mut S, entry: &Row, found: &mut Row) -> Result<bool
     ensures rows { OnOk result (IsClean (S.Store.view store.new) → (S.Store.view store.new).cursors 0 ≡ (S.Store.view store.old).cursors 0) }
     ensures stay { OnOk result (StayLive (S.Store.view store.old) (S.Store.view store.new)) }
     ensures sound { OnOk result (IsClean (S.Store.view store.new) → (S.Store.view store.new).is_broken ≡ false) }
-    ensures reads { IsClean (S.Store.view store.new) → (S.Store.view store.new).is_broken ≡ false → OnlyReads (S.Store.view store.old) (S.Store.view store.new) }
     ensures ours { IfErr result (λ fault. ¬ (IsForeign fault)) }
-    ensures quiet { IsQuiet S.Store.view S.Store.faults S.Store.recovers S.Store.is_shielded store.old store.new }
+    ensures looks { Looks S.Store store.old store.new }
 {
     match store.next(1, found) {
         Ok(true) => Ok(found.is_same(entry)),
@@ -89,9 +88,8 @@ fn seek_is<S: Store>(
     ensures rows { OnOk result (IsClean (S.Store.view store.new) → (S.Store.view store.new).cursors 0 ≡ (S.Store.view store.old).cursors 0) }
     ensures stay { OnOk result (StayLive (S.Store.view store.old) (S.Store.view store.new)) }
     ensures sound { OnOk result (IsClean (S.Store.view store.new) → (S.Store.view store.new).is_broken ≡ false) }
-    ensures reads { IsClean (S.Store.view store.new) → (S.Store.view store.new).is_broken ≡ false → OnlyReads (S.Store.view store.old) (S.Store.view store.new) }
     ensures ours { IfErr result (λ fault. ¬ (IsForeign fault)) }
-    ensures quiet { IsQuiet S.Store.view S.Store.faults S.Store.recovers S.Store.is_shielded store.old store.new }
+    ensures looks { Looks S.Store store.old store.new }
 {
     if let Err(error) = store.seek(1, tree, entry, Direction::Forward) {
         return Err(fault_of(error));
@@ -114,9 +112,8 @@ fn has_entry<S: Store>(
     ensures rows { OnOk result (IsClean (S.Store.view store.new) → (S.Store.view store.new).cursors 0 ≡ (S.Store.view store.old).cursors 0) }
     ensures stay { OnOk result (StayLive (S.Store.view store.old) (S.Store.view store.new)) }
     ensures sound { OnOk result (IsClean (S.Store.view store.new) → (S.Store.view store.new).is_broken ≡ false) }
-    ensures reads { IsClean (S.Store.view store.new) → (S.Store.view store.new).is_broken ≡ false → OnlyReads (S.Store.view store.old) (S.Store.view store.new) }
     ensures ours { IfErr result (λ fault. ¬ (IsForeign fault)) }
-    ensures quiet { IsQuiet S.Store.view S.Store.faults S.Store.recovers S.Store.is_shielded store.old store.new }
+    ensures looks { Looks S.Store store.old store.new }
 {
     if next_is(store, entry, found)? {
         return Ok(true);
@@ -138,9 +135,8 @@ fn count_entered<S: Store>(
         → MatchOption counted (¬ (All (Contains ((S.Store.view store.old).trees tree)) (map (entry_of columns.now) ((S.Store.view store.old).trees table))))
         (λ n. (n ≡ length ((S.Store.view store.old).trees table)) × All (Contains ((S.Store.view store.old).trees tree)) (map (entry_of columns.now) ((S.Store.view store.old).trees table)))) }
     ensures sound { OnOk result (IsClean (S.Store.view store.new) → (S.Store.view store.new).is_broken ≡ false) }
-    ensures reads { IsClean (S.Store.view store.new) → (S.Store.view store.new).is_broken ≡ false → OnlyReads (S.Store.view store.old) (S.Store.view store.new) }
     ensures ours { IfErr result (λ fault. ¬ (IsForeign fault)) }
-    ensures quiet { IsQuiet S.Store.view S.Store.faults S.Store.recovers S.Store.is_shielded store.old store.new }
+    ensures looks { Looks S.Store store.old store.new }
 {
     let mut row = Row::new(alloc);
     let mut entry = Row::new(alloc);
@@ -183,9 +179,8 @@ fn count_indexed<S: Store>(
         → MatchOption counted (¬ (IsIndexOf columns.now ((S.Store.view store.old).trees table) ((S.Store.view store.old).trees tree)))
         (λ n. (n ≡ length ((S.Store.view store.old).trees table)) × IsIndexOf columns.now ((S.Store.view store.old).trees table) ((S.Store.view store.old).trees tree))) }
     ensures sound { OnOk result (IsClean (S.Store.view store.new) → (S.Store.view store.new).is_broken ≡ false) }
-    ensures reads { IsClean (S.Store.view store.new) → (S.Store.view store.new).is_broken ≡ false → OnlyReads (S.Store.view store.old) (S.Store.view store.new) }
     ensures ours { IfErr result (λ fault. ¬ (IsForeign fault)) }
-    ensures quiet { IsQuiet S.Store.view S.Store.faults S.Store.recovers S.Store.is_shielded store.old store.new }
+    ensures looks { Looks S.Store store.old store.new }
 {
     let Some(rows) = count_entered(alloc, store, table, tree, columns)? else {
         return Ok(None);
@@ -225,9 +220,8 @@ fn next_is_of<S: Store>(
     ensures others { OnOk result (IsClean (S.Store.view store.new) → (c : ℕ) → c ≢ cursor → (S.Store.view store.new).cursors c ≡ (S.Store.view store.old).cursors c) }
     ensures stay { OnOk result (StayLive (S.Store.view store.old) (S.Store.view store.new)) }
     ensures sound { OnOk result (IsClean (S.Store.view store.new) → (S.Store.view store.new).is_broken ≡ false) }
-    ensures reads { IsClean (S.Store.view store.new) → (S.Store.view store.new).is_broken ≡ false → OnlyReads (S.Store.view store.old) (S.Store.view store.new) }
     ensures ours { IfErr result (λ fault. ¬ (IsForeign fault)) }
-    ensures quiet { IsQuiet S.Store.view S.Store.faults S.Store.recovers S.Store.is_shielded store.old store.new }
+    ensures looks { Looks S.Store store.old store.new }
 {
     match store.next(cursor, found) {
         Ok(true) => Ok(is_entry_of(found, columns, row)),
@@ -243,9 +237,8 @@ fn has_ended<S: Store>(store: &mut S, cursor: u16, found: &mut Row) -> Result<bo
     ensures others { OnOk result (IsClean (S.Store.view store.new) → (c : ℕ) → c ≢ cursor → (S.Store.view store.new).cursors c ≡ (S.Store.view store.old).cursors c) }
     ensures stay { OnOk result (StayLive (S.Store.view store.old) (S.Store.view store.new)) }
     ensures sound { OnOk result (IsClean (S.Store.view store.new) → (S.Store.view store.new).is_broken ≡ false) }
-    ensures reads { IsClean (S.Store.view store.new) → (S.Store.view store.new).is_broken ≡ false → OnlyReads (S.Store.view store.old) (S.Store.view store.new) }
     ensures ours { IfErr result (λ fault. ¬ (IsForeign fault)) }
-    ensures quiet { IsQuiet S.Store.view S.Store.faults S.Store.recovers S.Store.is_shielded store.old store.new }
+    ensures looks { Looks S.Store store.old store.new }
 {
     match store.next(cursor, found) {
         Ok(more) => Ok(!more),
@@ -265,9 +258,8 @@ fn count_if_ended<S: Store>(
     ensures others { OnOk result (IsClean (S.Store.view store.new) → (c : ℕ) → c ≢ cursor → (S.Store.view store.new).cursors c ≡ (S.Store.view store.old).cursors c) }
     ensures stay { OnOk result (StayLive (S.Store.view store.old) (S.Store.view store.new)) }
     ensures sound { OnOk result (IsClean (S.Store.view store.new) → (S.Store.view store.new).is_broken ≡ false) }
-    ensures reads { IsClean (S.Store.view store.new) → (S.Store.view store.new).is_broken ≡ false → OnlyReads (S.Store.view store.old) (S.Store.view store.new) }
     ensures ours { IfErr result (λ fault. ¬ (IsForeign fault)) }
-    ensures quiet { IsQuiet S.Store.view S.Store.faults S.Store.recovers S.Store.is_shielded store.old store.new }
+    ensures looks { Looks S.Store store.old store.new }
 {
     if !has_ended(store, cursor, found)? {
         return Ok(None);
@@ -289,9 +281,8 @@ fn count_in_step<S: Store>(
     ensures told { IfOk result (λ counted. IsClean (S.Store.view store.new)
         → IfSome counted (λ n. (n ≡ length ((S.Store.view store.old).trees table)) × IsInStep columns.now ((S.Store.view store.old).trees table) ((S.Store.view store.old).trees tree))) }
     ensures sound { OnOk result (IsClean (S.Store.view store.new) → (S.Store.view store.new).is_broken ≡ false) }
-    ensures reads { IsClean (S.Store.view store.new) → (S.Store.view store.new).is_broken ≡ false → OnlyReads (S.Store.view store.old) (S.Store.view store.new) }
     ensures ours { IfErr result (λ fault. ¬ (IsForeign fault)) }
-    ensures quiet { IsQuiet S.Store.view S.Store.faults S.Store.recovers S.Store.is_shielded store.old store.new }
+    ensures looks { Looks S.Store store.old store.new }
 {
     let mut row = Row::new(alloc);
     let mut found = Row::new(alloc);
@@ -333,9 +324,8 @@ fn goes_on<S: Store>(
     ensures others { OnOk result (IsClean (S.Store.view store.new) → (c : ℕ) → c ≢ cursor → (S.Store.view store.new).cursors c ≡ (S.Store.view store.old).cursors c) }
     ensures stay { OnOk result (StayLive (S.Store.view store.old) (S.Store.view store.new)) }
     ensures sound { OnOk result (IsClean (S.Store.view store.new) → (S.Store.view store.new).is_broken ≡ false) }
-    ensures reads { IsClean (S.Store.view store.new) → (S.Store.view store.new).is_broken ≡ false → OnlyReads (S.Store.view store.old) (S.Store.view store.new) }
     ensures ours { IfErr result (λ fault. ¬ (IsForeign fault)) }
-    ensures quiet { IsQuiet S.Store.view S.Store.faults S.Store.recovers S.Store.is_shielded store.old store.new }
+    ensures looks { Looks S.Store store.old store.new }
 {
     if !until_now {
         return Ok(false);
@@ -358,9 +348,8 @@ fn count_at_end<S: Store>(
     ensures others { OnOk result (IsClean (S.Store.view store.new) → (c : ℕ) → c ≢ cursor → (S.Store.view store.new).cursors c ≡ (S.Store.view store.old).cursors c) }
     ensures stay { OnOk result (StayLive (S.Store.view store.old) (S.Store.view store.new)) }
     ensures sound { OnOk result (IsClean (S.Store.view store.new) → (S.Store.view store.new).is_broken ≡ false) }
-    ensures reads { IsClean (S.Store.view store.new) → (S.Store.view store.new).is_broken ≡ false → OnlyReads (S.Store.view store.old) (S.Store.view store.new) }
     ensures ours { IfErr result (λ fault. ¬ (IsForeign fault)) }
-    ensures quiet { IsQuiet S.Store.view S.Store.faults S.Store.recovers S.Store.is_shielded store.old store.new }
+    ensures looks { Looks S.Store store.old store.new }
 {
     if !until_now {
         return Ok(None);
@@ -383,9 +372,8 @@ fn counts_at_end<S: Store>(
         → IfSome counted.0 (λ n. (n ≡ count) × IsTrue one × (left_of (S.Store.view store.old) 1 ≡ []))
         × IfSome counted.1 (λ n. (n ≡ count) × IsTrue other × (left_of (S.Store.view store.old) 2 ≡ []))) }
     ensures sound { OnOk result (IsClean (S.Store.view store.new) → (S.Store.view store.new).is_broken ≡ false) }
-    ensures reads { IsClean (S.Store.view store.new) → (S.Store.view store.new).is_broken ≡ false → OnlyReads (S.Store.view store.old) (S.Store.view store.new) }
     ensures ours { IfErr result (λ fault. ¬ (IsForeign fault)) }
-    ensures quiet { IsQuiet S.Store.view S.Store.faults S.Store.recovers S.Store.is_shielded store.old store.new }
+    ensures looks { Looks S.Store store.old store.new }
 {
     let one = count_at_end(store, 1, one, count, found)?;
     let other = count_at_end(store, 2, other, count, found)?;
@@ -407,9 +395,8 @@ pub(crate) fn counts_in_step<S: Store>(
         → IfSome counted.0 (λ n. (n ≡ length ((S.Store.view store.old).trees table)) × IsInStep one_columns.now ((S.Store.view store.old).trees table) ((S.Store.view store.old).trees one))
         × IfSome counted.1 (λ n. (n ≡ length ((S.Store.view store.old).trees table)) × IsInStep other_columns.now ((S.Store.view store.old).trees table) ((S.Store.view store.old).trees other))) }
     ensures sound { OnOk result (IsClean (S.Store.view store.new) → (S.Store.view store.new).is_broken ≡ false) }
-    ensures reads { IsClean (S.Store.view store.new) → (S.Store.view store.new).is_broken ≡ false → OnlyReads (S.Store.view store.old) (S.Store.view store.new) }
     ensures ours { IfErr result (λ fault. ¬ (IsForeign fault)) }
-    ensures quiet { IsQuiet S.Store.view S.Store.faults S.Store.recovers S.Store.is_shielded store.old store.new }
+    ensures looks { Looks S.Store store.old store.new }
 {
     let mut row = Row::new(alloc);
     let mut found = Row::new(alloc);
@@ -460,9 +447,8 @@ fn seen_at<S: Store>(
         → MatchOption seen (¬ (IsIndexOf columns.now ((S.Store.view store.old).trees table) ((S.Store.view store.old).trees tree)))
         (λ look. IsIndexOf columns.now ((S.Store.view store.old).trees table) ((S.Store.view store.old).trees tree) × IsSeen columns.now ((S.Store.view store.old).trees table) ((S.Store.view store.old).trees tree) look)) }
     ensures sound { OnOk result (IsClean (S.Store.view store.new) → (S.Store.view store.new).is_broken ≡ false) }
-    ensures reads { IsClean (S.Store.view store.new) → (S.Store.view store.new).is_broken ≡ false → OnlyReads (S.Store.view store.old) (S.Store.view store.new) }
     ensures ours { IfErr result (λ fault. ¬ (IsForeign fault)) }
-    ensures quiet { IsQuiet S.Store.view S.Store.faults S.Store.recovers S.Store.is_shielded store.old store.new }
+    ensures looks { Looks S.Store store.old store.new }
 {
     if let Some(rows) = in_step {
         return Ok(Some(TableLook {
@@ -493,9 +479,8 @@ pub(crate) fn look_at<S: Store>(
         → MatchOption seen (¬ (IsIndexOf columns.now ((S.Store.view store.old).trees table) ((S.Store.view store.old).trees tree)))
         (λ look. IsIndexOf columns.now ((S.Store.view store.old).trees table) ((S.Store.view store.old).trees tree) × IsSeen columns.now ((S.Store.view store.old).trees table) ((S.Store.view store.old).trees tree) look)) }
     ensures sound { OnOk result (IsClean (S.Store.view store.new) → (S.Store.view store.new).is_broken ≡ false) }
-    ensures reads { IsClean (S.Store.view store.new) → (S.Store.view store.new).is_broken ≡ false → OnlyReads (S.Store.view store.old) (S.Store.view store.new) }
     ensures ours { IfErr result (λ fault. ¬ (IsForeign fault)) }
-    ensures quiet { IsQuiet S.Store.view S.Store.faults S.Store.recovers S.Store.is_shielded store.old store.new }
+    ensures looks { Looks S.Store store.old store.new }
 {
     if store.shape(tree) != Shape::Index(order) || store.shape(table) != Shape::Table {
         return Err(StoreFault::Disk);
@@ -516,9 +501,8 @@ pub(crate) fn is_indexed<S: Store>(
 ) -> Result<bool, StoreFault>
     ensures told { IfOk result (λ told. IsClean (S.Store.view store.new) → (IsTrue told ↔ IsIndexOf columns.now ((S.Store.view store.old).trees table) ((S.Store.view store.old).trees tree))) }
     ensures sound { OnOk result (IsClean (S.Store.view store.new) → (S.Store.view store.new).is_broken ≡ false) }
-    ensures reads { IsClean (S.Store.view store.new) → (S.Store.view store.new).is_broken ≡ false → OnlyReads (S.Store.view store.old) (S.Store.view store.new) }
     ensures ours { IfErr result (λ fault. ¬ (IsForeign fault)) }
-    ensures quiet { IsQuiet S.Store.view S.Store.faults S.Store.recovers S.Store.is_shielded store.old store.new }
+    ensures looks { Looks S.Store store.old store.new }
 {
     let seen = look_at(alloc, store, table, tree, order, columns)?;
     Ok(seen.is_some())
@@ -540,9 +524,8 @@ pub(crate) fn look_on<S: Store>(
         → MatchOption seen (¬ (IsIndexOf columns.now ((S.Store.view store.old).trees table) ((S.Store.view store.old).trees tree)))
         (λ look. IsIndexOf columns.now ((S.Store.view store.old).trees table) ((S.Store.view store.old).trees tree) × IsSeen columns.now ((S.Store.view store.old).trees table) ((S.Store.view store.old).trees tree) look)) }
     ensures sound { OnOk result (IsClean (S.Store.view store.new) → (S.Store.view store.new).is_broken ≡ false) }
-    ensures reads { IsClean (S.Store.view store.new) → (S.Store.view store.new).is_broken ≡ false → OnlyReads (S.Store.view store.old) (S.Store.view store.new) }
     ensures ours { IfErr result (λ fault. ¬ (IsForeign fault)) }
-    ensures quiet { IsQuiet S.Store.view S.Store.faults S.Store.recovers S.Store.is_shielded store.old store.new }
+    ensures looks { Looks S.Store store.old store.new }
 {
     if store.shape(tree) != Shape::Index(Order::PLAIN) || store.shape(table) != Shape::Table {
         return Err(StoreFault::Disk);

@@ -2,10 +2,10 @@
 //! tables.
 
 ghost use Rattle.std.specs.Prelude.{◌≡◌, false, IfOk, IfErr, OnOk};
-ghost use Rattle.sqlite_trees.specs.View.{IsClean, IsQuiet};
-ghost use Rattle.sqlite_exec.specs.Calls.{OnlyReads};
+ghost use Rattle.sqlite_trees.specs.View.{IsClean};
 ghost use Rattle.osm_store.specs.Keeping.{IsForeign};
 ghost use Rattle.osm_tree_writes.specs.Putting.{IsIndexedStore};
+ghost use Rattle.osm_tree_audits.specs.Looking.{Looks};
 ghost use Rattle.osm_tree_audits.specs.Indexes.{IsWhole};
 ghost use Rattle.osm_tree_audits.specs.Looks.{IsLook, MatchLooked};
 
@@ -55,9 +55,8 @@ pub fn look_at_indexes<S: Store>(alloc: Global, store: &mut S) -> Result<Looked,
     ensures told { IfOk result (λ looked. IsClean (S.Store.view store.new)
         → MatchLooked looked (λ look. IsIndexedStore (S.Store.view store.old).trees × IsLook (S.Store.view store.old).trees look) (λ index. ¬ (IsWhole (S.Store.view store.old).trees index))) }
     ensures sound { OnOk result (IsClean (S.Store.view store.new) → (S.Store.view store.new).is_broken ≡ false) }
-    ensures reads { IsClean (S.Store.view store.new) → (S.Store.view store.new).is_broken ≡ false → OnlyReads (S.Store.view store.old) (S.Store.view store.new) }
     ensures ours { IfErr result (λ fault. ¬ (IsForeign fault)) }
-    ensures quiet { IsQuiet S.Store.view S.Store.faults S.Store.recovers S.Store.is_shielded store.old store.new }
+    ensures looks { Looks S.Store store.old store.new }
 {
     let (by_key, by_id) = counts_in_step(
         alloc,

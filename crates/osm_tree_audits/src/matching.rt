@@ -5,9 +5,9 @@ ghost use Rattle.std.specs.Prelude.{◌≡◌, ◌↔◌, [], false, drop, lengt
 ghost use Rattle.sqlite.specs.Value.{owned};
 ghost use Rattle.sqlite.specs.Values.{bound, bound_value};
 ghost use Rattle.sqlite_value.specs.Order.{column};
-ghost use Rattle.sqlite_trees.specs.View.{IsClean, IsQuiet};
-ghost use Rattle.sqlite_exec.specs.Calls.{OnlyReads};
+ghost use Rattle.sqlite_trees.specs.View.{IsClean};
 ghost use Rattle.osm_store.specs.Keeping.{IsForeign};
+ghost use Rattle.osm_tree_audits.specs.Looking.{Looks};
 ghost use Rattle.osm_tree_audits.specs.Walking.{Begins, IsWalkBy, reached_by};
 
 use crate::tables::ElementTable;
@@ -75,9 +75,8 @@ pub(crate) fn finds_next<'v, S: Store, R: TableRow>(
     ensures entries { OnOk result (IsSome ((S.Store.view store.new).cursors 0)) }
     ensures rows { OnOk result (IsSome ((S.Store.view store.new).cursors 1)) }
     ensures sound { OnOk result (IsClean (S.Store.view store.new) → (S.Store.view store.new).is_broken ≡ false) }
-    ensures reads { IsClean (S.Store.view store.new) → (S.Store.view store.new).is_broken ≡ false → OnlyReads (S.Store.view store.old) (S.Store.view store.new) }
     ensures ours { IfErr result (λ fault. ¬ (IsForeign fault)) }
-    ensures quiet { IsQuiet S.Store.view S.Store.faults S.Store.recovers S.Store.is_shielded store.old store.new }
+    ensures looks { Looks S.Store store.old store.new }
 {
     let mut entry = Row::new(alloc);
     let mut found = Row::new(alloc);
@@ -109,9 +108,8 @@ pub(crate) fn finds_no_more<S: Store>(
     requires rows { IsSome ((S.Store.view store.old).cursors 1) }
     ensures told { IfOk result (λ told. IsClean (S.Store.view store.new) → IsWalkBy way (S.Store.view store.old) of → (IsTrue told ↔ (reached_by way (S.Store.view store.old) of key.now ≡ []))) }
     ensures sound { OnOk result (IsClean (S.Store.view store.new) → (S.Store.view store.new).is_broken ≡ false) }
-    ensures reads { IsClean (S.Store.view store.new) → (S.Store.view store.new).is_broken ≡ false → OnlyReads (S.Store.view store.old) (S.Store.view store.new) }
     ensures ours { IfErr result (λ fault. ¬ (IsForeign fault)) }
-    ensures quiet { IsQuiet S.Store.view S.Store.faults S.Store.recovers S.Store.is_shielded store.old store.new }
+    ensures looks { Looks S.Store store.old store.new }
 {
     let mut entry = Row::new(alloc);
     let mut found = Row::new(alloc);

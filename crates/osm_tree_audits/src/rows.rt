@@ -3,12 +3,12 @@
 ghost use Rattle.std.specs.Prelude.{◌≡◌, ◌↔◌, ◌+◌, ◌<◌, ◌≤◌, ◌^◌, ◌∷◌, [], pos, false, filter, length, IsSome, IsTrue, IfOk, IfErr, OnOk};
 ghost use Rattle.sqlite_value.specs.declared.value.Value.TheVariants.{Int};
 ghost use Rattle.sqlite_trees.specs.Tree.{has_rowid};
-ghost use Rattle.sqlite_trees.specs.View.{IsClean, IsQuiet};
-ghost use Rattle.sqlite_exec.specs.Calls.{OnlyReads};
+ghost use Rattle.sqlite_trees.specs.View.{IsClean};
 ghost use Rattle.osm_store.specs.Keeping.{IsForeign};
 ghost use Rattle.osm_store.specs.Rows.{placed, extent_row};
 ghost use Rattle.osm_store.specs.TableRows.{element_rows, tag_rows, link_rows};
 ghost use Rattle.osm_tree_writes.specs.Putting.{IsIndexedStore};
+ghost use Rattle.osm_tree_audits.specs.Looking.{Looks};
 ghost use Rattle.osm_tree_audits.specs.Auditing.{KeepsAt, KeepsBlob};
 ghost use Rattle.osm_tree_audits.specs.ElementTables.{index_of, rows_in, table_of};
 ghost use Rattle.osm_tree_audits.specs.Looks.{IsInOrder, IsLook};
@@ -64,9 +64,8 @@ fn finds_some<S: Store>(
     ensures entries { OnOk result (IsSome ((S.Store.view store.new).cursors 0)) }
     ensures rows { OnOk result (IsSome ((S.Store.view store.new).cursors 1)) }
     ensures sound { OnOk result (IsClean (S.Store.view store.new) → (S.Store.view store.new).is_broken ≡ false) }
-    ensures reads { IsClean (S.Store.view store.new) → (S.Store.view store.new).is_broken ≡ false → OnlyReads (S.Store.view store.old) (S.Store.view store.new) }
     ensures ours { IfErr result (λ fault. ¬ (IsForeign fault)) }
-    ensures quiet { IsQuiet S.Store.view S.Store.faults S.Store.recovers S.Store.is_shielded store.old store.new }
+    ensures looks { Looks S.Store store.old store.new }
 {
     match of {
         ElementTable::Elements => {
@@ -103,9 +102,8 @@ fn finds_each<S: Store>(
     ensures told { IfOk result (λ told. IsClean (S.Store.view store.new) → IsWalkBy way (S.Store.view store.old) of
         → (IsTrue told ↔ (reached_by way (S.Store.view store.old) of key.now ≡ rows_in of (placed off 0 elements.now)))) }
     ensures sound { OnOk result (IsClean (S.Store.view store.new) → (S.Store.view store.new).is_broken ≡ false) }
-    ensures reads { IsClean (S.Store.view store.new) → (S.Store.view store.new).is_broken ≡ false → OnlyReads (S.Store.view store.old) (S.Store.view store.new) }
     ensures ours { IfErr result (λ fault. ¬ (IsForeign fault)) }
-    ensures quiet { IsQuiet S.Store.view S.Store.faults S.Store.recovers S.Store.is_shielded store.old store.new }
+    ensures looks { Looks S.Store store.old store.new }
 {
     // Nothing is found yet. The borrow checker takes the rest of a split here, and not `elements` itself.
     let (_, mut rest) = elements.split_at(0);
@@ -135,9 +133,8 @@ fn has_rows_in<S: Store>(
     ensures told { IsClean (S.Store.view store.new) → IsIndexedStore (S.Store.view store.old).trees → (IsTrue in_order → IsInOrder (S.Store.view store.old).trees of)
         → IfOk result (λ told. IsTrue told ↔ KeepsAt off (rows_in of (placed off 0 elements.now)) ((S.Store.view store.old).trees (table_of of))) }
     ensures sound { OnOk result (IsClean (S.Store.view store.new) → (S.Store.view store.new).is_broken ≡ false) }
-    ensures reads { IsClean (S.Store.view store.new) → (S.Store.view store.new).is_broken ≡ false → OnlyReads (S.Store.view store.old) (S.Store.view store.new) }
     ensures ours { IfErr result (λ fault. ¬ (IsForeign fault)) }
-    ensures quiet { IsQuiet S.Store.view S.Store.faults S.Store.recovers S.Store.is_shielded store.old store.new }
+    ensures looks { Looks S.Store store.old store.new }
 {
     if store.shape(of.index()) != Shape::Index(Order::PLAIN)
         || store.shape(of.table()) != Shape::Table
@@ -174,9 +171,8 @@ fn has_extent_row<S: Store>(
     ensures told { IsClean (S.Store.view store.new)
         → IfOk result (λ told. IsTrue told ↔ (filter (has_rowid (pos extent.now.off)) ((S.Store.view store.old).trees 1) ≡ extent_row extent.now ∷ [])) }
     ensures sound { OnOk result (IsClean (S.Store.view store.new) → (S.Store.view store.new).is_broken ≡ false) }
-    ensures reads { IsClean (S.Store.view store.new) → (S.Store.view store.new).is_broken ≡ false → OnlyReads (S.Store.view store.old) (S.Store.view store.new) }
     ensures ours { IfErr result (λ fault. ¬ (IsForeign fault)) }
-    ensures quiet { IsQuiet S.Store.view S.Store.faults S.Store.recovers S.Store.is_shielded store.old store.new }
+    ensures looks { Looks S.Store store.old store.new }
 {
     if store.shape(BLOBS) != Shape::Table {
         return Err(StoreFault::Disk);
@@ -204,9 +200,8 @@ fn has_inner_rows<S: Store>(
         × KeepsAt off (tag_rows (placed off 0 elements.now)) ((S.Store.view store.old).trees 4)
         × KeepsAt off (link_rows (placed off 0 elements.now)) ((S.Store.view store.old).trees 6))) }
     ensures sound { OnOk result (IsClean (S.Store.view store.new) → (S.Store.view store.new).is_broken ≡ false) }
-    ensures reads { IsClean (S.Store.view store.new) → (S.Store.view store.new).is_broken ≡ false → OnlyReads (S.Store.view store.old) (S.Store.view store.new) }
     ensures ours { IfErr result (λ fault. ¬ (IsForeign fault)) }
-    ensures quiet { IsQuiet S.Store.view S.Store.faults S.Store.recovers S.Store.is_shielded store.old store.new }
+    ensures looks { Looks S.Store store.old store.new }
 {
     if !has_rows_in(
         alloc,
@@ -253,9 +248,8 @@ pub fn has_rows_of<S: Store>(
     requires bounds { (extent.now.off ≤ MAX_OFFSET) × (extent.now.fin ≤ MAX_OFFSET) × (extent.now.n < 2 ^ 63) }
     ensures told { IsClean (S.Store.view store.new) → IsIndexedStore (S.Store.view store.old).trees → IsLook (S.Store.view store.old).trees look.now → IfOk result (λ told. IsTrue told ↔ KeepsBlob (S.Store.view store.old).trees extent.now elements.now) }
     ensures sound { OnOk result (IsClean (S.Store.view store.new) → (S.Store.view store.new).is_broken ≡ false) }
-    ensures reads { IsClean (S.Store.view store.new) → (S.Store.view store.new).is_broken ≡ false → OnlyReads (S.Store.view store.old) (S.Store.view store.new) }
     ensures ours { IfErr result (λ fault. ¬ (IsForeign fault)) }
-    ensures quiet { IsQuiet S.Store.view S.Store.faults S.Store.recovers S.Store.is_shielded store.old store.new }
+    ensures looks { Looks S.Store store.old store.new }
 {
     if !has_extent_row(alloc, store, extent)? {
         return Ok(false);

@@ -3,9 +3,9 @@
 ghost use Rattle.std.specs.Prelude.{◌≡◌, ◌↔◌, [], false, All, Any, IsTrue, IfSome, IfOk, IfErr, OnOk, MatchOption};
 ghost use Rattle.sqlite_value.specs.declared.value.Value.TheVariants.{Int};
 ghost use Rattle.sqlite_value.specs.Order.{column};
-ghost use Rattle.sqlite_trees.specs.View.{IsClean, IsQuiet, StayLive};
-ghost use Rattle.sqlite_exec.specs.Calls.{OnlyReads};
+ghost use Rattle.sqlite_trees.specs.View.{IsClean, StayLive};
 ghost use Rattle.osm_store.specs.Keeping.{IsForeign};
+ghost use Rattle.osm_tree_audits.specs.Looking.{Looks};
 ghost use Rattle.osm_tree_audits.specs.ElementTables.{table_of};
 ghost use Rattle.osm_tree_audits.specs.Strays.{HasBlob, IsStrayRow, LacksBlob};
 
@@ -31,9 +31,8 @@ fn lacks_blob<S: Store>(store: &mut S, off: i64, blob: &mut Row) -> Result<bool,
     ensures same { OnOk result (IsClean (S.Store.view store.new) → S.Store.view store.new ≡ S.Store.view store.old) }
     ensures stay { OnOk result (StayLive (S.Store.view store.old) (S.Store.view store.new)) }
     ensures sound { OnOk result (IsClean (S.Store.view store.new) → (S.Store.view store.new).is_broken ≡ false) }
-    ensures reads { IsClean (S.Store.view store.new) → (S.Store.view store.new).is_broken ≡ false → OnlyReads (S.Store.view store.old) (S.Store.view store.new) }
     ensures ours { IfErr result (λ fault. ¬ (IsForeign fault)) }
-    ensures quiet { IsQuiet S.Store.view S.Store.faults S.Store.recovers S.Store.is_shielded store.old store.new }
+    ensures looks { Looks S.Store store.old store.new }
 {
     if store.shape(BLOBS) != Shape::Table {
         return Err(StoreFault::Disk);
@@ -59,9 +58,8 @@ fn stray_offset<S: Store>(
     ensures same { OnOk result (IsClean (S.Store.view store.new) → S.Store.view store.new ≡ S.Store.view store.old) }
     ensures stay { OnOk result (StayLive (S.Store.view store.old) (S.Store.view store.new)) }
     ensures sound { OnOk result (IsClean (S.Store.view store.new) → (S.Store.view store.new).is_broken ≡ false) }
-    ensures reads { IsClean (S.Store.view store.new) → (S.Store.view store.new).is_broken ≡ false → OnlyReads (S.Store.view store.old) (S.Store.view store.new) }
     ensures ours { IfErr result (λ fault. ¬ (IsForeign fault)) }
-    ensures quiet { IsQuiet S.Store.view S.Store.faults S.Store.recovers S.Store.is_shielded store.old store.new }
+    ensures looks { Looks S.Store store.old store.new }
 {
     let ValueRef::Int(off) = row.get(1) else {
         return Ok(None);
@@ -85,9 +83,8 @@ fn stray_in<S: Store>(
     ensures told { IfOk result (λ found. IsClean (S.Store.view store.new)
         → MatchOption found (All (HasBlob (S.Store.view store.old).trees) ((S.Store.view store.old).trees (table_of of))) (IsStrayRow (S.Store.view store.old).trees)) }
     ensures sound { OnOk result (IsClean (S.Store.view store.new) → (S.Store.view store.new).is_broken ≡ false) }
-    ensures reads { IsClean (S.Store.view store.new) → (S.Store.view store.new).is_broken ≡ false → OnlyReads (S.Store.view store.old) (S.Store.view store.new) }
     ensures ours { IfErr result (λ fault. ¬ (IsForeign fault)) }
-    ensures quiet { IsQuiet S.Store.view S.Store.faults S.Store.recovers S.Store.is_shielded store.old store.new }
+    ensures looks { Looks S.Store store.old store.new }
 {
     let mut row = Row::new(alloc);
     let mut blob = Row::new(alloc);
@@ -116,9 +113,8 @@ pub fn stray_row<S: Store>(alloc: Global, store: &mut S) -> Result<Option<Stray>
     ensures told { IfOk result (λ found. IsClean (S.Store.view store.new)
         → MatchOption found ((stray : _) → ¬ (IsStrayRow (S.Store.view store.old).trees stray)) (IsStrayRow (S.Store.view store.old).trees)) }
     ensures sound { OnOk result (IsClean (S.Store.view store.new) → (S.Store.view store.new).is_broken ≡ false) }
-    ensures reads { IsClean (S.Store.view store.new) → (S.Store.view store.new).is_broken ≡ false → OnlyReads (S.Store.view store.old) (S.Store.view store.new) }
     ensures ours { IfErr result (λ fault. ¬ (IsForeign fault)) }
-    ensures quiet { IsQuiet S.Store.view S.Store.faults S.Store.recovers S.Store.is_shielded store.old store.new }
+    ensures looks { Looks S.Store store.old store.new }
 {
     if let Some(stray) = stray_in(alloc, store, ElementTable::Elements)? {
         return Ok(Some(stray));

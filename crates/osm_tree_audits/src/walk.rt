@@ -4,10 +4,10 @@ ghost use Rattle.std.specs.Prelude.{◌≡◌, false, Contains, IsSome, IsTrue, 
 ghost use Rattle.sqlite_value.specs.Keys.{plain};
 ghost use Rattle.sqlite_value.specs.Order.{column};
 ghost use Rattle.sqlite_trees.specs.Tree.{from_key, rowid};
-ghost use Rattle.sqlite_trees.specs.View.{IsClean, IsQuiet, StayLive};
-ghost use Rattle.sqlite_exec.specs.Calls.{OnlyReads};
+ghost use Rattle.sqlite_trees.specs.View.{IsClean, StayLive};
 ghost use Rattle.sqlite_exec.specs.Loops.{left_of};
 ghost use Rattle.osm_store.specs.Keeping.{IsForeign};
+ghost use Rattle.osm_tree_audits.specs.Looking.{Looks};
 ghost use Rattle.osm_tree_audits.specs.Walking.{AreAmong, IsWalk, Leads, reached};
 
 use osm_store::StoreFault;
@@ -35,9 +35,8 @@ pub(crate) fn begin_walk<S: Store>(
     ensures walk { OnOk result (IsClean (S.Store.view store.new) → IsWalk (S.Store.view store.new) table) }
     ensures placed { OnOk result (IsClean (S.Store.view store.new) → left_of (S.Store.view store.new) 0 ≡ from_key plain key.now ((S.Store.view store.old).trees index)) }
     ensures sound { OnOk result (IsClean (S.Store.view store.new) → (S.Store.view store.new).is_broken ≡ false) }
-    ensures reads { IsClean (S.Store.view store.new) → (S.Store.view store.new).is_broken ≡ false → OnlyReads (S.Store.view store.old) (S.Store.view store.new) }
     ensures ours { IfErr result (λ fault. ¬ (IsForeign fault)) }
-    ensures quiet { IsQuiet S.Store.view S.Store.faults S.Store.recovers S.Store.is_shielded store.old store.new }
+    ensures looks { Looks S.Store store.old store.new }
 {
     let first = Row::new(alloc);
     if let Err(error) = store.seek(1, table, &first, Direction::Forward) {
@@ -63,9 +62,8 @@ fn next_has<S: Store>(
     ensures entries { OnOk result (IsClean (S.Store.view store.new) → (S.Store.view store.new).cursors 0 ≡ (S.Store.view store.old).cursors 0) }
     ensures stay { OnOk result (StayLive (S.Store.view store.old) (S.Store.view store.new)) }
     ensures sound { OnOk result (IsClean (S.Store.view store.new) → (S.Store.view store.new).is_broken ≡ false) }
-    ensures reads { IsClean (S.Store.view store.new) → (S.Store.view store.new).is_broken ≡ false → OnlyReads (S.Store.view store.old) (S.Store.view store.new) }
     ensures ours { IfErr result (λ fault. ¬ (IsForeign fault)) }
-    ensures quiet { IsQuiet S.Store.view S.Store.faults S.Store.recovers S.Store.is_shielded store.old store.new }
+    ensures looks { Looks S.Store store.old store.new }
 {
     match store.next(1, row) {
         Ok(true) => Ok(is_same(row.get(0), entry.get(width))),
@@ -88,9 +86,8 @@ fn seek_has<S: Store>(
     ensures entries { OnOk result (IsClean (S.Store.view store.new) → (S.Store.view store.new).cursors 0 ≡ (S.Store.view store.old).cursors 0) }
     ensures stay { OnOk result (StayLive (S.Store.view store.old) (S.Store.view store.new)) }
     ensures sound { OnOk result (IsClean (S.Store.view store.new) → (S.Store.view store.new).is_broken ≡ false) }
-    ensures reads { IsClean (S.Store.view store.new) → (S.Store.view store.new).is_broken ≡ false → OnlyReads (S.Store.view store.old) (S.Store.view store.new) }
     ensures ours { IfErr result (λ fault. ¬ (IsForeign fault)) }
-    ensures quiet { IsQuiet S.Store.view S.Store.faults S.Store.recovers S.Store.is_shielded store.old store.new }
+    ensures looks { Looks S.Store store.old store.new }
 {
     let ValueRef::Int(id) = entry.get(width) else {
         return Err(StoreFault::Disk);
@@ -119,9 +116,8 @@ fn read_row<S: Store>(
     ensures entries { OnOk result (IsClean (S.Store.view store.new) → (S.Store.view store.new).cursors 0 ≡ (S.Store.view store.old).cursors 0) }
     ensures stay { OnOk result (StayLive (S.Store.view store.old) (S.Store.view store.new)) }
     ensures sound { OnOk result (IsClean (S.Store.view store.new) → (S.Store.view store.new).is_broken ≡ false) }
-    ensures reads { IsClean (S.Store.view store.new) → (S.Store.view store.new).is_broken ≡ false → OnlyReads (S.Store.view store.old) (S.Store.view store.new) }
     ensures ours { IfErr result (λ fault. ¬ (IsForeign fault)) }
-    ensures quiet { IsQuiet S.Store.view S.Store.faults S.Store.recovers S.Store.is_shielded store.old store.new }
+    ensures looks { Looks S.Store store.old store.new }
 {
     if next_has(store, width, entry, row)? {
         return Ok(());
@@ -150,9 +146,8 @@ pub(crate) fn next_row<S: Store>(
     ensures walk { OnOk result (IsClean (S.Store.view store.new) → IsWalk (S.Store.view store.old) table → IsWalk (S.Store.view store.new) table) }
     ensures stay { OnOk result (StayLive (S.Store.view store.old) (S.Store.view store.new)) }
     ensures sound { OnOk result (IsClean (S.Store.view store.new) → (S.Store.view store.new).is_broken ≡ false) }
-    ensures reads { IsClean (S.Store.view store.new) → (S.Store.view store.new).is_broken ≡ false → OnlyReads (S.Store.view store.old) (S.Store.view store.new) }
     ensures ours { IfErr result (λ fault. ¬ (IsForeign fault)) }
-    ensures quiet { IsQuiet S.Store.view S.Store.faults S.Store.recovers S.Store.is_shielded store.old store.new }
+    ensures looks { Looks S.Store store.old store.new }
 {
     match store.next(0, entry) {
         Ok(true) => {}

@@ -1,9 +1,9 @@
 //! The two ways to walk over the rows of a table of elements, of tags or of links in the order of its primary key.
 
 ghost use Rattle.std.specs.Prelude.{◌≡◌, false, length, IsSome, IsTrue, IfOk, IfErr, OnOk};
-ghost use Rattle.sqlite_trees.specs.View.{IsClean, IsQuiet, StayLive};
-ghost use Rattle.sqlite_exec.specs.Calls.{OnlyReads};
+ghost use Rattle.sqlite_trees.specs.View.{IsClean, StayLive};
 ghost use Rattle.osm_store.specs.Keeping.{IsForeign};
+ghost use Rattle.osm_tree_audits.specs.Looking.{Looks};
 ghost use Rattle.osm_tree_audits.specs.ElementTables.{index_of, table_of};
 ghost use Rattle.osm_tree_audits.specs.Looks.{IsInOrder};
 ghost use Rattle.osm_tree_audits.specs.Walking.{IsWalkBy, Leads, all_reached, reached_by};
@@ -40,9 +40,8 @@ fn begin_by_index<S: Store>(
     ensures entries { OnOk result (IsSome ((S.Store.view store.new).cursors 0)) }
     ensures rows { OnOk result (IsSome ((S.Store.view store.new).cursors 1)) }
     ensures sound { OnOk result (IsClean (S.Store.view store.new) → (S.Store.view store.new).is_broken ≡ false) }
-    ensures reads { IsClean (S.Store.view store.new) → (S.Store.view store.new).is_broken ≡ false → OnlyReads (S.Store.view store.old) (S.Store.view store.new) }
     ensures ours { IfErr result (λ fault. ¬ (IsForeign fault)) }
-    ensures quiet { IsQuiet S.Store.view S.Store.faults S.Store.recovers S.Store.is_shielded store.old store.new }
+    ensures looks { Looks S.Store store.old store.new }
 {
     begin_walk(alloc, store, of.index(), of.table(), key)?;
     Ok(Way::ByIndex)
@@ -65,9 +64,8 @@ pub(crate) fn begin<S: Store>(
     ensures entries { OnOk result (IsSome ((S.Store.view store.new).cursors 0)) }
     ensures rows { OnOk result (IsSome ((S.Store.view store.new).cursors 1)) }
     ensures sound { OnOk result (IsClean (S.Store.view store.new) → (S.Store.view store.new).is_broken ≡ false) }
-    ensures reads { IsClean (S.Store.view store.new) → (S.Store.view store.new).is_broken ≡ false → OnlyReads (S.Store.view store.old) (S.Store.view store.new) }
     ensures ours { IfErr result (λ fault. ¬ (IsForeign fault)) }
-    ensures quiet { IsQuiet S.Store.view S.Store.faults S.Store.recovers S.Store.is_shielded store.old store.new }
+    ensures looks { Looks S.Store store.old store.new }
 {
     if !in_order {
         return begin_by_index(alloc, store, of, key);
@@ -97,9 +95,8 @@ pub(crate) fn next_by<S: Store>(
     ensures walk { OnOk result (IsClean (S.Store.view store.new) → IsWalkBy way (S.Store.view store.old) of → IsWalkBy way (S.Store.view store.new) of) }
     ensures stay { OnOk result (StayLive (S.Store.view store.old) (S.Store.view store.new)) }
     ensures sound { OnOk result (IsClean (S.Store.view store.new) → (S.Store.view store.new).is_broken ≡ false) }
-    ensures reads { IsClean (S.Store.view store.new) → (S.Store.view store.new).is_broken ≡ false → OnlyReads (S.Store.view store.old) (S.Store.view store.new) }
     ensures ours { IfErr result (λ fault. ¬ (IsForeign fault)) }
-    ensures quiet { IsQuiet S.Store.view S.Store.faults S.Store.recovers S.Store.is_shielded store.old store.new }
+    ensures looks { Looks S.Store store.old store.new }
 {
     match way {
         Way::ByIndex => next_row(store, of.table(), of.width(), key, entry, found, row),

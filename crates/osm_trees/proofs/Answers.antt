@@ -10,7 +10,8 @@ use Rattle.osm_store.specs.declared.schema.layout.Layout.TheVariants.{Tables}
 use Rattle.osm_store.specs.Held.{HeldMap}
 use Rattle.osm_store.specs.Keeping.{IsForeign, failures_after}
 use Rattle.osm_tree_writes.specs.Beside.{ListsAlone}
-use Rattle.osm_trees.specs.Below.{HoldsBelow, IsUsable, Looks, Mends, StandsAlone}
+use Rattle.osm_tree_audits.specs.Looking.{Looks}
+use Rattle.osm_trees.specs.Below.{HoldsBelow, IsUsable, Mends, StandsAlone}
 use Rattle.osm_trees.specs.Reading.{Reading, JustReads, open_of}
 use Rattle.osm_trees.proofs.Looking.{holds_after}
 use Rattle.osm_trees.proofs.Mending.{Leaves, Stands, clean_until, leaves_by, outcomes_all, stands, holds_standing}

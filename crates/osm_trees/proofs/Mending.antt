@@ -7,9 +7,11 @@ use Rattle.sqlite_exec.specs.Calls.{OnlyReads}
 use Rattle.osm_store.specs.declared.schema.layout.Layout.{Layout}
 use Rattle.osm_store.specs.Held.{HeldMap}
 use Rattle.osm_tree_writes.specs.Putting.{TreesHold}
-use Rattle.osm_trees.specs.Below.{HoldsBelow, Looks, Mends, SameTrees}
+use Rattle.osm_tree_audits.specs.Looking.{Looks}
+use Rattle.osm_trees.specs.Below.{HoldsBelow, Mends, SameTrees}
 use Rattle.osm_trees.specs.Reading.{open_of}
-use Rattle.osm_trees.proofs.Looking.{clean_before, same_commit, same_trees}
+use Rattle.osm_tree_audits.proofs.Looking.{clean_before}
+use Rattle.osm_trees.proofs.Looking.{same_commit, same_trees}
 
 -- what a read has left, if it was begun on trees that weren't broken, or wasn't begun
 pub record Leaves {S : Type 0} (g : Ghosts S) (old mid : S) : Type 0 where

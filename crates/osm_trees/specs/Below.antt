@@ -4,7 +4,6 @@ use Rattle.sqlite_value.specs.Order.{Row, column}
 use Rattle.sqlite_trees.specs.declared.store.Store.{Ghosts}
 use Rattle.sqlite_trees.specs.Tree.{Trees}
 use Rattle.sqlite_trees.specs.View.{View, IsClean, IsQuiet, IsRolledBack, is_int}
-use Rattle.sqlite_exec.specs.Calls.{OnlyReads}
 use Rattle.sqlite_trees.specs.Objects.{catalog_tree}
 use Rattle.osm_store.specs.declared.schema.layout.Layout.{Layout}
 use Rattle.osm_store.specs.declared.schema.layout.Layout.TheVariants.{Tables}
@@ -23,11 +22,6 @@ pub record HoldsBelow (layout : Layout) (v : View) (held : HeldMap) : Type 0 whe
   pub kept : IsKept layout held
   pub tables : TreesHold layout held v.trees
   pub only : (other : HeldMap) → IsKept layout other → TreesHold layout other v.trees → other ≡ held
-
--- only cursors have moved, if the store isn't broken, and a crash leaves nothing new
-pub record Looks {S : Type 0} (g : Ghosts S) (old new : S) : Type 0 where
-  pub reads : IsClean (g.view new) → (g.view new).is_broken ≡ false → OnlyReads (g.view old) (g.view new)
-  pub quiet : IsQuiet g.view g.faults g.recovers g.is_shielded old new
 
 -- what was broken is rolled back, what wasn't stays, and a crash leaves nothing new
 pub record Mends {S : Type 0} (g : Ghosts S) (old new : S) : Type 0 where

@@ -10,7 +10,8 @@ ghost use Rattle.osm_store.specs.Held.{HeldMap};
 ghost use Rattle.osm_store.specs.Keeping.{IsForeign, IsRange, AscendApart, extents_of, touches};
 ghost use Rattle.osm_store.specs.LayoutHolding.{IsKeptExtent};
 ghost use Rattle.osm_store.specs.Rows.{extent_row};
-ghost use Rattle.osm_trees.specs.Below.{HoldsBelow, Looks};
+ghost use Rattle.osm_tree_audits.specs.Looking.{Looks};
+ghost use Rattle.osm_trees.specs.Below.{HoldsBelow};
 
 use crate::row::extent_of;
 use osm_store::{Extent, StoreFault, are_apart};

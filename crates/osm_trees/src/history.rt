@@ -8,7 +8,8 @@ ghost use Rattle.osm_store.specs.declared.schema.layout.Layout.TheVariants.{Tabl
 ghost use Rattle.osm_store.specs.Flags.{has_flags};
 ghost use Rattle.osm_store.specs.Held.{HeldMap};
 ghost use Rattle.osm_store.specs.Keeping.{IsForeign};
-ghost use Rattle.osm_trees.specs.Below.{HoldsBelow, Looks, is_flagged};
+ghost use Rattle.osm_tree_audits.specs.Looking.{Looks};
+ghost use Rattle.osm_trees.specs.Below.{HoldsBelow, is_flagged};
 
 use osm_store::StoreFault;
 use osm_tree_writes::fault_of;

@@ -9,7 +9,8 @@ ghost use Rattle.osm_store.specs.Keeping.{IsForeign};
 ghost use Rattle.osm_store.specs.Load.Finding.{AreMatches};
 ghost use Rattle.osm_store.specs.Load.Loading.{HasRowsOf, IsInPlace};
 ghost use Rattle.osm_store.specs.Rows.{is_of, placed_in};
-ghost use Rattle.osm_trees.specs.Below.{HoldsBelow, Looks};
+ghost use Rattle.osm_tree_audits.specs.Looking.{Looks};
+ghost use Rattle.osm_trees.specs.Below.{HoldsBelow};
 
 use crate::parts::blob_rows;
 use crate::search::found_rows;

@@ -12,7 +12,8 @@ ghost use Rattle.osm_store.specs.Load.TableParts.{IsAlone};
 ghost use Rattle.osm_store.specs.Rows.{Placed, is_in, placed_in};
 ghost use Rattle.osm_store.specs.TableRows.{element_row, tags_at, tag_row, links_at, link_row};
 ghost use Rattle.osm_tree_audits.specs.Finding.{Finds};
-ghost use Rattle.osm_trees.specs.Below.{HoldsBelow, Looks};
+ghost use Rattle.osm_tree_audits.specs.Looking.{Looks};
+ghost use Rattle.osm_trees.specs.Below.{HoldsBelow};
 
 use osm_store::{PartRow, StoreFault};
 use osm_tree_audits::rows_with;

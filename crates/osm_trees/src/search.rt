@@ -13,7 +13,8 @@ ghost use Rattle.osm_store.specs.Load.TableAnswers.{AreRowsOf};
 ghost use Rattle.osm_store.specs.Load.TableParts.{IsAlone};
 ghost use Rattle.osm_store.specs.Rows.{Placed, element_code, is_of, placed_in};
 ghost use Rattle.osm_store.specs.TableRows.{element_rows, tag_rows, link_rows};
-ghost use Rattle.osm_trees.specs.Below.{HoldsBelow, Looks};
+ghost use Rattle.osm_tree_audits.specs.Looking.{Looks};
+ghost use Rattle.osm_trees.specs.Below.{HoldsBelow};
 
 use crate::parts::parts_of;
 use osm_store::{PartRow, StoreFault, element_code};

@@ -39,19 +39,19 @@ returns-in-Ok-false-clause-told g c clean =
     let whole = done.1 ∙ ap (λ l. done.0 ++ l) (lemma.ended _ _ 0 c.next.new.row (rw c.in-Ok-false.field-0-test at (c.in-Ok-false.ensures.ok clean))) ∙ append-nil done.0 in
     rw whole (done.2, done.3)
 
-pub returns-in_err-has_entry-clause-quiet : goal.returns-in_err-has_entry-clause-quiet
-returns-in_err-has_entry-clause-quiet g c = still_quiet (still_quiet c.rows.invariant.3 c.next.ensures.quiet) c.has_entry.ensures.quiet
+pub returns-in_err-has_entry-clause-looks : goal.returns-in_err-has_entry-clause-looks
+returns-in_err-has_entry-clause-looks g c = record { reads = search rules; quiet = still_quiet (still_quiet c.rows.invariant.3 c.next.ensures.quiet) c.has_entry.ensures.looks.quiet }
 
-pub returns-then-not-branch-clause-quiet : goal.returns-then-not-branch-clause-quiet
-returns-then-not-branch-clause-quiet g c = still_quiet (still_quiet c.rows.invariant.3 c.next.ensures.quiet) c.has_entry.ensures.quiet
+pub returns-then-not-branch-clause-looks : goal.returns-then-not-branch-clause-looks
+returns-then-not-branch-clause-looks g c = record { reads = search rules; quiet = still_quiet (still_quiet c.rows.invariant.3 c.next.ensures.quiet) c.has_entry.ensures.looks.quiet }
 
-pub returns-in_err-count-clause-quiet : goal.returns-in_err-count-clause-quiet
-returns-in_err-count-clause-quiet g c = still_quiet (still_quiet c.rows.invariant.3 c.next.ensures.quiet) c.has_entry.ensures.quiet
+pub returns-in_err-count-clause-looks : goal.returns-in_err-count-clause-looks
+returns-in_err-count-clause-looks g c = record { reads = search rules; quiet = still_quiet (still_quiet c.rows.invariant.3 c.next.ensures.quiet) c.has_entry.ensures.looks.quiet }
 
 pub returns-then-not-branch-clause-told : goal.returns-then-not-branch-clause-told
 returns-then-not-branch-clause-told g c clean all =
     let old = g.S.Store.view c.args.store.now in
-    let clean_1 : IsClean (g.S.Store.view c.next.new.self) = omega (arith, clean, c.has_entry.ensures.quiet.clean) in
+    let clean_1 : IsClean (g.S.Store.view c.next.new.self) = omega (arith, clean, c.has_entry.ensures.looks.quiet.clean) in
     let clean_0 : IsClean (g.S.Store.view c.rows.store) = omega (arith, clean_1, c.next.ensures.quiet.clean) in
     let done = c.rows.invariant.5 clean_0 in
     let split = done.1 ∙ ap (λ l. done.0 ++ l) (lemma.stepped _ _ 0 c.next.new.row (rw c.in-Ok-true.field-0-test at (c.in-Ok-true.ensures.ok clean_1))) in
@@ -68,9 +68,9 @@ rows-preserved g c =
       search rules,
       search rules,
       search rules,
-      still_quiet (still_quiet c.rows.invariant.3 c.next.ensures.quiet) c.has_entry.ensures.quiet,
+      still_quiet (still_quiet c.rows.invariant.3 c.next.ensures.quiet) c.has_entry.ensures.looks.quiet,
       (λ clean x there.
-          let clean_1 : IsClean (g.S.Store.view c.next.new.self) = omega (arith, clean, c.has_entry.ensures.quiet.clean) in
+          let clean_1 : IsClean (g.S.Store.view c.next.new.self) = omega (arith, clean, c.has_entry.ensures.looks.quiet.clean) in
           let clean_0 : IsClean (g.S.Store.view c.rows.store) = omega (arith, clean_1, c.next.ensures.quiet.clean) in
           let moves = c.in-Ok-true.ensures.moves clean_1 in
           let tree : (g.S.Store.view c.next.new.self).trees ≡ old.trees = ap (λ (v : View). v.trees) moves.same ∙ ap (λ (v : View). v.trees) (c.rows.invariant.2 clean_0).0 in
@@ -78,7 +78,7 @@ rows-preserved g c =
           let among = rw (← tree, ← left) at (c.rows.invariant.4 clean_0) in
           subst (λ (db : Trees). Contains (db c.args.tree) x) tree (c.in_ok-has_entry.ensures.left clean among x there)),
       (λ clean.
-          let clean_1 : IsClean (g.S.Store.view c.next.new.self) = omega (arith, clean, c.has_entry.ensures.quiet.clean) in
+          let clean_1 : IsClean (g.S.Store.view c.next.new.self) = omega (arith, clean, c.has_entry.ensures.looks.quiet.clean) in
           let clean_0 : IsClean (g.S.Store.view c.rows.store) = omega (arith, clean_1, c.next.ensures.quiet.clean) in
           let done = c.rows.invariant.5 clean_0 in
           let split = done.1 ∙ ap (λ l. done.0 ++ l) (lemma.stepped _ _ 0 c.next.new.row (rw c.in-Ok-true.field-0-test at (c.in-Ok-true.ensures.ok clean_1))) in
@@ -92,3 +92,12 @@ rows-preserved g c =
           let long : length (done.0 ++ c.next.new.row ∷ []) ≡ length done.0 + 1 = length-append done.0 (c.next.new.row ∷ []) in
           (done.0 ++ c.next.new.row ∷ [], rw stays (split ∙ sym (append_assoc done.0 (c.next.new.row ∷ []) _)), more ∙ ap (λ n. n + 1) done.2 ∙ sym long, rw map_push (All-push (Contains (old.trees c.args.tree)) _ _ done.3 found))),
     )
+
+pub returns-in-Ok-false-clause-looks : goal.returns-in-Ok-false-clause-looks
+returns-in-Ok-false-clause-looks g c = record { reads = search rules; quiet = still_quiet c.rows.invariant.3 c.next.ensures.quiet }
+
+pub returns-in-Err-next-clause-looks : goal.returns-in-Err-next-clause-looks
+returns-in-Err-next-clause-looks g c = record { reads = search rules; quiet = still_quiet c.rows.invariant.3 c.next.ensures.quiet }
+
+pub returns-in_err-make_entry-clause-looks : goal.returns-in_err-make_entry-clause-looks
+returns-in_err-make_entry-clause-looks g c = record { reads = search rules; quiet = still_quiet c.rows.invariant.3 c.next.ensures.quiet }

@@ -19,17 +19,17 @@ rows-init g c = (
       ([], rw (c.in_default-seek.ensures.ok clean, c.in_default.ensures.ok clean_1, c.new-row.ensures, lemma.from_no_key) refl, refl, rw (c.in_default-seek.ensures.ok clean, c.in_default.ensures.ok clean_1, c.new-found.ensures, lemma.from_no_key) refl)),
 )
 
-pub returns-in-Ok-false-clause-quiet : goal.returns-in-Ok-false-clause-quiet
-returns-in-Ok-false-clause-quiet g c = still_quiet (still_quiet c.rows.invariant.3 c.next.ensures.quiet) c.count_if_ended.ensures.quiet
+pub returns-in-Ok-false-clause-looks : goal.returns-in-Ok-false-clause-looks
+returns-in-Ok-false-clause-looks g c = record { reads = search rules; quiet = still_quiet (still_quiet c.rows.invariant.3 c.next.ensures.quiet) c.count_if_ended.ensures.looks.quiet }
 
-pub returns-in_err-count-clause-quiet : goal.returns-in_err-count-clause-quiet
-returns-in_err-count-clause-quiet g c = still_quiet (still_quiet c.rows.invariant.3 c.next.ensures.quiet) c.next_is_of.ensures.quiet
+pub returns-in_err-count-clause-looks : goal.returns-in_err-count-clause-looks
+returns-in_err-count-clause-looks g c = record { reads = search rules; quiet = still_quiet (still_quiet c.rows.invariant.3 c.next.ensures.quiet) c.next_is_of.ensures.looks.quiet }
 
 pub returns-in-Ok-false-clause-told : goal.returns-in-Ok-false-clause-told
 returns-in-Ok-false-clause-told g c =
     let rows = (g.S.Store.view c.args.store.now).trees c.args.table in
     ok_then c.count_if_ended.result (λ told ends clean.
-    let clean_1 : IsClean (g.S.Store.view c.next.new.self) = omega (arith, clean, c.count_if_ended.ensures.quiet.clean) in
+    let clean_1 : IsClean (g.S.Store.view c.next.new.self) = omega (arith, clean, c.count_if_ended.ensures.looks.quiet.clean) in
     let clean_0 : IsClean (g.S.Store.view c.rows.store) = omega (arith, clean_1, c.next.ensures.quiet.clean) in
     let done = c.rows.invariant.4 clean_0 in
     let no_more = lemma.ended _ _ 0 c.next.new.row (rw c.in-Ok-false.field-0-test at (c.in-Ok-false.ensures.ok clean_1)) in
@@ -44,11 +44,11 @@ rows-preserved g c =
       search rules,
       search rules,
       search rules,
-      still_quiet (still_quiet c.rows.invariant.3 c.next.ensures.quiet) c.next_is_of.ensures.quiet,
+      still_quiet (still_quiet c.rows.invariant.3 c.next.ensures.quiet) c.next_is_of.ensures.looks.quiet,
       (λ clean.
           let row = c.next.new.row in
           let entry = entry_of c.args.columns.now in
-          let clean_1 : IsClean (g.S.Store.view c.next.new.self) = omega (arith, clean, c.next_is_of.ensures.quiet.clean) in
+          let clean_1 : IsClean (g.S.Store.view c.next.new.self) = omega (arith, clean, c.next_is_of.ensures.looks.quiet.clean) in
           let clean_0 : IsClean (g.S.Store.view c.rows.store) = omega (arith, clean_1, c.next.ensures.quiet.clean) in
           let done = c.rows.invariant.4 clean_0 in
           let split = done.1 ∙ ap (λ l. done.0 ++ l) (lemma.stepped _ _ 0 row (rw c.in-Ok-true.field-0-test at (c.in-Ok-true.ensures.ok clean_1))) in
@@ -64,3 +64,9 @@ rows-preserved g c =
             ap (λ l. l ++ left_of (g.S.Store.view c.next_is_of.new.store) 1) (map-append entry done.0 (row ∷ [])) ∙ append_assoc (map entry done.0) (entry row ∷ []) _ ∙ ap (λ l. map entry done.0 ++ l) (sym next) ∙ done.3,
           )),
     )
+
+pub returns-in_err-next_is_of-clause-looks : goal.returns-in_err-next_is_of-clause-looks
+returns-in_err-next_is_of-clause-looks g c = record { reads = search rules; quiet = still_quiet (still_quiet c.rows.invariant.3 c.next.ensures.quiet) c.next_is_of.ensures.looks.quiet }
+
+pub returns-then-not-branch-clause-looks : goal.returns-then-not-branch-clause-looks
+returns-then-not-branch-clause-looks g c = record { reads = search rules; quiet = still_quiet (still_quiet c.rows.invariant.3 c.next.ensures.quiet) c.next_is_of.ensures.looks.quiet }

@@ -12,9 +12,9 @@ returns-in_default-clause-told g c clean =
 pub returns-then-rows-entries-clause-told : goal.returns-then-rows-entries-clause-told
 returns-then-rows-entries-clause-told g c clean complete =
     let old = g.S.Store.view c.args.store.now in
-    let clean_1 : IsClean (g.S.Store.view c.count_entered.new.store) = omega (arith, clean, c.count.ensures.quiet.clean) in
+    let clean_1 : IsClean (g.S.Store.view c.count_entered.new.store) = omega (arith, clean, c.count.ensures.looks.quiet.clean) in
     let counted = rw c.in-Some.is at (c.in_ok-rows.ensures.told clean_1) in
-    let kept = c.count_entered.ensures.reads clean_1 (c.in_ok-rows.ensures.sound clean_1) in
+    let kept = c.count_entered.ensures.looks.reads clean_1 (c.in_ok-rows.ensures.sound clean_1) in
     let same : (g.S.Store.view c.count_entered.new.store).trees ≡ old.trees = ap (λ (v : View). v.trees) kept in
     let entries = rw same at (c.in_ok-entries.ensures.count clean) in
     c.if-rows-entries.true (counted.0 ∙ lemma.count_if_complete _ _ _ complete ∙ sym entries)
@@ -22,9 +22,9 @@ returns-then-rows-entries-clause-told g c clean complete =
 pub returns-clause-told : goal.returns-clause-told
 returns-clause-told g c clean =
     let old = g.S.Store.view c.args.store.now in
-    let clean_1 : IsClean (g.S.Store.view c.count_entered.new.store) = omega (arith, clean, c.count.ensures.quiet.clean) in
+    let clean_1 : IsClean (g.S.Store.view c.count_entered.new.store) = omega (arith, clean, c.count.ensures.looks.quiet.clean) in
     let counted = rw c.in-Some.is at (c.in_ok-rows.ensures.told clean_1) in
-    let kept = c.count_entered.ensures.reads clean_1 (c.in_ok-rows.ensures.sound clean_1) in
+    let kept = c.count_entered.ensures.looks.reads clean_1 (c.in_ok-rows.ensures.sound clean_1) in
     let up : old.is_broken ≡ false = sym (ap (λ (v : View). v.is_broken) kept) ∙ c.in_ok-rows.ensures.sound clean_1 in
     let same : (g.S.Store.view c.count_entered.new.store).trees ≡ old.trees = ap (λ (v : View). v.trees) kept in
     let entries = rw same at (c.in_ok-entries.ensures.count clean) in

@@ -18,7 +18,7 @@ returns-clause-told g c =
     ok_told {A = Next} {B = Has} _ (λ b next clean.
     let old = g.S.Store.view c.args.store.now in
     let entries = old.trees c.args.tree in
-    let clean_1 : IsClean (g.S.Store.view c.seek.new.self) = omega (arith, clean, c.next_is.ensures.quiet.clean) in
+    let clean_1 : IsClean (g.S.Store.view c.seek.new.self) = omega (arith, clean, c.next_is.ensures.looks.quiet.clean) in
     let clean_0 : IsClean old = omega (arith, clean_1, c.seek.ensures.quiet.clean) in
     let sought : left_of (g.S.Store.view c.seek.new.self) 1 ≡ from_key (order_of (old.shape c.args.tree)) c.args.entry.now entries = rw (c.in_default.ensures.ok clean_1) (lemma.placed old 1 _) in
     let ordered = subst (λ x. IsShaped x entries) (c.requires clean_0) (g.met.S.Store.ordered c.args.store.now (c.in_default.ensures.sound clean_1) c.args.tree) in
@@ -31,6 +31,6 @@ pub returns-clause-left : goal.returns-clause-left
 returns-clause-left g c =
     on_ok_weaker c.next_is.result (λ left clean x there.
     let old = g.S.Store.view c.args.store.now in
-    let clean_1 : IsClean (g.S.Store.view c.seek.new.self) = omega (arith, clean, c.next_is.ensures.quiet.clean) in
+    let clean_1 : IsClean (g.S.Store.view c.seek.new.self) = omega (arith, clean, c.next_is.ensures.looks.quiet.clean) in
     let sought : left_of (g.S.Store.view c.seek.new.self) 1 ≡ from_key (order_of (old.shape c.args.tree)) c.args.entry.now (old.trees c.args.tree) = rw (c.in_default.ensures.ok clean_1) (lemma.placed old 1 _) in
     among_sought _ c.args.entry.now (old.trees c.args.tree) x (subst (λ (l : List Row). Contains l x) sought (left clean x there))) c.next_is.ensures.left

@@ -11,7 +11,7 @@ use Rattle.osm_tree_audits.proofs.matching.finds_next.Goals as goal
 pub returns-then-not-branch-clause-told : goal.returns-then-not-branch-clause-told
 returns-then-not-branch-clause-told g c clean walk left same =
     let f = g.R.TableRow.columns in
-    let clean_0 : IsClean (g.S.Store.view c.loop-at.store) = omega (arith, clean, c.next_by.ensures.quiet.clean) in
+    let clean_0 : IsClean (g.S.Store.view c.loop-at.store) = omega (arith, clean, c.next_by.ensures.looks.quiet.clean) in
     let here = c.loop-at.invariant.4 clean_0 walk in
     let none = rw c.if-not-branch.true at (c.in_ok-next_by.ensures.told clean here.0) in
     too_few f c.args.expected.now c.loop-at.at c.loop-at-test.true left (ap (λ l. map f (take c.loop-at.at c.args.expected.now) ++ l) (sym none) ∙ sym here.1 ∙ same)
@@ -20,7 +20,7 @@ pub returns-then-not-has_values-clause-told : goal.returns-then-not-has_values-c
 returns-then-not-has_values-clause-told g c clean walk left same =
     let f = g.R.TableRow.columns in
     let x = c.index-expected-at.result in
-    let clean_0 : IsClean (g.S.Store.view c.loop-at.store) = omega (arith, clean, c.next_by.ensures.quiet.clean) in
+    let clean_0 : IsClean (g.S.Store.view c.loop-at.store) = omega (arith, clean, c.next_by.ensures.looks.quiet.clean) in
     let here = c.loop-at.invariant.4 clean_0 walk in
     let next = rw c.if-not-branch.false at (c.in_ok-next_by.ensures.told clean here.0) in
     let columns : bound c.deref.result.now ≡ f x = ap bound c.deref.ensures.value ∙ (rw c.clear.ensures.items at c.in_ok-push_values.ensures.pushed) in
@@ -33,14 +33,14 @@ loop-at-preserved g c = (
   search rules,
   search rules,
   search rules,
-  still_quiet c.loop-at.invariant.3 c.next_by.ensures.quiet,
+  still_quiet c.loop-at.invariant.3 c.next_by.ensures.looks.quiet,
   (λ clean walk.
       let f = g.R.TableRow.columns in
       let x = c.index-expected-at.result in
       let xs = c.args.expected.now in
       let at = c.loop-at.at in
       let new = reached_by c.args.way (g.S.Store.view c.next_by.new.store) c.args.of c.args.key.now in
-      let clean_0 : IsClean (g.S.Store.view c.loop-at.store) = omega (arith, clean, c.next_by.ensures.quiet.clean) in
+      let clean_0 : IsClean (g.S.Store.view c.loop-at.store) = omega (arith, clean, c.next_by.ensures.looks.quiet.clean) in
       let here = c.loop-at.invariant.4 clean_0 walk in
       let next = rw c.if-not-branch.false at (c.in_ok-next_by.ensures.told clean here.0) in
       let columns : bound c.deref.result.now ≡ f x = ap bound c.deref.ensures.value ∙ (rw c.clear.ensures.items at c.in_ok-push_values.ensures.pushed) in

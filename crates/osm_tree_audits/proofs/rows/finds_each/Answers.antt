@@ -44,9 +44,9 @@ loop-rest-preserved g c =
         entries = search rules;
         rows = search rules;
         reads = search rules;
-        quiet = still_quiet it.quiet c.finds_some.ensures.quiet;
+        quiet = still_quiet it.quiet c.finds_some.ensures.looks.quiet;
         found = λ clean walk.
-            let clean_0 : IsClean (g.S.Store.view c.loop-rest.store) = omega (arith, clean, c.finds_some.ensures.quiet.clean) in
+            let clean_0 : IsClean (g.S.Store.view c.loop-rest.store) = omega (arith, clean, c.finds_some.ensures.looks.quiet.clean) in
             let here = it.found clean_0 walk in
             let next = rw (first, c.if-not-branch.false) at (c.in_ok-finds_some.ensures.told clean here.0) in
             (c.in_ok-finds_some.ensures.walk clean here.0, more_found c.args.of c.args.off done some _ _ _ here.1 next);
@@ -63,7 +63,7 @@ returns-then-not-branch-clause-told g c clean walk =
     let split = c.split_at-in-loop-rest.ensures.by_index.0 in
     let lengths : length c.args.elements.now ≡ length done + length rest = ap length it.whole ∙ length-append done rest in
     let first : length c.args.elements.now - length rest ≡ 0 + length done = omega (arith, lengths) in
-    let clean_0 : IsClean (g.S.Store.view c.loop-rest.store) = omega (arith, clean, c.finds_some.ensures.quiet.clean) in
+    let clean_0 : IsClean (g.S.Store.view c.loop-rest.store) = omega (arith, clean, c.finds_some.ensures.looks.quiet.clean) in
     let here = it.found clean_0 walk in
     let other = rw (first, c.if-not-branch.true) at (c.in_ok-finds_some.ensures.told clean here.0) in
     let all : c.args.elements.now ≡ done ++ (some ++ after) = it.whole ∙ ap (λ l. done ++ l) split in
@@ -78,6 +78,6 @@ returns-clause-told g c =
     let none : length c.loop-rest.rest.now ≡ 0 = grind (arith, nat_tests) in
     let whole = all_done c.loop-rest.rest.now c.loop-rest.invariant.0 c.args.elements.now none it.whole in
     ok_told c.finds_no_more.result (λ b told clean walk.
-    let clean_0 : IsClean now = omega (arith, clean, c.finds_no_more.ensures.quiet.clean) in
+    let clean_0 : IsClean now = omega (arith, clean, c.finds_no_more.ensures.looks.quiet.clean) in
     let here = it.found clean_0 walk in
     subst (λ es. IsTrue b ↔ (reached_by c.args.way old of c.args.key.now ≡ rows_in of (placed c.args.off 0 es))) (sym whole) (all_found _ _ _ here.1 (told clean here.0))) c.finds_no_more.ensures.told

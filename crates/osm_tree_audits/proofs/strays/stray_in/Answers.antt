@@ -35,7 +35,7 @@ pub returns-in-Some-clause-told : goal.returns-in-Some-clause-told
 returns-in-Some-clause-told g c clean =
     let old = g.S.Store.view c.args.store.now in
     let row = c.next.new.row in
-    let clean_1 : IsClean (g.S.Store.view c.next.new.self) = omega (arith, clean, c.stray_offset.ensures.quiet.clean) in
+    let clean_1 : IsClean (g.S.Store.view c.next.new.self) = omega (arith, clean, c.stray_offset.ensures.looks.quiet.clean) in
     let clean_0 : IsClean (g.S.Store.view c.rows.store) = omega (arith, clean_1, c.next.ensures.quiet.clean) in
     let done = c.rows.invariant.4 clean_0 in
     let moves = c.in-Ok-true.ensures.moves clean_1 in
@@ -51,16 +51,16 @@ rows-preserved g c =
     let old = g.S.Store.view c.args.store.now in (
       search rules,
       search rules,
-      still_quiet (still_quiet c.rows.invariant.2 c.next.ensures.quiet) c.stray_offset.ensures.quiet,
+      still_quiet (still_quiet c.rows.invariant.2 c.next.ensures.quiet) c.stray_offset.ensures.looks.quiet,
       (λ clean.
-          let clean_1 : IsClean (g.S.Store.view c.next.new.self) = omega (arith, clean, c.stray_offset.ensures.quiet.clean) in
+          let clean_1 : IsClean (g.S.Store.view c.next.new.self) = omega (arith, clean, c.stray_offset.ensures.looks.quiet.clean) in
           let clean_0 : IsClean (g.S.Store.view c.rows.store) = omega (arith, clean_1, c.next.ensures.quiet.clean) in
           let moves = c.in-Ok-true.ensures.moves clean_1 in
           let trees : (g.S.Store.view c.next.new.self).trees ≡ old.trees = ap (λ (v : View). v.trees) moves.same ∙ ap (λ (v : View). v.trees) (c.rows.invariant.1 clean_0).0 in
           (rw trees at (c.in_ok-off.ensures.held clean)) (c.rows.invariant.3 clean_0)),
       (λ clean.
           let row = c.next.new.row in
-          let clean_1 : IsClean (g.S.Store.view c.next.new.self) = omega (arith, clean, c.stray_offset.ensures.quiet.clean) in
+          let clean_1 : IsClean (g.S.Store.view c.next.new.self) = omega (arith, clean, c.stray_offset.ensures.looks.quiet.clean) in
           let clean_0 : IsClean (g.S.Store.view c.rows.store) = omega (arith, clean_1, c.next.ensures.quiet.clean) in
           let done = c.rows.invariant.4 clean_0 in
           let moves = c.in-Ok-true.ensures.moves clean_1 in

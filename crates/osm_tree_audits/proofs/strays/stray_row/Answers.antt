@@ -15,10 +15,10 @@ returns-clause-told g c =
     let Links = λ (found : Option Stray). IsClean third → MatchOption found (All (HasBlob second.trees) (second.trees 6)) (IsStrayRow second.trees) in
     let Each = λ (found : Option Stray). IsClean third → MatchOption found ((stray : Stray) → ¬ (IsStrayRow old.trees stray)) (IsStrayRow old.trees) in
     IfOk-weaker c.stray_in-3.result Links Each (λ found told clean.
-    let clean_2 : IsClean second = omega (arith, clean, c.stray_in-3.ensures.quiet.clean) in
-    let clean_1 : IsClean first = omega (arith, clean_2, c.stray_in-2.ensures.quiet.clean) in
-    let one : first.trees ≡ old.trees = ap (λ (v : View). v.trees) (c.stray_in.ensures.reads clean_1 (c.in_ok-stray.ensures.sound clean_1)) in
-    let two : second.trees ≡ old.trees = ap (λ (v : View). v.trees) (c.stray_in-2.ensures.reads clean_2 (c.in_ok-stray-2.ensures.sound clean_2)) ∙ one in
+    let clean_2 : IsClean second = omega (arith, clean, c.stray_in-3.ensures.looks.quiet.clean) in
+    let clean_1 : IsClean first = omega (arith, clean_2, c.stray_in-2.ensures.looks.quiet.clean) in
+    let one : first.trees ≡ old.trees = ap (λ (v : View). v.trees) (c.stray_in.ensures.looks.reads clean_1 (c.in_ok-stray.ensures.sound clean_1)) in
+    let two : second.trees ≡ old.trees = ap (λ (v : View). v.trees) (c.stray_in-2.ensures.looks.reads clean_2 (c.in_ok-stray-2.ensures.sound clean_2)) ∙ one in
     let elements = rw c.in_default.is at (c.in_ok-stray.ensures.told clean_1) in
     let tags = rw (one, c.in_default-2.is) at (c.in_ok-stray-2.ensures.told clean_2) in
     told_last old.trees elements tags found (rw two at (told clean))) c.stray_in-3.ensures.told

@@ -2,7 +2,8 @@ use Rattle.std.proofs.Common.{arith}
 use Rattle.sqlite_trees.specs.View.{IsClean}
 use Rattle.osm_store.specs.declared.schema.layout.Layout.TheVariants.{Tables}
 use Rattle.osm_store.specs.Rows.{is_in}
-use Rattle.osm_trees.proofs.Looking.{looks_of, looks_then, holds_after}
+use Rattle.osm_tree_audits.proofs.Looking.{looks_then}
+use Rattle.osm_trees.proofs.Looking.{holds_after}
 use Rattle.osm_trees.proofs.TreeReads.{elements_at, tags_in, links_in, rows_of_some}
 use Rattle.osm_trees.proofs.parts.blob_rows.Goals as goal
 
@@ -12,7 +13,7 @@ returns-clause-held g c clean held holds =
     let one = g.S.Store.view c.rows_with.new.store in
     let clean_one : IsClean one = omega (arith, clean, c.parts_with.ensures.looks.quiet.clean) in
     let up = c.in_ok-elements.ensures.sound clean_one in
-    let still = holds_after Tables old one held (c.rows_with.ensures.reads clean_one up) clean_one up holds in
+    let still = holds_after Tables old one held (c.rows_with.ensures.looks.reads clean_one up) clean_one up holds in
     let elements = rw c.in_ok-key.ensures at (c.in_ok-elements.ensures.rows clean_one) in
     let parts = rw c.in_ok-key.ensures at (c.in_ok-tags.ensures.found clean) in (
       rows_of_some held (is_in c.args.off) _ holds.kept (elements_at old.trees held holds.tables c.args.off _ elements) (tags_in one.trees held still.tables c.args.off _ parts.0) (links_in one.trees held still.tables c.args.off _ parts.1),
@@ -21,11 +22,8 @@ returns-clause-held g c clean held holds =
 
 pub returns-clause-looks : goal.returns-clause-looks
 returns-clause-looks g c =
-    looks_then g.S.Store _ _ _ (looks_of g.S.Store c.args.store.now c.rows_with.new.store c.rows_with.ensures.reads c.rows_with.ensures.quiet) c.parts_with.ensures.looks
-
-pub returns-in_err-elements-clause-looks : goal.returns-in_err-elements-clause-looks
-returns-in_err-elements-clause-looks g c = looks_of g.S.Store c.args.store.now c.rows_with.new.store c.rows_with.ensures.reads c.rows_with.ensures.quiet
+    looks_then g.S.Store _ _ _ c.rows_with.ensures.looks c.parts_with.ensures.looks
 
 pub returns-in_err-tags-clause-looks : goal.returns-in_err-tags-clause-looks
 returns-in_err-tags-clause-looks g c =
-    looks_then g.S.Store _ _ _ (looks_of g.S.Store c.args.store.now c.rows_with.new.store c.rows_with.ensures.reads c.rows_with.ensures.quiet) c.parts_with.ensures.looks
+    looks_then g.S.Store _ _ _ c.rows_with.ensures.looks c.parts_with.ensures.looks

@@ -8,7 +8,8 @@ use Rattle.osm_store.specs.TableRows.{element_row, tag_row, tags_at, link_row, l
 use Rattle.osm_store.specs.Rows.{placed_in}
 use Rattle.osm_store.proofs.LoadLemmas.TableFinds.{several_more}
 use Rattle.osm_store.proofs.LoadLemmas.RowLoops.{row_at}
-use Rattle.osm_trees.proofs.Looking.{looks_then, clean_before, holds_after}
+use Rattle.osm_tree_audits.proofs.Looking.{looks_then, clean_before}
+use Rattle.osm_trees.proofs.Looking.{holds_after}
 use Rattle.osm_trees.proofs.search.all_parts.Goals as goal
 
 pub loop-row-preserved : goal.loop-row-preserved

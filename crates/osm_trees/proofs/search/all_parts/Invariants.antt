@@ -6,7 +6,8 @@ use Rattle.osm_store.specs.Load.TableParts.{IsAlone}
 use Rattle.osm_store.specs.TableRows.{element_rows, tag_rows, link_rows}
 use Rattle.osm_store.specs.Held.{HeldMap}
 use Rattle.osm_store.specs.Rows.{Placed, placed_in}
-use Rattle.osm_trees.specs.Below.{HoldsBelow, Looks}
+use Rattle.osm_tree_audits.specs.Looking.{Looks}
+use Rattle.osm_trees.specs.Below.{HoldsBelow}
 use Rattle.osm_trees.proofs.search.all_parts.Given as goal
 
 abbrev pub invariant-loop-row : goal.invariant-loop-row

@@ -7,7 +7,8 @@ use Rattle.sqlite_trees.proofs.ListLemmas.{all-filter}
 use Rattle.osm_store.specs.declared.schema.layout.Layout.TheVariants.{Tables}
 use Rattle.osm_store.specs.Rows.{is_of, placed_in}
 use Rattle.osm_store.proofs.LoadLemmas.TableFinds.{all_alone}
-use Rattle.osm_trees.proofs.Looking.{clean_before, holds_after}
+use Rattle.osm_tree_audits.proofs.Looking.{clean_before}
+use Rattle.osm_trees.proofs.Looking.{holds_after}
 use Rattle.osm_trees.proofs.TreeReads.{rows_of_some}
 use Rattle.osm_trees.proofs.search.found_rows.Goals as goal
 

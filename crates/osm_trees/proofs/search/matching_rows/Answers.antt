@@ -2,7 +2,6 @@ use Rattle.std.proofs.Common.{◌≡◌, ◌∙◌, ap, pos, [], ◌∷◌, w64}
 use Rattle.std.proofs.lemmas.Int.{to_z-of_z}
 use Rattle.sqlite_value.specs.declared.value.Value.TheVariants.{Int}
 use Rattle.osm_store.specs.Rows.{element_code, is_of}
-use Rattle.osm_trees.proofs.Looking.{looks_of}
 use Rattle.osm_trees.proofs.TreeReads.{of_kind_and_id, sorted_elements}
 use Rattle.osm_trees.proofs.search.matching_rows.Goals as goal
 
@@ -12,6 +11,3 @@ returns-clause-held g c clean held holds =
     let key : c.in_ok-key.key ≡ Int (pos (element_code c.args.kind)) ∷ Int c.args.id ∷ [] = c.in_ok-key.ensures ∙ ap (λ i. Int (pos (element_code c.args.kind)) ∷ Int i ∷ []) (to_z-of_z w64 c.args.id c.ranges.id) in
     let finds = rw key at (c.in_ok-rows.ensures.rows clean) in
     (sorted_elements held (is_of c.args.kind c.args.id) _ _ (of_kind_and_id trees held holds.tables c.args.kind c.args.id _ finds) c.sort_rows.ensures.same c.in_ok-sort_rows.ensures.sorted, c.in_ok-rows.ensures.sound clean)
-
-pub returns-clause-looks : goal.returns-clause-looks
-returns-clause-looks g c = looks_of g.S.Store c.args.store.now c.rows_with.new.store c.rows_with.ensures.reads c.rows_with.ensures.quiet

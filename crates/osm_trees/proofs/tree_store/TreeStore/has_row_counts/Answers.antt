@@ -8,7 +8,6 @@ use Rattle.osm_trees.specs.Below.{IsIndexed}
 use Rattle.osm_trees.specs.Reading.{Reading}
 use Rattle.osm_trees.proofs.Answers.{answered, opened_of, read_ends, refused, sound_of}
 use Rattle.osm_trees.proofs.Audits.{told_counts}
-use Rattle.osm_trees.proofs.Looking.{looks_of}
 use Rattle.osm_trees.proofs.Mending.{clean_until}
 use Rattle.osm_trees.proofs.tree_store.TreeStore.has_row_counts.Goals as goal
 
@@ -33,5 +32,5 @@ pub returns-clause-reads : goal.returns-clause-reads
 returns-clause-reads g c =
     let inside : Reading _ = record { store = c.self.inside.store; failures = c.self.inside.failures } in
     read_ends g.S.Store g.met.S.Store.settled g.met.S.Store.broken_if_shut g.met.S.Store.stays c.args.self.now inside c.has_row_counts-answer.new.store c.end_read.new.self
-    (c.self.view_is ∙ c.in_ok-begin_read.ensures.same) c.in_ok-begin_read.ensures.up (looks_of g.S.Store inside.store c.has_row_counts-answer.new.store c.has_row_counts-answer.ensures.reads c.has_row_counts-answer.ensures.quiet) c.end_read.ensures.mends c.has_row_counts-answer.result
+    (c.self.view_is ∙ c.in_ok-begin_read.ensures.same) c.in_ok-begin_read.ensures.up c.has_row_counts-answer.ensures.looks c.end_read.ensures.mends c.has_row_counts-answer.result
     (λ clean held holds. answered _ _ c.has_row_counts-answer.result (sound_of _ _ c.has_row_counts-answer.result clean c.has_row_counts-answer.ensures.sound) c.has_row_counts-answer.ensures.ours) c.end_read.ensures.counted

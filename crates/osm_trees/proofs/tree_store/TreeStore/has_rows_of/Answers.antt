@@ -7,7 +7,6 @@ use Rattle.osm_trees.specs.Below.{IsIndexed}
 use Rattle.osm_trees.specs.Reading.{Reading}
 use Rattle.osm_trees.proofs.Answers.{answered, opened_of, read_ends, refused, sound_of}
 use Rattle.osm_trees.proofs.Audits.{told_blob}
-use Rattle.osm_trees.proofs.Looking.{looks_of}
 use Rattle.osm_trees.proofs.Mending.{clean_until}
 use Rattle.osm_trees.proofs.tree_store.TreeStore.has_rows_of.Goals as goal
 
@@ -32,5 +31,5 @@ pub returns-clause-reads : goal.returns-clause-reads
 returns-clause-reads g c =
     let inside : Reading _ = record { store = c.self.inside.store; failures = c.self.inside.failures } in
     read_ends g.S.Store g.met.S.Store.settled g.met.S.Store.broken_if_shut g.met.S.Store.stays c.args.self.now inside c.has_rows_of-answer.new.store c.end_read.new.self
-    (c.self.view_is ∙ c.in_ok-begin_read.ensures.same) c.in_ok-begin_read.ensures.up (looks_of g.S.Store inside.store c.has_rows_of-answer.new.store c.has_rows_of-answer.ensures.reads c.has_rows_of-answer.ensures.quiet) c.end_read.ensures.mends c.has_rows_of-answer.result
+    (c.self.view_is ∙ c.in_ok-begin_read.ensures.same) c.in_ok-begin_read.ensures.up c.has_rows_of-answer.ensures.looks c.end_read.ensures.mends c.has_rows_of-answer.result
     (λ clean held holds. answered _ _ c.has_rows_of-answer.result (sound_of _ _ c.has_rows_of-answer.result clean c.has_rows_of-answer.ensures.sound) c.has_rows_of-answer.ensures.ours) c.end_read.ensures.counted
