@@ -173,6 +173,7 @@ SAYS = {
     "osm_tree_writes": "blobs put below SQL",
     "osm_tree_audits": "rows of trees, told",
     "osm_trees": "blobs below SQL",
+    "osm_checked": "a database looked at",
     "osm_openings": "files opened",
     "osm_databases": "which store it is",
     "osm_restarts": "laws of stores in files",
@@ -192,6 +193,7 @@ SAYS = {
     "pbfrow_meters": "progress, exit statuses",
     "pbfrow_cli": "how a program begins",
     "pbfrow_answers": "what questions call",
+    "pbfrow_databases": "commands on databases",
     "pbfrow": "the program",
     "pbfrow_reader": "the small program",
 }

@@ -1,6 +1,6 @@
 //! What each question calls: of one store, and of several in turn.
 
-ghost use Rattle.std.specs.Prelude.{◌≡◌, ℕ, List, Option, Bool, Result, length};
+ghost use Rattle.std.specs.Prelude.{◌≡◌, ◌≤◌, ℕ, List, Option, Bool, Result, length};
 ghost use Rattle.osm_store.specs.Held.{HeldMap};
 ghost use Rattle.osm_store.specs.Keeping.{extents_of};
 ghost use Rattle.osm_import.specs.ExportCauses.{ExportHasCause, ExportIsOwn};
@@ -50,6 +50,7 @@ pub fn ask_one<K: Reader, S: Sink>(
         × ExportHasCause (K.failures store.old) (K.failures store.new) (S.has_failed out.new) answer × ExportIsOwn answer
         × EndsExport text (S.written out.new) (S.has_failed out.new) result answer }
     ensures stays { Stays K.Reader store.old store.new }
+    ensures bound { result ≤ 1 }
 {
     match question {
         Question::Status { size } => status(alloc, store, size, out),
@@ -79,6 +80,7 @@ pub fn ask_in_turn<K: Reader + Drop, O: Openings<K>, S: Sink>(
         → TellsParts (TellsPbf maps size partial (O.failures openings.old) (O.failures openings.new) (S.written out.old) (S.written out.new) (S.has_failed out.new) result)
         maps (O.failures openings.old) (O.failures openings.new) (S.written out.old) (S.written out.new) (S.has_failed out.new) result }
     ensures keeps { KeepsMaps O.holds O.is_honest O.is_open openings.old openings.new }
+    ensures bound { result ≤ 1 }
 {
     match question {
         Question::Status { size } => status_parts(alloc, openings, count, size, out),

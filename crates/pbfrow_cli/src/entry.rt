@@ -1,5 +1,7 @@
 //! How a program begins: the words that it was started with, and the command that they name.
 
+ghost use Rattle.std.specs.Prelude.{◌≤◌};
+ghost use Rattle.std.specs.Process.{exit_status};
 ghost use Rattle.pbfrow_words.specs.Words.{BeginsWithin, CutsSome, EndsWithin};
 
 use clap::Error;
@@ -24,12 +26,15 @@ pub trait Program {
     fn run(&self, rt: HostRuntime, words: Words) -> u8
         requires begins { BeginsWithin words }
         requires ends { EndsWithin words }
-        requires cuts { CutsSome words };
+        requires cuts { CutsSome words }
+        ensures { result ≤ 2 };
 }
 
 /// Runs a program with the words that it was started with. Its exit status is that of the command that they name, 2 where
 /// they name none, and 1 where they can't be read or what they ask for can't be written.
-pub fn start<P: Program>(program: &P, rt: HostRuntime) -> ExitCode {
+pub fn start<P: Program>(program: &P, rt: HostRuntime) -> ExitCode
+    ensures { exit_status result ≤ 2 }
+{
     keep_memory(rt.alloc());
     let words = match words_of(&rt) {
         Ok(words) => words,
@@ -65,7 +70,9 @@ fn texts_of<'a>(alloc: Global, words: &'a [String]) -> Result<Vec<&'a str>, Allo
 }
 
 /// Reports that an argument isn't UTF-8, or that memory was refused, and answers the exit status.
-fn refuse_words(rt: &HostRuntime, error: io::Error) -> u8 {
+fn refuse_words(rt: &HostRuntime, error: io::Error) -> u8
+    ensures { result ≤ 2 }
+{
     match error.kind() {
         ErrorKind::InvalidData => {
             // the status is the same if this can't be written
@@ -79,10 +86,15 @@ fn refuse_words(rt: &HostRuntime, error: io::Error) -> u8 {
 
 /// Prints the help that was asked for, or why the arguments are invalid, and answers the exit status. Invalid arguments
 /// have theirs even if the message can't be written.
-fn refuse(rt: &HostRuntime, error: Error) -> u8 {
+fn refuse(rt: &HostRuntime, error: Error) -> u8
+    ensures { result ≤ 2 }
+{
     let printed = error.print(rt);
-    if printed.is_err() && !error.use_stderr() {
-        return FAULTY;
+    if error.use_stderr() {
+        INVALID_ARGUMENTS
+    } else if printed.is_err() {
+        FAULTY
+    } else {
+        0
     }
-    error.exit_code() as u8
 }

@@ -1,6 +1,6 @@
 //! The commands that only read a file: they open it, and write the answer to standard output.
 
-ghost use Rattle.std.specs.Prelude.{◌<◌};
+ghost use Rattle.std.specs.Prelude.{◌<◌, ◌≤◌};
 
 use osm_value::Outlet;
 use pbfrow_meters::ending::end;
@@ -20,6 +20,7 @@ use std::io::{Read, Write};
 /// `ranges`: cuts a file into ranges, at most so many, and answers the exit status.
 pub fn cut_file(rt: &HostRuntime, file: &str, count: u64) -> u8
     requires { 0 < count }
+    ensures { result ≤ 1 }
 {
     let meter = Meter::new(rt, true);
     let mut out = match standard_output(rt, &meter, Some(0)) {
@@ -41,7 +42,9 @@ pub fn cut_file(rt: &HostRuntime, file: &str, count: u64) -> u8
 }
 
 /// `list`, `check` and `show`: reads the file of this name, or where there is none standard input, and answers the exit status.
-pub fn read_file(rt: &HostRuntime, reading: Reading, file: Option<&str>) -> u8 {
+pub fn read_file(rt: &HostRuntime, reading: Reading, file: Option<&str>) -> u8
+    ensures { result ≤ 1 }
+{
     let meter = Meter::new(rt, reading == Reading::Check);
     let mut out = match standard_output(rt, &meter, Some(0)) {
         Ok(out) => out,
@@ -66,7 +69,9 @@ fn read_with<R: Read, W: Write>(
     input: &mut R,
     meter: &Meter,
     out: &mut Outlet<W>,
-) -> u8 {
+) -> u8
+    ensures { result ≤ 1 }
+{
     let mut input = MeteredReader {
         reader: input,
         watcher: meter,

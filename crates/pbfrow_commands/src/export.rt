@@ -1,6 +1,6 @@
 //! The command `export`: the elements of a store.
 
-ghost use Rattle.std.specs.Prelude.{◌≡◌, Err, Result};
+ghost use Rattle.std.specs.Prelude.{◌≡◌, ◌≤◌, Err, Result};
 ghost use Rattle.osm_store.specs.Calls.{OfHeld};
 ghost use Rattle.osm_store.specs.Keeping.{extents_of};
 ghost use Rattle.osm_import.specs.ExportCauses.{ExportHasCause, ExportIsOwn};
@@ -31,6 +31,7 @@ fn put_export_fault<S: Sink>(out: &mut S, fault: ExportFault)
 pub(crate) fn finish<S: Sink>(out: &mut S, answer: Result<(), ExportFault>) -> u8
     ensures ends { EndsExport (S.written out.old) (S.written out.new) (S.has_failed out.new) result answer }
     ensures kept { answer ≡ Err ExportFault.WriteFailed → S.has_failed out.new ≡ S.has_failed out.old }
+    ensures bound { result ≤ 1 }
 {
     match answer {
         Ok(()) => 0,
@@ -61,6 +62,7 @@ pub fn export<K: Reader, S: Sink>(
         × ExportHasCause (K.failures store.old) (K.failures store.new) (S.has_failed out.new) answer × ExportIsOwn answer
         × EndsExport text (S.written out.new) (S.has_failed out.new) result answer) }
     ensures stays { Stays K.Reader store.old store.new }
+    ensures bound { result ≤ 1 }
 {
     match form {
         Form::Lines => {

@@ -1,6 +1,6 @@
 //! The command `find`: the occurrences of an element in a store.
 
-ghost use Rattle.std.specs.Prelude.{◌≡◌, List, OnOk, OnErr, filter};
+ghost use Rattle.std.specs.Prelude.{◌≡◌, ◌≤◌, List, OnOk, OnErr, filter};
 ghost use Rattle.osm_value.specs.Printing.{Prints};
 ghost use Rattle.osm_store.specs.Load.Finding.{AreMatches};
 ghost use Rattle.osm_store.specs.Calls.{OfHeld};
@@ -58,6 +58,7 @@ pub fn find<K: Reader, S: Sink>(
 ) -> u8
     ensures told { OfHeld K.Reader store.old store.new (λ held. TellsMatches (filter (is_of kind id) (placed_in held)) (K.failures store.old) (K.failures store.new) (S.written out.old) (S.written out.new) (S.has_failed out.new) result) }
     ensures stays { Stays K.Reader store.old store.new }
+    ensures bound { result ≤ 1 }
 {
     let found = match store.find(alloc, kind, id) {
         Ok(found) => found,

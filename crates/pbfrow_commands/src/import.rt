@@ -102,6 +102,7 @@ fn finish<S: Sink>(out: &mut S, outcome: Result<Summary, StreamFault>) -> u8
     ensures line { EndsLine (S.written out.old) (S.written out.new) (S.has_failed out.new) outcome }
     ensures status { result ≡ import_status outcome (S.has_failed out.new) }
     ensures kept { (stop : StreamFaultValue) → outcome ≡ Err stop → stop.fault ≡ Stop.WriteFailed → S.has_failed out.new ≡ S.has_failed out.old }
+    ensures bound { result ≤ 1 }
 {
     match outcome {
         Ok(summary) => {
@@ -142,6 +143,7 @@ pub fn import<R: Source, K: Keeper, S: Sink>(
         → result ≡ 0 → HoldsFile (K.holds store.new) file held }
     ensures part { (piece : List ℕ) → R.bytes_left reader.old ≡ Some piece → start.dropped ≡ 0 → K.holds store.old empty → K.is_honest store.new
         → result ≡ 0 → ImportsPart (K.holds store.new) start.at piece }
+    ensures bound { result ≤ 1 }
 {
     let outcome = import_from(alloc, reader, store, start, out);
     finish(out, outcome)
@@ -250,6 +252,7 @@ pub fn import_to<R: Read, K: Keeper, S: Sink>(
     ensures whole { OfHeld K.Reader store.old store.new (λ held. result ≡ 0 → HoldsRange (K.holds store.new) held start.dropped start.at to (R.remaining reader.old)) }
     ensures part { (bytes : List ℕ) → R.remaining reader.old ≡ Some bytes → start.dropped ≡ 0 → K.holds store.old empty → K.is_honest store.new
         → result ≡ 0 → ImportsPart (K.holds store.new) start.at (take (to - start.at) bytes) }
+    ensures bound { result ≤ 1 }
 {
     let outcome = import_before(alloc, reader, store, start, to, out);
     finish(out, outcome)

@@ -55,6 +55,7 @@ pub fn merge_one<F: Reader, T: Keeper, S: Sink>(
 pub fn end_merge<S: Sink>(out: &mut S, counts: CopyCounts) -> u8
     ensures line { Prints S.Sink out.old out.new (total_line counts) }
     ensures status { result ≡ copy_status (Ok counts) (S.has_failed out.new) }
+    ensures bound { result ≤ 1 }
 {
     put(out, b"blobs ");
     put_copied(out, counts);
@@ -170,6 +171,7 @@ pub fn merge_all<F: Reader + Drop, O: Openings<F>, T: Keeper, S: Sink>(
     ensures keeps { KeepsMaps O.holds O.is_honest O.is_open openings.old openings.new }
     ensures honest { T.is_honest into.new → T.is_honest into.old }
     ensures open_if { T.is_open into.new → T.is_open into.old }
+    ensures bound { result ≤ 1 }
 {
     match merge_each(alloc, openings, count, into, out) {
         Ok(total) => end_merge(out, total),

@@ -1,6 +1,6 @@
 //! The command `migrate`: what one store holds is copied into another.
 
-ghost use Rattle.std.specs.Prelude.{◌≡◌, Result};
+ghost use Rattle.std.specs.Prelude.{◌≡◌, ◌≤◌, Result};
 ghost use Rattle.osm_value.specs.Sink.{Wrote};
 ghost use Rattle.osm_value.specs.Printing.{Prints};
 ghost use Rattle.osm_import.specs.Stores.{Stays};
@@ -28,6 +28,7 @@ pub(crate) fn put_copied<S: Sink>(out: &mut S, counts: CopyCounts)
 pub(crate) fn put_outcome<S: Sink>(out: &mut S, outcome: Result<CopyCounts, CopyStop>) -> u8
     ensures line { Prints S.Sink out.old out.new (outcome_line outcome) }
     ensures status { result ≡ copy_status outcome (S.has_failed out.new) }
+    ensures bound { result ≤ 1 }
 {
     match outcome {
         Ok(counts) => {
@@ -54,6 +55,7 @@ pub fn migrate<F: Reader, T: Keeper, S: Sink>(
     ensures copies { (outcome : Result CopyCountsValue CopyStopValue) × CopiesStore F.Reader T.Reader from.old from.new to.old to.new outcome
         × Wrote (S.written out.old) (outcome_line outcome) (S.written out.new) (S.has_failed out.new) × (result ≡ copy_status outcome (S.has_failed out.new)) }
     ensures source { Stays F.Reader from.old from.new }
+    ensures bound { result ≤ 1 }
 {
     let outcome = copy_held(alloc, from, to);
     put_outcome(out, outcome)

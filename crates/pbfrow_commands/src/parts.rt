@@ -1,6 +1,6 @@
 //! The commands `status` and `export` on several stores that hold blobs of one file.
 
-ghost use Rattle.std.specs.Prelude.{◌≡◌, List, IfOk, IfErr, length};
+ghost use Rattle.std.specs.Prelude.{◌≡◌, ◌≤◌, List, IfOk, IfErr, length};
 ghost use Rattle.osm_value.specs.Printing.{Prints};
 ghost use Rattle.osm_store.specs.Held.{HeldMap};
 ghost use Rattle.osm_parts.specs.Opening.{KeepsMaps, OnlyOpens};
@@ -63,6 +63,7 @@ pub fn status_parts<K: Reader + Drop, O: Openings<K>, S: Sink>(
         → TellsParts (λ whole. TellsStatus whole size (O.failures openings.old) (O.failures openings.new) (S.written out.old) (S.written out.new) (S.has_failed out.new) result)
         maps (O.failures openings.old) (O.failures openings.new) (S.written out.old) (S.written out.new) (S.has_failed out.new) result }
     ensures keeps { KeepsMaps O.holds O.is_honest O.is_open openings.old openings.new }
+    ensures bound { result ≤ 1 }
 {
     match survey_parts(alloc, openings, count, size) {
         Ok(holdings) => put_holdings(out, &holdings),
@@ -93,6 +94,7 @@ pub fn export_parts<K: Reader + Drop, O: Openings<K>, S: Sink>(
         → TellsParts (TellsPbf maps size partial (O.failures openings.old) (O.failures openings.new) (S.written out.old) (S.written out.new) (S.has_failed out.new) result)
         maps (O.failures openings.old) (O.failures openings.new) (S.written out.old) (S.written out.new) (S.has_failed out.new) result }
     ensures keeps { KeepsMaps O.holds O.is_honest O.is_open openings.old openings.new }
+    ensures bound { result ≤ 1 }
 {
     let asks_history = form == Form::Pbf;
     let parts = match read_parts(alloc, openings, count, asks_history) {

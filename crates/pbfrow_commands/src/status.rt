@@ -1,6 +1,6 @@
 //! The command `status`: the byte ranges that a store is missing.
 
-ghost use Rattle.std.specs.Prelude.{◌≡◌, ℕ, Option, IfOk, IfErr};
+ghost use Rattle.std.specs.Prelude.{◌≡◌, ◌≤◌, ℕ, Option, IfOk, IfErr};
 ghost use Rattle.osm_value.specs.Printing.{Prints};
 ghost use Rattle.osm_store.specs.Held.{HeldMap, IsApart};
 ghost use Rattle.osm_store.specs.Calls.{OfHeld};
@@ -90,8 +90,9 @@ fn put_counts<S: Sink>(out: &mut S, blobs: u64, end: u64, gaps: u64)
 
 /// Writes the lines of what is held, and answers the exit status: 0 if they were written, else 1.
 pub(crate) fn put_holdings<S: Sink>(out: &mut S, holdings: &Holdings) -> u8
-    ensures { (held : HeldMap) (size : Option ℕ) → IsSurvey held size holdings.now
+    ensures told { (held : HeldMap) (size : Option ℕ) → IsSurvey held size holdings.now
         → Tells (status_text held holdings.now.gaps.items) (S.written out.old) (S.written out.new) (S.has_failed out.new) result }
+    ensures bound { result ≤ 1 }
 {
     put_gaps(out, &holdings.gaps);
     put_counts(
@@ -114,6 +115,7 @@ pub fn status<K: Reader, S: Sink>(
 ) -> u8
     ensures told { OfHeld K.Reader store.old store.new (λ held. TellsStatus held size (K.failures store.old) (K.failures store.new) (S.written out.old) (S.written out.new) (S.has_failed out.new) result) }
     ensures stays { Stays K.Reader store.old store.new }
+    ensures bound { result ≤ 1 }
 {
     match survey(alloc, store, size) {
         Ok(holdings) => put_holdings(out, &holdings),

@@ -139,6 +139,7 @@ pub fn verify<K: Audited, R: Read, P: Watcher, W: Write>(
     ensures shown { K.is_honest store.new → K.has_tables store.old → depth ≡ Depth.Elements → result ≡ 0
         → IfSome (R.remaining input.old) (λ bytes. (frames : List (List ℕ)) × IsFile bytes frames × ShowsFile (K.has_rows (K.trees store.old)) K.layout (K.trees store.old) frames) }
     ensures stays { Stays K.Reader store.old store.new }
+    ensures bound { result ≤ 1 }
 {
     let mut counts = Counts::NONE;
     let close = compare_blobs(alloc, store, input, depth, watcher, &mut counts, out);
@@ -389,6 +390,7 @@ fn finish<S: Sink>(out: &mut S, counts: &mut Counts, close: &Close) -> u8
     ensures status { (blobs : List (Part Compared)) → counts.old ≡ counts_of blobs 0 → result ≡ status_of (is_agreed close.now blobs) (S.has_failed out.new) }
     ensures whole { result ≡ 0 → is_whole close.now ≡ true }
     ensures unwritten { close.now ≡ Close.Unwritten → S.has_failed out.new ≡ S.has_failed out.old }
+    ensures bound { result ≤ 1 }
 {
     match close {
         Close::Whole(extras) => finish_whole(out, counts, extras),
@@ -406,6 +408,7 @@ fn finish_whole<S: Sink>(out: &mut S, counts: &mut Counts, extras: &[Extent]) ->
     ensures line { (blobs : List (Part Compared)) → counts.old ≡ counts_of blobs 0
         → Prints S.Sink out.old out.new (header_line blobs ++ extra_lines extras.now ++ counts_line (counts_of blobs (length extras.now))) }
     ensures status { (blobs : List (Part Compared)) → counts.old ≡ counts_of blobs 0 → result ≡ status_of (agree (counts_of blobs (length extras.now))) (S.has_failed out.new) }
+    ensures bound { result ≤ 1 }
 {
     put_lack(out, counts);
     put_extras(out, extras);

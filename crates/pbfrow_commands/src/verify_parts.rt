@@ -1,6 +1,6 @@
 //! The command `verify` on several stores that hold parts of one file.
 
-ghost use Rattle.std.specs.Prelude.{◌≡◌, ◌++◌, List, codes, length, IfSome};
+ghost use Rattle.std.specs.Prelude.{◌≡◌, ◌≤◌, ◌++◌, List, codes, length, IfSome};
 ghost use Rattle.std.specs.Fmt.{decimal};
 ghost use Rattle.std.specs.List.{count_by};
 ghost use Rattle.osm_value.specs.Printing.{Prints};
@@ -125,6 +125,7 @@ pub fn verify_parts<K: Audited + Drop, O: Openings<K>, F: FileBytes, S: Sink>(
     ensures exact { (maps : List HeldMap) → O.holds openings.old maps → O.is_honest openings.new → length maps ≡ count → result ≡ 0
         → IfSome (F.bytes file.old) (λ bytes. HoldFile depth bytes maps) }
     ensures keeps { KeepsMaps O.holds O.is_honest O.is_open openings.old openings.new }
+    ensures bound { result ≤ 1 }
 {
     match audit_parts(alloc, openings, count, file, depth) {
         Ok(verdict) => {

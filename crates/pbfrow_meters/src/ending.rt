@@ -1,6 +1,6 @@
 //! The exit status at the end of a command.
 
-ghost use Rattle.std.specs.Prelude.{◌≡◌, ◌⊎◌, true};
+ghost use Rattle.std.specs.Prelude.{◌≡◌, ◌≤◌, ◌⊎◌, true};
 ghost use Rattle.std.specs.Io.KnownBytes.{Keeps};
 
 use crate::meter::Meter;
@@ -16,6 +16,7 @@ pub fn end<W: Write>(out: &mut Outlet<W>, meter: &Meter, status: u8) -> u8
     // the status stays unless the output has failed by now
     ensures told { ((result ≡ status) × (out.new.has_failed ≡ out.old.has_failed)) ⊎ ((result ≡ 1) × (out.new.has_failed ≡ true)) }
     ensures kept { Keeps (W.contents out.old.writer) (W.contents out.new.writer) }
+    ensures bound { status ≤ 1 → result ≤ 1 }
 {
     let flushed = out.flush();
     meter.erase();

@@ -2,6 +2,8 @@
 //! database, and stands on a third of the crates.
 #![tactic(auto)]
 
+ghost use Rattle.std.specs.Prelude.{◌≡◌};
+
 use pbfrow_cli::entry::{INVALID_ARGUMENTS, Program, start};
 use pbfrow_cli::reading::{cut_file, read_file};
 use pbfrow_words::Words;
@@ -25,7 +27,9 @@ impl Program for Reader {
 }
 
 /// Says that a command isn't there, and answers the exit status.
-fn refuse_databases(rt: &HostRuntime) -> u8 {
+fn refuse_databases(rt: &HostRuntime) -> u8
+    ensures { result ≡ 2 }
+{
     // the status is the same if this can't be written
     let _told = eprintln!(rt;
         "pbfrow_reader: this program has no databases: list, check, show and ranges are its commands"

@@ -1,6 +1,6 @@
 //! The command `check`: a line for each bad blob, and the counts.
 
-ghost use Rattle.std.specs.Prelude.{◌≡◌, ◌+◌, ◌&&◌, ℕ, List, [], ◌∷◌, ◌++◌, IfSome, OnOk, OnErr};
+ghost use Rattle.std.specs.Prelude.{◌≡◌, ◌≤◌, ◌+◌, ◌&&◌, ℕ, List, [], ◌∷◌, ◌++◌, IfSome, OnOk, OnErr};
 ghost use Rattle.std.specs.Fmt.{decimal};
 ghost use Rattle.std.specs.Io.KnownBytes.{Appends};
 ghost use Rattle.osm_value.specs.Printing.{Prints};
@@ -82,6 +82,7 @@ pub fn check<R: Read, P: Watcher, W: Write>(
     ensures checked { ChecksInput (R.remaining input.old) (W.contents out.old.writer) (W.contents out.new.writer) out.new.has_failed result }
     // At 0 the whole input consists of good blobs, and their counts are written, no more and no less.
     ensures whole { result ≡ 0 → IfSome (R.remaining input.old) (λ bytes. (text : List ℕ) × Passes bytes text × Appends (W.contents out.old.writer) (W.contents out.new.writer) text) }
+    ensures bound { result ≤ 1 }
 {
     let mut counts = Counts::NONE;
     let ending = count_blobs(alloc, input, watcher, &mut counts, out);
@@ -155,6 +156,7 @@ fn finish<S: Sink>(out: &mut S, counts: &mut Counts, ending: Ending) -> u8
         → Prints S.Sink out.old out.new (check_end ending blobs) }
     ensures status { (blobs : List Judged) → counts.old ≡ counts_of blobs 0 → result ≡ status_of (is_whole ending && some_good blobs) (S.has_failed out.new) }
     ensures unwritten { ending ≡ Ending.Unwritten → S.has_failed out.new ≡ S.has_failed out.old }
+    ensures bound { result ≤ 1 }
 {
     match ending {
         Ending::Whole => finish_whole(out, counts),
@@ -172,6 +174,7 @@ fn finish_whole<S: Sink>(out: &mut S, counts: &mut Counts) -> u8
     ensures line { (blobs : List Judged) → counts.old ≡ counts_of blobs 0
         → Prints S.Sink out.old out.new (counts_at_end blobs) }
     ensures status { (blobs : List Judged) → counts.old ≡ counts_of blobs 0 → result ≡ status_of (some_good blobs) (S.has_failed out.new) }
+    ensures bound { result ≤ 1 }
 {
     if counts.blobs == 0 {
         let fault = Stop::NoHeaderFirst;

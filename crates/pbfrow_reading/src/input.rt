@@ -1,6 +1,6 @@
 //! The input of a command that reads a PBF file, and how it ended.
 
-ghost use Rattle.std.specs.Prelude.{◌≡◌, ◌&&◌, true, false, length, Ok, OnOk, OnErr};
+ghost use Rattle.std.specs.Prelude.{◌≡◌, ◌≤◌, ◌&&◌, true, false, length, Ok, OnOk, OnErr};
 ghost use Rattle.std.specs.Io.KnownBytes.{Keeps};
 ghost use Rattle.osm_value.specs.Printing.{Prints};
 ghost use Rattle.osm_reading.specs.Good.{IsFrame};
@@ -99,7 +99,8 @@ pub fn frame_of(bytes: &[u8]) -> Frame<'_>
 
 /// The exit status: 0 if all was well and the output hasn't failed.
 pub fn status<S: Sink>(out: &S, is_well: bool) -> u8
-    ensures { result ≡ status_of is_well (S.has_failed out.now) }
+    ensures is { result ≡ status_of is_well (S.has_failed out.now) }
+    ensures bound { result ≤ 1 }
 {
     if is_well && !out.failed() { 0 } else { 1 }
 }
@@ -110,6 +111,7 @@ pub(crate) fn finish<S: Sink>(out: &mut S, ending: Ending, is_well: bool) -> u8
     ensures line { Prints S.Sink out.old out.new (ending_line ending) }
     ensures status { result ≡ status_of (is_whole ending && is_well) (S.has_failed out.new) }
     ensures unwritten { ending ≡ Ending.Unwritten → S.has_failed out.new ≡ S.has_failed out.old }
+    ensures bound { result ≤ 1 }
 {
     match ending {
         Ending::Whole => status(out, is_well),

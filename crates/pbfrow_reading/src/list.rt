@@ -1,6 +1,6 @@
 //! The command `list`: a line for each frame.
 
-ghost use Rattle.std.specs.Prelude.{◌≡◌, ◌<◌, List, ℕ, true, IfSome};
+ghost use Rattle.std.specs.Prelude.{◌≡◌, ◌<◌, ◌≤◌, List, ℕ, true, IfSome};
 ghost use Rattle.std.specs.List.{flat_map};
 ghost use Rattle.std.specs.Io.KnownBytes.{Appends};
 ghost use Rattle.osm_value.specs.Escape.{hex_digit};
@@ -22,6 +22,7 @@ pub fn list<R: Read, W: Write>(alloc: Global, input: &mut R, out: &mut Outlet<W>
     ensures listed { ListsInput (R.remaining input.old) (W.contents out.old.writer) (W.contents out.new.writer) out.new.has_failed result }
     // At 0 the whole input consists of frames, and the text that lists them is written, no more and no less.
     ensures whole { result ≡ 0 → IfSome (R.remaining input.old) (λ bytes. (text : List ℕ) × Lists true bytes text × Appends (W.contents out.old.writer) (W.contents out.new.writer) text) }
+    ensures bound { result ≤ 1 }
 {
     let ending = list_frames(alloc, input, out);
     finish(out, ending, true)

@@ -1,6 +1,6 @@
 //! The command `ranges`: a file cut into ranges of whole frames.
 
-ghost use Rattle.std.specs.Prelude.{◌≡◌, ◌<◌, List, false, IfOk, IfErr, IfSome};
+ghost use Rattle.std.specs.Prelude.{◌≡◌, ◌<◌, ◌≤◌, List, false, IfOk, IfErr, IfSome};
 ghost use Rattle.std.specs.Io.KnownBytes.{Appends};
 ghost use Rattle.osm_value.specs.Printing.{Prints};
 ghost use Rattle.pbf_ranges.specs.Cutting.{AreEnds, AreRanges};
@@ -85,6 +85,7 @@ pub fn ranges<R: Read, S: Sink>(alloc: Global, input: &mut R, count: u64, out: &
     ensures cut { CutsInput count (R.remaining input.old) (S.written out.old) (S.written out.new) (S.has_failed out.new) result }
     // At 0 the whole input consists of frames, and the lines of ranges that it is cut into are written, and no more.
     ensures whole { result ≡ 0 → IfSome (R.remaining input.old) (λ bytes. (ranges : List RangeValue) × Cuts count bytes ranges × Appends (S.written out.old) (S.written out.new) (range_lines ranges)) }
+    ensures bound { result ≤ 1 }
 {
     match cut(alloc, input, count) {
         Ok(ranges) => {

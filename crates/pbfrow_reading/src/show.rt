@@ -1,6 +1,6 @@
 //! The command `show`: each blob, with the lines of its header, its elements or its fault.
 
-ghost use Rattle.std.specs.Prelude.{◌≡◌, true, ℕ, List, Option, length, is_ok, IfOk, OnErr};
+ghost use Rattle.std.specs.Prelude.{◌≡◌, ◌≤◌, true, ℕ, List, Option, length, is_ok, IfOk, OnErr};
 ghost use Rattle.std.specs.List.{flat_map};
 ghost use Rattle.std.specs.Option.{option_copied};
 ghost use Rattle.osm_block.specs.HeaderTexts.{texts_left};
@@ -25,7 +25,8 @@ use std::io::{Read, Write};
 /// fault's line. Answers the exit status: 0 if there is no fault, and 1 if there is one, or the input or the output
 /// failed. The lines so far are flushed before more of the input is read. Where the output fails, no more is read.
 pub fn show<R: Read, W: Write>(alloc: Global, input: &mut R, out: &mut Outlet<W>) -> u8
-    ensures { ShowsInput (R.remaining input.old) (W.contents out.old.writer) (W.contents out.new.writer) out.new.has_failed result }
+    ensures shown { ShowsInput (R.remaining input.old) (W.contents out.old.writer) (W.contents out.new.writer) out.new.has_failed result }
+    ensures bound { result ≤ 1 }
 {
     let mut is_good = true;
     let ending = show_blobs(alloc, input, &mut is_good, out);

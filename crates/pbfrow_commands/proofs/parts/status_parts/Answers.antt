@@ -8,7 +8,7 @@ use Rattle.pbfrow_commands.proofs.parts.status_parts.Goals as goal
 pub returns-in-Ok-clause-told : goal.returns-in-Ok-clause-told
 returns-in-Ok-clause-told g c = λ maps holds honest all.
     let it = c.in-Ok.ensures.told maps holds honest all in
-    inr (it.0, it.1, inl (c.in-Ok.holdings.gaps.items, it.2.gaps, c.put_holdings.ensures it.0 c.args.size it.2))
+    inr (it.0, it.1, inl (c.in-Ok.holdings.gaps.items, it.2.gaps, c.put_holdings.ensures.told it.0 c.args.size it.2))
 
 pub returns-in-Err-clause-told : goal.returns-in-Err-clause-told
 returns-in-Err-clause-told g c = λ maps holds honest all.

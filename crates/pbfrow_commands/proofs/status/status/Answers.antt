@@ -9,4 +9,4 @@ returns-in-Err-clause-told g c = λ held holds honest.
 pub returns-in-Ok-clause-told : goal.returns-in-Ok-clause-told
 returns-in-Ok-clause-told g c = λ held holds honest.
     let survey = c.in-Ok.ensures.told held holds honest in
-    inl (c.in-Ok.holdings.gaps.items, survey.gaps, c.put_holdings.ensures held c.args.size survey)
+    inl (c.in-Ok.holdings.gaps.items, survey.gaps, c.put_holdings.ensures.told held c.args.size survey)

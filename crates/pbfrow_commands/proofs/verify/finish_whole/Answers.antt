@@ -14,4 +14,4 @@ returns-clause-line g c = λ blobs is start before h.
 pub returns-clause-status : goal.returns-clause-status
 returns-clause-status g c = λ blobs is.
     let counted : c.add_extras.new.self ≡ counts_of blobs (length c.args.extras.now) = c.add_extras.ensures blobs is in
-    c.status.ensures ∙ ap (λ b. status_of b (g.S.Sink.has_failed c.put_counts.new.out)) (c.agree.ensures ∙ ap agree counted)
+    c.status.ensures.is ∙ ap (λ b. status_of b (g.S.Sink.has_failed c.put_counts.new.out)) (c.agree.ensures ∙ ap agree counted)

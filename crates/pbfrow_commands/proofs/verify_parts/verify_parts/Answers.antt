@@ -11,7 +11,7 @@ returns-in-Ok-clause-told g c = λ maps holds honest all.
       text = c.put_verdict.ensures _ [] (started _ _);
       agreed = c.agrees.result;
       agrees = c.agrees.ensures;
-      status_is = c.status.ensures;
+      status_is = c.status.ensures.is;
     } in
     inr told
 

@@ -16,4 +16,4 @@ returns-clause-line g c = λ blobs is start before h.
     Wrote-text start _ _ _ _ (ap (λ (t : List ℕ). before ++ t) (sym (some-there blobs c.args.counts.now is c.if-counts-eq0.false))) (c.put_totals-2.ensures start before h)
 
 pub returns-clause-status : goal.returns-clause-status
-returns-clause-status g c = λ blobs is. c.status.ensures ∙ ap (λ b. status_of b (g.S.Sink.has_failed c.put_totals-2.new.out)) (no-fault blobs c.args.counts.now is c.if-counts-eq0.false)
+returns-clause-status g c = λ blobs is. c.status.ensures.is ∙ ap (λ b. status_of b (g.S.Sink.has_failed c.put_totals-2.new.out)) (no-fault blobs c.args.counts.now is c.if-counts-eq0.false)

@@ -1,5 +1,7 @@
 //! The commands on several databases that hold parts of one file: `status` and `export`.
 
+ghost use Rattle.std.specs.Prelude.{◌≤◌};
+
 use osm_databases::databases::{Databases, opened};
 use osm_databases::stores::OpenedStore;
 use osm_store::StoreFault;
@@ -39,7 +41,9 @@ fn ask_metered<D: Databases>(
     names: &[&str],
     question: Question,
     meter: &Meter,
-) -> u8 {
+) -> u8
+    ensures { result ≤ 1 }
+{
     let mut out = match standard_output(rt, meter, None) {
         Ok(out) => out,
         Err(status) => return status,
@@ -62,7 +66,9 @@ pub(crate) fn ask_parts<D: Databases>(
     files: &D,
     names: &[&str],
     question: Question,
-) -> u8 {
+) -> u8
+    ensures { result ≤ 1 }
+{
     let meter = Meter::new(rt, goes_by_blobs(question));
     ask_metered(rt, files, names, question, &meter)
 }

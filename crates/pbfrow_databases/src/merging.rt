@@ -1,9 +1,10 @@
 //! The command that copies several databases into one: `merge`.
 
+ghost use Rattle.std.specs.Prelude.{◌≤◌};
+
 use osm_databases::databases::{
     AnyVersion, Databases, close, opened_of_any_version, opened_or_made,
 };
-use osm_databases::files::AskedFiles;
 use osm_store::{Keeper, StoreFault};
 use osm_value::Outlet;
 use pbfrow_answers::ending::refuse;
@@ -45,36 +46,36 @@ fn merge_from<D: Databases, T: Keeper, W: Write>(
     into: &mut T,
     meter: &Meter,
     out: &mut Outlet<W>,
-) -> u8 {
+) -> u8
+    ensures { result ≤ 1 }
+{
     let mut sources = InTurn::new(Sources { rt, files, meter }, names);
     let count = names.len() as u64;
     merge_all::<MeteredSource<D>, _, _, _>(rt.alloc(), &mut sources, count, into, out)
 }
 
-/// The same of databases that are only asked.
-fn merge_asked<T: Keeper, W: Write>(
+/// `merge`: copies what databases hold, among those that are only asked, into one of those that are filled, which is made if it
+/// is missing. Answers the exit status.
+pub(crate) fn merge<A: Databases, D: Databases>(
     rt: &HostRuntime,
-    names: &[&str],
-    into: &mut T,
-    meter: &Meter,
-    out: &mut Outlet<W>,
-) -> u8 {
-    merge_from(rt, &AskedFiles, names, into, meter, out)
-}
-
-/// Copies what databases hold into one, which is made if it is missing, and answers the exit status.
-pub(crate) fn merge<D: Databases>(rt: &HostRuntime, files: &D, into: &str, from: &[&str]) -> u8 {
+    asked: &A,
+    filled: &D,
+    into: &str,
+    from: &[&str],
+) -> u8
+    ensures { result ≤ 1 }
+{
     let meter = Meter::new(rt, true);
     let mut out = Outlet::new(MeteredOutput {
         writer: io::writer(rt),
         watcher: &meter,
     });
-    let mut store = match opened_or_made(rt, files, into) {
+    let mut store = match opened_or_made(rt, filled, into) {
         Ok(store) => store,
         Err(fault) => return refuse(&mut out, fault),
     };
-    let status = merge_asked(rt, from, &mut store, &meter, &mut out);
-    close(files, store);
+    let status = merge_from(rt, asked, from, &mut store, &meter, &mut out);
+    close(filled, store);
     meter.erase();
     status
 }

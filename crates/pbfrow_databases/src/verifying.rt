@@ -1,5 +1,7 @@
 //! The command that compares a PBF file and a database, or several that hold parts of it: `verify`.
 
+ghost use Rattle.std.specs.Prelude.{◌≤◌};
+
 use osm_checked::CheckedStore;
 use osm_databases::databases::{CheckedDatabases, opened_checked};
 use osm_store::StoreFault;
@@ -42,7 +44,9 @@ fn compare_in<D: CheckedDatabases, R: Read, W: Write>(
     depth: Depth,
     meter: &Meter,
     out: &mut Outlet<W>,
-) -> u8 {
+) -> u8
+    ensures { result ≤ 1 }
+{
     match opened_checked(rt, files, database) {
         Ok(Opened::ByTrees(mut store)) => {
             let status = verify(rt.alloc(), &mut store, input, depth, meter, out);
@@ -90,7 +94,9 @@ fn compare_parts<D: CheckedDatabases, W: Write>(
     depth: Depth,
     meter: &Meter,
     out: &mut Outlet<W>,
-) -> u8 {
+) -> u8
+    ensures { result ≤ 1 }
+{
     let mut parts = InTurn::new(CheckedParts { rt, files }, names);
     let count = names.len() as u64;
     let mut file = MeteredFile {
@@ -114,7 +120,9 @@ pub(crate) fn compare_all<D: CheckedDatabases>(
     file: &str,
     names: &[&str],
     depth: Depth,
-) -> u8 {
+) -> u8
+    ensures { result ≤ 1 }
+{
     let meter = Meter::new(rt, true);
     let mut out = match standard_output(rt, &meter, Some(0)) {
         Ok(out) => out,

@@ -45,6 +45,7 @@ fn imported<R: Read + Drop, K: Keeper, W: Write>(
     requires begins { start.at ≤ MAX_OFFSET }
     requires drops { start.dropped ≤ start.at }
     requires ends { IfSome to (λ n. (start.at < n) × (n ≤ MAX_OFFSET)) }
+    ensures { result ≤ 1 }
 {
     match to {
         None => import(alloc, &mut Inlet::new(reader), store, start, out),
@@ -65,6 +66,7 @@ fn fill_from<D: Databases, R: Read + Drop, W: Write>(
     requires begins { start.at ≤ MAX_OFFSET }
     requires drops { start.dropped ≤ start.at }
     requires ends { IfSome to (λ n. (start.at < n) × (n ≤ MAX_OFFSET)) }
+    ensures { result ≤ 1 }
 {
     let mut store = match opened_or_made(rt, files, database) {
         Ok(store) => store,
@@ -75,7 +77,7 @@ fn fill_from<D: Databases, R: Read + Drop, W: Write>(
     status
 }
 
-/// Imports a file, or a part of one, into a database, and answers the exit status. Of a file that can seek nothing but the
+/// `import`: imports a file, or a part of one, into a database, and answers the exit status. Of a file that can seek nothing but the
 /// last byte before the start is read and dropped. If the file can't be opened, no database is made.
 pub(crate) fn fill<D: Databases>(
     rt: &HostRuntime,
@@ -88,6 +90,7 @@ pub(crate) fn fill<D: Databases>(
     requires begins { start.at ≤ MAX_OFFSET }
     requires drops { start.dropped ≤ start.at }
     requires ends { IfSome to (λ n. (start.at < n) × (n ≤ MAX_OFFSET)) }
+    ensures { result ≤ 1 }
 {
     let meter = Meter::new(rt, true);
     let lines = BlobLines {
@@ -120,7 +123,9 @@ pub(crate) fn fill<D: Databases>(
 }
 
 /// Asks a database, and answers the exit status. If there is no database, none is made.
-pub(crate) fn ask<D: Databases>(rt: &HostRuntime, files: &D, database: &str, query: Query) -> u8 {
+pub(crate) fn ask<D: Databases>(rt: &HostRuntime, files: &D, database: &str, query: Query) -> u8
+    ensures { result ≤ 1 }
+{
     let goes_by_blobs = match query {
         Query::Whole(question) => goes_by_blobs(question),
         Query::Element(..) => false,

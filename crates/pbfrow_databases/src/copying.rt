@@ -1,7 +1,8 @@
 //! The command that copies a database into another: `migrate`.
 
+ghost use Rattle.std.specs.Prelude.{◌≤◌};
+
 use osm_databases::databases::{Databases, close, opened_or_made, source_of_blocks};
-use osm_databases::files::AskedFiles;
 use osm_store::{Keeper, Reader};
 use osm_value::Outlet;
 use pbfrow_answers::ending::refuse;
@@ -20,7 +21,9 @@ fn copied<F: Reader + Drop, T: Keeper, W: Write>(
     to: &mut T,
     meter: &Meter,
     out: &mut Outlet<W>,
-) -> u8 {
+) -> u8
+    ensures { result ≤ 1 }
+{
     migrate(
         alloc,
         &mut MeteredStore {
@@ -40,7 +43,9 @@ fn copy_into<D: Databases, F: Reader + Drop, W: Write>(
     database: &str,
     meter: &Meter,
     out: &mut Outlet<W>,
-) -> u8 {
+) -> u8
+    ensures { result ≤ 1 }
+{
     let mut store = match opened_or_made(rt, files, database) {
         Ok(store) => store,
         Err(fault) => return refuse(out, fault),
@@ -50,16 +55,25 @@ fn copy_into<D: Databases, F: Reader + Drop, W: Write>(
     status
 }
 
-/// Copies what a database that keeps elements as blocks holds into one that keeps them as rows, and answers the exit
-/// status. Unless the first has a store of blocks, the other isn't touched.
-pub(crate) fn copy<D: Databases>(rt: &HostRuntime, files: &D, old: &str, new: &str) -> u8 {
+/// `migrate`: copies what a database that keeps elements as blocks holds, among those that are only asked, into one that keeps
+/// them as rows, among those that are filled. Answers the exit status. Unless the first has a store of blocks, the other isn't
+/// touched.
+pub(crate) fn copy<A: Databases, D: Databases>(
+    rt: &HostRuntime,
+    asked: &A,
+    filled: &D,
+    old: &str,
+    new: &str,
+) -> u8
+    ensures { result ≤ 1 }
+{
     let meter = Meter::new(rt, true);
     let mut out = Outlet::new(MeteredOutput {
         writer: io::writer(rt),
         watcher: &meter,
     });
-    let status = match source_of_blocks(rt, &AskedFiles, old) {
-        Ok(store) => copy_into(rt, files, store, new, &meter, &mut out),
+    let status = match source_of_blocks(rt, asked, old) {
+        Ok(store) => copy_into(rt, filled, store, new, &meter, &mut out),
         Err(fault) => refuse(&mut out, fault),
     };
     meter.erase();
