@@ -1,0 +1,4 @@
+pub mod Columns
+pub mod Lists
+pub mod Tables
+pub mod Slots
