@@ -1,1 +1,5 @@
-mod Ends
+pub mod ListLemmas
+pub mod TextLemmas
+pub mod ColumnLemmas
+pub mod RoomLemmas
+pub mod IndexLemmas

@@ -1,100 +1,118 @@
--- Elements in columns. A column of numbers has one for each element; lists and texts are joined, and beside what is
--- joined stands where each ends.
-use Rattle.std.specs.Prelude.{◌≡◌, ℕ, ◌+◌, ◌^◌, ◌-◌, List, [], ◌∷◌, length, ℤ, pos, negsuc, Option, Some, None, Bool, true, false, unwrap_or}
-use Rattle.std.specs.List.{flat_map}
+-- Columns in the arrays of a caller: each begins with its column, and is as before behind it.
+use Rattle.std.specs.Prelude.{◌≡◌, ℕ, ◌==◌, ℤ, List, map, length, ◌++◌, drop, Bool, ◌&&◌, nat_le}
+use Rattle.std.specs.List.{count_by}
 use Rattle.osm_value.specs.declared.element.Element.{Element}
-use Rattle.osm_value.specs.declared.element.Element.TheVariants.{Node, Way, Relation}
-use Rattle.osm_value.specs.declared.element.MemberKind.{MemberKind}
-use Rattle.osm_value.specs.declared.element.MemberKind.TheVariants as kinds
-use Rattle.osm_value.specs.Value.{Text, MemberValue}
-use Rattle.osm_value.specs.Elements.{info_of_element}
+use Rattle.osm_value.specs.Value.{Text}
+use Rattle.osm_value.specs.Elements.{id_of_element, tags_of_element}
+use Rattle.osm_columns.specs.declared.columns.ElementColumns.{ElementColumns}
+use Rattle.osm_columns.specs.declared.columns.TagColumns.{TagColumns}
+use Rattle.osm_columns.specs.declared.columns.RefColumns.{RefColumns}
+use Rattle.osm_columns.specs.declared.columns.MemberColumns.{MemberColumns}
+use Rattle.osm_columns.specs.declared.columns.TextColumn.{TextColumn}
+use Rattle.osm_columns.specs.declared.columns.Columns.{Columns}
+use Rattle.osm_columns.specs.declared.counts.Counts.{Counts}
+use Rattle.osm_columns.specs.declared.counts.KindCounts.{KindCounts}
+use Rattle.osm_columns.specs.Values.{number_of_kind, kind_number, lat_of_element, lon_of_element, version_of_element, time_of_element, changeset_of_element, uid_of_element, flag_of_element, refs_of_element, members_of_element}
+use Rattle.osm_columns.specs.Lists.{joined, ends_of, all_tags, all_refs, all_members}
+use Rattle.osm_columns.specs.Texts.{NameAll}
+use Rattle.osm_columns.specs.Indexes.{users_of, keys_of, values_of, roles_of}
 
--- ---- one number for each element
+-- ---- how long the columns are
 
--- 0 for a node, 1 for a way, 2 for a relation
-abbrev pub number_of_kind : MemberKind → ℕ
-number_of_kind kinds.Node = 0
-number_of_kind kinds.Way = 1
-number_of_kind kinds.Relation = 2
+pub record AreKindCounts (c : KindCounts) (es : List Element) : Type 0 where
+  pub nodes_are : c.nodes ≡ count_by (λ e. kind_number e == 0) es
+  pub ways_are : c.ways ≡ count_by (λ e. kind_number e == 1) es
+  pub relations_are : c.relations ≡ count_by (λ e. kind_number e == 2) es
 
--- in nanodegrees; 0 where the element has no place
-abbrev pub lat_of_element : Element → ℤ
-lat_of_element (Node n) = n.lat
-lat_of_element (Way w) = pos 0
-lat_of_element (Relation r) = pos 0
+pub record AreCounts (c : Counts) (es : List Element) (texts : List Text) : Type 0 where
+  pub elements_are : c.elements ≡ length es
+  pub nodes_are : c.nodes ≡ count_by (λ e. kind_number e == 0) es
+  pub ways_are : c.ways ≡ count_by (λ e. kind_number e == 1) es
+  pub relations_are : c.relations ≡ count_by (λ e. kind_number e == 2) es
+  pub tags_are : c.tags ≡ length (all_tags es)
+  pub refs_are : c.refs ≡ length (all_refs es)
+  pub members_are : c.members ≡ length (all_members es)
+  pub texts_are : c.texts ≡ length texts
+  pub text_bytes_are : c.text_bytes ≡ length (joined texts)
 
-abbrev pub lon_of_element : Element → ℤ
-lon_of_element (Node n) = n.lon
-lon_of_element (Way w) = pos 0
-lon_of_element (Relation r) = pos 0
+-- ---- whether they have room
 
--- what stands for a number of 32 bits, of 64 bits, for a version and for a flag that is not there; no such number that
--- is there is one of these
-abbrev pub no_int : ℤ
-no_int = negsuc (2 ^ 31 - 1)
+abbrev pub has_room : {A : Type 0} → ℕ → List A → Bool
+has_room count array = nat_le count (length array)
 
-abbrev pub no_long : ℤ
-no_long = negsuc (2 ^ 63 - 1)
+abbrev pub elements_fit : ℕ → ElementColumns → Bool
+elements_fit n c = has_room n c.kinds.now && has_room n c.ids.now && has_room n c.lats.now && has_room n c.lons.now
+    && has_room n c.versions.now && has_room n c.times.now && has_room n c.changesets.now && has_room n c.uids.now
+    && has_room n c.users.now && has_room n c.visible.now
 
-abbrev pub version_of_element : Element → ℤ
-version_of_element e = unwrap_or (info_of_element e).version (negsuc 0)
+abbrev pub tags_fit : ℕ → ℕ → TagColumns → Bool
+tags_fit elements tags c = has_room elements c.ends.now && has_room tags c.keys.now && has_room tags c.values.now
 
-abbrev pub time_of_element : Element → ℤ
-time_of_element e = unwrap_or (info_of_element e).time no_long
+abbrev pub refs_fit : ℕ → ℕ → RefColumns → Bool
+refs_fit elements refs c = has_room elements c.ends.now && has_room refs c.ids.now
 
-abbrev pub changeset_of_element : Element → ℤ
-changeset_of_element e = unwrap_or (info_of_element e).changeset no_long
+abbrev pub members_fit : ℕ → ℕ → MemberColumns → Bool
+members_fit elements members c = has_room elements c.ends.now && has_room members c.kinds.now && has_room members c.ids.now && has_room members c.roles.now
 
-abbrev pub uid_of_element : Element → ℤ
-uid_of_element e = unwrap_or (info_of_element e).uid no_int
+abbrev pub texts_fit : ℕ → ℕ → TextColumn → Bool
+texts_fit texts bytes c = has_room texts c.ends.now && has_room bytes c.bytes.now
 
-abbrev pub number_of_flag : Option Bool → ℕ
-number_of_flag (Some false) = 0
-number_of_flag (Some true) = 1
-number_of_flag None = 2
+abbrev pub columns_fit : Counts → Columns → Bool
+columns_fit n c = elements_fit n.elements c.elements && tags_fit n.elements n.tags c.tags && refs_fit n.elements n.refs c.refs
+    && members_fit n.elements n.members c.members && texts_fit n.texts n.text_bytes c.texts
 
-abbrev pub flag_of_element : Element → ℕ
-flag_of_element e = number_of_flag (info_of_element e).visible
+-- ---- what they hold
 
--- a user that is not there is written as no text; this tells it from a user with an empty name
-abbrev pub text_of : Option Text → Text
-text_of None = []
-text_of (Some t) = t
+-- the column, and then what stood there
+abbrev pub over : {A : Type 0} → List A → List A → List A
+over xs old = xs ++ drop (length xs) old
 
-abbrev pub user_of_element : Element → Text
-user_of_element e = text_of (info_of_element e).user
+-- the numbers of the elements, and these indexes of their users
+pub record HoldsElements (users : List ℤ) (es : List Element) (old new : ElementColumns) : Type 0 where
+  pub kinds_are : new.kinds.now ≡ over (map kind_number es) old.kinds.now
+  pub ids_are : new.ids.now ≡ over (map id_of_element es) old.ids.now
+  pub lats_are : new.lats.now ≡ over (map lat_of_element es) old.lats.now
+  pub lons_are : new.lons.now ≡ over (map lon_of_element es) old.lons.now
+  pub versions_are : new.versions.now ≡ over (map version_of_element es) old.versions.now
+  pub times_are : new.times.now ≡ over (map time_of_element es) old.times.now
+  pub changesets_are : new.changesets.now ≡ over (map changeset_of_element es) old.changesets.now
+  pub uids_are : new.uids.now ≡ over (map uid_of_element es) old.uids.now
+  pub users_are : new.users.now ≡ over users old.users.now
+  pub visible_are : new.visible.now ≡ over (map flag_of_element es) old.visible.now
 
-abbrev pub one_if_there : Option Text → ℕ
-one_if_there None = 0
-one_if_there (Some t) = 1
+-- the tags of the elements, with these indexes of their keys and values
+pub record HoldsTags (keys values : List ℤ) (es : List Element) (old new : TagColumns) : Type 0 where
+  pub ends_are : new.ends.now ≡ over (ends_of (map tags_of_element es)) old.ends.now
+  pub keys_are : new.keys.now ≡ over keys old.keys.now
+  pub values_are : new.values.now ≡ over values old.values.now
 
-abbrev pub has_user : Element → ℕ
-has_user e = one_if_there (info_of_element e).user
+pub record HoldsRefs (es : List Element) (old new : RefColumns) : Type 0 where
+  pub ends_are : new.ends.now ≡ over (ends_of (map refs_of_element es)) old.ends.now
+  pub ids_are : new.ids.now ≡ over (all_refs es) old.ids.now
 
--- ---- lists
+-- the members of the elements, with these indexes of their roles
+pub record HoldsMembers (roles : List ℤ) (es : List Element) (old new : MemberColumns) : Type 0 where
+  pub ends_are : new.ends.now ≡ over (ends_of (map members_of_element es)) old.ends.now
+  pub kinds_are : new.kinds.now ≡ over (map (λ m. number_of_kind m.kind) (all_members es)) old.kinds.now
+  pub ids_are : new.ids.now ≡ over (map (λ m. m.id) (all_members es)) old.ids.now
+  pub roles_are : new.roles.now ≡ over roles old.roles.now
 
-abbrev pub refs_of_element : Element → List ℤ
-refs_of_element (Way w) = w.refs
-refs_of_element (Node n) = []
-refs_of_element (Relation r) = []
+pub record HoldsTexts (texts : List Text) (old new : TextColumn) : Type 0 where
+  pub ends_are : new.ends.now ≡ over (ends_of texts) old.ends.now
+  pub bytes_are : new.bytes.now ≡ over (joined texts) old.bytes.now
 
-abbrev pub members_of_element : Element → List MemberValue
-members_of_element (Relation r) = r.members
-members_of_element (Node n) = []
-members_of_element (Way w) = []
-
--- where each of the lists ends in their joining, which begins behind `at` items
-abbrev pub ends_from : {A : Type 0} → ℕ → List (List A) → List ℕ
-ends_from at [] = []
-ends_from at (xs ∷ rest) = (at + length xs) ∷ ends_from (at + length xs) rest
-
-abbrev pub ends_of : {A : Type 0} → List (List A) → List ℕ
-ends_of lists = ends_from 0 lists
-
-abbrev pub joined : {A : Type 0} → List (List A) → List A
-joined lists = flat_map (λ xs. xs) lists
-
--- what is joined, and where each list ends in it; texts are lists of bytes
-pub record AreLists {A : Type 0} (items : List A) (ends : List ℕ) (lists : List (List A)) : Type 0 where
-  pub items_are : items ≡ joined lists
-  pub ends_are : ends ≡ ends_of lists
+-- The columns of the elements, and the texts that their indexes name: each index names the text of its element, tag or member.
+pub record HoldsColumns (es : List Element) (texts : List Text) (old new : Columns) : Type 0 where
+  pub users : List ℤ
+  pub keys : List ℤ
+  pub values : List ℤ
+  pub roles : List ℤ
+  pub users_name : NameAll texts users (users_of es)
+  pub keys_name : NameAll texts keys (keys_of es)
+  pub values_name : NameAll texts values (values_of es)
+  pub roles_name : NameAll texts roles (roles_of es)
+  pub elements_are : HoldsElements users es old.elements new.elements
+  pub tags_are : HoldsTags keys values es old.tags new.tags
+  pub refs_are : HoldsRefs es old.refs new.refs
+  pub members_are : HoldsMembers roles es old.members new.members
+  pub texts_are : HoldsTexts texts old.texts new.texts

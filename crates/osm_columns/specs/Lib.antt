@@ -1,4 +1,5 @@
-pub mod Columns
+pub mod Values
 pub mod Lists
-pub mod Tables
-pub mod Slots
+pub mod Texts
+pub mod Indexes
+pub mod Columns

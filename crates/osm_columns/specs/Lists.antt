@@ -1,26 +1,30 @@
--- The lists of elements in columns: their tags, the nodes of ways, the members of relations.
-use Rattle.std.specs.Prelude.{◌≡◌, ℤ, List, map}
+-- Lists, joined, and where each of them ends: with a 0 in front, the offsets of Arrow's large lists and texts (Arrow Columnar
+-- Format, "Variable-size List Layout").
+use Rattle.std.specs.Prelude.{ℕ, ◌+◌, List, [], ◌∷◌, length, map}
+use Rattle.std.specs.List.{flat_map}
+use Rattle.osm_value.specs.declared.element.Element.{Element}
 use Rattle.osm_value.specs.Value.{Text, MemberValue}
-use Rattle.osm_columns.specs.declared.texts.TextColumn.{TextColumn}
-use Rattle.osm_columns.specs.declared.tags.TagColumns.{TagColumns}
-use Rattle.osm_columns.specs.declared.refs.RefColumns.{RefColumns}
-use Rattle.osm_columns.specs.declared.members.MemberColumns.{MemberColumns}
-use Rattle.osm_columns.specs.Columns.{AreLists, ends_of, joined, number_of_kind}
+use Rattle.osm_value.specs.Elements.{tags_of_element}
+use Rattle.osm_columns.specs.Values.{refs_of_element, members_of_element}
+use Rattle.std.specs.Prelude.{ℤ}
 
-abbrev pub AreTexts : TextColumn → List Text → Type 0
-AreTexts c texts = AreLists c.bytes.items c.ends.items texts
+abbrev pub joined : {A : Type 0} → List (List A) → List A
+joined lists = flat_map (λ xs. xs) lists
 
--- one list of tags for each element, keys and values apart
-pub record AreTags (c : TagColumns) (lists : List (List (Text × Text))) : Type 0 where
-  pub ends_are : c.ends.items ≡ ends_of lists
-  pub keys_are : AreTexts c.keys (map (λ t. t.0) (joined lists))
-  pub values_are : AreTexts c.values (map (λ t. t.1) (joined lists))
+-- where each list ends in their joining, which begins behind `at` items
+abbrev pub ends_from : {A : Type 0} → ℕ → List (List A) → List ℕ
+ends_from at [] = []
+ends_from at (xs ∷ rest) = (at + length xs) ∷ ends_from (at + length xs) rest
 
-abbrev pub AreRefs : RefColumns → List (List ℤ) → Type 0
-AreRefs c lists = AreLists c.ids.items c.ends.items lists
+abbrev pub ends_of : {A : Type 0} → List (List A) → List ℕ
+ends_of lists = ends_from 0 lists
 
-pub record AreMembers (c : MemberColumns) (lists : List (List MemberValue)) : Type 0 where
-  pub ends_are : c.ends.items ≡ ends_of lists
-  pub kinds_are : c.kinds.items ≡ map (λ m. number_of_kind m.kind) (joined lists)
-  pub ids_are : c.ids.items ≡ map (λ m. m.id) (joined lists)
-  pub roles_are : AreTexts c.roles (map (λ m. m.role) (joined lists))
+-- the tags, references and members of all elements, in their order
+abbrev pub all_tags : List Element → List (Text × Text)
+all_tags es = joined (map tags_of_element es)
+
+abbrev pub all_refs : List Element → List ℤ
+all_refs es = joined (map refs_of_element es)
+
+abbrev pub all_members : List Element → List MemberValue
+all_members es = joined (map members_of_element es)

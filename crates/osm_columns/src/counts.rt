@@ -1,13 +1,15 @@
-//! How long the columns are.
+//! How long columns are.
 
-ghost use Rattle.std.specs.Prelude.{◌≡◌, ◌==◌, ℕ, List, length};
-ghost use Rattle.std.specs.List.{count_by};
+ghost use Rattle.std.specs.Prelude.{◌≡◌, List, length, IfSome, map};
 ghost use Rattle.osm_value.specs.declared.element.Element.{Element};
-ghost use Rattle.osm_columns.specs.Tables.{IsTable, AreCounts};
+ghost use Rattle.osm_columns.specs.Lists.{joined, all_refs};
+ghost use Rattle.osm_columns.specs.Indexes.{AreIndexes, texts_in};
+ghost use Rattle.osm_columns.specs.Columns.{AreCounts, AreKindCounts};
 
-use crate::table::Table;
+use crate::indexes::{TextIndexes, refs_of};
+use osm_value::Element;
 
-/// How many items and how many bytes of text the columns have.
+/// How many items the columns of some elements have, and how many bytes their texts.
 #[repr(C)]
 #[derive(Debug, Drop)]
 pub struct Counts {
@@ -15,36 +17,81 @@ pub struct Counts {
     pub nodes: u64,
     pub ways: u64,
     pub relations: u64,
-    pub user_bytes: u64,
     pub tags: u64,
-    pub key_bytes: u64,
-    pub value_bytes: u64,
     pub refs: u64,
     pub members: u64,
-    pub role_bytes: u64,
+    pub texts: u64,
+    pub text_bytes: u64,
 }
 
-fn count_of(numbers: &[u8], number: u8) -> u64
-    ensures { result ≡ count_by (λ k. k == number) numbers.now }
-{
-    numbers.iter().filter(|k| **k == number).count() as u64
+/// How many elements there are of each kind.
+#[derive(Debug, Clone, Copy)]
+struct KindCounts {
+    nodes: u64,
+    ways: u64,
+    relations: u64,
 }
 
-/// How long the columns of the table are.
-pub fn counts_of(table: &Table) -> Counts
-    ensures { (es : List Element) → IsTable table.now es → AreCounts result es }
+fn kinds_of(elements: &[Element]) -> KindCounts
+    ensures { AreKindCounts result elements.now }
 {
-    Counts {
-        elements: table.numbers.ids.len() as u64,
-        nodes: count_of(&table.numbers.kinds, 0),
-        ways: count_of(&table.numbers.kinds, 1),
-        relations: count_of(&table.numbers.kinds, 2),
-        user_bytes: table.users.bytes.len() as u64,
-        tags: table.tags.keys.ends.len() as u64,
-        key_bytes: table.tags.keys.bytes.len() as u64,
-        value_bytes: table.tags.values.bytes.len() as u64,
-        refs: table.refs.ids.len() as u64,
-        members: table.members.ids.len() as u64,
-        role_bytes: table.members.roles.bytes.len() as u64,
+    let mut nodes = 0;
+    let mut ways = 0;
+    let mut relations = 0;
+    for element in elements {
+        match element {
+            Element::Node(_) => nodes += 1,
+            Element::Way(_) => ways += 1,
+            Element::Relation(_) => relations += 1,
+        }
     }
+    KindCounts {
+        nodes,
+        ways,
+        relations,
+    }
+}
+
+/// How many references the ways have; none where these are 2^64 or more.
+fn ref_count_of(elements: &[Element]) -> Option<u64>
+    ensures { IfSome result (λ n. n ≡ length (all_refs elements.now)) }
+{
+    let mut count: u64 = 0;
+    for element in elements {
+        count = count.checked_add(refs_of(element).len() as u64)?;
+    }
+    Some(count)
+}
+
+/// How many bytes the texts have together; none where these are 2^64 or more.
+pub fn text_bytes_of(texts: &[&str]) -> Option<u64>
+    ensures { IfSome result (λ n. n ≡ length (joined (map (λ t. t.now) texts.now))) }
+{
+    let mut count: u64 = 0;
+    for text in texts {
+        count = count.checked_add(text.len() as u64)?;
+    }
+    Some(count)
+}
+
+/// How long the columns of the elements are, whose texts have these indexes; none where a column would have 2^64 items or more,
+/// which no memory holds.
+pub fn counts_of(elements: &[Element], indexes: &TextIndexes) -> Option<Counts>
+    requires { AreIndexes indexes.now elements.now }
+    ensures { IfSome result (λ c. AreCounts c elements.now (texts_in indexes.now.dictionary)) }
+{
+    let refs = ref_count_of(elements)?;
+    let text_bytes = text_bytes_of(&indexes.dictionary.texts)?;
+    let kinds = kinds_of(elements);
+    Some(Counts {
+        elements: elements.len() as u64,
+        nodes: kinds.nodes,
+        ways: kinds.ways,
+        relations: kinds.relations,
+        tags: indexes.keys.len() as u64,
+        refs,
+        members: indexes.roles.len() as u64,
+        texts: indexes.dictionary.texts.len() as u64,
+        text_bytes,
+    })
 }

@@ -1,22 +1,18 @@
-//! Elements in columns: arrays of numbers, and texts and lists joined to arrays, as Arrow and numpy have them.
+//! Elements in columns: arrays of a caller that hold one number for each element, tag, reference or member, and texts by their
+//! indexes in a list of texts, as Arrow and numpy have them.
 #![tactic(auto)]
 
+mod columns;
 mod counts;
-mod members;
-mod numbers;
-mod refs;
-mod slots;
-mod table;
-mod tags;
-mod texts;
+mod dictionary;
+mod indexes;
+mod put;
+mod values;
 
-pub use counts::{Counts, counts_of};
-pub use members::MemberColumns;
-pub use numbers::NumberColumns;
-pub use refs::RefColumns;
-pub use slots::{
-    Columns, MemberSlots, NumberSlots, RefSlots, TagSlots, TextSlots, columns_fit, put_table,
+pub use columns::{
+    Columns, ElementColumns, MemberColumns, RefColumns, TagColumns, TextColumn, columns_fit,
+    texts_fit,
 };
-pub use table::{Table, table_of};
-pub use tags::TagColumns;
-pub use texts::TextColumn;
+pub use counts::{Counts, counts_of, text_bytes_of};
+pub use indexes::{TextIndexes, text_indexes_of};
+pub use put::{put_columns, put_texts};
