@@ -1,49 +1,68 @@
 //! Blocks in columns.
 
 ghost use Rattle.std.specs.Prelude.{◌≡◌, List};
-ghost use Rattle.osm_value.specs.declared.element.Element.{Element};
 ghost use Rattle.osm_block.specs.Block.{Block};
 ghost use Rattle.osm_block.specs.Phases.{Gives, fault};
-ghost use Rattle.osm_columns.specs.Tables.{IsTable};
-ghost use Rattle.pbfrow_c.specs.Answers.{CountsAnswer, ColumnsAnswer};
+ghost use Rattle.osm_columns.specs.Indexes.{AreIndexes, texts_in};
+ghost use Rattle.osm_columns.specs.Columns.{AreCounts};
+ghost use Rattle.pbfrow_c.specs.Blocks.{IsReading, CountsAnswer, ColumnsAnswer};
 
 use osm_block::{BlockError, read_block};
-use osm_columns::{Columns, Counts, Table, columns_fit, counts_of, put_table, table_of};
+use osm_columns::{
+    Columns, Counts, TextIndexes, columns_fit, counts_of, put_columns, text_indexes_of,
+};
+use osm_value::Element;
 use std::alloc::Global;
 
-/// Not all columns have room in the arrays.
+/// The number of the answer that an array is too short for its column.
 const NO_ROOM: u8 = 72;
 
-/// The columns of the block's elements.
-fn read_table(alloc: Global, block: &[u8]) -> Result<Table, BlockError>
-    ensures { Gives (λ t. (es : List Element) × Block es block.now × IsTable t es) (fault block.now) result }
-{
-    let elements = read_block(alloc, block)?;
-    let table = table_of(alloc, &elements)?;
-    Ok(table)
+/// The elements of a block, their texts by indexes, and how long their columns are.
+#[derive(Drop)]
+struct Reading<'a> {
+    elements: Vec<Element<'a>>,
+    indexes: TextIndexes<'a>,
+    counts: Counts,
 }
 
-/// How many elements a block has, and how long their columns are. `block` is the payload of an OSMData blob.
+/// Reads a block. `Memory` is also answered where a column would have 2^64 items.
+fn read<'a>(alloc: Global, block: &'a [u8]) -> Result<Reading<'a>, BlockError>
+    ensures { Gives (IsReading block.now) (fault block.now) result }
+{
+    let elements = read_block(alloc, block)?;
+    let indexes = text_indexes_of(alloc, &elements)?;
+    match counts_of(&elements, &indexes) {
+        Some(counts) => Ok(Reading {
+            elements,
+            indexes,
+            counts,
+        }),
+        None => Err(BlockError::Memory),
+    }
+}
+
+/// How many elements a block has, and how long their columns are. `block` is the payload of an OSMData blob, raw.
 ///
-/// The status is 0, or the number of the block's fault, 40 to 52, or 65 where memory was refused; then nothing is
-/// written.
+/// The status is 0; or the number of the block's first fault, 40 to 52; or 65 where memory was refused. Where it isn't 0, nothing
+/// is written.
 #[unsafe(no_mangle)]
 pub extern "C" fn pbfrow_block_counts(alloc: Global, block: &[u8], counts: &mut Counts) -> u8
     ensures { CountsAnswer block.now counts.old counts.new result }
 {
-    match read_table(alloc, block) {
-        Ok(table) => {
-            *counts = counts_of(&table);
+    match read(alloc, block) {
+        Ok(reading) => {
+            *counts = reading.counts;
             0
         }
         Err(error) => error.number(),
     }
 }
 
-/// The elements of a block in columns, and how long these are. `block` is the payload of an OSMData blob.
+/// The elements of a block in columns, from the first item of each array on, and how long these are. `block` is the payload of an
+/// OSMData blob, raw. What is behind a column stays.
 ///
-/// The status is 0; or 72 where an array is too short for its column: then the counts say how long the arrays have to
-/// be, and none of them is written to; or as for `pbfrow_block_counts`.
+/// The status is 0; or 72 where an array is too short for its column: then the counts say how long the arrays have to be, and no
+/// array is written to; or as that of `pbfrow_block_counts`, and then nothing is written.
 #[unsafe(no_mangle)]
 pub extern "C" fn pbfrow_block_columns(
     alloc: Global,
@@ -53,14 +72,14 @@ pub extern "C" fn pbfrow_block_columns(
 ) -> u8
     ensures { ColumnsAnswer block.now counts.old counts.new columns.old columns.new result }
 {
-    match read_table(alloc, block) {
-        Ok(table) => {
-            *counts = counts_of(&table);
-            if !columns_fit(&table, columns) {
-                return NO_ROOM;
+    match read(alloc, block) {
+        Ok(reading) => {
+            let room = columns_fit(&reading.counts, columns);
+            if room {
+                put_columns(&reading.elements, &reading.indexes, &reading.counts, columns);
             }
-            put_table(&table, columns);
-            0
+            *counts = reading.counts;
+            if room { 0 } else { NO_ROOM }
         }
         Err(error) => error.number(),
     }

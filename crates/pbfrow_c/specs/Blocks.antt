@@ -1,0 +1,34 @@
+-- What the calls over a block answer: a status, and what they wrote.
+use Rattle.std.specs.Prelude.{◌≡◌, ◌⊎◌, ℕ, List, Some, false}
+use Rattle.osm_value.specs.declared.element.Element.{Element}
+use Rattle.osm_value.specs.Value.{Text}
+use Rattle.osm_block.specs.declared.fault.BlockFault.{BlockFault}
+use Rattle.osm_block.specs.Fault.{number_of}
+use Rattle.osm_block.specs.Phases.{fault}
+use Rattle.osm_block.specs.Block.{Block}
+use Rattle.osm_columns.specs.declared.counts.Counts.{Counts}
+use Rattle.osm_columns.specs.declared.columns.Columns.{Columns}
+use Rattle.osm_columns.specs.Indexes.{AreIndexes, texts_in}
+use Rattle.osm_columns.specs.Columns.{AreCounts, columns_fit, HoldsColumns}
+use Rattle.pbfrow_c.specs.declared.block.Reading.{Reading}
+
+-- the elements of the block w, their texts by indexes, and how long their columns are
+pub record IsReading (w : List ℕ) (r : Reading) : Type 0 where
+  pub elements_are : Block r.elements.items w
+  pub indexes_are : AreIndexes r.indexes r.elements.items
+  pub counts_are : AreCounts r.counts r.elements.items (texts_in r.indexes.dictionary)
+
+-- the status where there are no elements: memory was refused, or it is the block's first fault
+abbrev pub Refused : List ℕ → ℕ → Type 0
+Refused w n = (n ≡ 65) ⊎ ((f : BlockFault) × (fault w ≡ Some f) × (n ≡ number_of f))
+
+abbrev pub CountsAnswer : List ℕ → Counts → Counts → ℕ → Type 0
+CountsAnswer w old new n =
+    ((n ≡ 0) × ((es : List Element) × (texts : List Text) × Block es w × AreCounts new es texts))
+    ⊎ (Refused w n × (new ≡ old))
+
+abbrev pub ColumnsAnswer : List ℕ → Counts → Counts → Columns → Columns → ℕ → Type 0
+ColumnsAnswer w counts counted old new n =
+    ((n ≡ 0) × ((es : List Element) × (texts : List Text) × Block es w × AreCounts counted es texts × HoldsColumns es texts old new))
+    ⊎ (((n ≡ 72) × (new ≡ old) × (columns_fit counted old ≡ false) × ((es : List Element) × (texts : List Text) × Block es w × AreCounts counted es texts))
+    ⊎ (Refused w n × (counted ≡ counts) × (new ≡ old)))
