@@ -3,6 +3,9 @@
 
 mod blob;
 mod block;
+pub mod laws;
+mod names;
 
 pub use blob::{BlobAt, pbfrow_blob_at};
 pub use block::{pbfrow_block_columns, pbfrow_block_counts};
+pub use names::pbfrow_fault_name;
