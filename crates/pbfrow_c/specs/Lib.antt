@@ -1,2 +1,3 @@
-pub mod Answers
+pub mod Blob
 pub mod Blocks
+pub mod Names
