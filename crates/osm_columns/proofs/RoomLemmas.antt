@@ -2,7 +2,9 @@
 use Rattle.std.proofs.Common.{rules, ◌≡◌, ℕ, ◌≤◌, List, length, ℤ, true, arith}
 use Rattle.osm_value.specs.declared.element.Element.{Element}
 use Rattle.osm_columns.specs.declared.columns.ElementColumns.{ElementColumns}
-use Rattle.osm_columns.specs.Columns.{elements_fit, HoldsElements}
+use Rattle.osm_columns.specs.declared.columns.Columns.{Columns}
+use Rattle.osm_columns.specs.declared.counts.Counts.{Counts}
+use Rattle.osm_columns.specs.Columns.{elements_fit, columns_fit, HoldsElements}
 use Rattle.osm_columns.proofs.ColumnLemmas.{room-kept, column-room}
 
 pub record HasRoom (n : ℕ) (c : ElementColumns) : Type 0 where
@@ -57,4 +59,25 @@ room-left n users es before new h u e r = record {
   uids = column-room _ es _ _ n h.uids_are e r.uids;
   users = room-kept users _ _ n h.users_are u r.users;
   visible = column-room _ es _ _ n h.visible_are e r.visible;
+}
+
+-- and for the tags and members that they have
+pub record HasListRoom (n : Counts) (c : Columns) : Type 0 where
+  pub tag_ends : n.elements ≤ length c.tags.ends.now
+  pub keys : n.tags ≤ length c.tags.keys.now
+  pub values : n.tags ≤ length c.tags.values.now
+  pub member_ends : n.elements ≤ length c.members.ends.now
+  pub kinds : n.members ≤ length c.members.kinds.now
+  pub ids : n.members ≤ length c.members.ids.now
+  pub roles : n.members ≤ length c.members.roles.now
+
+pub list-room-of : (n : Counts) (c : Columns) → columns_fit n c ≡ true → HasListRoom n c
+list-room-of n c h = record {
+  tag_ends = search rules;
+  keys = search rules;
+  values = search rules;
+  member_ends = search rules;
+  kinds = search rules;
+  ids = search rules;
+  roles = search rules;
 }

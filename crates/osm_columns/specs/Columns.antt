@@ -12,10 +12,11 @@ use Rattle.osm_columns.specs.declared.columns.TextColumn.{TextColumn}
 use Rattle.osm_columns.specs.declared.columns.Columns.{Columns}
 use Rattle.osm_columns.specs.declared.counts.Counts.{Counts}
 use Rattle.osm_columns.specs.declared.counts.KindCounts.{KindCounts}
+use Rattle.osm_columns.specs.declared.counts.Survey.{Survey}
 use Rattle.osm_columns.specs.Values.{number_of_kind, kind_number, lat_of_element, lon_of_element, version_of_element, time_of_element, changeset_of_element, uid_of_element, flag_of_element, refs_of_element, members_of_element}
 use Rattle.osm_columns.specs.Lists.{joined, ends_of, all_tags, all_refs, all_members}
 use Rattle.osm_columns.specs.Texts.{NameAll}
-use Rattle.osm_columns.specs.Indexes.{users_of, keys_of, values_of, roles_of}
+use Rattle.osm_columns.specs.Indexes.{AreIndexes, texts_in, users_of, keys_of, values_of, roles_of}
 
 -- ---- how long the columns are
 
@@ -23,6 +24,7 @@ pub record AreKindCounts (c : KindCounts) (es : List Element) : Type 0 where
   pub nodes_are : c.nodes ≡ count_by (λ e. kind_number e == 0) es
   pub ways_are : c.ways ≡ count_by (λ e. kind_number e == 1) es
   pub relations_are : c.relations ≡ count_by (λ e. kind_number e == 2) es
+  pub refs_are : c.refs ≡ length (all_refs es)
 
 pub record AreCounts (c : Counts) (es : List Element) (texts : List Text) : Type 0 where
   pub elements_are : c.elements ≡ length es
@@ -34,6 +36,10 @@ pub record AreCounts (c : Counts) (es : List Element) (texts : List Text) : Type
   pub members_are : c.members ≡ length (all_members es)
   pub texts_are : c.texts ≡ length texts
   pub text_bytes_are : c.text_bytes ≡ length (joined texts)
+
+pub record IsSurvey (s : Survey) (es : List Element) : Type 0 where
+  pub indexes_are : AreIndexes s.indexes es
+  pub counts_are : AreCounts s.counts es (texts_in s.indexes.dictionary)
 
 -- ---- whether they have room
 
@@ -80,6 +86,12 @@ pub record HoldsElements (users : List ℤ) (es : List Element) (old new : Eleme
   pub users_are : new.users.now ≡ over users old.users.now
   pub visible_are : new.visible.now ≡ over (map flag_of_element es) old.visible.now
 
+-- where the tags of the elements end; keys and values are as before
+pub record HoldsTagEnds (es : List Element) (old new : TagColumns) : Type 0 where
+  pub ends_are : new.ends.now ≡ over (ends_of (map tags_of_element es)) old.ends.now
+  pub keys_are : new.keys.now ≡ old.keys.now
+  pub values_are : new.values.now ≡ old.values.now
+
 -- the tags of the elements, with these indexes of their keys and values
 pub record HoldsTags (keys values : List ℤ) (es : List Element) (old new : TagColumns) : Type 0 where
   pub ends_are : new.ends.now ≡ over (ends_of (map tags_of_element es)) old.ends.now
@@ -89,6 +101,20 @@ pub record HoldsTags (keys values : List ℤ) (es : List Element) (old new : Tag
 pub record HoldsRefs (es : List Element) (old new : RefColumns) : Type 0 where
   pub ends_are : new.ends.now ≡ over (ends_of (map refs_of_element es)) old.ends.now
   pub ids_are : new.ids.now ≡ over (all_refs es) old.ids.now
+
+-- the members of the elements; their roles are as before
+pub record HoldsMemberIds (es : List Element) (old new : MemberColumns) : Type 0 where
+  pub ends_are : new.ends.now ≡ over (ends_of (map members_of_element es)) old.ends.now
+  pub kinds_are : new.kinds.now ≡ over (map (λ m. number_of_kind m.kind) (all_members es)) old.kinds.now
+  pub ids_are : new.ids.now ≡ over (map (λ m. m.id) (all_members es)) old.ids.now
+  pub roles_are : new.roles.now ≡ old.roles.now
+
+-- these indexes of roles; the rest is as before
+pub record HoldsRoles (roles : List ℤ) (old new : MemberColumns) : Type 0 where
+  pub ends_are : new.ends.now ≡ old.ends.now
+  pub kinds_are : new.kinds.now ≡ old.kinds.now
+  pub ids_are : new.ids.now ≡ old.ids.now
+  pub roles_are : new.roles.now ≡ over roles old.roles.now
 
 -- the members of the elements, with these indexes of their roles
 pub record HoldsMembers (roles : List ℤ) (es : List Element) (old new : MemberColumns) : Type 0 where

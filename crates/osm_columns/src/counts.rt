@@ -1,13 +1,13 @@
 //! How long columns are.
 
-ghost use Rattle.std.specs.Prelude.{◌≡◌, List, length, IfSome, map};
+ghost use Rattle.std.specs.Prelude.{◌≡◌, ◌++◌, ◌∷◌, [], List, length, IfSome, IfOk, map};
 ghost use Rattle.osm_value.specs.declared.element.Element.{Element};
-ghost use Rattle.osm_columns.specs.Lists.{joined, all_refs};
-ghost use Rattle.osm_columns.specs.Indexes.{AreIndexes, texts_in};
-ghost use Rattle.osm_columns.specs.Columns.{AreCounts, AreKindCounts};
+ghost use Rattle.osm_columns.specs.Lists.{joined};
+ghost use Rattle.osm_columns.specs.Columns.{AreKindCounts, IsSurvey};
 
-use crate::indexes::{TextIndexes, refs_of};
+use crate::indexes::TextIndexes;
 use osm_value::Element;
+use std::alloc::{AllocError, Global};
 
 /// How many items the columns of some elements have, and how many bytes their texts.
 #[repr(C)]
@@ -24,43 +24,36 @@ pub struct Counts {
     pub text_bytes: u64,
 }
 
-/// How many elements there are of each kind.
+/// How many elements there are of each kind, and how many references the ways have.
 #[derive(Debug, Clone, Copy)]
 struct KindCounts {
     nodes: u64,
     ways: u64,
     relations: u64,
+    refs: u64,
 }
 
-fn kinds_of(elements: &[Element]) -> KindCounts
-    ensures { AreKindCounts result elements.now }
-{
-    let mut nodes = 0;
-    let mut ways = 0;
-    let mut relations = 0;
-    for element in elements {
+impl KindCounts {
+    /// The counts with one element more; none where a count would be 2^64.
+    fn with(self, element: &Element) -> Option<KindCounts>
+        ensures { IfSome result (λ c. (es : List Element) → AreKindCounts self es → AreKindCounts c (es ++ element.now ∷ [])) }
+    {
         match element {
-            Element::Node(_) => nodes += 1,
-            Element::Way(_) => ways += 1,
-            Element::Relation(_) => relations += 1,
+            Element::Node(_) => Some(KindCounts {
+                nodes: self.nodes.checked_add(1)?,
+                ..self
+            }),
+            Element::Way(way) => Some(KindCounts {
+                ways: self.ways.checked_add(1)?,
+                refs: self.refs.checked_add(way.refs().len() as u64)?,
+                ..self
+            }),
+            Element::Relation(_) => Some(KindCounts {
+                relations: self.relations.checked_add(1)?,
+                ..self
+            }),
         }
     }
-    KindCounts {
-        nodes,
-        ways,
-        relations,
-    }
-}
-
-/// How many references the ways have; none where these are 2^64 or more.
-fn ref_count_of(elements: &[Element]) -> Option<u64>
-    ensures { IfSome result (λ n. n ≡ length (all_refs elements.now)) }
-{
-    let mut count: u64 = 0;
-    for element in elements {
-        count = count.checked_add(refs_of(element).len() as u64)?;
-    }
-    Some(count)
 }
 
 /// How many bytes the texts have together; none where these are 2^64 or more.
@@ -74,24 +67,42 @@ pub fn text_bytes_of(texts: &[&str]) -> Option<u64>
     Some(count)
 }
 
-/// How long the columns of the elements are, whose texts have these indexes; none where a column would have 2^64 items or more,
-/// which no memory holds.
-pub fn counts_of(elements: &[Element], indexes: &TextIndexes) -> Option<Counts>
-    requires { AreIndexes indexes.now elements.now }
-    ensures { IfSome result (λ c. AreCounts c elements.now (texts_in indexes.now.dictionary)) }
+/// What has to be known of some elements before their columns are written: their texts by indexes, and how long the columns are.
+#[derive(Debug, Drop)]
+pub struct Survey<'a> {
+    pub indexes: TextIndexes<'a>,
+    pub counts: Counts,
+}
+
+/// Looks through the elements once. It fails only where memory is refused, or where there are 2^31 texts or a count of 2^64, which
+/// no memory holds.
+pub fn survey_of<'a>(alloc: Global, elements: &[Element<'a>]) -> Result<Survey<'a>, AllocError>
+    ensures { IfOk result (λ s. IsSurvey s elements.now) }
 {
-    let refs = ref_count_of(elements)?;
-    let text_bytes = text_bytes_of(&indexes.dictionary.texts)?;
-    let kinds = kinds_of(elements);
-    Some(Counts {
+    let mut indexes = TextIndexes::new(alloc)?;
+    let mut kinds = KindCounts {
+        nodes: 0,
+        ways: 0,
+        relations: 0,
+        refs: 0,
+    };
+    for element in elements {
+        indexes.push(element)?;
+        kinds = kinds.with(element).ok_or(AllocError)?;
+    }
+    let Some(text_bytes) = text_bytes_of(&indexes.dictionary.texts) else {
+        return Err(AllocError);
+    };
+    let counts = Counts {
         elements: elements.len() as u64,
         nodes: kinds.nodes,
         ways: kinds.ways,
         relations: kinds.relations,
         tags: indexes.keys.len() as u64,
-        refs,
+        refs: kinds.refs,
         members: indexes.roles.len() as u64,
         texts: indexes.dictionary.texts.len() as u64,
         text_bytes,
-    })
+    };
+    Ok(Survey { indexes, counts })
 }

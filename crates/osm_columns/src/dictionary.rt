@@ -31,28 +31,37 @@ fn mixed(hash: u64, word: u64) -> u64 {
         .rotate_left(29)
 }
 
-/// The last eight bytes, or all of a shorter text.
-fn last_word(text: &[u8]) -> u64 {
-    if let Some(word) = text.last_chunk::<8>() {
-        return u64::from_le_bytes(*word);
+/// The first and the last bytes of a text, which cover it where it has at most sixteen.
+fn ends_of(text: &[u8]) -> (u64, u64) {
+    if let (Some(first), Some(last)) = (text.first_chunk::<8>(), text.last_chunk::<8>()) {
+        return (u64::from_le_bytes(*first), u64::from_le_bytes(*last));
+    }
+    if let (Some(first), Some(last)) = (text.first_chunk::<4>(), text.last_chunk::<4>()) {
+        return (
+            u64::from(u32::from_le_bytes(*first)),
+            u64::from(u32::from_le_bytes(*last)),
+        );
     }
     let mut word = 0;
     for byte in text {
         word = word << 8 | u64::from(*byte);
     }
-    word
+    (word, 0)
 }
 
 /// The bucket where the search for a text begins.
 fn bucket_of(text: &[u8]) -> usize
     ensures { result < 16384 }
 {
-    let mut hash = text.len() as u64;
-    let (words, _) = text.as_chunks::<8>();
-    for word in words {
-        hash = mixed(hash, u64::from_le_bytes(*word));
+    let (first, last) = ends_of(text);
+    let mut hash = mixed(mixed(text.len() as u64, first), last);
+    if text.len() > 16 {
+        let (words, _) = text.as_chunks::<8>();
+        for word in words {
+            hash = mixed(hash, u64::from_le_bytes(*word));
+        }
     }
-    (mixed(hash, last_word(text)) % 16_384) as usize
+    (hash % 16_384) as usize
 }
 
 impl<'a> Dictionary<'a> {
@@ -75,7 +84,7 @@ impl<'a> Dictionary<'a> {
     }
 
     /// Whether this index names the text.
-    fn names(&self, index: i32, text: &str) -> bool
+    pub(crate) fn names(&self, index: i32, text: &str) -> bool
         ensures { IsTrue result → Names (texts_in self.now) index (Some text.now) }
     {
         match usize::try_from(index) {

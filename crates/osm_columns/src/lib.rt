@@ -13,6 +13,6 @@ pub use columns::{
     Columns, ElementColumns, MemberColumns, RefColumns, TagColumns, TextColumn, columns_fit,
     texts_fit,
 };
-pub use counts::{Counts, counts_of, text_bytes_of};
-pub use indexes::{TextIndexes, text_indexes_of};
+pub use counts::{Counts, Survey, survey_of, text_bytes_of};
+pub use indexes::TextIndexes;
 pub use put::{put_columns, put_texts};

@@ -7,12 +7,12 @@ ghost use Rattle.osm_value.specs.Value.{Text};
 ghost use Rattle.osm_columns.specs.declared.columns.ElementColumns.{ElementColumns};
 ghost use Rattle.osm_columns.specs.Values.{number_of_kind, refs_of_element, members_of_element};
 ghost use Rattle.osm_columns.specs.Lists.{joined, ends_of, all_tags, all_refs, all_members};
-ghost use Rattle.osm_columns.specs.Indexes.{AreIndexes, texts_in};
-ghost use Rattle.osm_columns.specs.Columns.{over, has_room, elements_fit, tags_fit, refs_fit, members_fit, texts_fit, columns_fit, AreCounts, HoldsElements, HoldsTags, HoldsRefs, HoldsMembers, HoldsTexts, HoldsColumns};
+ghost use Rattle.osm_columns.specs.Indexes.{texts_in};
+ghost use Rattle.osm_columns.specs.Columns.{over, has_room, elements_fit, refs_fit, texts_fit, columns_fit, IsSurvey, HoldsElements, HoldsTagEnds, HoldsRefs, HoldsMemberIds, HoldsRoles, HoldsTexts, HoldsColumns};
 
 use crate::columns::{Columns, ElementColumns, MemberColumns, RefColumns, TagColumns, TextColumn};
-use crate::counts::Counts;
-use crate::indexes::{TextIndexes, members_of, refs_of};
+use crate::counts::Survey;
+use crate::indexes::{members_of, refs_of};
 use crate::values::{
     changeset_of, flag_of, lat_of, lon_of, number_of_kind, time_of, uid_of, version_of,
 };
@@ -31,6 +31,10 @@ fn put_items<T: Copy>(items: &[T], at: usize, array: &mut [T])
     requires { at + length items.now ≤ length array.old }
     ensures { (front before : List T) → array.old ≡ over front before → length front ≡ at → array.new ≡ over (front ++ items.now) before }
 {
+    // most elements have no references and no members
+    if items.is_empty() {
+        return;
+    }
     let (_, behind) = array.split_at_mut(at);
     let (place, _) = behind.split_at_mut(items.len());
     place.copy_from_slice(items);
@@ -64,61 +68,6 @@ fn put_element(element: &Element, users: &[i32], at: usize, columns: &mut Elemen
     put_item(flag_of(element), at, columns.visible);
 }
 
-/// Writes the numbers of the elements, and the indexes of their users.
-fn put_elements(elements: &[Element], users: &[i32], columns: &mut ElementColumns)
-    requires users { length users.now ≡ length elements.now }
-    requires room { elements_fit (length elements.now) columns.old ≡ true }
-    ensures { HoldsElements users.now elements.now columns.old columns.new }
-{
-    let mut at = 0;
-    for element in elements {
-        put_element(element, users, at, columns);
-        at += 1;
-    }
-}
-
-/// Writes where the tags of each element end.
-fn put_tag_ends(elements: &[Element], ends: &mut [u64])
-    requires count { length (all_tags elements.now) < 2 ^ 64 }
-    requires room { length elements.now ≤ length ends.old }
-    ensures { ends.new ≡ over (ends_of (map tags_of_element elements.now)) ends.old }
-{
-    let mut at = 0;
-    let mut end: u64 = 0;
-    for element in elements {
-        end += element.tags().len() as u64;
-        put_item(end, at, ends);
-        at += 1;
-    }
-}
-
-fn put_tags(elements: &[Element], keys: &[i32], values: &[i32], columns: &mut TagColumns)
-    requires keys { length keys.now ≡ length (all_tags elements.now) }
-    requires values { length values.now ≡ length (all_tags elements.now) }
-    requires room { tags_fit (length elements.now) (length (all_tags elements.now)) columns.old ≡ true }
-    ensures { HoldsTags keys.now values.now elements.now columns.old columns.new }
-{
-    put_tag_ends(elements, columns.ends);
-    put_column(keys, columns.keys);
-    put_column(values, columns.values);
-}
-
-/// Writes the references of the ways, and where those of each element end.
-fn put_refs(elements: &[Element], columns: &mut RefColumns)
-    requires { refs_fit (length elements.now) (length (all_refs elements.now)) columns.old ≡ true }
-    ensures { HoldsRefs elements.now columns.old columns.new }
-{
-    let mut at = 0;
-    let mut end: usize = 0;
-    for element in elements {
-        let refs = refs_of(element);
-        put_items(refs, end, columns.ids);
-        end += refs.len();
-        put_item(end as u64, at, columns.ends);
-        at += 1;
-    }
-}
-
 /// Writes the kinds and the ids of the members behind so many others.
 fn put_members_behind(members: &[Member], end: usize, kinds: &mut [u8], ids: &mut [i64])
     requires kinds { end + length members.now ≤ length kinds.old }
@@ -134,22 +83,67 @@ fn put_members_behind(members: &[Member], end: usize, kinds: &mut [u8], ids: &mu
     }
 }
 
-/// Writes the members of the relations, and where those of each element end.
-fn put_members(elements: &[Element], roles: &[i32], columns: &mut MemberColumns)
-    requires room { members_fit (length elements.now) (length (all_members elements.now)) columns.old ≡ true }
-    requires roles { length roles.now ≡ length (all_members elements.now) }
-    ensures { HoldsMembers roles.now elements.now columns.old columns.new }
+/// Writes what each element has a place for in the arrays: its numbers, the index of its user, its references and members, and
+/// where its tags, references and members end. One loop does it all, since the elements take more memory than the nearest cache has.
+fn put_elements(
+    elements: &[Element],
+    users: &[i32],
+    columns: &mut ElementColumns,
+    tags: &mut TagColumns,
+    refs: &mut RefColumns,
+    members: &mut MemberColumns,
+)
+    requires users { length users.now ≡ length elements.now }
+    requires tags { length (all_tags elements.now) < 2 ^ 64 }
+    requires room { elements_fit (length elements.now) columns.old ≡ true }
+    requires tag_room { length elements.now ≤ length tags.old.ends.now }
+    requires ref_room { refs_fit (length elements.now) (length (all_refs elements.now)) refs.old ≡ true }
+    requires member_ends { length elements.now ≤ length members.old.ends.now }
+    requires member_kinds { length (all_members elements.now) ≤ length members.old.kinds.now }
+    requires member_ids { length (all_members elements.now) ≤ length members.old.ids.now }
+    ensures elements { HoldsElements users.now elements.now columns.old columns.new }
+    ensures tags { HoldsTagEnds elements.now tags.old tags.new }
+    ensures refs { HoldsRefs elements.now refs.old refs.new }
+    ensures members { HoldsMemberIds elements.now members.old members.new }
 {
     let mut at = 0;
-    let mut end: usize = 0;
+    let mut tag_end: u64 = 0;
+    let mut ref_end: usize = 0;
+    let mut member_end: usize = 0;
     for element in elements {
-        let members = members_of(element);
-        put_members_behind(members, end, columns.kinds, columns.ids);
-        end += members.len();
-        put_item(end as u64, at, columns.ends);
+        put_element(element, users, at, columns);
+        tag_end += element.tags().len() as u64;
+        put_item(tag_end, at, tags.ends);
+        let its_refs = refs_of(element);
+        put_items(its_refs, ref_end, refs.ids);
+        ref_end += its_refs.len();
+        put_item(ref_end as u64, at, refs.ends);
+        let its_members = members_of(element);
+        put_members_behind(its_members, member_end, members.kinds, members.ids);
+        member_end += its_members.len();
+        put_item(member_end as u64, at, members.ends);
         at += 1;
     }
-    put_column(roles, columns.roles);
+}
+
+/// Writes the indexes of the keys and of the values.
+fn put_tag_texts(keys: &[i32], values: &[i32], tags: &mut TagColumns)
+    requires keys { length keys.now ≤ length tags.old.keys.now }
+    requires values { length values.now ≤ length tags.old.values.now }
+    ensures ends { tags.new.ends.now ≡ tags.old.ends.now }
+    ensures keys { tags.new.keys.now ≡ over keys.now tags.old.keys.now }
+    ensures values { tags.new.values.now ≡ over values.now tags.old.values.now }
+{
+    put_column(keys, tags.keys);
+    put_column(values, tags.values);
+}
+
+/// Writes the indexes of the roles.
+fn put_roles(roles: &[i32], members: &mut MemberColumns)
+    requires { length roles.now ≤ length members.old.roles.now }
+    ensures { HoldsRoles roles.now members.old members.new }
+{
+    put_column(roles, members.roles);
 }
 
 /// Writes the texts, and where each ends, from the first item of each array on. What is behind them stays.
@@ -167,22 +161,23 @@ pub fn put_texts(texts: &[&str], column: &mut TextColumn)
     }
 }
 
-/// Writes the columns of the elements, whose texts have these indexes, and the texts, from the first item of each array on. What
-/// is behind a column stays.
-pub fn put_columns(
-    elements: &[Element],
-    indexes: &TextIndexes,
-    counts: &Counts,
-    columns: &mut Columns,
-)
-    requires indexes { AreIndexes indexes.now elements.now }
-    requires counts { AreCounts counts.now elements.now (texts_in indexes.now.dictionary) }
-    requires room { columns_fit counts.now columns.old ≡ true }
-    ensures { HoldsColumns elements.now (texts_in indexes.now.dictionary) columns.old columns.new }
+/// Writes the columns of the elements and the texts that their indexes name, from the first item of each array on. What is behind a
+/// column stays.
+pub fn put_columns(elements: &[Element], survey: &Survey, columns: &mut Columns)
+    requires survey { IsSurvey survey.now elements.now }
+    requires room { columns_fit survey.now.counts columns.old ≡ true }
+    ensures { HoldsColumns elements.now (texts_in survey.now.indexes.dictionary) columns.old columns.new }
 {
-    put_elements(elements, &indexes.users, &mut columns.elements);
-    put_tags(elements, &indexes.keys, &indexes.values, &mut columns.tags);
-    put_refs(elements, &mut columns.refs);
-    put_members(elements, &indexes.roles, &mut columns.members);
+    let indexes = &survey.indexes;
+    put_tag_texts(&indexes.keys, &indexes.values, &mut columns.tags);
+    put_roles(&indexes.roles, &mut columns.members);
+    put_elements(
+        elements,
+        &indexes.users,
+        &mut columns.elements,
+        &mut columns.tags,
+        &mut columns.refs,
+        &mut columns.members,
+    );
     put_texts(&indexes.dictionary.texts, &mut columns.texts);
 }

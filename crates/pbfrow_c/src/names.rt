@@ -1,7 +1,7 @@
 //! The names of the faults.
 
 ghost use Rattle.std.specs.Prelude.{◌≡◌, ◌≤◌, ◌<◌, length};
-ghost use Rattle.osm_columns.specs.Slots.{over};
+ghost use Rattle.osm_columns.specs.Columns.{over};
 ghost use Rattle.pbfrow_c.specs.Names.{block_names, compressed_name, fault_name, name_in};
 
 /// The name of a Blob's fault whose data is compressed.
