@@ -18,32 +18,41 @@ use std::alloc::{AllocError, Global};
 #[repr(C)]
 #[derive(Drop)]
 pub struct HeaderValues {
-    /// The sides of the area, in nanodegrees, where there is one; else 0.
+    /// The least longitude of the area, in nanodegrees; 0 without `has_bbox`, as are the other three.
     pub left: i64,
+    /// The greatest longitude.
     pub right: i64,
+    /// The greatest latitude.
     pub top: i64,
+    /// The least latitude.
     pub bottom: i64,
-    /// When the database was in the state of the file, in seconds since 1970, where that is told; else 0.
+    /// When the database was in the state that the file shows, in seconds since 1970; 0 without `has_timestamp`.
     pub timestamp: i64,
-    /// The number of that state in the row of replications, where it is told; else 0.
+    /// The number of that state in the row of replications; 0 without `has_sequence`.
     pub sequence: i64,
-    /// How many features a reader needs.
+    /// How many required features there are: those that a reader needs.
     pub required: u64,
-    /// How many features a reader may use.
+    /// How many optional features there are: those that a reader may use.
     pub optional: u64,
-    /// How many texts there are.
+    /// How many texts there are in all: the features, the program, the source and the URL.
     pub texts: u64,
     /// How many bytes the texts have together.
     pub text_bytes: u64,
-    /// 1 where there is an area, else 0; and so on.
+    /// 1 where there is an area, else 0.
     pub has_bbox: u8,
+    /// 1 where there is an osmosis_replication_timestamp, else 0.
     pub has_timestamp: u8,
+    /// 1 where there is an osmosis_replication_sequence_number, else 0.
     pub has_sequence: u8,
+    /// 1 where the writing program is told, else 0.
     pub has_program: u8,
+    /// 1 where the source is told, else 0.
     pub has_source: u8,
+    /// 1 where there is an osmosis_replication_base_url, else 0.
     pub has_url: u8,
 }
 
+/// What is told where there is no area.
 const NO_BOX: BBox = BBox {
     left: 0,
     right: 0,
@@ -57,6 +66,7 @@ const MEMORY: u8 = 65;
 /// Not all texts have room in the arrays.
 const NO_ROOM: u8 = 72;
 
+/// Appends the texts.
 fn push_all<'a>(texts: Texts<'a>, out: &mut Vec<&'a str>) -> Result<(), AllocError>
     ensures { OnOk result (map (λ t. t.now) out.new.items ≡ map (λ t. t.now) out.old.items ++ texts_left texts.entry) }
 {
@@ -66,6 +76,7 @@ fn push_all<'a>(texts: Texts<'a>, out: &mut Vec<&'a str>) -> Result<(), AllocErr
     Ok(())
 }
 
+/// Appends the text, if it is there.
 fn push_there<'a>(text: Option<&'a str>, out: &mut Vec<&'a str>) -> Result<(), AllocError>
     ensures { OnOk result (map (λ t. t.now) out.new.items ≡ map (λ t. t.now) out.old.items ++ listed (option_copied text.entry)) }
 {
