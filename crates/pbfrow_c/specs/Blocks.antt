@@ -8,15 +8,13 @@ use Rattle.osm_block.specs.Phases.{fault}
 use Rattle.osm_block.specs.Block.{Block}
 use Rattle.osm_columns.specs.declared.counts.Counts.{Counts}
 use Rattle.osm_columns.specs.declared.columns.Columns.{Columns}
-use Rattle.osm_columns.specs.Indexes.{AreIndexes, texts_in}
-use Rattle.osm_columns.specs.Columns.{AreCounts, columns_fit, HoldsColumns}
+use Rattle.osm_columns.specs.Columns.{IsSurvey, AreCounts, columns_fit, HoldsColumns}
 use Rattle.pbfrow_c.specs.declared.block.Reading.{Reading}
 
--- the elements of the block w, their texts by indexes, and how long their columns are
+-- the elements of the block w, and what is known of them
 pub record IsReading (w : List ℕ) (r : Reading) : Type 0 where
   pub elements_are : Block r.elements.items w
-  pub indexes_are : AreIndexes r.indexes r.elements.items
-  pub counts_are : AreCounts r.counts r.elements.items (texts_in r.indexes.dictionary)
+  pub survey_is : IsSurvey r.survey r.elements.items
 
 -- the status where there are no elements: memory was refused, or it is the block's first fault
 abbrev pub Refused : List ℕ → ℕ → Type 0

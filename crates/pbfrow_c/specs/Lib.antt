@@ -1,3 +1,4 @@
 pub mod Blob
 pub mod Blocks
+pub mod Header
 pub mod Names

@@ -19,8 +19,9 @@ pub struct BlobAt {
     /// How long the whole frame is, in bytes: the next one begins behind it.
     pub length: u64,
     /// Where the payload begins, in bytes from the front of the frame: the raw one, or with status 21 the compressed one.
+    /// 0 where no payload is told.
     pub payload_at: u64,
-    /// In bytes; 0 where no payload is told.
+    /// How long the payload is there, in bytes; 0 where none is told.
     pub payload_length: u64,
     /// With status 21, how long the payload is once it is decompressed, in bytes, as the blob says; 0 where it doesn't.
     pub raw_size: u64,
@@ -65,6 +66,7 @@ const RAW: u32 = 1;
 
 const RAW_SIZE: u32 = 2;
 
+/// The number that a caller is told of this kind.
 fn number_of_kind(kind: Kind) -> u8
     ensures { result ≡ number_of_kind kind }
 {
@@ -75,6 +77,7 @@ fn number_of_kind(kind: Kind) -> u8
     }
 }
 
+/// The number that a caller is told of this compression.
 fn number_of_compression(compression: Compression) -> u8
     ensures { result ≡ number_of_compression compression }
 {
@@ -164,6 +167,7 @@ fn place_in(frame: &[u8], from: usize, number: u32) -> Option<Place>
     })
 }
 
+/// What is told of the payload at this place.
 fn payload_at(place: Option<Place>, raw_size: u64, compression: u8) -> Payload
     ensures { IfSome place (λ p. result ≡ record { at = p.at; length = p.length; raw_size = raw_size; compression = compression }) }
 {

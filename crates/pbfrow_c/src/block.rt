@@ -3,26 +3,21 @@
 ghost use Rattle.std.specs.Prelude.{◌≡◌, List};
 ghost use Rattle.osm_block.specs.Block.{Block};
 ghost use Rattle.osm_block.specs.Phases.{Gives, fault};
-ghost use Rattle.osm_columns.specs.Indexes.{AreIndexes, texts_in};
-ghost use Rattle.osm_columns.specs.Columns.{AreCounts};
 ghost use Rattle.pbfrow_c.specs.Blocks.{IsReading, CountsAnswer, ColumnsAnswer};
 
 use osm_block::{BlockError, read_block};
-use osm_columns::{
-    Columns, Counts, TextIndexes, columns_fit, counts_of, put_columns, text_indexes_of,
-};
+use osm_columns::{Columns, Counts, Survey, columns_fit, put_columns, survey_of};
 use osm_value::Element;
 use std::alloc::Global;
 
 /// The number of the answer that an array is too short for its column.
 const NO_ROOM: u8 = 72;
 
-/// The elements of a block, their texts by indexes, and how long their columns are.
+/// The elements of a block, and what has to be known before their columns are written.
 #[derive(Drop)]
 struct Reading<'a> {
     elements: Vec<Element<'a>>,
-    indexes: TextIndexes<'a>,
-    counts: Counts,
+    survey: Survey<'a>,
 }
 
 /// Reads a block. `Memory` is also answered where a column would have 2^64 items.
@@ -30,15 +25,8 @@ fn read<'a>(alloc: Global, block: &'a [u8]) -> Result<Reading<'a>, BlockError>
     ensures { Gives (IsReading block.now) (fault block.now) result }
 {
     let elements = read_block(alloc, block)?;
-    let indexes = text_indexes_of(alloc, &elements)?;
-    match counts_of(&elements, &indexes) {
-        Some(counts) => Ok(Reading {
-            elements,
-            indexes,
-            counts,
-        }),
-        None => Err(BlockError::Memory),
-    }
+    let survey = survey_of(alloc, &elements)?;
+    Ok(Reading { elements, survey })
 }
 
 /// How many elements a block has, and how long their columns are. `block` is the payload of an OSMData blob, raw.
@@ -51,7 +39,7 @@ pub extern "C" fn pbfrow_block_counts(alloc: Global, block: &[u8], counts: &mut 
 {
     match read(alloc, block) {
         Ok(reading) => {
-            *counts = reading.counts;
+            *counts = reading.survey.counts;
             0
         }
         Err(error) => error.number(),
@@ -74,11 +62,11 @@ pub extern "C" fn pbfrow_block_columns(
 {
     match read(alloc, block) {
         Ok(reading) => {
-            let room = columns_fit(&reading.counts, columns);
+            let room = columns_fit(&reading.survey.counts, columns);
             if room {
-                put_columns(&reading.elements, &reading.indexes, &reading.counts, columns);
+                put_columns(&reading.elements, &reading.survey, columns);
             }
-            *counts = reading.counts;
+            *counts = reading.survey.counts;
             if room { 0 } else { NO_ROOM }
         }
         Err(error) => error.number(),
