@@ -4,7 +4,7 @@ use Rattle.osm_value.specs.declared.element.Element.{Element}
 use Rattle.osm_value.specs.declared.element.Element.TheVariants.{Node, Way, Relation}
 use Rattle.osm_value.specs.declared.element.MemberKind.{MemberKind}
 use Rattle.osm_value.specs.declared.element.MemberKind.TheVariants as kinds
-use Rattle.osm_value.specs.Value.{Text, MemberValue}
+use Rattle.osm_value.specs.Value.{Text, InfoValue, MemberValue}
 use Rattle.osm_value.specs.Elements.{info_of_element, kind_of_element}
 
 -- 0 for a node, 1 for a way, 2 for a relation
@@ -35,20 +35,17 @@ no_int = negsuc (2 ^ 31 - 1)
 abbrev pub no_long : ℤ
 no_long = negsuc (2 ^ 63 - 1)
 
-abbrev pub version_of_element : Element → ℤ
-version_of_element e = unwrap_or (info_of_element e).version (negsuc 0)
+abbrev pub version_in : InfoValue → ℤ
+version_in i = unwrap_or i.version (negsuc 0)
 
-abbrev pub time_of_element : Element → ℤ
-time_of_element e = unwrap_or (info_of_element e).time no_long
+abbrev pub time_in : InfoValue → ℤ
+time_in i = unwrap_or i.time no_long
 
-abbrev pub changeset_of_element : Element → ℤ
-changeset_of_element e = unwrap_or (info_of_element e).changeset no_long
+abbrev pub changeset_in : InfoValue → ℤ
+changeset_in i = unwrap_or i.changeset no_long
 
-abbrev pub uid_of_element : Element → ℤ
-uid_of_element e = unwrap_or (info_of_element e).uid no_int
-
-abbrev pub user_of_element : Element → Option Text
-user_of_element e = (info_of_element e).user
+abbrev pub uid_in : InfoValue → ℤ
+uid_in i = unwrap_or i.uid no_int
 
 -- 1 for visible, 0 for deleted, 2 where that is not said
 abbrev pub number_of_flag : Option Bool → ℕ
@@ -56,8 +53,26 @@ number_of_flag (Some false) = 0
 number_of_flag (Some true) = 1
 number_of_flag None = 2
 
+abbrev pub flag_in : InfoValue → ℕ
+flag_in i = number_of_flag i.visible
+
+abbrev pub version_of_element : Element → ℤ
+version_of_element e = version_in (info_of_element e)
+
+abbrev pub time_of_element : Element → ℤ
+time_of_element e = time_in (info_of_element e)
+
+abbrev pub changeset_of_element : Element → ℤ
+changeset_of_element e = changeset_in (info_of_element e)
+
+abbrev pub uid_of_element : Element → ℤ
+uid_of_element e = uid_in (info_of_element e)
+
 abbrev pub flag_of_element : Element → ℕ
-flag_of_element e = number_of_flag (info_of_element e).visible
+flag_of_element e = flag_in (info_of_element e)
+
+abbrev pub user_of_element : Element → Option Text
+user_of_element e = (info_of_element e).user
 
 abbrev pub refs_of_element : Element → List ℤ
 refs_of_element (Way w) = w.refs

@@ -147,9 +147,10 @@ impl<'a> TextIndexes<'a> {
     pub(crate) fn push(&mut self, element: &Element<'a>) -> Result<(), AllocError>
         ensures { OnOk result ((es : List Element) → AreIndexes self.old es → AreIndexes self.new (es ++ element.now ∷ [])) }
     {
+        let tags = element.tags();
         push_user(&mut self.dictionary, element.info().user(), &mut self.users)?;
-        push_keys(&mut self.dictionary, element.tags(), &mut self.keys)?;
-        push_values(&mut self.dictionary, element.tags(), &mut self.values)?;
+        push_keys(&mut self.dictionary, tags, &mut self.keys)?;
+        push_values(&mut self.dictionary, tags, &mut self.values)?;
         push_roles(&mut self.dictionary, members_of(element), &mut self.roles)?;
         Ok(())
     }

@@ -56,16 +56,17 @@ fn put_element(element: &Element, users: &[i32], at: usize, columns: &mut Elemen
     ensures { (es : List Element) (before : ElementColumns) → HoldsElements (take at users.now) es before columns.old → length es ≡ at
         → HoldsElements (take (at + 1) users.now) (es ++ element.now ∷ []) before columns.new }
 {
+    let info = element.info();
     put_item(number_of_kind(element.kind()), at, columns.kinds);
     put_item(element.id(), at, columns.ids);
     put_item(lat_of(element), at, columns.lats);
     put_item(lon_of(element), at, columns.lons);
-    put_item(version_of(element), at, columns.versions);
-    put_item(time_of(element), at, columns.times);
-    put_item(changeset_of(element), at, columns.changesets);
-    put_item(uid_of(element), at, columns.uids);
+    put_item(version_of(info), at, columns.versions);
+    put_item(time_of(info), at, columns.times);
+    put_item(changeset_of(info), at, columns.changesets);
+    put_item(uid_of(info), at, columns.uids);
     put_item(users[at], at, columns.users);
-    put_item(flag_of(element), at, columns.visible);
+    put_item(flag_of(info), at, columns.visible);
 }
 
 /// Writes the kinds and the ids of the members behind so many others.

@@ -1,10 +1,9 @@
 //! What a column has of one element.
 
 ghost use Rattle.std.specs.Prelude.{◌≡◌};
-ghost use Rattle.std.specs.Option.{option_copied};
-ghost use Rattle.osm_columns.specs.Values.{number_of_kind, lat_of_element, lon_of_element, version_of_element, time_of_element, changeset_of_element, uid_of_element, user_of_element, number_of_flag, flag_of_element};
+ghost use Rattle.osm_columns.specs.Values.{number_of_kind, lat_of_element, lon_of_element, version_in, time_in, changeset_in, uid_in, number_of_flag, flag_in};
 
-use osm_value::{Element, MemberKind};
+use osm_value::{Element, Info, MemberKind};
 
 pub(crate) fn number_of_kind(kind: MemberKind) -> u8
     ensures { result ≡ number_of_kind kind }
@@ -36,46 +35,46 @@ pub(crate) fn lon_of(element: &Element) -> i64
     }
 }
 
-pub(crate) fn version_of(element: &Element) -> i32
-    ensures { result ≡ version_of_element element.now }
+pub(crate) fn version_of(info: &Info) -> i32
+    ensures { result ≡ version_in info.now }
 {
-    match element.info().version() {
+    match info.version() {
         Some(version) => version,
         None => -1,
     }
 }
 
-pub(crate) fn time_of(element: &Element) -> i64
-    ensures { result ≡ time_of_element element.now }
+pub(crate) fn time_of(info: &Info) -> i64
+    ensures { result ≡ time_in info.now }
 {
-    match element.info().time() {
+    match info.time() {
         Some(time) => time,
         None => i64::MIN,
     }
 }
 
-pub(crate) fn changeset_of(element: &Element) -> i64
-    ensures { result ≡ changeset_of_element element.now }
+pub(crate) fn changeset_of(info: &Info) -> i64
+    ensures { result ≡ changeset_in info.now }
 {
-    match element.info().changeset() {
+    match info.changeset() {
         Some(changeset) => changeset,
         None => i64::MIN,
     }
 }
 
-pub(crate) fn uid_of(element: &Element) -> i32
-    ensures { result ≡ uid_of_element element.now }
+pub(crate) fn uid_of(info: &Info) -> i32
+    ensures { result ≡ uid_in info.now }
 {
-    match element.info().uid() {
+    match info.uid() {
         Some(uid) => uid,
         None => i32::MIN,
     }
 }
 
-pub(crate) fn flag_of(element: &Element) -> u8
-    ensures { result ≡ flag_of_element element.now }
+pub(crate) fn flag_of(info: &Info) -> u8
+    ensures { result ≡ flag_in info.now }
 {
-    match element.info().visible() {
+    match info.visible() {
         Some(true) => 1,
         Some(false) => 0,
         None => 2,

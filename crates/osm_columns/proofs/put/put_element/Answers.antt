@@ -1,7 +1,7 @@
 use Rattle.std.proofs.Common.{rules, ◌≡◌, ◌∙◌, ap, refl, ◌++◌, ◌∷◌, [], map, take, length, get_or, pos, arith}
 use Rattle.std.proofs.lemmas.List.{length-take-le}
 use Rattle.osm_value.specs.Elements.{id_of_element}
-use Rattle.osm_columns.specs.Values.{number_of_kind, kind_number, lat_of_element, lon_of_element, version_of_element, time_of_element, changeset_of_element, uid_of_element, flag_of_element}
+use Rattle.osm_columns.specs.Values.{number_of_kind, kind_number, lat_of_element, lon_of_element, version_in, time_in, changeset_in, uid_in, flag_in, version_of_element, time_of_element, changeset_of_element, uid_of_element, flag_of_element}
 use Rattle.osm_columns.specs.Columns.{over}
 use Rattle.osm_columns.proofs.ColumnLemmas.{column-next, counted}
 use Rattle.osm_columns.proofs.ListLemmas.{taken-next}
@@ -23,10 +23,10 @@ returns c = λ es before h m.
       ids_are = column-next id_of_element es _ _ _ _ c.id.ensures.exact id;
       lats_are = column-next lat_of_element es _ _ _ _ c.lat_of.ensures lat;
       lons_are = column-next lon_of_element es _ _ _ _ c.lon_of.ensures lon;
-      versions_are = column-next version_of_element es _ _ _ _ c.version_of.ensures version;
-      times_are = column-next time_of_element es _ _ _ _ c.time_of.ensures time;
-      changesets_are = column-next changeset_of_element es _ _ _ _ c.changeset_of.ensures changeset;
-      uids_are = column-next uid_of_element es _ _ _ _ c.uid_of.ensures uid;
+      versions_are = column-next version_of_element es _ _ _ _ (c.version_of.ensures ∙ ap version_in c.info-info.ensures.exact) version;
+      times_are = column-next time_of_element es _ _ _ _ (c.time_of.ensures ∙ ap time_in c.info-info.ensures.exact) time;
+      changesets_are = column-next changeset_of_element es _ _ _ _ (c.changeset_of.ensures ∙ ap changeset_in c.info-info.ensures.exact) changeset;
+      uids_are = column-next uid_of_element es _ _ _ _ (c.uid_of.ensures ∙ ap uid_in c.info-info.ensures.exact) uid;
       users_are = user ∙ ap (λ l. over l before.users.now) (taken-next c.args.users.now c.args.at _ (pos 0) c.requires.user refl);
-      visible_are = column-next flag_of_element es _ _ _ _ c.flag_of.ensures (c.put_item-10.ensures _ _ h.visible_are (counted flag_of_element es _ m));
+      visible_are = column-next flag_of_element es _ _ _ _ (c.flag_of.ensures ∙ ap flag_in c.info-info.ensures.exact) (c.put_item-10.ensures _ _ h.visible_are (counted flag_of_element es _ m));
     }
