@@ -81,14 +81,6 @@ status_at offset w = status_of_frame offset (frame_from offset w)
 abbrev pub span : ℕ → ℕ → List ℕ → List ℕ
 span at len w = take len (drop at w)
 
--- where the bytes of a field lie that ends here, if it is one of that number; else the place before
-abbrev pub place_or : ℕ → Option (List ℕ) → Option Place → Option Place
-place_or end (Some bytes) before = Some (record { at = end - length bytes; length = length bytes })
-place_or end None before = before
-
-abbrev pub later_place : Entry → ℕ → ℕ → Option Place → Option Place
-later_place e end number before = place_or end (cond (e.number == number) (bytes_of e.content) None) before
-
 -- where these bytes lie in the frame
 pub record LiesAt (p : Payload) (bytes frame : List ℕ) : Type 0 where
   pub within : p.at + p.length ≤ length frame
@@ -105,3 +97,13 @@ TellsPayload _ fs frame p = p ≡ NO_PAYLOAD
 -- the payload that a caller is told
 abbrev pub payload_in : BlobAt → Payload
 payload_in b = record { at = b.payload_at; length = b.payload_length; raw_size = b.raw_size; compression = b.compression }
+
+-- ---- how the program looks for it
+
+-- where the bytes of a field lie that ends here, if it is one of that number; else the place before
+abbrev pub place_or : ℕ → Option (List ℕ) → Option Place → Option Place
+place_or end (Some bytes) before = Some (record { at = end - length bytes; length = length bytes })
+place_or end None before = before
+
+abbrev pub later_place : Entry → ℕ → ℕ → Option Place → Option Place
+later_place e end number before = place_or end (cond (e.number == number) (bytes_of e.content) None) before
