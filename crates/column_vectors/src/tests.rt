@@ -1,3 +1,5 @@
+ghost use Rattle.std.specs.Prelude.{◌≤◌};
+
 use osm_block::read_block;
 use osm_columns::{
     Columns, ElementColumns, MemberColumns, RefColumns, TagColumns, TextColumn, columns_fit,
