@@ -7,7 +7,7 @@ import subprocess
 import tempfile
 
 TOP = os.path.dirname(os.path.dirname(os.path.realpath(__file__)))
-FUNCTION = re.compile(r"^( *)(?:pub(?:\([a-z]+\))? )?(?:const |extern "C" )?fn (\w+)")
+FUNCTION = re.compile(r"""^( *)(?:pub(?:\([a-z]+\))? )?(?:const |extern "C" )?fn (\w+)""")
 ITEM = re.compile(r"^(?:pub(?:\([a-z]+\))? )?(?:const|static|macro_rules!|struct|enum) (\w+)")
 IMPL = re.compile(r"^impl(?:<.*?>)? (?:(\w+)(?:<.*?>)? for )?(\w+)")
 
