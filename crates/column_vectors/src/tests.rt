@@ -1,5 +1,3 @@
-ghost use Rattle.std.specs.Prelude.{◌≤◌};
-
 use osm_block::read_block;
 use osm_columns::{
     Columns, ElementColumns, MemberColumns, RefColumns, TagColumns, TextColumn, columns_fit,
@@ -27,7 +25,6 @@ struct Arrays {
     keys: [i32; 2],
     values: [i32; 2],
     ref_ends: [u64; 2],
-    refs: [i64; 5],
     member_ends: [u64; 2],
     member_kinds: [u8; 3],
     member_ids: [i64; 3],
@@ -52,7 +49,6 @@ fn full() -> Arrays {
         keys: [77; 2],
         values: [77; 2],
         ref_ends: [77; 2],
-        refs: [77; 5],
         member_ends: [77; 2],
         member_kinds: [77; 3],
         member_ids: [77; 3],
@@ -62,16 +58,13 @@ fn full() -> Arrays {
     }
 }
 
-/// Writes the columns of the block's elements into the arrays, if they have room, of which only so many of the references'
-/// array are handed over.
-fn put_block(
+/// Writes the columns of the block's elements into the arrays, if they have room; the references have an array of their own.
+fn put_block<'a>(
     rt: &(impl Abort + Alloc<A = Global>),
     block: &[u8],
-    refs: usize,
-    arrays: &mut Arrays,
-) -> Result<bool, Fail>
-    requires { refs ≤ 5 }
-{
+    refs: &'a mut [i64],
+    arrays: &'a mut Arrays,
+) -> Result<bool, Fail> {
     let elements = read_block(rt.alloc(), block).expect(rt, "a block");
     let survey = survey_of(rt.alloc(), &elements)?;
     let mut columns = Columns {
@@ -94,7 +87,7 @@ fn put_block(
         },
         refs: RefColumns {
             ends: &mut arrays.ref_ends,
-            ids: &mut arrays.refs[..refs],
+            ids: refs,
         },
         members: MemberColumns {
             ends: &mut arrays.member_ends,
@@ -118,7 +111,8 @@ fn put_block(
 #[test]
 fn a_way_with_an_info(rt: HostRuntime) -> Result<(), Fail> {
     let mut arrays = full();
-    assert!(rt; put_block(&rt, &WAY_WITH_INFO_BLOCK, 5, &mut arrays)?);
+    let mut refs = [77; 5];
+    assert!(rt; put_block(&rt, &WAY_WITH_INFO_BLOCK, &mut refs, &mut arrays)?);
     assert!(rt; arrays.kinds == [1, 77] && arrays.ids == [7, 77] && arrays.lats == [0, 77]);
     assert!(rt; arrays.versions == [2, 77] && arrays.times == [3000, 77]);
     assert!(rt; arrays.changesets == [4, 77] && arrays.uids == [-1, 77]);
@@ -132,8 +126,9 @@ fn a_way_with_an_info(rt: HostRuntime) -> Result<(), Fail> {
 #[test]
 fn a_way_with_references(rt: HostRuntime) -> Result<(), Fail> {
     let mut arrays = full();
-    assert!(rt; put_block(&rt, &WAY_BLOCK, 5, &mut arrays)?);
-    assert!(rt; arrays.ref_ends == [4, 77] && arrays.refs == [5, 6, 7, 6, 77]);
+    let mut refs = [77; 5];
+    assert!(rt; put_block(&rt, &WAY_BLOCK, &mut refs, &mut arrays)?);
+    assert!(rt; arrays.ref_ends == [4, 77] && refs == [5, 6, 7, 6, 77]);
     assert!(rt; arrays.tag_ends == [1, 77] && arrays.keys == [0, 77] && arrays.values == [1, 77]);
     assert!(rt; arrays.versions == [-1, 77] && arrays.times == [i64::MIN, 77]);
     assert!(rt; arrays.changesets == [i64::MIN, 77] && arrays.uids == [i32::MIN, 77]);
@@ -146,7 +141,8 @@ fn a_way_with_references(rt: HostRuntime) -> Result<(), Fail> {
 #[test]
 fn a_relation(rt: HostRuntime) -> Result<(), Fail> {
     let mut arrays = full();
-    assert!(rt; put_block(&rt, &RELATION_BLOCK, 5, &mut arrays)?);
+    let mut refs = [77; 5];
+    assert!(rt; put_block(&rt, &RELATION_BLOCK, &mut refs, &mut arrays)?);
     assert!(rt; arrays.kinds == [2, 77] && arrays.member_ends == [2, 77]);
     assert!(rt; arrays.member_kinds == [0, 1, 77] && arrays.member_ids == [1, -2, 77]);
     assert!(rt; arrays.roles == [2, 3, 77] && arrays.keys == [0, 77] && arrays.values == [1, 77]);
@@ -159,8 +155,9 @@ fn a_relation(rt: HostRuntime) -> Result<(), Fail> {
 #[test]
 fn no_room_for_the_references(rt: HostRuntime) -> Result<(), Fail> {
     let mut arrays = full();
-    assert!(rt; !put_block(&rt, &WAY_BLOCK, 3, &mut arrays)?);
-    assert!(rt; arrays.ids == [77, 77] && arrays.refs == [77; 5] && arrays.text_ends == [77; 5]);
+    let mut refs = [77; 3];
+    assert!(rt; !put_block(&rt, &WAY_BLOCK, &mut refs, &mut arrays)?);
+    assert!(rt; arrays.ids == [77, 77] && refs == [77; 3] && arrays.text_ends == [77; 5]);
     Ok(())
 }
 
