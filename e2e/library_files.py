@@ -1,0 +1,142 @@
+#!/usr/bin/env python3
+"""Makes files with faults of every kind, the same ones in each run: library_files.py TOP FOLDER
+
+  FOLDER/blobs.osm.pbf  a header, and behind it frames whose blobs and blocks are bad in many ways; a reader goes over all of them
+  FOLDER/alone/         files that each end with their first fault of a frame, and those whose header is bad
+
+They are made of the bytes in the tests of crates/osm_vectors, each read as a block, as a header block, as a blob and as a file; and
+of data/, whose frames, blobs and blocks are changed and cut at random. The last line says how many of each there are.
+"""
+import os
+import random
+import re
+import sys
+
+from wire import field, number
+
+RNG = random.Random(20131)
+RAW, TOO_LONG = 1, 33_554_432
+
+
+def frame(kind, blob, size=None):
+    header = field(1, kind) + number(8 * 3) + number(len(blob) if size is None else size)
+    return len(header).to_bytes(4, "big") + header + blob
+
+
+def data_frame(block):
+    return frame(b"OSMData", field(RAW, block))
+
+
+def vectors(top):
+    """All byte arrays and byte strings of the tests."""
+    found = []
+    for folder, _, names in sorted(os.walk(f"{top}/crates/osm_vectors/src")):
+        for name in sorted(names):
+            with open(f"{folder}/{name}", encoding="utf-8") as file:
+                text = file.read()
+            for row in re.findall(r"\[\s*((?:0x[0-9A-Fa-f]{2},?\s*)+)\]", text):
+                found.append(bytes(int(it, 16) for it in re.findall(r"0x([0-9A-Fa-f]{2})", row)))
+            for row in re.findall(r'(?<![A-Za-z0-9_])b"((?:[^"\\]|\\.)*)"', text):
+                found.append(row.encode().decode("unicode_escape").encode("latin-1"))
+    return list(dict.fromkeys(it for it in found if len(it) < 100_000))
+
+
+def frames_of(path):
+    """The frames of a good file, each as its type, its block and all of its bytes."""
+    with open(path, "rb") as file:
+        data = file.read()
+    at = 0
+    while at < len(data):
+        start = at + 4 + int.from_bytes(data[at : at + 4], "big")
+        header = data[at + 4 : start]
+        kind = header[2 : 2 + header[1]]
+        size, shift = 0, 0
+        for byte in header[2 + header[1] + 1 :]:
+            size |= (byte & 127) << shift
+            shift += 7
+        blob = data[start : start + size]
+        # field 1 and the length of the block stand in front of it, and nothing behind
+        length, at_block, shift = 0, 1, 0
+        while True:
+            byte = blob[at_block]
+            at_block += 1
+            length |= (byte & 127) << shift
+            shift += 7
+            if byte < 128:
+                break
+        yield kind, blob[at_block : at_block + length], data[at : start + size]
+        at = start + size
+
+
+def changed(data):
+    """The bytes with one to three changes: turned, set, cut off, cut out, put in, repeated."""
+    data = bytearray(data)
+    for _ in range(RNG.choice([1, 1, 1, 2, 3])):
+        at = RNG.randrange(len(data) + 1)
+        here = min(at, len(data) - 1)
+        way = RNG.randrange(7)
+        if way <= 1 and data:
+            data[here] ^= 1 << RNG.randrange(8)
+        elif way == 2 and data:
+            data[here] = RNG.choice([0, 1, 2, 8, 10, 18, 26, 34, 127, 128, 255])
+        elif way == 3:
+            del data[at:]
+        elif way == 4:
+            del data[at : at + RNG.choice([1, 2, 5])]
+        elif way == 5:
+            data[at:at] = RNG.randbytes(RNG.choice([1, 1, 2, 9]))
+        else:
+            data[at:at] = data[at : at + RNG.choice([1, 2, 8, 30])]
+    return bytes(data)
+
+
+def blobs(top, path):
+    """Writes the file of bad blobs and blocks, and answers how many were changed at random."""
+    two = [*frames_of(f"{top}/data/two-nodes.osm.pbf")]
+    country = [block for kind, block, _ in frames_of(f"{top}/data/liechtenstein-raw.osm.pbf") if kind == b"OSMData"]
+    known = vectors(top)
+    small = [it for it in known if it[:2] in (b"\x0a\x02", b"\x0a\x06", b"\x0a\x08")] + [two[1][1]]
+    made = [data_frame(it) for it in known] + [frame(b"OSMData", it) for it in known] + [frame(b"Extra", it) for it in known]
+    made += [two[0][2], frame(b"OSMData", b""), data_frame(bytes(TOO_LONG))]
+    made += [frame(b"OSMData", number(8 * 2) + number(9) + field(place, b"packed")) for place in range(3, 9)]
+    fixed = len(made)
+    made += [data_frame(changed(RNG.choice(small))) for _ in range(4000)]
+    made += [frame(b"OSMData", changed(field(RAW, RNG.choice(small)))) for _ in range(3000)]
+    made += [data_frame(changed(RNG.choice(country))) for _ in range(300)]
+    with open(path, "wb") as file:
+        file.write(two[0][2])
+        file.writelines(made)
+    return fixed, len(made) - fixed
+
+
+def alone(top, folder):
+    """Writes the files that have one fault each, and answers how many were changed at random."""
+    two = [*frames_of(f"{top}/data/two-nodes.osm.pbf")]
+    header = two[0][2]
+    known = vectors(top)
+    headers = [block for _, block, _ in (two[0], *frames_of(f"{top}/data/liechtenstein-raw.osm.pbf")) if block.startswith((b"\x22", b"\x0a\x1a"))]
+    headers.append(field(1, b"\x08\x02\x10\x04\x18\x06\x20\x08") + headers[0] + field(16, b"me") + field(17, b"here") + b"\x80\x02\x05\x88\x02\x07" + field(34, b"there"))
+    made = [it for it in known] + [header + it for it in known] + [frame(b"OSMHeader", field(RAW, it)) for it in known]
+    made += [b"\0\0\0", header + b"\0\1\0\0", header + b"\0\0\0\2\x18\x00", header + b"\0\0\0\3\x0a\x01A", two[1][2], frame(b"Extra", b"")]
+    made += [header + frame(b"OSMData", b"", size) for size in (33_619_969, 33_619_968, (1 << 64) - 1)]
+    fixed = len(made)
+    made += [header + changed(two[1][2]) + two[1][2] for _ in range(1600)]
+    made += [changed(header + two[1][2]) for _ in range(500)]
+    made += [frame(b"OSMHeader", field(RAW, changed(RNG.choice(headers)))) for _ in range(700)]
+    for at, data in enumerate(made):
+        with open(f"{folder}/{at:05}", "wb") as file:
+            file.write(data)
+    return fixed, len(made) - fixed
+
+
+def main():
+    top, folder = sys.argv[1:]
+    os.makedirs(f"{folder}/alone")
+    known, among = blobs(top, f"{folder}/blobs.osm.pbf")
+    fixed, by_themselves = alone(top, f"{folder}/alone")
+    print(f"{known + fixed} of the tests' vectors, {among + by_themselves} changed")
+    return 0 if known > 300 and among + by_themselves >= 10_000 else 1
+
+
+if __name__ == "__main__":
+    sys.exit(main())
