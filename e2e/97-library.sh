@@ -152,8 +152,7 @@ ends "an empty file" 1 "fault 61 NoHeaderFirst at 0
 blobs 0 nodes 0 ways 0 relations 0 faults 1" ./count empty.osm.pbf
 ends "an empty file in C" 1 "fault 61 NoHeaderFirst at 0
 blobs 0 nodes 0 ways 0 relations 0 faults 1" ./count_in_c empty.osm.pbf
-ends "an empty file has no lines" 0 "" ./count empty.osm.pbf lines
-sed -i '/^$/d' want.txt
+./count empty.osm.pbf lines > got.txt && [ ! -s got.txt ] && pass "an empty file has no lines" || fail "an empty file has no lines"
 if has mkfifo; then
   mkfifo pipe
   ends "a pipe that nobody writes to" 2 "count: pipe: not a file, but a pipe or a device: Illegal seek" timeout 10 ./count pipe
@@ -199,12 +198,14 @@ same "an input in pieces of any size" got.txt want.txt
 same "a real extract in pieces" got.txt want.txt
 passes "each growth of memory refused: 65, nothing written, all given back" ./probe refused "$two" "$country"
 passes "four threads" ./probe threads 4 "$country"
-./probe small > got.txt 2>&1 || fail "the calls that need no file"
+./probe small > small.txt 2>&1 || fail "the calls that need no file"
+# bytes behind a frame are a fault of what gets one frame, which no call of the library does
+grep -v '^19 ' small.txt > got.txt
 {
   printf '%s\n' "10 LengthCut" "11 HeaderTooLong" "12 HeaderCut" "13 HeaderWire" "14 NoType" "16 NoSize" "17 SizeOutOfRange" "18 BlobCut" \
     "20 BlobWire" "21 Compressed" "22 NoData" "23 RawTooLarge" "30 HeaderBlockWire" "31 BBoxIncomplete" "32 HeaderTextNotUtf8" "33 UnknownFeature" \
     "40 BlockWire" "41 NoStringTable" "42 TextNotUtf8" "43 TextHasNul" "44 BadGranularity" "45 MixedGroup" "46 Missing" "47 LengthsDiffer" \
-    "48 BadIndex" "49 SumTooLarge" "50 OutOfRange" "51 TagsUneven" "52 BadMemberType" "60 OffsetTooLarge" "61 NoHeaderFirst" "62 HeaderNotFirst" "65 Memory"
+    "48 BadIndex" "49 SumTooLarge" "50 OutOfRange" "51 TagsUneven" "52 BadMemberType" "60 OffsetTooLarge" "61 NoHeaderFirst" "62 HeaderNotFirst" "65 Memory" "72 NoRoom"
   for codec in Zlib Lzma Bzip2 Lz4 Zstd; do echo "21 Compressed$codec"; done
   for _ in 1 2; do printf '%s\n' "fault 61 NoHeaderFirst at 0" "blobs 0 nodes 0 ways 0 relations 0 faults 1"; done
 } > want.txt

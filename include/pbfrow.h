@@ -161,7 +161,7 @@ uint8_t pbfrow_block_columns(const uint8_t *block, size_t length, pbfrow_counts 
 /* ---- the name of a fault */
 
 /* The name that pbfrow's messages give the fault of this number, such as "BlobCut": ASCII, with no NUL behind it. That of 21 names the
- * `compression` of the blob ("CompressedZlib"; "Compressed" for 0), which doesn't matter for other numbers.
+ * `compression` of the blob ("CompressedZlib"; "Compressed" for 0), which doesn't matter for other numbers. 72 is "NoRoom".
  *
  * Answers how many bytes the name has, or 0 where no fault has this number. The name is written to the front of `name` if `length` is
  * large enough, and else nothing is written; 24 bytes always suffice. */
