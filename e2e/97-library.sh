@@ -187,6 +187,13 @@ if has python3; then
   else
     skip "the same under AddressSanitizer" "libasan isn't installed"
   fi
+  if has valgrind; then
+    compiled library_probe.cpp "for valgrind" c++ -std=c++17 $strict -DFROM_MALLOC -o probe_of_malloc "$top/e2e/library_probe.cpp" "$static" -pthread
+    # shellcheck disable=SC2046
+    passes "valgrind finds nothing either" valgrind -q --leak-check=full --error-exitcode=9 ./probe_of_malloc exact $(ls bad/alone/* | awk 'NR % 20 == 0') "$two"
+  else
+    skip "the same under valgrind" "it isn't installed"
+  fi
 else
   skip "bad files" "python3 isn't installed"
 fi
@@ -225,7 +232,7 @@ done
 # ---- installing
 
 if has make install; then
-  LIBRARY=$library passes "make install-library" make -s -C "$top" install-library PREFIX=/usr DESTDIR="$PWD/image"
+  BUILT_LIBRARY=$library passes "make install-library" make -s -C "$top" install-library PREFIX=/usr DESTDIR="$PWD/image"
   sed -n 's,^\([0-9]*\) lib/,\1 usr/lib/,p; s,^\([0-9]*\) include/,\1 usr/include/,p' files.txt | sed 's/^755/644/' > want.txt
   for example in count.c count.cpp nodes_of_box.cpp ways_with_places.cpp; do echo "644 usr/share/doc/pbfrow/examples/$example"; done >> want.txt
   LC_ALL=C sort -o want.txt want.txt
@@ -271,7 +278,7 @@ else
 fi
 
 if has make install gzip xz dpkg-deb; then
-  if LIBRARY=$library "$top/package/dist" "$work/dist" > made.txt 2>&1; then
+  if BUILT_LIBRARY=$library "$top/package/dist" "$work/dist" > made.txt 2>&1; then
     dpkg-deb -x dist/pbfrow_*_amd64.deb root
     dpkg-deb -e dist/pbfrow_*_amd64.deb control
     { files_below root | grep -E 'usr/(lib|include)/'; cat control/shlibs control/triggers; } > got.txt

@@ -4,8 +4,8 @@
   FOLDER/blobs.osm.pbf  a header, and behind it frames whose blobs and blocks are bad in many ways; a reader goes over all of them
   FOLDER/alone/         files that each end with their first fault of a frame, and those whose header is bad
 
-They are made of the bytes in the tests of crates/osm_vectors, each read as a block, as a header block, as a blob and as a file; and
-of data/, whose frames, blobs and blocks are changed and cut at random. The last line says how many of each there are.
+They are made of the bytes in the tests of crates/osm_vectors, each read as a block, as a header block, as a blob and as a file;
+and of data/, whose frames, blobs and blocks are changed and cut at random. The last line says how many of each there are.
 """
 import os
 import random
@@ -114,15 +114,17 @@ def alone(top, folder):
     two = [*frames_of(f"{top}/data/two-nodes.osm.pbf")]
     header = two[0][2]
     known = vectors(top)
-    headers = [block for _, block, _ in (two[0], *frames_of(f"{top}/data/liechtenstein-raw.osm.pbf")) if block.startswith((b"\x22", b"\x0a\x1a"))]
-    headers.append(field(1, b"\x08\x02\x10\x04\x18\x06\x20\x08") + headers[0] + field(16, b"me") + field(17, b"here") + b"\x80\x02\x05\x88\x02\x07" + field(34, b"there"))
-    made = [it for it in known] + [header + it for it in known] + [frame(b"OSMHeader", field(RAW, it)) for it in known]
-    made += [b"\0\0\0", header + b"\0\1\0\0", header + b"\0\0\0\2\x18\x00", header + b"\0\0\0\3\x0a\x01A", two[1][2], frame(b"Extra", b"")]
+    features = two[0][1]
+    replication = b"\x80\x02\x05\x88\x02\x07" + field(34, b"there")
+    full = field(1, b"\x08\x02\x10\x04\x18\x06\x20\x08") + features + field(5, b"Sorted") + field(16, b"me") + field(17, b"here") + replication
+    made = known + [header + it for it in known] + [frame(b"OSMHeader", field(RAW, it)) for it in known]
+    made += [b"\0\0\0", header + b"\0\1\0\0", header + b"\0\0\0\2\x18\x00", header + b"\0\0\0\3\x0a\x01A"]
+    made += [two[1][2], frame(b"Extra", b""), frame(b"OSMHeader", field(RAW, full))]
     made += [header + frame(b"OSMData", b"", size) for size in (33_619_969, 33_619_968, (1 << 64) - 1)]
     fixed = len(made)
     made += [header + changed(two[1][2]) + two[1][2] for _ in range(1600)]
     made += [changed(header + two[1][2]) for _ in range(500)]
-    made += [frame(b"OSMHeader", field(RAW, changed(RNG.choice(headers)))) for _ in range(700)]
+    made += [frame(b"OSMHeader", field(RAW, changed(RNG.choice([features, full])))) for _ in range(700)]
     for at, data in enumerate(made):
         with open(f"{folder}/{at:05}", "wb") as file:
             file.write(data)

@@ -1,12 +1,13 @@
 // Calls the library as a careful enemy would. Each way goes over files, and prints what it found in the lines of `pbfrow check`.
 //
-//   probe exact FILE..          each call has buffers of exactly the size that it may touch, in front of a page that can't be touched (or
-//                               from malloc, for AddressSanitizer: -DFROM_MALLOC); a call that fails may have changed nothing; each array
-//                               in turn is too short by one; what is behind a column stays
-//   probe refused FILE..        each growth of memory in turn, and all behind it, are refused: 65 and nothing changed; and each call gives all memory back
-//                               (linked statically, with -Wl,--wrap=malloc,--wrap=realloc,--wrap=free)
+//   probe exact FILE..          each call has buffers of exactly the size that it may touch, in front of a page that can't be
+//                               touched (or from malloc, for AddressSanitizer and valgrind: -DFROM_MALLOC); a call that fails
+//                               may have changed nothing; each array in turn is too short by one; what is behind a column stays
+//   probe refused FILE..        each growth of memory in turn, and all behind it, are refused: 65 and nothing changed; and each
+//                               call gives all memory back (linked statically, with -DWRAPPED and
+//                               -Wl,--wrap=malloc,--wrap=realloc,--wrap=free)
 //   probe pieces N FILE..       by pbfrow::Input, in pieces of N bytes
-//   probe packed WAY FILE..     by pbfrow::File with a decompressor that turns the bytes round: right, short, long, empty or none
+//   probe packed WAY FILE..     by pbfrow::File with a decompressor that turns the bytes round: right, short, long, empty, none
 //   probe threads N FILE..      the blobs of a file in N threads at once
 //   probe small                 what needs no file
 //
@@ -78,19 +79,19 @@ struct Shape {
     std::size_t item;
     std::uint64_t pbfrow_counts::*count;
 };
-static const Shape shapes[] = {
-    {1, &pbfrow_counts::elements}, {8, &pbfrow_counts::elements}, {8, &pbfrow_counts::elements}, {8, &pbfrow_counts::elements},
-    {4, &pbfrow_counts::elements}, {8, &pbfrow_counts::elements}, {8, &pbfrow_counts::elements}, {4, &pbfrow_counts::elements},
-    {4, &pbfrow_counts::elements}, {1, &pbfrow_counts::elements}, {8, &pbfrow_counts::elements}, {4, &pbfrow_counts::tags},
-    {4, &pbfrow_counts::tags},     {8, &pbfrow_counts::elements}, {8, &pbfrow_counts::refs},     {8, &pbfrow_counts::elements},
-    {1, &pbfrow_counts::members},  {8, &pbfrow_counts::members},  {4, &pbfrow_counts::members},  {8, &pbfrow_counts::texts},
-    {1, &pbfrow_counts::text_bytes}};
+static const Shape shapes[] = {{1, &pbfrow_counts::elements}, {8, &pbfrow_counts::elements}, {8, &pbfrow_counts::elements},
+                               {8, &pbfrow_counts::elements}, {4, &pbfrow_counts::elements}, {8, &pbfrow_counts::elements},
+                               {8, &pbfrow_counts::elements}, {4, &pbfrow_counts::elements}, {4, &pbfrow_counts::elements},
+                               {1, &pbfrow_counts::elements}, {8, &pbfrow_counts::elements}, {4, &pbfrow_counts::tags},
+                               {4, &pbfrow_counts::tags},     {8, &pbfrow_counts::elements}, {8, &pbfrow_counts::refs},
+                               {8, &pbfrow_counts::elements}, {1, &pbfrow_counts::members},  {8, &pbfrow_counts::members},
+                               {4, &pbfrow_counts::members},  {8, &pbfrow_counts::texts},    {1, &pbfrow_counts::text_bytes}};
 static constexpr std::size_t column_count = sizeof shapes / sizeof *shapes;
 static_assert(sizeof(pbfrow_columns) == column_count * sizeof(pbfrow_bytes), "a column is missing here");
 
 struct Columns {
     Exact arrays[column_count];
-    pbfrow_columns columns;
+    pbfrow_columns columns, given;
 
     // Arrays as long as the counts say; `more` items are added to each, and one is left out of the array at `short_one`.
     pbfrow_columns *take(const pbfrow_counts &counts, std::size_t more, std::size_t short_one = column_count) {
@@ -100,10 +101,13 @@ struct Columns {
             all[at] = {arrays[at].take(length, shapes[at].item), length};
         }
         std::memcpy(&columns, all, sizeof columns);
+        given = columns;
         return &columns;
     }
+    // Whether the arrays are as they were given. The struct that names them never changes.
+    bool are_given() const { return std::memcmp(&columns, &given, sizeof columns) == 0; }
     bool are_untouched() const {
-        return std::all_of(arrays, arrays + column_count, [](const Exact &array) { return array.is_untouched(); });
+        return are_given() && std::all_of(arrays, arrays + column_count, [](const Exact &array) { return array.is_untouched(); });
     }
 };
 
@@ -122,8 +126,9 @@ static bool are_ends(const pbfrow_ends &ends, std::uint64_t count) {
 }
 
 static bool are_indexes(const pbfrow_ints &indexes, std::int32_t least, std::uint64_t texts) {
-    return std::all_of(indexes.items, indexes.items + indexes.length,
-                       [=](std::int32_t index) { return index >= least && (index < 0 || static_cast<std::uint64_t>(index) < texts); });
+    return std::all_of(indexes.items, indexes.items + indexes.length, [=](std::int32_t index) {
+        return index >= least && (index < 0 || static_cast<std::uint64_t>(index) < texts);
+    });
 }
 
 // Whether the columns, which have no room to spare, agree with each other and with the counts.
@@ -133,11 +138,13 @@ static bool are_whole(const pbfrow_columns &columns, const pbfrow_counts &counts
         if (columns.elements.kinds.items[at] > 2 || columns.elements.visible.items[at] > 2) return false;
         kinds[columns.elements.kinds.items[at]]++;
     }
-    const bool are_kinds = std::all_of(columns.members.kinds.items, columns.members.kinds.items + columns.members.kinds.length, [](std::uint8_t kind) { return kind <= 2; });
-    return are_kinds && kinds[0] == counts.nodes && kinds[1] == counts.ways && kinds[2] == counts.relations && are_ends(columns.tags.ends, counts.tags)
-        && are_ends(columns.refs.ends, counts.refs) && are_ends(columns.members.ends, counts.members) && are_ends(columns.texts.ends, counts.text_bytes)
-        && are_indexes(columns.elements.users, -1, counts.texts) && are_indexes(columns.tags.keys, 0, counts.texts)
-        && are_indexes(columns.tags.values, 0, counts.texts) && are_indexes(columns.members.roles, 0, counts.texts);
+    const bool are_kinds = std::all_of(columns.members.kinds.items, columns.members.kinds.items + columns.members.kinds.length,
+                                       [](std::uint8_t kind) { return kind <= 2; });
+    return are_kinds && kinds[0] == counts.nodes && kinds[1] == counts.ways && kinds[2] == counts.relations
+           && are_ends(columns.tags.ends, counts.tags) && are_ends(columns.refs.ends, counts.refs)
+           && are_ends(columns.members.ends, counts.members) && are_ends(columns.texts.ends, counts.text_bytes)
+           && are_indexes(columns.elements.users, -1, counts.texts) && are_indexes(columns.tags.keys, 0, counts.texts)
+           && are_indexes(columns.tags.values, 0, counts.texts) && are_indexes(columns.members.roles, 0, counts.texts);
 }
 
 // ---- exact
@@ -149,18 +156,22 @@ static std::uint8_t exact_block(const std::uint8_t *block, std::size_t length, s
     if (status != 0) {
         expect(are_same(counts, untouched_counts()), "a block's fault has changed the counts", offset);
         const pbfrow_counts few = {4, 4, 4, 4, 4, 4, 4, 4, 4};
-        expect(pbfrow_block_columns(block, length, &counts, exact.take(few, 0)) == status, "counts and columns answer different faults", offset);
+        expect(pbfrow_block_columns(block, length, &counts, exact.take(few, 0)) == status,
+               "counts and columns answer different faults", offset);
         expect(exact.are_untouched() && are_same(counts, untouched_counts()), "a block's fault has changed something", offset);
         counts = {};
         return status;
     }
     pbfrow_counts again = untouched_counts();
-    expect(pbfrow_block_columns(block, length, &again, exact.take(counts, 0)) == 0, "columns of the right length are refused", offset);
-    expect(are_same(counts, again) && are_whole(exact.columns, counts), "counts and columns don't agree", offset);
+    expect(pbfrow_block_columns(block, length, &again, exact.take(counts, 0)) == 0, "columns of the right length are refused",
+           offset);
+    expect(are_same(counts, again) && exact.are_given() && are_whole(exact.columns, counts), "counts and columns don't agree",
+           offset);
     expect(pbfrow_block_columns(block, length, &again, other.take(counts, 1)) == 0, "longer columns are refused", offset);
     for (std::size_t at = 0; at < column_count; at++) {
         const std::size_t size = static_cast<std::size_t>(counts.*shapes[at].count) * shapes[at].item;
-        expect(size == 0 || std::memcmp(exact.arrays[at].at(), other.arrays[at].at(), size) == 0, "the same block gives other columns", offset);
+        expect(size == 0 || std::memcmp(exact.arrays[at].at(), other.arrays[at].at(), size) == 0,
+               "the same block gives other columns", offset);
         expect(other.arrays[at].is_untouched_behind(size), "something behind a column has changed", offset);
     }
     return 0;
@@ -172,7 +183,8 @@ static void short_columns(const std::uint8_t *block, std::size_t length, std::ui
     for (std::size_t at = 0; at < column_count; at++) {
         if (counts.*shapes[at].count == 0) continue;
         pbfrow_counts again = untouched_counts();
-        expect(pbfrow_block_columns(block, length, &again, columns.take(counts, 0, at)) == 72, "an array that is too short isn't noticed", offset);
+        expect(pbfrow_block_columns(block, length, &again, columns.take(counts, 0, at)) == 72,
+               "an array that is too short isn't noticed", offset);
         expect(are_same(counts, again), "the counts are wrong where an array is too short", offset);
         expect(columns.are_untouched(), "an array has changed where one is too short", offset);
     }
@@ -191,13 +203,16 @@ static std::uint8_t exact_header(const std::uint8_t *block, std::size_t length, 
     }
     expect((status == 72) == (header.texts != 0), "72 without need, or no 72", offset);
     for (int way = 0; way < 3; way++) { // the ends too short by one, the bytes too short by one, neither
-        const std::size_t room = static_cast<std::size_t>(header.texts) - (way == 0), byte_room = static_cast<std::size_t>(header.text_bytes) - (way == 1);
+        const std::size_t room = static_cast<std::size_t>(header.texts) - (way == 0),
+                          byte_room = static_cast<std::size_t>(header.text_bytes) - (way == 1);
         if ((way == 0 && header.texts == 0) || (way == 1 && header.text_bytes == 0)) continue;
         texts = {{reinterpret_cast<std::uint64_t *>(ends.take(room, 8)), room}, {bytes.take(byte_room, 1), byte_room}};
         pbfrow_header again = before;
-        expect(pbfrow_header_block(block, length, &again, &texts) == (way == 2 ? 0 : 72), "texts of a header fit or don't", offset);
+        expect(pbfrow_header_block(block, length, &again, &texts) == (way == 2 ? 0 : 72), "texts of a header fit or don't",
+               offset);
         expect(again.texts == header.texts && again.text_bytes == header.text_bytes, "a header changes", offset);
-        expect(way == 2 || (ends.is_untouched() && bytes.is_untouched()), "texts have changed where an array is too short", offset);
+        expect(way == 2 || (ends.is_untouched() && bytes.is_untouched()), "texts have changed where an array is too short",
+               offset);
         expect(way != 2 || are_ends(texts.ends, header.text_bytes), "the ends of a header's texts", offset);
     }
     const std::uint64_t said = header.required + header.optional + header.has_program + header.has_source + header.has_url;
@@ -309,12 +324,31 @@ void __wrap_free(void *old) {
 }
 #endif
 
+// A header as it is read while the growth of that number, and all behind it, are refused; it takes no more than a few.
+static void refused_header(const pbfrow::View<std::uint8_t> &block, std::uint64_t offset) {
+    std::uint64_t ends[64];
+    std::uint8_t bytes[4096];
+    pbfrow_texts texts = {{ends, 64}, {bytes, sizeof bytes}};
+    for (refused_growth = 1, growths = 0, held = 0; refused_growth < 100; refused_growth++, growths = 0) {
+        pbfrow_header header, before;
+        std::memset(&before, untouched, sizeof before);
+        header = before;
+        const std::uint8_t status = pbfrow_header_block(block.data(), block.size(), &header, &texts);
+        expect(held == 0, "memory of a header isn't given back", offset);
+        if (status == 0 && growths < refused_growth) break;
+        expect(status == 65 && std::memcmp(&header, &before, sizeof header) == 0,
+               "refused memory of a header isn't 65, or has changed it", offset);
+    }
+    refused_growth = 0;
+}
+
 static std::uint64_t refused(const pbfrow::MappedFile &file) {
     static Columns columns;
     std::uint64_t tried = 0;
     for (const pbfrow::Blob &blob : pbfrow::File(file)) {
-        if (blob.kind() != pbfrow::BlobKind::data || blob.status() != 0) continue;
         const pbfrow::View<std::uint8_t> block = blob.stored();
+        if (blob.kind() == pbfrow::BlobKind::header && blob.status() == 0) refused_header(block, blob.offset());
+        if (blob.kind() != pbfrow::BlobKind::data || blob.status() != 0) continue;
         pbfrow_counts counts;
         refused_growth = 0, growths = 0, held = 0;
         if (pbfrow_block_counts(block.data(), block.size(), &counts) != 0) continue;
@@ -324,8 +358,10 @@ static std::uint64_t refused(const pbfrow::MappedFile &file) {
         for (refused_growth = 1; refused_growth <= all; refused_growth += step, tried++) {
             growths = 0;
             pbfrow_counts again = untouched_counts();
-            expect(pbfrow_block_columns(block.data(), block.size(), &again, columns.take(counts, 0)) == 65, "refused memory isn't 65", blob.offset());
-            expect(columns.are_untouched() && are_same(again, untouched_counts()), "refused memory has changed something", blob.offset());
+            expect(pbfrow_block_columns(block.data(), block.size(), &again, columns.take(counts, 0)) == 65,
+                   "refused memory isn't 65", blob.offset());
+            expect(columns.are_untouched() && are_same(again, untouched_counts()), "refused memory has changed something",
+                   blob.offset());
             expect(held == 0, "memory isn't given back once some was refused", blob.offset());
         }
         refused_growth = 0;
@@ -401,12 +437,17 @@ static void threads(const pbfrow::MappedFile &file, std::size_t count) {
 }
 
 static void small() {
+#if defined(__GLIBC__) && !defined(FROM_MALLOC)
+    expect(pbfrow::keep_memory(), "malloc doesn't keep its memory", 0);
+#endif
     static const std::uint8_t frame[] = {0, 0, 0, 9, 0x0A, 5, 'E', 'x', 't', 'r', 'a', 0x18, 0};
     pbfrow_blob blob, before;
     std::memset(&before, untouched, sizeof before);
     blob = before;
     const std::uint64_t greatest = std::uint64_t(1) << 62;
-    expect(pbfrow_blob_at(frame, sizeof frame, greatest - 13, &blob) == 0 && blob.kind == 2 && blob.length == 13 && blob.payload_length == 0, "a frame that ends at 2^62", 0);
+    expect(pbfrow_blob_at(frame, sizeof frame, greatest - 13, &blob) == 0 && blob.kind == 2 && blob.length == 13
+               && blob.payload_length == 0,
+           "a frame that ends at 2^62", 0);
     blob = before;
     for (const std::uint64_t offset : {greatest - 12, greatest, ~std::uint64_t(0)}) {
         expect(pbfrow_blob_at(frame, sizeof frame, offset, &blob) == 60, "a frame that would end above 2^62", offset);
@@ -421,9 +462,11 @@ static void small() {
         std::printf("%d %.*s\n", number, static_cast<int>(length), reinterpret_cast<const char *>(name));
         std::uint8_t narrow[24];
         std::memset(narrow, untouched, sizeof narrow);
-        expect(pbfrow_fault_name(static_cast<std::uint8_t>(number), 0, narrow, length - 1) == length && narrow[0] == untouched, "a name in an array that is too short", number);
+        expect(pbfrow_fault_name(static_cast<std::uint8_t>(number), 0, narrow, length - 1) == length && narrow[0] == untouched,
+               "a name in an array that is too short", number);
     }
-    for (int compression = 1; compression <= 5; compression++) std::printf("21 %s\n", pbfrow::fault_name(21, static_cast<pbfrow::Compression>(compression)).c_str());
+    for (int compression = 1; compression <= 5; compression++)
+        std::printf("21 %s\n", pbfrow::fault_name(21, static_cast<pbfrow::Compression>(compression)).c_str());
     check(pbfrow::File(nullptr, 0));
     check(pbfrow::File(frame, 0));
 }

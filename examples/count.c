@@ -117,7 +117,7 @@ int main(int argc, char **argv) {
     const uint8_t *bytes = read_file(argv[1], &size);
     totals all = {0};
     read_all(bytes, size, &all);
-    printf("blobs %" PRIu64 " nodes %" PRIu64 " ways %" PRIu64 " relations %" PRIu64 " faults %" PRIu64 "\n", all.blobs, all.nodes, all.ways,
-           all.relations, all.faults);
+    printf("blobs %" PRIu64 " nodes %" PRIu64 " ways %" PRIu64, all.blobs, all.nodes, all.ways);
+    printf(" relations %" PRIu64 " faults %" PRIu64 "\n", all.relations, all.faults);
     return all.faults == 0 ? 0 : 1;
 }

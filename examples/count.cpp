@@ -29,7 +29,8 @@ static void put_line(std::string &out, const char *label, std::string_view text)
 static void put_header(std::string &out, const pbfrow::Header &header) {
     using std::to_string;
     if (header.box)
-        out += "bbox " + to_string(header.box->left) + ' ' + to_string(header.box->right) + ' ' + to_string(header.box->top) + ' ' + to_string(header.box->bottom) + '\n';
+        out += "bbox " + to_string(header.box->left) + ' ' + to_string(header.box->right) + ' ' + to_string(header.box->top) + ' '
+               + to_string(header.box->bottom) + '\n';
     for (const std::string &feature : header.required) put_line(out, "required ", feature);
     for (const std::string &feature : header.optional) put_line(out, "optional ", feature);
     if (header.program) put_line(out, "program ", *header.program);
@@ -100,7 +101,8 @@ static void put_element(std::string &out, const pbfrow::Element &element) {
 // The lines of one blob. If it has a fault, reading it throws once its own line stands in `out`.
 static void put_blob(std::string &out, const pbfrow::Blob &blob, pbfrow::Block &block) {
     static const char *const types[] = {"OSMHeader", "OSMData", "other"};
-    out += "blob " + std::to_string(blob.offset()) + ' ' + types[static_cast<int>(blob.kind())] + ' ' + std::to_string(blob.length()) + '\n';
+    out += "blob " + std::to_string(blob.offset()) + ' ' + types[static_cast<int>(blob.kind())] + ' '
+           + std::to_string(blob.length()) + '\n';
     block.read(blob);
     if (blob.kind() == pbfrow::BlobKind::header) put_header(out, pbfrow::Header(blob));
     for (const pbfrow::Element element : block) put_element(out, element);

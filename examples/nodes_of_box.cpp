@@ -20,7 +20,8 @@ static void print_node(const pbfrow::Element &node) {
 
 int main(int argc, char **argv) try {
     if (argc != 6) return std::fputs("nodes_of_box FILE LEFT BOTTOM RIGHT TOP\n", stderr), 2;
-    const std::int64_t left = nanodegrees(argv[2]), bottom = nanodegrees(argv[3]), right = nanodegrees(argv[4]), top = nanodegrees(argv[5]);
+    const std::int64_t left = nanodegrees(argv[2]), bottom = nanodegrees(argv[3]), right = nanodegrees(argv[4]),
+                       top = nanodegrees(argv[5]);
     pbfrow::keep_memory();
     const pbfrow::MappedFile bytes(argv[1]);
     pbfrow::Block block;
@@ -30,7 +31,8 @@ int main(int argc, char **argv) try {
         const auto kinds = block.kinds();
         const auto lats = block.lats(), lons = block.lons();
         for (std::size_t at = 0; at < block.size(); at++)
-            if (kinds[at] == pbfrow::Kind::node && bottom <= lats[at] && lats[at] <= top && left <= lons[at] && lons[at] <= right) print_node(block[at]);
+            if (kinds[at] == pbfrow::Kind::node && bottom <= lats[at] && lats[at] <= top && left <= lons[at] && lons[at] <= right)
+                print_node(block[at]);
     }
 } catch (const std::exception &error) {
     std::fprintf(stderr, "nodes_of_box: %s\n", error.what());

@@ -20,7 +20,8 @@ struct Place {
 using Places = std::unordered_map<std::int64_t, Place>;
 
 // An answer of another length than the blob says is a fault of the blob, so no bytes are the answer where zlib fails.
-static std::vector<std::uint8_t> inflated(pbfrow::Compression compression, pbfrow::View<std::uint8_t> compressed, std::uint64_t raw_size) {
+static std::vector<std::uint8_t> inflated(pbfrow::Compression compression, pbfrow::View<std::uint8_t> compressed,
+                                          std::uint64_t raw_size) {
     if (compression != pbfrow::Compression::zlib) return {};
     std::vector<std::uint8_t> bytes(raw_size + 1);
     uLongf length = bytes.size();

@@ -4,8 +4,8 @@
  * reads the payload of an OSMHeader, and pbfrow_block_columns turns the payload of an OSMData blob into columns: one array for
  * all ids, one for all latitudes, and so on. The caller owns every array. The library keeps nothing after a call, neither a
  * pointer nor memory, so there is no handle to open or close, and several threads may call it at once, each over arrays of
- * its own. While it runs, a call takes memory by malloc and realloc and gives all of it back by free; pbfrow_blob_at,
- * pbfrow_header_block and pbfrow_fault_name take none.
+ * its own. While it runs, a call takes memory by malloc and realloc, and gives all of it back by free; pbfrow_blob_at and
+ * pbfrow_fault_name take none.
  *
  * A call that reads answers a status: 0, or the number of a fault, which is the same as in the messages of the program
  * pbfrow (its guide says what to do about each):
@@ -16,7 +16,7 @@
  *   40 to 52                 of a block of elements
  *   65                       memory was refused
  *   72                       an array is too short; this library alone answers it, and it is no fault of the file
- * It is always the first fault in the order that the guide gives, so that two runs over the same bytes answer the same.
+ * The same bytes always have the same fault: where there are several, the first in a fixed order, that of the parts of the file.
  *
  * What the caller owes, since nothing can check it. A call that breaks one of these may do anything:
  *   - No pointer is null, not even where the length beside it is 0: the proof knows no null pointer. Pass the address of any
@@ -53,10 +53,10 @@ typedef struct { pbfrow_ends ends; pbfrow_bytes bytes; } pbfrow_texts;
 
 typedef struct {
     uint64_t length;         /* of the whole frame, in bytes: the next frame begins behind it */
-    uint64_t payload_at;     /* where the payload begins, in bytes from the front of the frame: the raw payload or, with 21, the compressed one */
+    uint64_t payload_at;     /* where the payload begins, in bytes from the front of the frame; with 21, the compressed one */
     uint64_t payload_length; /* in bytes; 0 where there is none: in a blob of another type, and with 20, 22, 23, 61, 62 */
-    uint64_t raw_size;       /* with 21, how many bytes the payload has once it is decompressed, as the blob says (nothing checks it); 0 where it
-                                doesn't say, and without 21 */
+    uint64_t raw_size;       /* with 21, how many bytes the payload has once it is decompressed, as the blob says (nothing checks
+                                it); 0 where it doesn't say, and without 21 */
     uint8_t kind;            /* 0 OSMHeader, 1 OSMData, 2 another type, whose blob isn't read */
     uint8_t compression;     /* with 21: 1 zlib, 2 lzma, 3 bzip2, 4 lz4, 5 zstd; else 0 */
 } pbfrow_blob;
@@ -65,11 +65,11 @@ typedef struct {
  * follow it: the next is found by another call with `bytes` and `offset` moved on by `blob->length`.
  *
  * 0: `blob` is written, and its payload can be read.
- * 20 to 23, 61, 62: `blob` is written, and a reader may go on behind it. With 21 it says where the compressed payload is; with the
- *   others there is no payload.
- * 10 to 14, 16 to 18, 60: `blob` is left as it is, and nothing behind can be read, for it isn't known where the next frame begins.
- *   10, 12 and 18 say that bytes are missing: where the buffer ends before the file does, call again with more of the file. 60
- *   says that the frame would end above 2^62.
+ * 20 to 23, 61, 62: `blob` is written, and a reader may go on behind it. With 21 it says where the compressed payload is; with
+ *   the others there is no payload.
+ * 10 to 14, 16 to 18, 60: `blob` is left as it is, and nothing behind can be read, for it isn't known where the next frame
+ *   begins. 10, 12 and 18 say that bytes are missing: where the buffer ends before the file does, call again with more of the
+ *   file. 60 says that the frame would end above 2^62.
  *
  * No bytes (length 0) are 10. A whole file that is empty is no PBF file either, which the program reports as 61. */
 uint8_t pbfrow_blob_at(const uint8_t *bytes, size_t length, uint64_t offset, pbfrow_blob *blob);
@@ -77,7 +77,7 @@ uint8_t pbfrow_blob_at(const uint8_t *bytes, size_t length, uint64_t offset, pbf
 /* ---- a header block: the payload of an OSMHeader */
 
 typedef struct {
-    int64_t left, right, top, bottom;   /* the area that the file covers, in nanodegrees, any numbers of 64 bits; 0 without has_bbox */
+    int64_t left, right, top, bottom;   /* the area that the file covers, in nanodegrees (any numbers); 0 without has_bbox */
     int64_t timestamp;                  /* osmosis_replication_timestamp, in seconds since 1970; 0 without has_timestamp */
     int64_t sequence;                   /* osmosis_replication_sequence_number; 0 without has_sequence */
     uint64_t required, optional;        /* how many features of each sort there are */
@@ -136,8 +136,8 @@ typedef struct {
     pbfrow_tags tags;
     pbfrow_refs refs;
     pbfrow_members members;
-    pbfrow_texts texts;       /* what the indexes name, from 0: the texts of this block, which no element need use. An index means something
-                                 else in another block */
+    pbfrow_texts texts;       /* what the indexes name, from 0: the texts of this block, which no element need use. In another
+                                 block an index means something else */
 } pbfrow_columns;
 
 /* Says how long the columns of a block are. It decodes all of the block for that: where the columns are wanted as well, call
@@ -160,11 +160,12 @@ uint8_t pbfrow_block_columns(const uint8_t *block, size_t length, pbfrow_counts 
 
 /* ---- the name of a fault */
 
-/* The name that pbfrow's messages give the fault of this number, such as "BlobCut": ASCII, with no NUL behind it. That of 21 names the
- * `compression` of the blob ("CompressedZlib"; "Compressed" for 0), which doesn't matter for other numbers. 72 is "NoRoom".
+/* The name that pbfrow's messages give the fault of this number, such as "BlobCut": ASCII, with no NUL behind it. That of 21
+ * names the `compression` of the blob ("CompressedZlib"; "Compressed" for 0), which doesn't matter for other numbers. 72 is
+ * "NoRoom".
  *
- * Answers how many bytes the name has, or 0 where no fault has this number. The name is written to the front of `name` if `length` is
- * large enough, and else nothing is written; 24 bytes always suffice. */
+ * Answers how many bytes the name has, or 0 where no fault has this number. The name is written to the front of `name` if
+ * `length` is large enough, and else nothing is written; 24 bytes always suffice. */
 size_t pbfrow_fault_name(uint8_t number, uint8_t compression, uint8_t *name, size_t length);
 
 #ifdef __cplusplus

@@ -53,9 +53,10 @@ enum class Compression : std::uint8_t { none, zlib, lzma, bzip2, lz4, zstd };
 
 inline double degrees(std::int64_t nanodegrees) { return static_cast<double>(nanodegrees) / 1e9; }
 
-// Lets malloc keep the memory that blocks take and give back, where the C library is glibc, and says whether it did. Decoding then
-// takes about a fifth less time, since the kernel needn't clear the same pages for each block. It changes malloc for the whole
-// process, which then holds on to the memory of its largest block: so it is left to the program, which calls it once as it begins.
+// Lets malloc keep the memory that blocks take and give back, where the C library is glibc, and says whether it did. Decoding
+// then takes about a fifth less time, since the kernel needn't clear the same pages for each block. It changes malloc for the
+// whole process, which then holds on to the memory of its largest block: so it is left to the program, which calls it once as it
+// begins.
 inline bool keep_memory() {
 #if defined(__GLIBC__)
     constexpr int largest_threshold_of_glibc = 32 << 20, half_a_gigabyte = 512 << 20;
@@ -117,7 +118,8 @@ class Fault : public std::runtime_error {
 
 // Decompresses a payload: it gets the compressed bytes and how many bytes the blob says that the payload has (0 where it doesn't
 // say), at most 33,554,431. An answer of any other length is Fault 21, so one that can't go on answers with no bytes.
-using Decompressor = std::function<std::vector<std::uint8_t>(Compression compression, View<std::uint8_t> compressed, std::uint64_t raw_size)>;
+using Decompressor =
+    std::function<std::vector<std::uint8_t>(Compression compression, View<std::uint8_t> compressed, std::uint64_t raw_size)>;
 
 // The payload of a blob, either among the bytes of the file or, where it was compressed, in memory of its own.
 class Payload {
@@ -195,6 +197,7 @@ template <typename Source> class BlobIterator {
         is_at_end_ = !source_.next(blob_);
         return *this;
     }
+    void operator++(int) { ++*this; }
     bool operator==(const BlobIterator &other) const { return is_at_end_ == other.is_at_end_; }
     bool operator!=(const BlobIterator &other) const { return !(*this == other); }
 
@@ -223,8 +226,8 @@ template <typename Ends> std::uint64_t first(const Ends &ends, std::size_t index
 } // namespace detail
 
 #if PBFROW_HAS_MAPPED_FILE
-// A file in memory, as the system reads it in. std::system_error where it can't be opened, or is a folder, a pipe or a device, which
-// can't be mapped (pbfrow::Input reads a pipe). Nothing may make the file shorter meanwhile: the process would be killed.
+// A file in memory, as the system reads it in. std::system_error where it can't be opened, or is a folder, a pipe or a device,
+// which can't be mapped (pbfrow::Input reads a pipe). Nothing may make the file shorter meanwhile: the process would be killed.
 class MappedFile {
   public:
     explicit MappedFile(const std::string &path) {
@@ -233,9 +236,12 @@ class MappedFile {
         if (file < 0) throw std::system_error(errno, std::generic_category(), path);
         const int error = map(file);
         ::close(file);
-        if (error != 0) throw std::system_error(error, std::generic_category(), path + (error == ESPIPE ? ": not a file, but a pipe or a device" : ""));
+        if (error != 0)
+            throw std::system_error(error, std::generic_category(),
+                                    path + (error == ESPIPE ? ": not a file, but a pipe or a device" : ""));
     }
-    MappedFile(MappedFile &&other) noexcept : bytes_(std::exchange(other.bytes_, nullptr)), size_(std::exchange(other.size_, 0)) {}
+    MappedFile(MappedFile &&other) noexcept
+        : bytes_(std::exchange(other.bytes_, nullptr)), size_(std::exchange(other.size_, 0)) {}
     MappedFile &operator=(MappedFile &&other) noexcept {
         std::swap(bytes_, other.bytes_);
         std::swap(size_, other.size_);
@@ -276,7 +282,8 @@ class File {
         if (bytes == nullptr && size != 0) throw std::invalid_argument("pbfrow::File: no bytes");
     }
 #if PBFROW_HAS_MAPPED_FILE
-    explicit File(const MappedFile &file, Decompressor decompressor = {}) : File(file.data(), file.size(), std::move(decompressor)) {}
+    explicit File(const MappedFile &file, Decompressor decompressor = {})
+        : File(file.data(), file.size(), std::move(decompressor)) {}
     explicit File(MappedFile &&file, Decompressor decompressor = {}) = delete; // its bytes would be gone at once
 #endif
 
@@ -309,11 +316,12 @@ class File {
     Cursor cursor_;
 };
 
-// The blobs of an input that comes in pieces, such as a pipe. It holds a frame or two at a time: a blob, and what points at it, lasts
-// until the next one is read.
+// The blobs of an input that comes in pieces, such as a pipe. It holds a frame or two at a time: a blob, and what points at it,
+// lasts until the next one is read.
 class Input {
   public:
-    // Puts bytes at `to`, at most `room`, and says how many; 0 at the end.
+    // Puts bytes at `to`, at most `room`, and says how many; 0 at the end. It has to throw where reading fails: an end between
+    // two frames is that of a whole file.
     using Read = std::function<std::size_t(std::uint8_t *to, std::size_t room)>;
 
     explicit Input(Read read, Decompressor decompressor = {})
@@ -351,12 +359,13 @@ class Input {
   private:
     static constexpr std::size_t first_room = 256 << 10;
 
-    // Whether more of the input came. What is held moves to the front of the buffer, which is made larger once it is half full.
+    // Whether more of the input came. What is held moves to the front of the buffer, which is made larger once that fills it.
     bool read_more() {
-        std::copy(buffer_.begin() + static_cast<std::ptrdiff_t>(begin_), buffer_.begin() + static_cast<std::ptrdiff_t>(end_), buffer_.begin());
+        std::copy(buffer_.begin() + static_cast<std::ptrdiff_t>(begin_), buffer_.begin() + static_cast<std::ptrdiff_t>(end_),
+                  buffer_.begin());
         end_ -= begin_;
         begin_ = 0;
-        if (end_ > buffer_.size() / 2) buffer_.resize(2 * buffer_.size());
+        if (end_ == buffer_.size()) buffer_.resize(2 * buffer_.size());
         const std::size_t count = read_(buffer_.data() + end_, buffer_.size() - end_);
         end_ += count;
         return count != 0;
@@ -411,7 +420,8 @@ struct Header {
         std::size_t index = 0;
         const auto next = [&] {
             const std::uint64_t begin = detail::first(ends, index);
-            return std::string(reinterpret_cast<const char *>(bytes.data()) + begin, static_cast<std::size_t>(ends[index++] - begin));
+            return std::string(reinterpret_cast<const char *>(bytes.data()) + begin,
+                               static_cast<std::size_t>(ends[index++] - begin));
         };
         while (index < header.required) required.push_back(next());
         while (index < header.required + header.optional) optional.push_back(next());
@@ -439,6 +449,7 @@ template <typename Item> class Items {
         Iterator(const Block *block, std::size_t index) : block_(block), index_(index) {}
         Item operator*() const { return Item(*block_, index_); }
         Iterator &operator++() { return ++index_, *this; }
+        Iterator operator++(int) { return {block_, index_++}; }
         bool operator==(const Iterator &other) const { return index_ == other.index_; }
         bool operator!=(const Iterator &other) const { return index_ != other.index_; }
 
@@ -508,14 +519,14 @@ class Element {
     std::size_t index_;
 };
 
-// The elements of one block in columns, one block after the other: the arrays are kept, and grow where a block needs more. What it gives
-// (views, elements, texts) lasts until it reads the next block.
+// The elements of one block in columns, one block after the other: the arrays are kept, and grow where a block needs more. What
+// it gives (views, elements, texts) lasts until it reads the next block.
 class Block {
   public:
     Block() { make_room(); }
 
-    // Reads the elements of a blob, or throws its fault; then there are none. A blob of another kind has no elements, but the header in
-    // an OSMHeader is tested, so that no file is read that requires a feature which pbfrow doesn't know.
+    // Reads the elements of a blob, or throws its fault; then there are none. A blob of another kind has no elements, but the
+    // header in an OSMHeader is tested, so that no file is read that requires a feature which pbfrow doesn't know.
     void read(const Blob &blob) {
         counts_ = {};
         if (blob.kind() == BlobKind::header) return static_cast<void>(Header(blob));
@@ -591,18 +602,19 @@ class Block {
     }
 
     std::uint8_t call(const std::uint8_t *payload, std::size_t length, pbfrow_counts &counts) {
-        pbfrow_columns columns{
-            {array(kinds_), array(ids_), array(lats_), array(lons_), array(versions_), array(times_), array(changesets_), array(uids_),
-             array(users_), array(visible_)},
-            {array(tag_ends_), array(tag_keys_), array(tag_values_)},
-            {array(ref_ends_), array(refs_)},
-            {array(member_ends_), array(member_kinds_), array(member_ids_), array(member_roles_)},
-            {array(text_ends_), array(text_bytes_)}};
+        pbfrow_columns columns{{array(kinds_), array(ids_), array(lats_), array(lons_), array(versions_), array(times_),
+                                array(changesets_), array(uids_), array(users_), array(visible_)},
+                               {array(tag_ends_), array(tag_keys_), array(tag_values_)},
+                               {array(ref_ends_), array(refs_)},
+                               {array(member_ends_), array(member_kinds_), array(member_ids_), array(member_roles_)},
+                               {array(text_ends_), array(text_bytes_)}};
         return pbfrow_block_columns(payload, length, &counts, &columns);
     }
 
     static pbfrow_bytes array(std::vector<std::uint8_t> &column) { return {column.data(), column.size()}; }
-    static pbfrow_bytes array(std::vector<Kind> &column) { return {reinterpret_cast<std::uint8_t *>(column.data()), column.size()}; }
+    static pbfrow_bytes array(std::vector<Kind> &column) {
+        return {reinterpret_cast<std::uint8_t *>(column.data()), column.size()};
+    }
     static pbfrow_ints array(std::vector<std::int32_t> &column) { return {column.data(), column.size()}; }
     static pbfrow_longs array(std::vector<std::int64_t> &column) { return {column.data(), column.size()}; }
     static pbfrow_ends array(std::vector<std::uint64_t> &column) { return {column.data(), column.size()}; }
@@ -611,7 +623,8 @@ class Block {
     // pointer may be null.
     void make_room() {
         const std::uint64_t elements = counts_.elements;
-        room(elements, kinds_, visible_, ids_, lats_, lons_, times_, changesets_, versions_, uids_, users_, tag_ends_, ref_ends_, member_ends_);
+        room(elements, kinds_, visible_, ids_, lats_, lons_, times_, changesets_, versions_, uids_, users_, tag_ends_, ref_ends_,
+             member_ends_);
         room(counts_.tags, tag_keys_, tag_values_);
         room(counts_.refs, refs_);
         room(counts_.members, member_kinds_, member_ids_, member_roles_);
@@ -656,10 +669,18 @@ inline Kind Element::kind() const { return block_->kinds()[index_]; }
 inline std::int64_t Element::id() const { return block_->ids()[index_]; }
 inline std::int64_t Element::lat() const { return block_->lats()[index_]; }
 inline std::int64_t Element::lon() const { return block_->lons()[index_]; }
-inline std::optional<std::int32_t> Element::version() const { return detail::unless<std::int32_t>(-1, block_->versions()[index_]); }
-inline std::optional<std::int64_t> Element::time() const { return detail::unless<std::int64_t>(INT64_MIN, block_->times()[index_]); }
-inline std::optional<std::int64_t> Element::changeset() const { return detail::unless<std::int64_t>(INT64_MIN, block_->changesets()[index_]); }
-inline std::optional<std::int32_t> Element::uid() const { return detail::unless<std::int32_t>(INT32_MIN, block_->uids()[index_]); }
+inline std::optional<std::int32_t> Element::version() const {
+    return detail::unless<std::int32_t>(-1, block_->versions()[index_]);
+}
+inline std::optional<std::int64_t> Element::time() const {
+    return detail::unless<std::int64_t>(INT64_MIN, block_->times()[index_]);
+}
+inline std::optional<std::int64_t> Element::changeset() const {
+    return detail::unless<std::int64_t>(INT64_MIN, block_->changesets()[index_]);
+}
+inline std::optional<std::int32_t> Element::uid() const {
+    return detail::unless<std::int32_t>(INT32_MIN, block_->uids()[index_]);
+}
 inline std::optional<std::string_view> Element::user() const {
     const std::int32_t user = block_->users()[index_];
     return user < 0 ? std::nullopt : std::optional<std::string_view>(block_->text(user));

@@ -1,5 +1,5 @@
-// Reads a PBF file of raw blobs, a blob at a time, decodes by the library of this project every element into columns, adds up the numbers, and
-// counts. It is compiled with the library in out/library, where make library puts it:
+// Reads a PBF file of raw blobs, a blob at a time, decodes by the library of this project every element into columns, adds up the
+// numbers, and counts. It is compiled with the library in out/library, where make library puts it:
 //   g++ -O2 -std=c++17 -Iout/library/include -o count_pbfrow bench/peers/count_pbfrow.cpp out/library/lib/libpbfrow.a
 #include <cstdio>
 #include <pbfrow.hpp>
@@ -40,8 +40,8 @@ int main(int argc, char *argv[]) try {
         block.read(blob);
         add_block(block);
     }
-    std::printf("blobs %lu nodes %lu ways %lu relations %lu tags %lu refs %lu members %lu texts %lu (%ld)\n", blobs, nodes, ways, relations, tags, refs,
-                members, texts, total);
+    std::printf("blobs %lu nodes %lu ways %lu relations %lu tags %lu refs %lu members %lu texts %lu (%ld)\n", blobs, nodes, ways,
+                relations, tags, refs, members, texts, total);
 } catch (const pbfrow::Fault &fault) {
     std::puts(fault.what());
     return 1;
