@@ -116,7 +116,8 @@ def alone(top, folder):
     known = vectors(top)
     features = two[0][1]
     replication = b"\x80\x02\x05\x88\x02\x07" + field(34, b"there")
-    full = field(1, b"\x08\x02\x10\x04\x18\x06\x20\x08") + features + field(5, b"Sorted") + field(16, b"me") + field(17, b"here") + replication
+    full = field(1, b"\x08\x02\x10\x04\x18\x06\x20\x08") + features + field(5, b"Sorted")
+    full += field(16, b"me") + field(17, b"here") + replication
     made = known + [header + it for it in known] + [frame(b"OSMHeader", field(RAW, it)) for it in known]
     made += [b"\0\0\0", header + b"\0\1\0\0", header + b"\0\0\0\2\x18\x00", header + b"\0\0\0\3\x0a\x01A"]
     made += [two[1][2], frame(b"Extra", b""), frame(b"OSMHeader", field(RAW, full))]

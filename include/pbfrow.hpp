@@ -446,6 +446,7 @@ template <typename Item> class Items {
         using pointer = void;
         using reference = Item;
 
+        Iterator() = default;
         Iterator(const Block *block, std::size_t index) : block_(block), index_(index) {}
         Item operator*() const { return Item(*block_, index_); }
         Iterator &operator++() { return ++index_, *this; }
@@ -454,8 +455,8 @@ template <typename Item> class Items {
         bool operator!=(const Iterator &other) const { return index_ != other.index_; }
 
       private:
-        const Block *block_;
-        std::size_t index_;
+        const Block *block_ = nullptr;
+        std::size_t index_ = 0;
     };
 
     Items(const Block &block, std::size_t first, std::size_t end) : block_(&block), first_(first), end_(end) {}
