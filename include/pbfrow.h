@@ -14,7 +14,7 @@
  *   20 to 23                 of a blob; 21 is a compressed one, whose payload the caller may decompress
  *   30 to 33                 of a header block
  *   40 to 52                 of a block of elements
- *   65                       memory was refused
+ *   65                       memory was refused, or a block has 2^31 texts
  *   72                       an array is too short; this library alone answers it, and it is no fault of the file
  * The same bytes always have the same fault: where there are several, the first in a fixed order, that of the parts of the file.
  *
@@ -136,8 +136,8 @@ typedef struct {
     pbfrow_tags tags;
     pbfrow_refs refs;
     pbfrow_members members;
-    pbfrow_texts texts;       /* what the indexes name, from 0: the texts of this block, which no element need use. In another
-                                 block an index means something else */
+    pbfrow_texts texts;       /* what the indexes of this block name, from 0, in the order of their first use. Nearly always each
+                                 text is there once, but nothing promises it: two indexes may name equal texts */
 } pbfrow_columns;
 
 /* Says how long the columns of a block are. It decodes all of the block for that: where the columns are wanted as well, call

@@ -54,7 +54,7 @@ enum class Compression : std::uint8_t { none, zlib, lzma, bzip2, lz4, zstd };
 inline double degrees(std::int64_t nanodegrees) { return static_cast<double>(nanodegrees) / 1e9; }
 
 // Lets malloc keep the memory that blocks take and give back, where the C library is glibc, and says whether it did. Decoding
-// then takes about a fifth less time, since the kernel needn't clear the same pages for each block. It changes malloc for the
+// then takes about a third less time, since the kernel needn't clear the same pages for each block. It changes malloc for the
 // whole process, which then holds on to the memory of its largest block: so it is left to the program, which calls it once as it
 // begins.
 inline bool keep_memory() {
@@ -555,7 +555,7 @@ class Block {
     Items<Element>::Iterator end() const { return elements().end(); }
     Element operator[](std::size_t index) const { return Element(*this, index); }
 
-    // The text of an index in a column of this block.
+    // The text of an index in a column of this block. (Two indexes may name equal texts.)
     std::string_view text(std::int32_t index) const {
         const auto at = static_cast<std::size_t>(index);
         const std::uint64_t begin = detail::first(text_ends_, at);
