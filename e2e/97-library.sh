@@ -178,6 +178,7 @@ if has python3; then
   shown bad/blobs.osm.pbf > want.txt
   ./count bad/blobs.osm.pbf lines > got.txt
   same "count lines of bad blobs" got.txt want.txt
+  agrees "a header that says all it can" bad/header.osm.pbf
   # shellcheck disable=SC2046
   agrees "some of the other bad files" $(ls bad/alone/* | awk 'NR % 16 == 0')
   if echo 'int main() {}' | c++ -x c++ -fsanitize=address -o sanitized - 2> said.txt && ./sanitized; then
@@ -214,9 +215,10 @@ grep -v '^19 ' small.txt > got.txt
     "40 BlockWire" "41 NoStringTable" "42 TextNotUtf8" "43 TextHasNul" "44 BadGranularity" "45 MixedGroup" "46 Missing" "47 LengthsDiffer" \
     "48 BadIndex" "49 SumTooLarge" "50 OutOfRange" "51 TagsUneven" "52 BadMemberType" "60 OffsetTooLarge" "61 NoHeaderFirst" "62 HeaderNotFirst" "65 Memory" "72 NoRoom"
   for codec in Zlib Lzma Bzip2 Lz4 Zstd; do echo "21 Compressed$codec"; done
-  for _ in 1 2; do printf '%s\n' "fault 61 NoHeaderFirst at 0" "blobs 0 nodes 0 ways 0 relations 0 faults 1"; done
+  for blobs in 0 0 1; do printf '%s\n' "fault 61 NoHeaderFirst at 0" "blobs $blobs nodes 0 ways 0 relations 0 faults 1"; done
+  for blobs in 1 0; do echo "blobs $blobs nodes 0 ways 0 relations 0 faults 0"; done
 } > want.txt
-same "names, and offsets at 2^62" got.txt want.txt
+same "names, offsets at 2^62, and files that are empty or parts of others" got.txt want.txt
 
 # A blob whose lzma field has the block from back to front, and says how long it is.
 block='\x0a\x02\x0a\x00\x12\x0e\x12\x0c\x0a\x02\x02\x02\x42\x02\x14\x01\x4a\x02\x01\x00'

@@ -3,6 +3,7 @@
 
   FOLDER/blobs.osm.pbf  a header, and behind it frames whose blobs and blocks are bad in many ways; a reader goes over all of them
   FOLDER/alone/         files that each end with their first fault of a frame, and those whose header is bad
+  FOLDER/header.osm.pbf a header that says all it can
 
 They are made of the bytes in the tests of crates/osm_vectors, each read as a block, as a header block, as a blob and as a file;
 of data/, whose frames, blobs and blocks are changed and cut at random; and of blocks that are made at random. The last line says
@@ -248,8 +249,11 @@ def alone(top, folder):
     full += field(16, b"me") + field(17, b"here") + replication
     made = known + [header + it for it in known] + [frame(b"OSMHeader", field(RAW, it)) for it in known]
     made += [b"\0\0\0", header + b"\0\1\0\0", header + b"\0\0\0\2\x18\x00", header + b"\0\0\0\3\x0a\x01A"]
-    made += [two[1][2], frame(b"Extra", b""), frame(b"OSMHeader", field(RAW, full))]
+    made += [two[1][2], frame(b"Extra", b"")]
     made += [header + frame(b"OSMData", b"", size) for size in (33_619_969, 33_619_968, (1 << 64) - 1)]
+    made.append(frame(b"OSMHeader", field(RAW, full)))
+    with open(f"{folder}/../header.osm.pbf", "wb") as file:
+        file.write(made[-1])
     fixed = len(made)
     made += [header + changed(two[1][2]) + two[1][2] for _ in range(1600)]
     made += [changed(header + two[1][2]) for _ in range(500)]

@@ -469,6 +469,9 @@ static void small() {
         std::printf("21 %s\n", pbfrow::fault_name(21, static_cast<pbfrow::Compression>(compression)).c_str());
     check(pbfrow::File(nullptr, 0));
     check(pbfrow::File(frame, 0));
+    check(pbfrow::File(frame, sizeof frame));
+    check(pbfrow::File(frame, sizeof frame, {}, 13)); // a part of a file
+    check(pbfrow::File(frame, 0, {}, 13));
 }
 
 int main(int argc, char **argv) {
