@@ -225,7 +225,7 @@ template <typename Ends> std::uint64_t first(const Ends &ends, std::size_t index
 
 } // namespace detail
 
-#if PBFROW_HAS_MAPPED_FILE
+#ifdef PBFROW_HAS_MAPPED_FILE
 // A file in memory, as the system reads it in. std::system_error where it can't be opened, or is a folder, a pipe or a device,
 // which can't be mapped (pbfrow::Input reads a pipe). Nothing may make the file shorter meanwhile: the process would be killed.
 class MappedFile {
@@ -281,7 +281,7 @@ class File {
         : cursor_{bytes, size, offset, detail::shared(std::move(decompressor))} {
         if (bytes == nullptr && size != 0) throw std::invalid_argument("pbfrow::File: no bytes");
     }
-#if PBFROW_HAS_MAPPED_FILE
+#ifdef PBFROW_HAS_MAPPED_FILE
     explicit File(const MappedFile &file, Decompressor decompressor = {})
         : File(file.data(), file.size(), std::move(decompressor)) {}
     explicit File(MappedFile &&file, Decompressor decompressor = {}) = delete; // its bytes would be gone at once
