@@ -214,6 +214,13 @@ def made_block():
     return b"".join(parts)
 
 
+def block_of_many_texts(count):
+    """A block in which every text but the empty one is used twice, far apart."""
+    table = field(1, field(1, b"") + b"".join(field(1, b"text %d" % at) for at in range(1, count)))
+    ways = b"".join(field(3, int_field(1, varint(at)) + field(2, varint(at)) + field(3, varint(count - at))) for at in range(1, count))
+    return table + field(2, ways)
+
+
 # ---- the files
 
 
@@ -224,7 +231,7 @@ def blobs(top, path):
     known = vectors(top)
     small = [it for it in known if it[:2] in (b"\x0a\x02", b"\x0a\x06", b"\x0a\x08")] + [two[1][1]]
     made = [data_frame(it) for it in known] + [frame(b"OSMData", it) for it in known] + [frame(b"Extra", it) for it in known]
-    made += [two[0][2], frame(b"OSMData", b""), data_frame(bytes(TOO_LONG))]
+    made += [two[0][2], frame(b"OSMData", b""), data_frame(bytes(TOO_LONG)), data_frame(block_of_many_texts(40_000))]
     made += [frame(b"OSMData", number(8 * 2) + number(9) + field(place, b"packed")) for place in range(3, 9)]
     fixed = len(made)
     made += [data_frame(made_block()) for _ in range(2000)]
