@@ -2,9 +2,10 @@
 # make gate-time: what the last run of the gate here took, by crate, and what passes the budget. make e2e: the built program
 # on files. make edits: says which goal refuses each must-fail edit. make refused-growths: public calls with each growth of
 # memory refused in turn. make bench: measures the program, and draws the tables as bars (out/bars-*.svg). make install: the
-# built program, its manual page, documents and completions under PREFIX; make uninstall takes them back. make dist: packages
-# of the built program, in out/dist.
-.PHONY: all test gate gate-time quick e2e edits refused-growths bench built install uninstall dist clean
+# built program, its manual page, documents and completions under PREFIX, and the library where that is built; make uninstall
+# takes them back. make library: proves and builds the library for C and C++, in out/library. make dist: packages of the built
+# program, with the library where that is built, in out/dist.
+.PHONY: all test gate gate-time quick e2e edits refused-growths bench built library install install-library uninstall dist clean
 
 PREFIX ?= /usr/local
 bindir ?= $(PREFIX)/bin
@@ -13,6 +14,11 @@ docdir ?= $(PREFIX)/share/doc/pbfrow
 bashdir ?= $(PREFIX)/share/bash-completion/completions
 zshdir ?= $(PREFIX)/share/zsh/site-functions
 fishdir ?= $(PREFIX)/share/fish/vendor_completions.d
+libdir ?= $(PREFIX)/lib
+includedir ?= $(PREFIX)/include
+# where the library was built; make install leaves it out if it isn't there
+BUILT_LIBRARY ?= out/library
+EXAMPLES_OF_LIBRARY := $(addprefix examples/,count.c count.cpp nodes_of_box.cpp ways_with_places.cpp)
 SHELL := bash
 
 all:
@@ -47,6 +53,10 @@ bench: all
 built:
 	@./pbfrow --is-current || { echo "the program isn't built, or a source has changed: run make first, and not as root" >&2; exit 1; }
 
+library:
+	cd crates/pbfrow_c && rt lib
+	library/build "$(BUILT_LIBRARY)"
+
 install: built
 	install -d $(addprefix "$(DESTDIR)",$(bindir) $(mandir)/man1 $(docdir)/examples $(bashdir) $(zshdir) $(fishdir))
 	install -m 755 crates/pbfrow/out/pbfrow "$(DESTDIR)$(bindir)/pbfrow"
@@ -58,10 +68,22 @@ install: built
 	package/notices > "$(DESTDIR)$(docdir)/NOTICES"
 	install -m 755 examples/import_part examples/dask_import.py "$(DESTDIR)$(docdir)/examples"
 	install -m 644 examples/parts.mk examples/views.sql "$(DESTDIR)$(docdir)/examples"
+	@[ ! -e "$(BUILT_LIBRARY)/lib/libpbfrow.a" ] || $(MAKE) -s install-library
+
+# The library by itself, as it was built; this proves and compiles nothing.
+install-library:
+	install -d $(addprefix "$(DESTDIR)",$(includedir) $(libdir) $(docdir)/examples)
+	install -m 644 "$(BUILT_LIBRARY)/include/pbfrow.h" "$(BUILT_LIBRARY)/include/pbfrow.hpp" "$(DESTDIR)$(includedir)"
+	install -m 644 "$(BUILT_LIBRARY)/lib/libpbfrow.a" "$(BUILT_LIBRARY)"/lib/libpbfrow.so.*.* "$(DESTDIR)$(libdir)"
+	cp -P "$(BUILT_LIBRARY)/lib/libpbfrow.so" "$(BUILT_LIBRARY)/lib/libpbfrow.so.0" "$(DESTDIR)$(libdir)"
+	library/describe "$(libdir)" "$(includedir)" "$(DESTDIR)"
+	install -m 644 $(EXAMPLES_OF_LIBRARY) "$(DESTDIR)$(docdir)/examples"
 
 uninstall:
 	rm -f $(addprefix "$(DESTDIR)",$(bindir)/pbfrow $(mandir)/man1/pbfrow.1.gz $(bashdir)/pbfrow $(zshdir)/_pbfrow $(fishdir)/pbfrow.fish)
-	rm -rf "$(DESTDIR)$(docdir)"
+	rm -f $(addprefix "$(DESTDIR)",$(includedir)/pbfrow.h $(includedir)/pbfrow.hpp $(libdir)/pkgconfig/pbfrow.pc)
+	rm -f "$(DESTDIR)$(libdir)"/libpbfrow.a "$(DESTDIR)$(libdir)"/libpbfrow.so*
+	rm -rf $(addprefix "$(DESTDIR)",$(libdir)/cmake/pbfrow $(docdir))
 
 dist: built
 	package/dist
