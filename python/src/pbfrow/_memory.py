@@ -1,0 +1,123 @@
+"""The memory that blocks are decoded into: one piece for all columns of a block, which is used again once no array looks at it.
+
+A block of eight thousand elements has about a megabyte of columns. Memory that is new for each block costs a page fault for
+each 4 KiB of it, and those of several threads wait for one another in the kernel; memory that was used before costs none.
+"""
+
+from __future__ import annotations
+
+import ctypes
+from collections import deque
+from typing import Any
+
+import numpy as np
+from numpy.typing import NDArray
+
+from ._library import COLUMNS, COUNTS, NO_ROOM, Counts, library
+
+_ALIGNED = 64
+_COUNTED = tuple(dict.fromkeys(column.count for column in COLUMNS))
+_SIZES = np.array([column.type.itemsize for column in COLUMNS])
+_COUNT_OF = np.array([_COUNTED.index(column.count) for column in COLUMNS])
+_IS_ENDS = np.array([column.ends_of is not None for column in COLUMNS])
+
+
+class Room:
+    """How much room a block has: so many items of each count, and where in its memory each column begins.
+
+    In front of each column of ends is one item more, a zero, so that ends are offsets as well.
+    """
+
+    def __init__(self, items: NDArray[np.int64]) -> None:
+        self.items = items
+        self.lengths = items[_COUNT_OF].astype(np.uint64)
+        sizes = (items[_COUNT_OF] + _IS_ENDS) * _SIZES
+        steps = -(-sizes // _ALIGNED) * _ALIGNED
+        self.starts = np.concatenate(([0], np.cumsum(steps)[:-1]))
+        self.firsts = (self.starts + _IS_ENDS * _SIZES).astype(np.uint64)
+        self.size = int(steps.sum())
+
+    @classmethod
+    def guessed(cls, length: int) -> Room:
+        """Room for what a payload of this many bytes usually has."""
+        few = max(length // 8, 16)
+        return cls(np.array([max(length // 6, 16) if name == "elements" else few for name in _COUNTED], np.int64))
+
+    def holding(self, counts: Counts) -> Room:
+        """This room, grown to hold so many, and an eighth more of what has grown."""
+        needed = np.array([getattr(counts, name) for name in _COUNTED], np.int64)
+        return Room(np.where(needed > self.items, needed + needed // 8 + 16, self.items))
+
+
+class Lease:
+    """Memory on loan: numpy arrays that look at it hold this object, and when the last one is gone it goes back to its pool."""
+
+    def __init__(self, pool: Pool, memory: NDArray[np.uint8], size: int) -> None:
+        self._pool, self._memory = pool, memory
+        address = -(-memory.ctypes.data // _ALIGNED) * _ALIGNED
+        self.__array_interface__ = {"version": 3, "typestr": "|u1", "shape": (size,), "data": (address, False)}
+
+    def __del__(self) -> None:
+        self._pool.give_back(self._memory)
+
+
+class Pool:
+    """Memory for blocks that was used before, for the threads of one file together."""
+
+    def __init__(self, most: int) -> None:
+        self._free: deque[NDArray[np.uint8]] = deque(maxlen=most)
+
+    def lend(self, size: int) -> NDArray[np.uint8]:
+        """An array of so many bytes of any value, at an address that 64 divides."""
+        try:
+            memory = self._free.pop()
+        except IndexError:
+            memory = None
+        if memory is None or len(memory) < size + _ALIGNED:
+            memory = np.empty(size + _ALIGNED, np.uint8)
+        return np.asarray(Lease(self, memory, size))
+
+    def give_back(self, memory: NDArray[np.uint8]) -> None:
+        self._free.append(memory)
+
+
+class Decoder:
+    """Decodes payloads of blocks, each into memory of its own, for several threads at a time."""
+
+    def __init__(self, most_spare: int = 32) -> None:
+        self._pool = Pool(most_spare)
+        self._room: Room | None = None
+
+    def columns(self, address: int, length: int) -> tuple[int, Counts, dict[str, NDArray[Any]]]:
+        """Decodes the payload of so many bytes at this address. The status, and where that is 0 the counts and the columns."""
+        counts = Counts()
+        room = self._room or Room.guessed(length)
+        while True:
+            memory = self._pool.lend(room.size)
+            status = _decode(address, length, counts, room, memory)
+            if status != NO_ROOM:
+                break
+            self._room = room = room.holding(counts)
+        return status, counts, _views(counts, room, memory) if status == 0 else {}
+
+
+def _decode(address: int, length: int, counts: Counts, room: Room, memory: NDArray[np.uint8]) -> int:
+    slots = np.empty((len(COLUMNS), 2), np.uint64)
+    slots[:, 0] = room.firsts + np.uint64(memory.ctypes.data)
+    slots[:, 1] = room.lengths
+    return int(library.pbfrow_block_columns(address, length, ctypes.byref(counts), slots.ctypes.data))
+
+
+def _views(counts: Counts, room: Room, memory: NDArray[np.uint8]) -> dict[str, NDArray[Any]]:
+    views = {}
+    for column, start in zip(COLUMNS, room.starts.tolist()):
+        is_ends = column.ends_of is not None
+        size = (getattr(counts, column.count) + is_ends) * column.type.itemsize
+        view = memory[start : start + size].view(column.type)
+        if is_ends:
+            view[0] = 0
+        views[column.name] = view
+    return views
+
+
+assert set(_COUNTED) <= set(COUNTS)
