@@ -1,7 +1,7 @@
 /* A consumer of Arrow's C data interface, for the checks of the package pbfrow: it takes structs as the interface says, writes
  * their rows as lines, and releases them. It knows the forms that these tables have, and nothing of who made them.
  *
- * A row has its values with tabs between them; "-" is a missing one, and a list is in ( ), its items with commas between them.
+ * A row has its values with tabs between them; "%" is a missing one, and a list is in ( ), its items with commas between them.
  * In texts, the bytes that `pbfrow show` escapes are escaped as there. Each call answers 0, or the line that found what is
  * wrong. */
 #include <pthread.h>
@@ -45,7 +45,7 @@ static int bit(const void *bits, int64_t at) { return ((const uint8_t *)bits)[at
 static int is_there(const struct ArrowArray *a, int64_t i) { return !a->buffers[0] || bit(a->buffers[0], a->offset + i); }
 
 static int write_value(FILE *out, const struct ArrowSchema *s, const struct ArrowArray *a, int64_t i) {
-    if (!is_there(a, i)) return putc('-', out), 0;
+    if (!is_there(a, i)) return putc('%', out), 0;
     int64_t at = a->offset + i;
     if (s->dictionary) {
         int64_t index = !strcmp(s->format, "i") ? ((const int32_t *)a->buffers[1])[at] : ((const uint8_t *)a->buffers[1])[at];

@@ -356,7 +356,7 @@ class Tables(Generic[Made]):
         return _arrow.stream_capsule(self._nothing()._fields(), (table._fields() for table in self))
 
     def _nothing(self) -> Made:
-        nothing = {column.name: np.zeros(column.ends_of is not None, column.type) for column in COLUMNS}
+        nothing = {column.name: np.zeros(int(column.ends_of is not None), column.type) for column in COLUMNS}
         return getattr(Block(0, Numbers(0, 0, 0), nothing), self._name)
 
 
