@@ -332,19 +332,21 @@ class Block:
     offset: int
     #: How many nodes, ways and relations there are.
     numbers: Numbers
-    #: The texts that users, tags and roles are indexes of.
-    texts: Texts
 
     def __init__(self, offset: int, numbers: Numbers, columns: Mapping[str, NDArray[Any]]) -> None:
         self.offset, self.numbers, self._columns = offset, numbers, columns
-        self.texts = Texts(columns["text_ends"], columns["text_bytes"])
 
     def __len__(self) -> int:
-        return len(self._columns["ids"])
+        return sum(self.numbers)
 
     def __repr__(self) -> str:
         nodes, ways, relations = self.numbers
         return f"<pbfrow.Block at {self.offset}: {nodes} nodes, {ways} ways, {relations} relations>"
+
+    @cached_property
+    def texts(self) -> Texts:
+        """The texts that users, tags and roles are indexes of."""
+        return Texts(self._columns["text_ends"], self._columns["text_bytes"])
 
     @cached_property
     def elements(self) -> Elements:
@@ -397,7 +399,8 @@ def _owners(offsets: NDArray[np.int64]) -> NDArray[np.intp]:
 
 
 def _is_one_of(items: NDArray[np.int32], wanted: NDArray[np.int32]) -> NDArray[np.bool_]:
-    return items == wanted[0] if len(wanted) == 1 else np.isin(items, wanted)
+    found: NDArray[np.bool_] = items == wanted[0] if len(wanted) == 1 else np.isin(items, wanted)
+    return found
 
 
 def _parts(offsets: NDArray[np.int64], selection: Selection) -> tuple[NDArray[np.int64], Selection]:
@@ -408,5 +411,6 @@ def _parts(offsets: NDArray[np.int64], selection: Selection) -> tuple[NDArray[np
         return part if first == 0 else part - first, slice(first, last)
     begins = offsets[:-1][selection]
     lengths = offsets[1:][selection] - begins
-    made = np.concatenate(([0], np.cumsum(lengths)))
+    made = np.zeros(len(lengths) + 1, np.int64)
+    np.cumsum(lengths, out=made[1:])
     return made, np.arange(made[-1]) + np.repeat(begins - made[:-1], lengths)

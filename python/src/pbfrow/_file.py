@@ -10,7 +10,7 @@ import stat
 from collections import deque
 from concurrent.futures import Future, ThreadPoolExecutor
 from dataclasses import dataclass
-from typing import TYPE_CHECKING, Any, Callable, Generic, Iterator, Mapping, NamedTuple, TypeVar, Union
+from typing import Any, Callable, Generic, Iterator, Literal, Mapping, NamedTuple, TypeVar, Union
 
 import numpy as np
 from numpy.typing import NDArray
@@ -23,14 +23,11 @@ from ._library import CODECS, COLUMNS, COMPRESSED, MOST_RAW, PASSABLE, BlobAnswe
 from ._memory import Decoder
 from ._tables import Table
 
-if TYPE_CHECKING:
-    from typing_extensions import Literal
-
 #: What decompresses: a function of the compressed bytes, for zlib or for whatever comes, or one for each codec ("zlib", "lzma",
 #: "bzip2", "lz4", "zstd").
 Inflate = Union[Callable[[bytes], bytes], Mapping[str, Callable[[bytes], bytes]]]
 #: What becomes of faults: they are raised, or a function is told them.
-OnFault = Union["Literal['raise']", Callable[[Fault], object]]
+OnFault = Union[Literal["raise"], Callable[[Fault], object]]
 #: A function that is told how many bytes have been read, and how many the file has.
 Progress = Callable[[int, int], object]
 
@@ -99,8 +96,7 @@ class File:
         status, blob, compression = self._at(0)
         if blob is None or status not in (0, COMPRESSED):
             raise Fault(status, 0, compression)
-        header = self._with_payload(blob, decoded)
-        assert header is not None
+        header: Header = self._with_payload(blob, decoded)
         return header
 
     # ---- blocks
@@ -357,7 +353,8 @@ class Tables(Generic[Made]):
 
     def _nothing(self) -> Made:
         nothing = {column.name: np.zeros(int(column.ends_of is not None), column.type) for column in COLUMNS}
-        return getattr(Block(0, Numbers(0, 0, 0), nothing), self._name)
+        made: Made = getattr(Block(0, Numbers(0, 0, 0), nothing), self._name)
+        return made
 
 
 def _mapped(path: str | bytes | os.PathLike[Any]) -> NDArray[np.uint8]:

@@ -8,7 +8,8 @@ from __future__ import annotations
 
 import ctypes
 import os
-from typing import NamedTuple
+from dataclasses import dataclass
+from typing import Any
 
 import numpy as np
 
@@ -54,17 +55,20 @@ class Counts(ctypes.Structure):
     _fields_ = [(name, ctypes.c_uint64) for name in COUNTS]
 
 
-class Column(NamedTuple):
+@dataclass(frozen=True)
+class Column:
     """A column of a block: its name, the type of its items, the count that says how many it has, and what its items are the
     ends among, if they are ends."""
 
     name: str
-    type: np.dtype
+    type: np.dtype[Any]
     count: str
     ends_of: str | None = None
 
 
-_BYTES, _INTS, _LONGS = np.dtype(np.uint8), np.dtype(np.int32), np.dtype(np.int64)
+_BYTES: np.dtype[Any] = np.dtype(np.uint8)
+_INTS: np.dtype[Any] = np.dtype(np.int32)
+_LONGS: np.dtype[Any] = np.dtype(np.int64)
 
 #: The columns in the order of pbfrow_columns. Ends are unsigned there, and below 2**63, so here they are int64 as well.
 COLUMNS = (

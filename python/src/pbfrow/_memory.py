@@ -8,7 +8,7 @@ from __future__ import annotations
 
 import ctypes
 from collections import deque
-from typing import Any
+from typing import Any, Dict
 
 import numpy as np
 from numpy.typing import NDArray
@@ -20,6 +20,7 @@ _COUNTED = tuple(dict.fromkeys(column.count for column in COLUMNS))
 _SIZES = np.array([column.type.itemsize for column in COLUMNS])
 _COUNT_OF = np.array([_COUNTED.index(column.count) for column in COLUMNS])
 _IS_ENDS = np.array([column.ends_of is not None for column in COLUMNS])
+_PLACES = {column.name: at for at, column in enumerate(COLUMNS)}
 
 
 class Room:
@@ -30,12 +31,12 @@ class Room:
 
     def __init__(self, items: NDArray[np.int64]) -> None:
         self.items = items
-        self.lengths = items[_COUNT_OF].astype(np.uint64)
         sizes = (items[_COUNT_OF] + _IS_ENDS) * _SIZES
         steps = -(-sizes // _ALIGNED) * _ALIGNED
         self.starts = np.concatenate(([0], np.cumsum(steps)[:-1]))
-        self.firsts = (self.starts + _IS_ENDS * _SIZES).astype(np.uint64)
         self.size = int(steps.sum())
+        #: pbfrow_columns for memory at the address 0: where the items of each column begin, and how many it has room for
+        self.slots = np.stack((self.starts + _IS_ENDS * _SIZES, items[_COUNT_OF]), axis=1).astype(np.uint64)
 
     @classmethod
     def guessed(cls, length: int) -> Room:
@@ -81,43 +82,45 @@ class Pool:
         self._free.append(memory)
 
 
+class Columns(Dict[str, "NDArray[Any]"]):
+    """The columns of a block by name, each made when it is first asked for. Ends have a zero in front of them."""
+
+    def __init__(self, counts: Counts, room: Room, memory: NDArray[np.uint8]) -> None:
+        super().__init__()
+        self._counts, self._room, self._memory = counts, room, memory
+
+    def __missing__(self, name: str) -> NDArray[Any]:
+        at = _PLACES[name]
+        column, start = COLUMNS[at], int(self._room.starts[at])
+        is_ends = column.ends_of is not None
+        size = (getattr(self._counts, column.count) + is_ends) * column.type.itemsize
+        view = self[name] = self._memory[start : start + size].view(column.type)
+        if is_ends:
+            view[0] = 0
+        return view
+
+
 class Decoder:
     """Decodes payloads of blocks, each into memory of its own, for several threads at a time."""
 
-    def __init__(self, most_spare: int = 32) -> None:
+    def __init__(self, most_spare: int = 16) -> None:
         self._pool = Pool(most_spare)
         self._room: Room | None = None
 
-    def columns(self, address: int, length: int) -> tuple[int, Counts, dict[str, NDArray[Any]]]:
+    def columns(self, address: int, length: int) -> tuple[int, Counts, Columns]:
         """Decodes the payload of so many bytes at this address. The status, and where that is 0 the counts and the columns."""
         counts = Counts()
         room = self._room or Room.guessed(length)
         while True:
             memory = self._pool.lend(room.size)
-            status = _decode(address, length, counts, room, memory)
+            slots = room.slots.copy()
+            slots[:, 0] += np.uint64(memory.ctypes.data)
+            status = library.pbfrow_block_columns(address, length, ctypes.byref(counts), slots.ctypes.data)
             if status != NO_ROOM:
                 break
-            self._room = room = room.holding(counts)
-        return status, counts, _views(counts, room, memory) if status == 0 else {}
-
-
-def _decode(address: int, length: int, counts: Counts, room: Room, memory: NDArray[np.uint8]) -> int:
-    slots = np.empty((len(COLUMNS), 2), np.uint64)
-    slots[:, 0] = room.firsts + np.uint64(memory.ctypes.data)
-    slots[:, 1] = room.lengths
-    return int(library.pbfrow_block_columns(address, length, ctypes.byref(counts), slots.ctypes.data))
-
-
-def _views(counts: Counts, room: Room, memory: NDArray[np.uint8]) -> dict[str, NDArray[Any]]:
-    views = {}
-    for column, start in zip(COLUMNS, room.starts.tolist()):
-        is_ends = column.ends_of is not None
-        size = (getattr(counts, column.count) + is_ends) * column.type.itemsize
-        view = memory[start : start + size].view(column.type)
-        if is_ends:
-            view[0] = 0
-        views[column.name] = view
-    return views
+            room = room.holding(counts)
+        self._room = room
+        return status, counts, Columns(counts, room, memory)
 
 
 assert set(_COUNTED) <= set(COUNTS)

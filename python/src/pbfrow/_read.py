@@ -88,7 +88,7 @@ class _Whole:
         self._used["tags"] += len(block.tags)
         self._used["refs"] += len(block.refs)
         self._used["members"] += len(block.members)
-        self._numbers = Numbers(*map(sum, zip(self._numbers, block.numbers)))
+        self._numbers = Numbers(*(before + more for before, more in zip(self._numbers, block.numbers)))
 
     def _codes(self, texts: Texts) -> NDArray[np.int32]:
         """What the indexes of a block's texts are among those of the file; behind them is -1, for the index -1."""
