@@ -3,12 +3,14 @@
 from __future__ import annotations
 
 from functools import cached_property
-from typing import Any, Iterator, Mapping, NamedTuple, Union
+from typing import TYPE_CHECKING, Any, Iterator, Mapping, NamedTuple, Union
 
 import numpy as np
-from numpy.typing import NDArray
 
 from ._tables import Field, Table, known
+
+if TYPE_CHECKING:
+    from numpy.typing import NDArray
 
 #: The item that stands for a missing number of 64 and of 32 bits. Versions and users that are missing are -1.
 MISSING, MISSING_INT = -(2**63), -(2**31)

@@ -8,12 +8,9 @@ import mmap
 import os
 import stat
 from collections import deque
-from concurrent.futures import Future, ThreadPoolExecutor
-from dataclasses import dataclass
-from typing import Any, Callable, Generic, Iterator, Literal, Mapping, NamedTuple, TypeVar, Union
+from typing import TYPE_CHECKING, Any, Callable, Generic, Iterator, Literal, Mapping, NamedTuple, TypeVar, Union
 
 import numpy as np
-from numpy.typing import NDArray
 
 from . import _arrow
 from ._block import Block, Elements, Members, Nodes, Numbers, Refs, Relations, Tags, Ways
@@ -22,6 +19,11 @@ from ._header import Header, decoded
 from ._library import CODECS, COLUMNS, COMPRESSED, MOST_RAW, PASSABLE, BlobAnswer, library
 from ._memory import Decoder
 from ._tables import Table
+
+if TYPE_CHECKING:
+    from concurrent.futures import Future
+
+    from numpy.typing import NDArray
 
 #: What decompresses: a function of the compressed bytes, for zlib or for whatever comes, or one for each codec ("zlib", "lzma",
 #: "bzip2", "lz4", "zstd").
@@ -32,8 +34,7 @@ OnFault = Union[Literal["raise"], Callable[[Fault], object]]
 Progress = Callable[[int, int], object]
 
 
-@dataclass(frozen=True)
-class Blob:
+class Blob(NamedTuple):
     """Where a blob is. Nothing of it has been decoded."""
 
     #: The offset of its frame in the file, in bytes.
@@ -313,12 +314,14 @@ class _BlocksAhead(_Blocks):
         return self._next_of(self._started)
 
     def _made(self, has: Any) -> Block | None:
-        return has.result() if isinstance(has, Future) else super()._made(has)
+        return has.result() if hasattr(has, "result") else super()._made(has)
 
 
 def _started(file: File, walk: _Walk, threads: int) -> Iterator[tuple[int, Any]]:
     """The frames of a file, the blobs of some of them on their way to blocks."""
-    waiting: deque[tuple[int, Any]] = deque()
+    from concurrent.futures import ThreadPoolExecutor  # which takes longer to import than a small file to read
+
+    waiting: deque[tuple[int, Blob | Fault | Future[Block] | None]] = deque()
     with ThreadPoolExecutor(threads, "pbfrow") as pool:
         for end, has in walk:
             waiting.append((end, pool.submit(file.decode, has) if isinstance(has, Blob) else has))

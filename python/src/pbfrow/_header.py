@@ -3,7 +3,6 @@
 from __future__ import annotations
 
 import ctypes
-from dataclasses import dataclass
 from typing import NamedTuple
 
 import numpy as np
@@ -20,8 +19,7 @@ class Box(NamedTuple):
     top: int
 
 
-@dataclass(frozen=True)
-class Header:
+class Header(NamedTuple):
     """What the header block of a file says; None where it doesn't say."""
 
     #: The bounding box, in nanodegrees.

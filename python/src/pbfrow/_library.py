@@ -8,8 +8,7 @@ from __future__ import annotations
 
 import ctypes
 import os
-from dataclasses import dataclass
-from typing import Any
+from typing import Any, NamedTuple
 
 import numpy as np
 
@@ -55,14 +54,13 @@ class Counts(ctypes.Structure):
     _fields_ = [(name, ctypes.c_uint64) for name in COUNTS]
 
 
-@dataclass(frozen=True)
-class Column:
+class Column(NamedTuple):
     """A column of a block: its name, the type of its items, the count that says how many it has, and what its items are the
     ends among, if they are ends."""
 
     name: str
     type: np.dtype[Any]
-    count: str
+    counted: str
     ends_of: str | None = None
 
 

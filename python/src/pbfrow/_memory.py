@@ -8,17 +8,19 @@ from __future__ import annotations
 
 import ctypes
 from collections import deque
-from typing import Any, Dict
+from typing import TYPE_CHECKING, Any, Dict
 
 import numpy as np
-from numpy.typing import NDArray
 
 from ._library import COLUMNS, COUNTS, NO_ROOM, Counts, library
 
+if TYPE_CHECKING:
+    from numpy.typing import NDArray
+
 _ALIGNED = 64
-_COUNTED = tuple(dict.fromkeys(column.count for column in COLUMNS))
+_COUNTED = tuple(dict.fromkeys(column.counted for column in COLUMNS))
 _SIZES = np.array([column.type.itemsize for column in COLUMNS])
-_COUNT_OF = np.array([_COUNTED.index(column.count) for column in COLUMNS])
+_COUNT_OF = np.array([_COUNTED.index(column.counted) for column in COLUMNS])
 _IS_ENDS = np.array([column.ends_of is not None for column in COLUMNS])
 _PLACES = {column.name: at for at, column in enumerate(COLUMNS)}
 
@@ -93,7 +95,7 @@ class Columns(Dict[str, "NDArray[Any]"]):
         at = _PLACES[name]
         column, start = COLUMNS[at], int(self._room.starts[at])
         is_ends = column.ends_of is not None
-        size = (getattr(self._counts, column.count) + is_ends) * column.type.itemsize
+        size = (getattr(self._counts, column.counted) + is_ends) * column.type.itemsize
         view = self[name] = self._memory[start : start + size].view(column.type)
         if is_ends:
             view[0] = 0

@@ -6,14 +6,16 @@ import itertools
 import mmap
 import os
 from collections import defaultdict
-from typing import Any
+from typing import TYPE_CHECKING, Any
 
 import numpy as np
-from numpy.typing import NDArray
 
 from ._block import Block, Numbers, Texts
 from ._file import File, Inflate, OnFault, Progress
 from ._library import COLUMNS, Column
+
+if TYPE_CHECKING:
+    from numpy.typing import NDArray
 
 #: The columns whose items are indexes of texts.
 _INDEXES = frozenset(("users", "keys", "values", "roles"))
@@ -70,7 +72,7 @@ class _Whole:
 
     def __init__(self) -> None:
         self._columns = {column.name: _Growing(column) for column in COLUMNS if not column.name.startswith("text_")}
-        self._used = dict.fromkeys((column.count for column in COLUMNS), 0)
+        self._used = dict.fromkeys((column.counted for column in COLUMNS), 0)
         self._numbers = Numbers(0, 0, 0)
         self._texts: dict[bytes, int] = defaultdict(itertools.count().__next__)
 

@@ -5,12 +5,12 @@ from __future__ import annotations
 from typing import TYPE_CHECKING, Any, NamedTuple
 
 import numpy as np
-from numpy.typing import NDArray
 
 from . import _arrow
 
 if TYPE_CHECKING:
     import pandas
+    from numpy.typing import NDArray
 
     from ._block import Texts
 
