@@ -43,7 +43,7 @@ tables() {
 }
 
 library=${PBFROW_LIBRARY:-}
-unset PBFROW_LIBRARY
+unset PBFROW_LIBRARY PYTHONPATH
 if [ -z "$host" ]; then
   skip "the Python package" "no python3 with numpy and venv is there"
   counted
@@ -97,6 +97,8 @@ if has osmium; then
   "$python" "$top/e2e/python_lines.py" packed.osm.pbf zlib > got.txt
   same "a compressed file whose blobs zlib inflates" got.txt want.txt
   helped "files that can't be read, codecs, threads and texts" opening "$country" packed.osm.pbf
+  ln -s "$country" liechtenstein-raw.osm.pbf && ln -s packed.osm.pbf country.osm.pbf
+  helped "the code in the package's README" readme "$top/python/README.md"
 else
   skip "files with history and compressed files" "osmium isn't installed"
 fi
@@ -107,6 +109,18 @@ cc -std=c11 -O1 -g -Wall -Wextra -shared -fPIC -o consumer.so "$top/e2e/python_a
 tables "tables of the extract" some.osm.pbf
 tables "tables of kinds that stand mixed" mixed.osm.pbf
 has osmium && tables "tables of a file with history" history-true.osh.pbf
+# once more where each byte that is read beside what was allocated, or behind its end, stops the run
+sanitizer=$(cc -print-file-name=libasan.so)
+if [ -e "$sanitizer" ]; then
+  cp -r "$package" sanitized-pbfrow && mkdir sanitized && mv sanitized-pbfrow sanitized/pbfrow
+  cc -std=c11 -O1 -g -fsanitize=address -shared -fPIC -o sanitized/consumer.so "$top/e2e/python_arrow.c" -lpthread
+  cc -std=c11 -O1 -g -fsanitize=address -shared -fPIC -o sanitized/pbfrow/librelease.so "$top/python/src/pbfrow/release.c"
+  elements mixed.osm.pbf > want.txt
+  LD_PRELOAD=$sanitizer ASAN_OPTIONS=detect_leaks=0 PYTHONMALLOC=malloc PYTHONPATH=$PWD/sanitized \
+    helped "tables under AddressSanitizer" tables mixed.osm.pbf want.txt sanitized/consumer.so
+else
+  skip "tables under AddressSanitizer" "libasan isn't installed"
+fi
 helped "faults are those of check" faults "$pbfrow" 3000 "$two"
 
 for example in count nodes_of_box ways_with_places; do

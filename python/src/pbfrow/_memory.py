@@ -42,9 +42,9 @@ class Room:
 
     @classmethod
     def guessed(cls, length: int) -> Room:
-        """Room for what a payload of this many bytes usually has."""
-        few = max(length // 8, 16)
-        return cls(np.array([max(length // 6, 16) if name == "elements" else few for name in _COUNTED], np.int64))
+        """Room for what a payload of this many bytes usually has, if it isn't a very long one."""
+        few = min(length, 1 << 20) // 8 + 16
+        return cls(np.full(len(_COUNTED), few, np.int64))
 
     def holding(self, counts: Counts) -> Room:
         """This room, grown to hold so many, and an eighth more of what has grown."""

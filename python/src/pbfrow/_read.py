@@ -31,8 +31,11 @@ def read(
     """All elements of a file as one Block, decoded by so many threads.
 
     Its arrays are those of the file's blocks one after the other, and its texts those of all blocks, each once. They take about
-    15 times the bytes of a compressed file. Faults are raised or told as those of `File.blocks`; raises OSError where the file
-    can't be opened, and MemoryError where memory runs out.
+    five times the bytes of a raw file, or twelve times those of one that is compressed by zlib. One thread puts the blocks
+    together, so that three threads are about as quick as more. The result doesn't depend on how many there are.
+
+    Faults are raised or told as those of `File.blocks`; raises OSError where the file can't be opened, and MemoryError where
+    memory for the arrays is refused.
     """
     whole = _Whole()
     with File(path, inflate, on_fault, progress) as file:
