@@ -5,6 +5,8 @@
 country=$top/data/liechtenstein-raw.osm.pbf
 export two=$top/data/two-nodes.osm.pbf
 export PYTHONDONTWRITEBYTECODE=1
+# memory that malloc gives has other bytes than zeros, so that nothing relies on zeros
+export MALLOC_PERTURB_=165
 
 # a Python that has numpy and can make environments; the first one of PATH need not
 host=

@@ -133,15 +133,16 @@ def raised(path):
     """The faults, raised one after the other by one iterator."""
     lines = []
     with pbfrow.open(path) as file:
-        blocks = iter(file)
+        blocks = iter(file.elements)
         while True:
             try:
-                next(blocks)
+                assert len(next(blocks))
             except StopIteration:
                 return lines
             except pbfrow.Fault as fault:
                 assert str(fault) == f"fault {fault.number} {fault.name} at {fault.offset}"
                 lines.append(str(fault))
+                assert not fault.ends_file or next(blocks, None) is None
 
 
 def judge(program, folder, at, made):

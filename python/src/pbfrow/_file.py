@@ -333,18 +333,29 @@ def _started(file: File, walk: _Walk, threads: int) -> Iterator[tuple[int, Any]]
 Made = TypeVar("Made", bound=Table)
 
 
+class _TablesInTurn(Iterator[Made]):
+    """The tables of blocks that aren't empty; it goes on behind a fault."""
+
+    def __init__(self, blocks: Iterator[Block], name: str) -> None:
+        self._blocks, self._name = blocks, name
+
+    def __next__(self) -> Made:
+        while True:
+            table: Made = getattr(next(self._blocks), self._name)
+            if len(table):
+                return table
+
+
 class Tables(Generic[Made]):
     """A table of each block of a file that has rows of it: to iterate over, or for what reads a stream of Arrow, which gets a
-    batch for each."""
+    batch for each. Faults are raised or told as those of `File.blocks`; they end a stream of Arrow, with their text as its error.
+    """
 
     def __init__(self, file: File, name: str, made: type[Made]) -> None:
         self._file, self._name, self._made = file, name, made
 
     def __iter__(self) -> Iterator[Made]:
-        for block in self._file:
-            table = getattr(block, self._name)
-            if len(table):
-                yield table
+        return _TablesInTurn(self._file.blocks(), self._name)
 
     def __arrow_c_schema__(self) -> object:
         """The type of the table: a capsule of an ArrowSchema."""

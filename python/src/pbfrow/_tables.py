@@ -42,6 +42,9 @@ def known(items: NDArray[Any], missing: int) -> NDArray[np.bool_] | None:
 class Table:
     """Rows that pandas and what reads Arrow can take."""
 
+    def __len__(self) -> int:
+        raise NotImplementedError
+
     def _fields(self) -> list[Field]:
         raise NotImplementedError
 
