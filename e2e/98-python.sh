@@ -5,8 +5,6 @@
 country=$top/data/liechtenstein-raw.osm.pbf
 export two=$top/data/two-nodes.osm.pbf
 export PYTHONDONTWRITEBYTECODE=1
-# memory that malloc gives has other bytes than zeros, so that nothing relies on zeros
-export MALLOC_PERTURB_=165
 
 # a Python that has numpy and can make environments; the first one of PATH need not
 host=
@@ -25,14 +23,15 @@ helped() {
 # elements FILE: the lines of `show` that are elements.
 elements() { "$pbfrow" show "$1" | grep -E '^[nwr] '; }
 
-# shown NAME FILE WAY..: the lines that are made from arrays, which are read in these ways, are those of `show`.
+# shown NAME FILE WAY..: the lines that are made from arrays, which are read in these ways, are those of `show`. Memory that malloc
+# gives has other bytes than zeros there, so that nothing relies on zeros.
 shown() {
   local name=$1 file=$2 way
   shift 2
   elements "$file" > want.txt
   for way in "$@"; do
     [ "$way" = kinds ] && { grep '^n' want.txt; grep '^w' want.txt; grep '^r' want.txt; } > want-kinds.txt
-    "$python" "$top/e2e/python_lines.py" "$file" "$way" > got.txt 2> said.txt
+    MALLOC_PERTURB_=165 "$python" "$top/e2e/python_lines.py" "$file" "$way" > got.txt 2> said.txt
     head -n 5 said.txt
     same "$name, by $way" got.txt "want$([ "$way" = kinds ] && echo -kinds).txt"
   done

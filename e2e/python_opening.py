@@ -178,8 +178,11 @@ def threads(path):
 def texts():
     path = written("mixed-texts.osm.pbf", frame(b"OSMHeader", raw(HEADER)) + b"".join(frame(b"OSMData", raw(payload)) for payload in mixed()))
     first = next(iter(pbfrow.open(path)))
-    assert first.texts.find("ann").tolist() == [7, 8] and first.texts.find("nowhere").tolist() == []
-    assert first.texts[4] == "日本語" == first.texts.strings[4] and list(first.texts) == first.texts.strings.tolist()
+    every = list(first.texts)
+    assert every == first.texts.strings.tolist() == [first.texts[at] for at in range(len(every))]
+    for text in ("ann", "日本語", "", "forward", "nowhere", "Käse=50%, [alt] {neu}\t\n\x7f"):
+        assert first.texts.find(text).tolist() == [at for at, other in enumerate(every) if other == text]
+    assert "日本語" in every and "ann" in every
     raises(IndexError, lambda: first.texts[-1], "no text -1")
     raises(IndexError, lambda: first.texts[len(first.texts)])
     whole = pbfrow.read(path)
