@@ -56,7 +56,7 @@ elif ! has cc readelf rt; then
 fi
 
 if [ -z "$library" ]; then
-  "$top/library/build" "$PWD/library" > made.txt 2>&1 || { fail "the shared library"; sed 's/^/    /' made.txt; }
+  "$top/library/build" "$PWD/library" > made.txt 2>&1 || { fail "the shared library"; sed 's/^/    /' made.txt; counted; exit; }
   library=$(ls "$PWD"/library/lib/libpbfrow.so.*.*.*)
 fi
 "$top/package/wheel" "$library" "$PWD/dist" > made.txt 2>&1 || { fail "the wheel"; sed 's/^/    /' made.txt; }

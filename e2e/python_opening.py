@@ -11,6 +11,7 @@ from concurrent.futures import ThreadPoolExecutor
 
 import numpy as np
 import pbfrow
+from pbfrow._tables import used_texts
 from python_files import FULL_HEADER, HEADER, block, deflated, field, frame, mixed, node, plain, raw
 
 
@@ -183,6 +184,12 @@ def texts():
     for text in ("ann", "日本語", "", "forward", "nowhere", "Käse=50%, [alt] {neu}\t\n\x7f"):
         assert first.texts.find(text).tolist() == [at for at, other in enumerate(every) if other == text]
     assert "日本語" in every and "ann" in every
+    twice = pbfrow.Texts(np.array([0, 1, 3, 4, 4, 6, 6]), np.frombuffer(b"abcabc", np.uint8))
+    assert list(twice) == ["a", "bc", "a", "", "bc", ""] and [twice.find(text).tolist() for text in ("a", "bc", "", "b")] == [[0, 2], [1, 4], [3, 5], []]
+    codes, used = used_texts(np.array([5, 2, -1, 0, 4, 1], np.int32), twice)
+    assert used == ["a", "bc", ""] and codes.tolist() == [2, 0, -1, 0, 1, 1]
+    tags = pbfrow.Tags(None, np.array([0, 2, 4]), np.array([0, 1, 2, 4], np.int32), np.array([3, 3, 5, 0], np.int32), twice)
+    assert tags.find("a").tolist() == [0, 2] == tags.find("a", "").tolist() and tags.find("bc", "a").tolist() == [3]
     raises(IndexError, lambda: first.texts[-1], "no text -1")
     raises(IndexError, lambda: first.texts[len(first.texts)])
     whole = pbfrow.read(path)

@@ -17,6 +17,11 @@ from ._library import COLUMNS, COUNTS, NO_ROOM, Counts, library
 if TYPE_CHECKING:
     from numpy.typing import NDArray
 
+# What the library takes of malloc for a block it gives back after it. malloc of glibc hands that on to the kernel each time, which
+# takes as long as half of the decoding, until a longer piece has been freed once; from then on it keeps pieces of up to that
+# length. So one is freed here. It is never touched, so it takes no memory.
+np.empty(1 << 24, np.uint8)
+
 _ALIGNED = 64
 _COUNTED = tuple(dict.fromkeys(column.counted for column in COLUMNS))
 _SIZES = np.array([column.type.itemsize for column in COLUMNS])
