@@ -1,0 +1,54 @@
+#!/usr/bin/env python3
+"""threads_pbfrow.py FILE RUNS: how long it takes to decode a file that is in memory, by one, two and four threads of one process, and
+by so many processes, which share nothing: the best of so many runs, all of them in turn. Each block is dropped once it is decoded."""
+import os
+import sys
+import time
+from concurrent.futures import ThreadPoolExecutor
+
+import pbfrow
+
+
+def by_threads(file, blobs, count):
+    with ThreadPoolExecutor(count) as pool:
+        for _ in pool.map(lambda blob: len(file.decode(blob)), blobs):
+            pass
+
+
+def by_processes(file, blobs, count):
+    children = []
+    for number in range(count):
+        child = os.fork()
+        if child == 0:
+            for blob in blobs[number::count]:
+                file.decode(blob)
+            os._exit(0)
+        children.append(child)
+    for child in children:
+        os.waitpid(child, 0)
+
+
+def took(call, *words):
+    wall, used = time.perf_counter(), sum(os.times()[:4])
+    call(*words)
+    return time.perf_counter() - wall, sum(os.times()[:4]) - used
+
+
+def main():
+    path, runs = sys.argv[1], int(sys.argv[2])
+    ways = [(call, count) for call in (by_threads, by_processes) for count in (1, 2, 4)]
+    best = {}
+    with pbfrow.open(path) as file:
+        blobs = list(file.blobs())
+        by_threads(file, blobs, 1)
+        for _ in range(runs):
+            for way in ways:
+                best[way] = min(best.get(way, (9e9, 0)), took(way[0], file, blobs, way[1]))
+    print(f"\ndecoding alone, {os.path.getsize(path)} bytes in memory, without the start of Python\n\n| By | wall s | processor s | times one |\n|---|---|---|---|")
+    for call, count in ways:
+        wall, used = best[call, count]
+        name = "threads" if call is by_threads else "processes"
+        print(f"| {name}: {count} | {wall:.3f} | {used:.3f} | {best[call, 1][0] / wall:.1f} |")
+
+
+main()

@@ -1,0 +1,399 @@
+"""A PBF file, of which one block at a time is in memory."""
+
+from __future__ import annotations
+
+import ctypes
+import errno
+import mmap
+import os
+import stat
+from collections import deque
+from typing import TYPE_CHECKING, Any, Callable, Generic, Iterator, Literal, Mapping, NamedTuple, TypeVar, Union
+
+import numpy as np
+
+from . import _arrow
+from ._block import Block, Elements, Members, Nodes, Numbers, Refs, Relations, Tags, Ways
+from ._fault import Fault
+from ._header import Header, decoded
+from ._library import CODECS, COLUMNS, COMPRESSED, MOST_RAW, PASSABLE, BlobAnswer, library
+from ._memory import Decoder
+from ._tables import Table
+
+if TYPE_CHECKING:
+    from concurrent.futures import Future
+
+    from numpy.typing import NDArray
+
+#: What decompresses: a function of the compressed bytes, for zlib or for whatever comes, or one for each codec ("zlib", "lzma",
+#: "bzip2", "lz4", "zstd").
+Inflate = Union[Callable[[bytes], bytes], Mapping[str, Callable[[bytes], bytes]]]
+#: What becomes of faults: they are raised, or a function is told them.
+OnFault = Union[Literal["raise"], Callable[[Fault], object]]
+#: A function that is told how many bytes have been read, and how many the file has.
+Progress = Callable[[int, int], object]
+
+
+class Blob(NamedTuple):
+    """Where a blob is. Nothing of it has been decoded."""
+
+    #: The offset of its frame in the file, in bytes.
+    offset: int
+    #: How long the frame is, in bytes; the next one begins behind it.
+    length: int
+    #: 0 of an OSMHeader, 1 of OSMData.
+    kind: int
+    #: Where its payload is, in bytes from the front of the file, and how long it is; compressed if `codec` isn't "".
+    payload_at: int
+    payload_length: int
+    #: The codec that the payload is compressed by, such as "zlib", or "".
+    codec: str = ""
+    #: How long the payload is once it is decompressed, in bytes, or 0 where the blob doesn't say.
+    raw_size: int = 0
+
+
+class File:
+    """A PBF file that is open. Iterating over it gives its blocks one after the other, and does so again each time.
+
+    The file is mapped into memory, so it must not get shorter while it is read: the process would be ended by SIGBUS, as with
+    numpy.memmap. Several threads may use one File.
+    """
+
+    #: The name that the file was opened by.
+    path: str | bytes | os.PathLike[Any]
+    #: How long the file is, in bytes.
+    size: int
+
+    def __init__(
+        self,
+        path: str | bytes | os.PathLike[Any],
+        inflate: Inflate | None = None,
+        on_fault: OnFault = "raise",
+        progress: Progress | None = None,
+    ) -> None:
+        if on_fault != "raise" and not callable(on_fault):
+            raise ValueError(f'on_fault is "raise" or a function, not {on_fault!r}')
+        self.path, self._inflate, self._on_fault, self._progress = path, inflate, on_fault, progress
+        self._bytes: NDArray[np.uint8] | None = _mapped(path)
+        self.size = len(self._bytes)
+        self._decoder = Decoder()
+
+    def __enter__(self) -> File:
+        return self
+
+    def __exit__(self, *_: object) -> None:
+        self.close()
+
+    def __repr__(self) -> str:
+        return f"<pbfrow.File {os.fsdecode(self.path)!r}>"
+
+    def close(self) -> None:
+        """Lets go of the file. Blocks stay as they are."""
+        self._bytes = None
+
+    @property
+    def header(self) -> Header:
+        """What the header block says. Raises Fault where the file doesn't begin with a good one."""
+        status, blob, compression = self._at(0)
+        if blob is None or status not in (0, COMPRESSED):
+            raise Fault(status, 0, compression)
+        header: Header = self._with_payload(blob, decoded)
+        return header
+
+    # ---- blocks
+
+    def __iter__(self) -> Iterator[Block]:
+        return self.blocks()
+
+    def blocks(self, threads: int = 1) -> Iterator[Block]:
+        """The blocks one after the other, decoded by so many threads ahead of the one that asks for them.
+
+        A fault is raised when it is its turn, and next() goes on behind the bad blob; behind the fault of a frame is nothing
+        more. Where `on_fault` is a function, it is told each fault, and the next block comes.
+        """
+        return _BlocksAhead(self, threads) if threads > 1 else _Blocks(self)
+
+    def blobs(self) -> Iterator[Blob]:
+        """Where the blobs with elements are, one after the other, for `decode`. They cost little: nothing is decoded but the
+        header block. Faults of frames, blobs and the header block are raised or told as those of `blocks`."""
+        return _Blobs(self)
+
+    def decode(self, blob: Blob) -> Block:
+        """The block of this blob. Raises Fault where it is a bad one, whatever `on_fault` is."""
+        counts, columns = self._with_payload(blob, self._columns)
+        return Block(blob.offset, Numbers(counts.nodes, counts.ways, counts.relations), columns)
+
+    # ---- tables
+
+    @property
+    def elements(self) -> Tables[Elements]:
+        """The elements of each block, for what reads a stream of Arrow; iterating gives those of one block after the other."""
+        return Tables(self, "elements", Elements)
+
+    @property
+    def nodes(self) -> Tables[Nodes]:
+        """The nodes of each block that has some, likewise."""
+        return Tables(self, "nodes", Nodes)
+
+    @property
+    def ways(self) -> Tables[Ways]:
+        """The ways of each block that has some, likewise."""
+        return Tables(self, "ways", Ways)
+
+    @property
+    def relations(self) -> Tables[Relations]:
+        """The relations of each block that has some, likewise."""
+        return Tables(self, "relations", Relations)
+
+    @property
+    def tags(self) -> Tables[Tags]:
+        """The tags of each block that has some, likewise."""
+        return Tables(self, "tags", Tags)
+
+    @property
+    def refs(self) -> Tables[Refs]:
+        """The nodes of the ways of each block that has some, likewise."""
+        return Tables(self, "refs", Refs)
+
+    @property
+    def members(self) -> Tables[Members]:
+        """The members of relations of each block that has some, likewise."""
+        return Tables(self, "members", Members)
+
+    # ---- what the iterators share
+
+    def _opened(self) -> NDArray[np.uint8]:
+        if self._bytes is None:
+            raise ValueError("the file is closed")
+        return self._bytes
+
+    def _at(self, offset: int) -> tuple[int, Blob | None, int]:
+        """The status of the frame at this offset, where its blob is, unless the frame itself is bad, and its compression."""
+        data = self._opened()
+        if len(data) == 0:
+            return 61, None, 0
+        answer = BlobAnswer()
+        status = library.pbfrow_blob_at(data.ctypes.data + offset, len(data) - offset, offset, ctypes.byref(answer))
+        if status not in PASSABLE:
+            return status, None, 0
+        codec = CODECS[answer.compression]
+        at = offset + answer.payload_at
+        blob = Blob(offset, answer.length, answer.kind, at, answer.payload_length, codec, answer.raw_size)
+        return status, blob, answer.compression
+
+    def _with_payload(self, blob: Blob, decode: Callable[[int, int], tuple[Any, ...]]) -> Any:
+        """What the function makes of the payload of a blob, decompressed if need be. It gives a status, and then that."""
+        data = self._opened()
+        payload = data[blob.payload_at : blob.payload_at + blob.payload_length]
+        if blob.codec:
+            payload = np.frombuffer(self._inflated(blob, payload), np.uint8)
+        status, *made = decode(payload.ctypes.data, len(payload))
+        if status:
+            raise Fault(status, blob.offset)
+        return made[0] if len(made) == 1 else made
+
+    def _columns(self, address: int, length: int) -> tuple[Any, ...]:
+        return self._decoder.columns(address, length)
+
+    def _codec(self, blob: Blob) -> Callable[[bytes], bytes] | None:
+        return self._inflate.get(blob.codec) if isinstance(self._inflate, Mapping) else self._inflate
+
+    def _inflated(self, blob: Blob, payload: NDArray[np.uint8]) -> bytes:
+        inflate, compression = self._codec(blob), CODECS.index(blob.codec)
+        if inflate is None:
+            raise Fault(COMPRESSED, blob.offset, compression)
+        if blob.raw_size > MOST_RAW:
+            raise Fault(COMPRESSED, blob.offset, compression, f"it says that it has {blob.raw_size} bytes, more than any may have")
+        try:
+            inflated = inflate(payload.tobytes())
+            length = memoryview(inflated).nbytes
+        except Exception as error:
+            told = f"inflate failed: {type(error).__name__}: {error}"
+            raise Fault(COMPRESSED, blob.offset, compression, told) from error
+        if length != blob.raw_size and (blob.raw_size or length > MOST_RAW):
+            told = f"inflate gave {length} bytes, and the blob says {blob.raw_size}"
+            raise Fault(COMPRESSED, blob.offset, compression, told)
+        return inflated
+
+    def _advance(self, end: int) -> None:
+        if self._progress is not None:
+            self._progress(end, self.size)
+
+    def _tell(self, fault: Fault) -> None:
+        if not callable(self._on_fault):
+            raise fault
+        self._on_fault(fault)
+
+
+class _Step(NamedTuple):
+    """A frame of a file: where the next one begins, and the blob with elements or the fault that it has."""
+
+    end: int
+    has: Blob | Fault | None
+
+
+class _Walk(Iterator[_Step]):
+    """The frames of a file. Behind one that is no frame is nothing."""
+
+    def __init__(self, file: File) -> None:
+        self._file, self._offset, self._has_ended = file, 0, False
+
+    def __next__(self) -> _Step:
+        file, offset = self._file, self._offset
+        if self._has_ended:
+            raise StopIteration
+        status, blob, compression = file._at(offset)
+        self._offset = offset + (blob.length if blob else 0)
+        self._has_ended = blob is None or self._offset >= file.size
+        if blob is None or status not in (0, COMPRESSED) or (status and file._codec(blob) is None):
+            return _Step(self._offset, Fault(status, offset, compression))
+        if blob.kind == 0:
+            return _Step(self._offset, self._fault_of_header(blob))
+        return _Step(self._offset, blob if blob.kind == 1 else None)
+
+    def _fault_of_header(self, blob: Blob) -> Fault | None:
+        try:
+            self._file._with_payload(blob, decoded)
+        except Fault as fault:
+            return fault
+        return None
+
+
+class _Blobs(Iterator[Blob]):
+    """The blobs with elements; it goes on behind a fault."""
+
+    def __init__(self, file: File) -> None:
+        self._file, self._walk = file, _Walk(file)
+
+    def __next__(self) -> Blob:
+        for end, has in self._walk:
+            self._file._advance(end)
+            if isinstance(has, Fault):
+                self._file._tell(has)
+            elif has is not None:
+                return has
+        raise StopIteration
+
+
+class _Blocks(Iterator[Block]):
+    """The blocks, each decoded when it is asked for; it goes on behind a fault."""
+
+    def __init__(self, file: File) -> None:
+        self._file, self._walk = file, _Walk(file)
+
+    def __next__(self) -> Block:
+        return self._next_of(self._walk)
+
+    def _next_of(self, steps: Iterator[Any]) -> Block:
+        for end, has in steps:
+            block = None
+            try:
+                block = self._made(has)
+            except Fault as fault:
+                self._file._tell(fault)
+            finally:
+                self._file._advance(end)
+            if block is not None:
+                return block
+        raise StopIteration
+
+    def _made(self, has: Blob | Fault | None) -> Block | None:
+        if isinstance(has, Fault):
+            raise has
+        return self._file.decode(has) if has else None
+
+
+class _BlocksAhead(_Blocks):
+    """The same, decoded by threads ahead of the one that asks for them."""
+
+    def __init__(self, file: File, threads: int) -> None:
+        super().__init__(file)
+        self._started = _started(file, self._walk, threads)
+
+    def __next__(self) -> Block:
+        return self._next_of(self._started)
+
+    def _made(self, has: Any) -> Block | None:
+        return has.result() if hasattr(has, "result") else super()._made(has)
+
+
+def _started(file: File, walk: _Walk, threads: int) -> Iterator[tuple[int, Any]]:
+    """The frames of a file, the blobs of some of them on their way to blocks."""
+    from concurrent.futures import ThreadPoolExecutor  # which takes longer to import than a small file to read
+
+    waiting: deque[tuple[int, Blob | Fault | Future[Block] | None]] = deque()
+    with ThreadPoolExecutor(threads, "pbfrow") as pool:
+        for end, has in walk:
+            waiting.append((end, pool.submit(file.decode, has) if isinstance(has, Blob) else has))
+            if len(waiting) > 2 * threads:
+                yield waiting.popleft()
+        yield from waiting
+
+
+Made = TypeVar("Made", bound=Table)
+
+
+class _TablesInTurn(Iterator[Made]):
+    """The tables of blocks that aren't empty; it goes on behind a fault."""
+
+    def __init__(self, blocks: Iterator[Block], name: str) -> None:
+        self._blocks, self._name = blocks, name
+
+    def __next__(self) -> Made:
+        while True:
+            table: Made = getattr(next(self._blocks), self._name)
+            if len(table):
+                return table
+
+
+class Tables(Generic[Made]):
+    """A table of each block of a file that has rows of it: to iterate over, or for what reads a stream of Arrow, which gets a
+    batch for each. Faults are raised or told as those of `File.blocks`; they end a stream of Arrow, with their text as its error.
+    """
+
+    def __init__(self, file: File, name: str, made: type[Made]) -> None:
+        self._file, self._name, self._made = file, name, made
+
+    def __iter__(self) -> Iterator[Made]:
+        return _TablesInTurn(self._file.blocks(), self._name)
+
+    def __arrow_c_schema__(self) -> object:
+        """The type of the table: a capsule of an ArrowSchema."""
+        return _arrow.schema_capsule(self._nothing()._fields())
+
+    def __arrow_c_stream__(self, requested_schema: object = None) -> object:
+        """The tables one after the other: a capsule of an ArrowArrayStream. The requested schema isn't heeded."""
+        return _arrow.stream_capsule(self._nothing()._fields(), (table._fields() for table in self))
+
+    def _nothing(self) -> Made:
+        nothing = {column.name: np.zeros(int(column.ends_of is not None), column.type) for column in COLUMNS}
+        made: Made = getattr(Block(0, Numbers(0, 0, 0), nothing), self._name)
+        return made
+
+
+def _mapped(path: str | bytes | os.PathLike[Any]) -> NDArray[np.uint8]:
+    """The bytes of a file. Raises OSError where it can't be opened, or is no regular file."""
+    mode = os.stat(path).st_mode
+    if stat.S_ISDIR(mode):
+        raise IsADirectoryError(errno.EISDIR, os.strerror(errno.EISDIR), os.fsdecode(path))
+    if not stat.S_ISREG(mode):
+        raise OSError(errno.ESPIPE, "not a regular file, such as a pipe: save it to a file first", os.fsdecode(path))
+    with open(path, "rb") as file:
+        if os.fstat(file.fileno()).st_size == 0:
+            return np.empty(0, np.uint8)
+        return np.frombuffer(mmap.mmap(file.fileno(), 0, access=mmap.ACCESS_READ), np.uint8)
+
+
+def open_file(
+    path: str | bytes | os.PathLike[Any],
+    inflate: Inflate | None = None,
+    on_fault: OnFault = "raise",
+    progress: Progress | None = None,
+) -> File:
+    """Opens a PBF file, whose blocks iterating gives one after the other.
+
+        with pbfrow.open("country.osm.pbf") as file:
+            for block in file:
+                print(block.offset, len(block.nodes))
+    """
+    return File(path, inflate, on_fault, progress)
