@@ -11,7 +11,6 @@ use Rattle.osm_columns.specs.declared.columns.MemberColumns.{MemberColumns}
 use Rattle.osm_columns.specs.declared.columns.TextColumn.{TextColumn}
 use Rattle.osm_columns.specs.declared.columns.Columns.{Columns}
 use Rattle.osm_columns.specs.declared.counts.Counts.{Counts}
-use Rattle.osm_columns.specs.declared.counts.KindCounts.{KindCounts}
 use Rattle.osm_columns.specs.declared.counts.Survey.{Survey}
 use Rattle.osm_columns.specs.Values.{number_of_kind, kind_number, lat_of_element, lon_of_element, version_of_element, time_of_element, changeset_of_element, uid_of_element, flag_of_element, refs_of_element, members_of_element}
 use Rattle.osm_columns.specs.Lists.{joined, ends_of, all_tags, all_refs, all_members}
@@ -19,12 +18,6 @@ use Rattle.osm_columns.specs.Texts.{NameAll}
 use Rattle.osm_columns.specs.Indexes.{AreIndexes, texts_in, users_of, keys_of, values_of, roles_of}
 
 -- ---- how long the columns are
-
-pub record AreKindCounts (c : KindCounts) (es : List Element) : Type 0 where
-  pub nodes_are : c.nodes ≡ count_by (λ e. kind_number e == 0) es
-  pub ways_are : c.ways ≡ count_by (λ e. kind_number e == 1) es
-  pub relations_are : c.relations ≡ count_by (λ e. kind_number e == 2) es
-  pub refs_are : c.refs ≡ length (all_refs es)
 
 pub record AreCounts (c : Counts) (es : List Element) (texts : List Text) : Type 0 where
   pub elements_are : c.elements ≡ length es

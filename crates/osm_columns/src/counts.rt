@@ -3,9 +3,9 @@
 ghost use Rattle.std.specs.Prelude.{◌≡◌, ◌++◌, ◌∷◌, [], List, length, IfSome, IfOk, map};
 ghost use Rattle.osm_value.specs.declared.element.Element.{Element};
 ghost use Rattle.osm_columns.specs.Lists.{joined};
-ghost use Rattle.osm_columns.specs.Columns.{AreKindCounts, IsSurvey};
+ghost use Rattle.osm_columns.specs.Columns.{IsSurvey};
 
-use crate::indexes::TextIndexes;
+use crate::indexes::{TextIndexes, refs_of};
 use osm_value::Element;
 use std::alloc::{AllocError, Global};
 
@@ -22,38 +22,6 @@ pub struct Counts {
     pub members: u64,
     pub texts: u64,
     pub text_bytes: u64,
-}
-
-/// How many elements there are of each kind, and how many references the ways have.
-#[derive(Debug, Clone, Copy)]
-struct KindCounts {
-    nodes: u64,
-    ways: u64,
-    relations: u64,
-    refs: u64,
-}
-
-impl KindCounts {
-    /// The counts with one element more; none where a count would be 2^64.
-    fn with(self, element: &Element) -> Option<KindCounts>
-        ensures { IfSome result (λ c. (es : List Element) → AreKindCounts self es → AreKindCounts c (es ++ element.now ∷ [])) }
-    {
-        match element {
-            Element::Node(_) => Some(KindCounts {
-                nodes: self.nodes.checked_add(1)?,
-                ..self
-            }),
-            Element::Way(way) => Some(KindCounts {
-                ways: self.ways.checked_add(1)?,
-                refs: self.refs.checked_add(way.refs().len() as u64)?,
-                ..self
-            }),
-            Element::Relation(_) => Some(KindCounts {
-                relations: self.relations.checked_add(1)?,
-                ..self
-            }),
-        }
-    }
 }
 
 /// How many bytes the texts have together; none where these are 2^64 or more.
@@ -80,26 +48,32 @@ pub fn survey_of<'a>(alloc: Global, elements: &[Element<'a>]) -> Result<Survey<'
     ensures { IfOk result (λ s. IsSurvey s elements.now) }
 {
     let mut indexes = TextIndexes::new(alloc)?;
-    let mut kinds = KindCounts {
-        nodes: 0,
-        ways: 0,
-        relations: 0,
-        refs: 0,
-    };
+    let mut nodes = 0;
+    let mut ways = 0;
+    let mut relations = 0;
+    let mut refs: u64 = 0;
     for element in elements {
         indexes.push(element)?;
-        kinds = kinds.with(element).ok_or(AllocError)?;
+        match element {
+            Element::Node(_) => nodes += 1,
+            Element::Way(_) => ways += 1,
+            Element::Relation(_) => relations += 1,
+        }
+        let Some(sum) = refs.checked_add(refs_of(element).len() as u64) else {
+            return Err(AllocError);
+        };
+        refs = sum;
     }
     let Some(text_bytes) = text_bytes_of(&indexes.dictionary.texts) else {
         return Err(AllocError);
     };
     let counts = Counts {
         elements: elements.len() as u64,
-        nodes: kinds.nodes,
-        ways: kinds.ways,
-        relations: kinds.relations,
+        nodes,
+        ways,
+        relations,
         tags: indexes.keys.len() as u64,
-        refs: kinds.refs,
+        refs,
         members: indexes.roles.len() as u64,
         texts: indexes.dictionary.texts.len() as u64,
         text_bytes,

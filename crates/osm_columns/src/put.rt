@@ -13,9 +13,7 @@ ghost use Rattle.osm_columns.specs.Columns.{over, has_room, elements_fit, refs_f
 use crate::columns::{Columns, ElementColumns, MemberColumns, RefColumns, TagColumns, TextColumn};
 use crate::counts::Survey;
 use crate::indexes::{members_of, refs_of};
-use crate::values::{
-    changeset_of, flag_of, lat_of, lon_of, number_of_kind, time_of, uid_of, version_of,
-};
+use crate::values::{changeset_of, flag_of, number_of_kind, place_of, time_of, uid_of, version_of};
 use osm_value::{Element, Member};
 
 /// Writes an item into the array, behind a column of so many items.
@@ -57,10 +55,11 @@ fn put_element(element: &Element, users: &[i32], at: usize, columns: &mut Elemen
         → HoldsElements (take (at + 1) users.now) (es ++ element.now ∷ []) before columns.new }
 {
     let info = element.info();
-    put_item(number_of_kind(element.kind()), at, columns.kinds);
+    let (kind, lat, lon) = place_of(element);
+    put_item(kind, at, columns.kinds);
     put_item(element.id(), at, columns.ids);
-    put_item(lat_of(element), at, columns.lats);
-    put_item(lon_of(element), at, columns.lons);
+    put_item(lat, at, columns.lats);
+    put_item(lon, at, columns.lons);
     put_item(version_of(info), at, columns.versions);
     put_item(time_of(info), at, columns.times);
     put_item(changeset_of(info), at, columns.changesets);

@@ -1,7 +1,7 @@
 //! What a column has of one element.
 
 ghost use Rattle.std.specs.Prelude.{◌≡◌};
-ghost use Rattle.osm_columns.specs.Values.{number_of_kind, lat_of_element, lon_of_element, version_in, time_in, changeset_in, uid_in, number_of_flag, flag_in};
+ghost use Rattle.osm_columns.specs.Values.{number_of_kind, kind_number, lat_of_element, lon_of_element, version_in, time_in, changeset_in, uid_in, number_of_flag, flag_in};
 
 use osm_value::{Element, Info, MemberKind};
 
@@ -15,23 +15,16 @@ pub(crate) fn number_of_kind(kind: MemberKind) -> u8
     }
 }
 
-pub(crate) fn lat_of(element: &Element) -> i64
-    ensures { result ≡ lat_of_element element.now }
+/// The number of an element's kind, and its latitude and longitude in nanodegrees, 0 where it has no place.
+pub(crate) fn place_of(element: &Element) -> (u8, i64, i64)
+    ensures kind { result.0 ≡ kind_number element.now }
+    ensures lat { result.1 ≡ lat_of_element element.now }
+    ensures lon { result.2 ≡ lon_of_element element.now }
 {
     match element {
-        Element::Node(node) => node.lat(),
-        Element::Way(_) => 0,
-        Element::Relation(_) => 0,
-    }
-}
-
-pub(crate) fn lon_of(element: &Element) -> i64
-    ensures { result ≡ lon_of_element element.now }
-{
-    match element {
-        Element::Node(node) => node.lon(),
-        Element::Way(_) => 0,
-        Element::Relation(_) => 0,
+        Element::Node(node) => (0, node.lat(), node.lon()),
+        Element::Way(_) => (1, 0, 0),
+        Element::Relation(_) => (2, 0, 0),
     }
 }
 
