@@ -71,6 +71,9 @@ same "the same sources make the same wheel" dist/*.whl again/*.whl
 : > want.txt
 same "pip finds nothing missing" got.txt want.txt
 PYTHONDONTWRITEBYTECODE= "$python" -W error -m compileall -q "$package" > said.txt 2>&1 && pass "each file of it is compiled" || { fail "each file of it is compiled"; cat said.txt; }
+for wrong in /nowhere/libpbfrow.so "$package/librelease.so"; do
+  PBFROW_LIBRARY=$wrong "$python" -c 'import pbfrow' 2>&1 | tail -n 1 | grep -q "^ImportError: .*$(basename "$wrong")" && pass "a library that can't be used, $(basename "$wrong")" || fail "a library that can't be used, $(basename "$wrong")"
+done
 if "$python" -m mypy --version > said.txt 2>&1; then
   "$python" -m mypy --strict --config-file "$top/python/pyproject.toml" "$package" > said.txt 2>&1 && pass "mypy finds its types right" || { fail "mypy finds its types right"; head -n 10 said.txt; }
 else

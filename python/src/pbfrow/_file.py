@@ -186,7 +186,7 @@ class File:
         data = self._opened()
         payload = data[blob.payload_at : blob.payload_at + blob.payload_length]
         if blob.codec:
-            payload = np.frombuffer(self._inflated(blob, payload), np.uint8)
+            payload = self._inflated(blob, payload)
         status, *made = decode(payload.ctypes.data, len(payload))
         if status:
             raise Fault(status, blob.offset)
@@ -198,20 +198,20 @@ class File:
     def _codec(self, blob: Blob) -> Callable[[bytes], bytes] | None:
         return self._inflate.get(blob.codec) if isinstance(self._inflate, Mapping) else self._inflate
 
-    def _inflated(self, blob: Blob, payload: NDArray[np.uint8]) -> bytes:
+    def _inflated(self, blob: Blob, payload: NDArray[np.uint8]) -> NDArray[np.uint8]:
         inflate, compression = self._codec(blob), CODECS.index(blob.codec)
         if inflate is None:
             raise Fault(COMPRESSED, blob.offset, compression)
         if blob.raw_size > MOST_RAW:
-            raise Fault(COMPRESSED, blob.offset, compression, f"it says that it has {blob.raw_size} bytes, more than any may have")
+            told = f"it says that it has {blob.raw_size} bytes, more than any may have"
+            raise Fault(COMPRESSED, blob.offset, compression, told)
         try:
-            inflated = inflate(payload.tobytes())
-            length = memoryview(inflated).nbytes
+            inflated = np.frombuffer(inflate(payload.tobytes()), np.uint8)
         except Exception as error:
             told = f"inflate failed: {type(error).__name__}: {error}"
             raise Fault(COMPRESSED, blob.offset, compression, told) from error
-        if length != blob.raw_size and (blob.raw_size or length > MOST_RAW):
-            told = f"inflate gave {length} bytes, and the blob says {blob.raw_size}"
+        if len(inflated) != blob.raw_size and (blob.raw_size or len(inflated) > MOST_RAW):
+            told = f"inflate gave {len(inflated)} bytes, and the blob says {blob.raw_size or 'nothing'}"
             raise Fault(COMPRESSED, blob.offset, compression, told)
         return inflated
 
