@@ -67,6 +67,10 @@ package=$("$python" -c 'import os, pbfrow; print(os.path.dirname(pbfrow.__file__
 [ -s "$package/libpbfrow.so" ] && [ -e "$package/py.typed" ] && pass "the wheel is installed" || { fail "the wheel is installed"; echo "$package"; counted; exit; }
 "$top/package/wheel" "$library" "$PWD/again" > made.txt
 same "the same sources make the same wheel" dist/*.whl again/*.whl
+"$python" -c 'import importlib.metadata, pbfrow; print(pbfrow.__version__, importlib.metadata.version("pbfrow"))' > got.txt
+version=$(sed -n 's/^\.TH .*"pbfrow \([0-9.]*\)".*/\1/p' "$top/docs/pbfrow.1.in")
+lines "$version $version" > want.txt
+same "the package has the version of the program" got.txt want.txt
 "$python" -m pip check 2>&1 | grep -i pbfrow > got.txt
 : > want.txt
 same "pip finds nothing missing" got.txt want.txt

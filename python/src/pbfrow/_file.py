@@ -4,6 +4,7 @@ from __future__ import annotations
 
 import ctypes
 import errno
+import io
 import mmap
 import os
 import stat
@@ -53,7 +54,8 @@ class Blob(NamedTuple):
 
 
 class File:
-    """A PBF file that is open. Iterating over it gives its blocks one after the other, and does so again each time.
+    """A PBF file that is open, as `pbfrow.open` makes it. Iterating over it gives its blocks one after the other, and does so again
+    each time. Once it is closed, it raises ValueError.
 
     The file is mapped into memory, so it must not get shorter while it is read: the process would be ended by SIGBUS, as with
     numpy.memmap. Several threads may use one File.
@@ -378,13 +380,13 @@ def _mapped(path: str | bytes | os.PathLike[Any]) -> NDArray[np.uint8]:
         raise IsADirectoryError(errno.EISDIR, os.strerror(errno.EISDIR), os.fsdecode(path))
     if not stat.S_ISREG(mode):
         raise OSError(errno.ESPIPE, "not a regular file, such as a pipe: save it to a file first", os.fsdecode(path))
-    with open(path, "rb") as file:
+    with io.open(path, "rb") as file:
         if os.fstat(file.fileno()).st_size == 0:
             return np.empty(0, np.uint8)
         return np.frombuffer(mmap.mmap(file.fileno(), 0, access=mmap.ACCESS_READ), np.uint8)
 
 
-def open_file(
+def open(
     path: str | bytes | os.PathLike[Any],
     inflate: Inflate | None = None,
     on_fault: OnFault = "raise",
@@ -392,8 +394,19 @@ def open_file(
 ) -> File:
     """Opens a PBF file, whose blocks iterating gives one after the other.
 
-        with pbfrow.open("country.osm.pbf") as file:
+        with pbfrow.open("country.osm.pbf", inflate=zlib.decompress) as file:
             for block in file:
                 print(block.offset, len(block.nodes))
+
+    `inflate` decompresses blobs: a function that is given the compressed bytes and gives the others, as bytes or what numpy takes
+    for them, or a function for each codec by its name ("zlib", "lzma", "bzip2", "lz4", "zstd"). Without it, or without one for its
+    codec, a compressed blob is fault 21. So it is, with a text that says why, where the function raises an exception, or gives
+    another number of bytes than the blob says. It is called by the threads that decode.
+
+    `on_fault` is "raise", or a function that is told each Fault; then the loop goes on with the next blob. `progress` is a function
+    that is told, once a blob is done, how many bytes of the file are, and how many it has.
+
+    Raises FileNotFoundError, IsADirectoryError, PermissionError or another OSError where the file can't be opened, or is no
+    regular file, such as a pipe. That it is no PBF file is a Fault of its first blob; that of an empty file is 61 at 0.
     """
     return File(path, inflate, on_fault, progress)
