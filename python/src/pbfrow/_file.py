@@ -26,6 +26,9 @@ if TYPE_CHECKING:
 
     from numpy.typing import NDArray
 
+#: How many bytes of a file may be mapped behind the place that a loop has reached.
+_MAPPED = 1 << 24
+
 #: What decompresses: a function of the compressed bytes, for zlib or for whatever comes, or one for each codec ("zlib", "lzma",
 #: "bzip2", "lz4", "zstd").
 Inflate = Union[Callable[[bytes], bytes], Mapping[str, Callable[[bytes], bytes]]]
@@ -76,7 +79,8 @@ class File:
         if on_fault != "raise" and not callable(on_fault):
             raise ValueError(f'on_fault is "raise" or a function, not {on_fault!r}')
         self.path, self._inflate, self._on_fault, self._progress = path, inflate, on_fault, progress
-        self._bytes: NDArray[np.uint8] | None = _mapped(path)
+        self._map = _mapped(path)
+        self._bytes: NDArray[np.uint8] | None = np.frombuffer(self._map, np.uint8)
         self.size = len(self._bytes)
         self._decoder = Decoder()
 
@@ -91,7 +95,7 @@ class File:
 
     def close(self) -> None:
         """Lets go of the file. Blocks stay as they are."""
-        self._bytes = None
+        self._bytes, self._map = None, b""
 
     @property
     def header(self) -> Header:
@@ -221,6 +225,12 @@ class File:
         if self._progress is not None:
             self._progress(end, self.size)
 
+    def _forget(self, begin: int, end: int) -> None:
+        """Takes pages that have been read out of this process, whose memory they count as. Who needs them again gets them again."""
+        mapped = self._map
+        if isinstance(mapped, mmap.mmap):
+            mapped.madvise(mmap.MADV_DONTNEED, begin, end - begin)
+
     def _tell(self, fault: Fault) -> None:
         if not callable(self._on_fault):
             raise fault
@@ -238,12 +248,15 @@ class _Walk(Iterator[_Step]):
     """The frames of a file. Behind one that is no frame is nothing."""
 
     def __init__(self, file: File) -> None:
-        self._file, self._offset, self._has_ended = file, 0, False
+        self._file, self._offset, self._forgotten, self._has_ended = file, 0, 0, False
 
     def __next__(self) -> _Step:
         file, offset = self._file, self._offset
         if self._has_ended:
             raise StopIteration
+        if offset >= self._forgotten + 2 * _MAPPED:
+            file._forget(self._forgotten, self._forgotten + _MAPPED)
+            self._forgotten += _MAPPED
         status, blob, compression = file._at(offset)
         self._offset = offset + (blob.length if blob else 0)
         self._has_ended = blob is None or self._offset >= file.size
@@ -373,7 +386,7 @@ class Tables(Generic[Made]):
         return made
 
 
-def _mapped(path: str | bytes | os.PathLike[Any]) -> NDArray[np.uint8]:
+def _mapped(path: str | bytes | os.PathLike[Any]) -> mmap.mmap | bytes:
     """The bytes of a file. Raises OSError where it can't be opened, or is no regular file."""
     mode = os.stat(path).st_mode
     if stat.S_ISDIR(mode):
@@ -382,8 +395,8 @@ def _mapped(path: str | bytes | os.PathLike[Any]) -> NDArray[np.uint8]:
         raise OSError(errno.ESPIPE, "not a regular file, such as a pipe: save it to a file first", os.fsdecode(path))
     with io.open(path, "rb") as file:
         if os.fstat(file.fileno()).st_size == 0:
-            return np.empty(0, np.uint8)
-        return np.frombuffer(mmap.mmap(file.fileno(), 0, access=mmap.ACCESS_READ), np.uint8)
+            return b""
+        return mmap.mmap(file.fileno(), 0, access=mmap.ACCESS_READ)
 
 
 def open(
