@@ -67,10 +67,17 @@ package=$("$python" -c 'import os, pbfrow; print(os.path.dirname(pbfrow.__file__
 [ -s "$package/libpbfrow.so" ] && [ -e "$package/py.typed" ] && pass "the wheel is installed" || { fail "the wheel is installed"; echo "$package"; counted; exit; }
 "$top/package/wheel" "$library" "$PWD/again" > made.txt
 same "the same sources make the same wheel" dist/*.whl again/*.whl
+"$python" -c 'import importlib.metadata, pbfrow; print(pbfrow.__version__, importlib.metadata.version("pbfrow"))' > got.txt
+version=$(sed -n 's/^\.TH .*"pbfrow \([0-9.]*\)".*/\1/p' "$top/docs/pbfrow.1.in")
+lines "$version $version" > want.txt
+same "the package has the version of the program" got.txt want.txt
 "$python" -m pip check 2>&1 | grep -i pbfrow > got.txt
 : > want.txt
 same "pip finds nothing missing" got.txt want.txt
 PYTHONDONTWRITEBYTECODE= "$python" -W error -m compileall -q "$package" > said.txt 2>&1 && pass "each file of it is compiled" || { fail "each file of it is compiled"; cat said.txt; }
+for wrong in /nowhere/libpbfrow.so "$package/librelease.so"; do
+  PBFROW_LIBRARY=$wrong "$python" -c 'import pbfrow' 2>&1 | tail -n 1 | grep -q "^ImportError: .*$(basename "$wrong")" && pass "a library that can't be used, $(basename "$wrong")" || fail "a library that can't be used, $(basename "$wrong")"
+done
 if "$python" -m mypy --version > said.txt 2>&1; then
   "$python" -m mypy --strict --config-file "$top/python/pyproject.toml" "$package" > said.txt 2>&1 && pass "mypy finds its types right" || { fail "mypy finds its types right"; head -n 10 said.txt; }
 else

@@ -2,6 +2,8 @@
 """python_opening.py RAW PACKED: what the package pbfrow says of files that can't be read, of those that are compressed, and of what
 it is asked wrongly. RAW is a file, and PACKED the same one compressed by zlib, whose data are decompressed by functions that are
 right and wrong."""
+import bz2
+import lzma
 import os
 import pickle
 import sys
@@ -110,6 +112,16 @@ def compressed(path, packed):
     codecs = {"zlib": zlib.decompress, "lzma": None}
     for inflate in (zlib.decompress, codecs, lambda data: bytearray(zlib.decompress(data)), lambda data: memoryview(zlib.decompress(data))):
         same(whole, pbfrow.read(packed, inflate=inflate, threads=2))
+    plain_data, files = block(["", "a"], node(1, 2, 3, [(1, 1)])), {}
+    for codec, place, compress in (("zlib", 3, zlib.compress), ("lzma", 4, lzma.compress), ("bzip2", 5, bz2.compress)):
+        blobs = [plain(2, len(payload)) + field(place, compress(payload)) for payload in (HEADER, plain_data)]
+        files[codec] = written(f"{codec}.osm.pbf", frame(b"OSMHeader", blobs[0]) + frame(b"OSMData", blobs[1]))
+    codecs = {"zlib": zlib.decompress, "lzma": lzma.decompress, "bzip2": bz2.decompress}
+    for codec, name in files.items():
+        assert pbfrow.read(name, inflate=codecs).elements.ids.tolist() == [1]
+        assert [blob.codec for blob in pbfrow.open(name, inflate=codecs).blobs()] == [codec]
+        without = {other: call for other, call in codecs.items() if other != codec}
+        raises(pbfrow.Fault, lambda: pbfrow.read(name, inflate=without), f"fault 21 Compressed{codec.title()} at 0")
     offsets = [blob.offset for blob in pbfrow.open(packed, inflate=zlib.decompress).blobs()]
     for refusing in (None, {}, {"lzma": zlib.decompress}):
         told = []
@@ -129,6 +141,7 @@ def wrong_functions(packed):
         (lambda data: zlib.decompress(data) + b"\0", "bytes, and the blob says"),
         (lambda data: b"", "gave 0 bytes"),
         (lambda data: None, "TypeError"),
+        (lambda data: memoryview(zlib.decompress(data))[::2], "inflate failed"),
         (lambda data: "text", "TypeError"),
     ):
         told = []

@@ -25,15 +25,11 @@ from ._block import (
     Ways,
 )
 from ._fault import Fault
-from ._file import Blob, File, Tables
-from ._file import open_file as open
+from ._file import Blob, File, Tables, open
 from ._header import Box, Header
 from ._read import read
 
 __version__ = "0.1.0"
-
-for _made in (Blob, Block, Box, Elements, Fault, File, Header, Members, Nodes, Numbers, Refs, Relations, Tables, Tags, Texts, Ways):
-    _made.__module__ = "pbfrow"
 
 __all__ = [
     "MISSING",
@@ -57,3 +53,8 @@ __all__ = [
     "open",
     "read",
 ]
+
+# what messages and help() say of where these are from
+for _name in __all__:
+    if hasattr(globals()[_name], "__module__"):
+        globals()[_name].__module__ = __name__

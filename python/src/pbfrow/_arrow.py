@@ -183,7 +183,7 @@ def _fill_stream(stream: Stream, first: Sequence[Field], batches: Iterator[Seque
         try:
             call(out)
             return 0
-        except Exception as problem:  # a consumer in C can be told no other way
+        except BaseException as problem:  # a consumer in C can be told no other way, also of an interruption
             error[:] = [ctypes.create_string_buffer(f"{type(problem).__name__}: {problem}".encode())]
             return errno.EIO
 

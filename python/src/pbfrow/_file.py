@@ -4,6 +4,7 @@ from __future__ import annotations
 
 import ctypes
 import errno
+import io
 import mmap
 import os
 import stat
@@ -24,6 +25,9 @@ if TYPE_CHECKING:
     from concurrent.futures import Future
 
     from numpy.typing import NDArray
+
+#: How many bytes of a file may be mapped behind the place that a loop has reached.
+_MAPPED = 1 << 24
 
 #: What decompresses: a function of the compressed bytes, for zlib or for whatever comes, or one for each codec ("zlib", "lzma",
 #: "bzip2", "lz4", "zstd").
@@ -53,7 +57,8 @@ class Blob(NamedTuple):
 
 
 class File:
-    """A PBF file that is open. Iterating over it gives its blocks one after the other, and does so again each time.
+    """A PBF file that is open, as `pbfrow.open` makes it. Iterating over it gives its blocks one after the other, and does so again
+    each time. Once it is closed, it raises ValueError.
 
     The file is mapped into memory, so it must not get shorter while it is read: the process would be ended by SIGBUS, as with
     numpy.memmap. Several threads may use one File.
@@ -74,7 +79,8 @@ class File:
         if on_fault != "raise" and not callable(on_fault):
             raise ValueError(f'on_fault is "raise" or a function, not {on_fault!r}')
         self.path, self._inflate, self._on_fault, self._progress = path, inflate, on_fault, progress
-        self._bytes: NDArray[np.uint8] | None = _mapped(path)
+        self._map = _mapped(path)
+        self._bytes: NDArray[np.uint8] | None = np.frombuffer(self._map, np.uint8)
         self.size = len(self._bytes)
         self._decoder = Decoder()
 
@@ -89,7 +95,7 @@ class File:
 
     def close(self) -> None:
         """Lets go of the file. Blocks stay as they are."""
-        self._bytes = None
+        self._bytes, self._map = None, b""
 
     @property
     def header(self) -> Header:
@@ -186,7 +192,7 @@ class File:
         data = self._opened()
         payload = data[blob.payload_at : blob.payload_at + blob.payload_length]
         if blob.codec:
-            payload = np.frombuffer(self._inflated(blob, payload), np.uint8)
+            payload = self._inflated(blob, payload)
         status, *made = decode(payload.ctypes.data, len(payload))
         if status:
             raise Fault(status, blob.offset)
@@ -198,26 +204,32 @@ class File:
     def _codec(self, blob: Blob) -> Callable[[bytes], bytes] | None:
         return self._inflate.get(blob.codec) if isinstance(self._inflate, Mapping) else self._inflate
 
-    def _inflated(self, blob: Blob, payload: NDArray[np.uint8]) -> bytes:
+    def _inflated(self, blob: Blob, payload: NDArray[np.uint8]) -> NDArray[np.uint8]:
         inflate, compression = self._codec(blob), CODECS.index(blob.codec)
         if inflate is None:
             raise Fault(COMPRESSED, blob.offset, compression)
         if blob.raw_size > MOST_RAW:
-            raise Fault(COMPRESSED, blob.offset, compression, f"it says that it has {blob.raw_size} bytes, more than any may have")
+            told = f"it says that it has {blob.raw_size} bytes, more than any may have"
+            raise Fault(COMPRESSED, blob.offset, compression, told)
         try:
-            inflated = inflate(payload.tobytes())
-            length = memoryview(inflated).nbytes
+            inflated = np.frombuffer(inflate(payload.tobytes()), np.uint8)
         except Exception as error:
             told = f"inflate failed: {type(error).__name__}: {error}"
             raise Fault(COMPRESSED, blob.offset, compression, told) from error
-        if length != blob.raw_size and (blob.raw_size or length > MOST_RAW):
-            told = f"inflate gave {length} bytes, and the blob says {blob.raw_size}"
+        if len(inflated) != blob.raw_size and (blob.raw_size or len(inflated) > MOST_RAW):
+            told = f"inflate gave {len(inflated)} bytes, and the blob says {blob.raw_size or 'nothing'}"
             raise Fault(COMPRESSED, blob.offset, compression, told)
         return inflated
 
     def _advance(self, end: int) -> None:
         if self._progress is not None:
             self._progress(end, self.size)
+
+    def _forget(self, begin: int, end: int) -> None:
+        """Takes pages that have been read out of this process, whose memory they count as. Who needs them again gets them again."""
+        mapped = self._map
+        if isinstance(mapped, mmap.mmap):
+            mapped.madvise(mmap.MADV_DONTNEED, begin, end - begin)
 
     def _tell(self, fault: Fault) -> None:
         if not callable(self._on_fault):
@@ -236,12 +248,15 @@ class _Walk(Iterator[_Step]):
     """The frames of a file. Behind one that is no frame is nothing."""
 
     def __init__(self, file: File) -> None:
-        self._file, self._offset, self._has_ended = file, 0, False
+        self._file, self._offset, self._forgotten, self._has_ended = file, 0, 0, False
 
     def __next__(self) -> _Step:
         file, offset = self._file, self._offset
         if self._has_ended:
             raise StopIteration
+        if offset >= self._forgotten + 2 * _MAPPED:
+            file._forget(self._forgotten, self._forgotten + _MAPPED)
+            self._forgotten += _MAPPED
         status, blob, compression = file._at(offset)
         self._offset = offset + (blob.length if blob else 0)
         self._has_ended = blob is None or self._offset >= file.size
@@ -371,20 +386,20 @@ class Tables(Generic[Made]):
         return made
 
 
-def _mapped(path: str | bytes | os.PathLike[Any]) -> NDArray[np.uint8]:
+def _mapped(path: str | bytes | os.PathLike[Any]) -> mmap.mmap | bytes:
     """The bytes of a file. Raises OSError where it can't be opened, or is no regular file."""
     mode = os.stat(path).st_mode
     if stat.S_ISDIR(mode):
         raise IsADirectoryError(errno.EISDIR, os.strerror(errno.EISDIR), os.fsdecode(path))
     if not stat.S_ISREG(mode):
         raise OSError(errno.ESPIPE, "not a regular file, such as a pipe: save it to a file first", os.fsdecode(path))
-    with open(path, "rb") as file:
+    with io.open(path, "rb") as file:
         if os.fstat(file.fileno()).st_size == 0:
-            return np.empty(0, np.uint8)
-        return np.frombuffer(mmap.mmap(file.fileno(), 0, access=mmap.ACCESS_READ), np.uint8)
+            return b""
+        return mmap.mmap(file.fileno(), 0, access=mmap.ACCESS_READ)
 
 
-def open_file(
+def open(
     path: str | bytes | os.PathLike[Any],
     inflate: Inflate | None = None,
     on_fault: OnFault = "raise",
@@ -392,8 +407,19 @@ def open_file(
 ) -> File:
     """Opens a PBF file, whose blocks iterating gives one after the other.
 
-        with pbfrow.open("country.osm.pbf") as file:
+        with pbfrow.open("country.osm.pbf", inflate=zlib.decompress) as file:
             for block in file:
                 print(block.offset, len(block.nodes))
+
+    `inflate` decompresses blobs: a function that is given the compressed bytes and gives the others, as bytes or what numpy takes
+    for them, or a function for each codec by its name ("zlib", "lzma", "bzip2", "lz4", "zstd"). Without it, or without one for its
+    codec, a compressed blob is fault 21. So it is, with a text that says why, where the function raises an exception, or gives
+    another number of bytes than the blob says. It is called by the threads that decode.
+
+    `on_fault` is "raise", or a function that is told each Fault; then the loop goes on with the next blob. `progress` is a function
+    that is told, once a blob is done, how many bytes of the file are, and how many it has.
+
+    Raises FileNotFoundError, IsADirectoryError, PermissionError or another OSError where the file can't be opened, or is no
+    regular file, such as a pipe. That it is no PBF file is a Fault of its first blob; that of an empty file is 61 at 0.
     """
     return File(path, inflate, on_fault, progress)

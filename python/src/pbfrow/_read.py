@@ -34,8 +34,8 @@ def read(
     five times the bytes of a raw file, or twelve times those of one that is compressed by zlib. One thread puts the blocks
     together, so that three threads are about as quick as more. The result doesn't depend on how many there are.
 
-    Faults are raised or told as those of `File.blocks`; raises OSError where the file can't be opened, and MemoryError where
-    memory for the arrays is refused.
+    `inflate`, `on_fault` and `progress` are those of `pbfrow.open`, which says what is raised, beside MemoryError where memory for
+    the arrays is refused. Blocks that have a fault are left out where `on_fault` is a function.
     """
     whole = _Whole()
     with File(path, inflate, on_fault, progress) as file:
