@@ -18,7 +18,8 @@ libdir ?= $(PREFIX)/lib
 includedir ?= $(PREFIX)/include
 # where the library was built; make install leaves it out if it isn't there
 BUILT_LIBRARY ?= out/library
-EXAMPLES_OF_LIBRARY := $(addprefix examples/,count.c count.cpp nodes_of_box.cpp ways_with_places.cpp)
+EXAMPLES_OF_LIBRARY := $(wildcard examples/count.c* examples/*.cpp)
+SCRIPTS_OF_LIBRARY := $(wildcard examples/count.py examples/nodes_of_box.py examples/ways_with_places.py)
 SHELL := bash
 
 all:
@@ -70,7 +71,8 @@ install: built
 	install -m 644 examples/parts.mk examples/views.sql "$(DESTDIR)$(docdir)/examples"
 	@[ ! -e "$(BUILT_LIBRARY)/lib/libpbfrow.a" ] || $(MAKE) -s install-library
 
-# The library by itself, as it was built; this proves and compiles nothing.
+# The library by itself, as it was built; this proves and compiles nothing. A linked program finds the shared one once ldconfig has
+# run.
 install-library:
 	install -d $(addprefix "$(DESTDIR)",$(includedir) $(libdir) $(docdir)/examples)
 	install -m 644 "$(BUILT_LIBRARY)/include/pbfrow.h" "$(BUILT_LIBRARY)/include/pbfrow.hpp" "$(DESTDIR)$(includedir)"
@@ -78,10 +80,14 @@ install-library:
 	cp -P "$(BUILT_LIBRARY)/lib/libpbfrow.so" "$(BUILT_LIBRARY)/lib/libpbfrow.so.0" "$(DESTDIR)$(libdir)"
 	library/describe "$(libdir)" "$(includedir)" "$(DESTDIR)"
 	install -m 644 $(EXAMPLES_OF_LIBRARY) "$(DESTDIR)$(docdir)/examples"
+	for each in $(SCRIPTS_OF_LIBRARY); do install -m 755 "$$each" "$(DESTDIR)$(docdir)/examples"; done
+	for each in $(wildcard docs/LIBRARY.md); do install -m 644 "$$each" "$(DESTDIR)$(docdir)"; done
+	@[ -n "$(DESTDIR)" ] || echo "programs find libpbfrow.so.0 once ldconfig has run, or where LD_LIBRARY_PATH names $(libdir)"
 
 uninstall:
 	rm -f $(addprefix "$(DESTDIR)",$(bindir)/pbfrow $(mandir)/man1/pbfrow.1.gz $(bashdir)/pbfrow $(zshdir)/_pbfrow $(fishdir)/pbfrow.fish)
-	rm -f $(addprefix "$(DESTDIR)",$(includedir)/pbfrow.h $(includedir)/pbfrow.hpp $(libdir)/pkgconfig/pbfrow.pc)
+	rm -f $(addprefix "$(DESTDIR)",$(includedir)/pbfrow.h $(includedir)/pbfrow.hpp)
+	rm -f $(addprefix "$(DESTDIR)",$(libdir)/pkgconfig/pbfrow.pc $(libdir)/pkgconfig/pbfrow-static.pc)
 	rm -f "$(DESTDIR)$(libdir)"/libpbfrow.a "$(DESTDIR)$(libdir)"/libpbfrow.so*
 	rm -rf $(addprefix "$(DESTDIR)",$(libdir)/cmake/pbfrow $(docdir))
 
