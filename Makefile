@@ -18,7 +18,7 @@ libdir ?= $(PREFIX)/lib
 includedir ?= $(PREFIX)/include
 # where the library was built; make install leaves it out if it isn't there
 BUILT_LIBRARY ?= out/library
-EXAMPLES_OF_LIBRARY := $(wildcard examples/count.c* examples/*.cpp)
+EXAMPLES_OF_LIBRARY := $(wildcard examples/*.c examples/*.cpp)
 SCRIPTS_OF_LIBRARY := $(wildcard examples/count.py examples/nodes_of_box.py examples/ways_with_places.py)
 SHELL := bash
 
