@@ -3,9 +3,10 @@
 # on files. make edits: says which goal refuses each must-fail edit. make refused-growths: public calls with each growth of
 # memory refused in turn. make bench: measures the program, and draws the tables as bars (out/bars-*.svg). make install: the
 # built program, its manual page, documents and completions under PREFIX, and the library where that is built; make uninstall
-# takes them back. make library: proves and builds the library for C and C++, in out/library. make dist: packages of the built
-# program, with the library where that is built, in out/dist.
-.PHONY: all test gate gate-time quick e2e edits refused-growths bench built library install install-library uninstall dist clean
+# takes them back. make library: proves and builds the library for C and C++, in out/library. make python: a wheel around that
+# library, in out/dist. make bench-python: measures it. make dist: packages of the built program, with the library where that is
+# built, in out/dist.
+.PHONY: all test gate gate-time quick e2e edits refused-growths bench built library python bench-python install install-library uninstall dist clean
 
 PREFIX ?= /usr/local
 bindir ?= $(PREFIX)/bin
@@ -57,6 +58,12 @@ built:
 library:
 	cd crates/pbfrow_c && rt lib
 	library/build "$(BUILT_LIBRARY)"
+
+python: library
+	package/wheel
+
+bench-python: all
+	bench/python
 
 install: built
 	install -d $(addprefix "$(DESTDIR)",$(bindir) $(mandir)/man1 $(docdir)/examples $(bashdir) $(zshdir) $(fishdir))
