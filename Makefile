@@ -3,9 +3,10 @@
 # on files. make edits: says which goal refuses each must-fail edit. make refused-growths: public calls with each growth of
 # memory refused in turn. make bench: measures the program, and draws the tables as bars (out/bars-*.svg). make install: the
 # built program, its manual page, documents and completions under PREFIX, and the library where that is built; make uninstall
-# takes them back. make library: proves and builds the library for C and C++, in out/library. make dist: packages of the built
-# program, with the library where that is built, in out/dist.
-.PHONY: all test gate gate-time quick e2e edits refused-growths bench built library install install-library uninstall dist clean
+# takes them back. make library: proves and builds the library for C and C++, in out/library. make python: a wheel around that
+# library, in out/dist. make bench-python: measures it. make dist: packages of the built program, with the library where that is
+# built, in out/dist.
+.PHONY: all test gate gate-time quick e2e edits refused-growths bench built library python bench-python install install-library uninstall dist clean
 
 PREFIX ?= /usr/local
 bindir ?= $(PREFIX)/bin
@@ -18,7 +19,8 @@ libdir ?= $(PREFIX)/lib
 includedir ?= $(PREFIX)/include
 # where the library was built; make install leaves it out if it isn't there
 BUILT_LIBRARY ?= out/library
-EXAMPLES_OF_LIBRARY := $(addprefix examples/,count.c count.cpp nodes_of_box.cpp ways_with_places.cpp)
+EXAMPLES_OF_LIBRARY := $(wildcard examples/*.c examples/*.cpp)
+SCRIPTS_OF_LIBRARY := $(wildcard examples/count.py examples/nodes_of_box.py examples/ways_with_places.py)
 SHELL := bash
 
 all:
@@ -57,6 +59,12 @@ library:
 	cd crates/pbfrow_c && rt lib
 	library/build "$(BUILT_LIBRARY)"
 
+python: library
+	package/wheel
+
+bench-python: all
+	bench/python
+
 install: built
 	install -d $(addprefix "$(DESTDIR)",$(bindir) $(mandir)/man1 $(docdir)/examples $(bashdir) $(zshdir) $(fishdir))
 	install -m 755 crates/pbfrow/out/pbfrow "$(DESTDIR)$(bindir)/pbfrow"
@@ -70,7 +78,8 @@ install: built
 	install -m 644 examples/parts.mk examples/views.sql "$(DESTDIR)$(docdir)/examples"
 	@[ ! -e "$(BUILT_LIBRARY)/lib/libpbfrow.a" ] || $(MAKE) -s install-library
 
-# The library by itself, as it was built; this proves and compiles nothing.
+# The library by itself, as it was built; this proves and compiles nothing. A linked program finds the shared one once ldconfig has
+# run.
 install-library:
 	install -d $(addprefix "$(DESTDIR)",$(includedir) $(libdir) $(docdir)/examples)
 	install -m 644 "$(BUILT_LIBRARY)/include/pbfrow.h" "$(BUILT_LIBRARY)/include/pbfrow.hpp" "$(DESTDIR)$(includedir)"
@@ -78,10 +87,14 @@ install-library:
 	cp -P "$(BUILT_LIBRARY)/lib/libpbfrow.so" "$(BUILT_LIBRARY)/lib/libpbfrow.so.0" "$(DESTDIR)$(libdir)"
 	library/describe "$(libdir)" "$(includedir)" "$(DESTDIR)"
 	install -m 644 $(EXAMPLES_OF_LIBRARY) "$(DESTDIR)$(docdir)/examples"
+	for each in $(SCRIPTS_OF_LIBRARY); do install -m 755 "$$each" "$(DESTDIR)$(docdir)/examples"; done
+	for each in $(wildcard docs/LIBRARY.md); do install -m 644 "$$each" "$(DESTDIR)$(docdir)"; done
+	@[ -n "$(DESTDIR)" ] || echo "programs find libpbfrow.so.0 once ldconfig has run, or where LD_LIBRARY_PATH names $(libdir)"
 
 uninstall:
 	rm -f $(addprefix "$(DESTDIR)",$(bindir)/pbfrow $(mandir)/man1/pbfrow.1.gz $(bashdir)/pbfrow $(zshdir)/_pbfrow $(fishdir)/pbfrow.fish)
-	rm -f $(addprefix "$(DESTDIR)",$(includedir)/pbfrow.h $(includedir)/pbfrow.hpp $(libdir)/pkgconfig/pbfrow.pc)
+	rm -f $(addprefix "$(DESTDIR)",$(includedir)/pbfrow.h $(includedir)/pbfrow.hpp)
+	rm -f $(addprefix "$(DESTDIR)",$(libdir)/pkgconfig/pbfrow.pc $(libdir)/pkgconfig/pbfrow-static.pc)
 	rm -f "$(DESTDIR)$(libdir)"/libpbfrow.a "$(DESTDIR)$(libdir)"/libpbfrow.so*
 	rm -rf $(addprefix "$(DESTDIR)",$(libdir)/cmake/pbfrow $(docdir))
 

@@ -35,7 +35,7 @@ files_below() { (cd "$1" && find . ! -type d -printf '%m %P %l\n' | sed 's/ $//'
 
 passes "library/build" "$top/library/build" "$library"
 printf '%s\n' include/pbfrow.h include/pbfrow.hpp lib/cmake/pbfrow/pbfrowConfig.cmake lib/cmake/pbfrow/pbfrowConfigVersion.cmake lib/libpbfrow.a \
-  lib/libpbfrow.so.0.1.0 lib/pkgconfig/pbfrow.pc | sed 's/^/644 /; s/^644 \(.*so.0.1.0\)/755 \1/' > files.txt
+  lib/libpbfrow.so.0.1.0 lib/pkgconfig/pbfrow.pc lib/pkgconfig/pbfrow-static.pc | sed 's/^/644 /; s/^644 \(.*so.0.1.0\)/755 \1/' > files.txt
 printf '%s\n' "777 lib/libpbfrow.so libpbfrow.so.0" "777 lib/libpbfrow.so.0 libpbfrow.so.0.1.0" >> files.txt
 LC_ALL=C sort files.txt > want.txt
 files_below "$library" > got.txt
@@ -231,12 +231,22 @@ for way in short long empty none; do
 blobs 3 nodes 2 ways 0 relations 0 faults 1" ./probe packed $way turned.osm.pbf
 done
 
+# The same blob, which doesn't say how long it is.
+{ head -c 47 "$two"; printf '\0\0\0\x0b\x0a\x07OSMData\x18\x16\x22\x14'; printf "$turned"; tail -c 37 "$two"; } > unsaid.osm.pbf
+for way in right empty none; do
+  ends "a compressed blob that doesn't say how long it is, is fault 21: $way" 0 "fault 21 CompressedLzma at 47
+blobs 3 nodes 2 ways 0 relations 0 faults 1" ./probe packed $way unsaid.osm.pbf
+done
+
 # ---- installing
 
 if has make install; then
   BUILT_LIBRARY=$library passes "make install-library" make -s -C "$top" install-library PREFIX=/usr DESTDIR="$PWD/image"
   sed -n 's,^\([0-9]*\) lib/,\1 usr/lib/,p; s,^\([0-9]*\) include/,\1 usr/include/,p' files.txt | sed 's/^755/644/' > want.txt
-  for example in count.c count.cpp nodes_of_box.cpp ways_with_places.cpp; do echo "644 usr/share/doc/pbfrow/examples/$example"; done >> want.txt
+  for example in "$top"/examples/count.c "$top"/examples/*.cpp "$top"/examples/{count,nodes_of_box,ways_with_places}.py; do
+    [ ! -e "$example" ] || echo "$([ -x "$example" ] && echo 755 || echo 644) usr/share/doc/pbfrow/examples/$(basename "$example")"
+  done >> want.txt
+  [ ! -e "$top/docs/LIBRARY.md" ] || echo "644 usr/share/doc/pbfrow/LIBRARY.md" >> want.txt
   LC_ALL=C sort -o want.txt want.txt
   files_below image > got.txt
   same "make install-library puts the library in place" got.txt want.txt
@@ -251,6 +261,10 @@ if has make install; then
     compiled count.c "by pkg-config" cc -std=c11 -o by_pkg_config_in_c image/usr/share/doc/pbfrow/examples/count.c $(pkg-config --cflags --libs pbfrow)
     LD_LIBRARY_PATH=$PWD/image/usr/lib ./by_pkg_config_in_c "$country" > got.txt
     same "and runs too" got.txt counted.txt
+    # shellcheck disable=SC2046
+    compiled count.cpp "with the static library, by pkg-config" c++ -std=c++17 -o by_static image/usr/share/doc/pbfrow/examples/count.cpp $(pkg-config --cflags --libs pbfrow-static)
+    ./by_static "$country" > got.txt
+    same "and runs by itself" got.txt counted.txt
     pkg-config --modversion pbfrow > got.txt
     "$pbfrow" --version | cut -d ' ' -f 2 > want.txt
     same "the version is the program's" got.txt want.txt
@@ -300,6 +314,9 @@ if has make install gzip xz dpkg-deb; then
     tar -tJf dist/pbfrow-*-linux-x86_64.tar.xz | grep -E '/(include|lib)/.*[^/]$' | sed 's,^[^/]*/,,' | LC_ALL=C sort > got.txt
     awk '{ print $2 }' files.txt | LC_ALL=C sort > want.txt
     same "so has the archive" got.txt want.txt
+    if [ -x "$top/package/wheel" ] && has python3; then
+      ls dist/pbfrow-*.whl > said.txt 2>&1 && grep -q whl dist/SHA256SUMS && pass "there is a wheel for Python" || fail "there is a wheel for Python"
+    fi
   else
     fail "the packages with the library"
     head -n 10 made.txt | sed 's/^/    /'

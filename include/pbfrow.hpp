@@ -116,8 +116,9 @@ class Fault : public std::runtime_error {
 
 // ---- blobs
 
-// Decompresses a payload: it gets the compressed bytes and how many bytes the blob says that the payload has (0 where it doesn't
-// say), at most 33,554,431. An answer of any other length is Fault 21, so one that can't go on answers with no bytes.
+// Decompresses a payload: it gets the compressed bytes and how many bytes the blob says that the payload has, 1 to 33,554,431. An
+// answer of any other length is Fault 21, so one that can't go on answers with no bytes. A blob that doesn't say how many bytes
+// there are is Fault 21 as well.
 using Decompressor =
     std::function<std::vector<std::uint8_t>(Compression compression, View<std::uint8_t> compressed, std::uint64_t raw_size)>;
 
@@ -162,7 +163,7 @@ class Blob {
     Payload payload() const {
         constexpr std::uint64_t largest_payload = 33554431;
         if (status_ == 0) return Payload(stored());
-        if (status_ != 21 || decompressor_ == nullptr || raw_size() > largest_payload) throw fault(status_);
+        if (status_ != 21 || decompressor_ == nullptr || raw_size() == 0 || raw_size() > largest_payload) throw fault(status_);
         std::vector<std::uint8_t> bytes = (*decompressor_)(compression(), stored(), raw_size());
         if (bytes.size() != raw_size()) throw fault(status_);
         return Payload(std::move(bytes));
