@@ -9,7 +9,7 @@ ghost use Rattle.osm_columns.specs.Indexes.{texts_in};
 use std::alloc::{AllocError, Global};
 
 /// How many buckets there are: the texts of a block of 8,000 elements mostly find one of their own.
-const BUCKETS: usize = 8_192;
+const BUCKETS: usize = 16_384;
 
 /// What a bucket has that holds no index.
 const EMPTY: i32 = -1;
@@ -51,7 +51,7 @@ fn ends_of(text: &[u8]) -> (u64, u64) {
 
 /// The bucket where the search for a text begins.
 fn bucket_of(text: &[u8]) -> usize
-    ensures { result < 8192 }
+    ensures { result < 16384 }
 {
     let (first, last) = ends_of(text);
     let mut hash = mixed(mixed(text.len() as u64, first), last);
@@ -61,7 +61,7 @@ fn bucket_of(text: &[u8]) -> usize
             hash = mixed(hash, u64::from_le_bytes(*word));
         }
     }
-    (hash % 8_192) as usize
+    (hash % 16_384) as usize
 }
 
 impl<'a> Dictionary<'a> {
