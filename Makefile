@@ -26,7 +26,7 @@ SHELL := bash
 all:
 	./pbfrow --build-only
 
-test: gate gate-time e2e
+test: gate gate-time library e2e
 
 gate:
 	gate/run

@@ -1,11 +1,14 @@
 #!/usr/bin/env python3
 """nodes_of_box.py FILE WEST SOUTH EAST NORTH: the nodes of a PBF file in a box, whose sides are in degrees: id, latitude and
 longitude, and the name if there is one."""
+import signal
 import sys
 import zlib
 
 import numpy as np
 import pbfrow
+
+signal.signal(signal.SIGPIPE, signal.SIG_DFL)  # so that `head` may end it
 
 path, *sides = sys.argv[1:]
 west, south, east, north = (round(float(side) * 1e9) for side in sides)

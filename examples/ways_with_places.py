@@ -3,11 +3,14 @@
 
 The whole file is in memory. Nodes that the file lacks, as at the edge of an extract, are left out; a way without any has a line
 with its id alone."""
+import signal
 import sys
 import zlib
 
 import numpy as np
 import pbfrow
+
+signal.signal(signal.SIGPIPE, signal.SIG_DFL)  # so that `head` may end it
 
 country = pbfrow.read(sys.argv[1], inflate=zlib.decompress, threads=4)
 nodes, ways = country.nodes, country.ways

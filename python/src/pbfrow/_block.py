@@ -53,10 +53,16 @@ class Texts:
 
     @cached_property
     def strings(self) -> NDArray[np.object_]:
-        """All texts as str, decoded at the first use: (texts,) of objects. `strings[tags.keys]` are the keys of tags."""
+        """All texts as str, decoded at the first use: (texts,) of objects. `strings[tags.keys]` are the keys of tags; of users take
+        `of`, since numpy has the last text for an index of -1."""
         strings = np.empty(len(self), object)
         strings[:] = list(self)
         return strings
+
+    def of(self, indexes: NDArray[np.int32]) -> NDArray[np.object_]:
+        """The texts of these indexes as str, and None for -1, which stands for no text: as many objects as indexes."""
+        named: NDArray[np.object_] = np.append(self.strings, None)[indexes]
+        return named
 
     def find(self, text: str) -> NDArray[np.int32]:
         """The indexes that this text has, without decoding the others: usually one, or none where it isn't there."""

@@ -207,17 +207,20 @@ class File:
     def _inflated(self, blob: Blob, payload: NDArray[np.uint8]) -> NDArray[np.uint8]:
         inflate, compression = self._codec(blob), CODECS.index(blob.codec)
         if inflate is None:
-            raise Fault(COMPRESSED, blob.offset, compression)
-        if blob.raw_size > MOST_RAW:
-            told = f"it says that it has {blob.raw_size} bytes, more than any may have"
-            raise Fault(COMPRESSED, blob.offset, compression, told)
+            fault = Fault(COMPRESSED, blob.offset, compression)
+            if hasattr(fault, "add_note"):  # Python 3.11
+                fault.add_note(f"inflate=zlib.decompress, or a function that decompresses {blob.codec}, reads such blobs")
+            raise fault
+        if not 0 < blob.raw_size <= MOST_RAW:
+            says = f"that it has {blob.raw_size} bytes, more than any may have" if blob.raw_size else "not how many bytes it has"
+            raise Fault(COMPRESSED, blob.offset, compression, f"it says {says}")
         try:
             inflated = np.frombuffer(inflate(payload.tobytes()), np.uint8)
         except Exception as error:
             told = f"inflate failed: {type(error).__name__}: {error}"
             raise Fault(COMPRESSED, blob.offset, compression, told) from error
-        if len(inflated) != blob.raw_size and (blob.raw_size or len(inflated) > MOST_RAW):
-            told = f"inflate gave {len(inflated)} bytes, and the blob says {blob.raw_size or 'nothing'}"
+        if len(inflated) != blob.raw_size:
+            told = f"inflate gave {len(inflated)} bytes, and the blob says {blob.raw_size}"
             raise Fault(COMPRESSED, blob.offset, compression, told)
         return inflated
 
