@@ -153,9 +153,9 @@ def wrong_functions(packed):
         raises(pbfrow.Fault, lambda: pbfrow.read(path, inflate=zlib.decompress), said)
     unsaid = field(3, zlib.compress(data)) + plain(9, 1)
     path = written("unsaid.osm.pbf", frame(b"OSMHeader", raw(HEADER)) + frame(b"OSMData", unsaid))
-    assert len(pbfrow.read(path, inflate=zlib.decompress)) == 1
+    raises(pbfrow.Fault, lambda: pbfrow.read(path, inflate=zlib.decompress), "fault 21 CompressedZlib at 47: it doesn't say")
     nothing = frame(b"OSMHeader", raw(HEADER)) + frame(b"OSMData", field(2, b"") + field(3, zlib.compress(b"")))
-    raises(pbfrow.Fault, lambda: pbfrow.read(written("nothing.osm.pbf", nothing), inflate=zlib.decompress), "fault 41 NoStringTable at 47")
+    raises(pbfrow.Fault, lambda: pbfrow.read(written("nothing.osm.pbf", nothing), inflate=zlib.decompress), "fault 21 CompressedZlib at 47: it doesn't say")
 
 
 def progress(path):

@@ -61,7 +61,7 @@ class Texts:
 
     def of(self, indexes: NDArray[np.int32]) -> NDArray[np.object_]:
         """The texts of these indexes as str, and None for -1, which stands for no text: as many objects as indexes."""
-        named: NDArray[np.object_] = np.append(self.strings, None)[indexes]
+        named: NDArray[np.object_] = np.concatenate([self.strings, np.array([None], object)])[indexes]
         return named
 
     def find(self, text: str) -> NDArray[np.int32]:

@@ -212,8 +212,8 @@ class File:
                 fault.add_note(f"inflate=zlib.decompress, or a function that decompresses {blob.codec}, reads such blobs")
             raise fault
         if not 0 < blob.raw_size <= MOST_RAW:
-            says = f"that it has {blob.raw_size} bytes, more than any may have" if blob.raw_size else "not how many bytes it has"
-            raise Fault(COMPRESSED, blob.offset, compression, f"it says {says}")
+            told = f"it says that it has {blob.raw_size} bytes, more than any may have" if blob.raw_size else "it doesn't say how many bytes it has"
+            raise Fault(COMPRESSED, blob.offset, compression, told)
         try:
             inflated = np.frombuffer(inflate(payload.tobytes()), np.uint8)
         except Exception as error:
