@@ -203,6 +203,7 @@ def texts():
     assert used == ["a", "bc", ""] and codes.tolist() == [2, 0, -1, 0, 1, 1]
     tags = pbfrow.Tags(None, np.array([0, 2, 4]), np.array([0, 1, 2, 4], np.int32), np.array([3, 3, 5, 0], np.int32), twice)
     assert tags.find("a").tolist() == [0, 2] == tags.find("a", "").tolist() and tags.find("bc", "a").tolist() == [3]
+    assert first.texts.of(np.array([1, -1, 0], np.int32)).tolist() == [every[1], None, every[0]]
     raises(IndexError, lambda: first.texts[-1], "no text -1")
     raises(IndexError, lambda: first.texts[len(first.texts)])
     whole = pbfrow.read(path)
