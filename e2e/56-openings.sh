@@ -220,14 +220,15 @@ if has sqlite3; then
   sqlite3 mine.db "CREATE TABLE strange (a TEXT PRIMARY KEY, b) WITHOUT ROWID; INSERT INTO strange VALUES ('x', 1)"
   right "a table of one's own that has no rowid" mine.db
   sqlite3 mine.db "CREATE TRIGGER told AFTER INSERT ON element BEGIN DELETE FROM mine; END"
-  expect "a trigger on the table of elements: find" 1 "fault 65 Disk${nl}" find mine.db n1
-  told "and why" "mine.db: it has a trigger on one of pbfrow's tables, told: drop it with sqlite3 to go on"
+  right "a trigger on the table of elements" mine.db
   expect "a trigger on the table of elements: import of what is held" 1 "fault 65 Disk${nl}" import "$two" mine.db
   told "and why" "mine.db: it has a trigger on one of pbfrow's tables, told: drop it with sqlite3 to go on"
   sqlite3 mine.db "DROP TRIGGER told; CREATE TRIGGER told AFTER INSERT ON strange BEGIN DELETE FROM mine; END"
   right "a trigger on a table of one's own" mine.db
   if sqlite3 mine.db "DROP TRIGGER told; CREATE VIRTUAL TABLE words USING fts5 (word)" 2> got.txt; then
-    expect "a virtual table: status" 1 "fault 65 Disk${nl}" status mine.db
+    right "a virtual table" mine.db
+    sqlite3 mine.db "DROP INDEX element_by_id"
+    expect "a virtual table, where SQL has to open the database: status" 1 "fault 65 Disk${nl}" status mine.db
     told "and why" "mine.db: it has a virtual table, words: drop it with sqlite3 to go on"
   fi
   rm -f mine.db*

@@ -59,10 +59,18 @@ abbrev pub plain_indexes : List Row → List Index
 plain_indexes [] = []
 plain_indexes (row ∷ rows) = with_index (plain_index row) (plain_indexes rows)
 
--- an added index that a put does not keep
-abbrev pub is_refused : Row → Bool
-is_refused row = is_added_index row && not (is_some (plain_index row))
+-- the row of the list tells of a trigger on a table of a store, which a put would have to run
+abbrev pub binds_a_store : Row → Bool
+binds_a_store row = is_word (codes "trigger") (column row 1) && is_of_a_store (bytes (column row 3))
 
--- each index that somebody has added to a table of a store is one that a put keeps
+-- it tells of something of somebody's own that stands on a table of a store
+abbrev pub is_on_a_store : Row → Bool
+is_on_a_store row = is_added_index row || binds_a_store row
+
+-- of something that a put does not keep
+abbrev pub is_refused : Row → Bool
+is_refused row = is_on_a_store row && not (is_some (plain_index row))
+
+-- each index that somebody has added to a table of a store is one that a put keeps, and no trigger is on one
 abbrev pub AreKept : List Row → Type 0
 AreKept rows = list_any is_refused rows ≡ false

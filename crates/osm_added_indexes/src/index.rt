@@ -5,7 +5,7 @@ ghost use Rattle.std.specs.List.{list_any};
 ghost use Rattle.sqlite_resolve.specs.Compile.{index_defined_by};
 ghost use Rattle.osm_added_indexes.specs.Added as spec;
 
-use crate::row::{is_added_index, tree_of};
+use crate::row::{is_added_index, is_on_a_store, tree_of};
 use crate::table::table_named;
 use sqlite_resolve::{CompileError, define_index};
 use sqlite_schema::schema::{Index, Table};
@@ -67,7 +67,7 @@ pub fn plain_index(alloc: Global, row: &Row) -> Result<Option<Index>, AllocError
 }
 
 /// The indexes that somebody has added to the tables of a store, in the order of these rows of the list of objects; none
-/// where one of them can't be kept by a put.
+/// where one of them can't be kept by a put, or where a trigger is on one of the tables.
 pub fn plain_indexes(alloc: Global, rows: &[Row]) -> Result<Option<Vec<Index>>, AllocError>
     ensures { IfOk result (λ found. MatchOption found (list_any spec.is_refused rows.now ≡ true) (λ indexes. (list_any spec.is_refused rows.now ≡ false) × (indexes.items ≡ spec.plain_indexes rows.now))) }
 {
@@ -76,7 +76,7 @@ pub fn plain_indexes(alloc: Global, rows: &[Row]) -> Result<Option<Vec<Index>>, 
         match plain_index(alloc, row)? {
             Some(index) => indexes.push(index)?,
             None => {
-                if is_added_index(row) {
+                if is_on_a_store(row) {
                     return Ok(None);
                 }
             }

@@ -6,4 +6,4 @@ mod row;
 mod table;
 
 pub use index::{plain_index, plain_indexes};
-pub use row::{is_added_index, is_of_a_store};
+pub use row::{binds_a_store, is_added_index, is_of_a_store};

@@ -36,6 +36,21 @@ pub fn is_added_index(row: &Row) -> bool
         && !compare(row.get(0), ValueRef::Int(FIRST_BEHIND)).is_lt()
 }
 
+/// Whether a row of the list of objects tells of a trigger on a table of a store: whoever writes to the table would have to run
+/// it. The row begins with its rowid, type, name and table.
+pub fn binds_a_store(row: &Row) -> bool
+    ensures { result ≡ spec.binds_a_store row.now }
+{
+    is_word(b"trigger", row.get(1)) && is_of_a_store(bytes_of(row.get(3)))
+}
+
+/// Whether it tells of anything of somebody's own on a table of a store.
+pub(crate) fn is_on_a_store(row: &Row) -> bool
+    ensures { result ≡ spec.is_on_a_store row.now }
+{
+    is_added_index(row) || binds_a_store(row)
+}
+
 /// The number of the tree that the row tells of.
 pub(crate) fn tree_of(row: &Row) -> Option<u32>
     ensures { result ≡ spec.tree_of (column row.now 0) }

@@ -12,9 +12,10 @@ ghost use Rattle.osm_trees.specs.Ways.{MatchOpened, counted};
 ghost use Rattle.osm_tree_writes.specs.Appending.{IsStoreAt};
 ghost use Rattle.osm_databases.specs.Checked.{HasWholeAdded, IsOfVersion};
 
-use crate::reason::{told, told_of};
+use crate::reason::{tell_of_obstruction, told, told_of};
 use crate::stores::{OpenedChecked, OpenedStore, adopted, adopted_or_made, checked, taking_blobs};
-use osm_added_indexes::{is_added_index, is_of_a_store, plain_index};
+use osm_added_indexes::{binds_a_store, is_added_index, is_of_a_store, plain_index};
+use osm_openings::{Obstacle, Obstruction};
 use osm_store::{BodyStore, StoreFault, TableStore};
 use osm_trees::{Opened, TreeStore};
 use sqlite::{Alter, Connection};
@@ -139,7 +140,21 @@ fn tell_of_refused_index(rt: &HostRuntime, name: &str, index: &[u8]) {
     }
 }
 
-/// The trees that were found, if a put can keep all that the database has.
+/// Refuses trees of which one table has a trigger, which whoever writes to it would have to run. That is told on standard error.
+fn refuse_bound<S: Alter>(rt: &HostRuntime, name: &str, trees: &S) -> Result<(), StoreFault> {
+    let objects = trees.objects(rt.alloc())?;
+    for row in objects.as_slice() {
+        if binds_a_store(row) {
+            let object = bytes_of(row.get(2)).to_vec(rt.alloc())?;
+            let obstacle = Obstacle::Trigger;
+            tell_of_obstruction(rt, name, &Obstruction { obstacle, object });
+            return Err(StoreFault::Disk);
+        }
+    }
+    Ok(())
+}
+
+/// The trees that were found, if a put can keep all that the database has. One of whose tables has a trigger is refused.
 fn found_taking_blobs<S: Alter + Drop>(
     rt: &HostRuntime,
     name: &str,
@@ -150,6 +165,7 @@ fn found_taking_blobs<S: Alter + Drop>(
 {
     match found {
         Some(trees) => {
+            refuse_bound(rt, name, &trees)?;
             tell_of_refused_indexes(rt, name, &trees)?;
             told(rt, name, taking_blobs(rt.alloc(), trees))
         }
@@ -160,8 +176,8 @@ fn found_taking_blobs<S: Alter + Drop>(
 /// The store of a database whose rows are to be compared, whatever these are. A database of this version is read by its
 /// trees: each page and each tree is looked at, and each index of the store has one entry for each row, and so has each that
 /// somebody has added to its tables; the store has what was seen of the tables at that. One of whose tables somebody has made an
-/// index that a put doesn't keep is opened by SQL, which looks at that too, and holds what it looks at in memory. Nothing is
-/// written. Why it can't be opened is told on standard error.
+/// index that a put doesn't keep is opened by SQL, which looks at that too, and holds what it looks at in memory. One of whose
+/// tables has a trigger is refused. Nothing is written. Why it can't be opened is told on standard error.
 pub fn opened_checked<D: CheckedDatabases>(
     rt: &HostRuntime,
     databases: &D,
@@ -246,8 +262,8 @@ fn filled_by_sql<D: Databases>(
 }
 
 /// The store of a database that is to take blobs, which is made if there is none. A database of this version, and one that is
-/// made, is written by its trees; one of whose tables somebody has made an index that a put doesn't keep is opened by SQL.
-/// Why it can't be opened is told on standard error.
+/// made, is written by its trees; one of whose tables somebody has made an index that a put doesn't keep is opened by SQL, and
+/// one of whose tables has a trigger is refused. Why it can't be opened is told on standard error.
 pub fn opened_or_made<D: Databases>(
     rt: &HostRuntime,
     databases: &D,

@@ -96,8 +96,8 @@ pub fn adopted_or_made<S: Alter + Drop>(
 }
 
 /// The trees, if a put can keep all that the database has: each index that somebody has added to a table of the store is one
-/// of columns of the table of elements, of tags or of links (`osm_added_indexes::plain_index`). Where there is another they are
-/// dropped, and SQL writes it. Views, and tables of other names with their indexes, are left as they are. A fault is
+/// of columns of the table of elements, of tags or of links (`osm_added_indexes::plain_index`), and no trigger is on one of
+/// these tables. Where there is another index they are dropped, and SQL writes it. All else is left as it is. A fault is
 /// `Memory`.
 pub fn taking_blobs<S: Alter + Drop>(alloc: Global, trees: S) -> Result<Option<S>, Refusal>
     ensures same { IfOk result (λ found. IfSome found (λ kept. kept ≡ trees)) }

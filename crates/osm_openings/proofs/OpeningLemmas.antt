@@ -1,29 +1,37 @@
 -- The list of a file's trees, as the store that is opened shows it.
-use Rattle.std.proofs.Common.{◌≡◌, ◌∙◌, ◌<◌, ◌+◌, ◌%◌, ℕ, zero, suc, pos, List, [], ◌∷◌, ◌++◌, length, take, refl, ap, ap₂, subst, sym, arith}
-use Rattle.std.specs.Prelude.{Bool, true, false, slice_get, Option, Some, None, Result, Ok, Err, IsTrue, IfSome, IfOk, MatchBool}
+use Rattle.std.proofs.Common.{◌≡◌, ◌∙◌, ◌+◌, ◌%◌, ℕ, zero, suc, pos, List, [], ◌∷◌, ◌++◌, length, map, take, refl, ap, ap₂, subst, sym, inl, inr, arith}
+use Rattle.std.specs.Prelude.{Bool, true, false, slice_get, Option, Some, None, Result, Ok, Err, IsTrue, IfSome, IfOk}
+use Rattle.std.specs.Borrow.{Bor}
+use Rattle.std.specs.List.{list_any}
 use Rattle.std.proofs.Math.Logic.{∥∥₁_map}
-use Rattle.std.proofs.lemmas.Bool.{cond-true}
-use Rattle.std.proofs.lemmas.Option.{slice_get_within, none-some, same_Some}
-use Rattle.sqlite_value.specs.declared.value.Value.TheVariants.{Int}
+use Rattle.std.proofs.lemmas.Bool.{cond-true, and_parts, or_cases}
+use Rattle.std.proofs.lemmas.Option.{none-some, same_Some}
+use Rattle.sqlite_value.specs.declared.value.Value.TheVariants.{Int, Text}
 use Rattle.sqlite_value.specs.Order.{Row}
 use Rattle.sqlite_trees.specs.declared.schema.Object.{Object}
 use Rattle.sqlite_trees.specs.declared.store.Shape.{Shape}
-use Rattle.sqlite_trees.specs.Objects.{catalog_tree, shape_code, object_row}
+use Rattle.sqlite_trees.specs.declared.store.Shape.TheVariants.{Absent, Table, Index, Pageless, FrozenTable, FrozenIndex}
+use Rattle.sqlite_trees.specs.Objects.{catalog_tree, shape_code, listing, object_row, text_or_null}
 use Rattle.sqlite_trees.specs.Tree.{no_trees}
 use Rattle.sqlite_trees.proofs.Doubt.{no_doubt}
 use Rattle.sqlite_disk.specs.declared.Disk.{Ghosts}
+use Rattle.sqlite_pool.specs.Pool as pool
+use Rattle.sqlite_wal.specs.Reads.{AreClean}
+use Rattle.sqlite_store.specs.declared.store.open.Unopened.{Unopened}
+use Rattle.sqlite_store.specs.Unopened.{files_of, state_of}
 use Rattle.sqlite_pages.specs.PageMap.{PageMap}
 use Rattle.sqlite_pool.specs.Stored.{Recovers, trimmed, stored_size, is_summed}
 use Rattle.sqlite_wal.specs.Recovery.{Image}
 use Rattle.sqlite_wal.proofs.RecoveryLemmas.{recovers_once}
 use Rattle.sqlite_store.specs.declared.catalog.Wanted.{Wanted}
-use Rattle.sqlite_store.specs.Joined.{joined}
-use Rattle.sqlite_store.specs.Listing.{listed_from, all_trees, file_trees}
+use Rattle.sqlite_store.specs.Catalog.{is_present, describes, wanted_of}
+use Rattle.sqlite_store.specs.Catalog.{text_or_null as wanted_text}
+use Rattle.sqlite_store.specs.Listing.{listed, listed_from, all_trees, file_trees}
 use Rattle.sqlite_store.specs.Db.{IsFile}
 use Rattle.sqlite_store.specs.Saved.{kept_schema}
 use Rattle.sqlite_store.specs.declared.store.FileStore.{FileStore}
 use Rattle.sqlite_store.specs.FileStore.{state, view, schema_of, IsReady}
-use Rattle.osm_openings.specs.Catalog.{entry, listings, ListsFirst}
+use Rattle.osm_openings.specs.Catalog.{listings, AreListed, ListsFirst}
 use Rattle.osm_openings.specs.Presumed.{NamesSize, ReadsAs}
 
 pub if_none : {X : Type 0} (P : X → Type 0) (o : Option X) → o ≡ None → IfSome o P
@@ -40,25 +48,60 @@ if_kept (Ok None) Clean R P h f = tt
 if_kept (Ok (Some x)) Clean R P h f = λ clean. f x clean h
 if_kept (Err e) Clean R P h f = tt
 
-pub if_listed : {E : Type 0} (r : Result Bool E) (P Q R : Type 0) → IfOk r (λ done. MatchBool done P Q) → (P → R) → IfOk r (λ done. IsTrue done → R)
-if_listed (Ok true) P Q R h f = λ _. f h
-if_listed (Ok false) P Q R h f = λ e. absurd (cc)
-if_listed (Err e) P Q R h f = tt
+-- ---- what is listed is there
+first_row : (from : ℕ) (w : Wanted) (rest : List Row) → is_present w.shape ≡ true → listed from w w.shape ++ rest ≡ listing from w.row w.shape w.reals ∷ rest
+first_row from w rest present = go w.shape refl present
+  where
+    go : (s : Shape) → w.shape ≡ s → is_present s ≡ true → listed from w s ++ rest ≡ listing from w.row w.shape w.reals ∷ rest
+    go Absent is h = absurd (cc)
+    go Table is h = rw is refl
+    go (Index o) is h = rw is refl
+    go Pageless is h = rw is refl
+    go FrozenTable is h = rw is refl
+    go (FrozenIndex o) is h = rw is refl
 
--- a row of the list, once its shape and its REAL columns are known
-joined_at : (rows : List Row) (layouts : List (Shape × ℕ)) (at : ℕ) (row : Row) (layout : Shape × ℕ) → slice_get rows at ≡ Some row → slice_get layouts at ≡ Some layout
-    → slice_get (joined rows layouts) at ≡ Some (row ++ Int (pos (shape_code layout.0)) ∷ Int (pos layout.1) ∷ [])
-joined_at [] layouts at row layout e f = absurd (none-some _ e)
-joined_at (r ∷ rows) [] at row layout e f = absurd (none-some _ f)
-joined_at (r ∷ rows) (l ∷ layouts) zero row layout e f =
-    ap₂ (λ (x : Row) (y : Shape × ℕ). Some (x ++ Int (pos (shape_code y.0)) ∷ Int (pos y.1) ∷ [])) (same_Some r row e) (same_Some l layout f)
-joined_at (r ∷ rows) (l ∷ layouts) (suc at) row layout e f = joined_at rows layouts at row layout e f
+pub same_text : (sql : Option (Bor (List ℕ))) → wanted_text sql ≡ text_or_null sql
+same_text None = refl
+same_text (Some text) = refl
 
-pub lists_first : (objects : List Object) (rows : List Row) (layouts : List (Shape × ℕ)) → ListsFirst entry objects rows
-    → ((tree : ℕ) (o : Object) → tree < length rows → slice_get objects tree ≡ Some o → slice_get layouts tree ≡ Some (o.shape, o.reals))
-    → ListsFirst object_row objects (joined rows layouts)
-lists_first objects rows layouts first laid tree o is =
-    joined_at rows layouts tree (entry tree o) (o.shape, o.reals) (first tree o is) (laid tree o (slice_get_within rows tree (entry tree o) (first tree o is)) is)
+-- an object's own row of the list is that of the tree that is made of it
+listing_of : (tree : ℕ) (o : Object) → listing tree (wanted_of o).row o.shape o.reals ≡ object_row tree o
+listing_of tree o =
+    ap (λ sql. Int (pos (tree + 1)) ∷ Text o.kind.now ∷ Text o.name.now ∷ Text o.table.now ∷ sql ∷ Int (pos (shape_code o.shape)) ∷ Int (pos o.reals) ∷ []) (same_text o.sql)
+
+listed_from_on : (from : ℕ) (objects : List Object) (rest : List Wanted) → ((k : ℕ) (o : Object) → slice_get objects k ≡ Some o → is_present o.shape ≡ true)
+    → (k : ℕ) (o : Object) → slice_get objects k ≡ Some o → slice_get (listed_from from (map wanted_of objects ++ rest)) k ≡ Some (object_row (from + k) o)
+listed_from_on from [] rest present k o at = absurd (none-some o at)
+listed_from_on from (p ∷ objects) rest present zero o at =
+    let start : from ≡ from + 0 = omega arith in
+    ap (λ (rows : List Row). slice_get rows 0) (first_row from (wanted_of p) (listed_from (from + 1) (map wanted_of objects ++ rest)) (present 0 p refl))
+    ∙ ap Some (listing_of from p) ∙ ap₂ (λ n (x : Object). Some (object_row n x)) start (same_Some p o at)
+listed_from_on from (p ∷ objects) rest present (suc k) o at =
+    let next : from + 1 + k ≡ from + suc k = omega arith in
+    ap (λ (rows : List Row). slice_get rows (suc k)) (first_row from (wanted_of p) (listed_from (from + 1) (map wanted_of objects ++ rest)) (present 0 p refl))
+    ∙ listed_from_on (from + 1) objects rest (λ j q is. present (suc j) q is) k o at ∙ ap (λ n. Some (object_row n o)) next
+
+present_in : (o : Object) (row : Row) → describes (wanted_of o) row ≡ true → is_present o.shape ≡ true
+unfolding describes
+present_in o row h = (and_parts _ _ (and_parts _ _ (and_parts _ _ (and_parts _ _ h).0).0).0).0
+
+present_among : (o : Object) (rows : List Row) → list_any (λ row. describes (wanted_of o) row) rows ≡ true → is_present o.shape ≡ true
+present_among o [] h = absurd (cc)
+present_among o (r ∷ rows) h =
+    elim (or_cases (describes (wanted_of o) r) (list_any (λ row. describes (wanted_of o) row) rows) h) [ inl here ↦ present_in o r here | inr later ↦ present_among o rows later ]
+
+all_present : (objects : List Object) (rows : List Row) → AreListed objects rows → (k : ℕ) (o : Object) → slice_get objects k ≡ Some o → is_present o.shape ≡ true
+all_present [] rows listed k o at = absurd (none-some o at)
+all_present (p ∷ objects) rows all zero o at =
+    ap (λ (x : Object). is_present x.shape) (sym (same_Some p o at)) ∙ present_among p rows (and_parts (list_any (λ row. describes (wanted_of p) row) rows) _ all).0
+all_present (p ∷ objects) rows all (suc k) o at = all_present objects rows (and_parts (list_any (λ row. describes (wanted_of p) row) rows) _ all).1 k o at
+
+-- objects that have their rows are the first of a list that begins with them
+pub lists_first : (objects : List Object) (rows : List Row) (rest : List Wanted) → AreListed objects rows → ListsFirst objects (listed_from 0 (map wanted_of objects ++ rest))
+lists_first objects rows rest listed tree o is = listed_from_on 0 objects rest (all_present objects rows listed) tree o is ∙ ap (λ n. Some (object_row n o)) (at_zero tree)
+  where
+    at_zero : (k : ℕ) → 0 + k ≡ k
+    at_zero k = omega arith
 
 -- what a file reads as has the list of its trees
 pub listed_in : (size : ℕ) (schema : List Wanted) (pages : PageMap) → file_trees size schema pages catalog_tree ≡ listed_from 0 schema
@@ -85,7 +128,7 @@ first_from tree (o ∷ objects) (r ∷ rows) lists =
     next k = omega arith
 
 -- what is listed first is the whole list of these rows
-pub first_listings : (objects : List Object) (rows expected : List Row) → listings 0 objects ≡ expected → ListsFirst object_row objects rows → take (length expected) rows ≡ expected
+pub first_listings : (objects : List Object) (rows expected : List Row) → listings 0 objects ≡ expected → ListsFirst objects rows → take (length expected) rows ≡ expected
 first_listings objects rows expected is lists =
     ap (λ n. take n rows) (sym (ap (λ (xs : List Row). length xs) is) ∙ length-listings 0 objects)
     ∙ first_from 0 objects rows (λ k o at. lists k o at ∙ ap (λ n. Some (object_row n o)) (at_zero k)) ∙ is
@@ -128,3 +171,8 @@ module _ {D : Type 0} {g : Ghosts D} (store : FileStore D g) (ready : IsReady st
     sound = subst (λ n. ∥ IsFile n schema pages ∥₁) sized (subst (λ p. ∥ IsFile (state store).page_size schema p ∥₁) same is_sound);
     read = trees_are ∙ ap (λ n. file_trees n schema (state store).committed) sized ∙ ap (file_trees size schema) same;
   }
+
+-- what is said to be clean of the files is so of what has them
+pub clean_files : {D : Type 0} {g : Ghosts D} (it : Unopened D g) (log db : D) → (log, db) ≡ files_of it → AreClean g log db → IsTrue (state_of it).is_clean
+unfolding pool.state pool.files
+clean_files {g = g} it log db is clean = subst (λ p. AreClean g p.0 p.1) is clean

@@ -1,14 +1,10 @@
 -- What stands in the way of opening a database.
 use Rattle.std.specs.Prelude.{Bool, ◌&&◌, if◌then◌else◌, Option, None, Some, codes}
-use Rattle.sqlite_value.specs.Order.{Row, column, bytes}
+use Rattle.sqlite_value.specs.Order.{Row, column}
 use Rattle.sqlite_trees.specs.Sound.{is_word, is_virtual}
-use Rattle.osm_added_indexes.specs.Added.{is_of_a_store}
+use Rattle.osm_added_indexes.specs.Added.{binds_a_store}
 use Rattle.osm_openings.specs.declared.obstacles.Obstacle.{Obstacle}
 use Rattle.osm_openings.specs.declared.obstacles.Obstacle.TheVariants.{Trigger, VirtualTable}
-
--- the row of `sqlite_schema` tells of a trigger on such a table
-abbrev pub binds_a_store : Row → Bool
-binds_a_store row = is_word (codes "trigger") (column row 1) && is_of_a_store (bytes (column row 3))
 
 -- the row of `sqlite_schema` tells of a virtual table
 abbrev pub is_virtual_table : Row → Bool

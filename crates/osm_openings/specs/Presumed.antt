@@ -1,8 +1,8 @@
 -- What is presumed of two files that are opened with most of their pages unread, and what the trees are that such files read as.
-use Rattle.std.specs.Prelude.{◌≡◌, ℕ, ◌<◌, Bool, true, List, map, length, All, IsTrue, slice_get, Option, Some, None, if◌then◌else◌, codes}
+use Rattle.std.specs.Prelude.{◌≡◌, ℕ, ◌+◌, Bool, List, [], ◌∷◌, ◌++◌, map, length, IsTrue, Option, Some, None, if◌then◌else◌}
 use Rattle.sqlite_value.specs.Order.{Row, column}
 use Rattle.sqlite_value.specs.Keys.{plain}
-use Rattle.sqlite_trees.specs.Sound.{is_word}
+use Rattle.sqlite_trees.specs.Sound.{is_text_only}
 use Rattle.sqlite_trees.specs.Tree.{Trees}
 use Rattle.sqlite_trees.specs.declared.schema.Object.{Object}
 use Rattle.sqlite_trees.specs.declared.store.Shape.{Shape}
@@ -16,15 +16,14 @@ use Rattle.sqlite_wal.specs.Recovery.{Image, IsIgnored}
 use Rattle.sqlite_disk.specs.declared.Disk.{Ghosts}
 use Rattle.sqlite_store.specs.declared.catalog.Wanted.{Wanted}
 use Rattle.sqlite_store.specs.declared.store.open.Unopened.{Unopened}
-use Rattle.sqlite_store.specs.Catalog.{page_number}
+use Rattle.sqlite_store.specs.Catalog.{wanted_of}
 use Rattle.sqlite_store.specs.Db.{rows_at, IsFile}
-use Rattle.sqlite_store.specs.Joined.{joined}
-use Rattle.sqlite_store.specs.Listing.{listed_from, file_trees}
+use Rattle.sqlite_store.specs.Listing.{file_trees}
 use Rattle.sqlite_store.specs.Roots.{has_index_root}
 use Rattle.sqlite_store.specs.Unopened.{state_of, image, wanted_by}
 use Rattle.sqlite_schema.specs.declared.schema.Index.{Index as Added}
 use Rattle.osm_added_indexes.specs.Added.{plain_index}
-use Rattle.osm_openings.specs.Catalog.{unrooted, entry, listings, ListsFirst}
+use Rattle.osm_openings.specs.Catalog.{numbered, others, listings, AreListed, StandApart, AreInOrder}
 use Rattle.osm_tree_writes.specs.Tables.{table_listings}
 
 -- the order of an index that a put keeps is that which its text asks; any other is read as it is, and never written
@@ -32,32 +31,42 @@ abbrev pub index_shape : Option Added → Shape
 index_shape None = FrozenIndex plain
 index_shape (Some index) = Index index.order
 
--- the shape of a tree that is none of a store's own
+-- the shape of a tree that is none of a store's own; a view and a trigger have no pages
 abbrev pub foreign_shape : Row → Bool → Shape
-foreign_shape row has_index_root = if is_word (codes "view") (column row 1) then Pageless else (if has_index_root then index_shape (plain_index row) else FrozenTable)
+foreign_shape row has_index_root = if is_text_only (column row 1) then Pageless else (if has_index_root then index_shape (plain_index row) else FrozenTable)
 
--- these are the shapes and the REAL columns of the trees of these rows, of which the first are those of the objects
-pub record AreLayouts (objects : List Object) (rows : List Row) (roots : List Bool) (layouts : List (Shape × ℕ)) : Type 0 where
-  pub len : length layouts ≡ length rows
-  pub first : (tree : ℕ) (o : Object) → tree < length rows → slice_get objects tree ≡ Some o → slice_get layouts tree ≡ Some (o.shape, o.reals)
-  pub others : (tree : ℕ) (row : Row) (root : Bool) → slice_get objects tree ≡ None → slice_get rows tree ≡ Some row → slice_get roots tree ≡ Some root → slice_get layouts tree ≡ Some (foreign_shape row root, 0)
+-- the tree of a row that is none of a store's own
+abbrev pub foreign_tree : ℕ → Row → Bool → Wanted
+foreign_tree tree row has_index_root =
+    record { shape = foreign_shape (numbered tree row) has_index_root; reals = 0; row = column row 1 ∷ column row 2 ∷ column row 3 ∷ column row 5 ∷ [] }
+
+-- those of these rows, from this number on
+abbrev pub foreign_trees : ℕ → List Row → List Bool → List Wanted
+foreign_trees tree [] roots = []
+foreign_trees tree (row ∷ rows) [] = []
+foreign_trees tree (row ∷ rows) (root ∷ roots) = foreign_tree tree row root ∷ foreign_trees (tree + 1) rows roots
+
+-- the whole list: the objects, and the trees of these rows behind them
+abbrev pub trees_of : List Object → List Row → List Bool → List Wanted
+trees_of objects rows roots = map wanted_of objects ++ foreign_trees (length objects) rows roots
 
 -- the rows of `sqlite_schema`
 abbrev pub schema_rows : ℕ → PageMap → List Row
 schema_rows size pages = rows_at size (in_use size pages) Table 1
 
--- a row of `sqlite_schema` that has no root page is that of a view
-abbrev pub IsTreeOrView : Row → Type 0
-IsTreeOrView row = page_number (column row 4) ≡ 0 → is_word (codes "view") (column row 1) ≡ true
+-- those of them that tell of other trees, or of texts alone
+abbrev pub other_rows : List Object → ℕ → PageMap → List Row
+other_rows objects size pages = others objects (schema_rows size pages)
 
--- Where `sqlite_schema` lists these objects first, and else trees and views, the pages are a sound database of each list of
--- trees that says what it says.
+-- all trees of which `sqlite_schema` tells, these objects first
+abbrev pub trees_in : List Object → ℕ → PageMap → List Wanted
+trees_in objects size pages = trees_of objects (other_rows objects size pages) (map (has_index_root (in_use size pages)) (other_rows objects size pages))
+
+-- Where `sqlite_schema` lists these objects, wherever their rows stand, the pages are a sound database of all trees of which it tells.
 abbrev pub AreSound : List Object → ℕ → PageMap → Type 0
 AreSound objects size pages =
-    ListsFirst entry objects (map unrooted (schema_rows size pages)) → All IsTreeOrView (schema_rows size pages) → (schema : List Wanted) (layouts : List (Shape × ℕ))
-    → AreLayouts objects (map unrooted (schema_rows size pages)) (map (has_index_root (in_use size pages)) (schema_rows size pages)) layouts
-    → listed_from 0 schema ≡ joined (map unrooted (schema_rows size pages)) layouts
-    → IsFile size schema pages
+    AreListed objects (schema_rows size pages) → StandApart objects (other_rows objects size pages) (schema_rows size pages) → AreInOrder (schema_rows size pages)
+    → IsFile size (trees_in objects size pages) pages
 
 -- the size of a page that the files name, the log first
 pub record NamesSize (image : Image) (size : ℕ) : Type 0 where
@@ -82,16 +91,19 @@ pub record ReadsAs (image : Image) (trees : Trees) : Type 0 where
   pub sound : ∥ IsFile size schema pages ∥₁
   pub read : trees ≡ file_trees size schema pages
 
--- the rows of `sqlite_schema`, none of which is in the way, and the kinds of the trees' root pages, as they were read of these files
-pub record ReadsRows {D : Type 0} {g : Ghosts D} (old new : Unopened D g) (rows : List Row) (roots : List Bool) : Type 0 where
+-- the other rows of `sqlite_schema`, where it lists these objects, and the kinds of their trees' root pages, as they were read of
+-- these files
+pub record ReadsRows {D : Type 0} {g : Ghosts D} (objects : List Object) (old new : Unopened D g) (rows : List Row) (roots : List Bool) : Type 0 where
   pub pages : PageMap
   pub clean : IsTrue (state_of old).is_clean
   pub size : (state_of new).page_size ≡ (state_of old).page_size
   pub found : Recovers (state_of old).page_size (image old) pages
   pub again : Recovers (state_of new).page_size (image new) pages
-  pub trees : All IsTreeOrView (schema_rows (state_of old).page_size pages)
-  pub rows_are : rows ≡ map unrooted (schema_rows (state_of old).page_size pages)
-  pub roots_are : roots ≡ map (has_index_root (in_use (state_of old).page_size pages)) (schema_rows (state_of old).page_size pages)
+  pub listed : AreListed objects (schema_rows (state_of old).page_size pages)
+  pub apart : StandApart objects (other_rows objects (state_of old).page_size pages) (schema_rows (state_of old).page_size pages)
+  pub ordered : AreInOrder (schema_rows (state_of old).page_size pages)
+  pub rows_are : rows ≡ other_rows objects (state_of old).page_size pages
+  pub roots_are : roots ≡ map (has_index_root (in_use (state_of old).page_size pages)) (other_rows objects (state_of old).page_size pages)
 
 -- the files have a list of trees, of which these objects are the first, and hold a database of it if that is presumed
 pub record Lists {D : Type 0} {g : Ghosts D} (objects : List Object) (old new : Unopened D g) : Type 0 where
@@ -100,4 +112,6 @@ pub record Lists {D : Type 0} {g : Ghosts D} (objects : List Object) (old new : 
   pub size : (state_of new).page_size ≡ (state_of old).page_size
   pub found : Recovers (state_of old).page_size (image old) pages
   pub again : Recovers (state_of new).page_size (image new) pages
+  pub listed : AreListed objects (schema_rows (state_of old).page_size pages)
+  pub wanted : wanted_by new ≡ trees_in objects (state_of old).page_size pages
   pub file : NamesSize (image old) (state_of old).page_size → IsPresumed objects (image old) → IsFile (state_of old).page_size (wanted_by new) pages

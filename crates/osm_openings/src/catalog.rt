@@ -1,106 +1,157 @@
-//! The list of a database's trees: which they are, and by which numbers.
+//! The list of a database's trees, as its `sqlite_schema` tells of them: first those of a store, wherever their rows stand,
+//! and then all others.
 
-ghost use Rattle.std.specs.Prelude.{◌≡◌, ◌↔◌, ◌<◌, ◌^◌, false, map, Some, None, slice_get, length, All, IsTrue, IfOk};
-ghost use Rattle.sqlite_trees.specs.declared.schema.Object.{Object as Listed};
-ghost use Rattle.osm_openings.specs.Catalog.{unrooted, entry, ListsFirst};
-ghost use Rattle.sqlite_store.specs.Catalog.{page_number};
-ghost use Rattle.sqlite_value.specs.Order.{column};
+ghost use Rattle.std.specs.Prelude.{◌≡◌, ◌<◌, ◌^◌, ◌&&◌, ◌||◌, not, map, length, IsTrue, IfOk, IfSome};
+ghost use Rattle.std.specs.List.{list_any, list_all};
+ghost use Rattle.sqlite_value.specs.declared.value.Value.TheVariants.{Text};
+ghost use Rattle.sqlite_value.specs.Value.{owned};
+ghost use Rattle.sqlite_trees.specs.Sound.{same_name as spec_same_name};
+ghost use Rattle.sqlite_value.specs.Order.{column, bytes};
+ghost use Rattle.sqlite_store.specs.Catalog.{is_present, describes, text_or_null, wanted_of};
 ghost use Rattle.osm_added_indexes.specs.Added.{plain_index};
-ghost use Rattle.osm_openings.specs.Presumed.{foreign_shape, index_shape, AreLayouts, IsTreeOrView};
+ghost use Rattle.osm_openings.specs.Catalog.{is_own, is_left_out, is_free, others, numbered, AreListed, StandApart, AreInOrder};
+ghost use Rattle.osm_openings.specs.Presumed.{foreign_shape, foreign_tree, index_shape, trees_of};
 
 use osm_added_indexes::plain_index;
 use sqlite_trees::schema::Object;
-use sqlite_trees::sound::is_word;
+use sqlite_trees::sound::{are_in_order, bytes_of, is_text_only, is_virtual, is_word, same_name};
 use sqlite_trees::store::Shape;
 use sqlite_value::keys::Order;
+use sqlite_value::order::compare;
 use sqlite_value::row::Row;
 use sqlite_value::value::ValueRef;
 use std::alloc::{AllocError, Global};
+use std::str::from_utf8;
 
-/// A row of `sqlite_schema` without its root page: its rowid, type, name, table and SQL text.
-fn without_root(alloc: Global, row: &Row) -> Result<Row, AllocError>
-    ensures { IfOk result (λ left. left ≡ unrooted row.now) }
+/// How many trees a list can have beside those of a store.
+const MAX_TREES: usize = 65_536;
+
+/// Whether a tree is there.
+fn is_present(shape: Shape) -> bool
+    ensures { result ≡ is_present shape }
 {
-    let mut left = Row::new(alloc);
-    left.push(row.get(0))?;
-    left.push(row.get(1))?;
-    left.push(row.get(2))?;
-    left.push(row.get(3))?;
-    left.push(row.get(5))?;
-    Ok(left)
+    !matches!(shape, Shape::Absent)
 }
 
-/// The rows of `sqlite_schema` without their root pages.
-pub(crate) fn without_roots(alloc: Global, rows: &[Row]) -> Result<Vec<Row>, AllocError>
-    ensures { IfOk result (λ all. all.items ≡ map unrooted rows.now) }
+/// The text of an object, or none where a primary key makes it.
+fn text_of<'a>(object: &Object<'a>) -> ValueRef<'a>
+    ensures { owned result ≡ text_or_null object.now.sql }
+{
+    match object.sql {
+        Some(text) => ValueRef::Text(text.as_bytes()),
+        None => ValueRef::Null,
+    }
+}
+
+/// Whether a row of `sqlite_schema` is that of an object: it has its type, name, table and text.
+fn is_of(object: &Object<'_>, row: &Row) -> bool
+    ensures { result ≡ describes (wanted_of object.now) row.now }
+{
+    let is_there = is_present(object.shape);
+    let has_kind = is_word(object.kind.as_bytes(), row.get(1));
+    let has_name = is_word(object.name.as_bytes(), row.get(2));
+    let has_table = is_word(object.table.as_bytes(), row.get(3));
+    let has_text = compare(row.get(5), text_of(object)).is_eq();
+    is_there & has_kind & has_name & has_table & has_text
+}
+
+/// Whether it is that of one of these objects.
+fn is_own(objects: &[Object<'_>], row: &Row) -> bool
+    ensures { result ≡ is_own objects.now row.now }
+{
+    objects.iter().any(|object| is_of(object, row))
+}
+
+/// Whether an object has a row among these.
+fn is_listed(object: &Object<'_>, rows: &[Row]) -> bool
+    ensures { result ≡ list_any (λ row. describes (wanted_of object.now) row) rows.now }
+{
+    rows.iter().any(|row| is_of(object, row))
+}
+
+/// Whether each of these objects has one.
+fn are_listed(objects: &[Object<'_>], rows: &[Row]) -> bool
+    ensures { result ≡ list_all (λ o. list_any (λ row. describes (wanted_of o) row) rows.now) objects.now }
+{
+    objects.iter().all(|object| is_listed(object, rows))
+}
+
+/// Whether a row is that of a virtual table, which is a program and has no pages. No list of trees can have it.
+fn is_left_out(row: &Row) -> bool
+    ensures { result ≡ is_left_out row.now }
+{
+    is_virtual(row.get(1), row.get(5)) & !is_text_only(row.get(1))
+}
+
+/// The rows that are neither those of these objects nor of virtual tables.
+pub(crate) fn others(
+    alloc: Global,
+    objects: &[Object<'_>],
+    rows: &[Row],
+) -> Result<Vec<Row>, AllocError>
+    ensures { IfOk result (λ all. all.items ≡ others objects.now rows.now) }
 {
     let mut all = Vec::new(alloc);
     for row in rows {
-        all.push(without_root(alloc, row)?)?;
+        if !(is_own(objects, row) | is_left_out(row)) {
+            all.push(row.copy(alloc)?)?;
+        }
     }
     Ok(all)
 }
 
-/// The row, less its root page, in which an object is listed as this tree.
-fn entry(alloc: Global, tree: usize, object: &Object<'_>) -> Result<Row, AllocError>
-    requires { tree < 2 ^ 32 }
-    ensures { IfOk result (λ row. row ≡ entry tree object.now) }
+/// Whether one of these objects is about a table.
+fn is_about(objects: &[Object<'_>], table: &[u8]) -> bool
+    ensures { result ≡ list_any (λ o. spec_same_name table.now o.table.now) objects.now }
 {
-    let mut row = Row::new(alloc);
-    row.push(ValueRef::Int((tree + 1) as i64))?;
-    row.push(ValueRef::Text(object.kind.as_bytes()))?;
-    row.push(ValueRef::Text(object.name.as_bytes()))?;
-    row.push(ValueRef::Text(object.table.as_bytes()))?;
-    match object.sql {
-        Some(sql) => row.push(ValueRef::Text(sql.as_bytes()))?,
-        None => row.push(ValueRef::Null)?,
-    }
-    Ok(row)
+    objects
+        .iter()
+        .any(|object| same_name(table, object.table.as_bytes()))
 }
 
-/// Whether these objects are the first of which the rows tell, in this order.
-pub(crate) fn are_first(
-    alloc: Global,
-    objects: &[Object<'_>],
-    rows: &[Row],
-) -> Result<bool, AllocError>
-    requires { length objects.now < 2 ^ 32 }
-    ensures { IfOk result (λ found. IsTrue found ↔ ListsFirst entry objects.now rows.now) }
+/// Whether one of these rows is.
+fn are_about(rows: &[Row], table: &[u8]) -> bool
+    ensures { result ≡ list_any (λ other. spec_same_name table.now (bytes (column other 3))) rows.now }
 {
-    for tree in 0..objects.len() {
-        let Some(row) = rows.get(tree) else {
-            return Ok(false);
-        };
-        if !row.is_same(&entry(alloc, tree, &objects[tree])?) {
-            return Ok(false);
-        }
-    }
-    Ok(true)
+    rows.iter()
+        .any(|other| same_name(table, bytes_of(other.get(3))))
 }
 
-/// Whether a row has a root page.
-fn has_root(row: &Row) -> bool
-    ensures { page_number (column row.now 4) ≡ 0 → result ≡ false }
+/// Whether none of these objects and rows is about a table.
+#[tactic(auto, unfolding(crate::specs::Catalog::is_free))]
+fn is_free(objects: &[Object<'_>], rows: &[Row], table: &[u8]) -> bool
+    ensures { result ≡ is_free objects.now rows.now table.now }
 {
-    match row.get(4) {
-        ValueRef::Int(page) => page > 0 && page <= i64::from(u32::MAX),
-        _ => false,
-    }
+    !(is_about(objects, table) | are_about(rows, table))
 }
 
-/// Whether a row is that of a table or an index with pages, or of a view. A trigger would have to be run by whoever writes
-/// below SQL, and a virtual table is a program.
-fn is_tree_or_view(row: &Row) -> bool
-    ensures { IsTrue result → IsTreeOrView row.now }
+/// Whether that is so of the table of each row that is left out.
+fn stand_apart(objects: &[Object<'_>], others: &[Row], rows: &[Row]) -> bool
+    ensures { result ≡ list_all (λ row. not (is_left_out row) || is_free objects.now others.now (bytes (column row 3))) rows.now }
 {
-    is_word(b"view", row.get(1)) || (has_root(row) && !is_word(b"trigger", row.get(1)))
+    rows.iter().all(|row| !is_left_out(row) | is_free(objects, others, bytes_of(row.get(3))))
 }
 
-/// Whether all rows are such.
-pub(crate) fn are_trees_and_views(rows: &[Row]) -> bool
-    ensures { IsTrue result → All IsTreeOrView rows.now }
+/// Whether a list of trees can be made of these rows: each object has its row, no two names are the same, and what is left
+/// out stands apart.
+pub(crate) fn can_be_listed(objects: &[Object<'_>], others: &[Row], rows: &[Row]) -> bool
+    ensures { IsTrue result → AreListed objects.now rows.now × StandApart objects.now others.now rows.now × AreInOrder rows.now }
 {
-    rows.iter().all(is_tree_or_view)
+    are_listed(objects, rows) && stand_apart(objects, others, rows) && are_in_order(rows, 1)
+}
+
+/// A row without its root page, as that of the tree with this number.
+fn numbered(alloc: Global, tree: usize, row: &Row) -> Result<Row, AllocError>
+    requires { tree < 2 ^ 62 }
+    ensures { IfOk result (λ all. all ≡ numbered tree row.now) }
+{
+    let mut all = Row::new(alloc);
+    all.push(ValueRef::Int((tree + 1) as i64))?;
+    all.push(row.get(1))?;
+    all.push(row.get(2))?;
+    all.push(row.get(3))?;
+    all.push(row.get(5))?;
+    Ok(all)
 }
 
 /// The shape of an index: it is written if a put keeps it, and else read as it is.
@@ -114,50 +165,129 @@ fn index_shape(alloc: Global, row: &Row) -> Result<Shape, AllocError>
 }
 
 /// The shape of a tree that is none of a store's own: one of another program is read as it is and never written.
-fn foreign_shape(alloc: Global, row: &Row, has_index_root: bool) -> Result<Shape, AllocError>
-    ensures { IfOk result (λ shape. shape ≡ foreign_shape row.now has_index_root) }
+fn foreign_shape(
+    alloc: Global,
+    tree: usize,
+    row: &Row,
+    has_index_root: bool,
+) -> Result<Shape, AllocError>
+    requires { tree < 2 ^ 62 }
+    ensures { IfOk result (λ shape. shape ≡ foreign_shape (numbered tree row.now) has_index_root) }
 {
-    if is_word(b"view", row.get(1)) {
+    if is_text_only(row.get(1)) {
         Ok(Shape::Pageless)
     } else if has_index_root {
-        index_shape(alloc, row)
+        index_shape(alloc, &numbered(alloc, tree, row)?)
     } else {
         Ok(Shape::FrozenTable)
     }
 }
 
-/// The shape and the REAL columns of the tree with this number, whose row this is.
-fn layout(
-    alloc: Global,
-    objects: &[Object<'_>],
-    tree: usize,
-    row: &Row,
-    has_index_root: bool,
-) -> Result<(Shape, u64), AllocError>
-    ensures first { IfOk result (λ layout. (o : Listed) → slice_get objects.now tree ≡ Some o → layout ≡ (o.shape, o.reals)) }
-    ensures other { IfOk result (λ layout. slice_get objects.now tree ≡ None → layout ≡ (foreign_shape row.now has_index_root, 0)) }
+/// A text, if it is in UTF-8.
+fn text_in(value: ValueRef<'_>) -> Option<&str>
+    ensures { IfSome result (λ text. owned value.entry ≡ Text text.now) }
 {
-    match objects.get(tree) {
-        Some(object) => Ok((object.shape, object.reals)),
-        None => Ok((foreign_shape(alloc, row, has_index_root)?, 0)),
+    match value {
+        ValueRef::Text(bytes) => from_utf8(bytes).ok(),
+        _ => None,
     }
 }
 
-/// The shape and the REAL columns of each row's tree, where these objects are the first.
-pub(crate) fn layouts(
+/// The same, or that there is none.
+fn text_or_none_in(value: ValueRef<'_>) -> Option<Option<&str>>
+    ensures { IfSome result (λ sql. owned value.entry ≡ text_or_null sql) }
+{
+    match value {
+        ValueRef::Null => Some(None),
+        _ => match text_in(value) {
+            Some(text) => Some(Some(text)),
+            None => None,
+        },
+    }
+}
+
+/// The tree of a row that is none of a store's own, if its texts are in UTF-8.
+fn foreign_tree<'a>(
     alloc: Global,
-    objects: &[Object<'_>],
-    rows: &[Row],
-    has_index_root: &[bool],
-) -> Result<Vec<(Shape, u64)>, AllocError>
-    requires { length has_index_root.now ≡ length rows.now }
-    ensures all { IfOk result (λ all. AreLayouts objects.now rows.now has_index_root.now all.items) }
-    ensures len { IfOk result (λ all. length all.items ≡ length rows.now) }
-    ensures first { IfOk result (λ all. (tree : _) (o : Listed) → tree < length rows.now → slice_get objects.now tree ≡ Some o → slice_get all.items tree ≡ Some (o.shape, o.reals)) }
+    tree: usize,
+    row: &'a Row,
+    has_index_root: bool,
+) -> Result<Option<Object<'a>>, AllocError>
+    requires { tree < 2 ^ 62 }
+    ensures { IfOk result (λ found. IfSome found (λ object. wanted_of object ≡ foreign_tree tree row.now has_index_root)) }
+{
+    let shape = foreign_shape(alloc, tree, row, has_index_root)?;
+    let Some(kind) = text_in(row.get(1)) else {
+        return Ok(None);
+    };
+    let Some(name) = text_in(row.get(2)) else {
+        return Ok(None);
+    };
+    let Some(table) = text_in(row.get(3)) else {
+        return Ok(None);
+    };
+    let Some(sql) = text_or_none_in(row.get(5)) else {
+        return Ok(None);
+    };
+    Ok(Some(Object {
+        shape,
+        kind,
+        name,
+        table,
+        reals: 0,
+        sql,
+    }))
+}
+
+/// An object, as long as it is borrowed.
+fn own_tree<'a>(object: &'a Object<'_>) -> Object<'a>
+    ensures { wanted_of result ≡ wanted_of object.now }
+{
+    Object {
+        shape: object.shape,
+        kind: object.kind,
+        name: object.name,
+        table: object.table,
+        reals: object.reals,
+        sql: match object.sql {
+            Some(text) => Some(text),
+            None => None,
+        },
+    }
+}
+
+/// These objects, as long as they are borrowed.
+fn own_trees<'a>(alloc: Global, objects: &'a [Object<'_>]) -> Result<Vec<Object<'a>>, AllocError>
+    ensures { IfOk result (λ all. map wanted_of all.items ≡ map wanted_of objects.now) }
 {
     let mut all = Vec::new(alloc);
-    for tree in 0..rows.len() {
-        all.push(layout(alloc, objects, tree, &rows[tree], has_index_root[tree])?)?;
+    for object in objects {
+        all.push(own_tree(object))?;
     }
     Ok(all)
+}
+
+/// The whole list: these objects, and the trees of these rows behind them, if their texts are in UTF-8. Of each of the rows
+/// it is said whether its root page begins an index.
+pub(crate) fn trees_of<'a>(
+    alloc: Global,
+    objects: &'a [Object<'_>],
+    rows: &'a [Row],
+    roots: &[bool],
+) -> Result<Option<Vec<Object<'a>>>, AllocError>
+    requires same { length roots.now ≡ length rows.now }
+    requires few { length objects.now < 2 ^ 32 }
+    ensures { IfOk result (λ found. IfSome found (λ all. map wanted_of all.items ≡ trees_of objects.now rows.now roots.now)) }
+{
+    if rows.len() > MAX_TREES {
+        return Ok(None);
+    }
+    let mut all = own_trees(alloc, objects)?;
+    for at in 0..rows.len() {
+        let Some(object) = foreign_tree(alloc, objects.len() + at, &rows[at], roots[at])? else {
+            return Ok(None);
+        };
+        all.push(object)?;
+    }
+    Ok(Some(all))
 }

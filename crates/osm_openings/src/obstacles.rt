@@ -1,10 +1,10 @@
 //! What stands in the way of a database that can't be opened.
 
 ghost use Rattle.std.specs.Prelude.{◌≡◌, IsTrue};
-ghost use Rattle.osm_openings.specs.Obstacles.{binds_a_store, is_virtual_table, stands_in_the_way};
+ghost use Rattle.osm_openings.specs.Obstacles.{is_virtual_table, stands_in_the_way};
 
 use crate::opening::page_size;
-use osm_added_indexes::is_of_a_store;
+use osm_added_indexes::binds_a_store;
 use sqlite_disk::{Disk, Files};
 use sqlite_pager::{Options, Pager};
 use sqlite_store::{OpenError, Unopened};
@@ -56,13 +56,6 @@ fn is_auto_vacuumed<D: Disk>(db: &mut D) -> bool
 {
     let mut root = [0; 4];
     db.read_at(LARGEST_ROOT, &mut root).is_ok() && root != [0; 4]
-}
-
-/// Whether a row tells of a trigger on a table of a store.
-fn binds_a_store(row: &Row) -> bool
-    ensures { result ≡ binds_a_store row.now }
-{
-    is_word(b"trigger", row.get(1)) && is_of_a_store(bytes_of(row.get(3)))
 }
 
 /// Whether a row tells of a table without pages of its own.

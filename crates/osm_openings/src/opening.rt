@@ -1,17 +1,17 @@
 //! A database file, opened by the list of its trees alone, or with a look at each page and tree.
 
-ghost use Rattle.std.specs.Prelude.{◌≡◌, ◌<◌, ◌^◌, None, length, false, IsTrue, IfOk, IfSome};
-ghost use Rattle.sqlite_trees.specs.Objects.{catalog_tree, object_row};
+ghost use Rattle.std.specs.Prelude.{◌≡◌, ◌<◌, ◌^◌, None, length, map, false, IsTrue, IfOk, IfSome};
+ghost use Rattle.sqlite_trees.specs.Objects.{catalog_tree};
+ghost use Rattle.sqlite_store.specs.Catalog.{wanted_of};
 ghost use Rattle.sqlite_store.specs.FileStore.{view, is_shielded, IsReady};
-ghost use Rattle.sqlite_store.specs.Listing.{listed_from};
 ghost use Rattle.sqlite_store.specs.Unopened.{files_of, state_of, wanted_by, AreUsable};
 ghost use Rattle.sqlite_wal.specs.Files.{seen_image};
 ghost use Rattle.sqlite_wal.specs.PageSize.{bytes_of};
 ghost use Rattle.sqlite_wal.specs.Reads.{AreClean};
 ghost use Rattle.osm_openings.specs.Catalog.{ListsFirst};
-ghost use Rattle.osm_openings.specs.Presumed.{IsPresumed, NamesSize, ReadsRows, ReadsAs, Lists};
+ghost use Rattle.osm_openings.specs.Presumed.{IsPresumed, NamesSize, ReadsRows, ReadsAs, Lists, trees_of};
 
-use crate::catalog::{are_first, are_trees_and_views, layouts, without_roots};
+use crate::catalog::{can_be_listed, others, trees_of};
 use sqlite_disk::{Disk, Files};
 use sqlite_pager::{Options, Pager};
 use sqlite_store::{FileStore, OpenError, Unopened};
@@ -46,12 +46,13 @@ pub(crate) fn page_size<D: Disk>(
     }
 }
 
-/// The files as they are before they are opened: no tree of theirs is known, and their pages end in no sums.
+/// The files as they are before they are opened, with this list of their trees. Their pages end in no sums.
 fn unopened<D: Disk + Drop>(
     alloc: Global,
     files: Files<D>,
     size: PageSize,
     options: Options,
+    trees: &[Object<'_>],
 ) -> Result<Unopened<D>, AllocError>
     requires log { IsTrue (D.Disk.is_usable files.log) }
     requires db { IsTrue (D.Disk.is_usable files.db) }
@@ -59,9 +60,10 @@ fn unopened<D: Disk + Drop>(
     ensures usable { IfOk result AreUsable }
     ensures size { IfOk result (λ it. (state_of it).page_size ≡ bytes_of size) }
     ensures honest { IfOk result (λ it. IsTrue (state_of it).is_clean → AreClean D.Disk files.log files.db) }
+    ensures trees { IfOk result (λ it. wanted_by it ≡ map wanted_of trees.now) }
 {
     let pager = Pager::new(alloc, files, size, options)?;
-    let unopened = Unopened::new(alloc, pager, &[])?;
+    let unopened = Unopened::new(alloc, pager, trees)?;
     Ok(unopened)
 }
 
@@ -75,56 +77,98 @@ fn unread<T>(error: OpenError) -> Result<Option<T>, AllocError>
     }
 }
 
-/// The rows of `sqlite_schema` less their root pages, and whether each root page begins an index; none where a trigger or a
-/// virtual table stands among them.
+/// The rows of `sqlite_schema` that tell of other trees than those of these objects, or of texts alone, and whether each root
+/// page begins an index; none where no list of trees can be made of its rows.
 fn read_rows<D: Disk>(
     alloc: Global,
     files: &mut Unopened<D>,
+    objects: &[Object<'_>],
 ) -> Result<Option<(Vec<Row>, Vec<bool>)>, AllocError>
     requires { AreUsable files.old }
     ensures usable { IfOk result (λ found. IfSome found (λ _. AreUsable files.new)) }
     ensures len { IfOk result (λ found. IfSome found (λ read. length read.1.items ≡ length read.0.items)) }
-    ensures read { IfOk result (λ found. IfSome found (λ read. IsTrue (state_of files.new).is_clean → ReadsRows files.old files.new read.0.items read.1.items)) }
+    ensures read { IfOk result (λ found. IfSome found (λ read. IsTrue (state_of files.new).is_clean → ReadsRows objects.now files.old files.new read.0.items read.1.items)) }
 {
     let entries = match files.read_catalog() {
         Ok(entries) => entries,
         Err(error) => return unread(error),
     };
-    if !are_trees_and_views(entries.as_slice()) {
+    let rows = others(alloc, objects, entries.as_slice())?;
+    if !can_be_listed(objects, rows.as_slice(), entries.as_slice()) {
         return Ok(None);
     }
-    let roots = match files.index_roots(entries.as_slice()) {
+    let roots = match files.index_roots(rows.as_slice()) {
         Ok(roots) => roots,
         Err(error) => return unread(error),
     };
-    let rows = without_roots(alloc, entries.as_slice())?;
     Ok(Some((rows, roots)))
 }
 
-/// Whether the files list these objects first, and no trigger or virtual table. They are then given the whole list.
-fn list<D: Disk>(
+/// The files with the list of these objects, and of the trees of these rows behind them, if their texts are in UTF-8. Else they
+/// are closed.
+fn listed<'a, D: Disk + Drop>(
     alloc: Global,
-    files: &mut Unopened<D>,
-    objects: &[Object<'_>],
-) -> Result<bool, AllocError>
-    requires usable { AreUsable files.old }
+    files: Files<D>,
+    size: PageSize,
+    options: Options,
+    objects: &'a [Object<'_>],
+    rows: &'a [Row],
+    roots: &[bool],
+) -> Result<Option<Unopened<D>>, AllocError>
+    requires log { IsTrue (D.Disk.is_usable files.log) }
+    requires db { IsTrue (D.Disk.is_usable files.db) }
+    requires same { length roots.now ≡ length rows.now }
     requires few { length objects.now < 2 ^ 32 }
-    ensures usable { IfOk result (λ found. IsTrue found → AreUsable files.new) }
-    ensures listed { IfOk result (λ found. IsTrue found → ListsFirst object_row objects.now (listed_from 0 (wanted_by files.new))) }
-    ensures lists { IfOk result (λ found. IsTrue found → IsTrue (state_of files.new).is_clean → Lists objects.now files.old files.new) }
+    ensures files { IfOk result (λ found. IfSome found (λ it. files_of it ≡ (files.log, files.db))) }
+    ensures usable { IfOk result (λ found. IfSome found AreUsable) }
+    ensures size { IfOk result (λ found. IfSome found (λ it. (state_of it).page_size ≡ bytes_of size)) }
+    ensures honest { IfOk result (λ found. IfSome found (λ it. IsTrue (state_of it).is_clean → AreClean D.Disk files.log files.db)) }
+    ensures trees { IfOk result (λ found. IfSome found (λ it. wanted_by it ≡ trees_of objects.now rows.now roots.now)) }
 {
-    let Some((rows, roots)) = read_rows(alloc, files)? else {
-        return Ok(false);
+    let Some(trees) = trees_of(alloc, objects, rows, roots)? else {
+        return Ok(None);
     };
-    if !are_first(alloc, objects, rows.as_slice())? {
-        return Ok(false);
-    }
-    let layouts = layouts(alloc, objects, rows.as_slice(), roots.as_slice())?;
-    files.list_schema(rows.as_slice(), layouts.as_slice())
+    let it = unopened(alloc, files, size, options, trees.as_slice())?;
+    Ok(Some(it))
 }
 
-/// The trees of the files, if they are a database that lists these objects first, so that each has its place among them as
-/// its number. If they aren't, the files are closed. No tree is read but the list: that the others are sound is presumed.
+/// The files with the list of all their trees, these objects first, if such a list can be made of what they hold. If it can't,
+/// they are closed.
+fn list<D: Disk + Drop>(
+    alloc: Global,
+    mut files: Unopened<D>,
+    size: PageSize,
+    options: Options,
+    objects: &[Object<'_>],
+) -> Result<Option<Unopened<D>>, AllocError>
+    requires usable { AreUsable files }
+    requires sized { (state_of files).page_size ≡ bytes_of size }
+    requires few { length objects.now < 2 ^ 32 }
+    ensures usable { IfOk result (λ found. IfSome found AreUsable) }
+    ensures lists { IfOk result (λ found. IfSome found (λ new. IsTrue (state_of new).is_clean → Lists objects.now files new)) }
+{
+    let Some((rows, roots)) = read_rows(alloc, &mut files, objects)? else {
+        return Ok(None);
+    };
+    let both = files.close();
+    let Some(new) = listed(
+        alloc,
+        both,
+        size,
+        options,
+        objects,
+        rows.as_slice(),
+        roots.as_slice(),
+    )?
+    else {
+        return Ok(None);
+    };
+    Ok(Some(new))
+}
+
+/// The trees of the files, if they are a database that lists these objects, each of which has its place among them as its
+/// number, whatever else it lists. If they aren't, the files are closed. No tree is read but the list: that the others are
+/// sound is presumed.
 pub(crate) fn open_listed<D: Disk + Drop>(
     alloc: Global,
     mut files: Files<D>,
@@ -137,24 +181,24 @@ pub(crate) fn open_listed<D: Disk + Drop>(
     requires presumed { IsPresumed objects.now (seen_image D.Disk files.log files.db) }
     ensures ready { IfOk result (λ found. IfSome found IsReady) }
     ensures plain { IfOk result (λ found. IfSome found (λ store. IsTrue (view store).is_clean → (view store).has_sums ≡ false)) }
-    ensures listed { IfOk result (λ found. IfSome found (λ store. IsTrue (view store).is_clean → ListsFirst object_row objects.now ((view store).trees catalog_tree))) }
+    ensures listed { IfOk result (λ found. IfSome found (λ store. IsTrue (view store).is_clean → ListsFirst objects.now ((view store).trees catalog_tree))) }
     ensures reads { IfOk result (λ found. IfSome found (λ store. IsTrue (view store).is_clean → ReadsAs (seen_image D.Disk files.log files.db) (view store).trees)) }
 {
     let Some(size) = page_size(alloc, &mut files)? else {
         return Ok(None);
     };
-    let mut unopened = unopened(alloc, files, size, options)?;
-    if !list(alloc, &mut unopened, objects)? {
+    let unlisted = unopened(alloc, files, size, options, &[])?;
+    let Some(listed) = list(alloc, unlisted, size, options, objects)? else {
         return Ok(None);
-    }
-    match unopened.open_trusted() {
+    };
+    match listed.open_trusted() {
         Ok(store) => Ok(Some(store)),
         Err((error, _)) => unread(error),
     }
 }
 
-/// The trees of the files, if they are a sound database that lists these objects first, so that each has its place among
-/// them as its number. If they aren't, the files are closed.
+/// The trees of the files, if they are a sound database that lists these objects, each of which has its place among them as
+/// its number. If they aren't, the files are closed.
 pub(crate) fn open_checked<D: Disk + Drop>(
     alloc: Global,
     mut files: Files<D>,
@@ -167,17 +211,17 @@ pub(crate) fn open_checked<D: Disk + Drop>(
     ensures ready { IfOk result (λ found. IfSome found IsReady) }
     ensures plain { IfOk result (λ found. IfSome found (λ store. IsTrue (view store).is_clean → (view store).has_sums ≡ false)) }
     ensures shielded { IfOk result (λ found. IfSome found (λ store. IsTrue (view store).is_clean → is_shielded store)) }
-    ensures listed { IfOk result (λ found. IfSome found (λ store. IsTrue (view store).is_clean → ListsFirst object_row objects.now ((view store).trees catalog_tree))) }
+    ensures listed { IfOk result (λ found. IfSome found (λ store. IsTrue (view store).is_clean → ListsFirst objects.now ((view store).trees catalog_tree))) }
     ensures reads { IfOk result (λ found. IfSome found (λ store. IsTrue (view store).is_clean → ReadsAs (seen_image D.Disk files.log files.db) (view store).trees)) }
 {
     let Some(size) = page_size(alloc, &mut files)? else {
         return Ok(None);
     };
-    let mut unopened = unopened(alloc, files, size, options)?;
-    if !list(alloc, &mut unopened, objects)? {
+    let unlisted = unopened(alloc, files, size, options, &[])?;
+    let Some(listed) = list(alloc, unlisted, size, options, objects)? else {
         return Ok(None);
-    }
-    match unopened.open_numbered() {
+    };
+    match listed.open() {
         Ok(store) => Ok(Some(store)),
         Err((error, _)) => unread(error),
     }

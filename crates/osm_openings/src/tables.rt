@@ -104,7 +104,8 @@ fn of_version<S: Store + Drop>(alloc: Global, mut store: S) -> Result<Option<S>,
 /// That the other pages are sound is presumed. Where they aren't, the read that comes to such a page answers a fault, or
 /// takes the page for what it seems; `open_checked_tables` looks at all of them.
 ///
-/// Whatever else the database has stands behind the store's own trees, and there is no trigger or virtual table.
+/// Whatever else the database has, and wherever `sqlite_schema` lists it, stands behind the store's own trees, but for virtual
+/// tables, which have no tree.
 pub fn open_tables<D: Disk + Drop>(
     alloc: Global,
     files: Files<D>,

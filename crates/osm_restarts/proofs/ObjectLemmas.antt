@@ -1,5 +1,5 @@
 -- The trees of a store as objects, and what lists of them have no other tree than these.
-use Rattle.std.proofs.Common.{◌⊎◌, ◌≡◌, ◌∙◌, ◌+◌, ℕ, zero, suc, pos, Bool, true, false, not, eqb, ◌&&◌, ◌||◌, List, [], ◌∷◌, refl, sym, ap, subst, inl, inr, arith, codes}
+use Rattle.std.proofs.Common.{◌⊎◌, ◌≡◌, ◌∙◌, ◌+◌, ℕ, zero, suc, pos, Bool, true, false, not, eqb, ◌&&◌, ◌||◌, List, [], ◌∷◌, map, refl, sym, ap, subst, inl, inr, arith, codes}
 use Rattle.std.specs.Prelude.{Some, slice_get, filter}
 use Rattle.std.specs.List.{AllZip, list_all}
 use Rattle.std.specs.Float.Ieee
@@ -12,7 +12,7 @@ use Rattle.sqlite_trees.specs.declared.store.Shape.TheVariants.{Table, Index}
 use Rattle.sqlite_trees.specs.declared.schema.Object.{Object}
 use Rattle.sqlite_trees.specs.Objects.{description, number_in, shape_code, listing, object_row}
 use Rattle.sqlite_trees.specs.Listing.{same_code}
-use Rattle.sqlite_trees.specs.Sound.{begins, same_name, is_word, is_virtual}
+use Rattle.sqlite_trees.specs.Sound.{begins, same_name, is_word, is_virtual, head_at, may_follow, are_in_order}
 use Rattle.sqlite_schema.specs.declared.schema.Table.{Table as SqlTable}
 use Rattle.sqlite_schema.specs.declared.schema.Index.{Index as SqlIndex}
 use Rattle.osm_store.specs.Schema.Bodies.{meta, blob}
@@ -25,7 +25,7 @@ use Rattle.osm_openings.specs.Catalog.{listings}
 use Rattle.osm_tree_writes.specs.Beside.{ListsAlone}
 use Rattle.osm_tree_writes.specs.Tables.{table_listings}
 use Rattle.osm_restarts.proofs.PlaceLemmas.{all_at}
-use Rattle.osm_restarts.proofs.ListedLemmas.{listed_at}
+use Rattle.osm_restarts.proofs.ListedLemmas.{listed_at, named_once}
 use Rattle.osm_restarts.proofs.OneList.{numbered}
 use Rattle.osm_restarts.proofs.SchemaLemmas.{Knows, HasPages, HasOnly}
 
@@ -78,6 +78,16 @@ have_pages objects are t o at =
     let row = object_row (0 + t) o in
     let there : slice_get table_listings t ≡ Some row = ap (λ (rows : List Row). slice_get rows t) (sym are) ∙ listings_at 0 objects t o at in
     sized_by o row (0 + t) refl (all_at fits_row table_listings t row tables_fit there)
+
+-- ---- no two of them have one name
+tables_ordered : are_in_order [] (map (head_at 1) table_listings) ≡ true
+unfolding may_follow same_name value_cmp Ieee.lt Ieee.is_nan
+tables_ordered = refl
+
+pub names_apart : (objects : List Object) → listings 0 objects ≡ table_listings → (t u : ℕ) (o p : Object) → slice_get objects t ≡ Some o → slice_get objects u ≡ Some p → o.name.now ≡ p.name.now → t ≡ u
+names_apart objects are t u o p at there same =
+    named_once [] table_listings t u (object_row (0 + t) o) (object_row (0 + u) p) tables_ordered
+    (ap (λ (rows : List Row). slice_get rows t) (sym are) ∙ listings_at 0 objects t o at) (ap (λ (rows : List Row). slice_get rows u) (sym are) ∙ listings_at 0 objects u p there) (ap Text same)
 
 -- ---- which trees a list has
 zip_at : {A B : Type 0} (R : A → B → Type 0) (p : A → Bool) (xs : List A) (ys : List B) (k : ℕ) (x : A) → AllZip R (filter p xs) ys → slice_get xs k ≡ Some x → p x ≡ true

@@ -103,6 +103,13 @@ is_text_of (Real x) t same = absurd (let e = class_tied (Real x) (Text t) (tied 
 is_text_of (Blob b) t same = absurd (let e = class_tied (Blob b) (Text t) (tied _ same) in omega (arith, e))
 is_text_of (Text s) t same = ap Text (exact_bytes s t (sym (value_cmp-Text s t) ∙ tied _ same))
 
+pub is_null_of : (v : Value) → same_value v Null ≡ true → v ≡ Null
+is_null_of Null same = refl
+is_null_of (Int n) same = absurd (let e = class_tied (Int n) Null (tied _ same) in omega (arith, e))
+is_null_of (Real x) same = absurd (let e = class_tied (Real x) Null (tied _ same) in omega (arith, e))
+is_null_of (Text s) same = absurd (let e = class_tied (Text s) Null (tied _ same) in omega (arith, e))
+is_null_of (Blob b) same = absurd (let e = class_tied (Blob b) Null (tied _ same) in omega (arith, e))
+
 pub is_some_text : (v : Value) → class v ≡ 2 → (t : List ℕ) × (v ≡ Text t)
 is_some_text Null h = absurd (omega (arith, h))
 is_some_text (Int n) h = absurd (omega (arith, h))

@@ -19,15 +19,14 @@ use Rattle.sqlite_store.specs.declared.store.FileStore.{FileStore}
 use Rattle.sqlite_store.specs.FileStore.{state, recovers, schema_in}
 use Rattle.sqlite_store.specs.Listed.{catalog_rows}
 use Rattle.sqlite_store.specs.Listing.{listed_from, file_trees}
-use Rattle.sqlite_store.specs.Roots.{has_index_root}
 use Rattle.osm_openings.specs.Catalog.{listings}
 use Rattle.osm_tree_writes.specs.Beside.{ListsAlone}
 use Rattle.osm_tree_writes.specs.Tables.{table_listings}
-use Rattle.osm_openings.specs.Presumed.{AreSound, NamesSize, ArePresumedTables}
+use Rattle.osm_openings.specs.Presumed.{AreSound, NamesSize, ArePresumedTables, trees_in}
 use Rattle.osm_restarts.specs.Left.{ListsAStore}
 use Rattle.osm_restarts.proofs.FoundLemmas.{file_found}
 use Rattle.osm_restarts.proofs.SchemaLemmas.{relisted}
-use Rattle.osm_restarts.proofs.ObjectLemmas.{have_pages, only_own}
+use Rattle.osm_restarts.proofs.ObjectLemmas.{have_pages, names_apart, only_own}
 
 -- the files of pages with no sums name the size of the pages
 no_sum : (size : ℕ) → is_summed size ≡ false → stored_size size ≡ size
@@ -47,12 +46,12 @@ one_size image size other pages found large plain sound names =
           absurd (unread (λ ignored. apart (names.by_file ignored ∙ size_by_file size image pages adopted large sound ignored ∙ whole)))
     ]
 
--- the pages are a database of each list of trees that says what theirs says
+-- the pages are a database of the list of trees that is made of their rows
 pub sound_again : (objects : List Object) → listings 0 objects ≡ table_listings → (size : ℕ) (schema : List Wanted) (pages : PageMap)
     → ListsAlone (listed_from 0 schema) ⊎ (listed_from 0 schema ≡ []) → IsFile size schema pages → AreSound objects size pages
-sound_again objects are size schema pages lists file first trees new layouts laid listed =
-    relisted objects size pages (has_index_root (in_use size pages)) layouts schema new
-    (record { first = first; trees = trees; laid = laid; lists = listed; only = only_own objects schema are lists; sized = have_pages objects are; known = file.db.known }) file
+sound_again objects are size schema pages lists file listed apart ordered =
+    relisted objects size pages schema
+    (record { listed = listed; apart = apart; only = only_own objects schema are lists; sized = have_pages objects are; named = names_apart objects are; known = file.db.known }) file
 
 pub presumed_again : (objects : List Object) → listings 0 objects ≡ table_listings → (image : Image) (size : ℕ) (schema : List Wanted) (pages : PageMap) → Recovers size image pages → 504 ≤ size
     → is_summed size ≡ false → ListsAlone (listed_from 0 schema) ⊎ (listed_from 0 schema ≡ []) → IsFile size schema pages
@@ -76,9 +75,9 @@ module _ {D : Type 0} {g : Ghosts D} (it : FileStore D g) where
   file_left image may = ∥∥₁_elim it.safe squash₁ (λ all. let left = all image may in ∥∥₁_map left.2 (λ ours. (left.0, left.1, ours.file)))
 
   pub left_may_be_opened : is_summed bytes ≡ false → ((db : Trees) → recovers it db → ListsAStore db) → (image : Image) → (state it).may_leave image → ArePresumedTables image
-  left_may_be_opened plain lists image may objects are other others names again first trees new layouts laid listed =
-      file_found other new others (∥∥₁_map (file_left image may) (λ left.
+  left_may_be_opened plain lists image may objects are other others names again listed apart ordered =
+      file_found other (trees_in objects other others) others (∥∥₁_map (file_left image may) (λ left.
       let pages = left.0 in
       let schema = schema_in it pages in
       let read = subst (λ rows. ListsAlone rows ⊎ (rows ≡ [])) (catalog_rows bytes schema (in_use bytes pages)) (lists (file_trees bytes schema pages) (image, pages, may, ∣ left.1 ∣₁, refl)) in
-      presumed_again objects are image bytes schema pages left.1 large_enough plain read left.2 other others names again first trees new layouts laid listed))
+      presumed_again objects are image bytes schema pages left.1 large_enough plain read left.2 other others names again listed apart ordered))

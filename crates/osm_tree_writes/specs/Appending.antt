@@ -70,7 +70,7 @@ RiseFrom shapes low [] = Unit {0}
 RiseFrom shapes low (i ∷ is) = (low ≤ i.tree) × (i.tree < 2 ^ 32) × ((i.table ≡ 2) ⊎ ((i.table ≡ 4) ⊎ (i.table ≡ 6))) × (shapes i.tree ≡ Index i.order) × RiseFrom shapes (i.tree + 1) is
 
 -- A put can write to trees of these shapes with this list of objects: they have the tables of a store, their indexes, and
--- each index that somebody has added.
+-- each index that somebody has added, and no trigger is on one of the tables.
 pub record TakeBlobs (shapes : ℕ → Shape) (objects : List Row) : Type 0 where
   pub store : IsStoreAt shapes
   pub kept : AreKept objects

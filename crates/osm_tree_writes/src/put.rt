@@ -44,7 +44,7 @@ fn has_tables<S: Store>(store: &S) -> bool
 }
 
 /// The indexes that somebody has added to the tables of a store, each of which has to get the entries of the rows that a put
-/// writes; none where a put can't write to these trees.
+/// writes; none where a put can't write to these trees, as where a trigger is on one of the tables.
 fn indexes_to_keep<S: Alter>(alloc: Global, store: &S) -> Result<Option<Vec<Index>>, AllocError>
     ensures shaped { IfOk result (λ found. IfSome found (λ more. IsStoreAt (S.Store.view store.now).shape × RiseFrom (S.Store.view store.now).shape 9 more.items)) }
     ensures all { IfOk result (λ found. IfSome found (λ more. IsClean (S.Store.view store.now) → AreKept ((S.Store.view store.now).trees catalog_tree) × (more.items ≡ plain_indexes ((S.Store.view store.now).trees catalog_tree)))) }
@@ -61,9 +61,9 @@ fn indexes_to_keep<S: Alter>(alloc: Global, store: &S) -> Result<Option<Vec<Inde
     }
 }
 
-/// Whether a put can write to these trees: they have the tables of a store and their indexes, and each index that somebody
-/// has added to these tables is one that a put keeps (`osm_added_indexes::plain_index`). Views, and tables of other names
-/// with their indexes, may stand beside them.
+/// Whether a put can write to these trees: they have the tables of a store and their indexes, each index that somebody has
+/// added to these tables is one that a put keeps (`osm_added_indexes::plain_index`), and no trigger is on one of them. Views,
+/// tables of other names with their indexes, and triggers on those may stand beside them.
 pub fn takes_blobs<S: Alter>(alloc: Global, store: &S) -> Result<bool, AllocError>
     ensures store { IfOk result (λ takes. IsTrue takes → IsStoreAt (S.Store.view store.now).shape) }
     ensures indexed { IfOk result (λ takes. IsTrue takes → IsClean (S.Store.view store.now) → TakeBlobs (S.Store.view store.now).shape ((S.Store.view store.now).trees catalog_tree)) }

@@ -156,9 +156,9 @@ const fn behind(obstacle: Obstacle) -> Found {
     (None, None, Some((obstacle, false)))
 }
 
-/// It isn't opened, and an object named `told` stands in the way.
-const fn behind_told(obstacle: Obstacle) -> Found {
-    (None, None, Some((obstacle, true)))
+/// It is opened, and an object named `told` would stand in the way of SQL.
+const fn beside_told(obstacle: Obstacle) -> Found {
+    (Some(Held::All), Some(Held::All), Some((obstacle, true)))
 }
 
 /// What a store holds that is opened by its list.
@@ -236,6 +236,8 @@ fn sound_databases(rt: HostRuntime) -> Result<(), Fail> {
         "CREATE TABLE mine (name TEXT); INSERT INTO mine VALUES ('a')",
         "CREATE INDEX mine ON tag (key, val)",
         "CREATE VIEW node AS SELECT * FROM element WHERE kind = 0",
+        // the list then has the last of the store's own trees behind another
+        "DROP INDEX element_by_id; CREATE TABLE mine (name TEXT); CREATE INDEX element_by_id ON element (kind, id)",
     ];
     for sql in CHANGES {
         assert_eq!(rt; found_after(rt.alloc(), sql)?, SOUND, "{sql}");
@@ -346,7 +348,8 @@ fn headers_that_stand_in_the_way(rt: HostRuntime) -> Result<(), Fail> {
 /// table and text stand before them, each as 13 and twice the length.
 #[test]
 fn a_trigger_on_a_table(rt: HostRuntime) -> Result<(), Fail> {
-    const SQL: &str = "CREATE VIEW told AS SELECT kind, pos, user FROM element";
+    const SQL: &str =
+        "CREATE TABLE way (id INTEGER); CREATE VIEW told AS SELECT kind, pos, user FROM element";
     const VIEW: &[u8] =
         b"\x06\x15\x15\x15\x08\x7BviewtoldtoldCREATE VIEW told AS SELECT kind, pos, user FROM element";
     const TRIGGER: &[u8] =
@@ -354,9 +357,9 @@ fn a_trigger_on_a_table(rt: HostRuntime) -> Result<(), Fail> {
     const OTHER_TRIGGER: &[u8] =
         b"\x06\x1B\x15\x13\x08\x77triggertoldwayCREATE TRIGGER told INSERT ON way BEGIN SELECT 1; END";
     let found = found_retold(rt.alloc(), SQL, VIEW, TRIGGER)?;
-    assert_eq!(rt; found, behind_told(Obstacle::Trigger));
+    assert_eq!(rt; found, beside_told(Obstacle::Trigger));
     let found = found_retold(rt.alloc(), SQL, VIEW, OTHER_TRIGGER)?;
-    assert_eq!(rt; found, NO_STORE);
+    assert_eq!(rt; found, SOUND);
     Ok(())
 }
 
@@ -369,6 +372,6 @@ fn a_virtual_table(rt: HostRuntime) -> Result<(), Fail> {
     const TABLE: &[u8] =
         b"\x06\x17\x15\x15\x08\x63tabletoldtoldCREATE VIRTUAL TABLE told USING fts5 (word)";
     let found = found_retold(rt.alloc(), SQL, VIEW, TABLE)?;
-    assert_eq!(rt; found, behind_told(Obstacle::VirtualTable));
+    assert_eq!(rt; found, beside_told(Obstacle::VirtualTable));
     Ok(())
 }

@@ -1,6 +1,7 @@
 use Rattle.std.proofs.Common.{◌≡◌, ◌∙◌, sym, ap, subst, IsTrue}
 use Rattle.std.proofs.lemmas.Result.{IfOk-weaker}
-use Rattle.sqlite_trees.specs.Objects.{catalog_tree, object_row}
+use Rattle.sqlite_trees.specs.Objects.{catalog_tree}
+use Rattle.sqlite_store.specs.Listing.{listed_from}
 use Rattle.sqlite_pool.specs.Stored.{Recovers, is_summed}
 use Rattle.sqlite_store.specs.Db.{IsFile}
 use Rattle.sqlite_store.specs.FileStore.{state, view}
@@ -9,7 +10,7 @@ use Rattle.sqlite_wal.specs.Files.{seen_image}
 use Rattle.sqlite_wal.specs.Reads.{AreClean}
 use Rattle.osm_openings.specs.Catalog.{ListsFirst}
 use Rattle.osm_openings.specs.Presumed.{NamesSize, IsPresumed}
-use Rattle.osm_openings.proofs.OpeningLemmas.{if_none, listed_in, of_some, same_pages, plain_size, trees_are, reads_as}
+use Rattle.osm_openings.proofs.OpeningLemmas.{if_none, listed_in, lists_first, of_some, same_pages, plain_size, trees_are, reads_as}
 use Rattle.osm_openings.proofs.opening.open_listed.Goals as goal
 
 pub returns-clause-ready : goal.returns-clause-ready
@@ -28,32 +29,35 @@ pub open_trusted-requires-clause-sound : goal.open_trusted-requires-clause-sound
 open_trusted-requires-clause-sound g c =
     λ now.
     let disk = g.D.Disk in
-    let h = c.in_ok-list.ensures.lists c.if-not-branch.false now in
-    let unopened = c.in_ok-unopened.unopened in
-    let files = c.in_ok-unopened.ensures.files in
-    let clean : AreClean disk c.page_size.new.files.log c.page_size.new.files.db = c.in_ok-unopened.ensures.honest h.clean in
+    let h = of_some _ _ _ c.in-Some-2.is c.in_ok-listed.ensures.lists now in
+    let unopened = c.in_ok-unlisted.unlisted in
+    let files = c.in_ok-unlisted.ensures.files in
+    let clean : AreClean disk c.page_size.new.files.log c.page_size.new.files.db = c.in_ok-unlisted.ensures.honest h.clean in
     let images : image unopened ≡ seen_image disk c.args.files.log c.args.files.db =
     ap (λ p. seen_image disk p.0 p.1) files ∙ of_some _ _ _ c.in-Some.is c.in_ok-size.ensures.same in
-    let size = c.in_ok-unopened.ensures.size in
+    let size = c.in_ok-unlisted.ensures.size in
     let names = of_some _ _ _ c.in-Some.is c.in_ok-size.ensures.named clean in
     let is = h.file (subst (λ i. NamesSize i (state_of unopened).page_size) (sym images) (subst (NamesSize _) (sym size) names))
     (subst (IsPresumed c.args.objects.now) (sym images) c.requires.presumed) in
-    (h.pages, h.again, subst (λ n. IsFile n (wanted_by c.list.new.files) h.pages) (sym h.size) is)
+    (h.pages, h.again, subst (λ n. IsFile n (wanted_by c.in-Some-2.listed) h.pages) (sym h.size) is)
 
 pub returns-in-Ok-clause-plain : goal.returns-in-Ok-clause-plain
 returns-in-Ok-clause-plain g c =
     λ now.
     let e = c.in-Ok.ensures in
-    let h = c.in_ok-list.ensures.lists c.if-not-branch.false (e.honest now) in
-    let sizes = (e.kept now).size ∙ h.size ∙ c.in_ok-unopened.ensures.size in
+    let h = of_some _ _ _ c.in-Some-2.is c.in_ok-listed.ensures.lists (e.honest now) in
+    let sizes = (e.kept now).size ∙ h.size ∙ c.in_ok-unlisted.ensures.size in
     ap is_summed sizes ∙ plain_size c.in-Some.size.bytes c.in-Some.size.aligned
 
 pub returns-in-Ok-clause-listed : goal.returns-in-Ok-clause-listed
 returns-in-Ok-clause-listed g c =
     λ now.
     let e = c.in-Ok.ensures in
-    let reads = trees_are c.in-Ok.store e.ready now (wanted_by c.list.new.files) e.schema in
-    subst (ListsFirst object_row c.args.objects.now) (sym (ap (λ trees. trees catalog_tree) reads ∙ listed_in _ _ _)) (c.in_ok-list.ensures.listed c.if-not-branch.false)
+    let objects = c.args.objects.now in
+    let h = of_some _ _ _ c.in-Some-2.is c.in_ok-listed.ensures.lists (e.honest now) in
+    let reads = trees_are c.in-Ok.store e.ready now (wanted_by c.in-Some-2.listed) e.schema in
+    let is = ap (λ trees. trees catalog_tree) reads ∙ listed_in _ _ _ ∙ ap (listed_from 0) h.wanted in
+    subst (ListsFirst objects) (sym is) (lists_first objects _ _ h.listed)
 
 pub returns-in-Ok-clause-reads : goal.returns-in-Ok-clause-reads
 returns-in-Ok-clause-reads g c =
@@ -61,14 +65,14 @@ returns-in-Ok-clause-reads g c =
     let disk = g.D.Disk in
     let e = c.in-Ok.ensures in
     let store = c.in-Ok.store in
-    let mid = c.list.new.files in
-    let unopened = c.in_ok-unopened.unopened in
-    let h = c.in_ok-list.ensures.lists c.if-not-branch.false (e.honest now) in
-    let files = c.in_ok-unopened.ensures.files in
-    let clean : AreClean disk c.page_size.new.files.log c.page_size.new.files.db = c.in_ok-unopened.ensures.honest h.clean in
+    let mid = c.in-Some-2.listed in
+    let unopened = c.in_ok-unlisted.unlisted in
+    let h = of_some _ _ _ c.in-Some-2.is c.in_ok-listed.ensures.lists (e.honest now) in
+    let files = c.in_ok-unlisted.ensures.files in
+    let clean : AreClean disk c.page_size.new.files.log c.page_size.new.files.db = c.in_ok-unlisted.ensures.honest h.clean in
     let images : image unopened ≡ seen_image disk c.args.files.log c.args.files.db =
     ap (λ p. seen_image disk p.0 p.1) files ∙ of_some _ _ _ c.in-Some.is c.in_ok-size.ensures.same in
-    let size = c.in_ok-unopened.ensures.size in
+    let size = c.in_ok-unlisted.ensures.size in
     let named = subst (NamesSize (seen_image disk c.args.files.log c.args.files.db)) (sym size) (of_some _ _ _ c.in-Some.is c.in_ok-size.ensures.named clean) in
     reads_as store e.ready now (wanted_by mid) e.schema _ (state_of unopened).page_size h.pages named
     (subst (λ i. Recovers (state_of unopened).page_size i h.pages) images h.found)

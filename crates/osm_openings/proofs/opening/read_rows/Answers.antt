@@ -1,31 +1,40 @@
-use Rattle.std.proofs.Common.{◌≡◌, ◌∙◌, ap, sym, subst, map}
+use Rattle.std.proofs.Common.{◌≡◌, ◌∙◌, List, ap, sym, subst, map}
+use Rattle.sqlite_value.specs.Order.{Row}
 use Rattle.sqlite_pool.specs.Stored.{Recovers}
 use Rattle.sqlite_pool.specs.File.{in_use}
 use Rattle.sqlite_store.specs.Roots.{has_index_root}
 use Rattle.sqlite_store.specs.Unopened.{state_of, image}
-use Rattle.osm_openings.specs.Catalog.{unrooted}
-use Rattle.osm_openings.specs.Presumed.{schema_rows, IsTreeOrView}
-use Rattle.std.specs.Prelude.{All}
+use Rattle.osm_openings.specs.Catalog.{others, AreListed, StandApart, AreInOrder}
+use Rattle.osm_openings.specs.Presumed.{schema_rows, other_rows}
 use Rattle.osm_openings.proofs.opening.read_rows.Goals as goal
 
 pub returns-clause-read : goal.returns-clause-read
 returns-clause-read g c =
     λ now.
+    let objects = c.args.objects.now in
     let kept = c.in-Ok-index_roots.ensures.kept.stays in
     let then = kept.clean now in
     let cat = c.in-Ok.ensures.ok then in
     let opens = c.in-Ok.ensures.kept then in
     let finds = c.in-Ok-index_roots.ensures.ok now cat.pages cat.shows in
     let new = c.index_roots.new.self in
+    let size = (state_of c.args.files.now).page_size in
+    let rows = schema_rows size cat.pages in
+    let found : c.in_ok-rows.rows.items ≡ others objects rows = c.in_ok-rows.ensures ∙ ap (others objects) (c.as_slice.ensures.value ∙ cat.lists) in
+    let can = c.can_be_listed.ensures c.if-not-can_be_listed.false in
+    let entries : c.as_slice-3.result.now ≡ rows = c.as_slice-3.ensures.value ∙ cat.lists in
+    let given : c.as_slice-2.result.now ≡ others objects rows = c.as_slice-2.ensures.value ∙ found in
     record {
       pages = cat.pages;
       clean = c.in-Ok.ensures.honest then;
       size = kept.size ∙ opens.size;
       found = cat.found;
-      again = subst (λ size. Recovers size (image new) cat.pages) (sym kept.size) finds.again;
-      trees = subst (All IsTreeOrView) (c.as_slice.ensures.value ∙ cat.lists) (c.are_trees_and_views.ensures c.if-not-are_trees_and_views.false);
-      rows_are = c.in_ok-rows.ensures ∙ ap (map unrooted) (c.as_slice-3.ensures.value ∙ cat.lists);
+      again = subst (λ n. Recovers n (image new) cat.pages) (sym kept.size) finds.again;
+      listed = subst (AreListed objects) entries can.0;
+      apart = subst (λ others. StandApart objects others rows) given (subst (StandApart objects c.as_slice-2.result.now) entries can.1);
+      ordered = subst AreInOrder entries can.2;
+      rows_are = found;
       roots_are = finds.kinds
-          ∙ ap (map (has_index_root (in_use (state_of c.read_catalog.new.self).page_size cat.pages))) (c.as_slice-2.ensures.value ∙ cat.lists)
-          ∙ ap (λ size. map (has_index_root (in_use size cat.pages)) (schema_rows (state_of c.args.files.now).page_size cat.pages)) opens.size;
+          ∙ ap (map (has_index_root (in_use (state_of c.read_catalog.new.self).page_size cat.pages))) (c.as_slice-4.ensures.value ∙ found)
+          ∙ ap (λ n. map (has_index_root (in_use n cat.pages)) (other_rows objects size cat.pages)) opens.size;
     }
