@@ -249,7 +249,8 @@ class Checker:
         merges = choose.random() < 0.3
         got = run("merge", path, "plain.db") if merges else run("import", EXTRACT, path)
         refused = self.refuses(path, got, before, names)
-        if not refused and (got[0] != 0 or got[2] != ""):
+        # beside an index that only SQL keeps it says so, with its name
+        if not refused and (got[0] != 0 or got[2] and not any(name in got[2] for name in names)):
             return said("merge" if merges else "import", got)
         self.counts["not stored" if refused else "stored"] += 1
         after = held if refused else "plain.db"
