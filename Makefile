@@ -75,7 +75,7 @@ install: built
 	install -m 644 LICENSE-MIT LICENSE-APACHE docs/GUIDE.md docs/SCHEMA.md docs/SCALE.md "$(DESTDIR)$(docdir)"
 	package/notices > "$(DESTDIR)$(docdir)/NOTICES"
 	install -m 755 examples/import_part examples/dask_import.py "$(DESTDIR)$(docdir)/examples"
-	install -m 644 examples/parts.mk examples/views.sql "$(DESTDIR)$(docdir)/examples"
+	install -m 644 examples/parts.mk examples/search.sql examples/views.sql "$(DESTDIR)$(docdir)/examples"
 	@[ ! -e "$(BUILT_LIBRARY)/lib/libpbfrow.a" ] || $(MAKE) -s install-library
 
 # The library by itself, as it was built; this proves and compiles nothing. A linked program finds the shared one once ldconfig has

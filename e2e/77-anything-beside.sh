@@ -165,6 +165,27 @@ if has sqlite3 && sqlite3 :memory: "CREATE VIRTUAL TABLE words USING fts5 (word)
     whole "once it is dropped ($event)" bound.db
   done
 
+  # the searches that come with the program, before an import and again behind it
+  "$pbfrow" import "$country" searched.db --from 861586 > got.txt
+  sqlite3 searched.db < "$top/examples/search.sql" > got.txt 2>&1
+  "$pbfrow" import "$country" searched.db 2>&1 | tail -n 1 >> got.txt
+  sqlite3 searched.db "DELETE FROM way_box"
+  for _ in 1 2; do sqlite3 searched.db < "$top/examples/search.sql" >> got.txt 2>&1; done
+  lines "blobs stored 10 held 2 bad 0 refused 0" > want.txt
+  same "an import beside the example's searches" got.txt want.txt
+  sound "sqlite3 finds the database whole, beside the example's searches" searched.db
+  sqlite3 searched.db "SELECT off, pos FROM name_text WHERE name_text MATCH 'schloss' ORDER BY off, pos; SELECT count(*) FROM name_text" > got.txt
+  sqlite3 plain.db "SELECT off, pos FROM tag WHERE key = 'name' AND ' ' || replace(lower(val), '-', ' ') || ' ' LIKE '% schloss %' ORDER BY off, pos;
+    SELECT count(*) FROM tag WHERE key = 'name'" > want.txt
+  same "names are found by a word" got.txt want.txt
+  sqlite3 searched.db "SELECT off, pos FROM way_box WHERE east >= 9.50 AND west <= 9.51 AND north >= 47.16 AND south <= 47.17 ORDER BY off, pos; SELECT count(*) FROM way_box" > got.txt
+  sqlite3 plain.db "SELECT way.off, way.pos FROM element AS way JOIN link USING (off, pos) JOIN element AS node ON node.kind = 0 AND node.id = link.ref
+    WHERE way.kind = 1 GROUP BY way.off, way.pos
+    HAVING max(node.lon) >= 9.50e9 AND min(node.lon) <= 9.51e9 AND max(node.lat) >= 47.16e9 AND min(node.lat) <= 47.17e9 ORDER BY way.off, way.pos;
+    SELECT count(*) FROM element WHERE kind = 1" > want.txt
+  same "ways are found by a box" got.txt want.txt
+  expect "verify --elements beside the example's searches" 0 "$sound_whole${nl}" verify "$country" searched.db --elements
+
   # kills
   went_on=yes
   for moment in 0.02 0.05 0.1 0.18 0.3; do
