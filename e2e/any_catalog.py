@@ -268,7 +268,8 @@ class Checker:
         right = got[:2] == want[:2] and (got[2] == want[2] or any(name in got[2] for name in names))
         self.counts["verified" if right else "not verified"] += 1
         if not right and not self.refuses(path, got, before, names):
-            by_sql = any(row[4] and row[5] and (b"DESC" in row[5] or b"COLLATE" in row[5]) for row in rows)
+            by_sql = any(row[3].decode() not in OF_PBFROW and row[4] and row[5] and (b"DESC" in row[5] or b"COLLATE" in row[5])
+                         for row in rows)
             if not by_sql or got[:2] != (1, b"fault 65 Disk\n"):
                 return said("verify", (got, want))
         return None
