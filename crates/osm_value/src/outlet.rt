@@ -1,12 +1,13 @@
 //! Any writer as a sink.
 
-ghost use Rattle.std.specs.Prelude.{◌≡◌, false, ◌||◌};
+ghost use Rattle.std.specs.Prelude.{◌≡◌, false, ◌||◌, OnOk, []};
 ghost use Rattle.std.specs.Result.{is_err};
+ghost use Rattle.std.specs.Io.Buffered.{writer_buffer};
 ghost use Rattle.std.specs.Io.KnownBytes.{Keeps};
 ghost use Rattle.osm_value.specs.Outlet.{OutletValue};
 
 use crate::sink::{Sink, SinkFailed};
-use std::io::Write;
+use std::io::{BufWriter, Write};
 use std::marker::Model;
 
 /// A sink that writes to a writer. Lines are written in small pieces: give it a `BufWriter`.
@@ -52,6 +53,21 @@ impl<W: Write> Outlet<W> {
     {
         let Outlet { writer, .. } = self;
         writer
+    }
+}
+
+impl<W: Write + Drop> Outlet<BufWriter<W>> {
+    /// The same of a buffered writer, whose buffer is empty then, unless it failed.
+    pub fn flush_all(&mut self) -> Result<(), SinkFailed>
+        ensures kept { Keeps (⟦<BufWriter<W> as Write>⟧.contents self.old.writer) (⟦<BufWriter<W> as Write>⟧.contents self.new.writer) }
+        ensures failed { self.new.has_failed ≡ (self.old.has_failed || is_err result) }
+        ensures empty { OnOk result (writer_buffer self.new.writer ≡ []) }
+    {
+        if self.writer.flush().is_err() {
+            self.has_failed = true;
+            return Err(SinkFailed);
+        }
+        Ok(())
     }
 }
 

@@ -158,11 +158,13 @@ fn the_status_is_that_of_the_command_and_its_output(rt: HostRuntime) -> Result<(
     meter.measure(&null);
     meter.measure_part(&null, 0, 10);
     meter.erase();
-    let mut out = Outlet::new(Vec::new(rt.alloc()));
+    let held = BufWriter::new(rt.alloc(), Vec::new(rt.alloc())).map_err(|_| "a buffer")?;
+    let mut out = Outlet::new(held);
     assert_eq!(rt; refuse(&mut out, StoreFault::Disk), FAULTY);
     assert_eq!(rt; end(&mut out, &meter, 0), 0);
     assert_eq!(rt; end(&mut out, &meter, FAULTY), FAULTY);
-    assert!(rt; out.into_inner().as_slice() == DISK);
+    let written = out.into_inner();
+    assert!(rt; written.buffer().is_empty() && written.get_ref().as_slice() == DISK);
     // what a buffer holds back can't be written
     let closed = BufWriter::new(rt.alloc(), Closed).map_err(|_| "a buffer")?;
     let mut out = Outlet::new(closed);

@@ -9,6 +9,7 @@ use osm_value::{
     put_digits, put_escaped, put_number, write_line,
 };
 use std::alloc::Global;
+use std::io::BufWriter;
 use std::process::Abort;
 use std::test::*;
 
@@ -125,6 +126,18 @@ fn numbers(rt: HostRuntime) {
     let text = outlet.into_inner();
     let expected = b"0 9 10 -1 9223372036854775807 -9223372036854775808 18446744073709551615";
     assert!(rt; text.as_slice() == expected.as_slice());
+}
+
+#[test]
+fn a_buffer_is_empty_behind_a_flush(rt: HostRuntime) -> Result<(), Fail> {
+    let alloc = rt.alloc();
+    let held = BufWriter::new(alloc, Vec::new(alloc)).map_err(|_| "a buffer")?;
+    let mut outlet = Outlet::new(held);
+    put_digits(&mut outlet, 70);
+    assert!(rt; outlet.flush_all() == Ok(()));
+    let written = outlet.into_inner();
+    assert!(rt; written.buffer().is_empty() && written.get_ref().as_slice() == b"70".as_slice());
+    Ok(())
 }
 
 /// An element over a writer that fails after so many bytes: exactly those of its line go out, and the fault is told.
