@@ -1,19 +1,23 @@
 -- Dense nodes: no payload says no node.
-use Rattle.std.proofs.Common.{◌≡◌, ℕ, List, [], ◌∷◌, ◌++◌, map, length, refl, sym, ap, subst, ◌∙◌, None, Some, Result, Ok, Err, append-nil, inr, arith}
-use Rattle.std.specs.Prelude.{OnOk, ⊤}
+use Rattle.std.proofs.Common.{◌≡◌, ℕ, ℤ, List, [], ◌∷◌, map, length, refl, sym, ap, subst, ◌∙◌, None, Some, append-nil, inr, arith}
 use Rattle.std.specs.List.{flat_map}
 use Rattle.osm_value.specs.declared.element.Element.TheVariants as elements
-use Rattle.osm_value.specs.Value.{NodeValue}
 use Rattle.pbf_wire.specs.Readings.{fields}
 use Rattle.osm_block.specs.declared.fault.BlockFault.{BlockFault}
-use Rattle.osm_block.specs.declared.fault.BlockError.{BlockError}
-use Rattle.osm_block.specs.Block.{DenseOf}
+use Rattle.osm_block.specs.declared.dense.arrays.DenseArrays.{DenseArrays}
+use Rattle.osm_block.specs.Dense.{AreArraysOf, AreReady}
+use Rattle.osm_block.specs.DenseRead.{AppendedNodes}
+use Rattle.osm_block.specs.DenseTags.{Tags}
+use Rattle.osm_block.specs.NodeTags.{node_pairs}
 use Rattle.osm_value.specs.declared.element.Element.{Element}
 use Rattle.osm_block.specs.Message.{Context, Dense, DenseMessage, dense_message, wires}
-use Rattle.osm_block.specs.Phases.{Gives, first, message_phases, dense_phases, wire_phases}
+use Rattle.osm_block.specs.Phases.{first, message_phases, dense_phases, wire_phases}
 use Rattle.osm_block.specs.Reads.{Says, Appended}
 use Rattle.osm_block.proofs.ReadingLemmas.{first-append_none, first-append_some}
 use Rattle.osm_block.proofs.LoopLemmas.{message_wire}
+use Rattle.osm_block.proofs.DenseArrayLemmas.{Diff-length, all_read}
+use Rattle.osm_block.proofs.FaultlessNodes.{tags_stand}
+use Rattle.osm_block.proofs.Faultless.{after_wire}
 
 pub nothing_said : (b : Context) → Says b [] (Dense [])
 nothing_said b = (
@@ -63,10 +67,14 @@ pub past_wires : (b : Context) (ps : List (List ℕ)) (m : DenseMessage) → m �
     first (dense_phases b m) ≡ first (message_phases b (Dense ps))
 past_wires b ps m is none = ap (λ d. first (dense_phases b d)) is ∙ sym (first-append_none (wire_phases (wires (Dense ps))) (dense_phases b (dense_message (flat_map fields ps))) none)
 
-pub nodes_said : (b : Context) (ps : List (List ℕ)) (m : DenseMessage) (old new : List Element) (r : Result (Unit {0}) BlockError) → m ≡ dense_message (flat_map fields ps) → first (wire_phases (wires (Dense ps))) ≡ None →
-    Gives {A = Unit {0}} (λ _. ⊤) (first (dense_phases b m)) r → OnOk r ((ns : List NodeValue) × (new ≡ old ++ map elements.Node ns) × DenseOf b ns m) → OnOk r (Appended b old new (Dense ps ∷ []))
-nodes_said b ps m old new (Ok x) is none g h =
-    let P : DenseMessage → Type 0 = λ d. DenseOf b h.0 d in
-    let wire = message_wire b (Dense ps) (sym (past_wires b ps m is none) ∙ g.0) in
-    (map elements.Node h.0, h.1, (map elements.Node h.0, [], sym (append-nil (map elements.Node h.0)), (wire, (h.0, refl, subst P is h.2)), refl))
-nodes_said b ps m old new (Err e) is none g h = tt
+-- its arrays were made nodes
+pub arrays_appended : (b : Context) (ps : List (List ℕ)) (c : DenseArrays) (old new : List Element) → first (message_phases b (Dense ps)) ≡ None → AreReady b c → AreArraysOf c (dense_message (flat_map fields ps)) →
+    AppendedNodes b c old new → Appended b old new (Dense ps ∷ [])
+arrays_appended b ps c old new none ready are (ns, left, grown, read) =
+    let m : DenseMessage = dense_message (flat_map fields ps) in
+    let fit = tags_stand b m (after_wire b (Dense ps) none) in
+    let P : ℕ → Type 0 = λ n. Tags (node_pairs n m.keys_vals) m.keys_vals in
+    let Q : List ℤ → Type 0 = λ l. Tags (node_pairs (length c.ids.items) l) l in
+    let tags : Tags (node_pairs (length c.ids.items) c.keys_vals.items) c.keys_vals.items = subst Q (sym are.keys_vals) (subst P (sym (Diff-length c.ids.items m.id are.ids)) fit.are_tags) in
+    let nodes = all_read b c m (length c.ids.items) left ns are ready tags refl read in
+    (map elements.Node ns, grown, (map elements.Node ns, [], sym (append-nil (map elements.Node ns)), (message_wire b (Dense ps) none, (ns, refl, nodes)), refl))

@@ -49,7 +49,7 @@ joined R phases some (x ∷ xs) e =
 
 -- ---- a message, and a group
 
-after_wire : (b : Context) (m : Message) → first (message_phases b m) ≡ None → first (phases_after_wire b m) ≡ None
+pub after_wire : (b : Context) (m : Message) → first (message_phases b m) ≡ None → first (phases_after_wire b m) ≡ None
 after_wire b m e = rest_none (wire_phases (wires m)) (phases_after_wire b m) e
 
 message_of : (b : Context) → list_all is_text b.table ≡ true → (m : Message) → first (message_phases b m) ≡ None → (es : List Element) × Says b es m

@@ -14,7 +14,7 @@ use Rattle.osm_block.specs.Block.{coordinate, time, version, text_at, texts_at, 
 use Rattle.osm_block.specs.Texts.{is_text}
 use Rattle.osm_block.specs.Phases.{first, when, is_index, coordinate_in_range, same_length, fits_ids, dense_info_fits, dense_info_in_range, deltas_of, dense_phases}
 use Rattle.osm_block.proofs.IndexesLemmas.{and_left, and_right}
-use Rattle.osm_block.proofs.NodeTagsLemmas.{tags_fit, indexes_in_two}
+use Rattle.osm_block.proofs.NodeTagsLemmas.{TagsFit, tags_fit, indexes_in_two}
 use Rattle.osm_block.proofs.RangeLemmas.{each_true, text_there}
 use Rattle.osm_block.proofs.NodePhases.{four}
 use Rattle.osm_block.proofs.RelationPhases.{three}
@@ -171,7 +171,7 @@ rows_of table (ps ∷ ts) texts h =
       (tags_are_in_range table row.0 ps texts row.1, rest.2),
     )
 
-pairs_length : (n : ℕ) (kv : List ℤ) → length (node_pairs n kv) ≡ n
+pub pairs_length : (n : ℕ) (kv : List ℤ) → length (node_pairs n kv) ≡ n
 pairs_length zero kv = refl
 pairs_length (suc n) kv = ap suc (pairs_length n _)
 
@@ -208,13 +208,22 @@ nodes_of ids lats lons rows infos ea eo et ei pn pa po pt pi = absurd (omega ari
 
 -- ---- the message
 
+-- none of its phases stands
+all_passed : (b : Context) (m : DenseMessage) → first (dense_phases b m) ≡ None → AllByRecursion (λ p. p ≡ None)
+    (when (not (lengths_are m)) faults.LengthsDiffer ∷ sums_phase m ∷ when (not (message_in_range b m)) faults.OutOfRange ∷ tags_phase b m ∷ when (not (users_fit b m)) faults.BadIndex ∷ [])
+all_passed b m none =
+    let judgement : judged (lengths_are m) (sums_phase m) (message_in_range b m) (tags_phase b m) (users_fit b m) ≡ None =
+    sym (dense_fault_is b m (lengths_are m) (sums_phase m) (message_in_range b m) (tags_phase b m) (users_fit b m) refl refl refl refl refl) ∙ none in
+    none_stands (when (not (lengths_are m)) faults.LengthsDiffer ∷ sums_phase m
+    ∷ when (not (message_in_range b m)) faults.OutOfRange ∷ tags_phase b m ∷ when (not (users_fit b m)) faults.BadIndex ∷ []) judgement
+
+pub tags_stand : (b : Context) (m : DenseMessage) → first (dense_phases b m) ≡ None → TagsFit (length m.id) (length b.table) m.keys_vals
+tags_stand b m none = tags_fit (length m.id) (length b.table) m.keys_vals (all_passed b m none).1.1.1.0
+
 pub dense_of : (b : Context) (m : DenseMessage) → list_all is_text b.table ≡ true → first (dense_phases b m) ≡ None → (ns : List NodeValue) × DenseOf b ns m
 dense_of b m texts none =
     let n : ℕ = length m.id in
-    let judgement : judged (lengths_are m) (sums_phase m) (message_in_range b m) (tags_phase b m) (users_fit b m) ≡ None =
-    sym (dense_fault_is b m (lengths_are m) (sums_phase m) (message_in_range b m) (tags_phase b m) (users_fit b m) refl refl refl refl refl) ∙ none in
-    let p = none_stands (when (not (lengths_are m)) faults.LengthsDiffer ∷ sums_phase m
-    ∷ when (not (message_in_range b m)) faults.OutOfRange ∷ tags_phase b m ∷ when (not (users_fit b m)) faults.BadIndex ∷ []) judgement in
+    let p = all_passed b m none in
     let even = three (same_length m.lat m.id) (same_length m.lon m.id) (dense_info_fits m.id m.info) (is_true (lengths_are m) faults.LengthsDiffer p.0) in
     let sums = is_true (list_all (λ ds. list_all fits_i64 (front_sums ds)) (deltas_of m)) faults.SumTooLarge p.1.0 in
     let after_ids = and_right _ _ sums in

@@ -21,6 +21,7 @@ pub mod RangeTests
 pub mod CoordinateLemmas
 pub mod MemberLemmas
 pub mod FlaglessLemmas
+pub mod EarlierLemmas
 pub mod Unique
 pub mod UniqueDense
 pub mod VectorBlocks
@@ -35,4 +36,5 @@ pub mod DenseComplete
 pub mod FaultlessElements
 pub mod FaultlessNodes
 pub mod Faultless
+pub mod GroupsLemmas
 pub mod SmallLemmas

@@ -113,7 +113,7 @@ mixed b g m none is stands =
     ap (λ o. first (option_map faults.BlockWire o ∷ when (not (nat_le (kinds_in (fields g)) 1)) faults.MixedGroup ∷ flat_map (message_phases b) (messages (fields g)))) none
     ∙ ap (λ v. first (when v faults.MixedGroup ∷ flat_map (message_phases b) (messages (fields g)))) (sym is ∙ stands)
 
-few : (n : ℕ) (m : Bool) → m ≡ not (nat_le n 1) → m ≡ false → n ≤ 1
+pub few : (n : ℕ) (m : Bool) → m ≡ not (nat_le n 1) → m ≡ false → n ≤ 1
 few n m is fine = grind (arith, nat_tests)
 
 pub group_is : (b : Context) (old new : List Element) (g : List ℕ) (m : Bool) (ms : List Message) → wire g ≡ None → m ≡ not (nat_le (kinds_in (fields g)) 1) → m ≡ false → ms ≡ messages (fields g) →

@@ -3,6 +3,7 @@ pub mod Differences
 pub mod DenseTags
 pub mod Block
 pub mod Flagless
+pub mod EarlierBlock
 pub mod Phases
 pub mod Vectors
 pub mod VectorElements
@@ -13,6 +14,8 @@ pub mod HeaderTexts
 pub mod Fields
 pub mod Reads
 pub mod GroupMessages
+pub mod Groups
+pub mod GroupsRead
 pub mod Head
 pub mod Texts
 pub mod FieldsLeft

@@ -23,7 +23,7 @@ use osm_value::Element;
 use std::alloc::Global;
 
 /// What the block says for all its elements.
-fn read_scale<'a>(alloc: Global, bytes: &'a [u8]) -> Result<Scale<'a>, BlockError>
+pub(crate) fn read_scale<'a>(alloc: Global, bytes: &'a [u8]) -> Result<Scale<'a>, BlockError>
     ensures phase { Gives (λ _. ⊤) (first (head_phases bytes.now)) result }
     ensures read { IfOk result (λ s. HeadRead (context_of s) bytes.now) }
 {

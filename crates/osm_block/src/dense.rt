@@ -1,11 +1,10 @@
 //! Dense nodes.
 
-ghost use Rattle.std.specs.Prelude.{◌≡◌, ◌++◌, ◌∷◌, [], map, List, OnOk, ⊤};
-ghost use Rattle.osm_value.specs.Value.{NodeValue};
-ghost use Rattle.osm_value.specs.declared.element.Element.TheVariants as elements;
-ghost use Rattle.osm_block.specs.Message.{Dense};
-ghost use Rattle.osm_block.specs.Block.{DenseOf};
-ghost use Rattle.osm_block.specs.Dense.{dense_message_of};
+ghost use Rattle.std.specs.Prelude.{◌∷◌, [], map, OnOk, ⊤};
+ghost use Rattle.std.specs.List.{flat_map};
+ghost use Rattle.pbf_wire.specs.Readings.{fields};
+ghost use Rattle.osm_block.specs.Message.{Dense, dense_message};
+ghost use Rattle.osm_block.specs.Dense.{AreArraysOf, AreReady, dense_message_of};
 ghost use Rattle.osm_block.specs.Fields.{context_of};
 ghost use Rattle.osm_block.specs.Phases.{Gives, first, dense_phases, message_phases};
 ghost use Rattle.osm_block.specs.Reads.{Appended};
@@ -13,6 +12,7 @@ ghost use Rattle.osm_block.specs.Reads.{Appended};
 use crate::fault::{BlockError, BlockFault};
 use crate::scale::Scale;
 use crate::tags::check_tags;
+pub use arrays::DenseArrays;
 use arrays::{all_users, arrays_in_range, arrays_of, lengths_fit};
 use fields::{DenseFields, read_fields};
 use nodes::nodes_of;
@@ -24,15 +24,13 @@ mod fields;
 mod nodes;
 mod tags;
 
-/// Appends the nodes that the message stands to.
-fn dense_of<'a>(
+/// The arrays of the message, each of them tested.
+fn ready_arrays(
     alloc: Global,
-    scale: &Scale<'a>,
+    scale: &Scale,
     dense: &DenseFields,
-    out: &mut Vec<Element<'a>>,
-) -> Result<(), BlockError>
-    ensures phase { Gives (λ _. ⊤) (first (dense_phases (context_of scale.now) (dense_message_of dense.now))) result }
-    ensures read { OnOk result ((ns : List NodeValue) × (out.new.items ≡ out.old.items ++ map elements.Node ns) × DenseOf (context_of scale.now) ns (dense_message_of dense.now)) }
+) -> Result<DenseArrays, BlockError>
+    ensures { Gives (λ c. AreReady (context_of scale.now) c × AreArraysOf c (dense_message_of dense.now)) (first (dense_phases (context_of scale.now) (dense_message_of dense.now))) result }
 {
     if !lengths_fit(dense) {
         return Err(BlockError::Fault(BlockFault::LengthsDiffer));
@@ -46,8 +44,20 @@ fn dense_of<'a>(
     if !all_users(&arrays.users, texts) {
         return Err(BlockError::Fault(BlockFault::BadIndex));
     }
-    nodes_of(alloc, scale, &arrays, out)?;
-    Ok(())
+    Ok(arrays)
+}
+
+/// The arrays of the message that the payloads together are, each of them tested.
+pub(crate) fn read_arrays<'a>(
+    alloc: Global,
+    scale: &Scale<'a>,
+    payloads: &[&'a [u8]],
+) -> Result<DenseArrays, BlockError>
+    ensures { Gives (λ c. AreReady (context_of scale.now) c × AreArraysOf c (dense_message (flat_map fields (map (λ p. p.now) payloads.now)))) (first (message_phases (context_of scale.now) (Dense (map (λ p. p.now) payloads.now)))) result }
+{
+    let mut dense = DenseFields::new(alloc);
+    read_fields(alloc, payloads, &mut dense)?;
+    ready_arrays(alloc, scale, &dense)
 }
 
 /// Appends the nodes that the payloads together stand to.
@@ -63,7 +73,7 @@ pub(crate) fn read_dense<'a>(
     if payloads.is_empty() {
         return Ok(());
     }
-    let mut dense = DenseFields::new(alloc);
-    read_fields(alloc, payloads, &mut dense)?;
-    dense_of(alloc, scale, &dense, out)
+    let arrays = read_arrays(alloc, scale, payloads)?;
+    nodes_of(alloc, scale, &arrays, out)?;
+    Ok(())
 }

@@ -74,7 +74,7 @@ fn several(a: bool, b: bool, c: bool, d: bool) -> bool
 }
 
 /// Whether a group has elements of several kinds.
-fn is_mixed(payloads: &GroupPayloads) -> bool
+pub(crate) fn is_mixed(payloads: &GroupPayloads) -> bool
     ensures { result ≡ not (nat_le (count_by (λ x. x) (is_there (map (λ p. p.now) payloads.now.nodes.items) ∷ is_there (map (λ p. p.now) payloads.now.dense.items) ∷ is_there (map (λ p. p.now) payloads.now.ways.items) ∷ is_there (map (λ p. p.now) payloads.now.relations.items) ∷ [])) 1) }
 {
     let nodes = some_there(&payloads.nodes);
@@ -84,7 +84,7 @@ fn is_mixed(payloads: &GroupPayloads) -> bool
 }
 
 /// Reads the payloads of a group.
-fn read_group_payloads<'a>(
+pub(crate) fn read_group_payloads<'a>(
     group: &'a [u8],
     payloads: &mut GroupPayloads<'a>,
 ) -> Result<(), BlockError>
@@ -112,7 +112,7 @@ fn read_group_payloads<'a>(
 }
 
 /// Appends the elements of the payloads, in order.
-fn read_messages<'a>(
+pub(crate) fn read_messages<'a>(
     alloc: Global,
     scale: &Scale<'a>,
     payloads: &GroupPayloads<'a>,

@@ -5,6 +5,7 @@ ghost use Rattle.std.specs.List.{AllByRecursion};
 ghost use Rattle.osm_value.specs.declared.element.Element.{Element};
 ghost use Rattle.osm_value.specs.Elements.{info_of_element};
 ghost use Rattle.osm_block.specs.Block.{Block};
+ghost use Rattle.osm_block.specs.EarlierBlock as earlier;
 ghost use Rattle.osm_block.specs.Flagless.{HasNoFlags};
 ghost use Rattle.osm_block.specs.DenseTags.{Pair, Tags, pairs_for};
 ghost use Rattle.osm_block.specs.declared.fault.BlockFault.TheVariants.{TagsUneven};
@@ -47,4 +48,11 @@ pub fn blocks_without_flags_say_none()
 /// There is a block with elements of which no info has such a flag.
 pub fn some_block_has_no_flags()
     ensures { (es : List Element) × (w : List ℕ) × (es ≢ []) × Block es w × HasNoFlags w }
+{}
+
+/// A block that was read before flags of visibility were still says the same elements. No info of it has a flag, so none of
+/// these elements has one.
+pub fn earlier_blocks_say_the_same()
+    ensures same { (es : List Element) (w : List ℕ) → earlier.Block es w → Block es w }
+    ensures flagless { (es : List Element) (w : List ℕ) → earlier.Block es w → HasNoFlags w }
 {}

@@ -9,6 +9,7 @@ mod element_message;
 mod fault;
 pub mod fields;
 mod group;
+mod groups;
 mod header;
 mod info;
 pub mod laws;
@@ -24,5 +25,8 @@ mod texts;
 mod way;
 
 pub use block::read_block;
+pub use dense::DenseArrays;
 pub use fault::{BlockError, BlockFault};
+pub use groups::{BlockGroups, GroupElements, read_block_groups};
 pub use header::{BBox, HeaderBlock, HeaderFault, Texts, read_header_block};
+pub use scale::Scale;

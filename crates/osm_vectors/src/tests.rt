@@ -6,13 +6,14 @@ mod failing;
 mod first_faults;
 mod framers;
 mod frames;
+mod groups;
 mod header;
 mod lines;
 mod values;
 mod wire;
 mod writing;
 
-use osm_block::{BlockError, BlockFault, read_block};
+use osm_block::{BlockError, BlockFault, read_block, read_block_groups};
 use osm_value::{Element, Info, Outlet, write_line};
 use std::alloc::Global;
 use std::process::Abort;
@@ -31,7 +32,7 @@ fn nothing_known<'a>() -> Info<'a> {
     Info::new(None, None, None, None, None, None)
 }
 
-/// Each block is refused with this fault, which has this number.
+/// Each block is refused with this fault, which has this number; and its groups are.
 fn expect_faults(rt: &(impl Abort + Alloc<A = Global>), rows: &[(&str, &[u8], BlockFault, u8)]) {
     for (name, block, fault, number) in rows {
         let error = read_block(rt.alloc(), block).err().expect(rt, name);
@@ -39,5 +40,7 @@ fn expect_faults(rt: &(impl Abort + Alloc<A = Global>), rows: &[(&str, &[u8], Bl
             error == BlockError::Fault(*fault) && error.number() == *number,
             "{name}"
         );
+        let of_groups = read_block_groups(rt.alloc(), block).err().expect(rt, name);
+        assert!(rt; of_groups == error, "{name}");
     }
 }

@@ -5,10 +5,10 @@ use Rattle.osm_block.specs.Dense.{dense_message_of, arrays_in_range, AreReady}
 use Rattle.osm_block.specs.Fields.{context_of}
 use Rattle.osm_block.specs.Phases.{first, dense_phases, tags_phases, is_index}
 use Rattle.osm_block.proofs.NodeTagsLemmas.{TagsFit, tags_fit}
-use Rattle.osm_block.proofs.DenseArrayLemmas.{lengths_are, ready, all_read}
+use Rattle.osm_block.proofs.DenseArrayLemmas.{lengths_are, ready}
 use Rattle.osm_block.proofs.DensePhaseLemmas.{dense_fault_is, ranges_are, tags_are, users_are}
-use Rattle.osm_block.proofs.dense.dense_of.Goals.{After-check_tags, After-all_users}
-use Rattle.osm_block.proofs.dense.dense_of.Goals as goal
+use Rattle.osm_block.proofs.dense.ready_arrays.Goals.{After-check_tags, After-all_users}
+use Rattle.osm_block.proofs.dense.ready_arrays.Goals as goal
 
 -- the test of the tags, as it is made
 module _ (c : After-check_tags) where
@@ -28,70 +28,47 @@ users c =
     c.all_users.ensures ∙ ap (λ n. list_all (is_index n) c.deref-2.result.now) (table ∙ sym (length-map c.args.scale.now.table.items (λ t. t.now)))
     ∙ ap (list_all (is_index (length (context_of c.args.scale.now).table))) c.deref-2.ensures.value
 
-pub returns-then-not-arrays_in_range-clause-phase : goal.returns-then-not-arrays_in_range-clause-phase
-returns-then-not-arrays_in_range-clause-phase c =
+pub returns-then-not-arrays_in_range : goal.returns-then-not-arrays_in_range
+returns-then-not-arrays_in_range c =
     let b = context_of c.args.scale.now in
     let m = dense_message_of c.args.dense.now in
     let cols = c.in_ok-arrays.arrays in
     let are = c.in_ok-arrays.ensures.1 in
     dense_fault_is b m true None false _ _ (sym c.if-not-lengths_fit.false ∙ c.lengths_fit.ensures) (sym c.in_ok-arrays.ensures.0) (sym c.if-not-arrays_in_range.true ∙ c.arrays_in_range.ensures ∙ ranges_are b cols m are) refl refl
 
-pub returns-in_err-check_tags-clause-phase : goal.returns-in_err-check_tags-clause-phase
-returns-in_err-check_tags-clause-phase c =
+pub returns-in_err-check_tags : goal.returns-in_err-check_tags
+returns-in_err-check_tags c =
     let b = context_of c.args.scale.now in
     let m = dense_message_of c.args.dense.now in
     let cols = c.in_ok-arrays.arrays in
     let are = c.in_ok-arrays.ensures.1 in
     let stands : first (dense_phases b m) ≡ Some c.in_err-check_tags.field-0.0 =
     dense_fault_is b m true None true (Some c.in_err-check_tags.field-0.0) _ (sym c.if-not-lengths_fit.false ∙ c.lengths_fit.ensures) (sym c.in_ok-arrays.ensures.0) (sym c.if-not-arrays_in_range.false ∙ c.arrays_in_range.ensures ∙ ranges_are b cols m are)
-    (sym c.in_err-check_tags.ensures ∙ tested (goal.at.returns-in_err-check_tags-clause-phase c).After-check_tags ∙ tags_are b cols m are) refl in
+    (sym c.in_err-check_tags.ensures ∙ tested (goal.at.returns-in_err-check_tags c).After-check_tags ∙ tags_are b cols m are) refl in
     search rules
 
-pub returns-then-not-all_users-clause-phase : goal.returns-then-not-all_users-clause-phase
-returns-then-not-all_users-clause-phase c =
+pub returns-then-not-all_users : goal.returns-then-not-all_users
+returns-then-not-all_users c =
     let b = context_of c.args.scale.now in
     let m = dense_message_of c.args.dense.now in
     let cols = c.in_ok-arrays.arrays in
     let are = c.in_ok-arrays.ensures.1 in
-    let known = goal.at.returns-then-not-all_users-clause-phase c in
+    let known = goal.at.returns-then-not-all_users c in
     dense_fault_is b m true None true None false (sym c.if-not-lengths_fit.false ∙ c.lengths_fit.ensures) (sym c.in_ok-arrays.ensures.0) (sym c.if-not-arrays_in_range.false ∙ c.arrays_in_range.ensures ∙ ranges_are b cols m are)
     (sym c.in_ok-check_tags.ensures ∙ tested known.After-check_tags ∙ tags_are b cols m are) (sym c.if-not-all_users.true ∙ users known.After-all_users ∙ users_are b cols m are)
 
-pub nodes_of-requires : goal.nodes_of-requires
-nodes_of-requires c =
+pub returns : goal.returns
+returns c =
     let b = context_of c.args.scale.now in
     let m = dense_message_of c.args.dense.now in
     let cols = c.in_ok-arrays.arrays in
     let are = c.in_ok-arrays.ensures.1 in
-    let known = goal.at.nodes_of-requires c in
+    let known = goal.at.returns c in
     let lengths : lengths_are m ≡ true = sym c.lengths_fit.ensures ∙ c.if-not-lengths_fit.false in
     let ranges : arrays_in_range b cols ≡ true = sym c.arrays_in_range.ensures ∙ c.if-not-arrays_in_range.false in
     let tags : TagsFit (length cols.ids.items) (length b.table) cols.keys_vals.items = tags_fit (length cols.ids.items) (length b.table) cols.keys_vals.items (sym (tested known.After-check_tags) ∙ c.in_ok-check_tags.ensures) in
-    let is_ready : AreReady b cols = ready b cols m are lengths ranges tags (sym (users known.After-all_users) ∙ c.if-not-all_users.false) in
-    record { ready = is_ready }
-
-pub returns-clause-phase : goal.returns-clause-phase
-returns-clause-phase c =
-    let b = context_of c.args.scale.now in
-    let m = dense_message_of c.args.dense.now in
-    let cols = c.in_ok-arrays.arrays in
-    let are = c.in_ok-arrays.ensures.1 in
-    let known = goal.at.returns-clause-phase c in (
+    let is_ready : AreReady b cols = ready b cols m are lengths ranges tags (sym (users known.After-all_users) ∙ c.if-not-all_users.false) in (
       dense_fault_is b m true None true None true (sym c.if-not-lengths_fit.false ∙ c.lengths_fit.ensures) (sym c.in_ok-arrays.ensures.0) (sym c.if-not-arrays_in_range.false ∙ c.arrays_in_range.ensures ∙ ranges_are b cols m are)
           (sym c.in_ok-check_tags.ensures ∙ tested known.After-check_tags ∙ tags_are b cols m are) (sym c.if-not-all_users.false ∙ users known.After-all_users ∙ users_are b cols m are),
-      tt,
+      (is_ready, are),
     )
-
-pub returns-clause-read : goal.returns-clause-read
-returns-clause-read c =
-    let b = context_of c.args.scale.now in
-    let m = dense_message_of c.args.dense.now in
-    let cols = c.in_ok-arrays.arrays in
-    let are = c.in_ok-arrays.ensures.1 in
-    let known = goal.at.returns-clause-read c in
-    let lengths : lengths_are m ≡ true = sym c.lengths_fit.ensures ∙ c.if-not-lengths_fit.false in
-    let ranges : arrays_in_range b cols ≡ true = sym c.arrays_in_range.ensures ∙ c.if-not-arrays_in_range.false in
-    let tags : TagsFit (length cols.ids.items) (length b.table) cols.keys_vals.items = tags_fit (length cols.ids.items) (length b.table) cols.keys_vals.items (sym (tested known.After-check_tags) ∙ c.in_ok-check_tags.ensures) in
-    let is_ready : AreReady b cols = ready b cols m are lengths ranges tags (sym (users known.After-all_users) ∙ c.if-not-all_users.false) in
-    let read = c.in_ok-nodes_of.ensures in
-    (read.0, read.2, all_read b cols m (length cols.ids.items) read.1 read.0 are is_ready tags.are_tags refl read.3)
