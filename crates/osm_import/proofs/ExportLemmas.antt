@@ -20,7 +20,7 @@ use Rattle.osm_reading.specs.Framings.{Known}
 use Rattle.osm_import.specs.Exports.{lines_of, blob_lines, AreElements, greatest_end, size_of, IsRefusalOf, AreTiling, IsRefusal, WritesLines, WritesFile, IsExport, IsUnbegun, IsAskedFor}
 use Rattle.osm_import.specs.Walks.{elements_at, WritesInTurn, Walks}
 use Rattle.osm_import.specs.declared.export.fault.ExportFault.{ExportFault}
-use Rattle.osm_import.specs.declared.export.fault.ExportFault.TheVariants.{Incomplete, PastEnd, WriteFailed, BlockTooLarge, Store}
+use Rattle.osm_import.specs.declared.export.fault.ExportFault.TheVariants.{Incomplete, PastEnd, WriteFailed, BlockTooLarge, Miscounted, Store}
 use Rattle.osm_import.proofs.Touching.{find-cons, find-tail, find-head, sorted-tail}
 use Rattle.osm_import.proofs.Delivering.{true-of}
 use Rattle.osm_import.proofs.FilesLemmas.{stands-from}
@@ -100,6 +100,7 @@ refusal-held held extents asked fault apart are refusal =
     at-held (PastEnd fin) h = (subst (λ (rs : List (ℕ × ℕ)). AreGaps held (size_of asked (extents_of held)) rs) h.0 (gaps-between held (size_of asked (extents_of held)) apart), h.1, h.2)
     at-held WriteFailed h = absurd h
     at-held BlockTooLarge h = absurd h
+    at-held (Miscounted off) h = absurd h
     at-held (Store fault) h = absurd h
 
 max-parts : (a b n : ℕ) → max a b ≤ n → (a ≤ n) × (b ≤ n)
@@ -221,6 +222,7 @@ unrefused held asked size (PastEnd fin) tiles is refusal =
     let past : size_of asked (extents_of held) < fin = refusal.2 in let same : fin ≡ greatest_end (extents_of held) = refusal.1 in omega arith
 unrefused held asked size WriteFailed tiles is refusal = refusal
 unrefused held asked size BlockTooLarge tiles is refusal = refusal
+unrefused held asked size (Miscounted off) tiles is refusal = refusal
 unrefused held asked size (Store fault) tiles is refusal = refusal
 
 -- an export over a map that tiles a file has written the lines of the file's elements
@@ -232,6 +234,7 @@ file-lines held file frames asked partial before after (Ok _) apart is_file of_f
 file-lines held file frames asked partial before after (Err WriteFailed) apart is_file of_file tiles is wrote = tt
 file-lines held file frames asked partial before after (Err (Store fault)) apart is_file of_file tiles is wrote = tt
 file-lines held file frames asked partial before after (Err BlockTooLarge) apart is_file of_file tiles is wrote = wrote
+file-lines held file frames asked partial before after (Err (Miscounted off)) apart is_file of_file tiles is wrote = wrote
 file-lines held file frames asked partial before after (Err (Incomplete from to)) apart is_file of_file tiles is wrote = unrefused held asked (length file) (Incomplete from to) tiles is wrote.2
 file-lines held file frames asked partial before after (Err (PastEnd fin)) apart is_file of_file tiles is wrote = unrefused held asked (length file) (PastEnd fin) tiles is wrote.2
 
@@ -252,6 +255,7 @@ exported held size partial before after (Err (Store fault)) walk tiles =
       λ whole. inl (tiles whole),
     )
 exported held size partial before after (Err BlockTooLarge) walk tiles = walk.stopped
+exported held size partial before after (Err (Miscounted off)) walk tiles = walk.stopped
 exported held size partial before after (Err (Incomplete from to)) walk tiles = absurd walk.stopped
 exported held size partial before after (Err (PastEnd fin)) walk tiles = absurd walk.stopped
 
@@ -262,6 +266,7 @@ export-unbegun held size partial text (Incomplete from to) h = (h.0, refl, h.1)
 export-unbegun held size partial text (PastEnd fin) h = (h.0, refl, h.1)
 export-unbegun held size partial text WriteFailed h = absurd h
 export-unbegun held size partial text BlockTooLarge h = absurd h
+export-unbegun held size partial text (Miscounted off) h = absurd h
 
 -- a refusal by the extents of a map
 pub unbegun : (held : HeldMap) (size : ℕ) (partial : Bool) (fault : ExportFault) → partial ≡ false → IsRefusal held size fault → IsUnbegun held size partial fault
@@ -269,4 +274,5 @@ unbegun held size partial (Incomplete from to) whole refusal = (whole, refusal)
 unbegun held size partial (PastEnd fin) whole refusal = (whole, refusal)
 unbegun held size partial WriteFailed whole refusal = refusal
 unbegun held size partial BlockTooLarge whole refusal = refusal
+unbegun held size partial (Miscounted off) whole refusal = refusal
 unbegun held size partial (Store fault) whole refusal = tt

@@ -32,7 +32,7 @@ use Rattle.osm_reading.specs.Framings.{Known}
 use Rattle.osm_import.specs.Exports.{AreElements, IsAskedFor, size_of}
 use Rattle.osm_import.specs.Pbf.{header_frame, data_frame, data_frames, Cuts, AreFramesOf, IsPbfExport, WritesPbfFile}
 use Rattle.osm_import.specs.declared.export.fault.ExportFault.{ExportFault}
-use Rattle.osm_import.specs.declared.export.fault.ExportFault.TheVariants.{Incomplete, PastEnd, WriteFailed, BlockTooLarge, Store}
+use Rattle.osm_import.specs.declared.export.fault.ExportFault.TheVariants.{Incomplete, PastEnd, WriteFailed, BlockTooLarge, Miscounted, Store}
 use Rattle.osm_import.proofs.Touching.{find-tail, find-head, sorted-tail}
 use Rattle.osm_import.proofs.Delivering.{true-of}
 use Rattle.osm_reading.proofs.GoodLaws.{frame-filled}
@@ -216,5 +216,6 @@ pbf-file held file frames asked partial before after (Ok _) apart is_file of_fil
 pbf-file held file frames asked partial before after (Err WriteFailed) apart is_file of_file tiles is wrote = tt
 pbf-file held file frames asked partial before after (Err (Store fault)) apart is_file of_file tiles is wrote = tt
 pbf-file held file frames asked partial before after (Err BlockTooLarge) apart is_file of_file tiles is wrote = tt
+pbf-file held file frames asked partial before after (Err (Miscounted off)) apart is_file of_file tiles is wrote = wrote
 pbf-file held file frames asked partial before after (Err (Incomplete from to)) apart is_file of_file tiles is wrote = unrefused held asked (length file) (Incomplete from to) tiles is wrote.2
 pbf-file held file frames asked partial before after (Err (PastEnd fin)) apart is_file of_file tiles is wrote = unrefused held asked (length file) (PastEnd fin) tiles is wrote.2

@@ -14,7 +14,7 @@ use Rattle.osm_import.specs.Gaps.{Tiles}
 use Rattle.osm_import.specs.Pbf.{header_frame, data_frame, data_frames, Cuts, AreFramesOf, AreFirstFrames, WritesBlocks, IsHeadedExport}
 use Rattle.osm_import.specs.Walks.{elements_at, WritesInTurn, Walks}
 use Rattle.osm_import.specs.declared.export.fault.ExportFault.{ExportFault}
-use Rattle.osm_import.specs.declared.export.fault.ExportFault.TheVariants.{Incomplete, PastEnd, WriteFailed, BlockTooLarge, Store}
+use Rattle.osm_import.specs.declared.export.fault.ExportFault.TheVariants.{Incomplete, PastEnd, WriteFailed, BlockTooLarge, Miscounted, Store}
 use Rattle.osm_import.proofs.WritingLemmas.{front-of-piece}
 
 -- ---- one blob
@@ -65,6 +65,7 @@ cut-err before middle after es rest block count WriteFailed so_far step wrote = 
 cut-err before middle after es rest block count (Store fault) so_far step wrote =
     (so_far.blocks, rest, so_far.cut, subst (λ (k : Known). AppendsFront before k (data_frames so_far.blocks)) (sym wrote) (all-front before middle (data_frames so_far.blocks) so_far.wrote))
 cut-err before middle after es rest block count BlockTooLarge so_far step wrote = absurd wrote
+cut-err before middle after es rest block count (Miscounted off) so_far step wrote = absurd wrote
 cut-err before middle after es rest block count (Incomplete from to) so_far step wrote = absurd wrote
 cut-err before middle after es rest block count (PastEnd fin) so_far step wrote = absurd wrote
 
@@ -121,6 +122,7 @@ pbf-unbegun history held size partial text (Incomplete from to) h = (h.0, refl, 
 pbf-unbegun history held size partial text (PastEnd fin) h = (h.0, refl, h.1)
 pbf-unbegun history held size partial text WriteFailed h = absurd h
 pbf-unbegun history held size partial text BlockTooLarge h = absurd h
+pbf-unbegun history held size partial text (Miscounted off) h = absurd h
 
 -- the header frame didn't go out whole
 pub pbf-no_header : (history : Bool) (held : HeldMap) (size : ℕ) (partial : Bool) (before after : Known) (fault : ExportFault) → WritesBlob before (header_frame history) after (Err fault) → (partial ≡ false → Tiles held size) → IsHeadedExport history held size partial before after (Err fault)
@@ -129,6 +131,7 @@ pbf-no_header history held size partial before after WriteFailed wrote tiles =
 pbf-no_header history held size partial before after (Store fault) wrote tiles =
     subst (λ (k : Known). IsHeadedExport history held size partial before k (Err (Store fault))) (sym wrote) (pbf-unbegun history held size partial before (Store fault) tt)
 pbf-no_header history held size partial before after BlockTooLarge wrote tiles = absurd wrote
+pbf-no_header history held size partial before after (Miscounted off) wrote tiles = absurd wrote
 pbf-no_header history held size partial before after (Incomplete from to) wrote tiles = absurd wrote
 pbf-no_header history held size partial before after (PastEnd fin) wrote tiles = absurd wrote
 
@@ -165,3 +168,4 @@ pbf-exported history held size partial before middle after (Err (Store fault)) h
     (front.0, front.1, front.2, behind-header history before middle after front.0 header front.3, λ whole. inl (tiles whole))
 pbf-exported history held size partial before middle after (Err (Incomplete from to)) header walk tiles = absurd walk.stopped
 pbf-exported history held size partial before middle after (Err (PastEnd fin)) header walk tiles = absurd walk.stopped
+pbf-exported history held size partial before middle after (Err (Miscounted off)) header walk tiles = absurd walk.stopped

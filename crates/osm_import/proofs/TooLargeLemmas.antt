@@ -9,7 +9,7 @@ use Rattle.osm_import.specs.Pbf.{Cuts, AreFramesOf, IsPbfExport}
 use Rattle.osm_import.specs.TooLarge.{IsTooLargeExactly, FirstIsTooLarge}
 use Rattle.osm_import.specs.Walks.{elements_at}
 use Rattle.osm_import.specs.declared.export.fault.ExportFault.{ExportFault}
-use Rattle.osm_import.specs.declared.export.fault.ExportFault.TheVariants.{Incomplete, PastEnd, WriteFailed, BlockTooLarge, Store}
+use Rattle.osm_import.specs.declared.export.fault.ExportFault.TheVariants.{Incomplete, PastEnd, WriteFailed, BlockTooLarge, Miscounted, Store}
 
 -- ---- one row of halves
 
@@ -97,6 +97,7 @@ too-large-exactly held size partial before after (Err WriteFailed) export = tt
 too-large-exactly held size partial before after (Err (Store fault)) export = tt
 too-large-exactly held size partial before after (Err (Incomplete from to)) export = tt
 too-large-exactly held size partial before after (Err (PastEnd fin)) export = tt
+too-large-exactly held size partial before after (Err (Miscounted off)) export = tt
 
 pub first-too-large : (es : List Element) → ComesToOne es → FirstIsTooLarge es
 first-too-large [] one = absurd (none-fit one)

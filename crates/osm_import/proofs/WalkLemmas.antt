@@ -1,19 +1,19 @@
 -- From the extents of a map to a walk over its blobs.
-use Rattle.std.proofs.Common.{◌≡◌, ℕ, suc, zero, ◌+◌, ◌<◌, ◌≤◌, Bool, true, false, List, [], ◌∷◌, ◌++◌, map, length, take, get_or, Some, Result, Ok, Err, refl, sym, ◌∙◌, ap, subst, inl, inr, arith, add-one}
+use Rattle.std.proofs.Common.{◌≡◌, ℕ, suc, zero, ◌+◌, ◌<◌, ◌≤◌, Bool, true, false, List, [], ◌∷◌, ◌++◌, map, length, take, drop, get_or, Some, Result, Ok, Err, refl, sym, ◌∙◌, ap, subst, inl, inr, arith, add-one, append_assoc}
 use Rattle.std.specs.FinMap as finite
 use Rattle.std.specs.FinMap.{get, entries, get-entries, entries_sorted, is_sorted}
 use Rattle.std.specs.Ordering.{nat_cmp}
-use Rattle.std.proofs.lemmas.List.{take_all, length-map}
+use Rattle.std.proofs.lemmas.List.{take_all, take_more, take-append-drop, length-map}
 use Rattle.osm_value.specs.declared.element.Element.{Element}
 use Rattle.osm_store.specs.Held.{Blob, HeldMap}
 use Rattle.osm_store.specs.Keeping.{extents_of, extent_of, IsForeign}
 use Rattle.osm_store.specs.declared.keeper.Extent.{Extent}
 use Rattle.osm_faults.specs.declared.fault.StoreFault.{StoreFault}
 use Rattle.osm_reading.specs.Framings.{Known}
-use Rattle.osm_import.specs.ExportCauses.{ExportHasCause, ExportIsOwn, WriteHasCause}
-use Rattle.osm_import.specs.Walks.{Writing, elements_at, WritesOne, WritesInTurn, StopsAt}
+use Rattle.osm_import.specs.ExportCauses.{ExportHasCause, ExportIsOwn, ExportTells, WriteHasCause}
+use Rattle.osm_import.specs.Walks.{Writing, elements_at, WritesOne, WritesInTurn, StopsAt, WritesAll, WritesComplete, CompleteInTurn, StopsComplete}
 use Rattle.osm_import.specs.declared.export.fault.ExportFault.{ExportFault}
-use Rattle.osm_import.specs.declared.export.fault.ExportFault.TheVariants.{Incomplete, PastEnd, WriteFailed, BlockTooLarge, Store}
+use Rattle.osm_import.specs.declared.export.fault.ExportFault.TheVariants.{Incomplete, PastEnd, WriteFailed, BlockTooLarge, Miscounted, Store}
 use Rattle.osm_import.proofs.Touching.{find-tail, find-head, sorted-tail}
 use Rattle.osm_import.proofs.Delivering.{true-of}
 
@@ -24,6 +24,7 @@ one-of Writes before es after (Ok done) h = h
 one-of Writes before es after (Err (Store fault)) h = inr h
 one-of Writes before es after (Err WriteFailed) h = h
 one-of Writes before es after (Err BlockTooLarge) h = h
+one-of Writes before es after (Err (Miscounted off)) h = h
 one-of Writes before es after (Err (Incomplete from to)) h = h
 one-of Writes before es after (Err (PastEnd fin)) h = h
 
@@ -47,6 +48,7 @@ at-entry (e ∷ es) sorted (suc i) x within is =
 record AtBlob (held : HeldMap) (i : ℕ) (x : Extent) : Type 0 where
   pub entry : ℕ × Blob
   pub found : get held x.off ≡ Some entry.1
+  pub same : x ≡ extent_of (x.off, entry.1)
   pub taken : take (i + 1) (entries held) ≡ take i (entries held) ++ entry ∷ []
   pub here : entry.1.elements ≡ elements_at (entries held) i
 
@@ -56,6 +58,7 @@ at-blob held extents i x are within is =
     record {
       entry = it.entry;
       found = ap (λ (y : Extent). get held y.off) it.same ∙ get-entries held it.entry.0 ∙ it.found;
+      same = subst (λ (off : ℕ). x ≡ extent_of (off, it.entry.1)) (sym (ap (λ (y : Extent). y.off) it.same)) it.same;
       taken = ap (λ n. take n (entries held)) (add-one i) ∙ it.taken;
       here = sym it.here;
     }
@@ -76,15 +79,15 @@ turn-push Writes [] entry before middle after turns one = (after, subst (λ (o :
 turn-push Writes (e ∷ es) entry before middle after turns one = (turns.0, turns.1, turn-push Writes es entry turns.0 middle after turns.2 one)
 
 pub walk-more : (Writes : Writing) (held : HeldMap) (extents : List Extent) (i : ℕ) (x : Extent) (before middle after : Known) → extents ≡ extents_of held → i < length extents → x ≡ get_or extents i x
-    → WritesInTurn Writes before (take i (entries held)) middle → ((blob : Blob) → get held x.off ≡ Some blob → Writes middle blob.elements after (Ok tt))
+    → WritesInTurn Writes before (take i (entries held)) middle → ((blob : Blob) → get held x.off ≡ Some blob → x ≡ extent_of (x.off, blob) → Writes middle blob.elements after (Ok tt))
     → WritesInTurn Writes before (take (i + 1) (entries held)) after
 walk-more Writes held extents i x before middle after are within is so_far wrote =
     let it = at-blob held extents i x are within is in
     subst (λ (es : List (ℕ × Blob)). WritesInTurn Writes before es after) (sym it.taken)
-    (turn-push Writes (take i (entries held)) it.entry before middle after so_far (wrote it.entry.1 it.found))
+    (turn-push Writes (take i (entries held)) it.entry before middle after so_far (wrote it.entry.1 it.found it.same))
 
 pub walk-stops : (Writes : Writing) (held : HeldMap) (extents : List Extent) (i : ℕ) (x : Extent) (before middle after : Known) (fault : ExportFault) → extents ≡ extents_of held → i < length extents → x ≡ get_or extents i x
-    → WritesInTurn Writes before (take i (entries held)) middle → ((blob : Blob) → get held x.off ≡ Some blob → WritesOne Writes middle blob.elements after (Err fault))
+    → WritesInTurn Writes before (take i (entries held)) middle → ((blob : Blob) → get held x.off ≡ Some blob → x ≡ extent_of (x.off, blob) → WritesOne Writes middle blob.elements after (Err fault))
     → StopsAt Writes before (entries held) after fault
 walk-stops Writes held extents i x before middle after fault are within is so_far wrote =
     let it = at-blob held extents i x are within is in
@@ -94,7 +97,7 @@ walk-stops Writes held extents i x before middle after fault are within is so_fa
       middle = middle;
       here = omega arith;
       turns = so_far;
-      stopped = subst (λ (es : List Element). WritesOne Writes middle es after (Err fault)) it.here (wrote it.entry.1 it.found);
+      stopped = subst (λ (es : List Element). WritesOne Writes middle es after (Err fault)) it.here (wrote it.entry.1 it.found it.same);
     }
 
 pub walk-all : (Writes : Writing) (held : HeldMap) (extents : List Extent) (i : ℕ) (before after : Known) → extents ≡ extents_of held → length extents ≤ i
@@ -103,6 +106,49 @@ walk-all Writes held extents i before after are all turns =
     let some = length-extents held extents are in
     subst (λ (es : List (ℕ × Blob)). WritesInTurn Writes before es after) (take_all i (entries held) (omega arith)) turns
 
+-- ---- as many elements as the extents say
+
+pub complete-of : (Writes : Writing) (before : Known) (extent : Extent) (after : Known) (failed : Bool) (result : Result (Unit {0}) ExportFault) → WriteHasCause failed result → WritesAll Writes before extent after result → WritesComplete Writes before extent after result
+complete-of Writes before extent after failed (Ok done) cause h = h
+complete-of Writes before extent after failed (Err WriteFailed) cause h = h
+complete-of Writes before extent after failed (Err (Store fault)) cause h = inr h
+complete-of Writes before extent after failed (Err BlockTooLarge) cause h = h
+complete-of Writes before extent after failed (Err (Miscounted off)) cause h = absurd cause
+complete-of Writes before extent after failed (Err (Incomplete from to)) cause h = h
+complete-of Writes before extent after failed (Err (PastEnd fin)) cause h = h
+
+complete-push : (Writes : Writing) (extents : List Extent) (extent : Extent) (before middle after : Known) → CompleteInTurn Writes before extents middle → WritesAll Writes middle extent after (Ok tt) → CompleteInTurn Writes before (extents ++ extent ∷ []) after
+complete-push Writes [] extent before middle after turns one = (after, subst (λ (o : Known). WritesAll Writes o extent after (Ok tt)) turns one, refl)
+complete-push Writes (e ∷ es) extent before middle after turns one = (turns.0, turns.1, complete-push Writes es extent turns.0 middle after turns.2 one)
+
+-- the extents up to this one, and those behind it
+one-more : (extents : List Extent) (i : ℕ) (x : Extent) → i < length extents → x ≡ get_or extents i x → take (i + 1) extents ≡ take i extents ++ x ∷ []
+one-more extents i x within is = take_more extents i x within ∙ ap (λ (y : Extent). take i extents ++ y ∷ []) (sym is)
+
+pub complete-more : (Writes : Writing) (extents : List Extent) (i : ℕ) (x : Extent) (before middle after : Known) → i < length extents → x ≡ get_or extents i x
+    → CompleteInTurn Writes before (take i extents) middle → WritesAll Writes middle x after (Ok tt) → CompleteInTurn Writes before (take (i + 1) extents) after
+complete-more Writes extents i x before middle after within is so_far one =
+    subst (λ (xs : List Extent). CompleteInTurn Writes before xs after) (sym (one-more extents i x within is)) (complete-push Writes (take i extents) x before middle after so_far one)
+
+pub complete-stops : (Writes : Writing) (extents : List Extent) (i : ℕ) (x : Extent) (before middle after : Known) (fault : ExportFault) → i < length extents → x ≡ get_or extents i x
+    → CompleteInTurn Writes before (take i extents) middle → WritesComplete Writes middle x after (Err fault) → StopsComplete Writes before extents after fault
+complete-stops Writes extents i x before middle after fault within is so_far stopped = record {
+  front = take i extents;
+  extent = x;
+  behind = drop (i + 1) extents;
+  middle = middle;
+  parted = sym (take-append-drop (i + 1) extents) ∙ ap (λ (xs : List Extent). xs ++ drop (i + 1) extents) (one-more extents i x within is) ∙ append_assoc (take i extents) (x ∷ []) (drop (i + 1) extents);
+  turns = so_far;
+  stopped = stopped;
+}
+
+pub complete-all : (Writes : Writing) (extents : List Extent) (i : ℕ) (before after : Known) → length extents ≤ i → CompleteInTurn Writes before (take i extents) after → CompleteInTurn Writes before extents after
+complete-all Writes extents i before after all turns = subst (λ (xs : List Extent). CompleteInTurn Writes before xs after) (take_all i extents all) turns
+
+-- an extent of a blob says how many elements that has
+pub counted-by : (off : ℕ) (extent : Extent) (blob : Blob) (elements : List Element) → extent ≡ extent_of (off, blob) → elements ≡ blob.elements → length elements ≡ extent.n
+counted-by off extent blob elements same are = ap length are ∙ sym (ap (λ (e : Extent). e.n) same)
+
 -- ---- why it fails
 
 pub write-cause : (before now : ℕ) (failed : Bool) (result : Result (Unit {0}) ExportFault) → WriteHasCause failed result → ExportHasCause before now failed result
@@ -110,6 +156,7 @@ write-cause before now failed (Ok done) h = tt
 write-cause before now failed (Err WriteFailed) h = h
 write-cause before now failed (Err (Store fault)) h = inl h
 write-cause before now failed (Err BlockTooLarge) h = tt
+write-cause before now failed (Err (Miscounted off)) h = tt
 write-cause before now failed (Err (Incomplete from to)) h = tt
 write-cause before now failed (Err (PastEnd fin)) h = tt
 
@@ -118,13 +165,25 @@ write-own failed (Ok done) h = tt
 write-own failed (Err WriteFailed) h = tt
 write-own failed (Err (Store fault)) h = λ foreign. subst (λ (f : StoreFault). IsForeign f) h foreign
 write-own failed (Err BlockTooLarge) h = tt
+write-own failed (Err (Miscounted off)) h = tt
 write-own failed (Err (Incomplete from to)) h = tt
 write-own failed (Err (PastEnd fin)) h = tt
+
+-- where no call has failed, whatever is answered
+pub tells-none : {T : Type 0} (before now : ℕ) → now ≡ before → (result : Result T ExportFault) → ExportTells before now result
+tells-none before now none (Ok done) = none
+tells-none before now none (Err WriteFailed) = none
+tells-none before now none (Err (Store fault)) = tt
+tells-none before now none (Err BlockTooLarge) = none
+tells-none before now none (Err (Miscounted off)) = none
+tells-none before now none (Err (Incomplete from to)) = none
+tells-none before now none (Err (PastEnd fin)) = none
 
 -- nothing was written yet
 pub cause-unwritten : (before now : ℕ) (failed : Bool) (fault : ExportFault) → ExportHasCause before now false (Err fault) → ExportHasCause before now failed (Err fault)
 cause-unwritten before now failed WriteFailed h = absurd (let bad : false ≡ true = h in cc)
 cause-unwritten before now failed (Store fault) h = h
 cause-unwritten before now failed BlockTooLarge h = tt
+cause-unwritten before now failed (Miscounted off) h = tt
 cause-unwritten before now failed (Incomplete from to) h = tt
 cause-unwritten before now failed (PastEnd fin) h = tt

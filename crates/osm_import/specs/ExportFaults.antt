@@ -2,13 +2,14 @@
 use Rattle.std.specs.Prelude.{ℕ, List, codes}
 use Rattle.osm_faults.specs.Faults as stores
 use Rattle.osm_import.specs.declared.export.fault.ExportFault.{ExportFault}
-use Rattle.osm_import.specs.declared.export.fault.ExportFault.TheVariants.{Incomplete, PastEnd, WriteFailed, BlockTooLarge, Store}
+use Rattle.osm_import.specs.declared.export.fault.ExportFault.TheVariants.{Incomplete, PastEnd, WriteFailed, BlockTooLarge, Miscounted, Store}
 
 abbrev pub export_number_of : ExportFault → ℕ
 export_number_of (Incomplete from to) = 67
 export_number_of (PastEnd fin) = 70
 export_number_of WriteFailed = 24
 export_number_of BlockTooLarge = 53
+export_number_of (Miscounted off) = 66
 export_number_of (Store fault) = stores.number_of fault
 
 abbrev pub export_name_of : ExportFault → List ℕ
@@ -16,4 +17,5 @@ export_name_of (Incomplete from to) = codes "Incomplete"
 export_name_of (PastEnd fin) = codes "PastEnd"
 export_name_of WriteFailed = codes "WriteFailed"
 export_name_of BlockTooLarge = codes "BlockTooLarge"
+export_name_of (Miscounted off) = codes "NotThisStore"
 export_name_of (Store fault) = stores.name_of fault

@@ -12,7 +12,7 @@ use Rattle.osm_store.specs.Keeping.{extents_of}
 use Rattle.osm_store.specs.declared.keeper.Extent.{Extent}
 use Rattle.osm_import.specs.Gaps.{AreGaps, Tiles, ranges_between}
 use Rattle.osm_import.specs.declared.export.fault.ExportFault.{ExportFault}
-use Rattle.osm_import.specs.declared.export.fault.ExportFault.TheVariants.{Incomplete, PastEnd, WriteFailed, BlockTooLarge, Store}
+use Rattle.osm_import.specs.declared.export.fault.ExportFault.TheVariants.{Incomplete, PastEnd, WriteFailed, BlockTooLarge, Miscounted, Store}
 use Rattle.osm_reading.specs.Framings.{Known}
 
 -- the lines of elements, in order
@@ -51,6 +51,7 @@ IsRefusalOf extents size (Incomplete from to) =
 IsRefusalOf extents size (PastEnd fin) = (ranges_between 0 size extents ≡ []) × (fin ≡ greatest_end extents) × (size < fin)
 IsRefusalOf extents size WriteFailed = ⊥
 IsRefusalOf extents size BlockTooLarge = ⊥
+IsRefusalOf extents size (Miscounted off) = ⊥
 IsRefusalOf extents size (Store fault) = ⊥
 
 pub record AreTiling (extents : List Extent) (size : ℕ) : Type 0 where
@@ -65,6 +66,7 @@ IsRefusal held size (Incomplete from to) =
 IsRefusal held size (PastEnd fin) = AreGaps held size [] × (fin ≡ greatest_end (extents_of held)) × (size < fin)
 IsRefusal held size WriteFailed = ⊥
 IsRefusal held size BlockTooLarge = ⊥
+IsRefusal held size (Miscounted off) = ⊥
 IsRefusal held size (Store fault) = ⊥
 
 -- what the text of one blob has done to what was written before
@@ -73,6 +75,7 @@ WritesBlob before text after (Ok _) = Appends before after text
 WritesBlob before text after (Err WriteFailed) = AppendsFront before after text
 WritesBlob before text after (Err (Store fault)) = after ≡ before
 WritesBlob before text after (Err BlockTooLarge) = ⊥
+WritesBlob before text after (Err (Miscounted off)) = ⊥
 WritesBlob before text after (Err (Incomplete from to)) = ⊥
 WritesBlob before text after (Err (PastEnd fin)) = ⊥
 
@@ -91,6 +94,7 @@ IsUnbegun held size partial (Incomplete from to) = (partial ≡ false) × IsRefu
 IsUnbegun held size partial (PastEnd fin) = (partial ≡ false) × IsRefusal held size (PastEnd fin)
 IsUnbegun held size partial WriteFailed = ⊥
 IsUnbegun held size partial BlockTooLarge = ⊥
+IsUnbegun held size partial (Miscounted off) = ⊥
 
 -- unless partial, what is held tiles the size, or nothing was written
 abbrev pub IsGuarded : HeldMap → ℕ → Bool → Known → Known → Type 0
@@ -105,6 +109,7 @@ IsExport held size partial before after (Err WriteFailed) = AppendsFront before 
 IsExport held size partial before after (Err (Store fault)) =
     (count : ℕ) × IsBefore count (entries held) × Appends before after (blob_lines (take count (entries held))) × IsGuarded held size partial before after
 IsExport held size partial before after (Err BlockTooLarge) = ⊥
+IsExport held size partial before after (Err (Miscounted off)) = ⊥
 IsExport held size partial before after (Err (Incomplete from to)) = (partial ≡ false) × (after ≡ before) × IsRefusal held size (Incomplete from to)
 IsExport held size partial before after (Err (PastEnd fin)) = (partial ≡ false) × (after ≡ before) × IsRefusal held size (PastEnd fin)
 
@@ -118,5 +123,6 @@ WritesFile frames before after (Ok _) = (elements : List Element) × AreElements
 WritesFile frames before after (Err WriteFailed) = Unit {0}
 WritesFile frames before after (Err (Store fault)) = Unit {0}
 WritesFile frames before after (Err BlockTooLarge) = ⊥
+WritesFile frames before after (Err (Miscounted off)) = ⊥
 WritesFile frames before after (Err (Incomplete from to)) = ⊥
 WritesFile frames before after (Err (PastEnd fin)) = ⊥

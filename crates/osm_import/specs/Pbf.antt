@@ -16,7 +16,7 @@ use Rattle.osm_import.specs.Files.{IsFile}
 use Rattle.osm_import.specs.Walks.{elements_at}
 use Rattle.osm_import.specs.Gaps.{Tiles}
 use Rattle.osm_import.specs.declared.export.fault.ExportFault.{ExportFault}
-use Rattle.osm_import.specs.declared.export.fault.ExportFault.TheVariants.{Incomplete, PastEnd, WriteFailed, BlockTooLarge, Store}
+use Rattle.osm_import.specs.declared.export.fault.ExportFault.TheVariants.{Incomplete, PastEnd, WriteFailed, BlockTooLarge, Miscounted, Store}
 
 -- whether readers have to know of history: of flags of visibility
 abbrev pub header_frame : Bool → List ℕ
@@ -58,6 +58,7 @@ WritesBlocks before elements after (Err BlockTooLarge) = (blocks : List (List �
 WritesBlocks before elements after (Err (Store fault)) = (blocks : List (List ℕ)) × (rest : List Element) × Cuts elements blocks rest × AppendsFront before after (data_frames blocks)
 WritesBlocks before elements after (Err (Incomplete from to)) = ⊥
 WritesBlocks before elements after (Err (PastEnd fin)) = ⊥
+WritesBlocks before elements after (Err (Miscounted off)) = ⊥
 
 -- What an export as PBF has done behind a header that asks for history or not: that header's frame and the frames of all
 -- held blobs went out; or those up to the place where a cutter came to an element whose block alone is too large; or a
@@ -74,6 +75,7 @@ IsHeadedExport history held size partial before after (Err (Store fault)) =
     (bytes : List ℕ) × (rest : List Element) × AreFirstFrames (entries held) bytes rest × AppendsFront before after (header_frame history ++ bytes) × IsGuarded held size partial before after
 IsHeadedExport history held size partial before after (Err (Incomplete from to)) = (partial ≡ false) × (after ≡ before) × IsRefusal held size (Incomplete from to)
 IsHeadedExport history held size partial before after (Err (PastEnd fin)) = (partial ≡ false) × (after ≡ before) × IsRefusal held size (PastEnd fin)
+IsHeadedExport history held size partial before after (Err (Miscounted off)) = ⊥
 
 -- what an export as PBF has done: its header asks for history where an element has a flag
 abbrev pub IsPbfExport : HeldMap → ℕ → Bool → Known → Known → Result (Unit {0}) ExportFault → Type 0
@@ -88,3 +90,4 @@ WritesPbfFile frames before after (Err (Store fault)) = Unit {0}
 WritesPbfFile frames before after (Err BlockTooLarge) = Unit {0}
 WritesPbfFile frames before after (Err (Incomplete from to)) = ⊥
 WritesPbfFile frames before after (Err (PastEnd fin)) = ⊥
+WritesPbfFile frames before after (Err (Miscounted off)) = ⊥

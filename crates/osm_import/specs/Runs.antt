@@ -74,7 +74,7 @@ abbrev pub Imports : (HeldMap → Type 0) → List (List ℕ) → HeldMap → Li
 Imports holds frames start deliveries answers = (held : HeldMap) × IsImport frames start deliveries answers held × holds held
 
 -- Each fault among the answers has a cause of its own: the store's failures rise from the one number to the other, delivery
--- by delivery, and a fault that isn't refused memory takes a rise in its own.
+-- by delivery, a fault that isn't refused memory takes a rise in its own, and where they rise the answer is a fault.
 abbrev pub HaveCauses : ℕ → ℕ → List Answer → Type 0
 HaveCauses before now [] = now ≡ before
 HaveCauses before now (answer ∷ answers) = (next : ℕ) × (before ≤ next) × FaultHasCause before next answer × HaveCauses next now answers

@@ -76,10 +76,10 @@ CrashLeaves leaves held off bytes = (left : HeldMap) → leaves left → (left �
 abbrev pub HasCause : ℕ → ℕ → StoreFault → Type 0
 HasCause before now fault = (fault ≡ store.Memory) ⊎ ((before < now) ⊎ (2 ^ 64 - 1 ≤ now))
 
--- a fault that is answered has a cause
+-- a fault that is answered has a cause, and any other answer comes only where no call of the store has failed
 abbrev pub FaultHasCause : ℕ → ℕ → Answer → Type 0
 FaultHasCause before now (Fault fault) = HasCause before now fault
-FaultHasCause before now _ = Unit {0}
+FaultHasCause before now _ = now ≡ before
 
 -- no fault that is answered says that the tables are another store's
 abbrev pub IsOwn : Answer → Type 0

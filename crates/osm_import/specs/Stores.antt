@@ -1,17 +1,19 @@
 -- What calls do to a store, in the terms of what is said of one.
-use Rattle.std.specs.Prelude.{◌≡◌, ℕ, ◌≤◌, false, List, [], ◌∷◌, Some, Result, OnOk}
+use Rattle.std.specs.Prelude.{◌≡◌, ℕ, ◌≤◌, false, List, [], ◌∷◌, length, Some, Result, Ok, Err, OnOk}
 use Rattle.std.specs.FinMap.{get}
+use Rattle.osm_value.specs.declared.element.Element.{Element}
 use Rattle.osm_store.specs.Held.{Blob, HeldMap}
 use Rattle.osm_store.specs.Calls.{OfHeld}
-use Rattle.osm_store.specs.Keeping.{extent_of}
+use Rattle.osm_store.specs.Keeping.{extent_of, IsAddable, with_blob}
 use Rattle.osm_store.specs.declared.keeper.Extent.{Extent}
 use Rattle.osm_store.specs.declared.keeper.Reader.{Ghosts}
-use Rattle.osm_import.specs.Copies.{BlobCopied, CopiesBlob, CrashLeavesBlob, BlobHasCause, IsOwnBlob, ComeTo, is_added}
+use Rattle.osm_import.specs.Copies.{BlobCopied, CopiesBlob, CrashLeavesBlob, BlobHasCause, BlobTells, IsOwnBlob, ComeTo, is_added}
 use Rattle.osm_import.specs.Deliveries.{DeliveryValue}
 use Rattle.osm_import.specs.Step.{Delivers, CrashLeaves, FaultHasCause, IsOwn}
 use Rattle.osm_import.specs.Histories.{LeavesEvents}
 use Rattle.osm_import.specs.Runs.{Runs, LeavesAfter, HaveCauses, AreOwn, IsFault, IsNone, IsStored, StaysShut}
 use Rattle.osm_import.specs.declared.answer.Answer.{Answer}
+use Rattle.osm_import.specs.declared.copy.BlobCopy.TheVariants.{Added, AlreadyHeld}
 use Rattle.osm_import.specs.declared.copy.CopyCounts.{CopyCounts}
 use Rattle.osm_import.specs.declared.copy.CopyStop.{CopyStop}
 
@@ -48,6 +50,7 @@ pub record Takes {S : Type 0} (store : Ghosts S) (old new : S) (deliveries : Lis
   pub unbroken : OfHeld store old new (λ held. IsNone IsFault replies → Runs (store.holds new) held deliveries replies)
   pub crash : OfHeld store old new (λ held. LeavesAfter (store.leaves new) held deliveries replies)
   pub whole : OfHeld store old new (λ _. store.leaves_a_map new)
+  pub alone : OfHeld store old new (λ _. store.is_alone old → store.is_alone new)
   pub own : OfHeld store old new (λ _. AreOwn replies)
   pub causes : HaveCauses (store.failures old) (store.failures new) replies
   pub same : store.is_honest new → store.is_open new → IsNone IsStored replies → store.same_tables old new
@@ -76,16 +79,30 @@ WhereHeld from to first last old new extent P =
     (source held : HeldMap) (blob : Blob) → from.holds first source → from.is_honest last → to.holds old held → to.is_honest new
     → get source extent.off ≡ Some blob → extent ≡ extent_of (extent.off, blob) → P held blob
 
+-- the blob of an extent with these elements
+abbrev pub blob_of : Extent → List Element → Blob
+blob_of extent elements = record { fin = extent.fin; digest = extent.digest; kind = extent.kind; elements = elements }
+
+-- what is added, whatever rows the store that is read has: the blob of the extent with as many elements as that says
+abbrev pub AddsComplete : {T : Type 0} → Ghosts T → T → T → BlobCopied → Type 0
+AddsComplete to old new (extent, Ok Added) = (elements : List Element) × (length elements ≡ extent.n)
+    × ((held : HeldMap) → to.holds old held → to.is_honest new → IsAddable held extent.off (blob_of extent elements) → to.holds new (with_blob held extent.off (blob_of extent elements)))
+AddsComplete to old new (extent, Ok AlreadyHeld) = Unit {0}
+AddsComplete to old new (extent, Err fault) = Unit {0}
+
 -- What the copy of one blob has done, to the store that is read and to the one that it goes into. Where it isn't added, the
 -- tables of the other are as they were, whatever rows they have.
 pub record CopiesOne {F T : Type 0} (from : Ghosts F) (to : Ghosts T) (first last : F) (old new : T) (copy : BlobCopied) : Type 0 where
   pub step : WhereHeld from to first last old new copy.0 (λ held blob. CopiesBlob (to.is_open new) (to.holds new) held copy.0.off blob copy.1)
   pub crash : WhereHeld from to first last old new copy.0 (λ held blob. CrashLeavesBlob (to.leaves new) held copy.0.off blob)
   pub whole : WhereHeld from to first last old new copy.0 (λ held blob. to.leaves_a_map new)
+  pub alone : WhereHeld from to first last old new copy.0 (λ held blob. to.is_alone old → to.is_alone new)
   pub own : WhereHeld from to first last old new copy.0 (λ held blob. IsOwnBlob copy.1)
   pub source : Rereads from first copy.1 last
   pub cause : BlobHasCause (from.failures first) (from.failures last) (to.failures old) (to.failures new) copy.1
+  pub told : BlobTells (from.failures first) (from.failures last) (to.failures old) (to.failures new) copy.1
   pub same : to.is_honest new → to.is_open new → is_added copy ≡ false → to.same_tables old new
+  pub complete : AddsComplete to old new copy
   pub honest : to.is_honest new → to.is_honest old
   pub open_if : to.is_open new → to.is_open old
   pub counted : (from.failures first ≤ from.failures last) × (to.failures old ≤ to.failures new)

@@ -9,7 +9,7 @@ use Rattle.osm_store.specs.Held.{Blob, HeldMap}
 use Rattle.osm_import.specs.Pbf.{Cuts}
 use Rattle.osm_import.specs.Walks.{elements_at}
 use Rattle.osm_import.specs.declared.export.fault.ExportFault.{ExportFault}
-use Rattle.osm_import.specs.declared.export.fault.ExportFault.TheVariants.{Incomplete, PastEnd, WriteFailed, BlockTooLarge, Store}
+use Rattle.osm_import.specs.declared.export.fault.ExportFault.TheVariants.{Incomplete, PastEnd, WriteFailed, BlockTooLarge, Miscounted, Store}
 
 -- a cutter of one of these blobs gives some blocks, and comes then to an element whose block alone is too large
 abbrev pub ComesToTooLarge : List (ℕ × Blob) → Type 0
@@ -23,6 +23,7 @@ IsTooLargeExactly held (Err WriteFailed) = Unit {0}
 IsTooLargeExactly held (Err (Store fault)) = Unit {0}
 IsTooLargeExactly held (Err (Incomplete from to)) = Unit {0}
 IsTooLargeExactly held (Err (PastEnd fin)) = Unit {0}
+IsTooLargeExactly held (Err (Miscounted off)) = Unit {0}
 
 -- the block of the first of the elements alone is too large
 abbrev pub FirstIsTooLarge : List Element → Type 0

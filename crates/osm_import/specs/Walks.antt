@@ -1,11 +1,12 @@
 -- One walk over held blobs, whatever an export writes of each.
-use Rattle.std.specs.Prelude.{◌≡◌, ◌⊎◌, ℕ, zero, suc, ◌<◌, List, [], ◌∷◌, length, take, Some, Result, Ok, Err}
+use Rattle.std.specs.Prelude.{◌≡◌, ◌⊎◌, ℕ, zero, suc, ◌<◌, List, [], ◌∷◌, ◌++◌, length, take, Some, Result, Ok, Err}
 use Rattle.std.specs.FinMap.{get}
 use Rattle.osm_value.specs.declared.element.Element.{Element}
 use Rattle.osm_store.specs.Held.{Blob, HeldMap}
+use Rattle.osm_store.specs.declared.keeper.Extent.{Extent}
 use Rattle.osm_reading.specs.Framings.{Known}
 use Rattle.osm_import.specs.declared.export.fault.ExportFault.{ExportFault}
-use Rattle.osm_import.specs.declared.export.fault.ExportFault.TheVariants.{Incomplete, PastEnd, WriteFailed, BlockTooLarge, Store}
+use Rattle.osm_import.specs.declared.export.fault.ExportFault.TheVariants.{Incomplete, PastEnd, WriteFailed, BlockTooLarge, Miscounted, Store}
 
 -- what is done, at a blob with these elements, to what was written before
 abbrev pub Writing : Type 1
@@ -29,6 +30,7 @@ WritesOne Writes before elements after (Err WriteFailed) = Writes before element
 WritesOne Writes before elements after (Err BlockTooLarge) = Writes before elements after (Err BlockTooLarge)
 WritesOne Writes before elements after (Err (Incomplete from to)) = Writes before elements after (Err (Incomplete from to))
 WritesOne Writes before elements after (Err (PastEnd fin)) = Writes before elements after (Err (PastEnd fin))
+WritesOne Writes before elements after (Err (Miscounted off)) = Writes before elements after (Err (Miscounted off))
 
 -- each of the blobs went out whole, one after the other
 abbrev pub WritesInTurn : Writing → Known → List (ℕ × Blob) → Known → Type 0
@@ -46,3 +48,38 @@ pub record StopsAt (Writes : Writing) (before : Known) (entries : List (ℕ × B
 abbrev pub Walks : Writing → Known → List (ℕ × Blob) → Known → Result (Unit {0}) ExportFault → Type 0
 Walks Writes before entries after (Ok _) = WritesInTurn Writes before entries after
 Walks Writes before entries after (Err fault) = StopsAt Writes before entries after fault
+
+-- ---- whatever rows the store has
+
+-- this was done at as many elements as the extent says
+abbrev pub WritesAll : Writing → Known → Extent → Known → Result (Unit {0}) ExportFault → Type 0
+WritesAll Writes before extent after result = (elements : List Element) × (length elements ≡ extent.n) × Writes before elements after result
+
+-- at one extent: where its elements weren't read, or are others than so many, nothing is written
+abbrev pub WritesComplete : Writing → Known → Extent → Known → Result (Unit {0}) ExportFault → Type 0
+WritesComplete Writes before extent after (Ok done) = WritesAll Writes before extent after (Ok done)
+WritesComplete Writes before extent after (Err (Miscounted off)) = (off ≡ extent.off) × (after ≡ before)
+WritesComplete Writes before extent after (Err (Store fault)) = (after ≡ before) ⊎ WritesAll Writes before extent after (Err (Store fault))
+WritesComplete Writes before extent after (Err WriteFailed) = WritesAll Writes before extent after (Err WriteFailed)
+WritesComplete Writes before extent after (Err BlockTooLarge) = WritesAll Writes before extent after (Err BlockTooLarge)
+WritesComplete Writes before extent after (Err (Incomplete from to)) = WritesAll Writes before extent after (Err (Incomplete from to))
+WritesComplete Writes before extent after (Err (PastEnd fin)) = WritesAll Writes before extent after (Err (PastEnd fin))
+
+-- at each of the extents, one after the other
+abbrev pub CompleteInTurn : Writing → Known → List Extent → Known → Type 0
+CompleteInTurn Writes before [] after = after ≡ before
+CompleteInTurn Writes before (extent ∷ extents) after = (middle : Known) × WritesAll Writes before extent middle (Ok tt) × CompleteInTurn Writes middle extents after
+
+-- the extent at which a walk stopped, behind those that were complete
+pub record StopsComplete (Writes : Writing) (before : Known) (extents : List Extent) (after : Known) (fault : ExportFault) : Type 0 where
+  pub front : List Extent
+  pub extent : Extent
+  pub behind : List Extent
+  pub middle : Known
+  pub parted : extents ≡ front ++ extent ∷ behind
+  pub turns : CompleteInTurn Writes before front middle
+  pub stopped : WritesComplete Writes middle extent after (Err fault)
+
+abbrev pub WalksComplete : Writing → Known → List Extent → Known → Result (Unit {0}) ExportFault → Type 0
+WalksComplete Writes before extents after (Ok _) = CompleteInTurn Writes before extents after
+WalksComplete Writes before extents after (Err fault) = StopsComplete Writes before extents after fault

@@ -4,11 +4,11 @@ ghost use Rattle.std.specs.Prelude.{◌≡◌, ◌⊎◌, ◌<◌, ◌≤◌, �
 ghost use Rattle.std.specs.FinMap.{get};
 ghost use Rattle.osm_store.specs.Held.{Blob, HeldMap};
 ghost use Rattle.osm_store.specs.Keeping.{IsRange, extent_of, extents_of};
-ghost use Rattle.osm_import.specs.Copies.{BlobCopied, CopiesBlob, Copies, CrashLeavesBlob, CrashLeavesSome, BlobHasCause, CopyHasCause, IsOwnBlob, IsOwnCopy, ComeTo, is_added};
+ghost use Rattle.osm_import.specs.Copies.{BlobCopied, CopiesBlob, Copies, CrashLeavesBlob, CrashLeavesSome, BlobHasCause, CopyHasCause, BlobTells, CopyTells, IsOwnBlob, IsOwnCopy, ComeTo, is_added};
 ghost use Rattle.osm_faults.specs.declared.fault.StoreFault.TheVariants.{Memory};
 ghost use Rattle.osm_import.specs.declared.copy.CopyFault.TheVariants.{Store};
 ghost use Rattle.osm_import.specs.CopyFaults.{copy_number_of, copy_name_of};
-ghost use Rattle.osm_import.specs.Stores.{CopiesEach, CopiesInTurn, Rereads};
+ghost use Rattle.osm_import.specs.Stores.{AddsComplete, CopiesEach, CopiesInTurn, Rereads};
 
 use crate::answer::Conflict;
 use crate::delivery::extent_at;
@@ -22,6 +22,9 @@ pub enum CopyFault {
     /// What the other store holds is in the blob's way.
     #[error("{0}")]
     Refused(Conflict),
+    /// The first store has other than as many elements of the blob as its row says. Nothing of it is copied.
+    #[error("the rows aren't those of the blob that was put there")]
+    Miscounted,
     /// A call of either store has failed, or memory was refused.
     #[error("{0}")]
     Store(StoreFault),
@@ -34,6 +37,7 @@ impl CopyFault {
     {
         match self {
             CopyFault::Refused(conflict) => conflict.number(),
+            CopyFault::Miscounted => 66,
             CopyFault::Store(fault) => fault.number(),
         }
     }
@@ -44,6 +48,7 @@ impl CopyFault {
     {
         match self {
             CopyFault::Refused(conflict) => conflict.name(),
+            CopyFault::Miscounted => "NotThisStore",
             CopyFault::Store(fault) => fault.name(),
         }
     }
@@ -90,7 +95,8 @@ pub enum BlobCopy {
 }
 
 /// Copies the blob at an extent of the first store, unless the other holds its offset with its digest. The digest comes
-/// first, so that a blob that is held costs no reading of its rows.
+/// first, so that a blob that is held costs no reading of its rows. A blob that is added has as many elements as the
+/// extent says.
 fn copy_blob<F: Reader, T: Keeper>(
     alloc: Global,
     from: &mut F,
@@ -104,13 +110,17 @@ fn copy_blob<F: Reader, T: Keeper>(
         → get source extent.now.off ≡ Some blob → extent.now ≡ extent_of (extent.now.off, blob) → CrashLeavesBlob (T.leaves to.new) held extent.now.off blob }
     ensures whole { (source held : HeldMap) (blob : Blob) → F.holds from.old source → F.is_honest from.new → T.holds to.old held → T.is_honest to.new
         → get source extent.now.off ≡ Some blob → extent.now ≡ extent_of (extent.now.off, blob) → T.leaves_a_map to.new }
+    ensures alone { (source held : HeldMap) (blob : Blob) → F.holds from.old source → F.is_honest from.new → T.holds to.old held → T.is_honest to.new
+        → get source extent.now.off ≡ Some blob → extent.now ≡ extent_of (extent.now.off, blob) → T.is_alone to.old → T.is_alone to.new }
     ensures own { (source held : HeldMap) (blob : Blob) → F.holds from.old source → F.is_honest from.new → T.holds to.old held → T.is_honest to.new
         → get source extent.now.off ≡ Some blob → extent.now ≡ extent_of (extent.now.off, blob) → IsOwnBlob result }
     ensures source { Rereads F.Reader from.old result from.new }
     ensures cause { BlobHasCause (F.failures from.old) (F.failures from.new) (T.failures to.old) (T.failures to.new) result }
+    ensures told { BlobTells (F.failures from.old) (F.failures from.new) (T.failures to.old) (T.failures to.new) result }
     ensures honest { T.is_honest to.new → T.is_honest to.old }
     ensures open_if { T.is_open to.new → T.is_open to.old }
     ensures same { T.is_honest to.new → T.is_open to.new → is_added (extent.now, result) ≡ false → T.same_tables to.old to.new }
+    ensures complete { AddsComplete T.Reader to.old to.new (extent.now, result) }
     ensures counted { (F.failures from.old ≤ F.failures from.new) × (T.failures to.old ≤ T.failures to.new) }
 {
     let touched = to.extents_touching(alloc, extent.off, extent.fin)?;
@@ -125,6 +135,9 @@ fn copy_blob<F: Reader, T: Keeper>(
     }
     let loaded = from.load(alloc, extent.off)?;
     let elements = loaded.elements(alloc)?;
+    if elements.len() as u64 != extent.n {
+        return Err(CopyFault::Miscounted);
+    }
     match to.put(
         alloc,
         extent.off,
@@ -151,10 +164,13 @@ fn copy_blobs<F: Reader, T: Keeper>(
     ensures crash { (source held : HeldMap) → F.holds from.old source → F.is_honest from.new → T.holds to.old held → T.is_honest to.new → extents.now ≡ extents_of source
         → CrashLeavesSome (T.leaves to.new) source held result }
     ensures whole { (source held : HeldMap) → F.holds from.old source → F.is_honest from.new → T.holds to.old held → T.is_honest to.new → extents.now ≡ extents_of source → T.leaves_a_map to.new }
+    ensures alone { (source held : HeldMap) → F.holds from.old source → F.is_honest from.new → T.holds to.old held → T.is_honest to.new → extents.now ≡ extents_of source
+        → T.is_alone to.old → T.is_alone to.new }
     ensures own { (source held : HeldMap) → F.holds from.old source → F.is_honest from.new → T.holds to.old held → T.is_honest to.new → extents.now ≡ extents_of source → IsOwnCopy result }
     ensures reached { (source : HeldMap) → extents.now ≡ extents_of source → IfErr result (λ stop. (blob : Blob) × (get source stop.off ≡ Some blob)) }
     ensures source { Rereads F.Reader from.old result from.new }
     ensures cause { CopyHasCause (F.failures from.old) (F.failures from.new) (T.failures to.old) (T.failures to.new) result }
+    ensures told { CopyTells (F.failures from.old) (F.failures from.new) (T.failures to.old) (T.failures to.new) result }
     ensures honest { T.is_honest to.new → T.is_honest to.old }
     ensures open_if { T.is_open to.new → T.is_open to.old }
     ensures each { (copies : List BlobCopied) × CopiesEach F.Reader T.Reader from.old from.new to.old to.new copies × ComeTo copies result }
@@ -188,9 +204,10 @@ fn copy_blobs<F: Reader, T: Keeper>(
 /// At `Ok` the other store holds what it held and, at each offset that was free, the blob of the first. Else it stopped
 /// at `off`, and holds what it held and, at each free offset below, the blob of the first. `Refused` comes with `Differs`
 /// where `off` is held with another digest, and with `Overlap` where it is free and the blob's extent meets a held one;
-/// `Store` comes where a call of either store has failed or memory was refused. A crash, and a `Store` after which the
-/// other store has to be opened again, leave what was held with the blobs below some offset; a crash after `Ok` leaves
-/// all of them.
+/// `Miscounted` comes where the first store, which then holds no map, has other than as many elements of the blob as its
+/// row says, before anything of it is copied; `Store` comes where a call of either store has failed or memory was refused.
+/// A crash, and a `Store` after which the other store has to be opened again, leave what was held with the blobs below
+/// some offset; a crash after `Ok` leaves all of them.
 pub fn copy_held<F: Reader, T: Keeper>(
     alloc: Global,
     from: &mut F,
@@ -207,6 +224,7 @@ pub fn copy_held<F: Reader, T: Keeper>(
     ensures crash { (source held : HeldMap) → F.holds from.old source → F.is_honest from.new → T.holds to.old held → T.is_honest to.new
         → CrashLeavesSome (T.leaves to.new) source held result }
     ensures whole { (source held : HeldMap) → F.holds from.old source → F.is_honest from.new → T.holds to.old held → T.is_honest to.new → T.leaves_a_map to.new }
+    ensures alone { (source held : HeldMap) → F.holds from.old source → F.is_honest from.new → T.holds to.old held → T.is_honest to.new → T.is_alone to.old → T.is_alone to.new }
 
     // What the first store holds stays.
     ensures source { Rereads F.Reader from.old result from.new }
@@ -214,6 +232,7 @@ pub fn copy_held<F: Reader, T: Keeper>(
     // Why a fault is answered.
     ensures own { (source held : HeldMap) → F.holds from.old source → F.is_honest from.new → T.holds to.old held → T.is_honest to.new → IsOwnCopy result }
     ensures cause { CopyHasCause (F.failures from.old) (F.failures from.new) (T.failures to.old) (T.failures to.new) result }
+    ensures told { CopyTells (F.failures from.old) (F.failures from.new) (T.failures to.old) (T.failures to.new) result }
     ensures honest { T.is_honest to.new → T.is_honest to.old }
     ensures open_if { T.is_open to.new → T.is_open to.old }
 
@@ -221,6 +240,7 @@ pub fn copy_held<F: Reader, T: Keeper>(
     // where nothing is copied they are as they were.
     ensures each { CopiesInTurn F.Reader T.Reader from.old from.new to.old to.new result }
     ensures same { T.is_honest to.new → T.is_open to.new → IfOk result (λ counts. counts.copied ≡ 0 → T.same_tables to.old to.new) }
+    ensures counted { (F.failures from.old ≤ F.failures from.new) × (T.failures to.old ≤ T.failures to.new) }
 {
     let extents = match from.extents(alloc) {
         Ok(extents) => extents,

@@ -1,6 +1,6 @@
 //! What no held extent covers.
 
-ghost use Rattle.std.specs.Prelude.{◌≡◌, IfOk, IfErr};
+ghost use Rattle.std.specs.Prelude.{◌≡◌, IfOk, IfErr, OnOk};
 ghost use Rattle.osm_store.specs.Calls.{OfHeld};
 ghost use Rattle.osm_store.specs.Keeping.{IsForeign};
 ghost use Rattle.osm_import.specs.Gaps.{AreGaps, gap_before, ranges_between};
@@ -55,6 +55,7 @@ pub fn gaps<K: Reader>(
     ensures rereads { Rereads K.Reader keeper.old result keeper.new }
     ensures own { OfHeld K.Reader keeper.old keeper.new (λ _. IfErr result (λ fault. ¬ (IsForeign fault))) }
     ensures cause { IfErr result (HasCause (K.failures keeper.old) (K.failures keeper.new)) }
+    ensures told { OnOk result (K.failures keeper.new ≡ K.failures keeper.old) }
 {
     let extents = keeper.extents(alloc)?;
     let gaps = gaps_between(alloc, &extents, size)?;

@@ -22,8 +22,9 @@ pub type MigrateFault = CopyStop;
 ///
 /// At `Ok` the new store holds what it held and, at each offset that was free, the blob of the old one. Else it stopped at
 /// `off`, and the blobs below are held: `Refused` comes with `Differs` where `off` is held with another digest, and with
-/// `Overlap` where it is free and the blob's extent meets a held one; `Store` comes where a call of either store has failed
-/// or memory was refused. A crash leaves what was held with the blobs below some offset; after `Ok`, all of them.
+/// `Overlap` where it is free and the blob's extent meets a held one; `Miscounted` comes where the old store has other than
+/// as many elements of the blob as its row says; `Store` comes where a call of either store has failed or memory was
+/// refused. A crash leaves what was held with the blobs below some offset; after `Ok`, all of them.
 pub fn migrate<S: Alter + Drop, T: Alter + Drop>(
     alloc: Global,
     old: &mut BodyStore<S>,

@@ -10,7 +10,7 @@ use Rattle.osm_reading.specs.Framings.{Known}
 use Rattle.osm_import.specs.ExportCauses.{ExportHasCause}
 use Rattle.osm_import.specs.Walks.{Writing, elements_at, WritesOne, WritesInTurn, StopsAt, Walks}
 use Rattle.osm_import.specs.declared.export.fault.ExportFault.{ExportFault}
-use Rattle.osm_import.specs.declared.export.fault.ExportFault.TheVariants.{Incomplete, PastEnd, WriteFailed, BlockTooLarge, Store}
+use Rattle.osm_import.specs.declared.export.fault.ExportFault.TheVariants.{Incomplete, PastEnd, WriteFailed, BlockTooLarge, Miscounted, Store}
 use Rattle.osm_parts.specs.Opening.{AddsUp}
 use Rattle.osm_parts.specs.Parts.{AreParts, entries_in}
 use Rattle.osm_parts.specs.Reading.{IsPart, AreEach, AreRead}
@@ -129,6 +129,7 @@ export-closed old lent new first last failed (Ok done) same adds cause = tt
 export-closed old lent new first last failed (Err WriteFailed) same adds cause = cause
 export-closed old lent new first last failed (Err (Store fault)) same adds cause = cause-closed old lent new first last fault same adds cause
 export-closed old lent new first last failed (Err BlockTooLarge) same adds cause = tt
+export-closed old lent new first last failed (Err (Miscounted off)) same adds cause = tt
 export-closed old lent new first last failed (Err (Incomplete from to)) same adds cause = tt
 export-closed old lent new first last failed (Err (PastEnd fin)) same adds cause = tt
 
@@ -137,5 +138,6 @@ export-later old middle new failed (Ok done) le cause = tt
 export-later old middle new failed (Err WriteFailed) le cause = cause
 export-later old middle new failed (Err (Store fault)) le cause = cause-later old middle new fault le cause
 export-later old middle new failed (Err BlockTooLarge) le cause = tt
+export-later old middle new failed (Err (Miscounted off)) le cause = tt
 export-later old middle new failed (Err (Incomplete from to)) le cause = tt
 export-later old middle new failed (Err (PastEnd fin)) le cause = tt

@@ -101,7 +101,8 @@ fn have_history(parts: &[Part]) -> bool
 /// has read of these stores. For each run its store is opened once more, one after the other, and what it holds stays.
 ///
 /// After `WriteFailed` a front of the text went out, and after `Store` the lines of the blobs before; it is also the answer
-/// where a store isn't opened.
+/// where a store isn't opened. After `Miscounted`, which never comes over stores that hold maps, it is the lines of the
+/// blobs before, too.
 pub fn export_parts_as_lines<K: Reader + Drop, O: Openings<K>, S: Sink>(
     alloc: Global,
     openings: &mut O,

@@ -1,5 +1,5 @@
 -- No frame ends before the end of what a framer holds.
-use Rattle.std.proofs.Common.{◌≡◌, ◌⊎◌, ℕ, zero, suc, ◌+◌, ◌-◌, ◌<◌, ◌≤◌, List, [], ◌∷◌, ◌++◌, length, take, drop, Some, Result, Ok, Err, refl, sym, ap, subst, ◌∙◌, inl, inr, arith, append-nil, length-append}
+use Rattle.std.proofs.Common.{◌≡◌, ◌⊎◌, ℕ, zero, suc, ◌+◌, ◌-◌, ◌<◌, ◌≤◌, List, [], ◌∷◌, ◌++◌, length, take, drop, Some, Result, Ok, Err, refl, sym, ap, subst, ◌∙◌, inl, inr, arith, append-nil, append_assoc, length-append}
 use Rattle.std.proofs.lemmas.List.{take-append-drop, drop_at}
 use Rattle.pbf_wire.proofs.Choices.{ok_is, not_both}
 use Rattle.pbf_frame.specs.declared.fault.FrameFault.{FrameFault}
@@ -7,7 +7,7 @@ use Rattle.pbf_frame.specs.Framer.{Framing, fed, lacking, taken}
 use Rattle.pbf_frame.specs.Parts.{part_end}
 use Rattle.pbf_frame.proofs.PartLaws.{part_grows}
 use Rattle.pbf_frame.proofs.WaitingLaws.{fault_again, waits_again}
-use Rattle.osm_reading.specs.Framings.{Moved, IsFull, IsBegun, HasNoFrame}
+use Rattle.osm_reading.specs.Framings.{Moved, IsFull, IsBegun, HasFull, HasNoFrame}
 use Rattle.osm_reading.proofs.Filling.{empty-full}
 use Rattle.osm_reading.proofs.Moves.{moved_both}
 
@@ -92,3 +92,13 @@ no-frame-in-nothing offset bytes empty front more e full =
     nil : (xs : List ℕ) → length xs ≡ 0 → xs ≡ []
     nil [] h = refl
     nil (x ∷ xs) h = absurd (omega arith)
+
+-- what a framer has and what is unread are the same bytes, whatever was taken
+same-bytes : (f g : Framing) (p q : List ℕ) → Moved f g (Some p) (Some q) → g.rest ++ q ≡ f.rest ++ p
+same-bytes f g p q h = ap (λ (v : List ℕ). v ++ q) h.2 ∙ append_assoc f.rest h.0 q ∙ ap (λ (v : List ℕ). f.rest ++ v) (sym h.3)
+
+-- where the framer takes more and nothing is unread, there was no frame and no fault
+pub not-ready : (f g : Framing) (p q : List ℕ) → Moved f g (Some p) (Some q) → IsBegun g → (IsFull g → ⊥) → q ≡ [] → HasFull f.offset (f.rest ++ p) → ⊥
+not-ready f g p q moved begun hungry none ready =
+    no-frame g begun hungry ready.0 ready.1 (sym (append-nil g.rest) ∙ ap (λ (v : List ℕ). g.rest ++ v) (sym none) ∙ same-bytes f g p q moved ∙ ready.2)
+    (subst (λ n. IsFull (record { offset = n; rest = ready.0; lent = [] })) (sym moved.1) ready.3)

@@ -9,12 +9,12 @@ use Rattle.pbf_frame.specs.Framer.{Framing, given, shown, waiting}
 use Rattle.pbf_frame.specs.Parts.{part_end}
 use Rattle.pbf_frame.proofs.PartLaws.{empty_part, whole_long}
 use Rattle.pbf_frame.proofs.WaitingLaws.{waiting_again, waiting_read, waiting_faults, waits_again}
-use Rattle.osm_reading.specs.Framings.{Known, Moved, IsFull, IsBegun, HasNoFrame}
+use Rattle.osm_reading.specs.Framings.{Known, Moved, IsFull, IsBegun, HasFull, HasNoFrame}
 use Rattle.osm_reading.specs.FrameReads.{Reading, HasFrame, LacksFrame, framing_of, Halts, ReadsFrame}
 use Rattle.osm_reading.specs.Good.{IsFrame}
 use Rattle.osm_reading.specs.declared.stream.fault.Stop.{Stop}
 use Rattle.osm_reading.specs.declared.stream.fault.Stop.TheVariants.{ReadFailed}
-use Rattle.osm_reading.proofs.Begun.{no-frame as none-held}
+use Rattle.osm_reading.proofs.Begun.{begun-empty, no-frame as none-held}
 
 -- what is before a framer, a piece and a reader
 abbrev pub before : Framing → List ℕ → Known → Bool → Reading
@@ -44,8 +44,8 @@ framing-is f offset here none =
 
 -- no frame waits
 pub halts : (f g : Framing) (p q : List ℕ) (left after : Known) (was is : Bool) (at : ℕ) (stop : Stop) → Moved f g (prepend_known p left) (prepend_known q after) → g.lent ≡ [] → at ≡ f.offset
-    → LacksFrame g (prepend_known q after) is stop → IsBegun g → (stop ≡ ReadFailed → q ≡ []) → Halts (before f p left was) (before g q after is) (record { fault = stop; at = at })
-halts f g p q left after was is at stop moved none here lacks begun spent =
+    → LacksFrame g (prepend_known q after) is stop → IsBegun g → (stop ≡ ReadFailed → q ≡ []) → (HasFull f.offset (f.rest ++ p) → after ≡ left) → Halts (before f p left was) (before g q after is) (record { fault = stop; at = at })
+halts f g p q left after was is at stop moved none here lacks begun spent late =
     let read = reads-on f g p q left after moved in
     record {
       here = here;
@@ -58,6 +58,7 @@ halts f g p q left after was is at stop moved none here lacks begun spent =
       parted = refl;
       none = λ failed. subst (λ (v : List ℕ). HasNoFrame g.offset v) (sym (ap (λ (v : List ℕ). g.rest ++ v) (spent failed) ∙ append-nil g.rest))
           (none-held g begun (subst (λ (x : Stop). LacksFrame g (prepend_known q after) is x) failed lacks).1);
+      late = late;
     }
 
 abbrev no-frame : Option (ℕ × List ℕ)
@@ -65,8 +66,8 @@ no-frame = None
 
 -- what the framer lent, or gave none
 pub gives : (f g h : Framing) (p q : List ℕ) (left after : Known) (was is : Bool) (o : Option (ℕ × Bor (List ℕ))) → Moved f g (prepend_known p left) (prepend_known q after)
-    → HasFrame g (prepend_known q after) → shown (Ok o) ≡ waiting g → h ≡ given g (waiting g) → ReadsFrame (before f p left was) (before h q after is) (Ok o)
-gives f g h p q left after was is (Some (at, w)) moved has e state =
+    → HasFrame g (prepend_known q after) → shown (Ok o) ≡ waiting g → h ≡ given g (waiting g) → (HasFull f.offset (f.rest ++ p) → after ≡ left) → ReadsFrame (before f p left was) (before h q after is) (Ok o)
+gives f g h p q left after was is (Some (at, w)) moved has e state late =
     let read = waiting_read g (at, w.now) (sym e) in
     let here : at ≡ g.offset = ap (λ (x : ℕ × List ℕ). x.0) read.0 in
     let bytes : w.now ≡ g.rest = ap (λ (x : ℕ × List ℕ). x.1) read.0 in
@@ -82,17 +83,32 @@ gives f g h p q left after was is (Some (at, w)) moved has e state =
       read = subst (λ (v : List ℕ). Consumes (prepend_known (f.rest ++ p) left) (prepend_known (v ++ q) after) w.now) (sym (ap (λ (x : Framing). x.rest) new))
           (subst (λ (v : List ℕ). Consumes (prepend_known (f.rest ++ p) left) (prepend_known q after) v) (sym bytes) (reads-on f g p q left after moved));
       parted = refl;
+      late = late;
     }
-gives f g h p q left after was is None moved (inl waits) e state =
+gives f g h p q left after was is None moved (inl waits) e state late =
     absurd (let clash : no-frame ≡ Some (g.offset, g.rest) = ok_is {E = FrameFault} no-frame (Some (g.offset, g.rest)) (e ∙ waiting_again g waits) in cc)
-gives f g h p q left after was is None moved (inr (empty, end)) e state =
+gives f g h p q left after was is None moved (inr (empty, end)) e state late =
     let new : h ≡ record g { lent = [] } = state ∙ ap (given g) (sym e) in
     let rest : h.rest ≡ [] = ap (λ (x : Framing). x.rest) new ∙ empty in (
       none-left (prepend_known (f.rest ++ p) left) (prepend_known q after) g.rest (reads-on f g p q left after moved) empty end,
       subst (λ (v : List ℕ). IsAtEnd (prepend_known (v ++ q) after)) (sym rest) end,
       ap (λ (x : Framing). x.offset) new ∙ moved.1,
       refl,
+      late,
     )
+
+given-empty : (f : Framing) (r : Result (Option (ℕ × List ℕ)) FrameFault) → f.rest ≡ [] → (given f r).rest ≡ []
+given-empty f (Ok (Some x)) empty = refl
+given-empty f (Ok None) empty = empty
+given-empty f (Err fault) empty = empty
+
+-- nothing is held behind a frame that was given, nor at the end
+pub begun-next : (f h : Framing) (left : Known) → HasFrame f left → h ≡ given f (waiting f) → IsBegun h
+begun-next f h left has state =
+    begun-empty h (elim has [
+      | inl waits ↦ ap (λ (x : Framing). x.rest) (state ∙ ap (given f) (waiting_again f waits))
+      | inr (empty, end) ↦ ap (λ (x : Framing). x.rest) state ∙ given-empty f (waiting f) empty
+    ])
 
 -- no fault stands where a frame waits or nothing is held
 pub faultless : (f : Framing) (left : Known) (fault : FrameFault) → HasFrame f left → Err fault ≡ waiting f → ⊥

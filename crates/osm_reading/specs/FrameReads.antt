@@ -5,7 +5,7 @@ use Rattle.std.specs.Io.KnownBytes.{Consumes, IsAtEnd, Keeps, prepend_known}
 use Rattle.pbf_frame.specs.Framer.{Framing, FrameWaits, FaultStands, IsUnfinished}
 use Rattle.osm_faults.specs.declared.fault.StoreFault.TheVariants.{Memory}
 use Rattle.osm_reading.specs.Good.{IsFrame}
-use Rattle.osm_reading.specs.Framings.{Known, IsFull, HasNoFrame}
+use Rattle.osm_reading.specs.Framings.{Known, IsFull, HasFull, HasNoFrame}
 use Rattle.osm_reading.specs.declared.stream.fault.Stop.{Stop}
 use Rattle.osm_reading.specs.declared.stream.fault.Stop.TheVariants.{Frame, Store, ReadFailed}
 use Rattle.osm_reading.specs.declared.stream.fault.StreamFault.{StreamFault}
@@ -45,7 +45,11 @@ framing_of offset bytes = record { offset = offset; rest = bytes; lent = [] }
 
 -- A whole frame was read, or a fault applies to what was read.
 abbrev pub IsReady : Reading → Type 0
-IsReady r = (front more : List ℕ) × (r.read ≡ front ++ more) × IsFull (framing_of r.offset front)
+IsReady r = HasFull r.offset r.read
+
+-- Where that is so, the source isn't asked: it has what it had.
+abbrev pub AsksLate : Reading → Reading → Type 0
+AsksLate old new = IsReady old → new.behind ≡ old.behind
 
 -- The next bytes are a whole frame, which ends at 2^62 at most.
 pub record GivesFrame (old new : Reading) (at : ℕ) (frame : List ℕ) : Type 0 where
@@ -56,6 +60,7 @@ pub record GivesFrame (old new : Reading) (at : ℕ) (frame : List ℕ) : Type 0
   pub limit : new.offset ≤ 4611686018427387904
   pub read : Consumes old.left new.left frame
   pub parted : IsParted new
+  pub late : AsksLate old new
 
 -- Why no frame is given: what was read of the bytes before it has no frame; where a read failed, that is all that was read.
 pub record Halts (old new : Reading) (stop : StreamFault) : Type 0 where
@@ -68,9 +73,10 @@ pub record Halts (old new : Reading) (stop : StreamFault) : Type 0 where
   pub why : LacksFrame (framing_of old.offset got) behind new.has_failed stop.fault
   pub parted : IsParted new
   pub none : stop.fault ≡ ReadFailed → HasNoFrame new.offset new.read
+  pub late : AsksLate old new
 
 -- what the call for the next frame has done: it gives none only where no byte is left
 abbrev pub ReadsFrame : Reading → Reading → Result (Option (ℕ × Bor (List ℕ))) StreamFault → Type 0
 ReadsFrame old new (Ok (Some frame)) = GivesFrame old new frame.0 frame.1.now
-ReadsFrame old new (Ok None) = IsAtEnd old.left × IsAtEnd new.left × (new.offset ≡ old.offset) × IsParted new
+ReadsFrame old new (Ok None) = IsAtEnd old.left × IsAtEnd new.left × (new.offset ≡ old.offset) × IsParted new × AsksLate old new
 ReadsFrame old new (Err stop) = Halts old new stop

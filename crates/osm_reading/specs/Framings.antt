@@ -19,6 +19,10 @@ IsFull f = FrameWaits f ⊎ ((fault : FrameFault) × FaultStands fault f)
 abbrev pub HasNoFrame : ℕ → List ℕ → Type 0
 HasNoFrame offset bytes = (front more : List ℕ) → bytes ≡ front ++ more → IsFull (record { offset = offset; rest = front; lent = [] }) → ⊥
 
+-- Some front of these bytes is a whole frame, or has a fault that stands.
+abbrev pub HasFull : ℕ → List ℕ → Type 0
+HasFull offset bytes = (front more : List ℕ) × (bytes ≡ front ++ more) × IsFull (record { offset = offset; rest = front; lent = [] })
+
 -- No frame ends, and no fault applies, before the end of what the framer holds.
 abbrev pub IsBegun : Framing → Type 0
 IsBegun f = (front more : List ℕ) → f.rest ≡ front ++ more → 0 < length more → IsFull (record { offset = f.offset; rest = front; lent = [] }) → ⊥

@@ -12,7 +12,7 @@ use Rattle.osm_import.specs.Copies.{IsMerged, IsUnited, Copies, CrashLeavesSome,
 use Rattle.osm_reading.specs.Framings.{Known}
 use Rattle.osm_import.specs.declared.copy.CopyCounts.{CopyCounts}
 use Rattle.osm_import.specs.declared.copy.CopyFault.{CopyFault}
-use Rattle.osm_import.specs.declared.copy.CopyFault.TheVariants.{Refused, Store}
+use Rattle.osm_import.specs.declared.copy.CopyFault.TheVariants.{Refused, Miscounted, Store}
 use Rattle.osm_import.specs.declared.copy.CopyStop.{CopyStop}
 use Rattle.osm_parts.specs.Opening.{AddsUp, OnlyOpens}
 use Rattle.osm_parts.specs.Parts.{IsInPart}
@@ -134,6 +134,7 @@ own-merged (Err stop) own = own
 -- a cause that was met at some time
 any-cause : (first last before now : ℕ) (fault : CopyFault) → FaultIsCaused first last before now fault → FaultIsCaused first last 0 now fault
 any-cause first last before now (Refused conflict) cause = tt
+any-cause first last before now Miscounted cause = tt
 any-cause first last before now (Store fault) cause = elim cause [ inl from ↦ inl from | inr to ↦ inr (cause-later 0 before now fault (omega arith) to) ]
 
 pub cause-merged : (old lent new first last before now : ℕ) (outcome : Result CopyCounts CopyStop) → lent ≡ old → AddsUp lent last new → CopyHasCause first last before now outcome → MergeHasCause old new now (merged_of outcome)
@@ -142,6 +143,7 @@ cause-merged old lent new first last before now (Err stop) same adds cause = at 
   where
     at : (fault : CopyFault) → FaultIsCaused first last 0 now fault → FaultIsCaused old new 0 now fault
     at (Refused conflict) cause = tt
+    at Miscounted cause = tt
     at (Store fault) cause = elim cause [ inl from ↦ inl (cause-closed old lent new first last fault same adds from) | inr to ↦ inr to ]
 
 pub opens-merged : {S : Type 0} (holds : S → List HeldMap → Type 0) (is_honest is_open : S → Type 0) (old new : S) (outcome : Result CopyCounts CopyStop) → OnlyOpens holds is_honest is_open old outcome new → OnlyOpens holds is_honest is_open old (merged_of outcome) new
@@ -156,6 +158,7 @@ merge-cause-later f0 f1 f2 now (Err (Stopped stop)) f cause = at stop.fault caus
   where
     at : (fault : CopyFault) → FaultIsCaused f1 f2 0 now fault → FaultIsCaused f0 f2 0 now fault
     at (Refused conflict) cause = tt
+    at Miscounted cause = tt
     at (Store fault) cause = elim cause [ inl from ↦ inl (cause-later f0 f1 f2 fault f from) | inr to ↦ inr to ]
 
 -- ---- the whole
@@ -174,6 +177,7 @@ merges-take is_open holds maps held counts (Err (Stopped stop)) (front, source, 
   where
     at : (fault : CopyFault) → Stops is_open holds source next stop.off fault → (after : HeldMap) × TakesOf (source ∷ []) next after × holds after
     at (Refused conflict) (after, united, refused, now) = (after, takes-one (λ off. off < stop.off) source next after united, now)
+    at Miscounted never = absurd never
     at (Store fault) (after, united, now) = (after, takes-one (λ off. off < stop.off) source next after united, now up)
 
 -- a crash at a store leaves what was held with blobs of the maps up to it

@@ -3,19 +3,22 @@ use Rattle.std.specs.Prelude.{◌≡◌, ℕ, Bool, List, Result, Ok, Err}
 use Rattle.osm_value.specs.Sink.{Wrote}
 use Rattle.osm_import.specs.ExportFaults.{export_number_of, export_name_of}
 use Rattle.osm_reading.specs.Framings.{Known}
-use Rattle.osm_reading.specs.Lines.{plain_fault_line}
+use Rattle.osm_reading.specs.Lines.{plain_fault_line, fault_line}
 use Rattle.osm_import.specs.declared.export.fault.ExportFault.{ExportFault}
-use Rattle.osm_import.specs.declared.export.fault.ExportFault.TheVariants.{Incomplete, PastEnd, WriteFailed, BlockTooLarge, Store}
+use Rattle.osm_import.specs.declared.export.fault.ExportFault.TheVariants.{Incomplete, PastEnd, WriteFailed, BlockTooLarge, Miscounted, Store}
 
+-- the line of a fault of the whole export
 abbrev pub export_fault_line : ExportFault → List ℕ
 export_fault_line fault = plain_fault_line (export_number_of fault) (export_name_of fault)
 
 -- What follows the exported text: nothing, and the exit status is 0; or the line of the fault at which the export
--- stopped, and it is 1. Where the output has failed nothing follows.
+-- stopped, with the offset of a blob whose elements are others than its row counts, and it is 1. Where the output has
+-- failed nothing follows.
 abbrev pub EndsExport : Known → Known → Bool → ℕ → Result (Unit {0}) ExportFault → Type 0
 EndsExport text written failed status (Ok _) = (status ≡ 0) × (written ≡ text)
 EndsExport text written failed status (Err WriteFailed) = (status ≡ 1) × (written ≡ text)
 EndsExport text written failed status (Err (Incomplete from to)) = (status ≡ 1) × Wrote text (export_fault_line (Incomplete from to)) written failed
 EndsExport text written failed status (Err (PastEnd fin)) = (status ≡ 1) × Wrote text (export_fault_line (PastEnd fin)) written failed
 EndsExport text written failed status (Err BlockTooLarge) = (status ≡ 1) × Wrote text (export_fault_line BlockTooLarge) written failed
+EndsExport text written failed status (Err (Miscounted off)) = (status ≡ 1) × Wrote text (fault_line (export_number_of (Miscounted off)) (export_name_of (Miscounted off)) off) written failed
 EndsExport text written failed status (Err (Store fault)) = (status ≡ 1) × Wrote text (export_fault_line (Store fault)) written failed

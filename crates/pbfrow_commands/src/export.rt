@@ -11,7 +11,7 @@ ghost use Rattle.osm_import.specs.declared.export.fault.ExportFault.{ExportFault
 ghost use Rattle.osm_import.specs.Stores.{Stays};
 ghost use Rattle.pbfrow_commands.specs.Exporting.{EndsExport};
 
-use osm_import::{ExportFault, export_lines, export_pbf, put_plain_fault};
+use osm_import::{ExportFault, export_lines, export_pbf, put_fault_at, put_plain_fault};
 use osm_store::Reader;
 use osm_value::{Form, Sink};
 use std::alloc::Global;
@@ -23,6 +23,7 @@ fn put_export_fault<S: Sink>(out: &mut S, fault: ExportFault)
 {
     match fault {
         ExportFault::WriteFailed => {}
+        ExportFault::Miscounted(off) => put_fault_at(out, fault.number(), fault.name(), off),
         fault => put_plain_fault(out, fault.number(), fault.name()),
     }
 }

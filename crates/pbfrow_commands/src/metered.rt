@@ -31,9 +31,14 @@ impl<R: Read + Seek, P: Watcher> FileBytes for MeteredFile<'_, R, P> {
     }
 
     fn read_at(&mut self, off: u64, buffer: &mut [u8]) -> Result<bool, SourceFailed> {
-        let Ok(_) = self.file.seek(SeekFrom::Start(off)) else {
-            return Err(SourceFailed);
-        };
+        if self.file.seek(SeekFrom::Start(off)).is_err() {
+            // No file system has each offset. Where the file ends before this one, it has no bytes there.
+            return if off < self.size()? {
+                Err(SourceFailed)
+            } else {
+                Ok(false)
+            };
+        }
         match self.file.read_exact(buffer) {
             Ok(()) => {
                 self.watcher.see_bytes(buffer.len() as u64);

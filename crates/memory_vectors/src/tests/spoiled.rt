@@ -314,36 +314,46 @@ const COPIED: Step = Step::Extents(&[PLACED_HEADER, PLACED_NODES]);
 
 const ALL_LINES: Step = Step::PartialLines(&[LINES, THREE_WAYS_LINES, RELATION_LINE, WAY_LINE]);
 
-/// Expects that exports of whatever is held write the pieces before they stop at fault 66.
+/// How an export and a copy stop at rows that are those of no blob.
+const FOREIGN: (ExportFault, CopyFault) = (
+    ExportFault::Store(StoreFault::NotThisStore(None)),
+    CopyFault::Store(StoreFault::NotThisStore(None)),
+);
+
+/// How they stop where there are other than three ways.
+const MISCOUNTED: (ExportFault, CopyFault) = (ExportFault::Miscounted(100), CopyFault::Miscounted);
+
+/// Expects that exports of whatever is held write the pieces before they stop.
 fn expect_front<K: NewStore, R: Abort + Alloc<A = Global>>(
     rt: &R,
     store: &mut K,
     form: Form,
+    fault: ExportFault,
     pieces: &[&[u8]],
     sql: &str,
 ) {
     let (result, bytes) = exported(rt.alloc(), store, form, None, true);
-    let foreign = ExportFault::Store(StoreFault::NotThisStore(None));
-    assert_eq!(rt; result, Err(foreign), "{sql}");
+    assert_eq!(rt; result, Err(fault), "{sql}");
     assert!(rt; are_joined(&bytes, pieces), "{sql}");
 }
 
-/// Expects that exports and a copy stop at the three ways, once their rows are spoiled. An export as PBF has written these
-/// pieces.
+/// Expects that exports and a copy stop at the three ways with these faults, once their rows are spoiled. An export as PBF
+/// has written these pieces.
 fn expect_stops<K: NewSqlStore, R: Abort + Alloc<A = Global>>(
     rt: &R,
     layout: &str,
     statements: &[&str],
+    faults: (ExportFault, CopyFault),
     pbf: &[&[u8]],
 ) -> Result<(), Fail> {
     for sql in statements {
         let store: K = followed(rt.alloc(), layout, FIVE_BLOBS)?;
         let mut store = store.changed(sql).ok_or("a store")?;
-        expect_front(rt, &mut store, Form::Lines, &[LINES], sql);
-        expect_front(rt, &mut store, Form::Pbf, pbf, sql);
+        expect_front(rt, &mut store, Form::Lines, faults.0, &[LINES], sql);
+        expect_front(rt, &mut store, Form::Pbf, faults.0, pbf, sql);
         let mut other = K::new_store(rt.alloc())?;
         let stop = CopyStop {
-            fault: CopyFault::Store(StoreFault::NotThisStore(None)),
+            fault: faults.1,
             off: 100,
         };
         assert_eq!(rt;
@@ -382,6 +392,24 @@ fn exports_and_copies(rt: HostRuntime) -> Result<(), Fail> {
     ];
     expect_whole::<BodiesInMemory, _>(&rt, "bodies")?;
     expect_whole::<TablesInMemory, _>(&rt, "tables")?;
-    expect_stops::<BodiesInMemory, _>(&rt, "bodies", BODIES, &[])?;
-    expect_stops::<TablesInMemory, _>(&rt, "tables", TABLES, &[WRITTEN_HEADER, NODES])
+    expect_stops::<BodiesInMemory, _>(&rt, "bodies", BODIES, FOREIGN, &[])?;
+    expect_stops::<TablesInMemory, _>(&rt, "tables", TABLES, FOREIGN, &[WRITTEN_HEADER, NODES])
+}
+
+/// So it is where the row of the blob counts more or fewer elements than there are.
+#[test]
+fn exports_and_copies_of_other_counts(rt: HostRuntime) -> Result<(), Fail> {
+    const BODIES: &[&str] = &[
+        "DELETE FROM body WHERE off = 100 AND pos = 2",
+        "UPDATE blob SET n = 4 WHERE off = 100",
+    ];
+    const TABLES: &[&str] = &[
+        "DELETE FROM element WHERE off = 100 AND pos = 2",
+        "DELETE FROM element WHERE off = 100",
+        "INSERT INTO element (off, pos, kind, id) VALUES (100, 3, 1, 2)",
+        "UPDATE blob SET n = 2 WHERE off = 100",
+    ];
+    const PBF: &[&[u8]] = &[WRITTEN_HEADER, NODES];
+    expect_stops::<BodiesInMemory, _>(&rt, "bodies", BODIES, MISCOUNTED, PBF)?;
+    expect_stops::<TablesInMemory, _>(&rt, "tables", TABLES, MISCOUNTED, PBF)
 }

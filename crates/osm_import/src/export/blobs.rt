@@ -4,11 +4,11 @@ ghost use Rattle.std.specs.Prelude.{◌≡◌, ◌≤◌, false, Some, Err, IfOk
 ghost use Rattle.std.specs.FinMap.{get, entries};
 ghost use Rattle.osm_store.specs.Held.{Blob, HeldMap};
 ghost use Rattle.osm_store.specs.Calls.{OfHeld};
-ghost use Rattle.osm_store.specs.Keeping.{extents_of};
+ghost use Rattle.osm_store.specs.Keeping.{extent_of, extents_of};
 ghost use Rattle.osm_import.specs.Gaps.{Tiles};
 ghost use Rattle.osm_import.specs.Exports.{size_of, IsUnbegun};
-ghost use Rattle.osm_import.specs.ExportCauses.{ExportHasCause, ExportIsOwn, WriteHasCause};
-ghost use Rattle.osm_import.specs.Walks.{Writing, IsWithin, WritesOne, Walks};
+ghost use Rattle.osm_import.specs.ExportCauses.{ExportHasCause, ExportIsOwn, ExportTells, WriteHasCause};
+ghost use Rattle.osm_import.specs.Walks.{Writing, IsWithin, WritesOne, WritesComplete, Walks, WalksComplete};
 ghost use Rattle.osm_import.specs.Stores.{Rereads};
 
 use super::ExportFault;
@@ -42,6 +42,7 @@ pub(super) fn extents_to_export<K: Reader>(
     ensures rereads { Rereads K.Reader keeper.old result keeper.new }
     ensures own { OfHeld K.Reader keeper.old keeper.new (λ _. IfErr result (λ fault. ExportIsOwn (Err fault))) }
     ensures cause { IfErr result (λ fault. ExportHasCause (K.failures keeper.old) (K.failures keeper.new) false (Err fault)) }
+    ensures told { ExportTells (K.failures keeper.old) (K.failures keeper.new) result }
     ensures counted { K.failures keeper.old ≤ K.failures keeper.new }
 {
     let extents = keeper.extents(alloc)?;
@@ -53,28 +54,36 @@ pub(super) fn extents_to_export<K: Reader>(
     Ok(extents)
 }
 
-/// Takes the step at the blob at an offset.
+/// Takes the step at the blob at an extent, unless the store has other than as many elements of it as the extent says.
 fn write_blob<K: Reader, S: Sink, W: BlobStep<S>>(
     alloc: Global,
     keeper: &mut K,
-    off: u64,
+    extent: &Extent,
     step: &W,
     out: &mut S,
 ) -> Result<(), ExportFault>
-    ensures wrote { (held : HeldMap) (blob : Blob) → K.holds keeper.old held → K.is_honest keeper.new → get held off ≡ Some blob
-        → WritesOne W.writes (S.written out.old) blob.elements (S.written out.new) result }
+    ensures wrote { (held : HeldMap) (blob : Blob) → K.holds keeper.old held → K.is_honest keeper.new → get held extent.now.off ≡ Some blob
+        → extent.now ≡ extent_of (extent.now.off, blob) → WritesOne W.writes (S.written out.old) blob.elements (S.written out.new) result }
+    ensures complete { WritesComplete W.writes (S.written out.old) extent.now (S.written out.new) result }
     ensures rereads { Rereads K.Reader keeper.old result keeper.new }
     ensures own { OfHeld K.Reader keeper.old keeper.new (λ _. ExportIsOwn result) }
     ensures cause { ExportHasCause (K.failures keeper.old) (K.failures keeper.new) (S.has_failed out.new) result }
+    ensures told { ExportTells (K.failures keeper.old) (K.failures keeper.new) result }
     ensures counted { K.failures keeper.old ≤ K.failures keeper.new }
 {
-    let loaded = keeper.load(alloc, off)?;
+    let loaded = keeper.load(alloc, extent.off)?;
     let elements = loaded.elements(alloc)?;
+    if elements.len() as u64 != extent.n {
+        return Err(ExportFault::Miscounted(extent.off));
+    }
     step.write(alloc, &elements, out)
 }
 
 /// Takes the step at each of the blobs at these extents, in their order, up to the first fault. Where they are all or some
 /// of those that the store holds, it is taken once at each of these, by offset. What is held stays.
+///
+/// Whatever rows the store has, the step is taken at as many elements as each extent says; where the store has more or
+/// fewer, it stops with `Miscounted` and that offset.
 pub fn write_blobs<K: Reader, S: Sink, W: BlobStep<S>>(
     alloc: Global,
     keeper: &mut K,
@@ -84,13 +93,15 @@ pub fn write_blobs<K: Reader, S: Sink, W: BlobStep<S>>(
 ) -> Result<(), ExportFault>
     ensures wrote { (held run : HeldMap) → K.holds keeper.old held → K.is_honest keeper.new → IsWithin run held → extents.now ≡ extents_of run
         → Walks W.writes (S.written out.old) (entries run) (S.written out.new) result }
+    ensures complete { WalksComplete W.writes (S.written out.old) extents.now (S.written out.new) result }
     ensures rereads { Rereads K.Reader keeper.old result keeper.new }
     ensures own { OfHeld K.Reader keeper.old keeper.new (λ _. ExportIsOwn result) }
     ensures cause { ExportHasCause (K.failures keeper.old) (K.failures keeper.new) (S.has_failed out.new) result }
+    ensures told { ExportTells (K.failures keeper.old) (K.failures keeper.new) result }
     ensures counted { K.failures keeper.old ≤ K.failures keeper.new }
 {
     for extent in extents {
-        write_blob(alloc, keeper, extent.off, step, out)?;
+        write_blob(alloc, keeper, extent, step, out)?;
     }
     Ok(())
 }

@@ -24,13 +24,16 @@ pub enum ExportFault {
     /// An element whose block alone has more than 33,554,431 bytes. It comes from exports as PBF alone.
     #[error("an element is too large for a block")]
     BlockTooLarge,
+    /// The blob at this offset has other than as many elements as its row says. Nothing of it is written.
+    #[error("the rows at {0} aren't those of the blob that was put there")]
+    Miscounted(u64),
     /// A call of the store has failed, or memory was refused.
     #[error("{0}")]
     Store(StoreFault),
 }
 
 impl ExportFault {
-    /// The number that this fault has in every message of the program: 67, 70, 24, 53, or that of the store's fault.
+    /// The number that this fault has in every message of the program: 67, 70, 24, 53, 66, or that of the store's fault.
     pub fn number(self) -> u8
         ensures { result ≡ export_number_of self }
     {
@@ -39,6 +42,7 @@ impl ExportFault {
             ExportFault::PastEnd(_) => 70,
             ExportFault::WriteFailed => 24,
             ExportFault::BlockTooLarge => 53,
+            ExportFault::Miscounted(_) => 66,
             ExportFault::Store(fault) => fault.number(),
         }
     }
@@ -52,6 +56,7 @@ impl ExportFault {
             ExportFault::PastEnd(_) => "PastEnd",
             ExportFault::WriteFailed => "WriteFailed",
             ExportFault::BlockTooLarge => "BlockTooLarge",
+            ExportFault::Miscounted(_) => "NotThisStore",
             ExportFault::Store(fault) => fault.name(),
         }
     }

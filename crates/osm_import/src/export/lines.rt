@@ -9,7 +9,7 @@ ghost use Rattle.osm_store.specs.Keeping.{extents_of};
 ghost use Rattle.osm_import.specs.Gaps.{Tiles};
 ghost use Rattle.osm_import.specs.Files.{IsFile, IsHeldOfFile};
 ghost use Rattle.osm_import.specs.Exports.{lines_of, WritesLines, WritesFile, IsExport, IsAskedFor, size_of};
-ghost use Rattle.osm_import.specs.ExportCauses.{ExportHasCause, ExportIsOwn};
+ghost use Rattle.osm_import.specs.ExportCauses.{ExportHasCause, ExportIsOwn, ExportTells};
 ghost use Rattle.osm_import.specs.Stores.{Rereads};
 
 use super::ExportFault;
@@ -50,6 +50,7 @@ impl<S: Sink> BlobStep<S> for Lines {
 /// end where none is given: with `Incomplete` and the first gap, or (0, 0) where nothing is held and the size is 0; else
 /// with `PastEnd` and the greatest held end, where that is past the size. After `WriteFailed` a front of the text went
 /// out, and after `Store` the lines of the blobs before; none, unless `partial`, where what is held doesn't tile the size.
+/// So it is after `Miscounted`, which never comes over a store that holds a map.
 ///
 /// Over a map that tiles a file and holds the entries of that file alone it isn't refused, with the file's size or with
 /// none, and at `Ok` it has written the lines of exactly the file's elements, in file order.
@@ -69,6 +70,7 @@ pub fn export_lines<K: Reader, S: Sink>(
     ensures rereads { Rereads K.Reader keeper.old result keeper.new }
     ensures own { OfHeld K.Reader keeper.old keeper.new (λ _. ExportIsOwn result) }
     ensures cause { ExportHasCause (K.failures keeper.old) (K.failures keeper.new) (S.has_failed out.new) result }
+    ensures told { ExportTells (K.failures keeper.old) (K.failures keeper.new) result }
 {
     let extents = extents_to_export(alloc, keeper, size, partial)?;
     write_blobs(alloc, keeper, &extents, &Lines, out)

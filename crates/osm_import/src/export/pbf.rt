@@ -9,7 +9,7 @@ ghost use Rattle.osm_store.specs.Keeping.{extents_of};
 ghost use Rattle.osm_import.specs.Gaps.{Tiles};
 ghost use Rattle.osm_import.specs.Files.{IsFile, IsHeldOfFile};
 ghost use Rattle.osm_import.specs.Exports.{WritesBlob, IsAskedFor, size_of};
-ghost use Rattle.osm_import.specs.ExportCauses.{ExportHasCause, ExportIsOwn, WriteHasCause};
+ghost use Rattle.osm_import.specs.ExportCauses.{ExportHasCause, ExportIsOwn, ExportTells, WriteHasCause};
 ghost use Rattle.osm_import.specs.Pbf.{header_frame, WritesBlocks, WritesPbfFile, IsPbfExport};
 ghost use Rattle.osm_import.specs.Stores.{Rereads};
 
@@ -98,7 +98,8 @@ impl<S: Sink> BlobStep<S> for Blocks {
 /// before `Store` either. `BlockTooLarge` comes where halving a blob's elements comes to one whose block alone has more
 /// than 33,554,431 bytes: the frames before that element went out. Over one map this and `Ok` never come both: an
 /// element that is too large alone, but lies in a block that isn't, is no fault. After `WriteFailed` and `Store` a
-/// front of what was to be written.
+/// front of what was to be written went out; after `Miscounted`, which never comes over a store that holds a map, the
+/// frames of the blobs before.
 ///
 /// Over a map that tiles a file and holds the entries of that file alone it isn't refused, with the file's size or with
 /// none, and at `Ok` it has written a file: one of the same elements, in the same order, where that is 2^62 bytes at
@@ -119,6 +120,7 @@ pub fn export_pbf<K: Reader, S: Sink>(
     ensures rereads { Rereads K.Reader keeper.old result keeper.new }
     ensures own { OfHeld K.Reader keeper.old keeper.new (λ _. ExportIsOwn result) }
     ensures cause { ExportHasCause (K.failures keeper.old) (K.failures keeper.new) (S.has_failed out.new) result }
+    ensures told { ExportTells (K.failures keeper.old) (K.failures keeper.new) result }
 {
     let extents = extents_to_export(alloc, keeper, size, partial)?;
     let history = keeper.history(alloc)?;

@@ -1,9 +1,9 @@
 //! The next frame of a source, piece by piece.
 
-ghost use Rattle.std.specs.Prelude.{◌≡◌, ◌≤◌, ◌<◌, ◌↔◌, [], true, false, Some, IfOk, IfErr, OnErr, OnOk, length};
+ghost use Rattle.std.specs.Prelude.{◌≡◌, ◌≤◌, ◌<◌, ◌↔◌, ◌++◌, [], true, false, Some, IfOk, IfErr, OnErr, OnOk, length};
 ghost use Rattle.std.specs.Io.KnownBytes.{Consumes, IsAtEnd, prepend_known};
 ghost use Rattle.pbf_frame.specs.Parts.{is_cut};
-ghost use Rattle.osm_reading.specs.Framings.{Moved, ReadHasCause, IsFull, IsBegun};
+ghost use Rattle.osm_reading.specs.Framings.{Moved, ReadHasCause, IsFull, IsBegun, HasFull};
 ghost use Rattle.osm_reading.specs.FrameReads.{HasFrame, LacksFrame};
 
 use super::fault::Stop;
@@ -74,6 +74,7 @@ fn fill<R: Source>(framer: &mut Framer, piece: &mut Piece, reader: &mut R) -> Re
     ensures full { IfOk result (λ is_full. is_full ≡ true → IsFull framer.new) }
     ensures ended { IfOk result (λ is_full. is_full ≡ false → (piece.new ≡ []) × IsAtEnd (R.bytes_left reader.new)) }
     ensures cause { IfErr result (ReadHasCause (R.has_failed reader.new)) }
+    ensures late { IsBegun framer.old → HasFull framer.old.offset (framer.old.rest ++ piece.old) → reader.new ≡ reader.old }
     ensures unfilled { IfErr result (λ stop. stop ≡ Stop.ReadFailed → IsFull framer.new → ⊥) }
     ensures spent { IfErr result (λ stop. stop ≡ Stop.ReadFailed → piece.new ≡ []) }
     ensures begun { IsBegun framer.old → IsBegun framer.new }
@@ -100,6 +101,7 @@ pub fn read_frame<R: Source>(
     reader: &mut R,
 ) -> Result<(), Stop>
     ensures moved { Moved framer.old framer.new (prepend_known piece.old (R.bytes_left reader.old)) (prepend_known piece.new (R.bytes_left reader.new)) }
+    ensures late { IsBegun framer.old → HasFull framer.old.offset (framer.old.rest ++ piece.old) → reader.new ≡ reader.old }
     ensures ok { OnOk result (HasFrame framer.new (prepend_known piece.new (R.bytes_left reader.new))) }
     ensures spent { IfErr result (λ stop. stop ≡ Stop.ReadFailed → piece.new ≡ []) }
     ensures begun { IsBegun framer.old → IsBegun framer.new }

@@ -1,4 +1,4 @@
-use Rattle.std.proofs.Common.{◌≡◌, ◌==◌, ◌∙◌, ◌<◌, Some, refl, sym, subst, ap, inl, inr, rules}
+use Rattle.std.proofs.Common.{◌≡◌, ◌==◌, ◌∙◌, ◌<◌, Some, length, refl, sym, subst, ap, inl, inr, arith, rules}
 use Rattle.std.specs.Prelude.{find}
 use Rattle.std.specs.FinMap.{insert}
 use Rattle.std.proofs.lemmas.Slice.Eq.{bytes_eq-Decides}
@@ -7,6 +7,7 @@ use Rattle.osm_store.specs.Held.{Blob, IsFree}
 use Rattle.osm_store.specs.declared.keeper.Extent.{Extent}
 use Rattle.osm_import.proofs.Delivering.{addable, found-at, unheld-at}
 use Rattle.osm_import.proofs.CopyLemmas.{blob_put, met_of}
+use Rattle.osm_import.proofs.WalkLemmas.{counted-by}
 use Rattle.osm_import.proofs.copy.copy_blob.Goals as goal
 
 pub returns-then-eq-clause-step : goal.returns-then-eq-clause-step
@@ -108,3 +109,38 @@ returns-clause-own g c = λ source held blob from_holds from_honest holds honest
     let can = addable held c.args.extent.now.off c.args.extent.now.fin c.in_ok-touched.touched.items c.args.extent.now.digest c.args.extent.now.kind c.deref-2.result.now blob.elements
     (c.in_ok-touched.ensures.touching held holds earlier) (search rules) are (g.met.F.Reader.has_few_texts _ source from_holds c.args.extent.now.off blob of) in
     c.in-Err.ensures.adds.own held (c.in_ok-touched.ensures.reads.ok earlier held holds) honest can
+
+pub returns-in-Ok-clause-alone : goal.returns-in-Ok-clause-alone
+returns-in-Ok-clause-alone g c = λ source held blob from_holds from_honest holds honest of is alone.
+    let earlier = c.put.ensures.adds.honest honest in
+    let are = c.deref-2.ensures.value ∙ c.in_ok-elements.ensures blob.elements (c.in_ok-loaded.ensures.rows source blob from_holds from_honest of) in
+    let can = addable held c.args.extent.now.off c.args.extent.now.fin c.in_ok-touched.touched.items c.args.extent.now.digest c.args.extent.now.kind c.deref-2.result.now blob.elements
+    (c.in_ok-touched.ensures.touching held holds earlier) (search rules) are (g.met.F.Reader.has_few_texts _ source from_holds c.args.extent.now.off blob of) in
+    c.put.ensures.adds.alone honest held (c.in_ok-touched.ensures.reads.ok earlier held holds) can (c.in_ok-touched.ensures.reads.alone earlier alone)
+
+pub returns-clause-alone : goal.returns-clause-alone
+returns-clause-alone g c = λ source held blob from_holds from_honest holds honest of is alone.
+    let earlier = c.put.ensures.adds.honest honest in
+    let are = c.deref-2.ensures.value ∙ c.in_ok-elements.ensures blob.elements (c.in_ok-loaded.ensures.rows source blob from_holds from_honest of) in
+    let can = addable held c.args.extent.now.off c.args.extent.now.fin c.in_ok-touched.touched.items c.args.extent.now.digest c.args.extent.now.kind c.deref-2.result.now blob.elements
+    (c.in_ok-touched.ensures.touching held holds earlier) (search rules) are (g.met.F.Reader.has_few_texts _ source from_holds c.args.extent.now.off blob of) in
+    c.put.ensures.adds.alone honest held (c.in_ok-touched.ensures.reads.ok earlier held holds) can (c.in_ok-touched.ensures.reads.alone earlier alone)
+
+pub returns-then-len-extent-clause-step : goal.returns-then-len-extent-clause-step
+returns-then-len-extent-clause-step g c = λ source held blob from_holds from_honest holds honest of is.
+    let counted = counted-by c.args.extent.now.off c.args.extent.now blob c.in_ok-elements.elements.items is (c.in_ok-elements.ensures blob.elements (c.in_ok-loaded.ensures.rows source blob from_holds from_honest of)) in
+    absurd (omega (arith, c.len.ensures, c.if-len-extent.true, counted))
+
+pub returns-then-len-extent-clause-own : goal.returns-then-len-extent-clause-own
+returns-then-len-extent-clause-own g c = λ source held blob from_holds from_honest holds honest of is.
+    let counted = counted-by c.args.extent.now.off c.args.extent.now blob c.in_ok-elements.elements.items is (c.in_ok-elements.ensures blob.elements (c.in_ok-loaded.ensures.rows source blob from_holds from_honest of)) in
+    absurd (omega (arith, c.len.ensures, c.if-len-extent.true, counted))
+
+pub returns-in-Ok-clause-complete : goal.returns-in-Ok-clause-complete
+returns-in-Ok-clause-complete g c =
+    let same = ap length c.deref-2.ensures.value in
+    let counted : length c.deref-2.result.now ≡ c.args.extent.now.n = omega (arith, same, c.len.ensures, c.if-len-extent.false) in (
+      c.deref-2.result.now,
+      counted,
+      λ held holds honest can. c.in-Ok.ensures.adds.ok honest held (c.in_ok-touched.ensures.reads.ok (c.put.ensures.adds.honest honest) held holds) can,
+    )

@@ -3,7 +3,7 @@ use Rattle.osm_store.specs.Held.{HeldMap}
 use Rattle.osm_import.specs.Copies.{IsMerged}
 use Rattle.osm_import.specs.Stores.{CopiesOne}
 use Rattle.osm_import.proofs.CopiesLemmas.{copies-push, counted-push, copies-same}
-use Rattle.osm_import.proofs.CopyLemmas.{IsAt, at_blob, taken_more, taken_below, taken_all, counted_all, merged_none, merged_step, crash_below, stops_at, cause_wider, held_more, held_by, held_all, already}
+use Rattle.osm_import.proofs.CopyLemmas.{IsAt, at_blob, taken_more, taken_below, taken_all, counted_all, merged_none, merged_step, crash_below, stops_at, cause_wider, tells_on, held_more, held_by, held_all, already}
 use Rattle.osm_import.proofs.WalkLemmas.{read-is}
 use Rattle.osm_import.proofs.copy.copy_blobs.Goals as goal
 use Rattle.osm_import.proofs.copy.copy_blobs.Goals.{in-Added, in-AlreadyHeld}
@@ -20,6 +20,8 @@ loop-extent-init g c = record {
   honest = λ h. h;
   open_if = λ h. h;
   counted = omega arith;
+  told = (refl, refl);
+  alone = λ source held from_holds from_honest holds honest are alone. alone;
   each = ([], (refl, refl), (refl, refl, refl));
   merged = λ source held from_holds from_honest holds honest are. (held, merged_none (λ off. IsAt [] off) source held (λ off none. none), holds, refl);
 }
@@ -39,10 +41,13 @@ loop-extent-preserved g c =
       step = made.step;
       crash = made.crash;
       whole = made.whole;
+      alone = made.alone;
       own = made.own;
       source = made.source;
       cause = made.cause;
+      told = made.told;
       same = made.same;
+      complete = made.complete;
       honest = made.honest;
       open_if = made.open_if;
       counted = made.counted;
@@ -58,6 +63,13 @@ loop-extent-preserved g c =
       honest = λ h. inv.honest (made.honest h);
       open_if = λ h. inv.open_if (made.open_if h);
       counted = omega (arith, inv.counted, made.counted.1);
+      told = (made.told.0 ∙ inv.told.0, made.told.1 ∙ inv.told.1);
+      alone = λ source held from_holds from_honest holds honest are alone.
+          let before = inv.merged source held from_holds (made.source.stays.honest from_honest) holds (made.honest honest) are in
+          let is = read-is c.args.extents.now c.loop-extent.extent-index _ _ (omega arith) in
+          let at = at_blob source c.args.extents.now c.loop-extent.extent-index _ are (omega arith) is in
+          made.alone source before.0 at.blob (inv.from_kept (made.source.stays.honest from_honest) source from_holds) from_honest before.2 honest at.found at.same
+          (inv.alone source held from_holds (made.source.stays.honest from_honest) holds (made.honest honest) are alone);
       each = (
         inv.each.0 ++ (_, Ok c.in-Ok.answer) ∷ [],
         copies-push g.F.Reader T c.args.from.now c.loop-extent.from c.copy_blob.new.from c.args.to.now c.loop-extent.to c.copy_blob.new.to inv.each.0 _ inv.each.1 one,
@@ -141,10 +153,13 @@ returns-in-Err-clause-each g c =
       step = made.step;
       crash = made.crash;
       whole = made.whole;
+      alone = made.alone;
       own = made.own;
       source = made.source;
       cause = made.cause;
+      told = made.told;
       same = made.same;
+      complete = made.complete;
       honest = made.honest;
       open_if = made.open_if;
       counted = made.counted;
@@ -186,3 +201,24 @@ returns-in-Err-clause-reached g c = λ source are.
     let is = read-is c.args.extents.now c.loop-extent.extent-index _ _ (omega arith) in
     let at = at_blob source c.args.extents.now c.loop-extent.extent-index _ are (omega arith) is in
     (at.blob, at.found)
+
+pub returns-in-Err-clause-alone : goal.returns-in-Err-clause-alone
+returns-in-Err-clause-alone g c = λ source held from_holds from_honest holds honest are alone.
+    let inv = c.loop-extent.invariant in
+    let made = c.in-Err.ensures in
+    let before = inv.merged source held from_holds (made.source.stays.honest from_honest) holds (made.honest honest) are in
+    let is = read-is c.args.extents.now c.loop-extent.extent-index _ _ (omega arith) in
+    let at = at_blob source c.args.extents.now c.loop-extent.extent-index _ are (omega arith) is in
+    made.alone source before.0 at.blob (inv.from_kept (made.source.stays.honest from_honest) source from_holds) from_honest before.2 honest at.found at.same
+    (inv.alone source held from_holds (made.source.stays.honest from_honest) holds (made.honest honest) are alone)
+
+pub returns-in-Err-clause-told : goal.returns-in-Err-clause-told
+returns-in-Err-clause-told g c =
+    let F = g.F.Reader in
+    let T = g.T.Reader in
+    let inv = c.loop-extent.invariant in
+    tells_on (F.failures c.args.from.now) (F.failures c.loop-extent.from) (F.failures c.copy_blob.new.from) (T.failures c.args.to.now) (T.failures c.loop-extent.to) (T.failures c.copy_blob.new.to) c.in-Err.fault
+    inv.told.0 inv.told.1 c.in-Err.ensures.told
+
+pub returns-clause-alone : goal.returns-clause-alone
+returns-clause-alone g c = c.loop-extent.invariant.alone

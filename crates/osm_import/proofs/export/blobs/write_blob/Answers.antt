@@ -1,10 +1,10 @@
-use Rattle.std.proofs.Common.{◌≡◌, ◌∙◌, List, subst}
+use Rattle.std.proofs.Common.{◌≡◌, ◌∙◌, List, length, ap, subst, arith}
 use Rattle.osm_value.specs.declared.element.Element.{Element}
-use Rattle.osm_import.proofs.WalkLemmas.{one-of, write-cause, write-own}
+use Rattle.osm_import.proofs.WalkLemmas.{one-of, write-cause, write-own, tells-none, complete-of, counted-by}
 use Rattle.osm_import.proofs.export.blobs.write_blob.Goals as goal
 
 pub returns-clause-wrote : goal.returns-clause-wrote
-returns-clause-wrote g c = λ held blob holds honest found.
+returns-clause-wrote g c = λ held blob holds honest found counted.
     let same : c.deref.result.now ≡ blob.elements = c.deref.ensures.value ∙ c.in_ok-elements.ensures blob.elements (c.in_ok-loaded.ensures.rows held blob holds honest found) in
     one-of g.W.BlobStep.writes (g.S.Sink.written c.args.out.now) blob.elements (g.S.Sink.written c.write.new.out) c.write.result
     (subst (λ (es : List Element). g.W.BlobStep.writes (g.S.Sink.written c.args.out.now) es (g.S.Sink.written c.write.new.out) c.write.result) same c.write.ensures.wrote)
@@ -14,3 +14,18 @@ returns-clause-own g c = λ held holds honest. write-own (g.S.Sink.has_failed c.
 
 pub returns-clause-cause : goal.returns-clause-cause
 returns-clause-cause g c = write-cause _ _ (g.S.Sink.has_failed c.write.new.out) c.write.result c.write.ensures.cause
+
+pub returns-clause-told : goal.returns-clause-told
+returns-clause-told g c = tells-none _ _ c.in_ok-loaded.ensures.reads.counted c.write.result
+
+pub returns-clause-complete : goal.returns-clause-complete
+returns-clause-complete g c =
+    let same = ap length c.deref.ensures.value in
+    let counted : length c.deref.result.now ≡ c.args.extent.now.n = omega (arith, same, c.len.ensures, c.if-len-extent.false) in
+    complete-of g.W.BlobStep.writes (g.S.Sink.written c.args.out.now) c.args.extent.now (g.S.Sink.written c.write.new.out) (g.S.Sink.has_failed c.write.new.out) c.write.result c.write.ensures.cause
+    (c.deref.result.now, counted, c.write.ensures.wrote)
+
+pub returns-then-len-extent-clause-wrote : goal.returns-then-len-extent-clause-wrote
+returns-then-len-extent-clause-wrote g c = λ held blob holds honest found is.
+    let counted = counted-by c.args.extent.now.off c.args.extent.now blob c.in_ok-elements.elements.items is (c.in_ok-elements.ensures blob.elements (c.in_ok-loaded.ensures.rows held blob holds honest found)) in
+    absurd (omega (arith, c.len.ensures, c.if-len-extent.true, counted))

@@ -2,7 +2,7 @@ use Rattle.std.proofs.Common.{◌≡◌, ◌≤◌, take}
 use Rattle.std.specs.FinMap.{entries}
 use Rattle.osm_store.specs.Held.{HeldMap}
 use Rattle.osm_store.specs.Keeping.{extents_of}
-use Rattle.osm_import.specs.Walks.{IsWithin, WritesInTurn}
+use Rattle.osm_import.specs.Walks.{IsWithin, WritesInTurn, CompleteInTurn}
 use Rattle.osm_import.proofs.export.blobs.write_blobs.Given as goal
 
 abbrev pub invariant-loop-extent : goal.invariant-loop-extent
@@ -16,6 +16,8 @@ invariant-loop-extent g l =
       crash : K.is_honest l.keeper → (held : HeldMap) → K.leaves l.keeper held → K.leaves l.fn.keeper held;
       whole : K.is_honest l.keeper → K.leaves_a_map l.fn.keeper → K.leaves_a_map l.keeper;
       counted : K.failures l.fn.keeper ≤ K.failures l.keeper;
+      told : K.failures l.keeper ≡ K.failures l.fn.keeper;
       wrote : (held run : HeldMap) → K.holds l.fn.keeper held → K.is_honest l.keeper → IsWithin run held → l.extents ≡ extents_of run
           → WritesInTurn g.W.BlobStep.writes (S.written l.fn.out) (take l.extent-index (entries run)) (S.written l.out);
+      complete : CompleteInTurn g.W.BlobStep.writes (S.written l.fn.out) (take l.extent-index l.extents) (S.written l.out);
     }

@@ -1,7 +1,7 @@
-use Rattle.std.proofs.Common.{◌∙◌, Result, sym, subst}
+use Rattle.std.proofs.Common.{◌∙◌, ℕ, Result, sym, subst}
 use Rattle.osm_store.specs.Keeping.{extents_of}
 use Rattle.osm_import.specs.Exports.{size_of, IsExport}
-use Rattle.osm_import.specs.ExportCauses.{ExportHasCause}
+use Rattle.osm_import.specs.ExportCauses.{ExportHasCause, ExportTells}
 use Rattle.osm_import.specs.declared.export.fault.ExportFault.{ExportFault}
 use Rattle.osm_import.proofs.ExportLemmas.{file-lines, exported, export-unbegun}
 use Rattle.osm_import.proofs.HandedOn.{handed}
@@ -34,3 +34,6 @@ pub returns-in_err-extents-clause-cause : goal.returns-in_err-extents-clause-cau
 returns-in_err-extents-clause-cause g c =
     subst (λ (r : Result (Unit {0}) ExportFault). ExportHasCause (g.K.Reader.failures c.args.keeper.now) (g.K.Reader.failures c.extents_to_export.new.keeper) (g.S.Sink.has_failed c.args.out.now) r) (sym (handed c.from_residual.result _ c.from_residual.ensures.1))
     (cause-unwritten _ _ (g.S.Sink.has_failed c.args.out.now) c.in_err-extents.field-0.0 c.in_err-extents.ensures.cause)
+
+pub returns-clause-told : goal.returns-clause-told
+returns-clause-told g c = subst (λ (before : ℕ). ExportTells before (g.K.Reader.failures c.write_blobs.new.keeper) c.write_blobs.result) c.in_ok-extents.ensures.told c.write_blobs.ensures.told

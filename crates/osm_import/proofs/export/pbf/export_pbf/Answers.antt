@@ -1,17 +1,17 @@
-use Rattle.std.proofs.Common.{◌∙◌, Bool, Result, Err, ap, sym, subst}
+use Rattle.std.proofs.Common.{◌∙◌, ℕ, Bool, Result, Err, ap, sym, subst}
 use Rattle.std.proofs.lemmas.Result.{err_from_is_err_and}
 use Rattle.std.specs.Io.KnownBytes.{Appends}
 use Rattle.osm_store.specs.Flags.{has_flags}
 use Rattle.osm_store.specs.Keeping.{extents_of}
 use Rattle.osm_import.specs.Exports.{WritesBlob, size_of}
 use Rattle.osm_import.specs.Pbf.{header_frame, IsPbfExport}
-use Rattle.osm_import.specs.ExportCauses.{ExportHasCause}
+use Rattle.osm_import.specs.ExportCauses.{ExportHasCause, ExportTells}
 use Rattle.osm_import.specs.declared.export.fault.ExportFault.{ExportFault}
 use Rattle.osm_import.specs.declared.export.fault.ExportFault.TheVariants.{Store}
 use Rattle.osm_import.proofs.PbfLemmas.{pbf-unbegun, pbf-no_header, pbf-exported}
 use Rattle.osm_import.proofs.PbfFile.{pbf-file}
 use Rattle.osm_import.proofs.HandedOn.{handed}
-use Rattle.osm_import.proofs.WalkLemmas.{cause-unwritten}
+use Rattle.osm_import.proofs.WalkLemmas.{cause-unwritten, tells-none}
 use Rattle.osm_import.proofs.export.pbf.export_pbf.Goals as goal
 
 pub returns-in_err-extents-clause-export : goal.returns-in_err-extents-clause-export
@@ -67,3 +67,10 @@ pub returns-in_err-extents-clause-cause : goal.returns-in_err-extents-clause-cau
 returns-in_err-extents-clause-cause g c =
     subst (λ (r : Result (Unit {0}) ExportFault). ExportHasCause (g.K.Reader.failures c.args.keeper.now) (g.K.Reader.failures c.extents_to_export.new.keeper) (g.S.Sink.has_failed c.args.out.now) r) (sym (handed c.from_residual.result _ c.from_residual.ensures.1))
     (cause-unwritten _ _ (g.S.Sink.has_failed c.args.out.now) c.in_err-extents.field-0.0 c.in_err-extents.ensures.cause)
+
+pub returns-in_err-write_header-clause-told : goal.returns-in_err-write_header-clause-told
+returns-in_err-write_header-clause-told g c = tells-none _ _ (c.in_ok-history.ensures.reads.counted ∙ c.in_ok-extents.ensures.told) c.from_residual-in_err-write_header.result
+
+pub returns-clause-told : goal.returns-clause-told
+returns-clause-told g c =
+    subst (λ (before : ℕ). ExportTells before (g.K.Reader.failures c.write_blobs.new.keeper) c.write_blobs.result) (c.in_ok-history.ensures.reads.counted ∙ c.in_ok-extents.ensures.told) c.write_blobs.ensures.told

@@ -20,3 +20,12 @@ returns-in-Ok-end-clause-begun g c = λ begun. c.fill.ensures.begun begun
 
 pub returns-in-Err-end-clause-begun : goal.returns-in-Err-end-clause-begun
 returns-in-Err-end-clause-begun g c = λ begun. c.fill.ensures.begun begun
+
+pub returns-in-Err-clause-late : goal.returns-in-Err-clause-late
+returns-in-Err-clause-late g c = λ begun ready. c.fill.ensures.late begun ready
+
+pub returns-in-Ok-end-clause-late : goal.returns-in-Ok-end-clause-late
+returns-in-Ok-end-clause-late g c = λ begun ready. c.fill.ensures.late begun ready
+
+pub returns-in-Err-end-clause-late : goal.returns-in-Err-end-clause-late
+returns-in-Err-end-clause-late g c = λ begun ready. c.fill.ensures.late begun ready
