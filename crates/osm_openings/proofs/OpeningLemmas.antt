@@ -32,7 +32,9 @@ use Rattle.sqlite_store.specs.Saved.{kept_schema}
 use Rattle.sqlite_store.specs.declared.store.FileStore.{FileStore}
 use Rattle.sqlite_store.specs.FileStore.{state, view, schema_of, IsReady}
 use Rattle.osm_openings.specs.Catalog.{listings, AreListed, ListsFirst}
-use Rattle.osm_openings.specs.Presumed.{NamesSize, ReadsAs}
+use Rattle.sqlite_value.specs.declared.keys.Order.{Order}
+use Rattle.sqlite_store.specs.Roots.{has_index_root}
+use Rattle.osm_openings.specs.Presumed.{NamesSize, ReadsAs, root_order, told_roots}
 
 pub if_none : {X : Type 0} (P : X → Type 0) (o : Option X) → o ≡ None → IfSome o P
 if_none P None e = tt
@@ -176,3 +178,8 @@ module _ {D : Type 0} {g : Ghosts D} (store : FileStore D g) (ready : IsReady st
 pub clean_files : {D : Type 0} {g : Ghosts D} (it : Unopened D g) (log db : D) → (log, db) ≡ files_of it → AreClean g log db → IsTrue (state_of it).is_clean
 unfolding pool.state pool.files
 clean_files {g = g} it log db is clean = subst (λ p. AreClean g p.0 p.1) is clean
+
+-- the orders that are told one by one are those of the rows
+pub roots_told : (entries rows : List Row) (pages : PageMap) → told_roots entries rows (map (has_index_root pages) rows) ≡ map (root_order entries pages) rows
+roots_told entries [] pages = refl
+roots_told entries (row ∷ rows) pages = ap (λ (orders : List (Option Order)). root_order entries pages row ∷ orders) (roots_told entries rows pages)

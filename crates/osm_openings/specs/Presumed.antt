@@ -1,7 +1,7 @@
 -- What is presumed of two files that are opened with most of their pages unread, and what the trees are that such files read as.
 use Rattle.std.specs.Prelude.{◌≡◌, ℕ, ◌+◌, Bool, List, [], ◌∷◌, ◌++◌, map, length, IsTrue, Option, Some, None, if◌then◌else◌}
 use Rattle.sqlite_value.specs.Order.{Row, column}
-use Rattle.sqlite_value.specs.Keys.{plain}
+use Rattle.sqlite_value.specs.declared.keys.Order.{Order}
 use Rattle.sqlite_trees.specs.Sound.{is_text_only}
 use Rattle.sqlite_trees.specs.Tree.{Trees}
 use Rattle.sqlite_trees.specs.declared.schema.Object.{Object}
@@ -23,32 +23,45 @@ use Rattle.sqlite_store.specs.Roots.{has_index_root}
 use Rattle.sqlite_store.specs.Unopened.{state_of, image, wanted_by}
 use Rattle.sqlite_schema.specs.declared.schema.Index.{Index as Added}
 use Rattle.osm_added_indexes.specs.Added.{plain_index}
+use Rattle.osm_index_orders.specs.Orders.{index_order}
 use Rattle.osm_openings.specs.Catalog.{numbered, others, listings, AreListed, StandApart, AreInOrder}
 use Rattle.osm_tree_writes.specs.Tables.{table_listings}
 
--- the order of an index that a put keeps is that which its text asks; any other is read as it is, and never written
-abbrev pub index_shape : Option Added → Shape
-index_shape None = FrozenIndex plain
-index_shape (Some index) = Index index.order
+-- the order of the tree whose root page begins an index: that of the index, or of the table WITHOUT ROWID, as the texts of these rows
+-- ask it; where these aren't read, that of its bytes
+abbrev pub root_order : List Row → PageMap → Row → Option Order
+root_order rows pages row = if has_index_root pages row then Some (index_order rows row) else None
+
+-- an index that a put keeps has the order that its text asks; any other tree is read as it is, and never written
+abbrev pub tree_shape : Option Added → Option Order → Shape
+tree_shape added None = FrozenTable
+tree_shape None (Some told) = FrozenIndex told
+tree_shape (Some index) (Some told) = Index index.order
 
 -- the shape of a tree that is none of a store's own; a view and a trigger have no pages
-abbrev pub foreign_shape : Row → Bool → Shape
-foreign_shape row has_index_root = if is_text_only (column row 1) then Pageless else (if has_index_root then index_shape (plain_index row) else FrozenTable)
+abbrev pub foreign_shape : Row → Option Order → Shape
+foreign_shape row root = if is_text_only (column row 1) then Pageless else tree_shape (plain_index row) root
 
 -- the tree of a row that is none of a store's own
-abbrev pub foreign_tree : ℕ → Row → Bool → Wanted
-foreign_tree tree row has_index_root =
-    record { shape = foreign_shape (numbered tree row) has_index_root; reals = 0; row = column row 1 ∷ column row 2 ∷ column row 3 ∷ column row 5 ∷ [] }
+abbrev pub foreign_tree : ℕ → Row → Option Order → Wanted
+foreign_tree tree row root =
+    record { shape = foreign_shape (numbered tree row) root; reals = 0; row = column row 1 ∷ column row 2 ∷ column row 3 ∷ column row 5 ∷ [] }
 
 -- those of these rows, from this number on
-abbrev pub foreign_trees : ℕ → List Row → List Bool → List Wanted
+abbrev pub foreign_trees : ℕ → List Row → List (Option Order) → List Wanted
 foreign_trees tree [] roots = []
 foreign_trees tree (row ∷ rows) [] = []
 foreign_trees tree (row ∷ rows) (root ∷ roots) = foreign_tree tree row root ∷ foreign_trees (tree + 1) rows roots
 
 -- the whole list: the objects, and the trees of these rows behind them
-abbrev pub trees_of : List Object → List Row → List Bool → List Wanted
+abbrev pub trees_of : List Object → List Row → List (Option Order) → List Wanted
 trees_of objects rows roots = map wanted_of objects ++ foreign_trees (length objects) rows roots
+
+-- of each of these rows, the order of its tree if its root page begins an index
+abbrev pub told_roots : List Row → List Row → List Bool → List (Option Order)
+told_roots entries [] roots = []
+told_roots entries (row ∷ rows) [] = []
+told_roots entries (row ∷ rows) (root ∷ roots) = (if root then Some (index_order entries row) else None) ∷ told_roots entries rows roots
 
 -- the rows of `sqlite_schema`
 abbrev pub schema_rows : ℕ → PageMap → List Row
@@ -60,7 +73,7 @@ other_rows objects size pages = others objects (schema_rows size pages)
 
 -- all trees of which `sqlite_schema` tells, these objects first
 abbrev pub trees_in : List Object → ℕ → PageMap → List Wanted
-trees_in objects size pages = trees_of objects (other_rows objects size pages) (map (has_index_root (in_use size pages)) (other_rows objects size pages))
+trees_in objects size pages = trees_of objects (other_rows objects size pages) (map (root_order (schema_rows size pages) (in_use size pages)) (other_rows objects size pages))
 
 -- Where `sqlite_schema` lists these objects, wherever their rows stand, the pages are a sound database of all trees of which it tells.
 abbrev pub AreSound : List Object → ℕ → PageMap → Type 0
@@ -91,9 +104,9 @@ pub record ReadsAs (image : Image) (trees : Trees) : Type 0 where
   pub sound : ∥ IsFile size schema pages ∥₁
   pub read : trees ≡ file_trees size schema pages
 
--- the other rows of `sqlite_schema`, where it lists these objects, and the kinds of their trees' root pages, as they were read of
--- these files
-pub record ReadsRows {D : Type 0} {g : Ghosts D} (objects : List Object) (old new : Unopened D g) (rows : List Row) (roots : List Bool) : Type 0 where
+-- the other rows of `sqlite_schema`, where it lists these objects, and the orders of those of their trees whose root pages begin an
+-- index, as they were read of these files
+pub record ReadsRows {D : Type 0} {g : Ghosts D} (objects : List Object) (old new : Unopened D g) (rows : List Row) (roots : List (Option Order)) : Type 0 where
   pub pages : PageMap
   pub clean : IsTrue (state_of old).is_clean
   pub size : (state_of new).page_size ≡ (state_of old).page_size
@@ -103,7 +116,7 @@ pub record ReadsRows {D : Type 0} {g : Ghosts D} (objects : List Object) (old ne
   pub apart : StandApart objects (other_rows objects (state_of old).page_size pages) (schema_rows (state_of old).page_size pages)
   pub ordered : AreInOrder (schema_rows (state_of old).page_size pages)
   pub rows_are : rows ≡ other_rows objects (state_of old).page_size pages
-  pub roots_are : roots ≡ map (has_index_root (in_use (state_of old).page_size pages)) (other_rows objects (state_of old).page_size pages)
+  pub roots_are : roots ≡ map (root_order (schema_rows (state_of old).page_size pages) (in_use (state_of old).page_size pages)) (other_rows objects (state_of old).page_size pages)
 
 -- the files have a list of trees, of which these objects are the first, and hold a database of it if that is presumed
 pub record Lists {D : Type 0} {g : Ghosts D} (objects : List Object) (old new : Unopened D g) : Type 0 where

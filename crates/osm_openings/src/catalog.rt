@@ -1,7 +1,7 @@
 //! The list of a database's trees, as its `sqlite_schema` tells of them: first those of a store, wherever their rows stand,
 //! and then all others.
 
-ghost use Rattle.std.specs.Prelude.{◌≡◌, ◌<◌, ◌^◌, ◌&&◌, ◌||◌, not, map, length, IsTrue, IfOk, IfSome};
+ghost use Rattle.std.specs.Prelude.{◌≡◌, ◌<◌, ◌^◌, ◌&&◌, ◌||◌, if◌then◌else◌, not, map, length, None, Some, IsTrue, IfOk, IfSome};
 ghost use Rattle.std.specs.List.{list_any, list_all};
 ghost use Rattle.sqlite_value.specs.declared.value.Value.TheVariants.{Text};
 ghost use Rattle.sqlite_value.specs.Value.{owned};
@@ -9,10 +9,12 @@ ghost use Rattle.sqlite_trees.specs.Sound.{same_name as spec_same_name};
 ghost use Rattle.sqlite_value.specs.Order.{column, bytes};
 ghost use Rattle.sqlite_store.specs.Catalog.{is_present, describes, text_or_null, wanted_of};
 ghost use Rattle.osm_added_indexes.specs.Added.{plain_index};
+ghost use Rattle.osm_index_orders.specs.Orders.{index_order};
 ghost use Rattle.osm_openings.specs.Catalog.{is_own, is_left_out, is_free, others, numbered, AreListed, StandApart, AreInOrder};
-ghost use Rattle.osm_openings.specs.Presumed.{foreign_shape, foreign_tree, index_shape, trees_of};
+ghost use Rattle.osm_openings.specs.Presumed.{foreign_shape, foreign_tree, told_roots, tree_shape, trees_of};
 
 use osm_added_indexes::plain_index;
+use osm_index_orders::index_order;
 use sqlite_trees::schema::Object;
 use sqlite_trees::sound::{are_in_order, bytes_of, is_text_only, is_virtual, is_word, same_name};
 use sqlite_trees::store::Shape;
@@ -77,7 +79,7 @@ fn are_listed(objects: &[Object<'_>], rows: &[Row]) -> bool
 }
 
 /// Whether a row is that of a virtual table, which is a program and has no pages. No list of trees can have it.
-fn is_left_out(row: &Row) -> bool
+pub(crate) fn is_left_out(row: &Row) -> bool
     ensures { result ≡ is_left_out row.now }
 {
     is_virtual(row.get(1), row.get(5)) & !is_text_only(row.get(1))
@@ -154,13 +156,17 @@ fn numbered(alloc: Global, tree: usize, row: &Row) -> Result<Row, AllocError>
     Ok(all)
 }
 
-/// The shape of an index: it is written if a put keeps it, and else read as it is.
-fn index_shape(alloc: Global, row: &Row) -> Result<Shape, AllocError>
-    ensures { IfOk result (λ shape. shape ≡ index_shape (plain_index row.now)) }
+/// The shape of a tree with this row, where an index has this order: an index is written if a put keeps it, and any other tree
+/// is read as it is.
+fn tree_shape(alloc: Global, row: &Row, root: Option<Order>) -> Result<Shape, AllocError>
+    ensures { IfOk result (λ shape. shape ≡ tree_shape (plain_index row.now) root) }
 {
+    let Some(told) = root else {
+        return Ok(Shape::FrozenTable);
+    };
     match plain_index(alloc, row)? {
         Some(index) => Ok(Shape::Index(index.order)),
-        None => Ok(Shape::FrozenIndex(Order::PLAIN)),
+        None => Ok(Shape::FrozenIndex(told)),
     }
 }
 
@@ -169,18 +175,50 @@ fn foreign_shape(
     alloc: Global,
     tree: usize,
     row: &Row,
-    has_index_root: bool,
+    root: Option<Order>,
 ) -> Result<Shape, AllocError>
     requires { tree < 2 ^ 62 }
-    ensures { IfOk result (λ shape. shape ≡ foreign_shape (numbered tree row.now) has_index_root) }
+    ensures { IfOk result (λ shape. shape ≡ foreign_shape (numbered tree row.now) root) }
 {
     if is_text_only(row.get(1)) {
         Ok(Shape::Pageless)
-    } else if has_index_root {
-        index_shape(alloc, &numbered(alloc, tree, row)?)
     } else {
-        Ok(Shape::FrozenTable)
+        tree_shape(alloc, &numbered(alloc, tree, row)?, root)
     }
+}
+
+/// The order of the tree of a row, if its root page begins an index, as these entries of `sqlite_schema` tell it.
+fn root_order(
+    alloc: Global,
+    entries: &[Row],
+    row: &Row,
+    has_index_root: bool,
+) -> Result<Option<Order>, AllocError>
+    ensures { IfOk result (λ order. order ≡ (if has_index_root then Some (index_order entries.now row.now) else None)) }
+{
+    if has_index_root {
+        Ok(Some(index_order(alloc, entries, row)?))
+    } else {
+        Ok(None)
+    }
+}
+
+/// The orders of the trees of these rows. Of each of them it is said whether its root page begins an index.
+pub(crate) fn root_orders(
+    alloc: Global,
+    entries: &[Row],
+    rows: &[Row],
+    roots: &[bool],
+) -> Result<Vec<Option<Order>>, AllocError>
+    requires { length roots.now ≡ length rows.now }
+    ensures value { IfOk result (λ all. all.items ≡ told_roots entries.now rows.now roots.now) }
+    ensures len { IfOk result (λ all. length all.items ≡ length rows.now) }
+{
+    let mut all = Vec::new(alloc);
+    for at in 0..rows.len() {
+        all.push(root_order(alloc, entries, &rows[at], roots[at])?)?;
+    }
+    Ok(all)
 }
 
 /// A text, if it is in UTF-8.
@@ -211,12 +249,12 @@ fn foreign_tree<'a>(
     alloc: Global,
     tree: usize,
     row: &'a Row,
-    has_index_root: bool,
+    root: Option<Order>,
 ) -> Result<Option<Object<'a>>, AllocError>
     requires { tree < 2 ^ 62 }
-    ensures { IfOk result (λ found. IfSome found (λ object. wanted_of object ≡ foreign_tree tree row.now has_index_root)) }
+    ensures { IfOk result (λ found. IfSome found (λ object. wanted_of object ≡ foreign_tree tree row.now root)) }
 {
-    let shape = foreign_shape(alloc, tree, row, has_index_root)?;
+    let shape = foreign_shape(alloc, tree, row, root)?;
     let Some(kind) = text_in(row.get(1)) else {
         return Ok(None);
     };
@@ -268,12 +306,12 @@ fn own_trees<'a>(alloc: Global, objects: &'a [Object<'_>]) -> Result<Vec<Object<
 }
 
 /// The whole list: these objects, and the trees of these rows behind them, if their texts are in UTF-8. Of each of the rows
-/// it is said whether its root page begins an index.
+/// it is said which order its tree has, if its root page begins an index.
 pub(crate) fn trees_of<'a>(
     alloc: Global,
     objects: &'a [Object<'_>],
     rows: &'a [Row],
-    roots: &[bool],
+    roots: &[Option<Order>],
 ) -> Result<Option<Vec<Object<'a>>>, AllocError>
     requires same { length roots.now ≡ length rows.now }
     requires few { length objects.now < 2 ^ 32 }

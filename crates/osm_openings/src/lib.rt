@@ -7,5 +7,5 @@ mod opening;
 mod tables;
 mod version;
 
-pub use obstacles::{Obstacle, Obstruction, find_obstacle};
+pub use obstacles::{Obstacle, Obstruction, find_obstacle, find_unkept};
 pub use tables::{open_checked_tables, open_tables};

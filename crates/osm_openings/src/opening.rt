@@ -11,11 +11,12 @@ ghost use Rattle.sqlite_wal.specs.Reads.{AreClean};
 ghost use Rattle.osm_openings.specs.Catalog.{ListsFirst};
 ghost use Rattle.osm_openings.specs.Presumed.{IsPresumed, NamesSize, ReadsRows, ReadsAs, Lists, trees_of};
 
-use crate::catalog::{can_be_listed, others, trees_of};
+use crate::catalog::{can_be_listed, others, root_orders, trees_of};
 use sqlite_disk::{Disk, Files};
 use sqlite_pager::{Options, Pager};
 use sqlite_store::{FileStore, OpenError, Unopened};
 use sqlite_trees::schema::Object;
+use sqlite_value::keys::Order;
 use sqlite_value::row::Row;
 use sqlite_wal::{Error, PageSize, probe_first_page, probe_page_size};
 use std::alloc::{AllocError, Global};
@@ -77,13 +78,13 @@ fn unread<T>(error: OpenError) -> Result<Option<T>, AllocError>
     }
 }
 
-/// The rows of `sqlite_schema` that tell of other trees than those of these objects, or of texts alone, and whether each root
-/// page begins an index; none where no list of trees can be made of its rows.
+/// The rows of `sqlite_schema` that tell of other trees than those of these objects, or of texts alone, and the order of each
+/// tree whose root page begins an index; none where no list of trees can be made of its rows.
 fn read_rows<D: Disk>(
     alloc: Global,
     files: &mut Unopened<D>,
     objects: &[Object<'_>],
-) -> Result<Option<(Vec<Row>, Vec<bool>)>, AllocError>
+) -> Result<Option<(Vec<Row>, Vec<Option<Order>>)>, AllocError>
     requires { AreUsable files.old }
     ensures usable { IfOk result (λ found. IfSome found (λ _. AreUsable files.new)) }
     ensures len { IfOk result (λ found. IfSome found (λ read. length read.1.items ≡ length read.0.items)) }
@@ -101,7 +102,8 @@ fn read_rows<D: Disk>(
         Ok(roots) => roots,
         Err(error) => return unread(error),
     };
-    Ok(Some((rows, roots)))
+    let orders = root_orders(alloc, entries.as_slice(), rows.as_slice(), roots.as_slice())?;
+    Ok(Some((rows, orders)))
 }
 
 /// The files with the list of these objects, and of the trees of these rows behind them, if their texts are in UTF-8. Else they
@@ -113,7 +115,7 @@ fn listed<'a, D: Disk + Drop>(
     options: Options,
     objects: &'a [Object<'_>],
     rows: &'a [Row],
-    roots: &[bool],
+    roots: &[Option<Order>],
 ) -> Result<Option<Unopened<D>>, AllocError>
     requires log { IsTrue (D.Disk.is_usable files.log) }
     requires db { IsTrue (D.Disk.is_usable files.db) }

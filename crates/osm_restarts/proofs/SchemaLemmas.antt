@@ -7,6 +7,7 @@ use Rattle.std.proofs.lemmas.Option.{none-some, same_Some}
 use Rattle.std.proofs.lemmas.Bool.{cases_Bool, and_parts, and_from, not-true, false≢true, cond-true, cond-false, or_left, or_from, eqb-true}
 use Rattle.sqlite_value.specs.declared.value.Value.{Value}
 use Rattle.sqlite_value.specs.declared.value.Value.TheVariants.{Null, Int, Real, Text, Blob}
+use Rattle.sqlite_value.specs.declared.keys.Order.{Order}
 use Rattle.sqlite_value.specs.Order.{Row, column, bytes}
 use Rattle.sqlite_trees.specs.declared.store.Shape.{Shape}
 use Rattle.sqlite_trees.specs.declared.store.Shape.TheVariants.{Absent, Pageless}
@@ -21,10 +22,9 @@ use Rattle.sqlite_store.specs.declared.catalog.Wanted.{Wanted}
 use Rattle.sqlite_store.specs.Catalog.{is_present, same_value, describes, is_about, is_near, page_number, root_in, roots_in, is_well_formed, has_no_pages, may_stand, fits_shape, is_listed_once, MayAllStand, shape_at, wanted_of}
 use Rattle.sqlite_store.specs.Catalog.{text_or_null as wanted_text}
 use Rattle.sqlite_store.specs.Db.{roots_of, IsKept, IsFile, slot_shape, slot_root}
-use Rattle.sqlite_store.specs.Roots.{has_index_root}
 use Rattle.sqlite_store.proofs.ObjectLemmas.{named_text}
 use Rattle.osm_openings.specs.Catalog.{is_own, is_left_out, is_free, others, AreListed, StandApart}
-use Rattle.osm_openings.specs.Presumed.{foreign_tree, foreign_trees, trees_of, trees_in, schema_rows, other_rows}
+use Rattle.osm_openings.specs.Presumed.{foreign_tree, foreign_trees, root_order, trees_of, trees_in, schema_rows, other_rows}
 use Rattle.osm_restarts.proofs.PlaceLemmas.{any_at, any_place, all_at, all_from, mapped_at, at_mapped, index_at, index_past, counted_once, same_itself, cases_get, same_to, same_from, is_text_of, is_null_of, is_some_text}
 use Rattle.osm_restarts.proofs.ListedLemmas.{absent_shape, named_once, Described, described}
 
@@ -169,7 +169,7 @@ kept_text true false e h = absurd (cc)
 kept_text false t e h = absurd (cc)
 
 -- the trees of other rows, by their places
-module _ (kinds : Row → Bool) where
+module _ (kinds : Row → Option Order) where
   foreign_at : (tree : ℕ) (rows : List Row) (j : ℕ) (row : Row) → slice_get rows j ≡ Some row → slice_get (foreign_trees tree rows (map kinds rows)) j ≡ Some (foreign_tree (tree + j) row (kinds row))
   foreign_at tree [] j row at = absurd (none-some row at)
   foreign_at tree (r ∷ rows) zero row at =
@@ -205,7 +205,7 @@ pub record Relisting (objects : List Object) (rows : List Row) (old : List Wante
   pub named : (t u : ℕ) (o p : Object) → slice_get objects t ≡ Some o → slice_get objects u ≡ Some p → o.name.now ≡ p.name.now → t ≡ u
   pub known : MayAllStand old rows
 
-module _ {objects : List Object} {rows : List Row} {old : List Wanted} (kinds : Row → Bool) (given : Relisting objects rows old) where
+module _ {objects : List Object} {rows : List Row} {old : List Wanted} (kinds : Row → Option Order) (given : Relisting objects rows old) where
   abbrev parts : KnownParts old rows
   parts = known_parts old rows given.known
 
@@ -306,7 +306,7 @@ module _ {objects : List Object} {rows : List Row} {old : List Wanted} (kinds : 
       let p = pageless_parts row (no_pages r.0 row r.1 neither.0) in
       record { at = r.0; there = r.1; page = p.0; text = kept_text (is_virtual (column row 1) (column row 5)) (is_text_only (column row 1)) p.1 neither.1 }
 
-  other_shape : (n : ℕ) (row : Row) (root : Bool) → is_text_only (column row 1) ≡ true → (foreign_tree n row root).shape ≡ Pageless
+  other_shape : (n : ℕ) (row : Row) (root : Option Order) → is_text_only (column row 1) ≡ true → (foreign_tree n row root).shape ≡ Pageless
   other_shape n row root text = cond-true _ Pageless _ text
 
   -- a place of the new list has an object, or the row of a text alone
@@ -488,10 +488,10 @@ relisted objects size pages old given file = record {
   db = record {
     layouts = file.db.layouts;
     trees = record { laid = file.db.trees.laid; kept = kept; apart = file.db.trees.apart; covered = file.db.trees.covered };
-    known = known_again (has_index_root (in_use size pages)) given;
+    known = known_again (root_order (schema_rows size pages) (in_use size pages)) given;
   };
 }
   where
     kept : (slot : ℕ) → IsKept size (file.db.layouts slot) (slot_shape (trees_in objects size pages) slot) (slot_root (roots_of size (trees_in objects size pages) (in_use size pages)) slot)
     kept zero = file.db.trees.kept zero
-    kept (suc t) = kept_again (has_index_root (in_use size pages)) given size t (file.db.layouts (suc t)) (file.db.trees.kept (suc t))
+    kept (suc t) = kept_again (root_order (schema_rows size pages) (in_use size pages)) given size t (file.db.layouts (suc t)) (file.db.trees.kept (suc t))

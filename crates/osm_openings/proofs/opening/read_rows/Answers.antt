@@ -5,7 +5,8 @@ use Rattle.sqlite_pool.specs.File.{in_use}
 use Rattle.sqlite_store.specs.Roots.{has_index_root}
 use Rattle.sqlite_store.specs.Unopened.{state_of, image}
 use Rattle.osm_openings.specs.Catalog.{others, AreListed, StandApart, AreInOrder}
-use Rattle.osm_openings.specs.Presumed.{schema_rows, other_rows}
+use Rattle.osm_openings.specs.Presumed.{schema_rows, other_rows, told_roots}
+use Rattle.osm_openings.proofs.OpeningLemmas.{roots_told}
 use Rattle.osm_openings.proofs.opening.read_rows.Goals as goal
 
 pub returns-clause-read : goal.returns-clause-read
@@ -34,7 +35,11 @@ returns-clause-read g c =
       apart = subst (λ others. StandApart objects others rows) given (subst (StandApart objects c.as_slice-2.result.now) entries can.1);
       ordered = subst AreInOrder entries can.2;
       rows_are = found;
-      roots_are = finds.kinds
+      roots_are = c.in_ok-orders.ensures.value
+          ∙ ap (λ (given : List Row). told_roots given c.as_slice-6.result.now c.as_slice-7.result.now) (c.as_slice-5.ensures.value ∙ cat.lists)
+          ∙ ap (λ (given : List Row). told_roots rows given c.as_slice-7.result.now) (c.as_slice-6.ensures.value ∙ found)
+          ∙ ap (told_roots rows (others objects rows)) (c.as_slice-7.ensures.value ∙ finds.kinds
           ∙ ap (map (has_index_root (in_use (state_of c.read_catalog.new.self).page_size cat.pages))) (c.as_slice-4.ensures.value ∙ found)
-          ∙ ap (λ n. map (has_index_root (in_use n cat.pages)) (other_rows objects size cat.pages)) opens.size;
+          ∙ ap (λ n. map (has_index_root (in_use n cat.pages)) (other_rows objects size cat.pages)) opens.size)
+          ∙ roots_told rows (others objects rows) (in_use size cat.pages);
     }
