@@ -225,12 +225,73 @@ if has sqlite3; then
   told "and why" "mine.db: it has a trigger on one of pbfrow's tables, told: drop it with sqlite3 to go on"
   sqlite3 mine.db "DROP TRIGGER told; CREATE TRIGGER told AFTER INSERT ON strange BEGIN DELETE FROM mine; END"
   right "a trigger on a table of one's own" mine.db
-  if sqlite3 mine.db "DROP TRIGGER told; CREATE VIRTUAL TABLE words USING fts5 (word)" 2> got.txt; then
+  sqlite3 mine.db "DROP TRIGGER told; CREATE VIEW places AS SELECT id FROM element; CREATE TABLE parent (id INTEGER PRIMARY KEY); CREATE TABLE child (of INTEGER REFERENCES parent (id) ON DELETE CASCADE);
+    CREATE TRIGGER told INSTEAD OF INSERT ON places BEGIN DELETE FROM mine; END; CREATE TRIGGER kept BEFORE DELETE ON child BEGIN INSERT INTO mine VALUES (old.of, 1); END"
+  right "an INSTEAD OF trigger, and one on a table with REFERENCES" mine.db
+  expect "an import beside them" 0 "0 held${nl}47 held${nl}blobs stored 0 held 2 bad 0 refused 0${nl}" import "$two" mine.db
+  sqlite3 mine.db "DROP INDEX mine_by_name; DELETE FROM strange"
+  expect "verify beside them" 0 "blobs 2 missing 0 differs 0 extra 0${nl}" verify "$two" mine.db --elements
+  [ ! -s stderr.txt ] && pass "and nothing is told" || fail "and nothing is told"
+  if sqlite3 mine.db "CREATE VIRTUAL TABLE words USING fts5 (word)" 2> got.txt; then
     right "a virtual table" mine.db
-    sqlite3 mine.db "DROP INDEX element_by_id"
-    expect "a virtual table, where SQL has to open the database: status" 1 "fault 65 Disk${nl}" status mine.db
-    told "and why" "mine.db: it has a virtual table, words: drop it with sqlite3 to go on"
   fi
+
+  # stopped NAME REASON: each command ends with the line of fault 65, tells this reason of mine.db, and writes nothing to it
+  stopped() {
+    local name=$1 words wrong=""
+    sha256sum mine.db > sums.txt
+    echo "fault 65 Disk" > fault.txt
+    echo "pbfrow: mine.db: $2" > want.txt
+    for words in "status mine.db" "find mine.db n1" "export mine.db" "import $two mine.db" "verify $two mine.db" "verify $two mine.db --elements" \
+      "status mine.db sound.db" "verify $two mine.db sound.db" "merge mine.db sound.db" "merge new.db mine.db" "migrate mine.db new.db"; do
+      rm -f new.db*
+      # shellcheck disable=SC2086
+      "$pbfrow" $words > got.txt 2> stderr.txt
+      { [ $? = 1 ] && cmp -s got.txt fault.txt && cmp -s stderr.txt want.txt; } || { wrong="$words"; cat got.txt stderr.txt; }
+    done
+    sha256sum -c --status sums.txt || wrong="$wrong (it is written to)"
+    rm -f new.db*
+    [ -z "$wrong" ] && pass "$name: each command names it, and nothing is written" || fail "$name: each command names it, and nothing is written: not $wrong"
+  }
+  # changed NAME STATEMENTS REASON STATEMENTS: behind the first each command is stopped, and behind the others none is
+  changed() {
+    rm -f mine.db*
+    cp sound.db mine.db
+    printf '%b' "$2" | sqlite3 mine.db
+    stopped "$1" "$3"
+    printf '%b' "$4" | sqlite3 mine.db
+    right "$1: once that is mended" mine.db
+    sound "$1: sqlite3 finds it whole" mine.db
+  }
+  of_index="its index element_by_id is missing, or isn't as pbfrow makes it: DROP INDEX IF EXISTS element_by_id; CREATE INDEX element_by_id ON element (kind, id)"
+  of_table() { echo "its table $1 isn't as pbfrow makes it: take out what was added to it, by ALTER TABLE $1 DROP COLUMN .., or copy what it holds into a new database"; }
+  of_name() { echo "it has two objects named $1: DROP TRIGGER \"$1\", and make it again by another name"; }
+  of_text() { echo "its object $1 has a name or a text that isn't in UTF-8: drop it with sqlite3 to go on"; }
+  changed "a column that was added" "ALTER TABLE element ADD COLUMN more INTEGER" "$(of_table element)" "ALTER TABLE element DROP COLUMN more"
+  changed "a column that was added to blob" "ALTER TABLE blob ADD COLUMN more INTEGER" "$(of_table blob)" "ALTER TABLE blob DROP COLUMN more"
+  changed "a column with another name" "ALTER TABLE tag RENAME COLUMN val TO value" "$(of_table tag)" "ALTER TABLE tag RENAME COLUMN value TO val"
+  changed "without its index" "DROP INDEX element_by_id" "$of_index" "${of_index##*: }"
+  changed "with another index by that name" "DROP INDEX element_by_id; CREATE INDEX element_by_id ON element (id)" "$of_index" "${of_index##*: }"
+  changed "a trigger with a table's name" "CREATE TABLE mine (a); CREATE TRIGGER Tag AFTER INSERT ON mine BEGIN SELECT 1; END" "$(of_name Tag)" 'DROP TRIGGER "Tag"'
+  changed "a trigger with an index's name" "CREATE TABLE mine (a); CREATE INDEX of_a ON mine (a); CREATE TRIGGER of_a AFTER INSERT ON mine BEGIN SELECT 1; END" \
+    "$(of_name of_a)" 'DROP TRIGGER "of_a"'
+  changed "a text that isn't in UTF-8" 'CREATE VIEW odd AS SELECT "\xff"' "$(of_text odd)" "DROP VIEW odd"
+  changed "a name that isn't in UTF-8" 'CREATE TABLE "o\xffd" (a)' "$(of_text o�d)" 'DROP TABLE "o\xffd"'
+  # what a copy mends
+  copied="make a copy by sqlite3's .dump"
+  sqlite3 sound.db .dump > dump.sql
+  while IFS='|' read -r first reason; do
+    rm -f mine.db* copy.db*
+    sqlite3 mine.db "$first" "$(cat dump.sql)" VACUUM > got.txt
+    stopped "$first" "$reason: $copied"
+    sqlite3 mine.db .dump | sqlite3 copy.db
+    right "$first: a copy" copy.db
+  done << END
+PRAGMA encoding = 'UTF-16le'|its texts are in UTF-16
+PRAGMA encoding = 'UTF-16be'|its texts are in UTF-16
+.filectrl reserve_bytes 8|its pages end in checksums
+END
+  rm -f copy.db* dump.sql
   rm -f mine.db*
   cp sound.db mine.db
   sqlite3 mine.db "PRAGMA journal_mode = DELETE; PRAGMA auto_vacuum = 1; VACUUM" > got.txt
@@ -264,11 +325,8 @@ if has sqlite3; then
   expect "our tables under two versions: status" 1 "fault 66 NotThisStore${nl}" status other.db
   sqlite3 other.db "DELETE FROM meta WHERE version > $version"
   expect "our tables, made by sqlite3, with no blob: status" 0 "blobs 0 end 0 gaps 0${nl}" status other.db
-  sqlite3 other.db "DROP INDEX element_by_id"
-  expect "without an index: status" 0 "blobs 0 end 0 gaps 0${nl}" status other.db
-  # a table or a column that is gone, or has another name
-  for change in "DROP TABLE link" "DROP TABLE tag" "ALTER TABLE link RENAME TO links" "ALTER TABLE tag RENAME COLUMN val TO value" \
-    "ALTER TABLE blob RENAME COLUMN n TO elements" "ALTER TABLE element DROP COLUMN visible"; do
+  # a table that is gone, or has another name
+  for change in "DROP TABLE link" "DROP TABLE tag" "ALTER TABLE link RENAME TO links"; do
     rm -f other.db*
     cp sound.db other.db
     sqlite3 other.db "$change"

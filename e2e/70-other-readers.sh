@@ -26,14 +26,14 @@ if has sqlite3; then
   printf '%s\n' "0|0|15721|" "1|0|15718|" "2|0|15720|" > want.txt
   same "sqlite3 reads the nodes of a way" way.txt want.txt
 
-  # a database to one of whose tables somebody has added an index is written by SQL, and shows the same rows
-  rm -f by-sql.db
-  "$pbfrow" import /dev/null by-sql.db > got.txt
-  sqlite3 by-sql.db "CREATE INDEX mine ON tag (key)"
-  "$pbfrow" import "$country" by-sql.db > got.txt
+  # a database to one of whose tables somebody has added an index shows the same rows
+  rm -f indexed.db
+  "$pbfrow" import /dev/null indexed.db > got.txt
+  sqlite3 indexed.db "CREATE INDEX mine ON tag (key)"
+  "$pbfrow" import "$country" indexed.db > got.txt
   same "an import beside an index of one's own" got.txt imported.txt
-  sqlite3 by-sql.db "DROP INDEX mine"
-  sqlite3 by-sql.db .dump > got.sql
+  sqlite3 indexed.db "DROP INDEX mine"
+  sqlite3 indexed.db .dump > got.sql
   sqlite3 country.db .dump > want.sql
   same "its rows" got.sql want.sql
 
@@ -52,9 +52,10 @@ if has sqlite3; then
   imports_after "a rollback journal" "PRAGMA journal_mode = DELETE; CREATE TABLE gone (a); DROP TABLE gone" 0 "$stored"
   imports_after "a log of its own" "PRAGMA journal_mode = WAL; CREATE TABLE gone (a); DROP TABLE gone" 0 "$stored"
   imports_after "ANALYZE" "ANALYZE" 0 "$stored"
-  imports_after "a column of one's own" "ALTER TABLE element ADD COLUMN more INTEGER" 0 "$stored"
+  imports_after "a column of one's own" "ALTER TABLE element ADD COLUMN more INTEGER" 1 $'fault 65 Disk\n'
+  imports_after "a column of one's own that is gone again" "ALTER TABLE element ADD COLUMN more INTEGER; ALTER TABLE element DROP COLUMN more" 0 "$stored"
   imports_after "an index of one's own" "CREATE INDEX element_by_place ON element (lat, lon)" 0 "$stored"
-  imports_after "an index that is gone" "DROP INDEX element_by_id" 0 "$stored"
+  imports_after "an index that is gone" "DROP INDEX element_by_id" 1 $'fault 65 Disk\n'
   imports_after "a view and a table of one's own" "CREATE VIEW node AS SELECT * FROM element WHERE kind = 0; CREATE TABLE mine (name TEXT PRIMARY KEY) WITHOUT ROWID" 0 "$stored"
   imports_after "a trigger" "CREATE TABLE mine (name TEXT); CREATE TRIGGER told AFTER INSERT ON element BEGIN DELETE FROM mine; END" 1 $'fault 65 Disk\n'
   imports_after "a row in the place of one of the file" "INSERT INTO element (off, pos, kind, id) VALUES (47, 0, 0, 1)" 1 $'0 stored 0\nfault 65 Disk at 47\n'

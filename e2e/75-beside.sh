@@ -101,6 +101,7 @@ nl=$'\n'
 if has sqlite3; then
   "$pbfrow" import "$country" plain.db > got.txt
   "$pbfrow" export plain.db > export.txt
+  "$pbfrow" import "$country" part.db --to 1259691 > got.txt
 
   "$pbfrow" import /dev/null before.db > got.txt
   filled_beside "made before the first blob" before.db "$whole"
@@ -118,7 +119,7 @@ if has sqlite3; then
   "$pbfrow" merge merged.db plain.db > got.txt
   kept "a merge beside one's own" merged.db
 
-  # it goes below SQL: that looks at each row and entry first, and would say that the index is damaged
+  # no row is looked at before the import begins, so that an index which lacks an entry doesn't matter
   cp before.db below.db
   past element_by_id below.db "UPDATE element SET id = id + 1 WHERE off = 98 AND pos = 0"
   "$pbfrow" import "$country" below.db 2> stderr.txt | tail -n 1 > got.txt
@@ -128,30 +129,57 @@ if has sqlite3; then
   "$pbfrow" import "$country" below.db 2> stderr.txt | tail -n 1 > got.txt
   lines "blobs stored 0 held 12 bad 0 refused 0" > want.txt
   same "nor beside indexes of one's own on pbfrow's tables" got.txt want.txt
-  # an index that isn't kept below SQL: SQL keeps it, or refuses the import
-  for index in "UNIQUE INDEX other ON tag (off, pos, k)" "INDEX other ON blob (kind)" "INDEX other ON meta (version)"; do
-    cp below.db other.db
-    sqlite3 other.db "CREATE $index"
-    expect "CREATE $index: it does" 1 "fault 65 Disk${nl}" import "$country" other.db
+  # an index that a put doesn't keep stops what writes and verify, and is named; other commands read past it
+  while IFS='|' read -r index made; do
     cp plain.db other.db
-    sqlite3 other.db "$without_the_last; CREATE $index"
+    sqlite3 other.db "$without_the_last; $made"
+    echo "pbfrow: other.db: its index $index is UNIQUE, of an expression, with WHERE, of a collation of your own, or on blob or meta, which pbfrow doesn't keep up to date: DROP INDEX \"$index\", and make it again behind the import" > reason.txt
+    sha256sum other.db > sums.txt
+    for words in "import $country other.db" "merge other.db plain.db" "verify $country other.db" "verify $country other.db --elements"; do
+      # shellcheck disable=SC2086
+      expect "$made: ${words%% *} is refused" 1 "fault 65 Disk${nl}" $words
+      same "$made: it is named" stderr.txt reason.txt
+    done
+    expect "$made: commands that ask read past it" 0 "$("$pbfrow" find plain.db n14690)${nl}" find other.db n14690
+    [ ! -s stderr.txt ] && pass "$made: and nothing is told by them" || fail "$made: and nothing is told by them"
+    expect "$made: status" 0 "blobs 11 end 1259691 gaps 0${nl}" status other.db
+    "$pbfrow" export other.db > got.txt
+    "$pbfrow" export part.db > want.txt
+    same "$made: the export is that of the part" got.txt want.txt
+    sha256sum -c --status sums.txt && pass "$made: nothing is written" || fail "$made: nothing is written"
+    sqlite3 other.db "DROP INDEX \"$index\""
     "$pbfrow" import "$country" other.db 2> stderr.txt | tail -n 1 > got.txt
     lines "blobs stored 1 held 11 bad 0 refused 0" > want.txt
-    same "CREATE $index: an import of the rest" got.txt want.txt
-    grep -q "^pbfrow: other.db: index other is UNIQUE, .*drop the index" stderr.txt && pass "CREATE $index: it is named" || fail "CREATE $index: it is named"
-    sound "CREATE $index: sqlite3 finds the database whole" other.db
-  done
-  for index in "INDEX other ON tag (lower(key))" "INDEX other ON tag (key) WHERE val = 'x'"; do
+    same "$made: an import of the rest once it is dropped" got.txt want.txt
+    sqlite3 other.db "$made"
+    sound "$made: and once it is made again sqlite3 finds the database whole" other.db
+  done << 'END'
+other|CREATE UNIQUE INDEX other ON tag (off, pos, k)
+other|CREATE UNIQUE INDEX other ON tag (val DESC, off, pos, k)
+other|CREATE INDEX other ON blob (kind)
+other|CREATE INDEX other ON meta (version)
+an other|CREATE INDEX "an other" ON tag (lower(key))
+other|CREATE INDEX other ON Tag (key) WHERE val = 'x'
+END
+  if has python3; then
     cp plain.db other.db
-    sqlite3 other.db "$without_the_last; CREATE $index"
-    expect "CREATE $index: an import of the rest is refused" 1 "fault 65 Disk${nl}" import "$country" other.db
-    grep -q "^pbfrow: other.db: index other is UNIQUE, .*drop the index" stderr.txt && pass "CREATE $index: it is named" || fail "CREATE $index: it is named"
-    expect "CREATE $index: commands that ask read past it" 0 "$("$pbfrow" find plain.db n14690)${nl}" find other.db n14690
-    echo "0" > want.txt
-    sqlite3 other.db "SELECT count(*) FROM tag WHERE off = 1259691" > got.txt
-    same "CREATE $index: and nothing is written" got.txt want.txt
-    sound "CREATE $index: sqlite3 finds the database whole" other.db
-  done
+    # its entries are in an order that only that program knows
+    python3 - << 'END'
+import sqlite3
+base = sqlite3.connect("other.db")
+base.create_collation("mine", lambda a, b: (b > a) - (b < a))
+base.execute("CREATE INDEX other ON tag (val COLLATE mine)")
+base.commit()
+END
+    expect "an index of a program's own collation: import is refused" 1 "fault 65 Disk${nl}" import "$country" other.db
+    grep -q "^pbfrow: other.db: its index other is UNIQUE, .*of a collation of your own" stderr.txt && pass "and it is named" || fail "and it is named"
+    expect "an index of a program's own collation: verify is refused" 1 "fault 65 Disk${nl}" verify "$country" other.db
+    grep -q "^pbfrow: other.db: its index other is UNIQUE, .*of a collation of your own" stderr.txt && pass "and it is named by that" || fail "and it is named by that"
+    "$pbfrow" export other.db > got.txt
+    same "an index of a program's own collation: export" got.txt export.txt
+  else
+    skip "an index of a program's own collation" "python3 isn't installed"
+  fi
 
   # indexes that are made before the first blob, between two and after the last
   "$pbfrow" import /dev/null indexed.db > got.txt
@@ -197,15 +225,6 @@ EOF
   expect "verify of a database whose index has an entry of no row" 1 "fault 65 Disk${nl}" verify "$country" damaged.db --elements
   echo "pbfrow: damaged.db: damaged: its index tag_by_key has not one entry for each row" > want.txt
   same "which is named" stderr.txt want.txt
-  # an index that a put doesn't keep sends verify to SQL, which looks at it too
-  cp indexed.db other.db
-  sqlite3 other.db "CREATE UNIQUE INDEX other ON tag (off, pos, k)"
-  expect "verify of a database with a UNIQUE index on a table of pbfrow's" 0 "blobs 12 missing 0 differs 0 extra 0${nl}" verify "$country" other.db
-  grep -q "^pbfrow: other.db: index other is UNIQUE, .*drop the index" stderr.txt && pass "it is named" || fail "it is named"
-  sqlite3 other.db "DROP INDEX other; CREATE INDEX other ON tag (key) WHERE val = 'x'"
-  expect "verify of one with an index of some rows is refused" 1 "fault 65 Disk${nl}" verify "$country" other.db
-  grep -q "^pbfrow: other.db: index other is UNIQUE, .*drop the index" stderr.txt && pass "that is named" || fail "that is named"
-
   # the indexes and views that come with the program
   "$pbfrow" import "$country" taken.db --from 1259691 > got.txt
   sqlite3 taken.db < "$top/examples/views.sql" > got.txt 2>&1

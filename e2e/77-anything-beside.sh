@@ -43,6 +43,27 @@ own_rows() {
     'sqlite_autoindex_element_1', 'sqlite_autoindex_tag_1', 'sqlite_autoindex_link_1') ORDER BY rowid"
 }
 
+# ordered DATABASE: puts tables of one's own into it whose keys and indexes are in other orders than that of bytes, with rows that
+# these orders put elsewhere: in other letters, with spaces behind, numbers, texts and NULL.
+ordered() {
+  sqlite3 "$1" "CREATE TABLE down (a TEXT PRIMARY KEY DESC, b) WITHOUT ROWID;
+    CREATE TABLE both (a TEXT COLLATE NOCASE, b TEXT COLLATE RTRIM, c, PRIMARY KEY (a DESC, b)) WITHOUT ROWID;
+    CREATE INDEX both_by_c ON both (c DESC); CREATE INDEX both_by_b ON both (b COLLATE BINARY DESC, c); CREATE UNIQUE INDEX both_by_all ON both (c, b, a);
+    CREATE TABLE counted (id INTEGER PRIMARY KEY, name TEXT COLLATE NOCASE UNIQUE, note TEXT) WITHOUT ROWID, STRICT;
+    CREATE INDEX counted_by_note ON counted (note DESC);
+    CREATE TABLE loose (x TEXT, y TEXT COLLATE NOCASE UNIQUE, z VARCHAR(9) COLLATE RTRIM DEFAULT ' ', CHECK (x <> '~'), UNIQUE (z DESC, x));
+    CREATE INDEX loose_down ON loose (x DESC); CREATE INDEX loose_by_both ON loose (y DESC, x COLLATE RTRIM);
+    CREATE INDEX loose_by_any ON loose (x COLLATE NOCASE); CREATE UNIQUE INDEX loose_by_bytes ON loose (y COLLATE BINARY DESC);
+    CREATE INDEX loose_in_part ON loose (z COLLATE NOCASE DESC) WHERE (z > 'A') OR z IS NULL;
+    CREATE INDEX loose_small ON loose (lower(x)); WITH RECURSIVE n (i) AS (VALUES (0) UNION ALL SELECT i + 1 FROM n WHERE i < 900),
+    t (i, s) AS (SELECT i, char(65 + (i * 7) % 26 + 32 * (i % 2)) || substr('        ', 1, i % 5) || char(90 + 17 * (i % 3)) || (i % 37) || substr('  ', 1, i % 3) FROM n)
+    INSERT INTO loose SELECT s, CASE WHEN i % 9 THEN i || s END, s || i FROM t;
+    INSERT OR IGNORE INTO down SELECT x, rowid FROM loose; INSERT OR IGNORE INTO both SELECT y, x, z FROM loose WHERE y IS NOT NULL;
+    INSERT OR IGNORE INTO both SELECT upper(y), x || '  ', rowid % 3 FROM loose WHERE y IS NOT NULL; INSERT INTO both VALUES ('', 'q', 1.5), ('', 'Q', NULL), ('', '', x'00');
+    INSERT OR IGNORE INTO both SELECT lower(x), lower(z), c FROM loose JOIN (SELECT 7 AS c);
+    INSERT INTO counted SELECT rowid, y, x FROM loose WHERE y IS NOT NULL"
+}
+
 # silent NAME: the last command wrote nothing on standard error.
 silent() { [ ! -s stderr.txt ] && pass "$1" || { fail "$1"; head -n 3 stderr.txt | sed 's/^/    /'; }; }
 
@@ -185,6 +206,39 @@ if has sqlite3 && sqlite3 :memory: "CREATE VIRTUAL TABLE words USING fts5 (word)
     SELECT count(*) FROM element WHERE kind = 1" > want.txt
   same "ways are found by a box" got.txt want.txt
   expect "verify --elements beside the example's searches" 0 "$sound_whole${nl}" verify "$country" searched.db --elements
+
+  # keys and indexes of one's own that descend, or that don't compare texts by their bytes, are looked at in their own order
+  cp plain.db ordered.db
+  ordered ordered.db
+  kept_ordered() { for table in down both counted loose; do sqlite3 "$1" ".mode insert" "SELECT * FROM $table"; done; }
+  kept_ordered ordered.db > own.txt
+  sound "own orders: sqlite3 finds the database whole" ordered.db
+  expect "verify --elements beside own orders" 0 "$sound_whole${nl}" verify "$country" ordered.db --elements
+  silent "verify beside own orders: nothing is told"
+  sqlite3 ordered.db "VACUUM"
+  expect "verify --elements beside own orders, after VACUUM" 0 "$sound_whole${nl}" verify "$country" ordered.db --elements
+  silent "verify beside own orders, after VACUUM: nothing is told"
+  cp ordered.db other.db
+  expect "verify of two databases beside own orders" 0 "$("$pbfrow" verify "$country" plain.db plain.db)${nl}" verify "$country" ordered.db other.db
+  sqlite3 ordered.db .dump > dump.sql
+  rm -f other.db
+  sqlite3 other.db < dump.sql
+  expect "verify --elements beside own orders, from a dump" 0 "$sound_whole${nl}" verify "$country" other.db --elements
+  kept_ordered other.db > got.txt
+  same "own orders: one's own is as it was" got.txt own.txt
+
+  # an index whose entries aren't in the order that its text asks is damaged
+  wrong() {
+    cp ordered.db wrong.db
+    sqlite3 wrong.db "PRAGMA writable_schema = ON; UPDATE sqlite_schema SET sql = '$2' WHERE name = '$1'"
+    expect "an index in another order than its text asks ($1)" 1 "fault 65 Disk${nl}" verify "$country" wrong.db
+  }
+  wrong loose_down "CREATE INDEX loose_down ON loose (x)"
+  wrong loose_by_both "CREATE INDEX loose_by_both ON loose (y, x DESC)"
+  wrong loose_by_any "CREATE INDEX loose_by_any ON loose (x)"
+  wrong both_by_c "CREATE INDEX both_by_c ON both (c)"
+  wrong down "CREATE TABLE down (a TEXT PRIMARY KEY, b) WITHOUT ROWID"
+  wrong both "CREATE TABLE both (a TEXT COLLATE NOCASE, b TEXT COLLATE RTRIM, c, PRIMARY KEY (a, b)) WITHOUT ROWID"
 
   # kills
   went_on=yes

@@ -1,35 +1,40 @@
 //! Where databases are opened, to be asked or to take blobs, and closed again. Those that are asked and those that are filled
 //! are different `Databases`, since the files of the first are read alone.
+//!
+//! A store that keeps elements in tables is opened by its trees, or not at all: what stands in the way is told on standard
+//! error. SQL makes a store where there is none, and reads one that keeps elements as blocks, which other databases are
+//! filled from.
 
-ghost use Rattle.std.specs.Prelude.{◌≡◌, false, ⊤, take, Some, IfOk, IfSome};
+ghost use Rattle.std.specs.Prelude.{◌≡◌, false, take, Some, IfOk, IfSome};
 ghost use Rattle.sqlite.specs.Held.{IsNew, state};
 ghost use Rattle.sqlite_trees.specs.Objects.{catalog_tree};
 ghost use Rattle.sqlite_trees.specs.View.{IsClean};
 ghost use Rattle.osm_tree_writes.specs.Tables.{table_listings};
 ghost use Rattle.osm_tree_audits.specs.Looks.{IsLook};
 ghost use Rattle.osm_trees.specs.Below.{IsChecked};
-ghost use Rattle.osm_trees.specs.Ways.{MatchOpened, counted};
+ghost use Rattle.osm_trees.specs.Ways.{counted};
 ghost use Rattle.osm_tree_writes.specs.Appending.{IsStoreAt};
 ghost use Rattle.osm_databases.specs.Checked.{HasWholeAdded, IsOfVersion};
 
-use crate::reason::{tell_of_obstruction, told, told_of};
-use crate::stores::{OpenedChecked, OpenedStore, adopted, adopted_or_made, checked, taking_blobs};
-use osm_added_indexes::{binds_a_store, is_added_index, is_of_a_store, plain_index};
-use osm_openings::{Obstacle, Obstruction};
-use osm_store::{BodyStore, StoreFault, TableStore};
+use crate::reason::{Reason, tell, tell_of_obstruction, told, told_of};
+use crate::stores::{BLOCKS, checked, made_where_none, taking_blobs};
+use osm_checked::CheckedStore;
+use osm_openings::{Obstacle, Obstruction, find_unkept};
+use osm_store::{BodyStore, StoreFault, TABLE_VERSION};
 use osm_trees::{Opened, TreeStore};
 use sqlite::{Alter, Connection};
-use sqlite_schema::schema::Schema;
-use sqlite_trees::sound::bytes_of;
-use std::str::from_utf8;
 
 /// Where databases are opened and closed. Their trees are named, and not what they lie in: so all that is done with them
 /// stands in generic code. Why a database can't be opened is told on standard error.
 pub trait Databases {
     type Trees: Alter + Drop;
 
-    /// The trees of a database of this version. If it is anything else it is closed, and opening it by SQL says why.
+    /// The trees of a database of this version. If it is anything else it is closed.
     fn trees(&self, rt: &HostRuntime, name: &str) -> Result<Option<Self::Trees>, StoreFault>;
+
+    /// What stands in the way of a database whose trees aren't opened, if that can be told. Nothing of it is changed, and
+    /// nothing is told on standard error.
+    fn obstruction(&self, rt: &HostRuntime, name: &str) -> Option<Obstruction>;
 
     /// A database that is opened by SQL.
     fn connection(
@@ -47,46 +52,50 @@ pub trait Databases {
 /// Databases of which each page can be looked at as they are opened.
 pub trait CheckedDatabases: Databases {
     /// The trees of a database of this version, each page and tree of which was looked at: the first of them are those of a
-    /// store, and nothing is written that isn't committed. If it is anything else it is closed, and opening it by SQL says
-    /// why.
+    /// store, and nothing is written that isn't committed. If it is anything else it is closed.
     fn checked_trees(&self, rt: &HostRuntime, name: &str) -> Result<Option<Self::Trees>, StoreFault>
         ensures { IfOk result (λ found. IfSome found (λ trees. IsClean (Self.Trees.Store.view trees) → IsOfVersion (Self.Trees.Store.view trees))) };
 }
 
-/// Whether a trigger binds one of pbfrow's tables, which SQL then keeps as it is and doesn't show.
-fn binds_a_table(schema: &Schema) -> bool {
-    schema.views.as_slice().iter().any(|view| view.is_bound && is_of_a_store(view.name.as_slice()))
-}
-
-/// The fault of a database in which SQL finds no store. Where a trigger binds one of its tables, which is told as it is opened,
-/// that is `Disk`; any other is told now.
-fn refused(rt: &HostRuntime, name: &str, is_bound: bool, fault: StoreFault) -> StoreFault {
-    if is_bound && fault == StoreFault::NotThisStore(None) {
+/// The fault of a database whose trees aren't opened and in whose way nothing is known to stand, once SQL has said this of its
+/// version. It is told.
+fn told_version(rt: &HostRuntime, name: &str, fault: StoreFault) -> StoreFault {
+    if fault == StoreFault::NotThisStore(Some(TABLE_VERSION)) {
+        tell(rt, name, &Reason::Unlisted);
         return StoreFault::Disk;
     }
     told_of(rt, name, fault)
 }
 
-/// The store of a database that keeps elements in tables, by SQL, which looks at each page and row as it opens it. Nothing is
-/// written. Why it can't be opened is told on standard error.
-pub fn source_of_rows<D: Databases>(
+/// Refuses a database in whose way something stands, which is told.
+fn refuse_obstructed<D: Databases>(
     rt: &HostRuntime,
     databases: &D,
     name: &str,
-) -> Result<TableStore<D::Trees>, StoreFault>
-    ensures { IfOk result (λ store. store.failures ≡ 0) }
-{
-    let connection = databases.connection(rt, name)?;
-    let is_bound = binds_a_table(connection.schema());
-    match adopted(connection) {
-        Ok(store) => Ok(store),
-        Err(fault) => Err(refused(rt, name, is_bound, fault)),
+) -> Result<(), StoreFault> {
+    match databases.obstruction(rt, name) {
+        Some(found) => Err(tell_of_obstruction(rt, name, &found)),
+        None => Ok(()),
     }
 }
 
-/// The store of a database that keeps elements as blocks, by SQL. Nothing is written. Why it can't be opened is told on
-/// standard error.
-pub fn source_of_blocks<D: Databases>(
+/// The same, but of one that has a store of blocks.
+fn refuse_all_but_blocks<D: Databases>(
+    rt: &HostRuntime,
+    databases: &D,
+    name: &str,
+) -> Result<(), StoreFault> {
+    let Some(found) = databases.obstruction(rt, name) else {
+        return Ok(());
+    };
+    if found.obstacle == Obstacle::FirstLayout {
+        return Ok(());
+    }
+    Err(tell_of_obstruction(rt, name, &found))
+}
+
+/// The store of blocks of a database, by SQL, which says of what version it is where that is another one.
+fn adopted_blocks<D: Databases>(
     rt: &HostRuntime,
     databases: &D,
     name: &str,
@@ -96,192 +105,186 @@ pub fn source_of_blocks<D: Databases>(
     let connection = databases.connection(rt, name)?;
     match BodyStore::adopt(connection) {
         Ok(store) => Ok(store),
-        Err((fault, _)) => Err(told_of(rt, name, fault)),
+        Err((fault, _)) => Err(told_version(rt, name, fault)),
     }
 }
 
-/// The store of a database that is asked, if it has one. A database of this version is read by its trees, and any other is
-/// opened by SQL, which says what it is. Why it can't be opened is told on standard error.
+/// The same of a database whose trees aren't opened, unless something else stands in its way.
+fn blocks_of<D: Databases>(
+    rt: &HostRuntime,
+    databases: &D,
+    name: &str,
+) -> Result<BodyStore<D::Trees>, StoreFault>
+    ensures { IfOk result (λ store. store.failures ≡ 0) }
+{
+    refuse_all_but_blocks(rt, databases, name)?;
+    adopted_blocks(rt, databases, name)
+}
+
+/// The fault of a database whose trees aren't opened, which is told. Where nothing is known to stand in the way, SQL says of
+/// what version it is: it is empty, or its table `meta` names another version, or it is damaged behind the list of its tables.
+fn refused<D: Databases>(rt: &HostRuntime, databases: &D, name: &str) -> StoreFault {
+    if let Err(fault) = refuse_obstructed(rt, databases, name) {
+        return fault;
+    }
+    match adopted_blocks(rt, databases, name) {
+        Ok(_) => told_of(rt, name, StoreFault::NotThisStore(Some(BLOCKS))),
+        Err(fault) => fault,
+    }
+}
+
+/// The store of a database that is asked, if it has one of this version; it is read by its trees. Nothing is written.
+///
+/// Why it can't be opened is told on standard error. The fault is `NotThisStore` where it has no store of pbfrow's, or one of
+/// another version. It is `Disk` where a table or the index by kind and id isn't as pbfrow makes it, where two objects have
+/// one name, where a text isn't in UTF-8, and where it is damaged or its file can't be opened.
 pub fn opened<D: Databases>(
     rt: &HostRuntime,
     databases: &D,
     name: &str,
-) -> Result<OpenedStore<D::Trees>, StoreFault>
-    ensures { IfOk result (λ reader. counted (λ trees. trees.failures) (λ store. store.failures) reader ≡ 0) }
+) -> Result<TreeStore<D::Trees>, StoreFault>
+    ensures { IfOk result (λ reader. reader.failures ≡ 0) }
 {
     match databases.trees(rt, name)? {
-        Some(trees) => Ok(Opened::ByTrees(TreeStore::new(trees))),
-        None => Ok(Opened::BySql(source_of_rows(rt, databases, name)?)),
+        Some(trees) => Ok(TreeStore::new(trees)),
+        None => Err(refused(rt, databases, name)),
     }
 }
 
-/// Says on standard error which indexes somebody has added to the tables of the store that a put doesn't keep, and what to do.
-fn tell_of_refused_indexes<S: Alter>(
-    rt: &HostRuntime,
-    name: &str,
-    trees: &S,
-) -> Result<(), StoreFault> {
+/// Refuses trees of which one table has a trigger, which whoever writes to it would have to run, or an index that a put doesn't
+/// keep. That is told on standard error.
+fn refuse_unkept<S: Alter>(rt: &HostRuntime, name: &str, trees: &S) -> Result<(), StoreFault> {
     let objects = trees.objects(rt.alloc())?;
-    for row in objects.as_slice() {
-        let kept = plain_index(rt.alloc(), row)?;
-        if kept.is_none() && is_added_index(row) {
-            tell_of_refused_index(rt, name, bytes_of(row.get(2)));
-        }
-    }
-    Ok(())
-}
-
-/// Says so of the index of this name. A line that can't be written there is left out.
-fn tell_of_refused_index(rt: &HostRuntime, name: &str, index: &[u8]) {
-    if let Ok(index) = from_utf8(index) {
-        let _written = eprintln!(rt;
-            "pbfrow: {name}: index {index} is UNIQUE, of an expression, with WHERE, or on blob or meta, so the database is opened by SQL, if that can: drop the index with sqlite3 to go on without"
-        );
+    match find_unkept(rt.alloc(), objects.as_slice())? {
+        Some(found) => Err(tell_of_obstruction(rt, name, &found)),
+        None => Ok(()),
     }
 }
 
-/// Refuses trees of which one table has a trigger, which whoever writes to it would have to run. That is told on standard error.
-fn refuse_bound<S: Alter>(rt: &HostRuntime, name: &str, trees: &S) -> Result<(), StoreFault> {
-    let objects = trees.objects(rt.alloc())?;
-    for row in objects.as_slice() {
-        if binds_a_store(row) {
-            let object = bytes_of(row.get(2)).to_vec(rt.alloc())?;
-            let obstacle = Obstacle::Trigger;
-            tell_of_obstruction(rt, name, &Obstruction { obstacle, object });
-            return Err(StoreFault::Disk);
-        }
-    }
-    Ok(())
-}
-
-/// The trees that were found, if a put can keep all that the database has. One of whose tables has a trigger is refused.
-fn found_taking_blobs<S: Alter + Drop>(
-    rt: &HostRuntime,
-    name: &str,
-    found: Option<S>,
-) -> Result<Option<S>, StoreFault>
-    ensures same { IfOk result (λ taking. IfSome taking (λ kept. found ≡ Some kept)) }
-    ensures store { IfOk result (λ taking. IfSome taking (λ kept. IsStoreAt (S.Store.view kept).shape)) }
+/// The trees, if a put can keep all that the database has. What it can't keep is told.
+fn keeping_all<S: Alter + Drop>(rt: &HostRuntime, name: &str, trees: S) -> Result<S, StoreFault>
+    ensures same { IfOk result (λ kept. kept ≡ trees) }
+    ensures store { IfOk result (λ kept. IsStoreAt (S.Store.view kept).shape) }
 {
-    match found {
-        Some(trees) => {
-            refuse_bound(rt, name, &trees)?;
-            tell_of_refused_indexes(rt, name, &trees)?;
-            told(rt, name, taking_blobs(rt.alloc(), trees))
-        }
-        None => Ok(None),
+    refuse_unkept(rt, name, &trees)?;
+    match taking_blobs(rt.alloc(), trees) {
+        Ok(Some(kept)) => Ok(kept),
+        Ok(None) => Err(told_of(rt, name, StoreFault::Disk)),
+        Err(refusal) => told(rt, name, Err(refusal)),
     }
 }
 
-/// The store of a database whose rows are to be compared, whatever these are. A database of this version is read by its
-/// trees: each page and each tree is looked at, and each index of the store has one entry for each row, and so has each that
-/// somebody has added to its tables; the store has what was seen of the tables at that. One of whose tables somebody has made an
-/// index that a put doesn't keep is opened by SQL, which looks at that too, and holds what it looks at in memory. One of whose
-/// tables has a trigger is refused. Nothing is written. Why it can't be opened is told on standard error.
+/// The fault of a database of which a page or a tree isn't sound, or whose trees aren't opened. It is told.
+fn refused_with_a_look<D: Databases>(rt: &HostRuntime, databases: &D, name: &str) -> StoreFault {
+    let trees = match databases.trees(rt, name) {
+        Ok(Some(trees)) => trees,
+        Ok(None) => return refused(rt, databases, name),
+        Err(fault) => return fault,
+    };
+    if let Err(fault) = refuse_unkept(rt, name, &trees) {
+        return fault;
+    }
+    tell(rt, name, &Reason::Unsound);
+    StoreFault::Disk
+}
+
+/// The store of a database whose rows are to be compared, whatever these are. It is read by its trees: each page and each tree
+/// is looked at, and each index of the store has one entry for each row, and so has each that somebody has added to its tables;
+/// the store has what was seen of the tables at that. Nothing is written.
+///
+/// Why it can't be opened is told on standard error. The fault is one of those of `opened`; it is also `Disk` where one of its
+/// tables has a trigger, or an index that a put doesn't keep, and where a page, a tree or an index isn't sound.
 pub fn opened_checked<D: CheckedDatabases>(
     rt: &HostRuntime,
     databases: &D,
     name: &str,
-) -> Result<OpenedChecked<D::Trees>, StoreFault>
-    ensures failures { IfOk result (λ reader. counted (λ checked. checked.trees.failures) (λ store. store.failures) reader ≡ 0) }
-    ensures checked { IfOk result (λ reader. MatchOpened reader
-        (λ checked. IsClean (D.Trees.Store.view checked.trees.store)
-        → IsChecked (D.Trees.Store.view checked.trees.store) × (take 9 ((D.Trees.Store.view checked.trees.store).trees catalog_tree) ≡ table_listings)) (λ _. ⊤)) }
-    ensures look { IfOk result (λ reader. MatchOpened reader (λ checked. IsClean (D.Trees.Store.view checked.trees.store) → IsLook (D.Trees.Store.view checked.trees.store).trees checked.look) (λ _. ⊤)) }
-    ensures added { IfOk result (λ reader. MatchOpened reader (λ checked. IsClean (D.Trees.Store.view checked.trees.store) → HasWholeAdded (D.Trees.Store.view checked.trees.store).trees) (λ _. ⊤)) }
+) -> Result<CheckedStore<D::Trees>, StoreFault>
+    ensures failures { IfOk result (λ reader. reader.trees.failures ≡ 0) }
+    ensures checked { IfOk result (λ reader. IsClean (D.Trees.Store.view reader.trees.store)
+        → IsChecked (D.Trees.Store.view reader.trees.store) × (take 9 ((D.Trees.Store.view reader.trees.store).trees catalog_tree) ≡ table_listings)) }
+    ensures look { IfOk result (λ reader. IsClean (D.Trees.Store.view reader.trees.store) → IsLook (D.Trees.Store.view reader.trees.store).trees reader.look) }
+    ensures added { IfOk result (λ reader. IsClean (D.Trees.Store.view reader.trees.store) → HasWholeAdded (D.Trees.Store.view reader.trees.store).trees) }
 {
     let found = databases.checked_trees(rt, name)?;
-    let Some(trees) = found_taking_blobs(rt, name, found)? else {
-        return Ok(Opened::BySql(source_of_rows(rt, databases, name)?));
+    let Some(trees) = found else {
+        return Err(refused_with_a_look(rt, databases, name));
     };
-    let store = told(rt, name, checked(rt.alloc(), trees))?;
-    Ok(Opened::ByTrees(store))
+    let kept = keeping_all(rt, name, trees)?;
+    let store = told(rt, name, checked(rt.alloc(), kept))?;
+    Ok(store)
 }
 
-/// The store of a database of either version. One that keeps elements as rows is read by its trees or by SQL, and one that
-/// keeps them as blocks of bytes by SQL alone: the outer `ByTrees` has the former, whichever way that is read, and `BySql` the
-/// latter.
-pub type AnyVersion<S> = Opened<OpenedStore<S>, BodyStore<S>>;
+/// The store of a database of either version. One that keeps elements in tables is read by its trees, and one that keeps them
+/// as blocks of bytes by SQL.
+pub type AnyVersion<S> = Opened<TreeStore<S>, BodyStore<S>>;
 
-/// The version whose databases keep elements as blocks.
-const BLOCKS: i64 = 1;
-
-/// The store that a connection has, of either version.
-fn adopted_of_any_version<S: Alter + Drop>(
-    connection: Connection<S>,
-) -> Result<AnyVersion<S>, StoreFault>
-    requires { (state S.Store connection).in_transaction ≡ false }
-    ensures { IfOk result (λ store. counted (counted (λ trees. trees.failures) (λ rows. rows.failures)) (λ blocks. blocks.failures) store ≡ 0) }
-{
-    let (fault, connection) = match TableStore::adopt(connection) {
-        Ok(store) => return Ok(Opened::ByTrees(Opened::BySql(store))),
-        Err(other) => other,
-    };
-    if fault != StoreFault::NotThisStore(Some(BLOCKS)) {
-        return Err(fault);
-    }
-    match BodyStore::adopt(connection) {
-        Ok(store) => Ok(Opened::BySql(store)),
-        Err((fault, _)) => Err(fault),
-    }
-}
-
-/// The store of a database, of whichever version. Nothing is written. Why it can't be opened is told on standard error.
+/// The store of a database, of whichever version. Nothing is written. Why it can't be opened is told on standard error. The
+/// fault is one of those of `opened`; it is also `Disk` where one that keeps elements as blocks has a virtual table, or a
+/// trigger on one of its tables.
 pub fn opened_of_any_version<D: Databases>(
     rt: &HostRuntime,
     databases: &D,
     name: &str,
 ) -> Result<AnyVersion<D::Trees>, StoreFault>
-    ensures { IfOk result (λ store. counted (counted (λ trees. trees.failures) (λ rows. rows.failures)) (λ blocks. blocks.failures) store ≡ 0) }
+    ensures { IfOk result (λ store. counted (λ trees. trees.failures) (λ blocks. blocks.failures) store ≡ 0) }
 {
-    if let Some(trees) = databases.trees(rt, name)? {
-        return Ok(Opened::ByTrees(Opened::ByTrees(TreeStore::new(trees))));
-    }
-    let connection = databases.connection(rt, name)?;
-    let is_bound = binds_a_table(connection.schema());
-    match adopted_of_any_version(connection) {
-        Ok(store) => Ok(store),
-        Err(fault) => Err(refused(rt, name, is_bound, fault)),
+    match databases.trees(rt, name)? {
+        Some(trees) => Ok(Opened::ByTrees(TreeStore::new(trees))),
+        None => Ok(Opened::BySql(blocks_of(rt, databases, name)?)),
     }
 }
 
-/// The store of a database that is to take blobs, by SQL; it is made where there is none.
-fn filled_by_sql<D: Databases>(
+/// The store of a database that keeps elements as blocks, by SQL. Nothing is written. Why it can't be opened is told on
+/// standard error; one that keeps them in tables is `NotThisStore` with its version.
+pub fn source_of_blocks<D: Databases>(
     rt: &HostRuntime,
     databases: &D,
     name: &str,
-) -> Result<OpenedStore<D::Trees>, StoreFault>
-    ensures { IfOk result (λ store. counted (λ trees. trees.failures) (λ store. store.failures) store ≡ 0) }
+) -> Result<BodyStore<D::Trees>, StoreFault>
+    ensures { IfOk result (λ store. store.failures ≡ 0) }
 {
+    if databases.trees(rt, name)?.is_some() {
+        return Err(told_of(rt, name, StoreFault::NotThisStore(Some(TABLE_VERSION))));
+    }
+    blocks_of(rt, databases, name)
+}
+
+/// The store that is made in a database whose trees aren't opened, where it has no table of anybody's. If something stands in
+/// the way nothing is written.
+fn made_in<D: Databases>(
+    rt: &HostRuntime,
+    databases: &D,
+    name: &str,
+) -> Result<TreeStore<D::Trees>, StoreFault>
+    ensures { IfOk result (λ store. store.failures ≡ 0) }
+{
+    refuse_obstructed(rt, databases, name)?;
     let connection = databases.connection(rt, name)?;
-    let is_bound = binds_a_table(connection.schema());
-    match adopted_or_made(connection) {
+    match made_where_none(connection) {
         Ok(store) => Ok(store),
-        Err(fault) => Err(refused(rt, name, is_bound, fault)),
+        Err(fault) => Err(told_version(rt, name, fault)),
     }
 }
 
-/// The store of a database that is to take blobs, which is made if there is none. A database of this version, and one that is
-/// made, is written by its trees; one of whose tables somebody has made an index that a put doesn't keep is opened by SQL, and
-/// one of whose tables has a trigger is refused. Why it can't be opened is told on standard error.
+/// The store of a database that is to take blobs, which is made if there is none; it is written by its trees. Where it is
+/// refused nothing is written.
+///
+/// Why it can't be opened is told on standard error. The fault is one of those of `opened`; it is also `Disk` where one of its
+/// tables has a trigger, or an index that a put doesn't keep.
 pub fn opened_or_made<D: Databases>(
     rt: &HostRuntime,
     databases: &D,
     name: &str,
-) -> Result<OpenedStore<D::Trees>, StoreFault>
-    ensures { IfOk result (λ store. counted (λ trees. trees.failures) (λ store. store.failures) store ≡ 0) }
+) -> Result<TreeStore<D::Trees>, StoreFault>
+    ensures { IfOk result (λ store. store.failures ≡ 0) }
 {
-    let found = databases.trees(rt, name)?;
-    match found_taking_blobs(rt, name, found)? {
-        Some(trees) => Ok(Opened::ByTrees(TreeStore::new(trees))),
-        None => filled_by_sql(rt, databases, name),
+    match databases.trees(rt, name)? {
+        Some(trees) => Ok(TreeStore::new(keeping_all(rt, name, trees)?)),
+        None => made_in(rt, databases, name),
     }
 }
 
 /// Closes the database of a store that took blobs.
-pub fn close<D: Databases>(databases: &D, store: OpenedStore<D::Trees>) {
-    databases.close(match store {
-        Opened::ByTrees(store) => store.into_store(),
-        Opened::BySql(store) => store.into_connection().into_store(),
-    });
+pub fn close<D: Databases>(databases: &D, store: TreeStore<D::Trees>) {
+    databases.close(store.into_store());
 }

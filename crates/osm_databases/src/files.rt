@@ -1,22 +1,21 @@
 //! The files of this machine that a database lies in.
 
 ghost use Rattle.std.specs.Prelude.{◌≡◌, IsTrue, IfOk};
-ghost use Rattle.sqlite.specs.Held.{IsNew};
 ghost use Rattle.sqlite_wal.specs.Files.{image_at, seen_image};
 ghost use Rattle.osm_openings.specs.Presumed.{ArePresumedTables};
 
 use crate::databases::{CheckedDatabases, Databases};
-use crate::reason::{Reason, Refusal, tell_of_obstruction, told};
+use crate::reason::{Reason, Refusal, told};
 use crate::trees::{
     FEW_PAGES, KeptPages, MANY_PAGES, checked_trees_in, close_files, connection_in, obstacle_in,
     trees_in,
 };
-use osm_openings::{Obstacle, Obstruction};
+use osm_openings::Obstruction;
 use osm_store::StoreFault;
 use pbfrow_files::{
     OpenFault, ReadFile, ReadFrom, WriteFile, WriteFrom, open_to_read, open_to_write,
 };
-use sqlite::{Alter, Connection};
+use sqlite::Connection;
 use sqlite_disk::{Disk, Files, Start, Unknown};
 use sqlite_store::FileStore;
 
@@ -87,40 +86,10 @@ fn read_alone(rt: &HostRuntime, name: &str) -> Result<Files<ReadFile>, StoreFaul
     told(rt, name, files_to_read(rt, name, Unknown))
 }
 
-/// What stands in the way of opening a database, if that can be told.
+/// What stands in the way of opening a database by its trees, if that can be told.
 fn obstruction_of(rt: &HostRuntime, name: &str) -> Option<Obstruction> {
     let files = files_to_read(rt, name, Unknown).ok()?;
     obstacle_in(rt, files)
-}
-
-/// What opening a database by SQL came to. If it isn't opened, what stands in the way is told, or else what SQL says. SQL
-/// opens one whose tables have a trigger, which is told too: a call that would run it fails.
-fn explained<S: Alter>(
-    rt: &HostRuntime,
-    name: &str,
-    found: Option<Obstruction>,
-    opened: Result<Connection<S>, Refusal>,
-) -> Result<Connection<S>, StoreFault>
-    requires { IfOk opened IsNew }
-    ensures { IfOk result IsNew }
-{
-    let Some(found) = found else {
-        return told(rt, name, opened);
-    };
-    let refusal = match opened {
-        Ok(connection) => {
-            if found.obstacle == Obstacle::Trigger {
-                tell_of_obstruction(rt, name, &found);
-            }
-            return Ok(connection);
-        }
-        Err(refusal) => refusal,
-    };
-    if refusal.fault == StoreFault::Memory {
-        return told(rt, name, Err(refusal));
-    }
-    tell_of_obstruction(rt, name, &found);
-    Err(refusal.fault)
 }
 
 /// The databases in files of this machine that take blobs. One that is missing is made.
@@ -142,14 +111,17 @@ impl Databases for FilledFiles {
         told(rt, name, trees_in(rt, files, self.pages))
     }
 
+    fn obstruction(&self, rt: &HostRuntime, name: &str) -> Option<Obstruction> {
+        obstruction_of(rt, name)
+    }
+
     fn connection(
         &self,
         rt: &HostRuntime,
         name: &str,
     ) -> Result<Connection<FileStore<WriteFile>>, StoreFault> {
-        let found = obstruction_of(rt, name);
         let files = written(rt, name)?;
-        explained(rt, name, found, connection_in(rt, files, self.pages))
+        told(rt, name, connection_in(rt, files, self.pages))
     }
 
     fn close(&self, trees: FileStore<WriteFile>) {
@@ -172,14 +144,17 @@ impl Databases for AskedFiles {
         told(rt, name, trees_in(rt, files, FEW_PAGES))
     }
 
+    fn obstruction(&self, rt: &HostRuntime, name: &str) -> Option<Obstruction> {
+        obstruction_of(rt, name)
+    }
+
     fn connection(
         &self,
         rt: &HostRuntime,
         name: &str,
     ) -> Result<Connection<FileStore<ReadFile>>, StoreFault> {
-        let found = obstruction_of(rt, name);
         let files = read_alone(rt, name)?;
-        explained(rt, name, found, connection_in(rt, files, MANY_PAGES))
+        told(rt, name, connection_in(rt, files, MANY_PAGES))
     }
 
     fn close(&self, _trees: FileStore<ReadFile>) {}

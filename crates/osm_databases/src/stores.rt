@@ -1,14 +1,10 @@
-//! The store that a connection has, one that is made where there is none, and trees that take blobs.
+//! The store that is made where a connection has none, and trees that take blobs or were looked at.
 
-ghost use Rattle.std.specs.Prelude.{◌≡◌, ◌≢◌, false, ⊤, take, IfOk, IfSome};
+ghost use Rattle.std.specs.Prelude.{◌≡◌, ◌≢◌, false, take, IfOk, IfSome};
 ghost use Rattle.std.specs.FinMap.{empty};
-ghost use Rattle.sqlite.specs.State.{HasCleanDisk};
 ghost use Rattle.sqlite.specs.Held.{state};
 ghost use Rattle.sqlite_trees.specs.View.{IsClean};
-ghost use Rattle.osm_store.specs.Held.{HeldMap};
 ghost use Rattle.osm_store.specs.declared.schema.layout.Layout.TheVariants.{Tables};
-ghost use Rattle.osm_store.specs.LayoutHolding.{Holds};
-ghost use Rattle.osm_store.specs.Load.Asking.{JustAsks};
 ghost use Rattle.osm_store.specs.Schema.Bodies.{no_schema};
 ghost use Rattle.sqlite_exec.specs.Calls.{OnlyReads};
 ghost use Rattle.sqlite_trees.specs.Objects.{catalog_tree};
@@ -16,41 +12,23 @@ ghost use Rattle.osm_tree_writes.specs.Appending.{IsStoreAt, TakeBlobs};
 ghost use Rattle.osm_tree_writes.specs.Putting.{IsIndexedStore};
 ghost use Rattle.osm_tree_audits.specs.Looks.{IsLook};
 ghost use Rattle.osm_trees.specs.Below.{HoldsBelow, IsChecked, StandsAlone};
-ghost use Rattle.osm_trees.specs.Ways.{MatchOpened, counted};
 ghost use Rattle.osm_tree_writes.specs.Tables.{table_listings};
 ghost use Rattle.osm_databases.specs.Checked.{HasWholeAdded, IsOfVersion};
 
 use crate::reason::{Reason, Refusal};
 use osm_added_indexes::plain_indexes;
 use osm_checked::CheckedStore;
-use osm_store::{StoreFault, TableStore};
+use osm_store::{BodyStore, StoreFault, TableStore};
 use osm_tree_audits::{Look, Looked, faulty_added_index, look_at_indexes};
 use osm_tree_writes::takes_blobs;
-use osm_trees::{Opened, TreeStore};
+use osm_trees::TreeStore;
 use sqlite::{Alter, Connection};
 use sqlite_schema::schema::Index;
 use sqlite_trees::store::Store;
 use std::alloc::{AllocError, Global};
 
-/// A store over the trees of its database, or by SQL.
-pub type OpenedStore<S> = Opened<TreeStore<S>, TableStore<S>>;
-
-/// The same of a store that is only read, each index of whose trees was looked at.
-pub type OpenedChecked<S> = Opened<CheckedStore<S>, TableStore<S>>;
-
-/// The store that a connection has. It holds what the connection holds, and nothing has been written. A fault is that of
-/// `TableStore::adopt`.
-pub fn adopted<S: Alter + Drop>(connection: Connection<S>) -> Result<TableStore<S>, StoreFault>
-    requires { (state S.Store connection).in_transaction ≡ false }
-    ensures held { IfOk result (λ store. HasCleanDisk (state S.Store store.connection) → (held : HeldMap) → Holds Tables (state S.Store connection) held → Holds Tables (state S.Store store.connection) held) }
-    ensures asks { IfOk result (λ store. JustAsks (state S.Store connection) (state S.Store store.connection)) }
-    ensures failures { IfOk result (λ store. store.failures ≡ 0) }
-{
-    match TableStore::adopt(connection) {
-        Ok(store) => Ok(store),
-        Err((fault, _)) => Err(fault),
-    }
-}
+/// The version whose databases keep elements as blocks.
+pub(crate) const BLOCKS: i64 = 1;
 
 /// The trees of a store that is made in a database without tables. It holds no blob, and no object stands beside its own.
 /// Where the database has a table, an index or a view, whosever it is, nothing is written, and the fault is
@@ -73,26 +51,24 @@ pub fn made<S: Alter + Drop>(connection: Connection<S>) -> Result<TreeStore<S>, 
     Ok(TreeStore::new(trees))
 }
 
-/// The store that a connection has, by SQL; or, where it has no store and no table of anybody's, the trees of one that is
-/// made, numbered as this program makes them.
-pub fn adopted_or_made<S: Alter + Drop>(
+/// The trees of a store that is made where a connection has no store and no table of anybody's, numbered as this program makes
+/// them. A store that it has, of either version, is `NotThisStore` with that version, and nothing is written.
+pub fn made_where_none<S: Alter + Drop>(
     connection: Connection<S>,
-) -> Result<OpenedStore<S>, StoreFault>
+) -> Result<TreeStore<S>, StoreFault>
     requires { (state S.Store connection).in_transaction ≡ false }
-    ensures made { IfOk result (λ opened. MatchOpened opened (λ trees. IsClean (S.Store.view trees.store) → HoldsBelow Tables (S.Store.view trees.store) empty × StandsAlone (S.Store.view trees.store) (S.Store.recovers trees.store)) (λ _. ⊤)) }
-    ensures adopted { IfOk result (λ opened. MatchOpened opened (λ _. ⊤) (λ store. JustAsks (state S.Store connection) (state S.Store store.connection))) }
-    ensures held { IfOk result (λ opened. MatchOpened opened (λ _. ⊤)
-        (λ store. HasCleanDisk (state S.Store store.connection) → (held : HeldMap) → Holds Tables (state S.Store connection) held → Holds Tables (state S.Store store.connection) held)) }
-    ensures failures { IfOk result (λ opened. counted (λ trees. trees.failures) (λ store. store.failures) opened ≡ 0) }
+    ensures empty { IfOk result (λ trees. IsClean (S.Store.view trees.store) → HoldsBelow Tables (S.Store.view trees.store) empty) }
+    ensures alone { IfOk result (λ trees. IsClean (S.Store.view trees.store) → StandsAlone (S.Store.view trees.store) (S.Store.recovers trees.store)) }
+    ensures failures { IfOk result (λ trees. trees.failures ≡ 0) }
 {
-    let (fault, connection) = match TableStore::adopt(connection) {
-        Ok(store) => return Ok(Opened::BySql(store)),
+    let (fault, connection) = match BodyStore::adopt(connection) {
+        Ok(_) => return Err(StoreFault::NotThisStore(Some(BLOCKS))),
         Err(refused) => refused,
     };
     if fault != StoreFault::NotThisStore(None) {
         return Err(fault);
     }
-    Ok(Opened::ByTrees(made(connection)?))
+    made(connection)
 }
 
 /// The trees, if a put can keep all that the database has: each index that somebody has added to a table of the store is one

@@ -20,7 +20,7 @@ use std::io::Write;
 type MeteredSource<'a, D> = MeteredStore<'a, AnyVersion<<D as Databases>::Trees>, Meter<'a>>;
 
 /// Opens databases of either version, each of which tells the meter of its blobs: one of this version is read by its trees, and
-/// any other by SQL.
+/// one of the first by SQL.
 #[derive(Drop)]
 struct Sources<'a, D> {
     rt: &'a HostRuntime,

@@ -3,8 +3,8 @@
 ghost use Rattle.std.specs.Prelude.{◌≤◌};
 
 use osm_databases::databases::{Databases, opened};
-use osm_databases::stores::OpenedStore;
 use osm_store::StoreFault;
+use osm_trees::TreeStore;
 use pbfrow_answers::questions::{ask_in_turn, goes_by_blobs};
 use pbfrow_answers::turns::{InTurn, OpensNamed};
 use pbfrow_commands::metered::MeteredStore;
@@ -14,7 +14,7 @@ use pbfrow_meters::output::standard_output;
 use pbfrow_words::Question;
 
 /// A store that tells the meter of its blobs.
-type MeteredPart<'a, D> = MeteredStore<'a, OpenedStore<<D as Databases>::Trees>, Meter<'a>>;
+type MeteredPart<'a, D> = MeteredStore<'a, TreeStore<<D as Databases>::Trees>, Meter<'a>>;
 
 /// Opens databases that are asked, each of which tells the meter of its blobs.
 #[derive(Drop)]

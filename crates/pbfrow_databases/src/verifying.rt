@@ -6,7 +6,6 @@ use osm_checked::CheckedStore;
 use osm_databases::databases::{CheckedDatabases, opened_checked};
 use osm_store::StoreFault;
 use osm_tree_audits::{Stray, stray_row};
-use osm_trees::Opened;
 use osm_value::Outlet;
 use osm_verify::Depth;
 use pbfrow_answers::ending::refuse;
@@ -47,19 +46,17 @@ fn compare_in<D: CheckedDatabases, R: Read, W: Write>(
 ) -> u8
     ensures { result ≤ 1 }
 {
-    match opened_checked(rt, files, database) {
-        Ok(Opened::ByTrees(mut store)) => {
-            let status = verify(rt.alloc(), &mut store, input, depth, meter, out);
-            let mut trees = store.into_store();
-            if status != 0 && depth == Depth::Elements {
-                meter.erase();
-                tell_of_stray(rt, database, &mut trees);
-            }
-            status
-        }
-        Ok(Opened::BySql(mut store)) => verify(rt.alloc(), &mut store, input, depth, meter, out),
-        Err(fault) => refuse(out, fault),
+    let mut store = match opened_checked(rt, files, database) {
+        Ok(store) => store,
+        Err(fault) => return refuse(out, fault),
+    };
+    let status = verify(rt.alloc(), &mut store, input, depth, meter, out);
+    let mut trees = store.into_store();
+    if status != 0 && depth == Depth::Elements {
+        meter.erase();
+        tell_of_stray(rt, database, &mut trees);
     }
+    status
 }
 
 /// Opens databases, each page and index of which is looked at.
@@ -70,18 +67,8 @@ struct CheckedParts<'a, D> {
 }
 
 impl<D: CheckedDatabases> OpensNamed<CheckedStore<D::Trees>> for CheckedParts<'_, D> {
-    /// The store of the database of this name, if it is read by its trees. One that SQL opens, which reads it into memory whole,
-    /// is left to a `verify` of that database alone, as standard error says.
     fn open_named(&self, name: &str) -> Result<CheckedStore<D::Trees>, StoreFault> {
-        match opened_checked(self.rt, self.files, name)? {
-            Opened::ByTrees(store) => Ok(store),
-            Opened::BySql(_) => {
-                let _written = eprintln!(self.rt;
-                    "pbfrow: {name}: is opened by SQL, which verify does with one database alone: verify it by itself"
-                );
-                Err(StoreFault::Disk)
-            }
-        }
+        opened_checked(self.rt, self.files, name)
     }
 }
 

@@ -1,19 +1,19 @@
-//! Stores over connections in memory and in the files of a machine: which store each is, and how it is opened to be asked or
-//! filled.
+//! Stores over connections in memory and in the files of a machine: which store each is, how it is opened to be asked or filled,
+//! and what stands in the way.
 
 use super::openings::{Held, change, filled_machine, held_by, machine_of_blocks};
 use super::shared::{Machine, SharedFile};
 use osm_databases::databases::{
     CheckedDatabases, Databases, close, opened, opened_checked, opened_of_any_version,
-    opened_or_made, source_of_blocks, source_of_rows,
+    opened_or_made, source_of_blocks,
 };
 use osm_databases::reason::told;
-use osm_databases::stores::{adopted, adopted_or_made, made, taking_blobs};
+use osm_databases::stores::{made, made_where_none, taking_blobs};
 use osm_databases::trees::{
     FEW_PAGES, MANY_PAGES, checked_trees_in, close_files, connection_in, obstacle_in, trees_in,
 };
 use osm_import::deliver_all;
-use osm_openings::Obstacle;
+use osm_openings::{Obstacle, Obstruction};
 use osm_store::{Keeper, Reader, StoreFault, TableStore};
 use osm_trees::{Opened, TreeStore};
 use sqlite::{Alter, Connection, FileStore, MemStore};
@@ -27,8 +27,7 @@ use store_vectors::memory::{BodiesInMemory, TablesInMemory, number};
 #[derive(Clone, Copy, Debug, PartialEq, Eq)]
 enum Way {
     ByTrees,
-    BySql,
-    /// By SQL, and its elements are blocks.
+    /// By SQL: its elements are blocks.
     Blocks,
 }
 
@@ -41,47 +40,32 @@ const OF_BLOCKS: Outcome = Err(StoreFault::NotThisStore(Some(1)));
 
 const OF_ROWS: Outcome = Err(StoreFault::NotThisStore(Some(2)));
 
-/// How a store is read that was opened.
-fn way_of<T, S>(store: &Opened<T, S>) -> Way {
-    match store {
-        Opened::ByTrees(_) => Way::ByTrees,
-        Opened::BySql(_) => Way::BySql,
-    }
+const REFUSED: Outcome = Err(StoreFault::Disk);
+
+/// What a store over trees holds.
+fn by_trees<R: Reader + Drop>(alloc: Global, mut store: R) -> (Way, Held) {
+    (Way::ByTrees, held_by(alloc, &mut store))
 }
 
-/// How a store is read that was opened, and what it holds.
-fn described<T: Reader + Drop, S: Reader + Drop>(
-    alloc: Global,
-    mut store: Opened<T, S>,
-) -> (Way, Held) {
-    let way = way_of(&store);
-    (way, held_by(alloc, &mut store))
+/// What one of blocks holds.
+fn by_sql<R: Reader + Drop>(alloc: Global, mut store: R) -> (Way, Held) {
+    (Way::Blocks, held_by(alloc, &mut store))
 }
 
-/// Adopts the store that a connection has. `Full` stands for a transaction that is open.
-fn adopts<S: Alter + Drop>(alloc: Global, connection: Connection<S>) -> Outcome {
-    if !connection.is_autocommit() {
-        return Err(StoreFault::Full);
-    }
-    let mut store = adopted(connection)?;
-    Ok((Way::BySql, held_by(alloc, &mut store)))
-}
-
-/// Makes a store.
+/// Makes a store. `Full` stands for a transaction that is open.
 fn makes<S: Alter + Drop>(alloc: Global, connection: Connection<S>) -> Outcome {
     if !connection.is_autocommit() {
         return Err(StoreFault::Full);
     }
-    let mut store = made(connection)?;
-    Ok((Way::ByTrees, held_by(alloc, &mut store)))
+    Ok(by_trees(alloc, made(connection)?))
 }
 
-/// Adopts the store that a connection has, or makes one.
-fn adopts_or_makes<S: Alter + Drop>(alloc: Global, connection: Connection<S>) -> Outcome {
+/// Makes one where the connection has none.
+fn makes_where_none<S: Alter + Drop>(alloc: Global, connection: Connection<S>) -> Outcome {
     if !connection.is_autocommit() {
         return Err(StoreFault::Full);
     }
-    Ok(described(alloc, adopted_or_made(connection)?))
+    Ok(by_trees(alloc, made_where_none(connection)?))
 }
 
 /// What a connection in memory has.
@@ -121,26 +105,18 @@ const STRANGER: &str = "CREATE TABLE place (name TEXT); INSERT INTO place VALUES
 /// What it shows of it.
 const COUNT_PLACES: &str = "SELECT count(*) FROM place WHERE name = 'Vaduz'";
 
-/// What comes of adopting, of making, and of either.
-fn expected(content: Content) -> [Outcome; 3] {
+/// What comes of making a store, and of making one where there is none.
+fn expected(content: Content) -> [Outcome; 2] {
     match content {
-        Content::Nothing => [
-            NO_STORE,
-            Ok((Way::ByTrees, Held::Nothing)),
-            Ok((Way::ByTrees, Held::Nothing)),
-        ],
-        Content::Rows => [
-            Ok((Way::BySql, Held::All)),
-            NO_STORE,
-            Ok((Way::BySql, Held::All)),
-        ],
-        Content::Blocks => [OF_BLOCKS, NO_STORE, OF_BLOCKS],
-        Content::Stranger => [NO_STORE, NO_STORE, NO_STORE],
+        Content::Nothing => [Ok((Way::ByTrees, Held::Nothing)); 2],
+        Content::Rows => [NO_STORE, OF_ROWS],
+        Content::Blocks => [NO_STORE, OF_BLOCKS],
+        Content::Stranger => [NO_STORE, NO_STORE],
     }
 }
 
 #[test]
-fn adopted_and_made_stores(rt: HostRuntime) -> Result<(), Fail> {
+fn stores_that_are_made(rt: HostRuntime) -> Result<(), Fail> {
     const CONTENTS: &[Content] = &[
         Content::Nothing,
         Content::Rows,
@@ -149,13 +125,11 @@ fn adopted_and_made_stores(rt: HostRuntime) -> Result<(), Fail> {
     ];
     let alloc = rt.alloc();
     for content in CONTENTS {
-        let [adopting, making, either] = expected(*content);
-        let adopted = adopts(alloc, connection_with(alloc, *content)?);
-        assert!(rt; adopted == adopting, "{content:?} {adopted:?}");
+        let [making, where_none] = expected(*content);
         let made = makes(alloc, connection_with(alloc, *content)?);
         assert!(rt; made == making, "{content:?} {made:?}");
-        let opened = adopts_or_makes(alloc, connection_with(alloc, *content)?);
-        assert!(rt; opened == either, "{content:?} {opened:?}");
+        let made = makes_where_none(alloc, connection_with(alloc, *content)?);
+        assert!(rt; made == where_none, "{content:?} {made:?}");
     }
     Ok(())
 }
@@ -221,6 +195,10 @@ impl Databases for Machine {
         told(rt, name, trees_in(rt, files, FEW_PAGES))
     }
 
+    fn obstruction(&self, rt: &HostRuntime, _name: &str) -> Option<Obstruction> {
+        obstacle_in(rt, self.files(rt.alloc()).ok()?)
+    }
+
     fn connection(
         &self,
         rt: &HostRuntime,
@@ -252,51 +230,43 @@ impl CheckedDatabases for Machine {
 const NAME: &str = "a.db";
 
 fn opens<D: Databases>(rt: &HostRuntime, databases: &D) -> Outcome {
-    Ok(described(rt.alloc(), opened(rt, databases, NAME)?))
+    Ok(by_trees(rt.alloc(), opened(rt, databases, NAME)?))
 }
 
 /// What comes of opening one with a look at each page and each index.
 fn opens_checked<D: CheckedDatabases>(rt: &HostRuntime, databases: &D) -> Outcome {
-    Ok(described(rt.alloc(), opened_checked(rt, databases, NAME)?))
+    Ok(by_trees(rt.alloc(), opened_checked(rt, databases, NAME)?))
 }
 
 fn opens_any_version<D: Databases>(rt: &HostRuntime, databases: &D) -> Outcome {
     match opened_of_any_version(rt, databases, NAME)? {
-        Opened::ByTrees(store) => Ok(described(rt.alloc(), store)),
-        Opened::BySql(mut store) => Ok((Way::Blocks, held_by(rt.alloc(), &mut store))),
+        Opened::ByTrees(store) => Ok(by_trees(rt.alloc(), store)),
+        Opened::BySql(store) => Ok(by_sql(rt.alloc(), store)),
     }
 }
 
-fn opens_rows<D: Databases>(rt: &HostRuntime, databases: &D) -> Outcome {
-    let mut store = source_of_rows(rt, databases, NAME)?;
-    Ok((Way::BySql, held_by(rt.alloc(), &mut store)))
-}
-
 fn opens_blocks<D: Databases>(rt: &HostRuntime, databases: &D) -> Outcome {
-    let mut store = source_of_blocks(rt, databases, NAME)?;
-    Ok((Way::Blocks, held_by(rt.alloc(), &mut store)))
+    Ok(by_sql(rt.alloc(), source_of_blocks(rt, databases, NAME)?))
 }
 
-/// What comes of opening a database, one of any version, one of rows, and one of blocks.
-fn outcomes<D: Databases>(rt: &HostRuntime, databases: &D) -> [Outcome; 4] {
+/// What comes of opening a database, one of any version, and one of blocks.
+fn outcomes<D: Databases>(rt: &HostRuntime, databases: &D) -> [Outcome; 3] {
     [
         opens(rt, databases),
         opens_any_version(rt, databases),
-        opens_rows(rt, databases),
         opens_blocks(rt, databases),
     ]
 }
 
 /// The same of a machine. Its files are named here alone, since what names them takes longer to prove.
-fn of_machine(rt: &HostRuntime, machine: &Machine) -> [Outcome; 4] {
+fn of_machine(rt: &HostRuntime, machine: &Machine) -> [Outcome; 3] {
     outcomes(rt, machine)
 }
 
 /// The file of three frames, in a store of this version.
-const WHOLE: [Outcome; 4] = [
+const WHOLE: [Outcome; 3] = [
     Ok((Way::ByTrees, Held::All)),
     Ok((Way::ByTrees, Held::All)),
-    Ok((Way::BySql, Held::All)),
     OF_ROWS,
 ];
 
@@ -311,10 +281,7 @@ fn a_database_of_this_version(rt: HostRuntime) -> Result<(), Fail> {
 fn a_database_of_blocks(rt: HostRuntime) -> Result<(), Fail> {
     let machine = machine_of_blocks(rt.alloc())?;
     let blocks = Ok((Way::Blocks, Held::All));
-    assert_eq!(rt;
-        of_machine(&rt, &machine),
-        [OF_BLOCKS, blocks, OF_BLOCKS, blocks]
-    );
+    assert_eq!(rt; of_machine(&rt, &machine), [OF_BLOCKS, blocks, blocks]);
     Ok(())
 }
 
@@ -323,8 +290,8 @@ fn checked_machine(rt: &HostRuntime, machine: &Machine) -> Outcome {
     opens_checked(rt, machine)
 }
 
-/// Each index of somebody's own that a put keeps is looked at by the trees; where a text tells of other columns than it has, it
-/// isn't whole. Another one sends a database to SQL.
+/// Each index of somebody's own that a put keeps is looked at; where a text tells of other columns than it has, it isn't whole.
+/// Beside another one a database isn't looked at, and is still read.
 #[test]
 fn indexes_of_somebodys_own(rt: HostRuntime) -> Result<(), Fail> {
     let machine = filled_machine(rt.alloc())?;
@@ -349,7 +316,8 @@ fn indexes_of_somebodys_own(rt: HostRuntime) -> Result<(), Fail> {
         &machine,
         "CREATE UNIQUE INDEX third ON tag (off, pos, k)",
     )?;
-    assert_eq!(rt; checked_machine(&rt, &machine), Ok((Way::BySql, Held::All)));
+    assert_eq!(rt; checked_machine(&rt, &machine), REFUSED);
+    assert_eq!(rt; of_machine(&rt, &machine), WHOLE);
     Ok(())
 }
 
@@ -357,14 +325,14 @@ fn indexes_of_somebodys_own(rt: HostRuntime) -> Result<(), Fail> {
 #[test]
 fn files_without_a_store(rt: HostRuntime) -> Result<(), Fail> {
     let machine = Machine::new(rt.alloc(), b"")?;
-    assert_eq!(rt; of_machine(&rt, &machine), [NO_STORE; 4]);
+    assert_eq!(rt; of_machine(&rt, &machine), [NO_STORE; 3]);
     change(rt.alloc(), &machine, STRANGER)?;
-    assert_eq!(rt; of_machine(&rt, &machine), [NO_STORE; 4]);
+    assert_eq!(rt; of_machine(&rt, &machine), [NO_STORE; 3]);
     let text = Machine::new(
         rt.alloc(),
         b"This text is no database, and longer than 18 bytes.",
     )?;
-    assert_eq!(rt; of_machine(&rt, &text), [Err(StoreFault::Disk); 4]);
+    assert_eq!(rt; of_machine(&rt, &text), [REFUSED; 3]);
     Ok(())
 }
 
@@ -376,16 +344,15 @@ fn take<K: Keeper>(alloc: Global, store: &mut K) -> Result<(), StoreFault> {
 }
 
 /// Opens a database to take blobs, which is made where there is none, delivers the file to it, and closes it.
-fn fills<D: Databases>(rt: &HostRuntime, databases: &D) -> Result<Way, StoreFault> {
+fn fills<D: Databases>(rt: &HostRuntime, databases: &D) -> Result<(), StoreFault> {
     let mut store = opened_or_made(rt, databases, NAME)?;
     take(rt.alloc(), &mut store)?;
-    let way = way_of(&store);
     close(databases, store);
-    Ok(way)
+    Ok(())
 }
 
 /// The same in a machine.
-fn fills_machine(rt: &HostRuntime, machine: &Machine) -> Result<Way, StoreFault> {
+fn fills_machine(rt: &HostRuntime, machine: &Machine) -> Result<(), StoreFault> {
     fills(rt, machine)
 }
 
@@ -394,20 +361,54 @@ fn fills_machine(rt: &HostRuntime, machine: &Machine) -> Result<Way, StoreFault>
 fn databases_that_take_blobs(rt: HostRuntime) -> Result<(), Fail> {
     let machine = Machine::new(rt.alloc(), b"")?;
     for _ in 0..2 {
-        assert_eq!(rt; fills_machine(&rt, &machine), Ok(Way::ByTrees));
+        assert_eq!(rt; fills_machine(&rt, &machine), Ok(()));
         assert!(rt; machine.clear_log());
         assert_eq!(rt; of_machine(&rt, &machine), WHOLE);
     }
+    Ok(())
+}
+
+/// A database with an index that a put doesn't keep takes none, until the index is dropped.
+#[test]
+fn a_database_with_an_index_that_is_not_kept(rt: HostRuntime) -> Result<(), Fail> {
+    let machine = filled_machine(rt.alloc())?;
     change(
         rt.alloc(),
         &machine,
         "CREATE UNIQUE INDEX mine ON tag (off, pos, k); DELETE FROM link WHERE off = 84; DELETE FROM tag WHERE off = 84; DELETE FROM element WHERE off = 84; DELETE FROM blob WHERE off = 84",
     )?;
+    assert_eq!(rt; fills_machine(&rt, &machine), Err(StoreFault::Disk));
     let [by_trees, ..] = of_machine(&rt, &machine);
     assert_eq!(rt; by_trees, Ok((Way::ByTrees, Held::Else)));
-    assert_eq!(rt; fills_machine(&rt, &machine), Ok(Way::BySql));
+    change(rt.alloc(), &machine, "DROP INDEX mine")?;
+    assert_eq!(rt; fills_machine(&rt, &machine), Ok(()));
     assert!(rt; machine.clear_log());
     assert_eq!(rt; of_machine(&rt, &machine), WHOLE);
+    Ok(())
+}
+
+/// Where a table or the index by kind and id isn't as it is made, the database is opened by nobody, and its rows stay.
+#[test]
+fn a_database_that_was_changed(rt: HostRuntime) -> Result<(), Fail> {
+    const CHANGES: &[(&str, &str)] = &[
+        (
+            "DROP INDEX element_by_id",
+            "CREATE INDEX element_by_id ON element (kind, id)",
+        ),
+        (
+            "DROP INDEX element_by_id; CREATE INDEX element_by_id ON element (id)",
+            "DROP INDEX element_by_id; CREATE INDEX element_by_id ON element (kind, id)",
+        ),
+    ];
+    for (sql, back) in CHANGES {
+        let machine = filled_machine(rt.alloc())?;
+        change(rt.alloc(), &machine, *sql)?;
+        assert_eq!(rt; of_machine(&rt, &machine), [REFUSED; 3], "{sql}");
+        assert_eq!(rt; fills_machine(&rt, &machine), Err(StoreFault::Disk));
+        assert_eq!(rt; checked_machine(&rt, &machine), REFUSED);
+        change(rt.alloc(), &machine, *back)?;
+        assert_eq!(rt; of_machine(&rt, &machine), WHOLE, "{sql}");
+    }
     Ok(())
 }
 
@@ -430,10 +431,13 @@ fn databases_that_take_none(rt: HostRuntime) -> Result<(), Fail> {
 
 #[test]
 fn obstacles_in_files(rt: HostRuntime) -> Result<(), Fail> {
-    let empty = Machine::new(rt.alloc(), b"")?;
-    let files = empty.files(rt.alloc())?;
+    let text = Machine::new(rt.alloc(), b"S")?;
+    let files = text.files(rt.alloc())?;
     let found = obstacle_in(&rt, files).map(|found| found.obstacle);
     assert_eq!(rt; found, Some(Obstacle::NoDatabase));
+    let empty = Machine::new(rt.alloc(), b"")?;
+    let files = empty.files(rt.alloc())?;
+    assert!(rt; obstacle_in(&rt, files).is_none());
     let whole = filled_machine(rt.alloc())?;
     let files = whole.files(rt.alloc())?;
     assert!(rt; obstacle_in(&rt, files).is_none());

@@ -148,17 +148,17 @@ type Found = (Option<Held>, Option<Held>, Option<(Obstacle, bool)>);
 /// Nothing is wrong.
 const SOUND: Found = (Some(Held::All), Some(Held::All), None);
 
-/// It isn't opened, and nothing stands in the way of SQL.
+/// It isn't opened, and nothing that can be told stands in the way.
 const NO_STORE: Found = (None, None, None);
 
-/// It isn't opened, and this stands in the way.
+/// It isn't opened, and this stands in the way, which is no object named `told`.
 const fn behind(obstacle: Obstacle) -> Found {
     (None, None, Some((obstacle, false)))
 }
 
-/// It is opened, and an object named `told` would stand in the way of SQL.
-const fn beside_told(obstacle: Obstacle) -> Found {
-    (Some(Held::All), Some(Held::All), Some((obstacle, true)))
+/// It isn't opened, and the object named `told` stands in the way.
+const fn behind_told(obstacle: Obstacle) -> Found {
+    (None, None, Some((obstacle, true)))
 }
 
 /// What a store holds that is opened by its list.
@@ -183,16 +183,15 @@ fn held_with_a_look<D: Disk + Drop>(
     Ok(held_in(alloc, trees))
 }
 
-/// What stands in the way, and whether it is an object named `told`; the name of any other is empty.
+/// What stands in the way, and whether it is an object named `told`.
 fn named(alloc: Global, machine: &Machine) -> Result<Option<(Obstacle, bool)>, Fail> {
     let Some(found) = find_obstacle(alloc, machine.files(alloc)?, OPTIONS)? else {
         return Ok(None);
     };
-    match found.object.as_slice() {
-        b"told" => Ok(Some((found.obstacle, true))),
-        b"" => Ok(Some((found.obstacle, false))),
-        _ => Err("another name".into()),
-    }
+    Ok(Some((
+        found.obstacle,
+        found.object.as_slice() == b"told".as_slice(),
+    )))
 }
 
 fn found(alloc: Global, machine: &Machine) -> Result<Found, Fail> {
@@ -295,7 +294,6 @@ fn stores_that_are_none_of_this_version(rt: HostRuntime) -> Result<(), Fail> {
         "UPDATE meta SET version = 3",
         "DELETE FROM meta",
         "INSERT INTO meta VALUES (3)",
-        "DROP INDEX element_by_id",
     ];
     for sql in CHANGES {
         assert_eq!(rt; found_after(rt.alloc(), sql)?, NO_STORE, "{sql}");
@@ -308,14 +306,48 @@ fn a_database_of_a_stranger(rt: HostRuntime) -> Result<(), Fail> {
     let alloc = rt.alloc();
     let machine = Machine::new(alloc, b"")?;
     change(alloc, &machine, "CREATE TABLE place (name TEXT)")?;
-    assert_eq!(rt; found(alloc, &machine)?, NO_STORE);
+    assert_eq!(rt; found(alloc, &machine)?, behind(Obstacle::Stranger));
+    Ok(())
+}
+
+/// A store of blocks, and what SQL can't pass over beside it.
+#[test]
+fn stores_of_blocks(rt: HostRuntime) -> Result<(), Fail> {
+    let machine = machine_of_blocks(rt.alloc())?;
+    let found = found(rt.alloc(), &machine)?;
+    assert_eq!(rt; found, behind(Obstacle::FirstLayout));
+    Ok(())
+}
+
+/// Objects of a store that are missing or have another text. The names of the tables count in any case.
+#[test]
+fn stores_that_were_changed(rt: HostRuntime) -> Result<(), Fail> {
+    const CHANGES: &[(&str, Obstacle)] = &[
+        ("DROP TABLE link", Obstacle::Stranger),
+        (
+            "DROP TABLE link; CREATE TABLE Link (off INTEGER PRIMARY KEY) STRICT",
+            Obstacle::ChangedTable,
+        ),
+        ("DROP INDEX element_by_id", Obstacle::ChangedIndex),
+        (
+            "DROP INDEX element_by_id; CREATE INDEX element_by_id ON element (id, kind)",
+            Obstacle::ChangedIndex,
+        ),
+        (
+            "DROP INDEX element_by_id; CREATE INDEX told ON element (kind, id)",
+            Obstacle::ChangedIndex,
+        ),
+    ];
+    for (sql, obstacle) in CHANGES {
+        let found = found_after(rt.alloc(), sql)?;
+        assert_eq!(rt; found, behind(*obstacle), "{sql}");
+    }
     Ok(())
 }
 
 #[test]
 fn files_that_are_no_database(rt: HostRuntime) -> Result<(), Fail> {
     const TEXTS: &[&[u8]] = &[
-        b"",
         b"S",
         b"SQLite format 3\0",
         b"Some text, which is longer than the part of a header that names the size of a page.",
@@ -325,16 +357,21 @@ fn files_that_are_no_database(rt: HostRuntime) -> Result<(), Fail> {
         let found = found(rt.alloc(), &machine)?;
         assert_eq!(rt; found, behind(Obstacle::NoDatabase), "{text:?}");
     }
+    let empty = Machine::new(rt.alloc(), b"")?;
+    assert_eq!(rt; found(rt.alloc(), &empty)?, NO_STORE);
     Ok(())
 }
 
-/// Bytes of the header and of the list's page, by fileformat2.html: the first byte, the greatest root page, and how many
-/// entries the list has.
+/// Bytes of the header and of the list's page, by fileformat2.html: the first byte, the bytes that each page keeps at its end,
+/// the greatest root page, the encoding of texts, and how many entries the list has.
 #[test]
 fn headers_that_stand_in_the_way(rt: HostRuntime) -> Result<(), Fail> {
     const CHANGES: &[(usize, &[u8], Obstacle)] = &[
         (0, b"X", Obstacle::NoDatabase),
+        (20, b"\x08", Obstacle::Checksums),
         (55, b"\x01", Obstacle::AutoVacuum),
+        (59, b"\x02", Obstacle::Utf16),
+        (59, b"\x03", Obstacle::Utf16),
         (103, b"\xFF\xFF", Obstacle::Damaged),
     ];
     for (at, bytes, obstacle) in CHANGES {
@@ -345,7 +382,8 @@ fn headers_that_stand_in_the_way(rt: HostRuntime) -> Result<(), Fail> {
 }
 
 /// A view's row of the list, and in its place that of a trigger, whose text is two bytes shorter: the lengths of type, name,
-/// table and text stand before them, each as 13 and twice the length.
+/// table and text stand before them, each as 13 and twice the length. A trigger stands in nobody's way who reads, unless its name
+/// is that of a table, here with a letter in another case.
 #[test]
 fn a_trigger_on_a_table(rt: HostRuntime) -> Result<(), Fail> {
     const SQL: &str =
@@ -356,14 +394,34 @@ fn a_trigger_on_a_table(rt: HostRuntime) -> Result<(), Fail> {
         b"\x06\x1B\x15\x13\x08\x77triggertoldtagCREATE TRIGGER told INSERT ON tag BEGIN SELECT 1; END";
     const OTHER_TRIGGER: &[u8] =
         b"\x06\x1B\x15\x13\x08\x77triggertoldwayCREATE TRIGGER told INSERT ON way BEGIN SELECT 1; END";
+    const LIKE_A_TABLE: &[u8] =
+        b"\x06\x1B\x15\x13\x08\x77triggerliNkwayCREATE TRIGGER liNk INSERT ON way BEGIN SELECT 1; END";
     let found = found_retold(rt.alloc(), SQL, VIEW, TRIGGER)?;
-    assert_eq!(rt; found, beside_told(Obstacle::Trigger));
+    assert_eq!(rt; found, SOUND);
     let found = found_retold(rt.alloc(), SQL, VIEW, OTHER_TRIGGER)?;
     assert_eq!(rt; found, SOUND);
+    let found = found_retold(rt.alloc(), SQL, VIEW, LIKE_A_TABLE)?;
+    assert_eq!(rt; found, behind(Obstacle::TwoNames));
     Ok(())
 }
 
-/// The same of a virtual table, whose text is one byte shorter.
+/// A view whose text isn't in UTF-8, and one whose name isn't.
+#[test]
+fn texts_in_no_utf8(rt: HostRuntime) -> Result<(), Fail> {
+    const SQL: &str = "CREATE VIEW told AS SELECT user FROM element";
+    let found = found_retold(rt.alloc(), SQL, b"SELECT user", b"SELECT\xFFuser")?;
+    assert_eq!(rt; found, behind_told(Obstacle::OtherText));
+    let found = found_retold(
+        rt.alloc(),
+        SQL,
+        b"viewtoldtoldCREATE VIEW told",
+        b"viewtol\xFFtol\xFFCREATE VIEW tol\xFF",
+    )?;
+    assert_eq!(rt; found, behind(Obstacle::OtherText));
+    Ok(())
+}
+
+/// The same of a virtual table, whose text is one byte shorter, and may be in no UTF-8.
 #[test]
 fn a_virtual_table(rt: HostRuntime) -> Result<(), Fail> {
     const SQL: &str = "CREATE VIEW told AS SELECT user FROM element";
@@ -371,7 +429,11 @@ fn a_virtual_table(rt: HostRuntime) -> Result<(), Fail> {
         b"\x06\x15\x15\x15\x08\x65viewtoldtoldCREATE VIEW told AS SELECT user FROM element";
     const TABLE: &[u8] =
         b"\x06\x17\x15\x15\x08\x63tabletoldtoldCREATE VIRTUAL TABLE told USING fts5 (word)";
+    const OTHER_TABLE: &[u8] =
+        b"\x06\x17\x15\x15\x08\x63tabletoldtoldCREATE VIRTUAL TABLE told USING fts5 (wor\xFF)";
     let found = found_retold(rt.alloc(), SQL, VIEW, TABLE)?;
-    assert_eq!(rt; found, beside_told(Obstacle::VirtualTable));
+    assert_eq!(rt; found, SOUND);
+    let found = found_retold(rt.alloc(), SQL, VIEW, OTHER_TABLE)?;
+    assert_eq!(rt; found, SOUND);
     Ok(())
 }

@@ -1,6 +1,8 @@
 //! Why a database isn't opened, in words.
 
-use osm_databases::reason::{Reason, Refusal, tell, tell_of_obstruction, told, told_of};
+use osm_databases::reason::{
+    Reason, Refusal, fault_of_obstacle, tell, tell_of_obstruction, told, told_of,
+};
 use osm_openings::{Obstacle, Obstruction};
 use osm_store::StoreFault;
 use pbfrow_files::OpenFault;
@@ -14,7 +16,7 @@ fn text(alloc: Global, reason: &Reason) -> Result<String, AllocError> {
 }
 
 /// Each reason, and what people are told.
-fn texts() -> [(Reason, &'static str); 19] {
+fn texts() -> [(Reason, &'static str); 25] {
     [
         (Reason::File(OpenFault::Missing), "no such file"),
         (Reason::File(OpenFault::NotAFile), "not a regular file"),
@@ -48,6 +50,30 @@ fn texts() -> [(Reason, &'static str); 19] {
         (
             Reason::Obstacle(Obstacle::Damaged),
             "damaged: its header, its log or its list of tables",
+        ),
+        (
+            Reason::Obstacle(Obstacle::Stranger),
+            "not a database of pbfrow",
+        ),
+        (
+            Reason::Obstacle(Obstacle::FirstLayout),
+            "a database of version 1 of pbfrow's tables",
+        ),
+        (
+            Reason::Obstacle(Obstacle::Utf16),
+            "its texts are in UTF-16: make a copy by sqlite3's .dump",
+        ),
+        (
+            Reason::Obstacle(Obstacle::Checksums),
+            "its pages end in checksums: make a copy by sqlite3's .dump",
+        ),
+        (
+            Reason::Unsound,
+            "damaged, or it has an index that pbfrow can't check: PRAGMA integrity_check of sqlite3 says which",
+        ),
+        (
+            Reason::Unlisted,
+            "pbfrow can't read its list of tables: make a copy by sqlite3's .dump",
         ),
         (
             Reason::Sql(SqlError::SqliteFailure(ErrorCode::NotADatabase)),
@@ -95,6 +121,59 @@ fn each_reason_has_its_text(rt: HostRuntime) -> Result<(), Fail> {
     Ok(())
 }
 
+/// Each obstacle that is an object, its name, and what people are told.
+const OBJECTS: [(Obstacle, &str, &str); 7] = [
+    (
+        Obstacle::Trigger,
+        "told",
+        "it has a trigger on one of pbfrow's tables, told: drop it with sqlite3 to go on",
+    ),
+    (
+        Obstacle::VirtualTable,
+        "words",
+        "it has a virtual table, words: drop it with sqlite3 to go on",
+    ),
+    (
+        Obstacle::ChangedTable,
+        "element",
+        "its table element isn't as pbfrow makes it: take out what was added to it, by ALTER TABLE element DROP COLUMN .., or copy what it holds into a new database",
+    ),
+    (
+        Obstacle::ChangedIndex,
+        "element_by_id",
+        "its index element_by_id is missing, or isn't as pbfrow makes it: DROP INDEX IF EXISTS element_by_id; CREATE INDEX element_by_id ON element (kind, id)",
+    ),
+    (
+        Obstacle::TwoNames,
+        "tag",
+        "it has two objects named tag: DROP TRIGGER \"tag\", and make it again by another name",
+    ),
+    (
+        Obstacle::OtherText,
+        "node",
+        "its object node has a name or a text that isn't in UTF-8: drop it with sqlite3 to go on",
+    ),
+    (
+        Obstacle::UnkeptIndex,
+        "mine",
+        "its index mine is UNIQUE, of an expression, with WHERE, of a collation of your own, or on blob or meta, which pbfrow doesn't keep up to date: DROP INDEX \"mine\", and make it again behind the import",
+    ),
+];
+
+#[test]
+fn each_object_in_the_way_has_its_text(rt: HostRuntime) -> Result<(), Fail> {
+    for (obstacle, name, wanted) in OBJECTS {
+        let reason = Reason::Object(obstacle, format!(in rt.alloc(); "{name}")?);
+        assert_eq!(rt; text(rt.alloc(), &reason)?.as_str(), wanted);
+        assert_eq!(rt; fault_of_obstacle(obstacle), StoreFault::Disk);
+    }
+    let stranger = fault_of_obstacle(Obstacle::Stranger);
+    assert_eq!(rt; stranger, StoreFault::NotThisStore(None));
+    let first = fault_of_obstacle(Obstacle::FirstLayout);
+    assert_eq!(rt; first, StoreFault::NotThisStore(Some(1)));
+    Ok(())
+}
+
 /// The fault that programs are told, and the words for people.
 #[test]
 fn each_refusal_has_its_fault(rt: HostRuntime) -> Result<(), Fail> {
@@ -136,7 +215,7 @@ fn told_faults(rt: HostRuntime) {
         obstacle: Obstacle::Damaged,
         object: Vec::new(rt.alloc()),
     };
-    tell_of_obstruction(&rt, "a.db", &found);
+    assert_eq!(rt; tell_of_obstruction(&rt, "a.db", &found), StoreFault::Disk);
     assert_eq!(rt; told(&rt, "a.db", Ok(5)), Ok(5));
     let refused: Result<u8, Refusal> = Err(OpenFault::Busy.into());
     assert_eq!(rt; told(&rt, "a.db", refused), Err(StoreFault::Disk));

@@ -1,5 +1,4 @@
-use Rattle.std.proofs.Common.{Option, subst}
-use Rattle.std.specs.Prelude.{IfSome}
+use Rattle.std.proofs.Common.{sym, subst}
 use Rattle.sqlite_trees.specs.View.{IsClean}
 use Rattle.osm_databases.specs.Checked.{IsOfVersion}
 use Rattle.osm_databases.specs.declared.reason.Refusal.{Refusal}
@@ -8,10 +7,9 @@ use Rattle.osm_databases.proofs.databases.opened_checked.Goals as goal
 
 pub returns-clause-checked : goal.returns-clause-checked
 returns-clause-checked g c = λ clean.
-    let same = rw c.in-Some.is at c.in_ok-trees.ensures.same in
-    let store = rw c.in-Some.is at c.in_ok-trees.ensures.store in
-    let version = subst (λ (o : Option g.row.D-Trees.Denot). IfSome o (λ trees. IsClean (g.D.Trees.Store.view trees) → IsOfVersion (g.D.Trees.Store.view trees))) same c.in_ok-found.ensures in
-    told_of (λ (refusal : Refusal). refusal.fault) _ _ _ _ c.told.ensures c.in_ok-store.was c.checked.ensures.checked clean version store
+    let known = rw c.in-Some.is at c.in_ok-found.ensures in
+    let version = subst (λ (s : g.row.D-Trees.Denot). IsClean (g.D.Trees.Store.view s) → IsOfVersion (g.D.Trees.Store.view s)) (sym c.in_ok-kept.ensures.same) known in
+    told_of (λ (refusal : Refusal). refusal.fault) _ _ _ _ c.told.ensures c.in_ok-store.was c.checked.ensures.checked clean version c.in_ok-kept.ensures.store
 
 pub returns-clause-added : goal.returns-clause-added
 returns-clause-added g c = λ clean. told_of (λ (refusal : Refusal). refusal.fault) _ _ _ _ c.told.ensures c.in_ok-store.was c.checked.ensures.added clean
