@@ -136,8 +136,9 @@ typedef struct {
     pbfrow_tags tags;
     pbfrow_refs refs;
     pbfrow_members members;
-    pbfrow_texts texts;       /* what the indexes of this block name, from 0, in the order of their first use. Mostly each text is
-                                 there once, but a block of tens of thousands has some twice: two indexes may name equal texts */
+    pbfrow_texts texts;       /* what the indexes of this block name, from 0: the texts of its string table in their order, used or
+                                 not. Mostly each text is there once, but a block of tens of thousands has some twice: two indexes
+                                 may name equal texts */
 } pbfrow_columns;
 
 /* Says how long the columns of a block are. It decodes all of the block for that: where the columns are wanted as well, call

@@ -1,9 +1,12 @@
-use osm_block::read_block;
+use osm_block::read_block_groups;
 use osm_columns::{
     Columns, ElementColumns, MemberColumns, RefColumns, TagColumns, TextColumn, columns_fit,
     put_columns, put_texts, survey_of, text_bytes_of, texts_fit,
 };
-use osm_vectors::vectors::{RELATION_BLOCK, WAY_BLOCK, WAY_WITH_INFO_BLOCK};
+use osm_vectors::vectors::{
+    DELETED_DENSE_NODE_BLOCK, NODES_WITH_INFO_BLOCK, RELATION_BLOCK, TAGGED_NODES_BLOCK,
+    TWO_NODES_BLOCK, WAY_BLOCK, WAY_WITH_INFO_BLOCK,
+};
 use std::alloc::Global;
 use std::process::Abort;
 use std::test::*;
@@ -65,8 +68,8 @@ fn put_block<'a>(
     refs: &'a mut [i64],
     arrays: &'a mut Arrays,
 ) -> Result<bool, Fail> {
-    let elements = read_block(rt.alloc(), block).expect(rt, "a block");
-    let survey = survey_of(rt.alloc(), &elements)?;
+    let groups = read_block_groups(rt.alloc(), block).expect(rt, "a block");
+    let survey = survey_of(rt.alloc(), &groups)?;
     let mut columns = Columns {
         elements: ElementColumns {
             kinds: &mut arrays.kinds,
@@ -102,7 +105,7 @@ fn put_block<'a>(
     };
     let room = columns_fit(&survey.counts, &columns);
     if room {
-        put_columns(&elements, &survey, &mut columns);
+        put_columns(&groups, &survey, &mut columns);
     }
     Ok(room)
 }
@@ -116,9 +119,9 @@ fn a_way_with_an_info(rt: HostRuntime) -> Result<(), Fail> {
     assert!(rt; arrays.kinds == [1, 77] && arrays.ids == [7, 77] && arrays.lats == [0, 77]);
     assert!(rt; arrays.versions == [2, 77] && arrays.times == [3000, 77]);
     assert!(rt; arrays.changesets == [4, 77] && arrays.uids == [-1, 77]);
-    assert!(rt; arrays.users == [0, 77] && arrays.visible == [2, 77]);
+    assert!(rt; arrays.users == [1, 77] && arrays.visible == [2, 77]);
     assert!(rt; arrays.tag_ends == [0, 77] && arrays.ref_ends == [0, 77]);
-    assert!(rt; arrays.text_ends == [1, 77, 77, 77, 77] && arrays.text_bytes[0] == b'u');
+    assert!(rt; arrays.text_ends == [0, 1, 77, 77, 77] && arrays.text_bytes[0] == b'u');
     Ok(())
 }
 
@@ -129,15 +132,15 @@ fn a_way_with_references(rt: HostRuntime) -> Result<(), Fail> {
     let mut refs = [77; 5];
     assert!(rt; put_block(&rt, &WAY_BLOCK, &mut refs, &mut arrays)?);
     assert!(rt; arrays.ref_ends == [4, 77] && refs == [5, 6, 7, 6, 77]);
-    assert!(rt; arrays.tag_ends == [1, 77] && arrays.keys == [0, 77] && arrays.values == [1, 77]);
+    assert!(rt; arrays.tag_ends == [1, 77] && arrays.keys == [1, 77] && arrays.values == [2, 77]);
     assert!(rt; arrays.versions == [-1, 77] && arrays.times == [i64::MIN, 77]);
     assert!(rt; arrays.changesets == [i64::MIN, 77] && arrays.uids == [i32::MIN, 77]);
     assert!(rt; arrays.users == [-1, 77] && arrays.member_ends == [0, 77]);
-    assert!(rt; arrays.text_ends == [1, 2, 77, 77, 77]);
+    assert!(rt; arrays.text_ends == [0, 1, 2, 77, 77]);
     Ok(())
 }
 
-/// `r 9 (n1@outer,w-2@) [] {name=a%20b%2Cc}`: texts are in the order of their first use.
+/// `r 9 (n1@outer,w-2@) [] {name=a%20b%2Cc}`: texts are in the order of the table, which begins with an empty one.
 #[test]
 fn a_relation(rt: HostRuntime) -> Result<(), Fail> {
     let mut arrays = full();
@@ -145,9 +148,49 @@ fn a_relation(rt: HostRuntime) -> Result<(), Fail> {
     assert!(rt; put_block(&rt, &RELATION_BLOCK, &mut refs, &mut arrays)?);
     assert!(rt; arrays.kinds == [2, 77] && arrays.member_ends == [2, 77]);
     assert!(rt; arrays.member_kinds == [0, 1, 77] && arrays.member_ids == [1, -2, 77]);
-    assert!(rt; arrays.roles == [2, 3, 77] && arrays.keys == [0, 77] && arrays.values == [1, 77]);
-    assert!(rt; arrays.text_ends == [4, 9, 14, 14, 77]);
+    assert!(rt; arrays.roles == [3, 0, 77] && arrays.keys == [1, 77] && arrays.values == [2, 77]);
+    assert!(rt; arrays.text_ends == [0, 4, 9, 14, 77]);
     assert!(rt; arrays.text_bytes[..14] == b"namea b,couter"[..]);
+    Ok(())
+}
+
+/// Dense nodes `n 1 0 0 [] {a=b}` and `n 2 0 0`: they say nothing but their ids, places and tags.
+#[test]
+fn tagged_dense_nodes(rt: HostRuntime) -> Result<(), Fail> {
+    let mut arrays = full();
+    let mut refs = [77; 1];
+    assert!(rt; put_block(&rt, &TAGGED_NODES_BLOCK, &mut refs, &mut arrays)?);
+    assert!(rt; arrays.kinds == [0, 0] && arrays.ids == [1, 2] && arrays.tag_ends == [1, 1]);
+    assert!(rt; arrays.keys == [1, 77] && arrays.values == [2, 77]);
+    assert!(rt; arrays.versions == [-1, -1] && arrays.times == [i64::MIN, i64::MIN]);
+    assert!(rt; arrays.changesets == [i64::MIN, i64::MIN] && arrays.uids == [i32::MIN, i32::MIN]);
+    assert!(rt; arrays.users == [-1, -1] && arrays.visible == [2, 2]);
+    assert!(rt; arrays.ref_ends == [0, 0] && arrays.member_ends == [0, 0] && refs == [77]);
+    assert!(rt; arrays.text_ends == [0, 1, 2, 77, 77] && arrays.text_bytes[..2] == b"ab"[..]);
+    Ok(())
+}
+
+/// Dense nodes `n 1 0 0 [v=1,t=1000,c=5,i=7,u=u]` and `n 2 0 0 [v=2,t=2000,c=5,i=7,u=u]`.
+#[test]
+fn dense_nodes_with_infos(rt: HostRuntime) -> Result<(), Fail> {
+    let mut arrays = full();
+    let mut refs = [77; 1];
+    assert!(rt; put_block(&rt, &NODES_WITH_INFO_BLOCK, &mut refs, &mut arrays)?);
+    assert!(rt; arrays.versions == [1, 2] && arrays.times == [1000, 2000]);
+    assert!(rt; arrays.changesets == [5, 5] && arrays.uids == [7, 7]);
+    assert!(rt; arrays.users == [1, 1] && arrays.text_ends == [0, 1, 77, 77, 77]);
+    Ok(())
+}
+
+/// Dense nodes at 1000, -100 and at 900, -100 nanodegrees; and two, of which the second is deleted.
+#[test]
+fn places_and_flags_of_dense_nodes(rt: HostRuntime) -> Result<(), Fail> {
+    let mut arrays = full();
+    let mut refs = [77; 1];
+    assert!(rt; put_block(&rt, &TWO_NODES_BLOCK, &mut refs, &mut arrays)?);
+    assert!(rt; arrays.lats == [1000, 900] && arrays.lons == [-100, -100]);
+    assert!(rt; put_block(&rt, &DELETED_DENSE_NODE_BLOCK, &mut refs, &mut arrays)?);
+    assert!(rt; arrays.visible == [1, 0]);
     Ok(())
 }
 

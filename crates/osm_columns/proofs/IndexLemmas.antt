@@ -1,5 +1,5 @@
 -- Indexes behind those that were there, while the dictionary grows.
-use Rattle.std.proofs.Common.{List, [], ◌++◌, ℤ, Option, sym, ap, subst, ◌∙◌, append_assoc, append-nil}
+use Rattle.std.proofs.Common.{◌≡◌, List, [], ◌++◌, ℤ, Option, sym, ap, subst, ◌∙◌, append_assoc, append-nil}
 use Rattle.osm_value.specs.Value.{Text}
 use Rattle.osm_columns.specs.declared.dictionary.Dictionary.{Dictionary}
 use Rattle.osm_columns.specs.Texts.{NameAll, Extends}
@@ -24,3 +24,9 @@ names-grown before after d e v w named more h x k y =
     let P : List ℤ → Type 0 = λ l. NameAll after l (named ++ more) in
     let old : NameAll after v named = extended _ _ _ _ y (extended _ _ _ _ k.extends (extended _ _ _ _ x h)) in
     subst P (sym k.behind) (all-append after v k.added named more old (extended _ _ _ _ y k.names))
+
+-- indexes that nothing stood before
+pub named-alone : (more : List (Option Text)) (d e : Dictionary) (v w : List ℤ) → v ≡ [] → NamesMore more d e v w → NameAll (texts_in e) w more
+named-alone more d e v w none k =
+    let P : List ℤ → Type 0 = λ l. NameAll (texts_in e) l more in
+    subst P (sym (k.behind ∙ ap (λ l. l ++ k.added) none)) k.names

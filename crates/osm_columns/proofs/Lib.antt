@@ -1,5 +1,12 @@
 pub mod ListLemmas
 pub mod TextLemmas
 pub mod ColumnLemmas
+pub mod AddLemmas
 pub mod RoomLemmas
 pub mod IndexLemmas
+pub mod GroupLemmas
+pub mod DenseLemmas
+pub mod EndLemmas
+pub mod PairLemmas
+pub mod TallyLemmas
+pub mod DenseTextLemmas

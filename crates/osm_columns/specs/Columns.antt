@@ -4,6 +4,8 @@ use Rattle.std.specs.List.{count_by}
 use Rattle.osm_value.specs.declared.element.Element.{Element}
 use Rattle.osm_value.specs.Value.{Text}
 use Rattle.osm_value.specs.Elements.{id_of_element, tags_of_element}
+use Rattle.osm_block.specs.declared.groups.BlockGroups.{BlockGroups}
+use Rattle.osm_block.specs.Groups.{GroupsHold}
 use Rattle.osm_columns.specs.declared.columns.ElementColumns.{ElementColumns}
 use Rattle.osm_columns.specs.declared.columns.TagColumns.{TagColumns}
 use Rattle.osm_columns.specs.declared.columns.RefColumns.{RefColumns}
@@ -33,6 +35,10 @@ pub record AreCounts (c : Counts) (es : List Element) (texts : List Text) : Type
 pub record IsSurvey (s : Survey) (es : List Element) : Type 0 where
   pub indexes_are : AreIndexes s.indexes es
   pub counts_are : AreCounts s.counts es (texts_in s.indexes.dictionary)
+
+-- what the groups hold was looked through
+abbrev pub IsSurveyOf : Survey → BlockGroups → Type 0
+IsSurveyOf s g = (es : List Element) → GroupsHold g es → IsSurvey s es
 
 -- ---- whether they have room
 
@@ -65,6 +71,10 @@ columns_fit n c = elements_fit n.elements c.elements && tags_fit n.elements n.ta
 -- the column, and then what stood there
 abbrev pub over : {A : Type 0} → List A → List A → List A
 over xs old = xs ++ drop (length xs) old
+
+-- these stand behind a column of so many items, and then what stood there
+abbrev pub Adds : {A : Type 0} → ℕ → List A → List A → List A → Type 0
+Adds {A} at xs old new = (front before : List A) → old ≡ over front before → length front ≡ at → new ≡ over (front ++ xs) before
 
 -- the numbers of the elements, and these indexes of their users
 pub record HoldsElements (users : List ℤ) (es : List Element) (old new : ElementColumns) : Type 0 where

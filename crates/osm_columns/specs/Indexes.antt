@@ -1,5 +1,5 @@
 -- The indexes of all texts of some elements.
-use Rattle.std.specs.Prelude.{◌≡◌, ℤ, List, ◌++◌, map, Option, Some}
+use Rattle.std.specs.Prelude.{◌≡◌, ℤ, pos, negsuc, List, ◌++◌, map, Option, Some, slice_index_or}
 use Rattle.osm_value.specs.declared.element.Element.{Element}
 use Rattle.osm_value.specs.Value.{Text}
 use Rattle.osm_columns.specs.declared.dictionary.Dictionary.{Dictionary}
@@ -37,3 +37,8 @@ pub record NamesMore (named : List (Option Text)) (old new : Dictionary) (before
   pub added : List ℤ
   pub behind : after ≡ before ++ added
   pub names : NameAll (texts_in new) added named
+
+-- the index that a table of indexes has at that place
+abbrev pub index_in : List ℤ → ℤ → ℤ
+index_in table (pos place) = slice_index_or table place (negsuc 0)
+index_in table (negsuc n) = negsuc 0

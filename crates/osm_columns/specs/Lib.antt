@@ -3,3 +3,4 @@ pub mod Lists
 pub mod Texts
 pub mod Indexes
 pub mod Columns
+pub mod Tally

@@ -28,3 +28,8 @@ all_refs es = joined (map refs_of_element es)
 
 abbrev pub all_members : List Element → List MemberValue
 all_members es = joined (map members_of_element es)
+
+-- the running sums of some counts, behind a first one: where the lists end that are so long
+abbrev pub sums_from : ℕ → List ℕ → List ℕ
+sums_from at [] = []
+sums_from at (n ∷ ns) = (at + n) ∷ sums_from (at + n) ns

@@ -2,11 +2,13 @@
 
 ghost use Rattle.std.specs.Prelude.{◌≡◌, ◌++◌, ◌∷◌, [], List, length, IfSome, IfOk, map};
 ghost use Rattle.osm_value.specs.declared.element.Element.{Element};
+ghost use Rattle.osm_block.specs.Groups.{GroupsHold};
 ghost use Rattle.osm_columns.specs.Lists.{joined};
-ghost use Rattle.osm_columns.specs.Columns.{IsSurvey};
+ghost use Rattle.osm_columns.specs.Columns.{IsSurveyOf};
 
-use crate::indexes::{TextIndexes, refs_of};
-use osm_value::Element;
+use crate::indexes::{TextIndexes, text_indexes_of};
+use crate::tally::tally_of;
+use osm_block::BlockGroups;
 use std::alloc::{AllocError, Global};
 
 /// How many items the columns of some elements have, and how many bytes their texts.
@@ -42,38 +44,26 @@ pub struct Survey<'a> {
     pub counts: Counts,
 }
 
-/// Looks through the elements once. It fails only where memory is refused, or where there are 2^31 texts or a count of 2^64, which
-/// no memory holds.
-pub fn survey_of<'a>(alloc: Global, elements: &[Element<'a>]) -> Result<Survey<'a>, AllocError>
-    ensures { IfOk result (λ s. IsSurvey s elements.now) }
+/// Looks through the groups. It fails only where memory is refused, or where there are 2^31 texts or a count of 2^64, which no
+/// memory holds.
+pub fn survey_of<'a>(alloc: Global, groups: &BlockGroups<'a>) -> Result<Survey<'a>, AllocError>
+    requires { (es : List Element) × GroupsHold groups.now es }
+    ensures { IfOk result (λ s. IsSurveyOf s groups.now) }
 {
-    let mut indexes = TextIndexes::new(alloc)?;
-    let mut nodes = 0;
-    let mut ways = 0;
-    let mut relations = 0;
-    let mut refs: u64 = 0;
-    for element in elements {
-        indexes.push(element)?;
-        match element {
-            Element::Node(_) => nodes += 1,
-            Element::Way(_) => ways += 1,
-            Element::Relation(_) => relations += 1,
-        }
-        let Some(sum) = refs.checked_add(refs_of(element).len() as u64) else {
-            return Err(AllocError);
-        };
-        refs = sum;
-    }
+    let indexes = text_indexes_of(alloc, groups)?;
+    let Some(tally) = tally_of(groups) else {
+        return Err(AllocError);
+    };
     let Some(text_bytes) = text_bytes_of(&indexes.dictionary.texts) else {
         return Err(AllocError);
     };
     let counts = Counts {
-        elements: elements.len() as u64,
-        nodes,
-        ways,
-        relations,
+        elements: tally.elements,
+        nodes: tally.nodes,
+        ways: tally.ways,
+        relations: tally.relations,
         tags: indexes.keys.len() as u64,
-        refs,
+        refs: tally.refs,
         members: indexes.roles.len() as u64,
         texts: indexes.dictionary.texts.len() as u64,
         text_bytes,

@@ -18,7 +18,7 @@ const EMPTY: i32 = -1;
 /// search long.
 const PROBES: usize = 8;
 
-/// Texts in the order of their first use, mostly each once.
+/// Texts in the order in which they are first asked for, mostly each once.
 #[derive(Debug, Drop)]
 pub struct Dictionary<'a> {
     pub texts: Vec<&'a str>,

@@ -4,9 +4,20 @@
 
 mod columns;
 mod counts;
+mod dense_numbers;
+mod dense_texts;
 mod dictionary;
+mod element_column;
+mod end_column;
+mod ends;
 mod indexes;
+mod items;
+mod list_column;
+mod lists;
+mod numbers;
 mod put;
+mod tag_ends;
+mod tally;
 mod values;
 
 pub use columns::{

@@ -15,16 +15,34 @@ pub(crate) fn number_of_kind(kind: MemberKind) -> u8
     }
 }
 
-/// The number of an element's kind, and its latitude and longitude in nanodegrees, 0 where it has no place.
-pub(crate) fn place_of(element: &Element) -> (u8, i64, i64)
-    ensures kind { result.0 ≡ kind_number element.now }
-    ensures lat { result.1 ≡ lat_of_element element.now }
-    ensures lon { result.2 ≡ lon_of_element element.now }
+/// The number of an element's kind.
+pub(crate) fn kind_of(element: &Element) -> u8
+    ensures { result ≡ kind_number element.now }
 {
     match element {
-        Element::Node(node) => (0, node.lat(), node.lon()),
-        Element::Way(_) => (1, 0, 0),
-        Element::Relation(_) => (2, 0, 0),
+        Element::Node(_) => 0,
+        Element::Way(_) => 1,
+        Element::Relation(_) => 2,
+    }
+}
+
+/// The latitude in nanodegrees, 0 where the element has no place.
+pub(crate) fn lat_of(element: &Element) -> i64
+    ensures { result ≡ lat_of_element element.now }
+{
+    match element {
+        Element::Node(node) => node.lat(),
+        Element::Way(_) | Element::Relation(_) => 0,
+    }
+}
+
+/// The longitude in nanodegrees, 0 where the element has no place.
+pub(crate) fn lon_of(element: &Element) -> i64
+    ensures { result ≡ lon_of_element element.now }
+{
+    match element {
+        Element::Node(node) => node.lon(),
+        Element::Way(_) | Element::Relation(_) => 0,
     }
 }
 

@@ -6,15 +6,18 @@ use Rattle.osm_block.specs.declared.fault.BlockFault.{BlockFault}
 use Rattle.osm_block.specs.Fault.{number_of}
 use Rattle.osm_block.specs.Phases.{fault}
 use Rattle.osm_block.specs.Block.{Block}
+use Rattle.osm_block.specs.Groups.{GroupsHold}
 use Rattle.osm_columns.specs.declared.counts.Counts.{Counts}
 use Rattle.osm_columns.specs.declared.columns.Columns.{Columns}
-use Rattle.osm_columns.specs.Columns.{IsSurvey, AreCounts, columns_fit, HoldsColumns}
+use Rattle.osm_columns.specs.Columns.{IsSurveyOf, AreCounts, columns_fit, HoldsColumns}
 use Rattle.pbfrow_c.specs.declared.block.Reading.{Reading}
 
--- the elements of the block w, and what is known of them
+-- the groups of the block w hold its elements, and what is known of these
 pub record IsReading (w : List ℕ) (r : Reading) : Type 0 where
-  pub elements_are : Block r.elements.items w
-  pub survey_is : IsSurvey r.survey r.elements.items
+  pub elements : List Element
+  pub elements_are : Block elements w
+  pub groups_hold : GroupsHold r.groups elements
+  pub survey_is : IsSurveyOf r.survey r.groups
 
 -- the status where there are no elements: memory was refused, or it is the block's first fault
 abbrev pub Refused : List ℕ → ℕ → Type 0

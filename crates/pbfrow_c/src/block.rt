@@ -5,18 +5,17 @@ ghost use Rattle.osm_block.specs.Block.{Block};
 ghost use Rattle.osm_block.specs.Phases.{Gives, fault};
 ghost use Rattle.pbfrow_c.specs.Blocks.{IsReading, CountsAnswer, ColumnsAnswer};
 
-use osm_block::{BlockError, read_block};
+use osm_block::{BlockError, BlockGroups, read_block_groups};
 use osm_columns::{Columns, Counts, Survey, columns_fit, put_columns, survey_of};
-use osm_value::Element;
 use std::alloc::Global;
 
 /// The number of the answer that an array is too short for its column.
 const NO_ROOM: u8 = 72;
 
-/// The elements of a block, and what has to be known before their columns are written.
+/// The groups of a block, and what has to be known before their columns are written.
 #[derive(Drop)]
 struct Reading<'a> {
-    elements: Vec<Element<'a>>,
+    groups: BlockGroups<'a>,
     survey: Survey<'a>,
 }
 
@@ -24,9 +23,9 @@ struct Reading<'a> {
 fn read<'a>(alloc: Global, block: &'a [u8]) -> Result<Reading<'a>, BlockError>
     ensures { Gives (IsReading block.now) (fault block.now) result }
 {
-    let elements = read_block(alloc, block)?;
-    let survey = survey_of(alloc, &elements)?;
-    Ok(Reading { elements, survey })
+    let groups = read_block_groups(alloc, block)?;
+    let survey = survey_of(alloc, &groups)?;
+    Ok(Reading { groups, survey })
 }
 
 /// How many elements a block has, and how long their columns are. `block` is the payload of an OSMData blob, raw.
@@ -64,7 +63,7 @@ pub extern "C" fn pbfrow_block_columns(
         Ok(reading) => {
             let room = columns_fit(&reading.survey.counts, columns);
             if room {
-                put_columns(&reading.elements, &reading.survey, columns);
+                put_columns(&reading.groups, &reading.survey, columns);
             }
             *counts = reading.survey.counts;
             if room { 0 } else { NO_ROOM }

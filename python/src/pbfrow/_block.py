@@ -21,8 +21,8 @@ Selection = Union[slice, "NDArray[np.intp]"]
 class Texts:
     """Texts, as one array of bytes in UTF-8 and where each ends: text i is bytes[offsets[i]:offsets[i + 1]].
 
-    len() says how many there are, and texts[i] is one of them as str. Of a block they are those that its indexes name, mostly
-    each once, but a text may stand there twice; of a whole file each is there once.
+    len() says how many there are, and texts[i] is one of them as str. Of a block they are those of its string table, used or
+    not, mostly each once, but a text may stand there twice; of a whole file each is there once.
     """
 
     #: Where each text begins among the bytes, and where the last one ends: (texts + 1,) int64, from 0, ascending.

@@ -23,8 +23,8 @@ mapped-twice : {A B C : Type 0} (f : A → B) (g : B → C) (xs : List A) → ma
 mapped-twice f g [] = refl
 mapped-twice f g (x ∷ xs) = ap (λ l. g (f x) ∷ l) (mapped-twice f g xs)
 
-pub returns : goal.returns
-returns c = λ es h.
+pub returns-clause-indexes : goal.returns-clause-indexes
+returns-clause-indexes c = λ es h.
     let e : Element = c.args.element.now in
     let now : Bor (List ℕ) × Bor (List ℕ) → Text × Text = λ t. (t.0.now, t.1.now) in
     let key : Text × Text → Option Text = λ t. Some t.0 in

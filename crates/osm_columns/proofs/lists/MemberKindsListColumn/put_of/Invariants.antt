@@ -1,0 +1,10 @@
+use Rattle.std.proofs.Common.{◌≡◌, ◌+◌, length, map, take}
+use Rattle.osm_columns.specs.Values.{number_of_kind}
+use Rattle.osm_columns.specs.Columns.{Adds}
+use Rattle.osm_columns.proofs.lists.MemberKindsListColumn.put_of.Given as goal
+
+abbrev pub invariant-loop-member : goal.invariant-loop-member
+invariant-loop-member l = record {
+  place : l.place ≡ l.at + l.member-index;
+  column : Adds l.at (map (λ m. number_of_kind m.kind) (take l.member-index l.member-items)) l.fn.array l.array;
+}

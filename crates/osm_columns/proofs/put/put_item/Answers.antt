@@ -1,5 +1,0 @@
-use Rattle.osm_columns.proofs.ColumnLemmas.{put-one}
-use Rattle.osm_columns.proofs.put.put_item.Goals as goal
-
-pub returns : goal.returns
-returns g c = λ front before e n. put-one front before _ _ _ e n c.requires
