@@ -165,6 +165,8 @@ SAYS = {
     "pbf_frame": "frames and raw blobs",
     "osm_block": "reading blocks",
     "osm_write": "writing blocks",
+    "osm_columns": "elements in columns",
+    "pbfrow_c": "the library for C",
     "osm_faults": "why a store fails",
     "osm_reading": "frames read, good or bad",
     "pbfrow_reading": "commands on a file alone",
@@ -174,6 +176,7 @@ SAYS = {
     "osm_tree_audits": "rows of trees, told",
     "osm_trees": "blobs below SQL",
     "osm_checked": "a database looked at",
+    "osm_index_orders": "orders of any index",
     "osm_openings": "files opened",
     "osm_databases": "which store it is",
     "osm_restarts": "laws of stores in files",
@@ -183,6 +186,7 @@ SAYS = {
     "osm_verify": "a database against a file",
     "osm_part_audits": "databases against a file",
     "osm_vectors": "tests of reading and writing",
+    "column_vectors": "tests of columns",
     "store_vectors": "what tests of stores share",
     "memory_vectors": "tests of stores in memory",
     "import_vectors": "tests of the importer",
@@ -203,7 +207,7 @@ UNNAMED = ("thiserror",)  # texts of errors, used nearly everywhere
 def read_crates():
     """Each crate with what it stands on: crates of this repository, and those of the kit beside them."""
     said = [line.partition("#")[0] for line in CRATES.read_text().splitlines()]
-    lines = [line.split(":") for line in said if line.strip()]
+    lines = [(line.partition(":")[0].split()[0], line.partition(":")[2]) for line in said if line.strip()]
     own = [name for name, _ in lines]
     below = {name: [word for word in words.split() if word in own] for name, words in lines}
     kit = {name: [family(word) for word in words.split() if word not in own and word not in UNNAMED] for name, words in lines}
