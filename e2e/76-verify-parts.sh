@@ -73,13 +73,13 @@ if has sqlite3; then
   gap="gap $second $(sqlite3 part-2.db "SELECT fin FROM blob WHERE off = $second")"
   changed "a blob that was taken out, whose rows are left" "DELETE FROM blob WHERE off = $second" 1 "$gap${nl}blobs 11 gaps 1 differs 0 extra 0${nl}" 1 "fault 66 NotThisStore${nl}"
   changed "a blob and its rows that were taken out" "DELETE FROM blob WHERE off = $second; DELETE FROM element WHERE off = $second; DELETE FROM tag WHERE off = $second; DELETE FROM link WHERE off = $second" 1 "$gap${nl}blobs 11 gaps 1 differs 0 extra 0${nl}" 1 "$gap${nl}blobs 11 gaps 1 differs 0 extra 0${nl}"
-  # offsets that no file system can seek to, and one that it can
-  for far in 9223372036854700000 4611686018427387904 17592186044416; do
+  # offsets that most file systems can't seek to
+  for far in 4611686018427387000 1152921504606846976 17592186044416; do
     cp nodes.db far.db
     sqlite3 far.db "UPDATE blob SET off = off - 47 + $far, fin = fin - 47 + $far; UPDATE element SET off = off - 47 + $far; UPDATE tag SET off = off - 47 + $far; UPDATE link SET off = off - 47 + $far"
     for depth in "" --elements; do
       expect "a blob at $far${depth:+, $depth}" 1 "extra $far${nl}gap 47 84${nl}blobs 2 gaps 1 differs 0 extra 1${nl}" verify "$two" far.db header.db $depth
-      expect "a blob at $far alone${depth:+, $depth}" 1 "missing 0${nl}missing 47${nl}extra $far${nl}blobs 0 missing 2 differs 0 extra 1${nl}" verify "$two" far.db $depth
+      expect "a blob at $far alone${depth:+, $depth}" 1 "missing 0${nl}missing 47${nl}extra $far${nl}blobs 2 missing 2 differs 0 extra 1${nl}" verify "$two" far.db $depth
     done
   done
   cp part-2.db unique.db

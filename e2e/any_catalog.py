@@ -194,11 +194,13 @@ def told(path):
 
 def untold(row, rows):
     """Whether it tells of an index whose order pbfrow can't tell, and which may be another than that of bytes."""
-    if row[1] != b"index" or row[5] is None:
+    if row[1] != b"index":
         return False
+    # that of an index which a UNIQUE or a PRIMARY KEY makes stands in its table's
+    text = row[5] or b""
     made = [other[5] for other in rows if other[1] == b"table" and other[2].lower() == row[3].lower()]
-    told = b"".join([row[5], *made])
-    return (b"DESC" in told or b"COLLATE" in told) and (b"lower(" in row[5] or b"||" in row[5] or b" AS (" in b"".join(made))
+    told = b"".join([text, *made])
+    return (b"DESC" in told or b"COLLATE" in told) and (b"lower(" in text or b"||" in text or b" AS (" in b"".join(made))
 
 
 def texts(ours):
