@@ -72,7 +72,7 @@ install: built
 	package/completions bash > "$(DESTDIR)$(bashdir)/pbfrow"
 	package/completions zsh > "$(DESTDIR)$(zshdir)/_pbfrow"
 	package/completions fish > "$(DESTDIR)$(fishdir)/pbfrow.fish"
-	install -m 644 LICENSE-MIT LICENSE-APACHE docs/GUIDE.md docs/SCHEMA.md docs/SCALE.md "$(DESTDIR)$(docdir)"
+	install -m 644 LICENSE-MIT LICENSE-APACHE docs/GUIDE.md docs/REPAIR.md docs/SCHEMA.md docs/SCALE.md "$(DESTDIR)$(docdir)"
 	package/notices > "$(DESTDIR)$(docdir)/NOTICES"
 	install -m 755 examples/import_part examples/dask_import.py "$(DESTDIR)$(docdir)/examples"
 	install -m 644 examples/parts.mk examples/search.sql examples/views.sql "$(DESTDIR)$(docdir)/examples"

@@ -52,8 +52,8 @@ if has sqlite3; then
   "$pbfrow" import "$country" whole.db > got.txt
   "$pbfrow" import "$country" front.db --to "$last" > got.txt
   "$pbfrow" export front.db > front.txt
-  # the guide's statement for the table of elements
-  move=$(sed -n '/^    sqlite3 country.db "UPDATE element SET rowid/,/"$/p' "$top/docs/GUIDE.md" | sed -e 's/^ *sqlite3 country.db "//' -e 's/"$//')
+  # the statement of docs/REPAIR.md for the table of elements
+  move=$(sed -n '/^    sqlite3 country.db "UPDATE element SET rowid/,/"$/p' "$top/docs/REPAIR.md" | sed -e 's/^ *sqlite3 country.db "//' -e 's/"$//')
   for table in element tag link; do stopped "$table"; done
 else
   skip "a row at the greatest rowid" "sqlite3 isn't installed"

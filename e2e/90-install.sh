@@ -30,7 +30,7 @@ if has make install gzip; then
     installed_files image > installed.txt
     printf '%s\n' "644 usr/share/bash-completion/completions/pbfrow" "644 usr/share/doc/pbfrow/GUIDE.md" \
       "644 usr/share/doc/pbfrow/LICENSE-APACHE" "644 usr/share/doc/pbfrow/LICENSE-MIT" "644 usr/share/doc/pbfrow/NOTICES" \
-      "644 usr/share/doc/pbfrow/SCALE.md" "644 usr/share/doc/pbfrow/SCHEMA.md" \
+      "644 usr/share/doc/pbfrow/REPAIR.md" "644 usr/share/doc/pbfrow/SCALE.md" "644 usr/share/doc/pbfrow/SCHEMA.md" \
       "644 usr/share/doc/pbfrow/examples/parts.mk" "644 usr/share/doc/pbfrow/examples/search.sql" "644 usr/share/doc/pbfrow/examples/views.sql" "644 usr/share/fish/vendor_completions.d/pbfrow.fish" \
       "644 usr/share/man/man1/pbfrow.1.gz" "644 usr/share/zsh/site-functions/_pbfrow" "755 usr/bin/pbfrow" \
       "755 usr/share/doc/pbfrow/examples/dask_import.py" "755 usr/share/doc/pbfrow/examples/import_part" > want.txt

@@ -5,7 +5,7 @@ a merge, verify, an export, status and find have to give what they give beside n
 with an object named, and to leave it as it is; and nothing that isn't pbfrow's may change. Where two objects have one name, or a
 table or the index of pbfrow's was changed, each of them has to refuse it.
 
-One thing that docs/GUIDE.md says isn't so yet is let pass: where an index with DESC or COLLATE is on an expression, or on a table with
+One thing that docs/REPAIR.md says isn't so yet is let pass: where an index with DESC or COLLATE is on an expression, or on a table with
 a computed column, verify may also end with fault 65 without a name.
 
 usage: any_catalog.py PROGRAM EXTRACT HOW_MANY SEED, in an empty folder. Of the extract the first and the last data blob are taken.

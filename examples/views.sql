@@ -7,16 +7,18 @@ CREATE INDEX IF NOT EXISTS tag_by_key ON tag (key, val);
 -- ways and relations by what they refer to; the id first, since most links are to nodes, so that their kinds tell little
 CREATE INDEX IF NOT EXISTS link_by_ref ON link (ref, kind);
 
--- nodes, in degrees
+-- nodes, in degrees; to find those in a box, compare element.lat and element.lon, in nanodegrees: a computed column has no index
 CREATE VIEW IF NOT EXISTS node AS
 SELECT off, pos, id, lat / 1e9 AS lat, lon / 1e9 AS lon FROM element WHERE kind = 0;
 
--- the nodes of each way, in its order: k counts them from 0
+-- the nodes of each way, in its order: k counts them from 0. held is 0 where the database lacks the node, as at the border of an
+-- extract: then lat and lon are NULL, and a line through the other nodes wouldn't be the way. In a file with history a node has a
+-- row for each of its versions.
 CREATE VIEW IF NOT EXISTS way_node AS
-SELECT way.off, way.pos, way.id AS way, link.k, node.id AS node, node.lat / 1e9 AS lat, node.lon / 1e9 AS lon
+SELECT way.off, way.pos, way.id AS way, link.k, link.ref AS node, node.id IS NOT NULL AS held, node.lat / 1e9 AS lat, node.lon / 1e9 AS lon
 FROM element AS way
 JOIN link USING (off, pos)
-JOIN element AS node ON node.kind = 0 AND node.id = link.ref
+LEFT JOIN element AS node ON node.kind = 0 AND node.id = link.ref
 WHERE way.kind = 1;
 
 -- the members of each relation, in its order: their kind is 0 for a node, 1 for a way and 2 for a relation

@@ -67,7 +67,7 @@ binds_a_store row = is_word (codes "trigger") (column row 1) && is_of_a_store (b
 abbrev pub is_on_a_store : Row → Bool
 is_on_a_store row = is_added_index row || binds_a_store row
 
--- of something that a put does not keep
+-- the row tells of an index or a trigger on a table of a store that a put doesn't keep
 abbrev pub is_refused : Row → Bool
 is_refused row = is_on_a_store row && not (is_some (plain_index row))
 

@@ -144,6 +144,7 @@ pub record GroupOf (b : Context) (es : List Element) (g : List ℕ) : Type 0 whe
   pub one_kind : kinds_in (fields g) ≤ 1
   pub elements_are : Joins (λ xs m. AllAreWire m × MessageOf b xs m) es (messages (fields g))
 
+-- The block w holds exactly the elements es: a table of texts in UTF-8 without U+0000, granularities of at least 1, and groups of one kind each.
 pub record Block (es : List Element) (w : List ℕ) : Type 0 where
   pub is_message : wire w ≡ None
   pub has_table : is_there (each (fields w) BLOCK_STRINGTABLE) ≡ true

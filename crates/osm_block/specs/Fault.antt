@@ -5,6 +5,7 @@ use Rattle.osm_block.specs.declared.fault.BlockFault.TheVariants.{BlockWire, NoS
 use Rattle.osm_block.specs.declared.fault.BlockError.{BlockError}
 use Rattle.osm_block.specs.declared.fault.BlockError.TheVariants.{Memory, Fault}
 
+-- the number of each fault of a block
 abbrev pub number_of : BlockFault → ℕ
 number_of (BlockWire fault) = 40
 number_of NoStringTable = 41
@@ -20,6 +21,7 @@ number_of OutOfRange = 50
 number_of TagsUneven = 51
 number_of BadMemberType = 52
 
+-- its name
 abbrev pub name_of : BlockFault → List ℕ
 name_of (BlockWire fault) = codes "BlockWire"
 name_of NoStringTable = codes "NoStringTable"
@@ -35,10 +37,12 @@ name_of OutOfRange = codes "OutOfRange"
 name_of TagsUneven = codes "TagsUneven"
 name_of BadMemberType = codes "BadMemberType"
 
+-- the same of what a call answers, which may also be refused memory
 abbrev pub error_number_of : BlockError → ℕ
 error_number_of Memory = 65
 error_number_of (Fault fault) = number_of fault
 
+-- its name
 abbrev pub error_name_of : BlockError → List ℕ
 error_name_of Memory = codes "Memory"
 error_name_of (Fault fault) = name_of fault

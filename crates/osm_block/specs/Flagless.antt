@@ -12,6 +12,6 @@ HasNoFlag (Dense ps) = (dense_message (flat_map fields ps)).info.visible ≡ []
 HasNoFlag (Way p) = (way_message (fields p)).info.visible ≡ None
 HasNoFlag (Relation p) = (relation_message (fields p)).info.visible ≡ None
 
--- no message of the block has one
+-- no info of the block has a flag of visibility
 abbrev pub HasNoFlags : List ℕ → Type 0
 HasNoFlags w = AllByRecursion (λ g. AllByRecursion HasNoFlag (messages (fields g))) (each (fields w) BLOCK_PRIMITIVEGROUP)

@@ -11,12 +11,14 @@ use Rattle.osm_block.specs.declared.header.BBox.{BBox}
 use Rattle.osm_block.specs.declared.header.fault.HeaderFault.{HeaderFault}
 use Rattle.osm_block.specs.declared.header.fault.HeaderFault.TheVariants as faults
 
+-- the number of each fault of a header block
 abbrev pub number_of : HeaderFault → ℕ
 number_of (faults.HeaderBlockWire fault) = 30
 number_of faults.BBoxIncomplete = 31
 number_of faults.HeaderTextNotUtf8 = 32
 number_of (faults.UnknownFeature index) = 33
 
+-- its name
 abbrev pub name_of : HeaderFault → List ℕ
 name_of (faults.HeaderBlockWire fault) = codes "HeaderBlockWire"
 name_of faults.BBoxIncomplete = codes "BBoxIncomplete"
@@ -106,6 +108,7 @@ header_phases w = let fs = fields w in
     ∷ option_map faults.UnknownFeature (unknown_feature (each fs HEADER_REQUIRED_FEATURES))
     ∷ []
 
+-- the first fault of a header block, if it has one
 unfoldable pub header_fault : List ℕ → Option HeaderFault
 header_fault w = first (header_phases w)
 

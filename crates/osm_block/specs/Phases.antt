@@ -24,7 +24,7 @@ abbrev pub when : Bool → BlockFault → Phase
 when true fault = Some fault
 when false fault = None
 
--- the first phase that stands
+-- the first of a list of phases that applies
 abbrev pub first : List Phase → Phase
 first [] = None
 first (None ∷ phases) = first phases
@@ -109,7 +109,7 @@ dense_info_in_range b m = list_all (λ v. passes is_version (version v)) m.versi
     && list_all (λ t. is_wide (time b.date_granularity t)) (front_sums m.timestamp)
     && list_all is_wide (front_sums m.changeset) && list_all is_uid (front_sums m.uid)
 
--- the array for the tags of n nodes, its indexes in a table of that many texts
+-- the phases of the tags of n dense nodes over a table of so many texts: 51 where the array has no pairs for them, then 48
 abbrev pub tags_phases : ℕ → ℕ → List ℤ → List Phase
 tags_phases n texts kv =
     when (is_none (pairs_for n kv)) faults.TagsUneven
@@ -161,6 +161,7 @@ head_phases w = let fs = fields w in let b = context fs in
 abbrev pub phases : List ℕ → List Phase
 phases w = head_phases w ++ flat_map (group_phases (context (fields w))) (each (fields w) BLOCK_PRIMITIVEGROUP)
 
+-- the fault that a block is answered with: the first of the phases that applies
 unfoldable pub fault : List ℕ → Option BlockFault
 fault w = first (phases w)
 

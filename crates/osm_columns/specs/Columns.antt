@@ -36,7 +36,7 @@ pub record IsSurvey (s : Survey) (es : List Element) : Type 0 where
   pub indexes_are : AreIndexes s.indexes es
   pub counts_are : AreCounts s.counts es (texts_in s.indexes.dictionary)
 
--- what the groups hold was looked through
+-- what is known of all that the groups hold before their columns are written; dense nodes stay in their arrays
 abbrev pub IsSurveyOf : Survey → BlockGroups → Type 0
 IsSurveyOf s g = (es : List Element) → GroupsHold g es → IsSurvey s es
 
@@ -59,16 +59,18 @@ refs_fit elements refs c = has_room elements c.ends.now && has_room refs c.ids.n
 abbrev pub members_fit : ℕ → ℕ → MemberColumns → Bool
 members_fit elements members c = has_room elements c.ends.now && has_room members c.kinds.now && has_room members c.ids.now && has_room members c.roles.now
 
+-- the arrays have room for so many texts with so many bytes
 abbrev pub texts_fit : ℕ → ℕ → TextColumn → Bool
 texts_fit texts bytes c = has_room texts c.ends.now && has_room bytes c.bytes.now
 
+-- each array has as many items as its column, or more
 abbrev pub columns_fit : Counts → Columns → Bool
 columns_fit n c = elements_fit n.elements c.elements && tags_fit n.elements n.tags c.tags && refs_fit n.elements n.refs c.refs
     && members_fit n.elements n.members c.members && texts_fit n.texts n.text_bytes c.texts
 
 -- ---- what they hold
 
--- the column, and then what stood there
+-- an array that begins with these items and is behind them as it was
 abbrev pub over : {A : Type 0} → List A → List A → List A
 over xs old = xs ++ drop (length xs) old
 
@@ -126,6 +128,7 @@ pub record HoldsMembers (roles : List ℤ) (es : List Element) (old new : Member
   pub ids_are : new.ids.now ≡ over (map (λ m. m.id) (all_members es)) old.ids.now
   pub roles_are : new.roles.now ≡ over roles old.roles.now
 
+-- the texts stand one behind the other, with the end of each; what is behind them is as it was
 pub record HoldsTexts (texts : List Text) (old new : TextColumn) : Type 0 where
   pub ends_are : new.ends.now ≡ over (ends_of texts) old.ends.now
   pub bytes_are : new.bytes.now ≡ over (joined texts) old.bytes.now

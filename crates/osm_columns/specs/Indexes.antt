@@ -22,6 +22,7 @@ values_of es = map (λ t. Some t.1) (all_tags es)
 abbrev pub roles_of : List Element → List (Option Text)
 roles_of es = map (λ m. Some m.role) (all_members es)
 
+-- the texts of a dictionary, in its order
 abbrev pub texts_in : Dictionary → List Text
 texts_in d = map (λ t. t.now) d.texts.items
 

@@ -8,6 +8,7 @@ use Rattle.osm_value.specs.Elements.{tags_of_element}
 use Rattle.osm_columns.specs.Values.{refs_of_element, members_of_element}
 use Rattle.std.specs.Prelude.{ℤ}
 
+-- lists, one behind the other
 abbrev pub joined : {A : Type 0} → List (List A) → List A
 joined lists = flat_map (λ xs. xs) lists
 

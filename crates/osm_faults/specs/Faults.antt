@@ -40,10 +40,12 @@ abbrev pub fault_over_unknown : Error → StoreFault
 fault_over_unknown (SqliteFailure c) = fault_of_unknown_code c
 fault_over_unknown _ = NotThisStore None
 
+-- the number of each fault of a store
 abbrev pub number_of : StoreFault → ℕ
 number_of (NotThisStore found) = 66
 number_of _ = 65
 
+-- its name
 abbrev pub name_of : StoreFault → List ℕ
 name_of Memory = codes "Memory"
 name_of Full = codes "Full"
@@ -51,7 +53,7 @@ name_of Interrupted = codes "Interrupted"
 name_of Disk = codes "Disk"
 name_of (NotThisStore found) = codes "NotThisStore"
 
--- no other version is named
+-- a fault names no other version
 abbrev pub NamesNoVersion : StoreFault → Type 0
 NamesNoVersion (NotThisStore (Some version)) = ⊥
 NamesNoVersion _ = Unit {0}

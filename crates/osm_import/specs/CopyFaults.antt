@@ -5,11 +5,13 @@ use Rattle.osm_import.specs.Faults.{conflict_number_of, conflict_name_of}
 use Rattle.osm_import.specs.declared.copy.CopyFault.{CopyFault}
 use Rattle.osm_import.specs.declared.copy.CopyFault.TheVariants.{Refused, Miscounted, Store}
 
+-- the number of what stops a copy
 abbrev pub copy_number_of : CopyFault → ℕ
 copy_number_of (Refused conflict) = conflict_number_of conflict
 copy_number_of Miscounted = 66
 copy_number_of (Store fault) = stores.number_of fault
 
+-- its name
 abbrev pub copy_name_of : CopyFault → List ℕ
 copy_name_of (Refused conflict) = conflict_name_of conflict
 copy_name_of Miscounted = codes "NotThisStore"

@@ -4,6 +4,7 @@ use Rattle.osm_faults.specs.Faults as stores
 use Rattle.osm_import.specs.declared.export.fault.ExportFault.{ExportFault}
 use Rattle.osm_import.specs.declared.export.fault.ExportFault.TheVariants.{Incomplete, PastEnd, WriteFailed, BlockTooLarge, Miscounted, Store}
 
+-- the number of what ends an export early
 abbrev pub export_number_of : ExportFault → ℕ
 export_number_of (Incomplete from to) = 67
 export_number_of (PastEnd fin) = 70
@@ -12,6 +13,7 @@ export_number_of BlockTooLarge = 53
 export_number_of (Miscounted off) = 66
 export_number_of (Store fault) = stores.number_of fault
 
+-- its name
 abbrev pub export_name_of : ExportFault → List ℕ
 export_name_of (Incomplete from to) = codes "Incomplete"
 export_name_of (PastEnd fin) = codes "PastEnd"

@@ -54,6 +54,7 @@ IsRefusalOf extents size BlockTooLarge = ⊥
 IsRefusalOf extents size (Miscounted off) = ⊥
 IsRefusalOf extents size (Store fault) = ⊥
 
+-- There are extents, they leave no range between 0 and the size, and none ends behind the size.
 pub record AreTiling (extents : List Extent) (size : ℕ) : Type 0 where
   pub some : length extents ≡ 0 → ⊥
   pub whole : ranges_between 0 size extents ≡ []

@@ -6,7 +6,7 @@ use Rattle.osm_store.specs.Held.{Blob, HeldMap}
 use Rattle.osm_import.specs.Deliveries.{DeliveryValue}
 use Rattle.osm_import.specs.Step.{IsEntry}
 
--- each is a whole frame
+-- each is one whole frame
 abbrev pub AreFrames : List (List ℕ) → Type 0
 AreFrames [] = Unit {0}
 AreFrames (frame ∷ frames) = IsFrame frame × AreFrames frames

@@ -26,6 +26,7 @@ pub record LeavesEvents (leaves : HeldMap → Type 0) (held : HeldMap) (delivery
   pub of_answered : ¬ (IsFault answer) → (left : HeldMap) → leaves left → IsEvent held (answered delivery answer) left
   pub of_broken : (left : HeldMap) → leaves left → IsEvent held (broken delivery) left
 
+-- The events happened one after the other, from what was held at first to what is held at last.
 abbrev pub IsHistory : HeldMap → List Event → HeldMap → Type 0
 IsHistory held [] after = after ≡ held
 IsHistory held (event ∷ events) after = (next : HeldMap) × IsEvent held event next × IsHistory next events after
@@ -36,6 +37,7 @@ OfDelivery P (answered delivery answer) = P delivery
 OfDelivery P (broken delivery) = P delivery
 OfDelivery P reopened = Unit {0}
 
+-- the same of each event that has a delivery
 abbrev pub OfDeliveries : (DeliveryValue → Type 0) → List Event → Type 0
 OfDeliveries P [] = Unit {0}
 OfDeliveries P (event ∷ events) = OfDelivery P event × OfDeliveries P events
@@ -68,6 +70,7 @@ pub record IsRestartable (frames : List (List ℕ)) (events : List Event) (held 
   pub again : (deliveries : List DeliveryValue) (answers : List Answer) (after : HeldMap) → AreOfFile frames deliveries → OfDeliveries (IsAmong deliveries) events
       → IsRun held deliveries answers after → IsNone IsFault answers → (off : ℕ) (blob : Blob) → (get after off ≡ Some blob) ↔ IsGoodIn deliveries off blob
 
+-- This is so of every history of deliveries of one file to a store that held nothing.
 abbrev pub HistoriesRestart : Type 0
 HistoriesRestart = (frames : List (List ℕ)) (events : List Event) (held : HeldMap) → AreFrames frames
     → OfDeliveries (λ delivery. IsFrameAt frames delivery.off delivery.bytes) events → IsHistory empty events held → IsRestartable frames events held

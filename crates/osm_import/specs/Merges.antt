@@ -43,7 +43,7 @@ abbrev pub UnionsAreUnrefused : Type 0
 UnionsAreUnrefused = (frames : List (List ℕ)) (source held after : HeldMap) (place off : ℕ) (conflict : Conflict) → AreFrames frames → IsHeldOfFile frames source → IsHeldOfFile frames held
     → IsUnitedBelow place source held after → ¬ (IsRefused source after off conflict)
 
--- a second time changes nothing
+-- a second union with the same map changes nothing
 abbrev pub UnionsStay : Type 0
 UnionsStay = (source held after again : HeldMap) → IsUnited source held after → IsUnited source after again → again ≡ after
 

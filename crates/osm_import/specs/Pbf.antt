@@ -18,7 +18,7 @@ use Rattle.osm_import.specs.Gaps.{Tiles}
 use Rattle.osm_import.specs.declared.export.fault.ExportFault.{ExportFault}
 use Rattle.osm_import.specs.declared.export.fault.ExportFault.TheVariants.{Incomplete, PastEnd, WriteFailed, BlockTooLarge, Miscounted, Store}
 
--- whether readers have to know of history: of flags of visibility
+-- the frame of an export's header, which asks for history where flags of visibility were held
 abbrev pub header_frame : Bool → List ℕ
 header_frame history = frame_bytes (codes "OSMHeader") (header_block history)
 

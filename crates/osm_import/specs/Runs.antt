@@ -15,6 +15,7 @@ IsRun held [] (answer ∷ answers) after = ⊥
 IsRun held (delivery ∷ deliveries) [] after = ⊥
 IsRun held (delivery ∷ deliveries) (answer ∷ answers) after = (next : HeldMap) × IsStep held delivery.off delivery.bytes answer next × IsRun next deliveries answers after
 
+-- the answer is Stored
 abbrev pub IsStored : Answer → Type 0
 IsStored (Stored _) = Unit {0}
 IsStored _ = ⊥
@@ -23,6 +24,7 @@ abbrev pub IsRefused : Answer → Type 0
 IsRefused (Refused _) = Unit {0}
 IsRefused _ = ⊥
 
+-- the answer is a fault of the store
 abbrev pub IsFault : Answer → Type 0
 IsFault (Fault _) = Unit {0}
 IsFault _ = ⊥
@@ -66,10 +68,11 @@ pub record IsImport (frames : List (List ℕ)) (start : HeldMap) (deliveries : L
   pub all : IsNone IsFault answers → IsAll start deliveries held
   pub of_file : IsHeldOfFile frames held
 
--- the same over a store, of which nothing else is known
+-- the deliveries, so answered, are a run over what a store held, and it holds what the run comes to
 abbrev pub Runs : (HeldMap → Type 0) → HeldMap → List DeliveryValue → List Answer → Type 0
 Runs holds start deliveries answers = (held : HeldMap) × IsRun start deliveries answers held × holds held
 
+-- The store holds what these deliveries of one file, so answered, come to.
 abbrev pub Imports : (HeldMap → Type 0) → List (List ℕ) → HeldMap → List DeliveryValue → List Answer → Type 0
 Imports holds frames start deliveries answers = (held : HeldMap) × IsImport frames start deliveries answers held × holds held
 

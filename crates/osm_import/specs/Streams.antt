@@ -125,6 +125,7 @@ pub record Stops (from limit : ℕ) (input : Input) (output : Output) (Took : Li
   pub read : Consumes input.before input.after (joined (frames_of (replies ++ last)) ++ rest)
   pub why : IsStop from limit input output replies last rest stop.fault
 
+-- An import of a stream has read its input to the end, or stopped for a cause, and took each frame before in turn.
 abbrev pub Streams : ℕ → ℕ → Input → Output → (List DeliveryValue → List Answer → Type 0) → Result Summary StreamFault → Type 0
 Streams from limit input output Took (Ok summary) = EndsWell from limit input output Took summary
 Streams from limit input output Took (Err stop) = Stops from limit input output Took stop

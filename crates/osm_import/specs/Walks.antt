@@ -45,6 +45,7 @@ pub record StopsAt (Writes : Writing) (before : Known) (entries : List (ℕ × B
   pub turns : WritesInTurn Writes before (take count entries) middle
   pub stopped : WritesOne Writes middle (elements_at entries count) after (Err fault)
 
+-- An export has written the blobs one after the other, all of them or up to the one where it stopped.
 abbrev pub Walks : Writing → Known → List (ℕ × Blob) → Known → Result (Unit {0}) ExportFault → Type 0
 Walks Writes before entries after (Ok _) = WritesInTurn Writes before entries after
 Walks Writes before entries after (Err fault) = StopsAt Writes before entries after fault
@@ -80,6 +81,7 @@ pub record StopsComplete (Writes : Writing) (before : Known) (extents : List Ext
   pub turns : CompleteInTurn Writes before front middle
   pub stopped : WritesComplete Writes middle extent after (Err fault)
 
+-- An export has written as many elements as each extent says, one extent after the other, all of them or up to the one where it stopped.
 abbrev pub WalksComplete : Writing → Known → List Extent → Known → Result (Unit {0}) ExportFault → Type 0
 WalksComplete Writes before extents after (Ok _) = CompleteInTurn Writes before extents after
 WalksComplete Writes before extents after (Err fault) = StopsComplete Writes before extents after fault

@@ -154,11 +154,11 @@ order_in _ row = None
 abbrev pub told_order : List Row → Row → Option Order
 told_order rows row = order_in (text_of_table rows row) row
 
--- Where none is told, it is that of their bytes.
+-- the order of the index of which the row tells; where none is told, that of their bytes
 abbrev pub index_order : List Row → Row → Order
 index_order rows row = unwrap_or (told_order rows row) plain
 
--- the first of these rows that begins an index, as is said of each, and of which none is told
+-- of these rows, the first whose tree is an index and whose order isn't told
 abbrev pub first_untold : List Row → List Row → List Bool → Option Row
 first_untold entries [] roots = None
 first_untold entries (row ∷ rows) [] = None

@@ -85,7 +85,7 @@ abbrev pub first_named_twice : List Row → List Row → Option Told
 first_named_twice earlier [] = None
 first_named_twice earlier (row ∷ rows) = if is_named_before earlier row then Some (TwoNames, name_of row) else first_named_twice (earlier ++ row ∷ []) rows
 
--- that is what was found
+-- what was found is this obstacle, with the name of this object, or nothing
 abbrev pub Tells : Option Obstruction → Option Told → Type 0
 Tells None told = told ≡ None
 Tells (Some found) told = told ≡ Some (found.obstacle, found.object.items)
@@ -115,7 +115,7 @@ obstruction rows =
 abbrev pub unkept : Row → Option Told
 unkept row = if binds_a_store row then Some (Trigger, name_of row) else (if is_added_index row && not (is_some (plain_index row)) then Some (UnkeptIndex, name_of row) else None)
 
--- the first row that does
+-- what the first row tells that tells of something that a put doesn't keep: a trigger on a table of a store, or an added index
 abbrev pub first_unkept : List Row → Option Told
 first_unkept [] = None
 first_unkept (row ∷ rows) = else_told (unkept row) (first_unkept rows)

@@ -90,7 +90,7 @@ pub record NamesSize (image : Image) (size : ℕ) : Type 0 where
 abbrev pub IsPresumed : List Object → Image → Type 0
 IsPresumed objects image = (size : ℕ) (pages : PageMap) → NamesSize image size → Recovers size image pages → AreSound objects size pages
 
--- the same of each list of objects that are the trees of a store that keeps elements in tables
+-- The pages of two files, if they recover to any, are a sound database wherever the list of objects has each tree of a store.
 abbrev pub ArePresumedTables : Image → Type 0
 ArePresumedTables image = (objects : List Object) → listings 0 objects ≡ table_listings → IsPresumed objects image
 

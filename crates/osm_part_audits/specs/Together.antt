@@ -70,6 +70,6 @@ PartsHoldFile = (depth : Depth) (file : List ℕ) (maps : List HeldMap) (whole :
 abbrev pub IsClean : Verdict → Type 0
 IsClean verdict = (verdict.findings.items ≡ []) × (verdict.gaps.items ≡ []) × (0 < verdict.blobs)
 
--- says the same
+-- A clean verdict says that the maps hold the file, and nothing else.
 abbrev pub AgreedHoldFile : Type 0
 AgreedHoldFile = (depth : Depth) (file : List ℕ) (maps : List HeldMap) (verdict : Verdict) → IsVerdict depth (Some file) maps verdict → IsClean verdict → HoldFile depth file maps

@@ -27,7 +27,7 @@ pub record AreInterleaved (parts : List HeldMap) (off : ℕ) : Type 0 where
 abbrev pub WholeExists : Type 0
 WholeExists = (parts : List HeldMap) (from : ℕ) → FollowFrom from parts → (whole : HeldMap) × AreParts parts whole
 
--- and of one map alone
+-- parts that follow one another are those of one map alone
 abbrev pub WholeIsOne : Type 0
 WholeIsOne = (parts : List HeldMap) (whole other : HeldMap) → AreParts parts whole → AreParts parts other → whole ≡ other
 

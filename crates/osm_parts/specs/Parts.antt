@@ -66,7 +66,7 @@ ExtentsJoin = (parts : List HeldMap) (whole : HeldMap) (from : ℕ) → FollowFr
 abbrev pub LinesJoin : Type 0
 LinesJoin = (parts : List HeldMap) (whole : HeldMap) (from : ℕ) → FollowFrom from parts → AreParts parts whole → map_lines whole ≡ lines_in parts
 
--- and as PBF, behind one header
+-- the same of exports as PBF, behind one header
 abbrev pub FramesJoin : Type 0
 FramesJoin = (parts : List HeldMap) (whole : HeldMap) (from : ℕ) (bytes : List ℕ) → FollowFrom from parts → AreParts parts whole → AreFramesIn parts bytes → AreFramesOf (entries whole) bytes
 

@@ -11,11 +11,13 @@ use Rattle.osm_parts.specs.Interleaved.{AreInterleaved}
 use Rattle.osm_parts.specs.declared.fault.PartsFault.{PartsFault}
 use Rattle.osm_parts.specs.declared.fault.PartsFault.TheVariants.{Interleaved, Refused, Store}
 
+-- the number of such a fault
 abbrev pub parts_number_of : PartsFault → ℕ
 parts_number_of (Interleaved off) = 71
 parts_number_of (Refused conflict off) = conflict_number_of conflict
 parts_number_of (Store fault) = stores.number_of fault
 
+-- its name
 abbrev pub parts_name_of : PartsFault → List ℕ
 parts_name_of (Interleaved off) = codes "Interleaved"
 parts_name_of (Refused conflict off) = conflict_name_of conflict

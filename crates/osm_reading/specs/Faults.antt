@@ -6,6 +6,7 @@ use Rattle.osm_block.specs.Fault as blocks
 use Rattle.osm_reading.specs.declared.fault.Fault.{Fault}
 use Rattle.osm_reading.specs.declared.fault.Fault.TheVariants.{Frame, NoHeaderFirst, HeaderNotFirst, Blob, Header, Block}
 
+-- the number of a delivery's fault
 abbrev pub number_of : Fault → ℕ
 number_of (Frame fault) = frames.number_of fault
 number_of NoHeaderFirst = 61
@@ -14,6 +15,7 @@ number_of (Blob fault) = frames.blob_number_of fault
 number_of (Header fault) = headers.number_of fault
 number_of (Block fault) = blocks.number_of fault
 
+-- its name
 abbrev pub name_of : Fault → List ℕ
 name_of (Frame fault) = frames.name_of fault
 name_of NoHeaderFirst = codes "NoHeaderFirst"

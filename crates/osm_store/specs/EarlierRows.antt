@@ -38,6 +38,7 @@ pub record IsBlob (layout : Layout) (blob : Blob) : Type 0 where
   pub can_store : AllByRecursion (CanStore layout) blob.elements
   pub few_texts : HaveFewTexts blob.elements
 
+-- A map that the layout could hold before flags of visibility were written: no element has one.
 pub record IsKept (layout : Layout) (held : HeldMap) : Type 0 where
   pub apart : IsApart held
   pub blobs : AllByRecursion (λ (entry : ℕ × Blob). IsBlob layout entry.1) (entries held)

@@ -10,6 +10,6 @@ use Rattle.osm_store.specs.Rows.{Placed, placed_in}
 abbrev pub has_flag : Element → Bool
 has_flag e = is_some (info_of_element e).visible
 
--- some held element has one
+-- some element of the map has a flag of visibility
 abbrev pub has_flags : HeldMap → Bool
 has_flags held = list_any (λ (p : Placed). has_flag p.2) (placed_in held)

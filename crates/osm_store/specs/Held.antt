@@ -19,6 +19,7 @@ pub record Blob : Type 0 where
 abbrev pub HasFewTexts : Element → Type 0
 HasFewTexts e = length (first_uses (texts_of e)) < 2 ^ 31 - 1
 
+-- each of these elements uses fewer than 2^31 - 1 different texts, so that it has a block of its own
 abbrev pub HaveFewTexts : List Element → Type 0
 HaveFewTexts elements = AllByRecursion HasFewTexts elements
 

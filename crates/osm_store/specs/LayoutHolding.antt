@@ -22,6 +22,7 @@ pub record IsBlob (layout : Layout) (blob : Blob) : Type 0 where
   pub can_store : AllByRecursion (CanStore layout) blob.elements
   pub few_texts : HaveFewTexts blob.elements
 
+-- A map that the layout can hold: its extents don't meet, each digest has 32 bytes, and each element can be stored.
 pub record IsKept (layout : Layout) (held : HeldMap) : Type 0 where
   pub apart : IsApart held
   pub blobs : AllByRecursion (λ (entry : ℕ × Blob). IsBlob layout entry.1) (entries held)

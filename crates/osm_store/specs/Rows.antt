@@ -17,11 +17,13 @@ use Rattle.osm_store.specs.declared.schema.layout.Layout.TheVariants.{Bodies, Ta
 use Rattle.osm_store.specs.Held.{Blob, HeldMap, HasFewTexts}
 use Rattle.osm_store.specs.Schema.Layouts.{version_of}
 
+-- the number that a row has for a kind of blob
 abbrev pub blob_code : Kind → ℕ
 blob_code OsmHeader = 0
 blob_code OsmData = 1
 blob_code Other = 2
 
+-- the number that a row has for a node, a way or a relation
 abbrev pub element_code : MemberKind → ℕ
 element_code Node = 0
 element_code Way = 1
@@ -44,6 +46,7 @@ placed_in held = flat_map (λ (entry : ℕ × Blob). placed entry.0 0 entry.1.el
 abbrev pub IsBefore : Placed → Placed → Type 0
 IsBefore a b = (a.0 < b.0) ⊎ ((a.0 ≡ b.0) × (a.1 < b.1))
 
+-- the one row of the table `meta`, which names the version of a layout
 abbrev pub version_row : Layout → Row
 version_row layout = Int (pos (version_of layout)) ∷ Null ∷ []
 

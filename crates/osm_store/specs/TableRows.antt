@@ -73,8 +73,10 @@ link_row p = Int (pos p.off) ∷ Int (pos p.position) ∷ Int (pos p.number) ∷
 abbrev pub element_rows : List Placed → List Row
 element_rows = map element_row
 
+-- the rows of their tags, element by element
 abbrev pub tag_rows : List Placed → List Row
 tag_rows elements = map tag_row (flat_map tags_at elements)
 
+-- the rows of what they refer to, element by element
 abbrev pub link_rows : List Placed → List Row
 link_rows elements = map link_row (flat_map links_at elements)

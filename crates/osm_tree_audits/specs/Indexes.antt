@@ -14,10 +14,10 @@ IsWhole db TagKey = IsIndexOf (1 ∷ 2 ∷ 3 ∷ []) (db 4) (db 5)
 IsWhole db LinkKey = IsIndexOf (1 ∷ 2 ∷ 3 ∷ []) (db 6) (db 7)
 IsWhole db ElementById = IsIndexOf (3 ∷ 4 ∷ []) (db 2) (db 8)
 
--- so has this one, which somebody has added
+-- an index that somebody has added has one entry for each row of its table, and no other
 abbrev pub IsWholeAdded : Trees → Index → Type 0
 IsWholeAdded db index = IsIndexOf index.columns (db index.table) (db index.tree)
 
--- and each of these
+-- each of these indexes has one entry for each row of its table, and no other
 abbrev pub AreWhole : Trees → List Index → Type 0
 AreWhole db indexes = AllByRecursion (IsWholeAdded db) indexes

@@ -4,7 +4,7 @@ use Rattle.sqlite_trees.specs.declared.error.StoreError.TheVariants.{OutOfMemory
 use Rattle.osm_faults.specs.declared.fault.StoreFault.{StoreFault}
 use Rattle.osm_faults.specs.declared.fault.StoreFault.TheVariants.{Memory, Full, Disk}
 
--- memory was refused, there was no room, or the disk failed
+-- the fault of a store that a failure of the trees is: memory was refused, there was no room, or the disk failed
 abbrev pub fault_of : StoreError → StoreFault
 fault_of OutOfMemory = Memory
 fault_of NoRoom = Full

@@ -55,7 +55,7 @@ pub record PutsRows (more : List Index) (old new : Trees) (extent : Extent) (add
   pub more_indexed : KeepIndexed more old new
   pub tables : AreTables new
 
--- the same of all indexes that somebody has added, as the list of objects tells of them
+-- The trees have one blob more, all others are as they were, and each index that had one entry for each row of its table has it still.
 abbrev pub PutsBelow : Trees → Trees → Extent → List Placed → Type 0
 PutsBelow old new = PutsRows (plain_indexes (old catalog_tree)) old new
 

@@ -13,6 +13,7 @@ table_listing tree name sql = Int (pos (tree + 1)) ∷ Text (codes "table") ∷ 
 abbrev pub index_listing : ℕ → List ℕ → List ℕ → Value → Row
 index_listing tree name table sql = Int (pos (tree + 1)) ∷ Text (codes "index") ∷ Text name ∷ Text table ∷ sql ∷ Int (pos 2) ∷ Int (pos 0) ∷ []
 
+-- the whole list of a store that keeps elements in tables, in the order of its trees' numbers
 abbrev pub table_listings : List Row
 table_listings =
     table_listing 0 (codes "meta") CREATE_META.now

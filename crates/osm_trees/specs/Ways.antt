@@ -15,7 +15,7 @@ MatchBoth (BySql one) (BySql other) P Q = Q one other
 MatchBoth (ByTrees one) (BySql other) P Q = ⊥
 MatchBoth (BySql one) (ByTrees other) P Q = ⊥
 
--- how many that is
+-- the count of failures of the reader inside
 abbrev pub counted : {T S : Type 0} → (T → ℕ) → (S → ℕ) → Opened T S → ℕ
 counted f g (ByTrees reader) = f reader
 counted f g (BySql reader) = g reader

@@ -14,5 +14,6 @@ is_escaped b = nat_lt b 33 || b == 127 || list_any (λ c. b == c) (codes "%=,@[]
 abbrev pub escape : ℕ → List ℕ
 escape b = if is_escaped b then 37 ∷ hex_digit (b / 16) ∷ hex_digit (b % 16) ∷ [] else b ∷ []
 
+-- a text as it stands in a line: bytes below 33, 127 and `% = , @ [ ] { } ( )` are `%` and two hexadecimal digits
 abbrev pub escaped : Text → List ℕ
 escaped t = flat_map escape t

@@ -54,6 +54,7 @@ letter_of kinds.Relation = 114
 abbrev pub member_text : MemberValue → List ℕ
 member_text m = letter_of m.kind ∷ signed_decimal m.id ++ 64 ∷ escaped m.role
 
+-- an element's line: kind and id, what it has of its own, what is known of its last change in `[ ]`, its tags in `{ }`, a line feed
 abbrev pub line : Element → List ℕ
 line (Node n) = codes "n " ++ signed_decimal n.id ++ codes " " ++ signed_decimal n.lat ++ codes " " ++ signed_decimal n.lon ++ tail_text n.info n.tags
 line (Way w) = codes "w " ++ signed_decimal w.id ++ codes " (" ++ commas (map signed_decimal w.refs) ++ codes ")" ++ tail_text w.info w.tags

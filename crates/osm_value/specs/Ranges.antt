@@ -16,7 +16,7 @@ is_version z = int_le (pos 0) z && int_le z (pos (2 ^ 31 - 1))
 abbrev pub is_uid : ℤ → Bool
 is_uid z = int_le (negsuc 0) z && int_le z (pos (2 ^ 31 - 2))
 
--- no U+0000
+-- a text without U+0000
 abbrev pub has_no_nul : Text → Bool
 has_no_nul t = list_all (λ b. not (b == 0)) t
 
@@ -48,10 +48,12 @@ pub record IsInfo (i : InfoValue) : Type 0 where
   pub uid : IsTrue (passes is_uid i.uid)
   pub user : IsTextOrNone i.user
 
+-- a member of a relation inside its ranges
 pub record IsMember (m : MemberValue) : Type 0 where
   pub id : IsWide m.id
   pub role : IsText m.role
 
+-- a node inside its ranges
 pub record IsNode (n : NodeValue) : Type 0 where
   pub id : IsWide n.id
   pub lat : IsWide n.lat
@@ -59,12 +61,14 @@ pub record IsNode (n : NodeValue) : Type 0 where
   pub tags : AreTags n.tags
   pub info : IsInfo n.info
 
+-- a way inside its ranges
 pub record IsWay (w : WayValue) : Type 0 where
   pub id : IsWide w.id
   pub refs : AllByRecursion IsWide w.refs
   pub tags : AreTags w.tags
   pub info : IsInfo w.info
 
+-- a relation inside its ranges
 pub record IsRelation (r : RelationValue) : Type 0 where
   pub id : IsWide r.id
   pub members : AllByRecursion IsMember r.members

@@ -46,6 +46,7 @@ pub record ShowsImport (layout : Layout) (db : Trees) (frames : List (List ℕ))
   pub imported : IsImported (placed_from 0 frames) held
   pub shown : ShowsMap layout db held
 
+-- This is so wherever the rows of each blob, and the numbers of all rows, were found right.
 abbrev pub AuditedShowsImport : Type 0
 AuditedShowsImport = (layout : Layout) (db : Trees) (frames : List (List ℕ)) → IsAudited layout db frames → ShowsImport layout db frames
 

@@ -28,9 +28,10 @@ abbrev pub IsExact : Depth → HeldMap → List (List ℕ) → Type 0
 IsExact Elements held frames = IsImported (placed_from 0 frames) held
 IsExact Extents held frames = (one : HeldMap) → IsImported (placed_from 0 frames) one → extents_of held ≡ extents_of one
 
+-- Each map that is verified against the frames is exactly that of an import of them.
 abbrev pub VerifiedIsExact : Type 0
 VerifiedIsExact = (depth : Depth) (held : HeldMap) (frames : List (List ℕ)) → IsApart held → IsVerified depth held frames → IsExact depth held frames
 
--- such a map is the one that an import of the frames comes to
+-- a map that is exactly an import of the frames is the one that an import of them comes to
 abbrev pub ExactIsOne : Type 0
 ExactIsOne = (held one : HeldMap) (frames : List (List ℕ)) → IsExact Elements held frames → IsImported (placed_from 0 frames) one → held ≡ one

@@ -202,5 +202,6 @@ block_bytes s es = bytes_field BLOCK_STRINGTABLE (flat_map (bytes_field STRINGTA
     ++ flat_map (λ g. bytes_field BLOCK_PRIMITIVEGROUP (group_bytes s g)) (groups_of es)
     ++ granularity_field BLOCK_GRANULARITY 100 s.granularity ++ granularity_field BLOCK_DATE_GRANULARITY 1000 s.date_granularity
 
+-- The one block that is written for these elements: fields ascend, numbers are shortest, arrays packed, each text stands once.
 unfoldable pub canon : List Element → List ℕ
 canon es = block_bytes (scale_of es) es

@@ -34,10 +34,12 @@ pub record StepOk (es : List Element) (block : List ℕ) (count : ℕ) : Type 0 
 abbrev pub ComesToOne : List Element → Type 0
 ComesToOne es = Halved es (first_count es) 1 × is_too_large es 1
 
+-- Why a cutter gives no block: that of the next element alone is too large, or memory was refused.
 abbrev pub StepErr : List Element → WriteFault → Type 0
 StepErr es BlockTooLarge = ComesToOne es
 StepErr es Memory = Unit {0}
 
+-- What a cutter gives: a block of the next elements, with the others left, or none where no element is left.
 abbrev pub NextOk : {Z : Type 0} → List Element → List Element → Option (Vec ℕ Z) → Type 0
 NextOk es rest None = (es ≡ []) × (rest ≡ [])
 NextOk es rest (Some block) = (count : ℕ) × StepOk es block.items count × (rest ≡ drop count es)

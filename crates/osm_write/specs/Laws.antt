@@ -18,7 +18,7 @@ FewTexts es = length (first_uses (flat_map texts_of es)) < 2 ^ 31 - 1
 abbrev pub ReadsBack : List Element → Type 0
 ReadsBack es = AllByRecursion IsElement es → FewTexts es → length (canon es) < 2 ^ 64 → Block es (canon es)
 
--- and no others
+-- the canonical block says these elements and no others
 abbrev pub IsReadOnly : List Element → Type 0
 IsReadOnly es = (fs : List Element) → AllByRecursion IsElement es → FewTexts es → length (canon es) < 2 ^ 64 → Block fs (canon es) → fs ≡ es
 

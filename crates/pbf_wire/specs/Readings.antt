@@ -22,10 +22,11 @@ first_fault [] = None
 first_fault (Ok x ∷ rest) = first_fault rest
 first_fault (Err fault ∷ rest) = Some fault
 
--- the fields of a message; and why it is no field list
+-- the fields of a message
 abbrev pub fields : List ℕ → List Entry
 fields w = front (items_from 0 w)
 
+-- why the message is no field list, if it isn't
 abbrev pub wire : List ℕ → Option WireFault
 wire w = first_fault (items_from 0 w)
 
@@ -43,10 +44,11 @@ row_within (suc left) at (b ∷ bs) = number_and (placed at (number_at (b ∷ bs
 abbrev pub row : List ℕ → List (Result ℕ WireFault)
 row w = row_within (length w) 0 w
 
--- the numbers of a packed payload; and why it is no packed array
+-- the numbers of a packed payload
 abbrev pub numbers : List ℕ → List ℕ
 numbers w = front (row w)
 
+-- why the payload is no packed array, if it isn't
 abbrev pub packed : List ℕ → Option WireFault
 packed w = first_fault (row w)
 
@@ -55,14 +57,14 @@ packed w = first_fault (row w)
 abbrev pub int64 : ℕ → ℤ
 int64 n = cast_signed w64 n
 
--- the low 32 bits, in two's complement
+-- a number as int32: the low 32 bits, in two's complement
 abbrev pub int32 : ℕ → ℤ
 int32 n = cast_signed w32 (n % 2 ^ 32)
 
 abbrev pub uint32 : ℕ → ℤ
 uint32 n = pos (n % 2 ^ 32)
 
--- 0, -1, 1, -2, 2 and so on
+-- a number as sint64: 0, -1, 1, -2, 2 and so on for 0, 1, 2, 3, 4
 abbrev pub sint64 : ℕ → ℤ
 sint64 n = cond (n % 2 == 0) (pos (n / 2)) (negsuc (n / 2))
 
@@ -89,15 +91,15 @@ numbers_of _ = None
 abbrev pub fitting : {A : Type 0} → (Content → Option A) → ℕ → List Entry → List A
 fitting read k fs = filter_map (λ f. cond (f.number == k) (read f.content) None) fs
 
--- the last one counts
+-- the last occurrence of a scalar counts
 abbrev pub last : List Entry → ℕ → Option ℕ
 last fs k = last_or None (fitting number_of k fs)
 
--- all payloads, in order
+-- all payloads of a field, in order
 abbrev pub each : List Entry → ℕ → List (List ℕ)
 each fs k = fitting bytes_of k fs
 
--- of a text or a payload, too
+-- the last occurrence of a text or a payload counts
 abbrev pub last_bytes : List Entry → ℕ → Option (List ℕ)
 last_bytes fs k = last_or None (each fs k)
 
@@ -109,6 +111,7 @@ nums fs k = flat_map (λ ns. ns) (fitting numbers_of k fs)
 abbrev pub sub : List Entry → ℕ → List Entry
 sub fs k = flat_map fields (each fs k)
 
+-- whether a list has an item
 abbrev pub is_there : {A : Type 0} → List A → Bool
 is_there [] = false
 is_there (x ∷ xs) = true

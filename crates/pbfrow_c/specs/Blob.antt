@@ -20,6 +20,7 @@ use Rattle.pbfrow_c.specs.declared.blob.Payload.{Payload}
 use Rattle.pbfrow_c.specs.declared.blob.Place.{Place}
 use Rattle.pbfrow_c.specs.declared.blob.TheConstants.{NO_PAYLOAD}
 
+-- the number that is told of a blob's kind
 abbrev pub number_of_kind : Kind → ℕ
 number_of_kind OsmHeader = 0
 number_of_kind OsmData = 1
@@ -72,6 +73,7 @@ abbrev pub status_of_frame : ℕ → Result Found FrameFault → ℕ
 status_of_frame offset (Ok f) = status_of (finding_at offset f.kind f.blob)
 status_of_frame offset (Err fault) = number_of fault
 
+-- What is answered of the blob whose frame begins w at this offset of a file: the number of the first fault that applies, or 0.
 abbrev pub status_at : ℕ → List ℕ → ℕ
 status_at offset w = status_of_frame offset (frame_from offset w)
 

@@ -23,11 +23,13 @@ pub record IsReading (w : List ℕ) (r : Reading) : Type 0 where
 abbrev pub Refused : List ℕ → ℕ → Type 0
 Refused w n = (n ≡ 65) ⊎ ((f : BlockFault) × (fault w ≡ Some f) × (n ≡ number_of f))
 
+-- The block says some elements, of which these are the counts; or nothing is written.
 abbrev pub CountsAnswer : List ℕ → Counts → Counts → ℕ → Type 0
 CountsAnswer w old new n =
     ((n ≡ 0) × ((es : List Element) × (texts : List Text) × Block es w × AreCounts new es texts))
     ⊎ (Refused w n × (new ≡ old))
 
+-- The block says some elements, and these are their counts and columns; an array is too short, 72, and none has changed; or nothing is written.
 abbrev pub ColumnsAnswer : List ℕ → Counts → Counts → Columns → Columns → ℕ → Type 0
 ColumnsAnswer w counts counted old new n =
     ((n ≡ 0) × ((es : List Element) × (texts : List Text) × Block es w × AreCounts counted es texts × HoldsColumns es texts old new))

@@ -59,7 +59,7 @@ Merges is_open holds maps held counts (Err stop) =
 abbrev pub total_of : List CopyCounts → CopyCounts
 total_of counts = record { copied = capped (sum_by (λ c. c.copied) counts); held = capped (sum_by (λ c. c.held) counts) }
 
--- those that are told at the end
+-- the counts that are told at the end are the sums
 abbrev pub IsTotal : List CopyCounts → Result CopyCounts MergeStop → Type 0
 IsTotal counts (Ok total) = total ≡ total_of counts
 IsTotal counts (Err stop) = Unit {0}
@@ -79,7 +79,7 @@ abbrev pub store_lines : List CopyCounts → Result CopyCounts MergeStop → Lis
 store_lines counts (Ok total) = flat_map copied_line counts
 store_lines counts (Err stop) = flat_map copied_line counts ++ end_line stop
 
--- the same, and behind them that of all together
+-- a line for each copied store, and behind them that of all together
 abbrev pub merge_text : List CopyCounts → Result CopyCounts MergeStop → List ℕ
 merge_text counts (Ok total) = flat_map copied_line counts ++ total_line total
 merge_text counts (Err stop) = flat_map copied_line counts ++ end_line stop

@@ -36,6 +36,7 @@ pub record IsSurvey (held : HeldMap) (size : Option ℕ) (h : Holdings) : Type 0
 abbrev pub status_text : HeldMap → List (ℕ × ℕ) → List ℕ
 status_text held gaps = gap_lines gaps ++ counts_line (length (entries held)) (greatest_end (extents_of held)) (length gaps)
 
+-- the gaps and the counts of this map went out; or the line of a fault of the store, with its cause
 abbrev pub TellsStatus : HeldMap → Option ℕ → ℕ → ℕ → Known → Known → Bool → ℕ → Type 0
 TellsStatus held size failures_old failures_new old new failed status =
     ((gaps : List (ℕ × ℕ)) × AreGaps held (size_of size (extents_of held)) gaps × Tells (status_text held gaps) old new failed status)

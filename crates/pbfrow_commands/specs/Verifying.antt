@@ -193,8 +193,8 @@ pub record ComparesBlobs (depth : Depth) (held : HeldMap) (left written_old writ
   pub closed : HasClosed held (length (joined blobs)) behind sink_failed before now close
   pub lines : Wrote written_old (lines_from compared_lines 0 blobs) written_new sink_failed
 
--- What `verify` has done: the same, and behind the lines of the blobs stands what ended them, the extents behind and the
--- counts. The exit status is 0 exactly where the whole input was compared, it agrees, and the output hasn't failed.
+-- What `verify` has told: the lines of the blobs, what ended them, the extents behind and the counts. The exit status is 0
+-- exactly where the whole input was compared, it agrees, and the output hasn't failed.
 pub record VerifiesInput (depth : Depth) (held : HeldMap) (left written_old written_new : Known) (sink_failed : Bool) (before now : ℕ) (status : ℕ) : Type 0 where
   pub blobs : List (Part Compared)
   pub close : Close

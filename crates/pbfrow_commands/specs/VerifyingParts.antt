@@ -65,6 +65,7 @@ pub record TellsVerdict (depth : Depth) (known : Known) (maps : List HeldMap) (o
   pub agrees : IsTrue agreed ↔ IsClean verdict
   pub status_is : status ≡ status_of agreed failed
 
+-- what `verify` of several stores has told: the verdict on their maps, or the line of a fault that the maps bear out
 abbrev pub VerifiesParts : Depth → Known → List HeldMap → ℕ → ℕ → Known → Known → Bool → ℕ → Type 0
 VerifiesParts depth known maps failures_old failures_new old new failed status =
     TellsAuditFault maps failures_old failures_new old new failed status ⊎ TellsVerdict depth known maps old new failed status

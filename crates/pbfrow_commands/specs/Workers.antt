@@ -85,6 +85,7 @@ PlanTiles = (count : ℕ) (file : List ℕ) (plan : List Range) → Cuts count f
 abbrev pub FileGives : Type 0
 FileGives = (file : List ℕ) (from to place dropped : ℕ) → place + dropped ≡ from → GivesRange file from to dropped (Some (drop place file))
 
+-- The bytes of a range alone give a worker the range.
 abbrev pub PieceGives : Type 0
 PieceGives = (file : List ℕ) (from to : ℕ) → GivesRange file from to 0 (Some (bytes_between from to file))
 

@@ -8,7 +8,7 @@ use Rattle.sqlite_disk.specs.Events.{settled, replay}
 use Rattle.pbfrow_files.specs.declared.read_only.ReadOnly.{ReadOnly}
 
 module _ {S : Type 0} {g : calls.Ghosts ReadOnly} where
-  -- its member `is_usable`
+  -- its calls so far leave it usable
   abbrev pub file_is_usable : (start : Ghosts S) → Modelled ReadOnly S g start → Bool
   file_is_usable start f = (replay (start_of start f) f.calls.log.events).is_usable
 

@@ -7,6 +7,7 @@ use Rattle.osm_reading.specs.Lines.{plain_fault_line, fault_line}
 use Rattle.osm_reading.specs.StopFaults.{stop_number_of, stop_name_of}
 use Rattle.osm_reading.specs.declared.stream.fault.Stop.{Stop}
 
+-- a fault of a whole store
 abbrev pub store_fault_line : StoreFault → List ℕ
 store_fault_line fault = plain_fault_line (number_of fault) (name_of fault)
 

@@ -33,5 +33,6 @@ done_text p = megabytes p.bytes ++ size_text p.size
 abbrev pub speed_text : Progress → List ℕ
 speed_text p = codes ", " ++ decimal p.blobs ++ codes " blobs, " ++ megabytes (rate_of p.bytes p.milliseconds) ++ codes "/s"
 
+-- the progress line: how far the work has come, how fast it goes and how long it may still take
 abbrev pub progress_line : Progress → List ℕ
 progress_line p = done_text p ++ speed_text p ++ left_text p.bytes p.milliseconds p.size

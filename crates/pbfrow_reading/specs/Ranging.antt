@@ -14,6 +14,7 @@ use Rattle.pbfrow_reading.specs.declared.input.Ending.TheVariants.{Whole, Early,
 abbrev pub range_line : Range → List ℕ
 range_line range = decimal range.from ++ codes " " ++ decimal range.to ++ codes "\n"
 
+-- a line `FROM TO` for each range
 abbrev pub range_lines : List Range → List ℕ
 range_lines ranges = flat_map range_line ranges
 

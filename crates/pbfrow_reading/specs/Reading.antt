@@ -26,5 +26,6 @@ listing_within (suc left) at w =
 unfoldable pub listing_from : ℕ → List ℕ → Listing
 listing_from at w = listing_within (length w - at) at w
 
+-- the plain reading of what `list` writes of the bytes, frame after frame
 abbrev pub listing : List ℕ → Listing
 listing w = listing_from 0 w

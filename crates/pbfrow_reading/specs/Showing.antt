@@ -81,7 +81,7 @@ pub record ShowsBlobs (left written_old written_new : Known) (sink_failed : Bool
   pub next : IsBegun (length (joined blobs)) walked.behind ending begun
   pub lines : Wrote written_old (lines_from shown_lines 0 blobs ++ begun_line (length (joined blobs)) begun) written_new sink_failed
 
--- What `show` has done: the same, and the line of what ended the frames early.
+-- What `show` has done: each blob with the lines of its header, its elements or its fault, and the line of what ended the frames early.
 pub record ShowsInput (left written_old written_new : Known) (sink_failed : Bool) (status : ℕ) : Type 0 where
   pub blobs : List Judged
   pub begun : Option Plain

@@ -35,6 +35,7 @@ abbrev pub id_at : List ℕ → Option ℤ
 id_at [] = None
 id_at (c ∷ cs) = if c == 45 then option_map (λ n. neg_ℤ (pos n)) (magnitude_at cs) else option_map pos (magnitude_at (c ∷ cs))
 
+-- The plain reading of ELEMENT: a letter for the kind, and then the id.
 abbrev pub element_at : List ℕ → Option (MemberKind × ℤ)
 element_at [] = None
 element_at (letter ∷ number) = option_and_then (λ kind. option_map (λ id. (kind, id)) (id_at number)) (kind_at letter)

@@ -24,7 +24,7 @@ merge_command = with_rule (with_rule (new_app (codes "merge"))
 abbrev pub with_filling_commands : App → App
 with_filling_commands program = with_subcommand (with_subcommand (with_subcommand program import_command.top) migrate_command.top) merge_command.top
 
--- how many bytes before it are read and dropped
+-- how many bytes before the import's start are read and dropped
 abbrev pub drops : Start → ℕ
 drops (Skip n) = n
 drops (At n) = 0
@@ -34,7 +34,7 @@ abbrev pub IsSkipped : ℕ → Option Text → Type 0
 IsSkipped n None = n ≡ 0
 IsSkipped n (Some text) = IsNumber (Some n) (Some text)
 
--- the offset in the file at which it begins
+-- the offset in the file at which an import begins
 abbrev pub begins_at : Start → ℕ
 begins_at (Skip n) = n
 begins_at (At n) = n

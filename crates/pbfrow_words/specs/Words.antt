@@ -16,6 +16,7 @@ plain_program = record (new_app (codes "pbfrow")) {
   top = record (new_app (codes "pbfrow")).top { has_version = true; subcommand_required = true };
 }
 
+-- the program's commands and their arguments, in the words of `clap`'s model of a command line
 abbrev pub program : App
 program = with_asking_commands (with_verify (with_filling_commands (with_ranges (with_reading_commands plain_program))))
 

@@ -63,5 +63,6 @@ with_tag = record { tables = meta ∷ blob ∷ element ∷ tag ∷ []; indexes =
 abbrev pub with_link : Schema
 with_link = record { tables = meta ∷ blob ∷ element ∷ tag ∷ link ∷ []; indexes = element_key ∷ tag_key ∷ link_key ∷ []; views = [] }
 
+-- the tables and indexes of the layout of tables, as `sqlite` sees them
 abbrev pub table_schema : Schema
 table_schema = record { tables = meta ∷ blob ∷ element ∷ tag ∷ link ∷ []; indexes = element_key ∷ tag_key ∷ link_key ∷ element_by_id ∷ []; views = [] }
