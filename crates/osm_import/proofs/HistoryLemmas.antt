@@ -62,7 +62,7 @@ history-adds held (e ∷ es) after history off blob stores = elim stores [
   | inr later ↦ history-adds history.0 es after history.2 off blob later
 ]
 
-history-of_file : (frames : List (List ℕ)) (held : HeldMap) (es : List Event) (after : HeldMap) → IsHistory held es after → OfDeliveries (λ (d : DeliveryValue). IsFrameAt frames d.off d.bytes) es → IsHeldOfFile frames held → IsHeldOfFile frames after
+pub history-of_file : (frames : List (List ℕ)) (held : HeldMap) (es : List Event) (after : HeldMap) → IsHistory held es after → OfDeliveries (λ (d : DeliveryValue). IsFrameAt frames d.off d.bytes) es → IsHeldOfFile frames held → IsHeldOfFile frames after
 history-of_file frames held [] after history stands of_file = subst (λ (m : HeldMap). IsHeldOfFile frames m) (sym history) of_file
 history-of_file frames held (e ∷ es) after history stands of_file = history-of_file frames history.0 es after history.2 stands.1 (event-of_file frames held e history.0 history.1 stands.0 of_file)
 

@@ -23,6 +23,7 @@ pub mod StreamLists
 pub mod StreamTakes
 pub mod StreamLemmas
 pub mod StreamFiles
+pub mod StreamHistory
 pub mod CopyLemmas
 pub mod CopiesLemmas
 pub mod MergeLemmas

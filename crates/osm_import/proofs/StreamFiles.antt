@@ -43,7 +43,7 @@ stream-file limit file input output Took summary is end = record {
 
 -- ---- and its frames were delivered at their offsets
 
-of-file : (frames : List (List ℕ)) (off : ℕ) (rs : List Reply) → ((o : ℕ) (w : List ℕ) → StandsAt off (frames_of rs) o w → IsFrameAt frames o w) → AreOfFile frames (deliveries_at off rs)
+pub of-file : (frames : List (List ℕ)) (off : ℕ) (rs : List Reply) → ((o : ℕ) (w : List ℕ) → StandsAt off (frames_of rs) o w → IsFrameAt frames o w) → AreOfFile frames (deliveries_at off rs)
 of-file frames off [] stands = tt
 of-file frames off (r ∷ rs) stands = (stands off r.0 (inl (refl, refl)), of-file frames (off + length r.0) rs (λ o w later. stands o w (inr later)))
 

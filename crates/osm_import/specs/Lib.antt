@@ -4,6 +4,7 @@ pub mod Exports
 pub mod Files
 pub mod Gaps
 pub mod Histories
+pub mod FileHistories
 pub mod Runs
 pub mod Step
 pub mod Faults
