@@ -1,11 +1,17 @@
--- Copies of blobs in turn.
-use Rattle.std.proofs.Common.{◌≡◌, ℕ, ◌+◌, Bool, true, false, List, [], ◌∷◌, ◌++◌, length, cond, Ok, refl, sym, subst, arith, length-append}
+-- Copies of blobs in turn, and what the store that takes them held before.
+use Rattle.std.proofs.Common.{◌≡◌, ◌⊎◌, ℕ, ◌+◌, ◌<◌, Bool, true, false, List, [], ◌∷◌, ◌++◌, length, cond, Result, Ok, Err, refl, sym, ◌∙◌, ap, subst, inl, inr, arith, length-append}
+use Rattle.std.specs.Prelude.{◌↔◌, IsErr, IsTrue}
+use Rattle.std.specs.FinMap.{get, insert}
 use Rattle.std.specs.List.{count_by}
 use Rattle.std.proofs.lemmas.List.Sums.{sum_by-append, sum_by-cons}
+use Rattle.std.proofs.lemmas.Bool.Decides.{eqb_tells}
+use Rattle.osm_store.specs.Held.{Blob, HeldMap, HaveFewTexts, IsApart, IsFree}
+use Rattle.osm_value.specs.declared.element.Element.{Element}
+use Rattle.osm_store.specs.HeldLaws.{get-insert_other, IsFree-unheld}
 use Rattle.osm_store.specs.declared.keeper.Reader.{Ghosts}
 use Rattle.osm_store.specs.declared.keeper.Extent.{Extent}
 use Rattle.osm_import.specs.Copies.{BlobCopied, AreCounted, is_added, is_met}
-use Rattle.osm_import.specs.Stores.{CopiesOne, CopiesEach}
+use Rattle.osm_import.specs.Stores.{CopiesOne, CopiesEach, HoldsStill, Keeps, KeepsHeld}
 use Rattle.osm_import.specs.declared.copy.BlobCopy.{BlobCopy}
 use Rattle.osm_import.specs.declared.copy.BlobCopy.TheVariants.{Added, AlreadyHeld}
 use Rattle.osm_import.proofs.CopyLemmas.{already}
@@ -53,3 +59,47 @@ copies-same from to self joined first last old new (c ∷ copies) all honest up 
     let both : count_by is_added (c ∷ copies) ≡ one_if is_added c + count_by is_added copies = sum_by-cons (one_if is_added) c copies in
     joined old all.1 new (all.2.same (copies-honest from to all.0 last all.1 new copies all.3 honest) (copies-open from to all.0 last all.1 new copies all.3 up) (none-added (is_added c) (omega arith)))
     (copies-same from to self joined all.0 last all.1 new copies all.3 honest up (omega arith))
+
+-- ---- what was held
+
+pub keeps-same : (held : HeldMap) → Keeps held held
+keeps-same held off blob is = is
+
+pub keeps-then : (held middle after : HeldMap) → Keeps held middle → Keeps middle after → Keeps held after
+keeps-then held middle after one two off blob is = two off blob (one off blob is)
+
+-- one more blob at a free place
+pub keeps-free : (held : HeldMap) (off : ℕ) (blob : Blob) → IsApart held → off < blob.fin → IsFree held off blob.fin → Keeps held (insert held off blob)
+keeps-free held off blob apart order free at other is = elim (eqb_tells at off) [
+  | inl (_, here) ↦ absurd (IsFree-unheld held off blob.fin apart free order other (sym (ap (get held) here) ∙ is))
+  | inr (_, other_place) ↦ get-insert_other held off blob at other_place ∙ is
+]
+
+-- a store that holds what it held, or does where it can go on; and a crash leaves no other map than before
+pub kept-still : {S A E : Type 0} (store : Ghosts S) (new : S) (result : Result A E) (held : HeldMap) → store.holds new held → ((left : HeldMap) → store.leaves new left → left ≡ held) → KeepsHeld store new result held
+kept-still store new (Ok answer) held holds same = record { ok = (held, keeps-same held, holds); err = tt; crash = λ left leaves. subst (Keeps held) (sym (same left leaves)) (keeps-same held) }
+kept-still store new (Err fault) held holds same = record { ok = tt; err = λ up. (held, keeps-same held, holds); crash = λ left leaves. subst (Keeps held) (sym (same left leaves)) (keeps-same held) }
+
+pub kept-failed : {S A E : Type 0} (store : Ghosts S) (new : S) (result : Result A E) (held : HeldMap) → IsErr result → (store.is_open new → store.holds new held)
+    → ((left : HeldMap) → store.leaves new left → left ≡ held) → KeepsHeld store new result held
+kept-failed store new (Ok answer) held failed holds same = absurd cc
+kept-failed store new (Err fault) held failed holds same =
+    record { ok = tt; err = λ up. (held, keeps-same held, holds up); crash = λ left leaves. subst (Keeps held) (sym (same left leaves)) (keeps-same held) }
+
+-- a crash leaves the old map, or that with one more blob at a free place
+pub crash-keeps : (held left : HeldMap) (off : ℕ) (blob : Blob) → IsApart held → off < blob.fin → IsFree held off blob.fin → (left ≡ held) ⊎ (left ≡ insert held off blob) → Keeps held left
+crash-keeps held left off blob apart order free either = elim either [
+  | inl same ↦ subst (Keeps held) (sym same) (keeps-same held)
+  | inr more ↦ subst (Keeps held) (sym more) (keeps-free held off blob apart order free)
+]
+
+-- whatever it answered, where it can go on
+pub held-still : {S A E : Type 0} (store : Ghosts S) (new : S) (result : Result A E) (held : HeldMap) → KeepsHeld store new result held → store.is_open new → HoldsStill store new held
+held-still store new (Ok answer) held kept up = kept.ok
+held-still store new (Err fault) held kept up = kept.err up
+
+-- what is read of a map passes the test of its texts
+pub never-many : (read : List Element) (few : Bool) (elements : List Element) → read ≡ elements → HaveFewTexts elements → IsTrue few ↔ HaveFewTexts read → few ≡ false → ⊥
+never-many read few elements same has tells is =
+    let yes : few ≡ true = tells.1 (subst HaveFewTexts (sym same) has) in
+    let bad : true ≡ false = sym yes ∙ is in cc

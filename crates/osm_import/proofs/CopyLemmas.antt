@@ -15,7 +15,7 @@ use Rattle.osm_faults.specs.declared.fault.StoreFault.{StoreFault}
 use Rattle.osm_import.specs.Step.{HasCause}
 use Rattle.osm_import.specs.declared.answer.Conflict.TheVariants.{Differs, Overlap}
 use Rattle.osm_import.specs.declared.copy.CopyFault.{CopyFault}
-use Rattle.osm_import.specs.declared.copy.CopyFault.TheVariants.{Refused, Miscounted, Store}
+use Rattle.osm_import.specs.declared.copy.CopyFault.TheVariants.{Refused, Spoiled, Store}
 use Rattle.osm_import.specs.declared.copy.CopyStop.{CopyStop}
 use Rattle.osm_import.specs.declared.copy.CopyCounts.{CopyCounts}
 use Rattle.osm_import.specs.declared.copy.BlobCopy.{BlobCopy}
@@ -261,13 +261,13 @@ stops_at is_open holds source held middle o blob (Refused Overlap) m of (after, 
   (blob, of, ap (λ (h : HeldMap). get h o) step.2 ∙ step.0, subst (λ (h : HeldMap). IsMet h o blob.fin) (sym step.2) step.1),
   holds_after,
 )
-stops_at is_open holds source held middle o blob Miscounted m of (after, step, holds_after) = step
+stops_at is_open holds source held middle o blob Spoiled m of (after, step, holds_after) = step
 stops_at is_open holds source held middle o blob (Store fault) m of still = (middle, m, still)
 
 -- why a fault is answered, over more calls
 pub cause_wider : (f0 f1 f2 t0 t1 t2 : ℕ) (fault : CopyFault) → f0 ≤ f1 → t0 ≤ t1 → FaultIsCaused f1 f2 t1 t2 fault → FaultIsCaused f0 f2 t0 t2 fault
 cause_wider f0 f1 f2 t0 t1 t2 (Refused conflict) f t cause = tt
-cause_wider f0 f1 f2 t0 t1 t2 Miscounted f t cause = tt
+cause_wider f0 f1 f2 t0 t1 t2 Spoiled f t cause = tt
 cause_wider f0 f1 f2 t0 t1 t2 (Store fault) f t cause = elim cause [
   | inl from ↦ inl (wider f0 f1 f2 fault f from)
   | inr to ↦ inr (wider t0 t1 t2 fault t to)
@@ -279,7 +279,7 @@ cause_wider f0 f1 f2 t0 t1 t2 (Store fault) f t cause = elim cause [
 -- no call had failed before
 pub tells_on : (f0 f1 f2 t0 t1 t2 : ℕ) (fault : CopyFault) → f1 ≡ f0 → t1 ≡ t0 → FaultTells f1 f2 t1 t2 fault → FaultTells f0 f2 t0 t2 fault
 tells_on f0 f1 f2 t0 t1 t2 (Refused conflict) f t told = (told.0 ∙ f, told.1 ∙ t)
-tells_on f0 f1 f2 t0 t1 t2 Miscounted f t told = (told.0 ∙ f, told.1 ∙ t)
+tells_on f0 f1 f2 t0 t1 t2 Spoiled f t told = (told.0 ∙ f, told.1 ∙ t)
 tells_on f0 f1 f2 t0 t1 t2 (Store fault) f t told = tt
 
 -- ---- the counts

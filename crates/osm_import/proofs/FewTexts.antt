@@ -21,19 +21,19 @@ use Rattle.osm_store.specs.Held.{HaveFewTexts}
 
 -- ---- first uses are apart, and are among what is used
 
-same_text : (t u : Text) → bytes_eq t u ≡ true → t ≡ u
+pub same_text : (t u : Text) → bytes_eq t u ≡ true → t ≡ u
 same_text t u e = (bytes_eq-Decides t u).0 e
 
 text_itself : (t : Text) → bytes_eq t t ≡ true
 text_itself t = (bytes_eq-Decides t t).1 refl
 
-bytes_flip : (t u : Text) (b c : Bool) → bytes_eq t u ≡ b → bytes_eq u t ≡ c → b ≡ c
+pub bytes_flip : (t u : Text) (b c : Bool) → bytes_eq t u ≡ b → bytes_eq u t ≡ c → b ≡ c
 bytes_flip t u true true e f = refl
 bytes_flip t u false false e f = refl
 bytes_flip t u true false e f = let g : bytes_eq u t ≡ true = subst (λ (v : Text). bytes_eq v t ≡ true) (same_text t u e) (text_itself t) in absurd (let bad : true ≡ false = sym g ∙ f in cc)
 bytes_flip t u false true e f = let g : bytes_eq t u ≡ true = subst (λ (v : Text). bytes_eq v u ≡ true) (same_text u t f) (text_itself u) in absurd (let bad : true ≡ false = sym g ∙ e in cc)
 
-texts_equivalence : IsEquivalence bytes_eq
+pub texts_equivalence : IsEquivalence bytes_eq
 texts_equivalence = record {
   refl = text_itself;
   symm = λ t u. bytes_flip t u (bytes_eq t u) (bytes_eq u t) refl refl;
@@ -96,7 +96,7 @@ others_apart : (t : Text) (us : List Text) → AllByRecursion (λ (u : Text). by
 others_apart t [] = tt
 others_apart t (u ∷ us) = other_one t u (filter (λ (v : Text). not (bytes_eq v t)) us) (others_apart t us) (bytes_eq u t) refl
 
-first_distinct : (ts : List Text) → IsDistinct bytes_eq (first_uses ts)
+pub first_distinct : (ts : List Text) → IsDistinct bytes_eq (first_uses ts)
 unfolding IsDistinct
 first_distinct [] = tt
 first_distinct (t ∷ ts) = (others_apart t (first_uses ts), distinct_kept (λ (u : Text). not (bytes_eq u t)) (first_uses ts) (first_distinct ts))

@@ -3,6 +3,7 @@ pub mod PbfLemmas
 pub mod PbfFile
 pub mod ExportLemmas
 pub mod FewTexts
+pub mod SeenTextsLemmas
 pub mod FilesLemmas
 pub mod GapsLemmas
 pub mod HistoryLemmas

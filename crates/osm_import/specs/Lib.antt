@@ -18,5 +18,6 @@ pub mod Streams
 pub mod StreamSteps
 pub mod Copies
 pub mod CopyFaults
+pub mod SeenTexts
 pub mod Merges
 pub mod TooLarge

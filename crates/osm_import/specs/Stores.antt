@@ -1,10 +1,10 @@
 -- What calls do to a store, in the terms of what is said of one.
-use Rattle.std.specs.Prelude.{◌≡◌, ℕ, ◌≤◌, false, List, [], ◌∷◌, length, Some, Result, Ok, Err, OnOk}
+use Rattle.std.specs.Prelude.{◌≡◌, ℕ, ◌≤◌, false, List, [], ◌∷◌, length, Some, Result, Ok, Err, OnOk, OnErr}
 use Rattle.std.specs.FinMap.{get}
 use Rattle.osm_value.specs.declared.element.Element.{Element}
-use Rattle.osm_store.specs.Held.{Blob, HeldMap}
+use Rattle.osm_store.specs.Held.{Blob, HeldMap, IsFree}
 use Rattle.osm_store.specs.Calls.{OfHeld}
-use Rattle.osm_store.specs.Keeping.{extent_of, IsAddable, with_blob}
+use Rattle.osm_store.specs.Keeping.{extent_of, with_blob}
 use Rattle.osm_store.specs.declared.keeper.Extent.{Extent}
 use Rattle.osm_store.specs.declared.keeper.Reader.{Ghosts}
 use Rattle.osm_import.specs.Copies.{BlobCopied, CopiesBlob, CrashLeavesBlob, BlobHasCause, BlobTells, IsOwnBlob, ComeTo, is_added}
@@ -73,6 +73,21 @@ pub record Rereads {S T E : Type 0} (store : Ghosts S) (old : S) (result : Resul
 
 -- ---- copies of one store into another
 
+-- each blob of the first map is in the second, at its offset
+abbrev pub Keeps : HeldMap → HeldMap → Type 0
+Keeps held after = (off : ℕ) (blob : Blob) → get held off ≡ Some blob → get after off ≡ Some blob
+
+-- the store holds a map that keeps this one
+abbrev pub HoldsStill : {S : Type 0} → Ghosts S → S → HeldMap → Type 0
+HoldsStill store new held = (after : HeldMap) × Keeps held after × store.holds new after
+
+-- What a store held stays, whatever came to it: at Ok, and after a fault where it can go on, it holds a map that keeps that,
+-- and so is each map that a crash leaves.
+pub record KeepsHeld {S T E : Type 0} (store : Ghosts S) (new : S) (result : Result T E) (held : HeldMap) : Type 0 where
+  pub ok : OnOk result (HoldsStill store new held)
+  pub err : OnErr result (store.is_open new → HoldsStill store new held)
+  pub crash : (left : HeldMap) → store.leaves new left → Keeps held left
+
 -- said of the map that a store holds and of the blob at an extent, which another store holds, where both have given what was written
 abbrev pub WhereHeld : {F T : Type 0} → Ghosts F → Ghosts T → F → F → T → T → Extent → (HeldMap → Blob → Type 0) → Type 0
 WhereHeld from to first last old new extent P =
@@ -83,20 +98,22 @@ WhereHeld from to first last old new extent P =
 abbrev pub blob_of : Extent → List Element → Blob
 blob_of extent elements = record { fin = extent.fin; digest = extent.digest; kind = extent.kind; elements = elements }
 
--- what is added, whatever rows the store that is read has: the blob of the extent with as many elements as that says
+-- What is added, whatever rows the store that is read has: the blob of the extent with as many elements as that says, at a
+-- place that was free.
 abbrev pub AddsComplete : {T : Type 0} → Ghosts T → T → T → BlobCopied → Type 0
 AddsComplete to old new (extent, Ok Added) = (elements : List Element) × (length elements ≡ extent.n)
-    × ((held : HeldMap) → to.holds old held → to.is_honest new → IsAddable held extent.off (blob_of extent elements) → to.holds new (with_blob held extent.off (blob_of extent elements)))
+    × OfHeld to old new (λ held. IsFree held extent.off extent.fin × to.holds new (with_blob held extent.off (blob_of extent elements)))
 AddsComplete to old new (extent, Ok AlreadyHeld) = Unit {0}
 AddsComplete to old new (extent, Err fault) = Unit {0}
 
--- What the copy of one blob has done, to the store that is read and to the one that it goes into. Where it isn't added, the
--- tables of the other are as they were, whatever rows they have.
+-- What the copy of one blob has done, to the store that is read and to the one that it goes into. What the other held stays,
+-- whatever rows the first has. Where the blob isn't added, the tables of the other are as they were, whatever rows they have.
 pub record CopiesOne {F T : Type 0} (from : Ghosts F) (to : Ghosts T) (first last : F) (old new : T) (copy : BlobCopied) : Type 0 where
   pub step : WhereHeld from to first last old new copy.0 (λ held blob. CopiesBlob (to.is_open new) (to.holds new) held copy.0.off blob copy.1)
   pub crash : WhereHeld from to first last old new copy.0 (λ held blob. CrashLeavesBlob (to.leaves new) held copy.0.off blob)
-  pub whole : WhereHeld from to first last old new copy.0 (λ held blob. to.leaves_a_map new)
-  pub alone : WhereHeld from to first last old new copy.0 (λ held blob. to.is_alone old → to.is_alone new)
+  pub kept : OfHeld to old new (λ held. KeepsHeld to new copy.1 held)
+  pub whole : OfHeld to old new (λ _. to.leaves_a_map new)
+  pub alone : OfHeld to old new (λ _. to.is_alone old → to.is_alone new)
   pub own : WhereHeld from to first last old new copy.0 (λ held blob. IsOwnBlob copy.1)
   pub source : Rereads from first copy.1 last
   pub cause : BlobHasCause (from.failures first) (from.failures last) (to.failures old) (to.failures new) copy.1

@@ -2,16 +2,18 @@
 
 ghost use Rattle.std.specs.Prelude.{◌≡◌, ◌⊎◌, ◌<◌, ◌≤◌, ◌^◌, ℕ, false, List, Some, All, IfOk, IfErr};
 ghost use Rattle.std.specs.FinMap.{get};
+ghost use Rattle.osm_store.specs.Calls.{OfHeld};
 ghost use Rattle.osm_store.specs.Held.{Blob, HeldMap};
 ghost use Rattle.osm_store.specs.Keeping.{IsRange, extent_of, extents_of};
 ghost use Rattle.osm_import.specs.Copies.{BlobCopied, CopiesBlob, Copies, CrashLeavesBlob, CrashLeavesSome, BlobHasCause, CopyHasCause, BlobTells, CopyTells, IsOwnBlob, IsOwnCopy, ComeTo, is_added};
 ghost use Rattle.osm_faults.specs.declared.fault.StoreFault.TheVariants.{Memory};
 ghost use Rattle.osm_import.specs.declared.copy.CopyFault.TheVariants.{Store};
 ghost use Rattle.osm_import.specs.CopyFaults.{copy_number_of, copy_name_of};
-ghost use Rattle.osm_import.specs.Stores.{AddsComplete, CopiesEach, CopiesInTurn, Rereads};
+ghost use Rattle.osm_import.specs.Stores.{AddsComplete, CopiesEach, CopiesInTurn, KeepsHeld, Rereads};
 
 use crate::answer::Conflict;
 use crate::delivery::extent_at;
+use crate::few_texts::have_few_texts;
 use osm_store::{Extent, Keeper, Reader, StoreFault};
 use std::alloc::{AllocError, Global};
 use thiserror::Error;
@@ -22,9 +24,10 @@ pub enum CopyFault {
     /// What the other store holds is in the blob's way.
     #[error("{0}")]
     Refused(Conflict),
-    /// The first store has other than as many elements of the blob as its row says. Nothing of it is copied.
+    /// The first store's rows aren't those of the blob that was put there: there are other than as many elements of it as
+    /// its row says, or one uses more texts than any that a store is given. Nothing of it is copied.
     #[error("the rows aren't those of the blob that was put there")]
-    Miscounted,
+    Spoiled,
     /// A call of either store has failed, or memory was refused.
     #[error("{0}")]
     Store(StoreFault),
@@ -37,7 +40,7 @@ impl CopyFault {
     {
         match self {
             CopyFault::Refused(conflict) => conflict.number(),
-            CopyFault::Miscounted => 66,
+            CopyFault::Spoiled => 66,
             CopyFault::Store(fault) => fault.number(),
         }
     }
@@ -48,7 +51,7 @@ impl CopyFault {
     {
         match self {
             CopyFault::Refused(conflict) => conflict.name(),
-            CopyFault::Miscounted => "NotThisStore",
+            CopyFault::Spoiled => "NotThisStore",
             CopyFault::Store(fault) => fault.name(),
         }
     }
@@ -96,7 +99,7 @@ pub enum BlobCopy {
 
 /// Copies the blob at an extent of the first store, unless the other holds its offset with its digest. The digest comes
 /// first, so that a blob that is held costs no reading of its rows. A blob that is added has as many elements as the
-/// extent says.
+/// extent says, and each uses as few texts as `put` asks for.
 fn copy_blob<F: Reader, T: Keeper>(
     alloc: Global,
     from: &mut F,
@@ -108,10 +111,9 @@ fn copy_blob<F: Reader, T: Keeper>(
         → get source extent.now.off ≡ Some blob → extent.now ≡ extent_of (extent.now.off, blob) → CopiesBlob (T.is_open to.new) (T.holds to.new) held extent.now.off blob result }
     ensures crash { (source held : HeldMap) (blob : Blob) → F.holds from.old source → F.is_honest from.new → T.holds to.old held → T.is_honest to.new
         → get source extent.now.off ≡ Some blob → extent.now ≡ extent_of (extent.now.off, blob) → CrashLeavesBlob (T.leaves to.new) held extent.now.off blob }
-    ensures whole { (source held : HeldMap) (blob : Blob) → F.holds from.old source → F.is_honest from.new → T.holds to.old held → T.is_honest to.new
-        → get source extent.now.off ≡ Some blob → extent.now ≡ extent_of (extent.now.off, blob) → T.leaves_a_map to.new }
-    ensures alone { (source held : HeldMap) (blob : Blob) → F.holds from.old source → F.is_honest from.new → T.holds to.old held → T.is_honest to.new
-        → get source extent.now.off ≡ Some blob → extent.now ≡ extent_of (extent.now.off, blob) → T.is_alone to.old → T.is_alone to.new }
+    ensures kept { OfHeld T.Reader to.old to.new (λ held. KeepsHeld T.Reader to.new result held) }
+    ensures whole { OfHeld T.Reader to.old to.new (λ _. T.leaves_a_map to.new) }
+    ensures alone { OfHeld T.Reader to.old to.new (λ _. T.is_alone to.old → T.is_alone to.new) }
     ensures own { (source held : HeldMap) (blob : Blob) → F.holds from.old source → F.is_honest from.new → T.holds to.old held → T.is_honest to.new
         → get source extent.now.off ≡ Some blob → extent.now ≡ extent_of (extent.now.off, blob) → IsOwnBlob result }
     ensures source { Rereads F.Reader from.old result from.new }
@@ -136,7 +138,11 @@ fn copy_blob<F: Reader, T: Keeper>(
     let loaded = from.load(alloc, extent.off)?;
     let elements = loaded.elements(alloc)?;
     if elements.len() as u64 != extent.n {
-        return Err(CopyFault::Miscounted);
+        return Err(CopyFault::Spoiled);
+    }
+    let few = have_few_texts(alloc, &elements)?;
+    if !few {
+        return Err(CopyFault::Spoiled);
     }
     match to.put(
         alloc,
@@ -163,9 +169,9 @@ fn copy_blobs<F: Reader, T: Keeper>(
         → Copies (T.is_open to.new) (T.holds to.new) source held result }
     ensures crash { (source held : HeldMap) → F.holds from.old source → F.is_honest from.new → T.holds to.old held → T.is_honest to.new → extents.now ≡ extents_of source
         → CrashLeavesSome (T.leaves to.new) source held result }
-    ensures whole { (source held : HeldMap) → F.holds from.old source → F.is_honest from.new → T.holds to.old held → T.is_honest to.new → extents.now ≡ extents_of source → T.leaves_a_map to.new }
-    ensures alone { (source held : HeldMap) → F.holds from.old source → F.is_honest from.new → T.holds to.old held → T.is_honest to.new → extents.now ≡ extents_of source
-        → T.is_alone to.old → T.is_alone to.new }
+    ensures kept { OfHeld T.Reader to.old to.new (λ held. KeepsHeld T.Reader to.new result held) }
+    ensures whole { OfHeld T.Reader to.old to.new (λ _. T.leaves_a_map to.new) }
+    ensures alone { OfHeld T.Reader to.old to.new (λ _. T.is_alone to.old → T.is_alone to.new) }
     ensures own { (source held : HeldMap) → F.holds from.old source → F.is_honest from.new → T.holds to.old held → T.is_honest to.new → extents.now ≡ extents_of source → IsOwnCopy result }
     ensures reached { (source : HeldMap) → extents.now ≡ extents_of source → IfErr result (λ stop. (blob : Blob) × (get source stop.off ≡ Some blob)) }
     ensures source { Rereads F.Reader from.old result from.new }
@@ -204,10 +210,11 @@ fn copy_blobs<F: Reader, T: Keeper>(
 /// At `Ok` the other store holds what it held and, at each offset that was free, the blob of the first. Else it stopped
 /// at `off`, and holds what it held and, at each free offset below, the blob of the first. `Refused` comes with `Differs`
 /// where `off` is held with another digest, and with `Overlap` where it is free and the blob's extent meets a held one;
-/// `Miscounted` comes where the first store, which then holds no map, has other than as many elements of the blob as its
-/// row says, before anything of it is copied; `Store` comes where a call of either store has failed or memory was refused.
-/// A crash, and a `Store` after which the other store has to be opened again, leave what was held with the blobs below
-/// some offset; a crash after `Ok` leaves all of them.
+/// `Spoiled` comes where the first store, which then holds no map, has other than as many elements of the blob as its row
+/// says, or one of more texts than any that was put, before anything of it is copied; `Store` comes where a call of either
+/// store has failed or memory was refused. A crash, and a `Store` after which the other store has to be opened again, leave
+/// what was held with the blobs below some offset; a crash after `Ok` leaves all of them. Whatever rows the first store has,
+/// what the other held stays, also after a crash.
 pub fn copy_held<F: Reader, T: Keeper>(
     alloc: Global,
     from: &mut F,
@@ -223,8 +230,11 @@ pub fn copy_held<F: Reader, T: Keeper>(
     // What a crash may leave now.
     ensures crash { (source held : HeldMap) → F.holds from.old source → F.is_honest from.new → T.holds to.old held → T.is_honest to.new
         → CrashLeavesSome (T.leaves to.new) source held result }
-    ensures whole { (source held : HeldMap) → F.holds from.old source → F.is_honest from.new → T.holds to.old held → T.is_honest to.new → T.leaves_a_map to.new }
-    ensures alone { (source held : HeldMap) → F.holds from.old source → F.is_honest from.new → T.holds to.old held → T.is_honest to.new → T.is_alone to.old → T.is_alone to.new }
+
+    // What the other store held stays, whatever the first one holds and gives.
+    ensures kept { OfHeld T.Reader to.old to.new (λ held. KeepsHeld T.Reader to.new result held) }
+    ensures whole { OfHeld T.Reader to.old to.new (λ _. T.leaves_a_map to.new) }
+    ensures alone { OfHeld T.Reader to.old to.new (λ _. T.is_alone to.old → T.is_alone to.new) }
 
     // What the first store holds stays.
     ensures source { Rereads F.Reader from.old result from.new }

@@ -7,6 +7,7 @@ mod copy;
 mod deliveries;
 mod delivery;
 mod export;
+mod few_texts;
 mod gap;
 pub mod laws;
 mod migration;

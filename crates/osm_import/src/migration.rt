@@ -3,13 +3,15 @@
 ghost use Rattle.std.specs.Prelude.{IsTrue, OnOk};
 ghost use Rattle.sqlite.specs.State.{HasCleanDisk};
 ghost use Rattle.sqlite.specs.Held.{state};
+ghost use Rattle.osm_store.specs.Calls.{OfHeld};
 ghost use Rattle.osm_store.specs.Held.{HeldMap};
 ghost use Rattle.osm_store.specs.LayoutHolding.{Holds, MayLeave, LeavesAMap};
 ghost use Rattle.osm_store.specs.declared.schema.layout.Layout.TheVariants.{Bodies, Tables};
 ghost use Rattle.osm_import.specs.Copies.{Copies, CrashLeavesSome, CopyHasCause, IsOwnCopy};
+ghost use Rattle.osm_import.specs.Stores.{KeepsHeld};
 
 use crate::copy::{CopyCounts, CopyStop, copy_held};
-use osm_store::{BodyStore, TableStore};
+use osm_store::{BodyStore, Reader, TableStore};
 use sqlite::Alter;
 use std::alloc::Global;
 
@@ -22,9 +24,10 @@ pub type MigrateFault = CopyStop;
 ///
 /// At `Ok` the new store holds what it held and, at each offset that was free, the blob of the old one. Else it stopped at
 /// `off`, and the blobs below are held: `Refused` comes with `Differs` where `off` is held with another digest, and with
-/// `Overlap` where it is free and the blob's extent meets a held one; `Miscounted` comes where the old store has other than
-/// as many elements of the blob as its row says; `Store` comes where a call of either store has failed or memory was
-/// refused. A crash leaves what was held with the blobs below some offset; after `Ok`, all of them.
+/// `Overlap` where it is free and the blob's extent meets a held one; `Spoiled` comes where the old store's rows aren't
+/// those of the blob that was put there; `Store` comes where a call of either store has failed or memory was refused. A
+/// crash leaves what was held with the blobs below some offset; after `Ok`, all of them. Whatever rows the old store has,
+/// what the new one held stays, also after a crash.
 pub fn migrate<S: Alter + Drop, T: Alter + Drop>(
     alloc: Global,
     old: &mut BodyStore<S>,
@@ -38,8 +41,10 @@ pub fn migrate<S: Alter + Drop, T: Alter + Drop>(
     ensures crash { (source held : HeldMap) → Holds Bodies (state S.Store old.old.connection) source → HasCleanDisk (state S.Store old.new.connection)
         → Holds Tables (state T.Store new.old.connection) held → HasCleanDisk (state T.Store new.new.connection)
         → CrashLeavesSome (MayLeave Tables (state T.Store new.new.connection)) source held result }
-    ensures whole { (source held : HeldMap) → Holds Bodies (state S.Store old.old.connection) source → HasCleanDisk (state S.Store old.new.connection)
-        → Holds Tables (state T.Store new.old.connection) held → HasCleanDisk (state T.Store new.new.connection) → LeavesAMap Tables (state T.Store new.new.connection) }
+
+    // What the new store held stays, whatever the old one holds and gives.
+    ensures kept { OfHeld ⟦<TableStore<T> as Reader>⟧ new.old new.new (λ held. KeepsHeld ⟦<TableStore<T> as Reader>⟧ new.new result held) }
+    ensures whole { (held : HeldMap) → Holds Tables (state T.Store new.old.connection) held → HasCleanDisk (state T.Store new.new.connection) → LeavesAMap Tables (state T.Store new.new.connection) }
 
     // What the old store holds stays, at `Ok` whatever else is known of it, and a crash leaves what it could leave before.
     ensures source { (source : HeldMap) → Holds Bodies (state S.Store old.old.connection) source → HasCleanDisk (state S.Store old.new.connection)

@@ -60,7 +60,7 @@ fn faults_of_copies(rt: HostRuntime) {
     for (fault, number, name) in [
         (CopyFault::Refused(Conflict::Differs), 63, "Differs"),
         (CopyFault::Refused(Conflict::Overlap), 64, "Overlap"),
-        (CopyFault::Miscounted, 66, "NotThisStore"),
+        (CopyFault::Spoiled, 66, "NotThisStore"),
         (CopyFault::Store(StoreFault::Disk), 65, "Disk"),
     ] {
         assert!(rt; fault.number() == number && fault.name() == name, "{name}");

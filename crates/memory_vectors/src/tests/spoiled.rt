@@ -8,7 +8,7 @@ use std::process::Abort;
 use std::test::*;
 use store_vectors::deliveries::exported;
 use store_vectors::fixtures::{
-    LINES, NODES, PLACED_HEADER, PLACED_NODES, PLACED_WAYS, RELATION_AT_137, THREE_WAYS_LINES,
+    LINES, NODES, PLACED_HEADER, PLACED_NODES, PLACED_WAYS, RELATION_AT_137, THREE_WAYS_LINES, WAY,
     WAY_AT_203, WRITTEN_HEADER,
 };
 use store_vectors::memory::{BodiesInMemory, NewSqlStore, NewStore, TablesInMemory};
@@ -309,8 +309,15 @@ fn values(rt: HostRuntime) -> Result<(), Fail> {
     expect_refusals::<TablesInMemory, _>(&rt, "tables", TABLE)
 }
 
-/// What a copy holds that has stopped at the three ways.
-const COPIED: Step = Step::Extents(&[PLACED_HEADER, PLACED_NODES]);
+/// What the store that a copy goes into holds before.
+const HELD_BEFORE: &[Step] = &[Step::Put(WAY_AT_203, WAY, Ok(()))];
+
+/// What it holds after one that has stopped at the three ways.
+const COPIED: &[Step] = &[
+    Step::Extents(&[PLACED_HEADER, PLACED_NODES, WAY_AT_203]),
+    LOAD_NODES,
+    LOAD_WAY,
+];
 
 const ALL_LINES: Step = Step::PartialLines(&[LINES, THREE_WAYS_LINES, RELATION_LINE, WAY_LINE]);
 
@@ -321,7 +328,7 @@ const FOREIGN: (ExportFault, CopyFault) = (
 );
 
 /// How they stop where there are other than three ways.
-const MISCOUNTED: (ExportFault, CopyFault) = (ExportFault::Miscounted(100), CopyFault::Miscounted);
+const MISCOUNTED: (ExportFault, CopyFault) = (ExportFault::Miscounted(100), CopyFault::Spoiled);
 
 /// Expects that exports of whatever is held write the pieces before they stop.
 fn expect_front<K: NewStore, R: Abort + Alloc<A = Global>>(
@@ -337,8 +344,8 @@ fn expect_front<K: NewStore, R: Abort + Alloc<A = Global>>(
     assert!(rt; are_joined(&bytes, pieces), "{sql}");
 }
 
-/// Expects that exports and a copy stop at the three ways with these faults, once their rows are spoiled. An export as PBF
-/// has written these pieces.
+/// Expects that exports and a copy stop at the three ways with these faults, once their rows are spoiled, and that the copy
+/// leaves what the other store held. An export as PBF has written these pieces.
 fn expect_stops<K: NewSqlStore, R: Abort + Alloc<A = Global>>(
     rt: &R,
     layout: &str,
@@ -351,7 +358,7 @@ fn expect_stops<K: NewSqlStore, R: Abort + Alloc<A = Global>>(
         let mut store = store.changed(sql).ok_or("a store")?;
         expect_front(rt, &mut store, Form::Lines, faults.0, &[LINES], sql);
         expect_front(rt, &mut store, Form::Pbf, faults.0, pbf, sql);
-        let mut other = K::new_store(rt.alloc())?;
+        let mut other: K = followed(rt.alloc(), layout, HELD_BEFORE)?;
         let stop = CopyStop {
             fault: faults.1,
             off: 100,
@@ -361,8 +368,10 @@ fn expect_stops<K: NewSqlStore, R: Abort + Alloc<A = Global>>(
             Err(stop),
             "{sql}"
         );
-        let copied = COPIED.is_met(rt.alloc(), &mut other);
-        assert_eq!(rt; copied, Ok(true), "{sql}");
+        for step in COPIED {
+            let copied = step.is_met(rt.alloc(), &mut other);
+            assert_eq!(rt; copied, Ok(true), "{sql}");
+        }
     }
     Ok(())
 }

@@ -6,6 +6,8 @@ use Rattle.std.proofs.lemmas.Bool.Decides.{not_from_Decides}
 use Rattle.osm_store.specs.Held.{Blob, IsFree}
 use Rattle.osm_store.specs.declared.keeper.Extent.{Extent}
 use Rattle.osm_import.proofs.Delivering.{addable, found-at, unheld-at}
+use Rattle.osm_import.specs.Stores.{blob_of}
+use Rattle.osm_import.proofs.CopiesLemmas.{crash-keeps, keeps-free, keeps-same, kept-failed, kept-still, never-many}
 use Rattle.osm_import.proofs.CopyLemmas.{blob_put, met_of}
 use Rattle.osm_import.proofs.WalkLemmas.{counted-by}
 use Rattle.osm_import.proofs.copy.copy_blob.Goals as goal
@@ -45,10 +47,11 @@ returns-then-not-is_empty-clause-step g c = λ source held blob from_holds from_
 pub returns-in-Ok-clause-step : goal.returns-in-Ok-clause-step
 returns-in-Ok-clause-step g c = λ source held blob from_holds from_honest holds honest of is.
     let earlier = c.put.ensures.adds.honest honest in
-    let are = c.deref-2.ensures.value ∙ c.in_ok-elements.ensures blob.elements (c.in_ok-loaded.ensures.rows source blob from_holds from_honest of) in
-    let can = addable held c.args.extent.now.off c.args.extent.now.fin c.in_ok-touched.touched.items c.args.extent.now.digest c.args.extent.now.kind c.deref-2.result.now blob.elements
-    (c.in_ok-touched.ensures.touching held holds earlier) (search rules) are (g.met.F.Reader.has_few_texts _ source from_holds c.args.extent.now.off blob of) in
-    let one = blob_put c.args.extent.now.off c.args.extent.now blob c.deref-2.result.now is are in (
+    let are = c.deref-3.ensures.value ∙ c.in_ok-elements.ensures blob.elements (c.in_ok-loaded.ensures.rows source blob from_holds from_honest of) in
+    let few = c.in_ok-few.ensures.0 c.if-not-few.false in
+    let can = addable held c.args.extent.now.off c.args.extent.now.fin c.in_ok-touched.touched.items c.args.extent.now.digest c.args.extent.now.kind c.deref-3.result.now c.deref-2.result.now
+    (c.in_ok-touched.ensures.touching held holds earlier) (search rules) (c.deref-3.ensures.value ∙ sym c.deref-2.ensures.value) few in
+    let one = blob_put c.args.extent.now.off c.args.extent.now blob c.deref-3.result.now is are in (
       insert held c.args.extent.now.off blob,
       (subst (λ (e : Extent). IsFree held c.args.extent.now.off e.fin) is can.free, refl),
       subst (λ (b : Blob). g.T.Reader.holds c.put.new.self (insert held c.args.extent.now.off b)) one (c.in-Ok.ensures.adds.ok honest held (c.in_ok-touched.ensures.reads.ok earlier held holds) can),
@@ -57,73 +60,111 @@ returns-in-Ok-clause-step g c = λ source held blob from_holds from_honest holds
 pub returns-in-Ok-clause-crash : goal.returns-in-Ok-clause-crash
 returns-in-Ok-clause-crash g c = λ source held blob from_holds from_honest holds honest of is left leaves.
     let earlier = c.put.ensures.adds.honest honest in
-    let are = c.deref-2.ensures.value ∙ c.in_ok-elements.ensures blob.elements (c.in_ok-loaded.ensures.rows source blob from_holds from_honest of) in
-    let can = addable held c.args.extent.now.off c.args.extent.now.fin c.in_ok-touched.touched.items c.args.extent.now.digest c.args.extent.now.kind c.deref-2.result.now blob.elements
-    (c.in_ok-touched.ensures.touching held holds earlier) (search rules) are (g.met.F.Reader.has_few_texts _ source from_holds c.args.extent.now.off blob of) in
-    let one = blob_put c.args.extent.now.off c.args.extent.now blob c.deref-2.result.now is are in
+    let are = c.deref-3.ensures.value ∙ c.in_ok-elements.ensures blob.elements (c.in_ok-loaded.ensures.rows source blob from_holds from_honest of) in
+    let few = c.in_ok-few.ensures.0 c.if-not-few.false in
+    let can = addable held c.args.extent.now.off c.args.extent.now.fin c.in_ok-touched.touched.items c.args.extent.now.digest c.args.extent.now.kind c.deref-3.result.now c.deref-2.result.now
+    (c.in_ok-touched.ensures.touching held holds earlier) (search rules) (c.deref-3.ensures.value ∙ sym c.deref-2.ensures.value) few in
+    let one = blob_put c.args.extent.now.off c.args.extent.now blob c.deref-3.result.now is are in
     elim (c.put.ensures.adds.crash honest held left (c.in_ok-touched.ensures.reads.ok earlier held holds) can leaves) [
       | inl old ↦ inl (g.met.T.Reader.settled _ held left holds (c.in_ok-touched.ensures.reads.crash earlier left old))
       | inr new ↦ inr (subst (λ (e : Extent). IsFree held c.args.extent.now.off e.fin) is can.free, new ∙ ap (insert held c.args.extent.now.off) one)
     ]
 
-pub returns-in-Ok-clause-whole : goal.returns-in-Ok-clause-whole
-returns-in-Ok-clause-whole g c = λ source held blob from_holds from_honest holds honest of is.
+pub returns-in-Ok-clause-kept : goal.returns-in-Ok-clause-kept
+returns-in-Ok-clause-kept g c = λ held holds honest.
     let earlier = c.put.ensures.adds.honest honest in
-    let are = c.deref-2.ensures.value ∙ c.in_ok-elements.ensures blob.elements (c.in_ok-loaded.ensures.rows source blob from_holds from_honest of) in
-    let can = addable held c.args.extent.now.off c.args.extent.now.fin c.in_ok-touched.touched.items c.args.extent.now.digest c.args.extent.now.kind c.deref-2.result.now blob.elements
-    (c.in_ok-touched.ensures.touching held holds earlier) (search rules) are (g.met.F.Reader.has_few_texts _ source from_holds c.args.extent.now.off blob of) in
+    let before = c.in_ok-touched.ensures.reads.ok earlier held holds in
+    let few = c.in_ok-few.ensures.0 c.if-not-few.false in
+    let can = addable held c.args.extent.now.off c.args.extent.now.fin c.in_ok-touched.touched.items c.args.extent.now.digest c.args.extent.now.kind c.deref-3.result.now c.deref-2.result.now
+    (c.in_ok-touched.ensures.touching held holds earlier) (search rules) (c.deref-3.ensures.value ∙ sym c.deref-2.ensures.value) few in
+    record {
+      ok = ((let all = insert held c.args.extent.now.off (blob_of c.args.extent.now c.deref-3.result.now) in all), keeps-free held c.args.extent.now.off (blob_of c.args.extent.now c.deref-3.result.now) (g.met.T.Reader.is_apart _ held holds) c.requires.range.0 can.free, c.in-Ok.ensures.adds.ok honest held before can);
+      err = tt;
+      crash = λ left leaves. crash-keeps held left c.args.extent.now.off (blob_of c.args.extent.now c.deref-3.result.now) (g.met.T.Reader.is_apart _ held holds) c.requires.range.0 can.free
+          (elim (c.put.ensures.adds.crash honest held left before can leaves) [
+            | inl old ↦ inl (g.met.T.Reader.settled _ held left holds (c.in_ok-touched.ensures.reads.crash earlier left old))
+            | inr new ↦ inr new
+          ]);
+    }
+
+pub returns-in-Ok-clause-whole : goal.returns-in-Ok-clause-whole
+returns-in-Ok-clause-whole g c = λ held holds honest.
+    let earlier = c.put.ensures.adds.honest honest in
+    let few = c.in_ok-few.ensures.0 c.if-not-few.false in
+    let can = addable held c.args.extent.now.off c.args.extent.now.fin c.in_ok-touched.touched.items c.args.extent.now.digest c.args.extent.now.kind c.deref-3.result.now c.deref-2.result.now
+    (c.in_ok-touched.ensures.touching held holds earlier) (search rules) (c.deref-3.ensures.value ∙ sym c.deref-2.ensures.value) few in
     c.put.ensures.adds.whole honest held (c.in_ok-touched.ensures.reads.ok earlier held holds) can
 
 pub returns-clause-step : goal.returns-clause-step
 returns-clause-step g c = λ source held blob from_holds from_honest holds honest of is open_now.
     let earlier = c.put.ensures.adds.honest honest in
-    let are = c.deref-2.ensures.value ∙ c.in_ok-elements.ensures blob.elements (c.in_ok-loaded.ensures.rows source blob from_holds from_honest of) in
-    let can = addable held c.args.extent.now.off c.args.extent.now.fin c.in_ok-touched.touched.items c.args.extent.now.digest c.args.extent.now.kind c.deref-2.result.now blob.elements
-    (c.in_ok-touched.ensures.touching held holds earlier) (search rules) are (g.met.F.Reader.has_few_texts _ source from_holds c.args.extent.now.off blob of) in
+    let are = c.deref-3.ensures.value ∙ c.in_ok-elements.ensures blob.elements (c.in_ok-loaded.ensures.rows source blob from_holds from_honest of) in
+    let few = c.in_ok-few.ensures.0 c.if-not-few.false in
+    let can = addable held c.args.extent.now.off c.args.extent.now.fin c.in_ok-touched.touched.items c.args.extent.now.digest c.args.extent.now.kind c.deref-3.result.now c.deref-2.result.now
+    (c.in_ok-touched.ensures.touching held holds earlier) (search rules) (c.deref-3.ensures.value ∙ sym c.deref-2.ensures.value) few in
     c.in-Err.ensures.adds.err honest open_now held (c.in_ok-touched.ensures.reads.ok earlier held holds) can
 
 pub returns-clause-crash : goal.returns-clause-crash
 returns-clause-crash g c = λ source held blob from_holds from_honest holds honest of is left leaves.
     let earlier = c.put.ensures.adds.honest honest in
-    let are = c.deref-2.ensures.value ∙ c.in_ok-elements.ensures blob.elements (c.in_ok-loaded.ensures.rows source blob from_holds from_honest of) in
-    let can = addable held c.args.extent.now.off c.args.extent.now.fin c.in_ok-touched.touched.items c.args.extent.now.digest c.args.extent.now.kind c.deref-2.result.now blob.elements
-    (c.in_ok-touched.ensures.touching held holds earlier) (search rules) are (g.met.F.Reader.has_few_texts _ source from_holds c.args.extent.now.off blob of) in
-    let one = blob_put c.args.extent.now.off c.args.extent.now blob c.deref-2.result.now is are in
+    let are = c.deref-3.ensures.value ∙ c.in_ok-elements.ensures blob.elements (c.in_ok-loaded.ensures.rows source blob from_holds from_honest of) in
+    let few = c.in_ok-few.ensures.0 c.if-not-few.false in
+    let can = addable held c.args.extent.now.off c.args.extent.now.fin c.in_ok-touched.touched.items c.args.extent.now.digest c.args.extent.now.kind c.deref-3.result.now c.deref-2.result.now
+    (c.in_ok-touched.ensures.touching held holds earlier) (search rules) (c.deref-3.ensures.value ∙ sym c.deref-2.ensures.value) few in
+    let one = blob_put c.args.extent.now.off c.args.extent.now blob c.deref-3.result.now is are in
     elim (c.put.ensures.adds.crash honest held left (c.in_ok-touched.ensures.reads.ok earlier held holds) can leaves) [
       | inl old ↦ inl (g.met.T.Reader.settled _ held left holds (c.in_ok-touched.ensures.reads.crash earlier left old))
       | inr new ↦ inr (subst (λ (e : Extent). IsFree held c.args.extent.now.off e.fin) is can.free, new ∙ ap (insert held c.args.extent.now.off) one)
     ]
 
-pub returns-clause-whole : goal.returns-clause-whole
-returns-clause-whole g c = λ source held blob from_holds from_honest holds honest of is.
+pub returns-clause-kept : goal.returns-clause-kept
+returns-clause-kept g c = λ held holds honest.
     let earlier = c.put.ensures.adds.honest honest in
-    let are = c.deref-2.ensures.value ∙ c.in_ok-elements.ensures blob.elements (c.in_ok-loaded.ensures.rows source blob from_holds from_honest of) in
-    let can = addable held c.args.extent.now.off c.args.extent.now.fin c.in_ok-touched.touched.items c.args.extent.now.digest c.args.extent.now.kind c.deref-2.result.now blob.elements
-    (c.in_ok-touched.ensures.touching held holds earlier) (search rules) are (g.met.F.Reader.has_few_texts _ source from_holds c.args.extent.now.off blob of) in
+    let before = c.in_ok-touched.ensures.reads.ok earlier held holds in
+    let few = c.in_ok-few.ensures.0 c.if-not-few.false in
+    let can = addable held c.args.extent.now.off c.args.extent.now.fin c.in_ok-touched.touched.items c.args.extent.now.digest c.args.extent.now.kind c.deref-3.result.now c.deref-2.result.now
+    (c.in_ok-touched.ensures.touching held holds earlier) (search rules) (c.deref-3.ensures.value ∙ sym c.deref-2.ensures.value) few in
+    record {
+      ok = tt;
+      err = λ up. (held, keeps-same held, c.in-Err.ensures.adds.err honest up held before can);
+      crash = λ left leaves. crash-keeps held left c.args.extent.now.off (blob_of c.args.extent.now c.deref-3.result.now) (g.met.T.Reader.is_apart _ held holds) c.requires.range.0 can.free
+          (elim (c.put.ensures.adds.crash honest held left before can leaves) [
+            | inl old ↦ inl (g.met.T.Reader.settled _ held left holds (c.in_ok-touched.ensures.reads.crash earlier left old))
+            | inr new ↦ inr new
+          ]);
+    }
+
+pub returns-clause-whole : goal.returns-clause-whole
+returns-clause-whole g c = λ held holds honest.
+    let earlier = c.put.ensures.adds.honest honest in
+    let few = c.in_ok-few.ensures.0 c.if-not-few.false in
+    let can = addable held c.args.extent.now.off c.args.extent.now.fin c.in_ok-touched.touched.items c.args.extent.now.digest c.args.extent.now.kind c.deref-3.result.now c.deref-2.result.now
+    (c.in_ok-touched.ensures.touching held holds earlier) (search rules) (c.deref-3.ensures.value ∙ sym c.deref-2.ensures.value) few in
     c.put.ensures.adds.whole honest held (c.in_ok-touched.ensures.reads.ok earlier held holds) can
 
 pub returns-clause-own : goal.returns-clause-own
 returns-clause-own g c = λ source held blob from_holds from_honest holds honest of is.
     let earlier = c.put.ensures.adds.honest honest in
-    let are = c.deref-2.ensures.value ∙ c.in_ok-elements.ensures blob.elements (c.in_ok-loaded.ensures.rows source blob from_holds from_honest of) in
-    let can = addable held c.args.extent.now.off c.args.extent.now.fin c.in_ok-touched.touched.items c.args.extent.now.digest c.args.extent.now.kind c.deref-2.result.now blob.elements
-    (c.in_ok-touched.ensures.touching held holds earlier) (search rules) are (g.met.F.Reader.has_few_texts _ source from_holds c.args.extent.now.off blob of) in
+    let are = c.deref-3.ensures.value ∙ c.in_ok-elements.ensures blob.elements (c.in_ok-loaded.ensures.rows source blob from_holds from_honest of) in
+    let few = c.in_ok-few.ensures.0 c.if-not-few.false in
+    let can = addable held c.args.extent.now.off c.args.extent.now.fin c.in_ok-touched.touched.items c.args.extent.now.digest c.args.extent.now.kind c.deref-3.result.now c.deref-2.result.now
+    (c.in_ok-touched.ensures.touching held holds earlier) (search rules) (c.deref-3.ensures.value ∙ sym c.deref-2.ensures.value) few in
     c.in-Err.ensures.adds.own held (c.in_ok-touched.ensures.reads.ok earlier held holds) honest can
 
 pub returns-in-Ok-clause-alone : goal.returns-in-Ok-clause-alone
-returns-in-Ok-clause-alone g c = λ source held blob from_holds from_honest holds honest of is alone.
+returns-in-Ok-clause-alone g c = λ held holds honest alone.
     let earlier = c.put.ensures.adds.honest honest in
-    let are = c.deref-2.ensures.value ∙ c.in_ok-elements.ensures blob.elements (c.in_ok-loaded.ensures.rows source blob from_holds from_honest of) in
-    let can = addable held c.args.extent.now.off c.args.extent.now.fin c.in_ok-touched.touched.items c.args.extent.now.digest c.args.extent.now.kind c.deref-2.result.now blob.elements
-    (c.in_ok-touched.ensures.touching held holds earlier) (search rules) are (g.met.F.Reader.has_few_texts _ source from_holds c.args.extent.now.off blob of) in
+    let few = c.in_ok-few.ensures.0 c.if-not-few.false in
+    let can = addable held c.args.extent.now.off c.args.extent.now.fin c.in_ok-touched.touched.items c.args.extent.now.digest c.args.extent.now.kind c.deref-3.result.now c.deref-2.result.now
+    (c.in_ok-touched.ensures.touching held holds earlier) (search rules) (c.deref-3.ensures.value ∙ sym c.deref-2.ensures.value) few in
     c.put.ensures.adds.alone honest held (c.in_ok-touched.ensures.reads.ok earlier held holds) can (c.in_ok-touched.ensures.reads.alone earlier alone)
 
 pub returns-clause-alone : goal.returns-clause-alone
-returns-clause-alone g c = λ source held blob from_holds from_honest holds honest of is alone.
+returns-clause-alone g c = λ held holds honest alone.
     let earlier = c.put.ensures.adds.honest honest in
-    let are = c.deref-2.ensures.value ∙ c.in_ok-elements.ensures blob.elements (c.in_ok-loaded.ensures.rows source blob from_holds from_honest of) in
-    let can = addable held c.args.extent.now.off c.args.extent.now.fin c.in_ok-touched.touched.items c.args.extent.now.digest c.args.extent.now.kind c.deref-2.result.now blob.elements
-    (c.in_ok-touched.ensures.touching held holds earlier) (search rules) are (g.met.F.Reader.has_few_texts _ source from_holds c.args.extent.now.off blob of) in
+    let few = c.in_ok-few.ensures.0 c.if-not-few.false in
+    let can = addable held c.args.extent.now.off c.args.extent.now.fin c.in_ok-touched.touched.items c.args.extent.now.digest c.args.extent.now.kind c.deref-3.result.now c.deref-2.result.now
+    (c.in_ok-touched.ensures.touching held holds earlier) (search rules) (c.deref-3.ensures.value ∙ sym c.deref-2.ensures.value) few in
     c.put.ensures.adds.alone honest held (c.in_ok-touched.ensures.reads.ok earlier held holds) can (c.in_ok-touched.ensures.reads.alone earlier alone)
 
 pub returns-then-len-extent-clause-step : goal.returns-then-len-extent-clause-step
@@ -138,9 +179,53 @@ returns-then-len-extent-clause-own g c = λ source held blob from_holds from_hon
 
 pub returns-in-Ok-clause-complete : goal.returns-in-Ok-clause-complete
 returns-in-Ok-clause-complete g c =
-    let same = ap length c.deref-2.ensures.value in
-    let counted : length c.deref-2.result.now ≡ c.args.extent.now.n = omega (arith, same, c.len.ensures, c.if-len-extent.false) in (
-      c.deref-2.result.now,
+    let same = ap length c.deref-3.ensures.value in
+    let counted : length c.deref-3.result.now ≡ c.args.extent.now.n = omega (arith, same, c.len.ensures, c.if-len-extent.false) in (
+      c.deref-3.result.now,
       counted,
-      λ held holds honest can. c.in-Ok.ensures.adds.ok honest held (c.in_ok-touched.ensures.reads.ok (c.put.ensures.adds.honest honest) held holds) can,
+      λ held holds honest.
+          let earlier = c.put.ensures.adds.honest honest in
+          let few = c.in_ok-few.ensures.0 c.if-not-few.false in
+          let can = addable held c.args.extent.now.off c.args.extent.now.fin c.in_ok-touched.touched.items c.args.extent.now.digest c.args.extent.now.kind c.deref-3.result.now c.deref-2.result.now
+          (c.in_ok-touched.ensures.touching held holds earlier) (search rules) (c.deref-3.ensures.value ∙ sym c.deref-2.ensures.value) few in
+          (can.free, c.in-Ok.ensures.adds.ok honest held (c.in_ok-touched.ensures.reads.ok earlier held holds) can),
     )
+
+pub returns-then-eq-clause-kept : goal.returns-then-eq-clause-kept
+returns-then-eq-clause-kept g c = λ held holds honest. kept-still g.T.Reader c.extents_touching.new.self _ held (c.in_ok-touched.ensures.reads.ok honest held holds) (λ left leaves. g.met.T.Reader.settled _ held left holds (c.in_ok-touched.ensures.reads.crash honest left leaves))
+
+pub returns-in-Some-clause-kept : goal.returns-in-Some-clause-kept
+returns-in-Some-clause-kept g c = λ held holds honest. kept-still g.T.Reader c.extents_touching.new.self _ held (c.in_ok-touched.ensures.reads.ok honest held holds) (λ left leaves. g.met.T.Reader.settled _ held left holds (c.in_ok-touched.ensures.reads.crash honest left leaves))
+
+pub returns-then-not-is_empty-clause-kept : goal.returns-then-not-is_empty-clause-kept
+returns-then-not-is_empty-clause-kept g c = λ held holds honest. kept-still g.T.Reader c.extents_touching.new.self _ held (c.in_ok-touched.ensures.reads.ok honest held holds) (λ left leaves. g.met.T.Reader.settled _ held left holds (c.in_ok-touched.ensures.reads.crash honest left leaves))
+
+pub returns-then-len-extent-clause-kept : goal.returns-then-len-extent-clause-kept
+returns-then-len-extent-clause-kept g c = λ held holds honest. kept-still g.T.Reader c.extents_touching.new.self _ held (c.in_ok-touched.ensures.reads.ok honest held holds) (λ left leaves. g.met.T.Reader.settled _ held left holds (c.in_ok-touched.ensures.reads.crash honest left leaves))
+
+pub returns-then-not-few-clause-kept : goal.returns-then-not-few-clause-kept
+returns-then-not-few-clause-kept g c = λ held holds honest. kept-still g.T.Reader c.extents_touching.new.self _ held (c.in_ok-touched.ensures.reads.ok honest held holds) (λ left leaves. g.met.T.Reader.settled _ held left holds (c.in_ok-touched.ensures.reads.crash honest left leaves))
+
+pub returns-in_err-loaded-clause-kept : goal.returns-in_err-loaded-clause-kept
+returns-in_err-loaded-clause-kept g c = λ held holds honest. kept-still g.T.Reader c.extents_touching.new.self _ held (c.in_ok-touched.ensures.reads.ok honest held holds) (λ left leaves. g.met.T.Reader.settled _ held left holds (c.in_ok-touched.ensures.reads.crash honest left leaves))
+
+pub returns-in_err-elements-clause-kept : goal.returns-in_err-elements-clause-kept
+returns-in_err-elements-clause-kept g c = λ held holds honest. kept-still g.T.Reader c.extents_touching.new.self _ held (c.in_ok-touched.ensures.reads.ok honest held holds) (λ left leaves. g.met.T.Reader.settled _ held left holds (c.in_ok-touched.ensures.reads.crash honest left leaves))
+
+pub returns-in_err-few-clause-kept : goal.returns-in_err-few-clause-kept
+returns-in_err-few-clause-kept g c = λ held holds honest. kept-still g.T.Reader c.extents_touching.new.self _ held (c.in_ok-touched.ensures.reads.ok honest held holds) (λ left leaves. g.met.T.Reader.settled _ held left holds (c.in_ok-touched.ensures.reads.crash honest left leaves))
+
+pub returns-in_err-touched-clause-kept : goal.returns-in_err-touched-clause-kept
+returns-in_err-touched-clause-kept g c = λ held holds honest.
+    kept-failed g.T.Reader c.extents_touching.new.self c.from_residual.result held c.from_residual.ensures.0 (λ up. c.in_err-touched.ensures.reads.err honest up held holds)
+    (λ left leaves. g.met.T.Reader.settled _ held left holds (c.in_err-touched.ensures.reads.crash honest left leaves))
+
+pub returns-then-not-few-clause-step : goal.returns-then-not-few-clause-step
+returns-then-not-few-clause-step g c = λ source held blob from_holds from_honest holds honest of is.
+    let are = c.deref-2.ensures.value ∙ c.in_ok-elements.ensures blob.elements (c.in_ok-loaded.ensures.rows source blob from_holds from_honest of) in
+    absurd (never-many _ c.in_ok-few.few blob.elements are (g.met.F.Reader.has_few_texts _ source from_holds c.args.extent.now.off blob of) c.in_ok-few.ensures c.if-not-few.true)
+
+pub returns-then-not-few-clause-own : goal.returns-then-not-few-clause-own
+returns-then-not-few-clause-own g c = λ source held blob from_holds from_honest holds honest of is.
+    let are = c.deref-2.ensures.value ∙ c.in_ok-elements.ensures blob.elements (c.in_ok-loaded.ensures.rows source blob from_holds from_honest of) in
+    absurd (never-many _ c.in_ok-few.few blob.elements are (g.met.F.Reader.has_few_texts _ source from_holds c.args.extent.now.off blob of) c.in_ok-few.ensures c.if-not-few.true)

@@ -1,8 +1,8 @@
 use Rattle.std.proofs.Common.{◌≡◌, ◌+◌, ◌∙◌, [], ◌∷◌, ◌++◌, take, Ok, Err, refl, sym, subst, ap, inr, arith, rules}
 use Rattle.osm_store.specs.Held.{HeldMap}
 use Rattle.osm_import.specs.Copies.{IsMerged}
-use Rattle.osm_import.specs.Stores.{CopiesOne}
-use Rattle.osm_import.proofs.CopiesLemmas.{copies-push, counted-push, copies-same}
+use Rattle.osm_import.specs.Stores.{CopiesOne, Keeps}
+use Rattle.osm_import.proofs.CopiesLemmas.{copies-push, counted-push, copies-same, keeps-same, keeps-then}
 use Rattle.osm_import.proofs.CopyLemmas.{IsAt, at_blob, taken_more, taken_below, taken_all, counted_all, merged_none, merged_step, crash_below, stops_at, cause_wider, tells_on, held_more, held_by, held_all, already}
 use Rattle.osm_import.proofs.WalkLemmas.{read-is}
 use Rattle.osm_import.proofs.copy.copy_blobs.Goals as goal
@@ -21,7 +21,8 @@ loop-extent-init g c = record {
   open_if = λ h. h;
   counted = omega arith;
   told = (refl, refl);
-  alone = λ source held from_holds from_honest holds honest are alone. alone;
+  kept = λ held holds honest. (held, keeps-same held, holds);
+  alone = λ held holds honest alone. alone;
   each = ([], (refl, refl), (refl, refl, refl));
   merged = λ source held from_holds from_honest holds honest are. (held, merged_none (λ off. IsAt [] off) source held (λ off none. none), holds, refl);
 }
@@ -40,6 +41,7 @@ loop-extent-preserved g c =
     = record {
       step = made.step;
       crash = made.crash;
+      kept = made.kept;
       whole = made.whole;
       alone = made.alone;
       own = made.own;
@@ -64,12 +66,11 @@ loop-extent-preserved g c =
       open_if = λ h. inv.open_if (made.open_if h);
       counted = omega (arith, inv.counted, made.counted.1);
       told = (made.told.0 ∙ inv.told.0, made.told.1 ∙ inv.told.1);
-      alone = λ source held from_holds from_honest holds honest are alone.
-          let before = inv.merged source held from_holds (made.source.stays.honest from_honest) holds (made.honest honest) are in
-          let is = read-is c.args.extents.now c.loop-extent.extent-index _ _ (omega arith) in
-          let at = at_blob source c.args.extents.now c.loop-extent.extent-index _ are (omega arith) is in
-          made.alone source before.0 at.blob (inv.from_kept (made.source.stays.honest from_honest) source from_holds) from_honest before.2 honest at.found at.same
-          (inv.alone source held from_holds (made.source.stays.honest from_honest) holds (made.honest honest) are alone);
+      kept = λ held holds honest.
+          let before = inv.kept held holds (made.honest honest) in
+          let step = (made.kept before.0 before.2 honest).ok in
+          (step.0, keeps-then held before.0 step.0 before.1 step.1, step.2);
+      alone = λ held holds honest alone. (let before = inv.kept held holds (made.honest honest) in made.alone before.0 before.2 honest (inv.alone held holds (made.honest honest) alone));
       each = (
         inv.each.0 ++ (_, Ok c.in-Ok.answer) ∷ [],
         copies-push g.F.Reader T c.args.from.now c.loop-extent.from c.copy_blob.new.from c.args.to.now c.loop-extent.to c.copy_blob.new.to inv.each.0 _ inv.each.1 one,
@@ -116,15 +117,21 @@ returns-in-Err-clause-crash g c = λ source held from_holds from_honest holds ho
     ((g.met.F.Reader.is_apart _ source from_now).filled _ at.blob at.found) at.found
     (made.crash source before.0 at.blob from_now from_honest before.2 honest at.found at.same left leaves)
 
-pub returns-in-Err-clause-whole : goal.returns-in-Err-clause-whole
-returns-in-Err-clause-whole g c = λ source held from_holds from_honest holds honest are.
-    let inv = c.loop-extent.invariant in
+pub returns-in-Err-clause-kept : goal.returns-in-Err-clause-kept
+returns-in-Err-clause-kept g c = λ held holds honest.
     let made = c.in-Err.ensures in
-    let before = inv.merged source held from_holds (made.source.stays.honest from_honest) holds (made.honest honest) are in
-    let is = read-is c.args.extents.now c.loop-extent.extent-index _ _ (omega arith) in
-    let at = at_blob source c.args.extents.now c.loop-extent.extent-index _ are (omega arith) is in
-    let from_now = inv.from_kept (made.source.stays.honest from_honest) source from_holds in
-    made.whole source before.0 at.blob from_now from_honest before.2 honest at.found at.same
+    let before = c.loop-extent.invariant.kept held holds (made.honest honest) in
+    let kept = made.kept before.0 before.2 honest in
+    record {
+      ok = tt;
+      err = λ up. (let now = kept.err up in (now.0, keeps-then held before.0 now.0 before.1 now.1, now.2));
+      crash = λ left leaves. keeps-then held before.0 left before.1 (kept.crash left leaves);
+    }
+
+pub returns-in-Err-clause-whole : goal.returns-in-Err-clause-whole
+returns-in-Err-clause-whole g c = λ held holds honest.
+    let made = c.in-Err.ensures in
+    let before = c.loop-extent.invariant.kept held holds (made.honest honest) in made.whole before.0 before.2 honest
 
 pub returns-in-Err-clause-own : goal.returns-in-Err-clause-own
 returns-in-Err-clause-own g c = λ source held from_holds from_honest holds honest are.
@@ -152,6 +159,7 @@ returns-in-Err-clause-each g c =
     = record {
       step = made.step;
       crash = made.crash;
+      kept = made.kept;
       whole = made.whole;
       alone = made.alone;
       own = made.own;
@@ -192,9 +200,17 @@ returns-clause-crash g c = λ source held from_holds from_honest holds honest ar
     subst (λ (h : HeldMap). IsMerged (λ off. Unit {0}) source held h) (sym (g.met.T.Reader.settled _ made.0 left made.2 leaves))
     (taken_all c.args.extents.now c.loop-extent.extent-index source held made.0 are (omega arith) made.1)
 
+pub returns-clause-kept : goal.returns-clause-kept
+returns-clause-kept g c = λ held holds honest.
+    let now = c.loop-extent.invariant.kept held holds honest in
+    record {
+      ok = now;
+      err = tt;
+      crash = λ left leaves. subst (Keeps held) (sym (g.met.T.Reader.settled _ now.0 left now.2 leaves)) now.1;
+    }
+
 pub returns-clause-whole : goal.returns-clause-whole
-returns-clause-whole g c = λ source held from_holds from_honest holds honest are.
-    let made = c.loop-extent.invariant.merged source held from_holds from_honest holds honest are in g.met.T.Reader.leaves_held _ made.0 made.2
+returns-clause-whole g c = λ held holds honest. (let now = c.loop-extent.invariant.kept held holds honest in g.met.T.Reader.leaves_held _ now.0 now.2)
 
 pub returns-in-Err-clause-reached : goal.returns-in-Err-clause-reached
 returns-in-Err-clause-reached g c = λ source are.
@@ -203,14 +219,11 @@ returns-in-Err-clause-reached g c = λ source are.
     (at.blob, at.found)
 
 pub returns-in-Err-clause-alone : goal.returns-in-Err-clause-alone
-returns-in-Err-clause-alone g c = λ source held from_holds from_honest holds honest are alone.
+returns-in-Err-clause-alone g c = λ held holds honest alone.
     let inv = c.loop-extent.invariant in
     let made = c.in-Err.ensures in
-    let before = inv.merged source held from_holds (made.source.stays.honest from_honest) holds (made.honest honest) are in
-    let is = read-is c.args.extents.now c.loop-extent.extent-index _ _ (omega arith) in
-    let at = at_blob source c.args.extents.now c.loop-extent.extent-index _ are (omega arith) is in
-    made.alone source before.0 at.blob (inv.from_kept (made.source.stays.honest from_honest) source from_holds) from_honest before.2 honest at.found at.same
-    (inv.alone source held from_holds (made.source.stays.honest from_honest) holds (made.honest honest) are alone)
+    let before = inv.kept held holds (made.honest honest) in
+    made.alone before.0 before.2 honest (inv.alone held holds (made.honest honest) alone)
 
 pub returns-in-Err-clause-told : goal.returns-in-Err-clause-told
 returns-in-Err-clause-told g c =

@@ -1,6 +1,7 @@
 use Rattle.std.proofs.Common.{◌<◌, ◌∙◌, [], arith, sym, subst, inl, refl}
 use Rattle.osm_store.specs.Held.{HeldMap}
 use Rattle.osm_import.specs.Copies.{IsUnitedBelow}
+use Rattle.osm_import.proofs.CopiesLemmas.{kept-still}
 use Rattle.osm_import.proofs.CopyLemmas.{merged_none, reached_at}
 use Rattle.osm_import.proofs.copy.copy_held.Goals as goal
 
@@ -10,6 +11,9 @@ returns-in-Err-clause-copies g c = λ source held from_holds from_honest holds h
 pub returns-in-Err-clause-crash : goal.returns-in-Err-clause-crash
 returns-in-Err-clause-crash g c = λ source held from_holds from_honest holds honest left leaves.
     (0, subst (λ (h : HeldMap). IsUnitedBelow 0 source held h) (sym (g.met.T.Reader.settled _ held left holds leaves)) (merged_none (λ off. off < 0) source held (λ off low. omega arith)))
+
+pub returns-in-Err-clause-kept : goal.returns-in-Err-clause-kept
+returns-in-Err-clause-kept g c = λ held holds honest. kept-still g.T.Reader c.args.to.now _ held holds (λ left leaves. g.met.T.Reader.settled _ held left holds leaves)
 
 pub returns-in-Err-clause-each : goal.returns-in-Err-clause-each
 returns-in-Err-clause-each g c =
