@@ -16,6 +16,9 @@ pub trait Openings<K: Reader> {
     /// These are the maps of the stores, in order, and one is given out, which holds this one of them.
     ghost lends: { Self → List HeldMap → HeldMap → Type 0 };
 
+    /// This store lies at a place: it may be what an opening of that place gives.
+    ghost lies: { Self → ℕ → K → Type 0 };
+
     /// So far the disks have returned what was written.
     ghost is_honest: { Self → Type 0 };
 
@@ -27,6 +30,8 @@ pub trait Openings<K: Reader> {
 
     /// The store at a place. An error is that of an opening that has failed, or of a place that has no store.
     fn open(&mut self, place: u64) -> Result<K, StoreFault>
+        ensures given { IfOk result (λ store. lies self.old place store) }
+        ensures still { (at : ℕ) (store : K) → lies self.new at store → lies self.old at store }
         ensures lent { (maps : List HeldMap) → holds self.old maps → is_honest self.new
             → IfOk result (λ store. K.is_honest store → IsLent (lends self.new) (K.holds store) maps place) }
         ensures honest { IfOk result (λ store. is_honest self.new → K.is_honest store → is_honest self.old) }
@@ -38,6 +43,7 @@ pub trait Openings<K: Reader> {
 
     /// Closes a store that was only read.
     fn close(&mut self, store: K)
+        ensures still { (at : ℕ) (other : K) → lies self.new at other → lies self.old at other }
         ensures back { (maps : List HeldMap) (held : HeldMap) → lends self.old maps held → K.holds store held → is_honest self.new → holds self.new maps }
         ensures honest { is_honest self.new → is_honest self.old × K.is_honest store }
         ensures open_if { is_open self.new → is_open self.old × K.is_open store }

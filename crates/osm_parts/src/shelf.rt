@@ -75,6 +75,9 @@ impl<K: Reader + Drop> Openings<K> for Shelf<K> {
 
     ghost lends = { λ shelf maps lent. LendsOne K.holds shelf.slots.items shelf.taken maps lent };
 
+    // what is closed may be any store
+    ghost lies = { λ shelf place store. Unit {0} };
+
     ghost is_honest = { λ shelf. (shelf.is_misused ≡ false) × AllAreIn K.is_honest shelf.slots.items };
 
     ghost is_open = { λ shelf. (shelf.is_misused ≡ false) × AllAreIn K.is_open shelf.slots.items };
