@@ -8,11 +8,13 @@ use Rattle.std.proofs.lemmas.List.Sums.{sum_by_push}
 use Rattle.osm_value.specs.Sink.{Wrote, Writes}
 use Rattle.osm_value.proofs.SinkLemmas.{Wrote-text}
 use Rattle.osm_store.specs.Held.{Blob, HeldMap}
+use Rattle.osm_store.specs.declared.keeper.Reader.{Ghosts}
 use Rattle.osm_import.specs.Copies.{IsMerged, IsUnited, Copies, CrashLeavesSome, Stops, held_among, FaultIsCaused, CopyHasCause, IsOwnCopy}
+use Rattle.osm_import.specs.Stores.{KeepsHeld}
 use Rattle.osm_reading.specs.Framings.{Known}
 use Rattle.osm_import.specs.declared.copy.CopyCounts.{CopyCounts}
 use Rattle.osm_import.specs.declared.copy.CopyFault.{CopyFault}
-use Rattle.osm_import.specs.declared.copy.CopyFault.TheVariants.{Refused, Miscounted, Store}
+use Rattle.osm_import.specs.declared.copy.CopyFault.TheVariants.{Refused, Spoiled, Store}
 use Rattle.osm_import.specs.declared.copy.CopyStop.{CopyStop}
 use Rattle.osm_parts.specs.Opening.{AddsUp, OnlyOpens}
 use Rattle.osm_parts.specs.Parts.{IsInPart}
@@ -131,35 +133,33 @@ pub own-merged : (outcome : Result CopyCounts CopyStop) → IsOwnCopy outcome �
 own-merged (Ok counts) own = tt
 own-merged (Err stop) own = own
 
--- a cause that was met at some time
-any-cause : (first last before now : ℕ) (fault : CopyFault) → FaultIsCaused first last before now fault → FaultIsCaused first last 0 now fault
-any-cause first last before now (Refused conflict) cause = tt
-any-cause first last before now Miscounted cause = tt
-any-cause first last before now (Store fault) cause = elim cause [ inl from ↦ inl from | inr to ↦ inr (cause-later 0 before now fault (omega arith) to) ]
-
-pub cause-merged : (old lent new first last before now : ℕ) (outcome : Result CopyCounts CopyStop) → lent ≡ old → AddsUp lent last new → CopyHasCause first last before now outcome → MergeHasCause old new now (merged_of outcome)
+pub cause-merged : (old lent new first last before now : ℕ) (outcome : Result CopyCounts CopyStop) → lent ≡ old → AddsUp lent last new → CopyHasCause first last before now outcome → MergeHasCause old new before now (merged_of outcome)
 cause-merged old lent new first last before now (Ok counts) same adds cause = tt
-cause-merged old lent new first last before now (Err stop) same adds cause = at stop.fault (any-cause first last before now stop.fault cause)
+cause-merged old lent new first last before now (Err stop) same adds cause = at stop.fault cause
   where
-    at : (fault : CopyFault) → FaultIsCaused first last 0 now fault → FaultIsCaused old new 0 now fault
+    at : (fault : CopyFault) → FaultIsCaused first last before now fault → FaultIsCaused old new before now fault
     at (Refused conflict) cause = tt
-    at Miscounted cause = tt
+    at Spoiled cause = tt
     at (Store fault) cause = elim cause [ inl from ↦ inl (cause-closed old lent new first last fault same adds from) | inr to ↦ inr to ]
+
+pub kept-merged : {S : Type 0} (store : Ghosts S) (new : S) (outcome : Result CopyCounts CopyStop) (held : HeldMap) → KeepsHeld store new outcome held → KeepsHeld store new (merged_of outcome) held
+kept-merged store new (Ok counts) held kept = record { ok = kept.ok; err = tt; crash = kept.crash }
+kept-merged store new (Err stop) held kept = record { ok = tt; err = kept.err; crash = kept.crash }
 
 pub opens-merged : {S : Type 0} (holds : S → List HeldMap → Type 0) (is_honest is_open : S → Type 0) (old new : S) (outcome : Result CopyCounts CopyStop) → OnlyOpens holds is_honest is_open old outcome new → OnlyOpens holds is_honest is_open old (merged_of outcome) new
 opens-merged {S} holds is_honest is_open old new (Ok counts) opens = record { keeps = opens.keeps; ok = opens.ok }
 opens-merged {S} holds is_honest is_open old new (Err stop) opens = record { keeps = opens.keeps; ok = tt }
 
 -- over calls before
-pub merge-cause-later : (f0 f1 f2 now : ℕ) (outcome : Result CopyCounts MergeStop) → f0 ≤ f1 → MergeHasCause f1 f2 now outcome → MergeHasCause f0 f2 now outcome
-merge-cause-later f0 f1 f2 now (Ok counts) f cause = tt
-merge-cause-later f0 f1 f2 now (Err (Unopened fault)) f cause = cause-later f0 f1 f2 fault f cause
-merge-cause-later f0 f1 f2 now (Err (Stopped stop)) f cause = at stop.fault cause
+pub merge-cause-later : (f0 f1 f2 t0 t1 t2 : ℕ) (outcome : Result CopyCounts MergeStop) → f0 ≤ f1 → t0 ≤ t1 → MergeHasCause f1 f2 t1 t2 outcome → MergeHasCause f0 f2 t0 t2 outcome
+merge-cause-later f0 f1 f2 t0 t1 t2 (Ok counts) f t cause = tt
+merge-cause-later f0 f1 f2 t0 t1 t2 (Err (Unopened fault)) f t cause = cause-later f0 f1 f2 fault f cause
+merge-cause-later f0 f1 f2 t0 t1 t2 (Err (Stopped stop)) f t cause = at stop.fault cause
   where
-    at : (fault : CopyFault) → FaultIsCaused f1 f2 0 now fault → FaultIsCaused f0 f2 0 now fault
+    at : (fault : CopyFault) → FaultIsCaused f1 f2 t1 t2 fault → FaultIsCaused f0 f2 t0 t2 fault
     at (Refused conflict) cause = tt
-    at Miscounted cause = tt
-    at (Store fault) cause = elim cause [ inl from ↦ inl (cause-later f0 f1 f2 fault f from) | inr to ↦ inr to ]
+    at Spoiled cause = tt
+    at (Store fault) cause = elim cause [ inl from ↦ inl (cause-later f0 f1 f2 fault f from) | inr to ↦ inr (cause-later t0 t1 t2 fault t to) ]
 
 -- ---- the whole
 
@@ -177,7 +177,7 @@ merges-take is_open holds maps held counts (Err (Stopped stop)) (front, source, 
   where
     at : (fault : CopyFault) → Stops is_open holds source next stop.off fault → (after : HeldMap) × TakesOf (source ∷ []) next after × holds after
     at (Refused conflict) (after, united, refused, now) = (after, takes-one (λ off. off < stop.off) source next after united, now)
-    at Miscounted never = absurd never
+    at Spoiled never = absurd never
     at (Store fault) (after, united, now) = (after, takes-one (λ off. off < stop.off) source next after united, now up)
 
 -- a crash at a store leaves what was held with blobs of the maps up to it

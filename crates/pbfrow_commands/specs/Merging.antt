@@ -2,11 +2,13 @@
 use Rattle.std.specs.Prelude.{◌≡◌, ◌⊎◌, ℕ, ◌+◌, Bool, List, [], ◌∷◌, ◌++◌, length, sum_by, Some, None, Result, Ok, Err, if◌then◌else◌}
 use Rattle.std.specs.FinMap.{get, entries}
 use Rattle.std.specs.List.{flat_map}
+use Rattle.osm_store.specs.Calls.{OfHeld}
 use Rattle.osm_store.specs.Held.{Blob, HeldMap}
 use Rattle.osm_store.specs.Keeping.{IsForeign}
 use Rattle.osm_store.specs.declared.keeper.Reader.{Ghosts}
 use Rattle.osm_import.specs.Copies.{Copies, Stops, IsUnited, held_among, FaultIsCaused, IsOwnFault}
 use Rattle.osm_import.specs.Step.{HasCause}
+use Rattle.osm_import.specs.Stores.{KeepsHeld}
 use Rattle.osm_import.specs.declared.copy.CopyCounts.{CopyCounts}
 use Rattle.osm_import.specs.declared.copy.CopyStop.{CopyStop}
 use Rattle.osm_parts.specs.Parts.{IsInPart}
@@ -96,11 +98,12 @@ abbrev pub merged_of : Result CopyCounts CopyStop → Result CopyCounts MergeSto
 merged_of (Ok counts) = Ok counts
 merged_of (Err stop) = Err (Stopped stop)
 
--- why it ended: of the store that is filled a call has failed at some time
-abbrev pub MergeHasCause : ℕ → ℕ → ℕ → Result CopyCounts MergeStop → Type 0
-MergeHasCause from_before from_now to_now (Ok total) = Unit {0}
-MergeHasCause from_before from_now to_now (Err (Unopened fault)) = HasCause from_before from_now fault
-MergeHasCause from_before from_now to_now (Err (Stopped stop)) = FaultIsCaused from_before from_now 0 to_now stop.fault
+-- Why it ended: a store couldn't be opened, what the store that is filled held was in a blob's way, or a call of one has
+-- failed since the merge began, of the others or of the one that is filled.
+abbrev pub MergeHasCause : ℕ → ℕ → ℕ → ℕ → Result CopyCounts MergeStop → Type 0
+MergeHasCause from_before from_now to_before to_now (Ok total) = Unit {0}
+MergeHasCause from_before from_now to_before to_now (Err (Unopened fault)) = HasCause from_before from_now fault
+MergeHasCause from_before from_now to_before to_now (Err (Stopped stop)) = FaultIsCaused from_before from_now to_before to_now stop.fault
 
 -- no fault says that the tables are another store's
 abbrev pub IsOwnMerge : Result CopyCounts MergeStop → Type 0
@@ -109,10 +112,12 @@ IsOwnMerge (Err (Unopened fault)) = ¬ (IsForeign fault)
 IsOwnMerge (Err (Stopped stop)) = IsOwnFault stop.fault
 
 -- What a merge of so many stores came to: what the filled one holds, what a crash may leave of it, and why it ended early,
--- if it did.
+-- if it did. What it held stays, whatever the others hold and give.
 pub record MergesStores {A B : Type 0} (holds : A → List HeldMap → Type 0) (is_honest : A → Type 0) (failures : A → ℕ) (to : Ghosts B) (from_old from_new : A) (count : ℕ) (to_old to_new : B) (counts : List CopyCounts) (outcome : Result CopyCounts MergeStop) : Type 0 where
   pub merges : (maps : List HeldMap) (held : HeldMap) → holds from_old maps → is_honest from_new → length maps ≡ count → to.holds to_old held → to.is_honest to_new → Merges (to.is_open to_new) (to.holds to_new) maps held counts outcome
   pub crash : (maps : List HeldMap) (held : HeldMap) → holds from_old maps → is_honest from_new → length maps ≡ count → to.holds to_old held → to.is_honest to_new → (left : HeldMap) → to.leaves to_new left → TakesOf maps held left
-  pub whole : (maps : List HeldMap) (held : HeldMap) → holds from_old maps → is_honest from_new → length maps ≡ count → to.holds to_old held → to.is_honest to_new → to.leaves_a_map to_new
+  pub kept : OfHeld to to_old to_new (λ held. KeepsHeld to to_new outcome held)
+  pub whole : OfHeld to to_old to_new (λ _. to.leaves_a_map to_new)
+  pub alone : OfHeld to to_old to_new (λ _. to.is_alone to_old → to.is_alone to_new)
   pub own : (maps : List HeldMap) (held : HeldMap) → holds from_old maps → is_honest from_new → length maps ≡ count → to.holds to_old held → to.is_honest to_new → IsOwnMerge outcome
-  pub cause : MergeHasCause (failures from_old) (failures from_new) (to.failures to_new) outcome
+  pub cause : MergeHasCause (failures from_old) (failures from_new) (to.failures to_old) (to.failures to_new) outcome

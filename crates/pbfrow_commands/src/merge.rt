@@ -3,8 +3,9 @@
 ghost use Rattle.std.specs.Prelude.{◌≡◌, ◌≤◌, [], ◌∷◌, ◌++◌, List, Ok, Some, Result, length, slice_get};
 ghost use Rattle.osm_value.specs.Sink.{Wrote};
 ghost use Rattle.osm_value.specs.Printing.{Prints};
+ghost use Rattle.osm_store.specs.Calls.{OfHeld};
 ghost use Rattle.osm_store.specs.Held.{HeldMap};
-ghost use Rattle.osm_import.specs.Stores.{Rereads};
+ghost use Rattle.osm_import.specs.Stores.{HoldsStill, Keeps, KeepsHeld, Rereads};
 ghost use Rattle.osm_import.specs.declared.copy.CopyCounts.{CopyCounts as CopyCountsValue};
 ghost use Rattle.osm_parts.specs.Opening.{KeepsMaps, OnlyOpens};
 ghost use Rattle.pbfrow_commands.specs.Copying.{CopiesStore, outcome_line, total_line, copy_status};
@@ -84,16 +85,17 @@ fn merge_at<F: Reader + Drop, O: Openings<F>, T: Keeper, S: Sink>(
         → CopiesAt (T.is_open into.new) (T.holds into.new) source held result }
     ensures crash { (maps : List HeldMap) (source held : HeldMap) → O.holds openings.old maps → O.is_honest openings.new → slice_get maps place ≡ Some source → T.holds into.old held → T.is_honest into.new
         → (left : HeldMap) → T.leaves into.new left → TakesOf (source ∷ []) held left }
-    ensures whole { (maps : List HeldMap) (source held : HeldMap) → O.holds openings.old maps → O.is_honest openings.new → slice_get maps place ≡ Some source → T.holds into.old held → T.is_honest into.new
-        → T.leaves_a_map into.new }
+    ensures kept { OfHeld T.Reader into.old into.new (λ held. KeepsHeld T.Reader into.new result held) }
+    ensures whole { OfHeld T.Reader into.old into.new (λ _. T.leaves_a_map into.new) }
+    ensures alone { OfHeld T.Reader into.old into.new (λ _. T.is_alone into.old → T.is_alone into.new) }
     ensures own { (maps : List HeldMap) (source held : HeldMap) → O.holds openings.old maps → O.is_honest openings.new → slice_get maps place ≡ Some source → T.holds into.old held → T.is_honest into.new
         → IsOwnMerge result }
     ensures line { Prints S.Sink out.old out.new (store_line result) }
     ensures opens { OnlyOpens O.holds O.is_honest O.is_open openings.old result openings.new }
-    ensures cause { MergeHasCause (O.failures openings.old) (O.failures openings.new) (T.failures into.new) result }
+    ensures cause { MergeHasCause (O.failures openings.old) (O.failures openings.new) (T.failures into.old) (T.failures into.new) result }
     ensures honest { T.is_honest into.new → T.is_honest into.old }
     ensures open_if { T.is_open into.new → T.is_open into.old }
-    ensures counted { O.failures openings.old ≤ O.failures openings.new }
+    ensures counted { (O.failures openings.old ≤ O.failures openings.new) × (T.failures into.old ≤ T.failures into.new) }
 {
     let mut store = match openings.open(place) {
         Ok(store) => store,
@@ -146,7 +148,7 @@ fn merge_each<F: Reader + Drop, O: Openings<F>, T: Keeper, S: Sink>(
 /// of `merge_one`. Answers the exit status: 0 if all were copied and the lines were written, else 1.
 ///
 /// The stores may come in any order, and any blob in several of them. What each holds stays, and what the other held before,
-/// whatever the status; a merge that ended early can be begun again.
+/// whatever the status and whatever rows the stores have; a merge that ended early can be begun again.
 pub fn merge_all<F: Reader + Drop, O: Openings<F>, T: Keeper, S: Sink>(
     alloc: Global,
     openings: &mut O,
@@ -161,6 +163,10 @@ pub fn merge_all<F: Reader + Drop, O: Openings<F>, T: Keeper, S: Sink>(
     // Whatever the status, what it held stays, and what is new is of these stores.
     ensures kept { (maps : List HeldMap) (held : HeldMap) → O.holds openings.old maps → O.is_honest openings.new → length maps ≡ count → T.holds into.old held → T.is_honest into.new
         → T.is_open into.new → (after : HeldMap) × TakesOf maps held after × T.holds into.new after }
+
+    // What it held stays whatever these stores hold and give, also after a crash.
+    ensures stays { OfHeld T.Reader into.old into.new (λ held. T.is_open into.new → HoldsStill T.Reader into.new held) }
+    ensures left { OfHeld T.Reader into.old into.new (λ held. (left : HeldMap) → T.leaves into.new left → Keeps held left) }
 
     // What it came to, and each line.
     ensures merges { (counts : List CopyCountsValue) × (outcome : Result CopyCountsValue MergeStopValue)

@@ -3,7 +3,9 @@
 ghost use Rattle.std.specs.Prelude.{◌≡◌, ◌≤◌, Result};
 ghost use Rattle.osm_value.specs.Sink.{Wrote};
 ghost use Rattle.osm_value.specs.Printing.{Prints};
-ghost use Rattle.osm_import.specs.Stores.{Stays};
+ghost use Rattle.osm_store.specs.Calls.{OfHeld};
+ghost use Rattle.osm_store.specs.Held.{HeldMap};
+ghost use Rattle.osm_import.specs.Stores.{HoldsStill, Keeps, Stays};
 ghost use Rattle.osm_import.specs.declared.copy.CopyCounts.{CopyCounts as CopyCountsValue};
 ghost use Rattle.osm_import.specs.declared.copy.CopyStop.{CopyStop as CopyStopValue};
 ghost use Rattle.pbfrow_commands.specs.Copying.{CopiesStore, copied_line, outcome_line, copy_status};
@@ -54,6 +56,10 @@ pub fn migrate<F: Reader, T: Keeper, S: Sink>(
 ) -> u8
     ensures copies { (outcome : Result CopyCountsValue CopyStopValue) × CopiesStore F.Reader T.Reader from.old from.new to.old to.new outcome
         × Wrote (S.written out.old) (outcome_line outcome) (S.written out.new) (S.has_failed out.new) × (result ≡ copy_status outcome (S.has_failed out.new)) }
+
+    // What the other store held stays whatever the first one holds and gives, also after a crash.
+    ensures stays { OfHeld T.Reader to.old to.new (λ held. T.is_open to.new → HoldsStill T.Reader to.new held) }
+    ensures left { OfHeld T.Reader to.old to.new (λ held. (left : HeldMap) → T.leaves to.new left → Keeps held left) }
     ensures source { Stays F.Reader from.old from.new }
     ensures bound { result ≤ 1 }
 {

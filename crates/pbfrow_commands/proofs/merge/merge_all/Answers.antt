@@ -1,5 +1,6 @@
 use Rattle.std.proofs.Common.{[], Ok, Err, refl, arith}
 use Rattle.osm_value.proofs.SinkLemmas.{started}
+use Rattle.osm_import.proofs.CopiesLemmas.{held-still}
 use Rattle.pbfrow_commands.proofs.MergingLemmas.{copied-merges, merges-take}
 use Rattle.pbfrow_commands.proofs.merge.merge_all.Goals as goal
 
@@ -35,3 +36,15 @@ returns-in-Err-clause-merges g c =
     let made = c.in-Err.ensures.merges in
     let old = g.S.Sink.written c.args.out.now in
     (made.0, Err c.in-Err.field-0, made.1, tt, made.3 old [] (started _ _), refl)
+
+pub returns-in-Ok-clause-stays : goal.returns-in-Ok-clause-stays
+returns-in-Ok-clause-stays g c = λ held into_holds into_honest. held-still g.T.Reader c.merge_each.new.into (Ok c.in-Ok.total) held (c.in-Ok.ensures.merges.1.kept held into_holds into_honest)
+
+pub returns-in-Ok-clause-left : goal.returns-in-Ok-clause-left
+returns-in-Ok-clause-left g c = λ held into_holds into_honest. (c.in-Ok.ensures.merges.1.kept held into_holds into_honest).crash
+
+pub returns-in-Err-clause-stays : goal.returns-in-Err-clause-stays
+returns-in-Err-clause-stays g c = λ held into_holds into_honest. held-still g.T.Reader c.merge_each.new.into (Err c.in-Err.field-0) held (c.in-Err.ensures.merges.1.kept held into_holds into_honest)
+
+pub returns-in-Err-clause-left : goal.returns-in-Err-clause-left
+returns-in-Err-clause-left g c = λ held into_holds into_honest. (c.in-Err.ensures.merges.1.kept held into_holds into_honest).crash

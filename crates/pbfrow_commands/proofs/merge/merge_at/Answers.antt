@@ -1,12 +1,14 @@
 use Rattle.std.proofs.Common.{◌∷◌, [], Result, sym, subst}
 use Rattle.osm_value.specs.Sink.{Writes}
 use Rattle.osm_store.specs.Held.{HeldMap}
+use Rattle.osm_import.specs.Stores.{KeepsHeld}
 use Rattle.osm_import.specs.declared.copy.CopyCounts.{CopyCounts}
+use Rattle.osm_import.proofs.CopiesLemmas.{kept-still}
 use Rattle.osm_parts.proofs.OpeningLemmas.{same-held, opened-closed}
 use Rattle.osm_parts.specs.Opening.{OnlyOpens}
 use Rattle.pbfrow_commands.specs.Merging.{CopiesAt, IsOwnMerge, MergeHasCause, TakesOf, store_line}
 use Rattle.pbfrow_commands.specs.declared.merge.MergeStop.{MergeStop}
-use Rattle.pbfrow_commands.proofs.MergingLemmas.{takes-none, copies-at, crash-takes, own-merged, cause-merged, line-merged, opens-merged}
+use Rattle.pbfrow_commands.proofs.MergingLemmas.{takes-none, copies-at, crash-takes, own-merged, cause-merged, kept-merged, line-merged, opens-merged}
 use Rattle.pbfrow_commands.proofs.merge.merge_at.Goals as goal
 
 pub returns-in-Err-clause-copies : goal.returns-in-Err-clause-copies
@@ -16,8 +18,14 @@ pub returns-in-Err-clause-crash : goal.returns-in-Err-clause-crash
 returns-in-Err-clause-crash g c = λ maps source held holds honest at into_holds into_honest left may.
     subst (λ (h : HeldMap). TakesOf (source ∷ []) held h) (sym (g.met.T.Reader.settled _ held left into_holds may)) (takes-none (source ∷ []) held)
 
+pub returns-in-Err-clause-kept : goal.returns-in-Err-clause-kept
+returns-in-Err-clause-kept g c = λ held into_holds into_honest. kept-still g.T.Reader c.args.into.now _ held into_holds (λ left may. g.met.T.Reader.settled _ held left into_holds may)
+
 pub returns-in-Err-clause-whole : goal.returns-in-Err-clause-whole
-returns-in-Err-clause-whole g c = λ maps source held holds honest at into_holds into_honest. g.met.T.Reader.leaves_held _ held into_holds
+returns-in-Err-clause-whole g c = λ held into_holds into_honest. g.met.T.Reader.leaves_held _ held into_holds
+
+pub returns-in-Err-clause-alone : goal.returns-in-Err-clause-alone
+returns-in-Err-clause-alone g c = λ held into_holds into_honest alone. alone
 
 pub returns-in-Err-clause-own : goal.returns-in-Err-clause-own
 returns-in-Err-clause-own g c = λ maps source held holds honest at into_holds into_honest. c.in-Err.ensures.own maps holds honest
@@ -44,13 +52,17 @@ returns-clause-crash g c = λ maps source held holds honest at into_holds into_h
     let from_holds = subst (λ (m : HeldMap). g.F.Reader.holds c.in-Ok.store m) (same-held maps c.args.place it.held source it.at at) it.store in
     crash-takes (g.T.Reader.leaves c.merge_one-outcome.new.into) source held left c.merge_one-outcome.result (made.copies.crash source held from_holds both.1 into_holds into_honest) may
 
+pub returns-clause-kept : goal.returns-clause-kept
+returns-clause-kept g c = λ held into_holds into_honest.
+    let into = c.merge_one-outcome.new.into in
+    subst (λ (r : Result CopyCounts MergeStop). KeepsHeld g.T.Reader into r held) (sym c.merged.ensures)
+    (kept-merged g.T.Reader into c.merge_one-outcome.result held (c.merge_one-outcome.ensures.copies.kept held into_holds into_honest))
+
 pub returns-clause-whole : goal.returns-clause-whole
-returns-clause-whole g c = λ maps source held holds honest at into_holds into_honest.
-    let both = c.close.ensures.honest honest in
-    let made = c.merge_one-outcome.ensures in
-    let it = c.in-Ok.ensures.lent maps holds both.0 (made.source.stays.honest both.1) in
-    let from_holds = subst (λ (m : HeldMap). g.F.Reader.holds c.in-Ok.store m) (same-held maps c.args.place it.held source it.at at) it.store in
-    made.copies.whole source held from_holds both.1 into_holds into_honest
+returns-clause-whole g c = c.merge_one-outcome.ensures.copies.whole
+
+pub returns-clause-alone : goal.returns-clause-alone
+returns-clause-alone g c = c.merge_one-outcome.ensures.copies.alone
 
 pub returns-clause-own : goal.returns-clause-own
 returns-clause-own g c = λ maps source held holds honest at into_holds into_honest.
@@ -75,7 +87,7 @@ pub returns-clause-cause : goal.returns-clause-cause
 returns-clause-cause g c =
     let O = g.O.Openings in
     let T = g.T.Reader in
-    subst (λ (r : Result CopyCounts MergeStop). MergeHasCause (O.failures c.args.openings.now) (O.failures c.close.new.self) (T.failures c.merge_one-outcome.new.into) r) (sym c.merged.ensures)
+    subst (λ (r : Result CopyCounts MergeStop). MergeHasCause (O.failures c.args.openings.now) (O.failures c.close.new.self) (T.failures c.args.into.now) (T.failures c.merge_one-outcome.new.into) r) (sym c.merged.ensures)
     (cause-merged _ _ _ _ _ _ _ c.merge_one-outcome.result c.in-Ok.ensures.counted c.close.ensures.counted c.merge_one-outcome.ensures.copies.cause)
 
 pub returns-clause-line : goal.returns-clause-line

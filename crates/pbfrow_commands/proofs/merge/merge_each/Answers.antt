@@ -3,6 +3,8 @@ use Rattle.std.proofs.lemmas.List.{take_all}
 use Rattle.osm_value.specs.Sink.{Writes}
 use Rattle.osm_store.specs.Held.{HeldMap}
 use Rattle.osm_import.specs.declared.copy.CopyCounts.{CopyCounts}
+use Rattle.osm_import.specs.Stores.{Keeps}
+use Rattle.osm_import.proofs.CopiesLemmas.{keeps-same, keeps-then}
 use Rattle.osm_import.proofs.HandedOn.{handed}
 use Rattle.osm_parts.proofs.PieceLemmas.{held-at}
 use Rattle.pbfrow_commands.specs.Merging.{AreCopied, IsTotal, MergesStores, TakesOf, store_lines}
@@ -17,6 +19,9 @@ loop-place-init g c = record {
   from_open_if = λ o. o;
   from_kept = λ h maps holds. holds;
   from_counted = omega arith;
+  counted = omega arith;
+  kept = λ held into_holds into_honest. (held, keeps-same held, into_holds);
+  alone = λ held into_holds into_honest alone. alone;
   honest = λ h. h;
   open_if = λ o. o;
   copied = (
@@ -37,7 +42,15 @@ loop-place-preserved g c =
       from_honest = λ h. inv.from_honest (made.opens.keeps.honest h);
       from_open_if = λ o. inv.from_open_if (made.opens.keeps.open_if o);
       from_kept = λ h maps holds. made.opens.ok h maps (inv.from_kept (made.opens.keeps.honest h) maps holds);
-      from_counted = omega (arith, inv.from_counted, made.counted);
+      from_counted = omega (arith, inv.from_counted, made.counted.0);
+      counted = omega (arith, inv.counted, made.counted.1);
+      kept = λ held into_holds into_honest.
+          let before = inv.kept held into_holds (made.honest into_honest) in
+          let step = (made.kept before.0 before.2 into_honest).ok in
+          (step.0, keeps-then held before.0 step.0 before.1 step.1, step.2);
+      alone = λ held into_holds into_honest alone.
+          let before = inv.kept held into_holds (made.honest into_honest) in
+          made.alone before.0 before.2 into_honest (inv.alone held into_holds (made.honest into_honest) alone);
       honest = λ h. inv.honest (made.honest h);
       open_if = λ o. inv.open_if (made.open_if o);
       copied = (
@@ -73,8 +86,15 @@ returns-clause-merges g c =
             let it = inv.copied.3 maps held holds honest all into_holds into_honest in
             let copied = subst (λ (l : List HeldMap). AreCopied l counts held it.0) (take_all c.loop-place.place maps (omega (arith, all, c.loop-place-test.false))) it.1 in
             subst (λ (h : HeldMap). TakesOf maps held h) (sym (g.met.T.Reader.settled _ it.0 left it.2 may)) (copied-merges maps counts held it.0 copied).takes;
-        whole = λ maps held holds honest all into_holds into_honest.
-            let it = inv.copied.3 maps held holds honest all into_holds into_honest in g.met.T.Reader.leaves_held _ it.0 it.2;
+        kept = λ held into_holds into_honest.
+            let now = inv.kept held into_holds into_honest in
+            record {
+              ok = now;
+              err = tt;
+              crash = λ left may. subst (Keeps held) (sym (g.met.T.Reader.settled _ now.0 left now.2 may)) now.1;
+            };
+        whole = λ held into_holds into_honest. (let now = inv.kept held into_holds into_honest in g.met.T.Reader.leaves_held _ now.0 now.2);
+        alone = inv.alone;
         own = λ maps held holds honest all into_holds into_honest. tt;
         cause = tt;
       },
@@ -112,19 +132,25 @@ returns-in_err-counts-clause-merges g c =
             let low : c.loop-place.place < length maps = omega (arith, all, c.loop-place-test.true) in
             let at = held-at maps c.loop-place.place low in
             left-takes maps c.loop-place.place at.0 held before.0 left counts at.1 before.1 (made.crash maps at.0 before.0 (inv.from_kept earlier maps holds) honest at.1 before.2 into_honest left may);
-        whole = λ maps held holds honest all into_holds into_honest.
-            let earlier = made.opens.keeps.honest honest in
-            let before = inv.copied.3 maps held holds earlier all into_holds (made.honest into_honest) in
-            let low : c.loop-place.place < length maps = omega (arith, all, c.loop-place-test.true) in
-            let at = held-at maps c.loop-place.place low in
-            made.whole maps at.0 before.0 (inv.from_kept earlier maps holds) honest at.1 before.2 into_honest;
+        kept = λ held into_holds into_honest.
+            let before = inv.kept held into_holds (made.honest into_honest) in
+            let kept = made.kept before.0 before.2 into_honest in
+            record {
+              ok = tt;
+              err = λ up. (let now = kept.err up in (now.0, keeps-then held before.0 now.0 before.1 now.1, now.2));
+              crash = λ left may. keeps-then held before.0 left before.1 (kept.crash left may);
+            };
+        whole = λ held into_holds into_honest. (let before = inv.kept held into_holds (made.honest into_honest) in made.whole before.0 before.2 into_honest);
+        alone = λ held into_holds into_honest alone.
+            let before = inv.kept held into_holds (made.honest into_honest) in
+            made.alone before.0 before.2 into_honest (inv.alone held into_holds (made.honest into_honest) alone);
         own = λ maps held holds honest all into_holds into_honest.
             let earlier = made.opens.keeps.honest honest in
             let before = inv.copied.3 maps held holds earlier all into_holds (made.honest into_honest) in
             let low : c.loop-place.place < length maps = omega (arith, all, c.loop-place-test.true) in
             let at = held-at maps c.loop-place.place low in
             made.own maps at.0 before.0 (inv.from_kept earlier maps holds) honest at.1 before.2 into_honest;
-        cause = merge-cause-later _ _ _ _ (Err stop) inv.from_counted made.cause;
+        cause = merge-cause-later _ _ _ _ _ _ (Err stop) inv.from_counted inv.counted made.cause;
       },
       tt,
       (λ start before h. lines-end start before counts stop _ _ (made.line start _ (inv.copied.2 start before h))),
