@@ -1,6 +1,6 @@
 -- From what is read and compared to what is found.
-use Rattle.std.proofs.Common.{◌≡◌, ℕ, zero, suc, ◌+◌, ◌-◌, ◌<◌, ◌≤◌, true, true≢false, List, [], ◌∷◌, ◌++◌, map, length, take, get_or, Option, Some, None, refl, sym, ◌∙◌, ap, subst, arith, length-append}
-use Rattle.std.specs.Prelude.{IfSome, IsNone}
+use Rattle.std.proofs.Common.{◌≡◌, ℕ, zero, suc, ◌+◌, ◌<◌, ◌≤◌, true, true≢false, List, [], ◌∷◌, ◌++◌, map, length, take, get_or, Option, Some, None, Result, Ok, Err, refl, sym, ◌∙◌, ap, subst, arith, length-append}
+use Rattle.std.specs.Prelude.{IfOk, IfSome, IsNone}
 use Rattle.std.specs.List.{cons_option}
 use Rattle.std.specs.Ordering.{nat_cmp}
 use Rattle.std.specs.FinMap.{get, entries, find, is_sorted, get-entries, entries_sorted}
@@ -29,11 +29,11 @@ use Rattle.osm_verify.specs.declared.comparing.Agreement.TheVariants.{Same, Miss
 use Rattle.osm_verify.specs.declared.comparing.Depth.{Depth}
 use Rattle.osm_verify.specs.declared.comparing.Depth.TheVariants.{Elements}
 use Rattle.osm_verify.proofs.AuditLemmas.{frame-long}
-use Rattle.osm_part_audits.specs.InFile.{EndsBefore, IsIn, StandsIn}
-use Rattle.osm_part_audits.specs.Judging.{AreEntriesIn, AreJudged, IsFound, IsJudged, IsNoEntry, IsStray, IsUnlike, finding_of}
+use Rattle.osm_part_audits.specs.InFile.{EndsBefore, IsIn}
+use Rattle.osm_part_audits.specs.Judging.{AreEntriesIn, AreJudged, IsFound, IsJudged, IsNoEntry, IsStray, finding_of}
 use Rattle.osm_part_audits.specs.declared.auditing.Finding.{Finding}
 use Rattle.osm_part_audits.specs.declared.auditing.Finding.TheVariants as finding
-use Rattle.osm_part_audits.proofs.FileFrames.{one-blob, stands-within}
+use Rattle.osm_part_audits.proofs.FileRows.{one-blob, stands-within}
 
 -- ---- no good frame there
 
@@ -108,6 +108,17 @@ none-same off Same is = refl
 none-same off Missing is = absurd (cc)
 none-same off Differs is = absurd (cc)
 
+-- what is found of the bytes that were read, with nothing found
+pub read-seen : {E : Type 0} (result : Result (Option Finding) E) (depth : Depth) (known : Known) (extent : Extent) (bytes : List ℕ) (Counted : List Element → Type 0) (Rows : List ℕ → List Element → Type 0) (Holds : HeldMap → Type 0) (is_honest : Type 0)
+    → IsIn known extent.off bytes → extent.fin ≡ extent.off + length bytes
+    → IfOk result (λ found. IsNone found → (elements : List Element) × IsEntryOf (λ entry. Unit {0}) extent.off bytes elements × Counted elements × Rows bytes elements)
+    → ((held : HeldMap) → Holds held → is_honest → IfOk result (IsFound depth held extent.off bytes))
+    → IfOk result (λ found. IsNone found → (elements : List Element) × (frame : List ℕ) × IsIn known extent.off frame × IsEntryOf (λ entry. Unit {0}) extent.off frame elements
+    × Counted elements × ((held : HeldMap) → Holds held → is_honest → IsSame depth held extent.off frame) × Rows frame elements × (extent.fin ≡ extent.off + length frame))
+read-seen (Ok None) depth known extent bytes Counted Rows Holds is_honest within fin seen found = λ none. (let it = seen none in (it.0, bytes, within, it.1, it.2, found, it.3, fin))
+read-seen (Ok (Some finding)) depth known extent bytes Counted Rows Holds is_honest within fin seen found = λ none. absurd (true≢false none)
+read-seen (Err fault) depth known extent bytes Counted Rows Holds is_honest within fin seen found = tt
+
 -- ---- one more
 
 cons-append : (found : Option Finding) (xs ys : List Finding) → cons_option found xs ++ ys ≡ cons_option found (xs ++ ys)
@@ -126,7 +137,7 @@ judged-more depth held known (first ∷ extents) findings extent found judged is
 )
 
 pub entries-more : (P : ℕ → Blob → Type 0) (known : Known) (extents : List Extent) (blobs : List (List Element)) (extent : Extent) (elements : List Element) → AreEntriesIn P known extents blobs
-    → (frame : List ℕ) × IsIn known extent.off frame × IsEntryOf (P extent.off) extent.off frame elements → AreEntriesIn P known (extents ++ extent ∷ []) (blobs ++ elements ∷ [])
+    → (frame : List ℕ) × IsIn known extent.off frame × IsEntryOf (P extent.off) extent.off frame elements × (extent.fin ≡ extent.off + length frame) → AreEntriesIn P known (extents ++ extent ∷ []) (blobs ++ elements ∷ [])
 entries-more P known [] [] extent elements entries is = (is, tt)
 entries-more P known [] (blob ∷ blobs) extent elements entries is = absurd entries
 entries-more P known (first ∷ extents) [] extent elements entries is = absurd entries

@@ -1,5 +1,5 @@
 -- One store more.
-use Rattle.std.proofs.Common.{◌≡◌, ℕ, zero, suc, ◌+◌, ◌<◌, ◌≤◌, Bool, false, List, [], ◌∷◌, ◌++◌, length, take, Some, None, slice_get, Result, Ok, Err, refl, sym, ◌∙◌, ap, subst, arith, append_assoc, append-nil, add-one}
+use Rattle.std.proofs.Common.{◌≡◌, ℕ, zero, suc, ◌+◌, ◌≤◌, Bool, false, List, [], ◌∷◌, ◌++◌, length, take, Some, None, slice_get, Result, Ok, Err, refl, sym, ◌∙◌, ap, subst, arith, append_assoc, append-nil, add-one}
 use Rattle.std.specs.Prelude.{IfErr, IfOk, IfSome}
 use Rattle.osm_store.specs.Held.{HeldMap, IsApart}
 use Rattle.osm_store.specs.Keeping.{extents_of}

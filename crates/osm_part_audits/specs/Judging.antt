@@ -1,12 +1,11 @@
 -- What is found at each blob that a store holds, which ought to be one of a file.
-use Rattle.std.specs.Prelude.{◌≡◌, ℕ, ◌+◌, List, [], ◌∷◌, ◌++◌, length, Option, Some, None, IfSome}
+use Rattle.std.specs.Prelude.{◌≡◌, ℕ, ◌+◌, List, [], ◌∷◌, length, Option, Some, None, IfSome}
 use Rattle.std.specs.List.{cons_option}
 use Rattle.sqlite.specs.Tree.{Trees}
 use Rattle.osm_value.specs.declared.element.Element.{Element}
 use Rattle.osm_store.specs.Audit.{AreCountable, ShowsCounts, counts_of}
 use Rattle.osm_store.specs.Held.{Blob, HeldMap}
 use Rattle.osm_store.specs.Keeping.{AscendApart}
-use Rattle.osm_store.specs.declared.audit.counts.Counts.{Counts}
 use Rattle.osm_store.specs.declared.keeper.Extent.{Extent}
 use Rattle.osm_store.specs.declared.schema.layout.Layout.{Layout}
 use Rattle.osm_reading.specs.Framings.{Known}
@@ -63,13 +62,14 @@ AreJudged depth held known (extent ∷ extents) findings =
 
 -- ---- whatever rows the tables have
 
--- at the offset of each extent a good frame of the file stands, of a blob with these elements, of which this is so there
+-- from the offset of each extent to its end a good frame of the file stands, of a blob with these elements, of which this is so
+-- there
 abbrev pub AreEntriesIn : (ℕ → Blob → Type 0) → Known → List Extent → List (List Element) → Type 0
 AreEntriesIn P known [] [] = Unit {0}
 AreEntriesIn P known [] (elements ∷ blobs) = ⊥
 AreEntriesIn P known (extent ∷ extents) [] = ⊥
 AreEntriesIn P known (extent ∷ extents) (elements ∷ blobs) =
-    ((frame : List ℕ) × IsIn known extent.off frame × IsEntryOf (P extent.off) extent.off frame elements) × AreEntriesIn P known extents blobs
+    ((frame : List ℕ) × IsIn known extent.off frame × IsEntryOf (P extent.off) extent.off frame elements × (extent.fin ≡ extent.off + length frame)) × AreEntriesIn P known extents blobs
 
 -- The extents are those of good frames of the file, of blobs with these elements. Where SQL can count their rows, the rows at
 -- the offset of each are those of its blob, as is said of rows at an offset, and the tables have no others.

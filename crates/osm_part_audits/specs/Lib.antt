@@ -2,3 +2,4 @@ pub mod InFile
 pub mod Judging
 pub mod Faults
 pub mod Together
+pub mod Showing

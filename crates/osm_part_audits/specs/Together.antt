@@ -1,5 +1,5 @@
 -- Stores that together hold a file.
-use Rattle.std.specs.Prelude.{◌≡◌, ◌&&◌, ◌==◌, nat_lt, ℕ, ◌<◌, Bool, List, [], ◌∷◌, ◌++◌, length, Some, IfSome}
+use Rattle.std.specs.Prelude.{◌≡◌, ℕ, ◌<◌, List, [], ◌∷◌, ◌++◌, length, Some, IfSome}
 use Rattle.std.specs.FinMap.{get}
 use Rattle.osm_store.specs.Held.{Blob, HeldMap, IsApart}
 use Rattle.osm_store.specs.Keeping.{extents_of}
@@ -20,6 +20,16 @@ abbrev pub AreAllJudged : Depth → Known → List HeldMap → List Finding → 
 AreAllJudged depth known [] findings = findings ≡ []
 AreAllJudged depth known (held ∷ maps) findings =
     (own : List Finding) × (rest : List Finding) × AreJudged depth held known (extents_of held) own × AreAllJudged depth known maps rest × (findings ≡ own ++ rest)
+
+-- Of a union of what the stores hold how many blobs it has, and of a file of that size which ranges none of them covers.
+pub record Covers (known : Known) (maps : List HeldMap) (verdict : Verdict) : Type 0 where
+  pub size : ℕ
+  pub size_is : IfSome known (λ file. size ≡ length file)
+  pub whole : HeldMap
+  pub union : IsUnionOf maps whole
+  pub apart : IsApart whole
+  pub blobs : verdict.blobs ≡ length (extents_of whole)
+  pub gaps : AreGaps whole size verdict.gaps.items
 
 -- What is found at the blobs of the stores, of a union of what they hold how many blobs it has, and of a file of that size
 -- which ranges none of them covers.

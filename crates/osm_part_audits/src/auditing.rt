@@ -121,7 +121,8 @@ fn audit_extent<K: Audited, F: FileBytes>(
     ensures seen { IfOk result (λ found. IsNone found → (elements : List ElementValue) × (frame : List ℕ) × IsIn (F.bytes file.old) extent.now.off frame × IsEntryOf (λ entry. Unit {0}) extent.now.off frame elements
         × CountsMore rows.old elements rows.new
         × (OfHeld K.Reader store.old store.new (λ held. IsSame depth held extent.now.off frame))
-        × (K.is_honest store.new → K.is_open store.new → K.has_tables store.old → depth ≡ Depth.Elements → IsEntryOf (K.has_rows (K.trees store.old) extent.now.off) extent.now.off frame elements)) }
+        × (K.is_honest store.new → K.is_open store.new → K.has_tables store.old → depth ≡ Depth.Elements → IsEntryOf (K.has_rows (K.trees store.old) extent.now.off) extent.now.off frame elements)
+        × (extent.now.fin ≡ extent.now.off + length frame)) }
     ensures same { KeepsTables K.Reader store.old store.new }
     ensures rereads { Rereads K.Reader store.old result store.new }
     ensures own { OfHeld K.Reader store.old store.new (λ _. IfErr result IsOwn) }
@@ -215,6 +216,7 @@ pub fn audit_part<K: Audited, F: FileBytes>(
     depth: Depth,
 ) -> Result<Audit, AuditFault>
     ensures extents { OfHeld K.Reader store.old store.new (λ held. IfOk result (λ audit. audit.extents.items ≡ extents_of held)) }
+    ensures ranges { IfOk result (λ audit. All IsRange audit.extents.items) }
     ensures found { OfHeld K.Reader store.old store.new (λ held. IfOk result (λ audit. AreJudged depth held (F.bytes file.old) (extents_of held) audit.findings.items)) }
     // Whatever rows the tables have had: where by elements nothing was found, they have the rows of the file's blobs at these
     // extents, and no others. That leaves out more rows than SQL can count.

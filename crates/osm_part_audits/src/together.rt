@@ -1,15 +1,16 @@
 //! Several stores and the file of which they ought to hold all.
 
-ghost use Rattle.std.specs.Prelude.{◌≡◌, ◌↔◌, ◌≤◌, ◌++◌, [], ℕ, Some, IsTrue, false, List, length, slice_get, IfOk, IfErr, IfSome};
+ghost use Rattle.std.specs.Prelude.{◌≡◌, ◌↔◌, ◌≤◌, ◌++◌, [], ℕ, Some, IsTrue, false, All, List, length, slice_get, IfOk, IfErr, IfSome};
 ghost use Rattle.osm_store.specs.Held.{HeldMap, IsApart};
-ghost use Rattle.osm_store.specs.Keeping.{extents_of};
+ghost use Rattle.osm_store.specs.Keeping.{IsRange, extents_of};
 ghost use Rattle.osm_reading.specs.Framings.{Known};
 ghost use Rattle.osm_parts.specs.Opening.{OnlyOpens};
 ghost use Rattle.osm_parts.specs.Reading.{AreRead, AreStores};
 ghost use Rattle.osm_verify.specs.declared.comparing.Depth.{Depth as DepthValue};
 ghost use Rattle.osm_part_audits.specs.Faults.{AuditHasCause, IsOfParts, IsOwn};
-ghost use Rattle.osm_part_audits.specs.Judging.{AreJudged};
-ghost use Rattle.osm_part_audits.specs.Together.{AreAllJudged, HoldFile, IsClean, IsVerdict};
+ghost use Rattle.osm_part_audits.specs.Judging.{AreJudged, ShowsPart};
+ghost use Rattle.osm_part_audits.specs.Showing.{AreShownParts, IsShownAt, ShowTogether};
+ghost use Rattle.osm_part_audits.specs.Together.{AreAllJudged, Covers, HoldFile, IsClean, IsVerdict};
 
 use crate::auditing::{Audit, Finding, audit_part};
 use crate::fault::AuditFault;
@@ -72,6 +73,10 @@ fn audit_at<K: Audited + Drop, O: Openings<K>, F: FileBytes>(
     ensures found { (maps : List HeldMap) (held : HeldMap) → O.holds openings.old maps → O.is_honest openings.new → slice_get maps place ≡ Some held
         → IfOk result (λ audit. AreJudged depth held (F.bytes file.old) (extents_of held) audit.findings.items) }
     ensures apart { (maps : List HeldMap) (held : HeldMap) → O.holds openings.old maps → O.is_honest openings.new → slice_get maps place ≡ Some held → IfOk result (λ _. IsApart held) }
+    ensures ranges { IfOk result (λ audit. All IsRange audit.extents.items) }
+    ensures shown { O.is_honest openings.new → depth ≡ Depth.Elements → ((store : K) → O.lies openings.old place store → K.is_honest store → K.has_tables store)
+        → IfOk result (λ audit. audit.findings.items ≡ [] → IsShownAt (O.lies openings.old place) (λ store extents. ShowsPart (K.has_rows (K.trees store)) K.layout (K.trees store) (F.bytes file.old) extents) audit.extents.items) }
+    ensures still { (at : ℕ) (store : K) → O.lies openings.new at store → O.lies openings.old at store }
     ensures own { (maps : List HeldMap) → O.holds openings.old maps → O.is_honest openings.new → IfErr result IsOwn }
     ensures opens { OnlyOpens O.holds O.is_honest O.is_open openings.old result openings.new }
     ensures cause { (maps : List HeldMap) → O.holds openings.old maps → O.is_honest openings.new → IfErr result (AuditHasCause (O.failures openings.old) (O.failures openings.new)) }
@@ -94,6 +99,9 @@ fn gather<K: Audited + Drop, O: Openings<K>, F: FileBytes>(
 ) -> Result<Gathered, AuditFault>
     ensures read { (maps : List HeldMap) → O.holds openings.old maps → O.is_honest openings.new → length maps ≡ count → IfOk result (λ all. AreStores false 0 maps all.stores.items) }
     ensures found { (maps : List HeldMap) → O.holds openings.old maps → O.is_honest openings.new → length maps ≡ count → IfOk result (λ all. AreAllJudged depth (F.bytes file.old) maps all.findings.items) }
+    ensures many { IfOk result (λ all. length all.stores.items ≡ count) }
+    ensures shown { O.is_honest openings.new → depth ≡ Depth.Elements → ((place : ℕ) (store : K) → O.lies openings.old place store → K.is_honest store → K.has_tables store)
+        → IfOk result (λ all. all.findings.items ≡ [] → AreShownParts (O.lies openings.old) (λ store extents. ShowsPart (K.has_rows (K.trees store)) K.layout (K.trees store) (F.bytes file.old) extents) 0 all.stores.items) }
     ensures own { (maps : List HeldMap) → O.holds openings.old maps → O.is_honest openings.new → IfErr result IsOwn }
     ensures opens { OnlyOpens O.holds O.is_honest O.is_open openings.old result openings.new }
     ensures cause { (maps : List HeldMap) → O.holds openings.old maps → O.is_honest openings.new → IfErr result (AuditHasCause (O.failures openings.old) (O.failures openings.new)) }
@@ -123,6 +131,8 @@ fn verdict_of(
 ) -> Result<Verdict, AuditFault>
     ensures verdict { (maps : List HeldMap) (depth : DepthValue) (known : Known) → AreRead maps false parts.now → AreAllJudged depth known maps findings.items → IfSome known (λ file. size ≡ length file)
         → IfOk result (IsVerdict depth known maps) }
+    ensures covers { (maps : List HeldMap) (known : Known) → AreRead maps false parts.now → IfSome known (λ file. size ≡ length file) → IfOk result (Covers known maps) }
+    ensures findings { IfOk result (λ verdict. verdict.findings.items ≡ findings.items) }
     ensures fault { (maps : List HeldMap) → IfErr result (IsOfParts maps) }
     ensures cause { (before : ℕ) (now : ℕ) → IfErr result (AuditHasCause before now) }
 {
@@ -153,6 +163,10 @@ pub fn audit_parts<K: Audited + Drop, O: Openings<K>, F: FileBytes>(
     // Where it agrees, the stores hold the file: each blobs of its frames, and together what an import of it comes to.
     ensures exact { (maps : List HeldMap) → O.holds openings.old maps → O.is_honest openings.new → length maps ≡ count
         → IfOk result (λ verdict. IsClean verdict → IfSome (F.bytes file.old) (λ bytes. HoldFile depth bytes maps)) }
+    // Whatever rows the tables have had: where by elements it agrees, the rows of each store are those of the frames of the file
+    // that its extents name, and no others, and each frame of the file is named. That leaves out more rows than SQL can count.
+    ensures shown { O.is_honest openings.new → depth ≡ Depth.Elements → ((place : ℕ) (store : K) → O.lies openings.old place store → K.is_honest store → K.has_tables store)
+        → IfOk result (λ verdict. IsClean verdict → IfSome (F.bytes file.old) (λ bytes. ShowTogether (O.lies openings.old) (λ store extents. ShowsPart (K.has_rows (K.trees store)) K.layout (K.trees store) (Some bytes) extents) count bytes)) }
     ensures fault { (maps : List HeldMap) → O.holds openings.old maps → O.is_honest openings.new → length maps ≡ count → IfErr result (IsOfParts maps) }
     ensures opens { OnlyOpens O.holds O.is_honest O.is_open openings.old result openings.new }
     ensures cause { (maps : List HeldMap) → O.holds openings.old maps → O.is_honest openings.new → IfErr result (AuditHasCause (O.failures openings.old) (O.failures openings.new)) }

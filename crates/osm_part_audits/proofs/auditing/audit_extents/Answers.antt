@@ -1,10 +1,7 @@
 use Rattle.std.specs.Prelude.{IsNone}
 use Rattle.std.proofs.Common.{◌≡◌, ◌∙◌, ◌++◌, ◌∷◌, ◌+◌, List, [], Option, get_or, take, refl, sym, ap, subst, arith}
-use Rattle.std.specs.List.{cons_option}
 use Rattle.sqlite.specs.Tree.{Trees}
-use Rattle.osm_value.specs.declared.element.Element.{Element}
 use Rattle.osm_store.specs.Audit.{counts_of, elements_held}
-use Rattle.osm_store.specs.Held.{HeldMap}
 use Rattle.osm_store.specs.declared.keeper.Extent.{Extent}
 use Rattle.osm_reading.specs.Framings.{Known}
 use Rattle.osm_verify.specs.Agreements.{IsSame}
@@ -76,7 +73,7 @@ loop-extent-preserved g c =
             before.0 ++ it.0 ∷ [],
             it.4 before.0 before.1,
             subst (λ (es : List Extent). AreEntriesIn (λ off blob. Unit {0}) known es (before.0 ++ it.0 ∷ [])) (sym taken)
-                (entries-more (λ off blob. Unit {0}) known (take i extents) before.0 extent it.0 before.2 (it.1, within, it.3)),
+                (entries-more (λ off blob. Unit {0}) known (take i extents) before.0 extent it.0 before.2 (it.1, within, it.3, it.7)),
             (λ honest up tables deep.
                 let earlier = stays.honest honest in
                 let sooner = stays.open_if up in
@@ -85,7 +82,7 @@ loop-extent-preserved g c =
                 let own : IsEntryOf (P extent.off) extent.off it.1 it.0 = subst (λ (db : Trees). IsEntryOf (A.has_rows db extent.off) extent.off it.1 it.0) (g.met.K.Audited.same_trees _ _ first)
                 (it.6 honest up (g.met.K.Audited.same_has_tables _ _ first tables) deep) in
                 subst (λ (es : List Extent). AreEntriesIn P known es (before.0 ++ it.0 ∷ [])) (sym taken)
-                (entries-more P known (take i extents) before.0 extent it.0 (before.3 earlier sooner tables deep) (it.1, within, own))),
+                (entries-more P known (take i extents) before.0 extent it.0 (before.3 earlier sooner tables deep) (it.1, within, own, it.7))),
           );
     }
 

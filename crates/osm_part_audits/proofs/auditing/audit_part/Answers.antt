@@ -1,4 +1,4 @@
-use Rattle.std.proofs.Common.{◌≡◌, ◌≤◌, ◌∙◌, [], List, sym, subst, arith}
+use Rattle.std.proofs.Common.{◌∙◌, List, sym, subst, arith}
 use Rattle.sqlite.specs.Tree.{Trees}
 use Rattle.osm_store.specs.Audit.{AreCountable, ShowsCounts, counts_of}
 use Rattle.osm_store.specs.declared.audit.counts.Counts.{Counts}

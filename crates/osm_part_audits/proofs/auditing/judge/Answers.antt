@@ -1,4 +1,4 @@
-use Rattle.std.proofs.Common.{◌≡◌, List, Option, refl, sym, ◌∙◌, subst}
+use Rattle.std.proofs.Common.{List, Option, refl, sym, ◌∙◌, subst}
 use Rattle.osm_value.specs.declared.element.Element.{Element}
 use Rattle.osm_import.proofs.Delivering.{entry_at, entry_at-is}
 use Rattle.osm_verify.specs.Audits.{CountsMore, IsEntryOf}

@@ -1,4 +1,5 @@
 use Rattle.std.proofs.Common.{subst}
+use Rattle.std.proofs.lemmas.Result.{IfOk-weaker}
 use Rattle.osm_store.specs.Held.{HeldMap}
 use Rattle.osm_parts.proofs.OpeningLemmas.{opened-closed, same-held}
 use Rattle.osm_part_audits.proofs.TogetherLemmas.{audit-closed, if-ok-all}
@@ -44,3 +45,11 @@ returns-clause-opens g c =
     let closed = c.close.ensures in
     opened-closed O.holds O.lends O.is_honest O.is_open g.K.Reader c.args.openings.now c.open.new.self c.close.new.self c.in_ok-store.store c.audit_part-answer.new.store c.args.place c.audit_part-answer.result
     opened.lent opened.honest opened.open_if c.audit_part-answer.ensures.rereads closed.back closed.honest closed.open_if
+
+pub returns-clause-shown : goal.returns-clause-shown
+returns-clause-shown g c = λ honest deep tables.
+    let both = c.close.ensures.honest honest in
+    let first = c.audit_part-answer.ensures.rereads.stays.honest both.1 in
+    let store = c.in_ok-store.store in
+    let there = c.in_ok-store.ensures.given in
+    IfOk-weaker c.audit_part-answer.result _ _ (λ audit shown none. record { store = store; there = there; shown = shown none }) (c.audit_part-answer.ensures.shown both.1 (tables store there first) deep)

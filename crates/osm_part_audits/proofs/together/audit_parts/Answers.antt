@@ -1,4 +1,4 @@
-use Rattle.std.proofs.Common.{◌≡◌, ◌∙◌, false, List, sym, subst}
+use Rattle.std.proofs.Common.{◌≡◌, false, List, [], sym, subst}
 use Rattle.std.proofs.lemmas.Result.{IfOk-weaker}
 use Rattle.osm_reading.specs.Framings.{Known}
 use Rattle.osm_parts.specs.Reading.{AreRead, AreStores}
@@ -6,7 +6,10 @@ use Rattle.osm_parts.specs.declared.runs.Part.{Part}
 use Rattle.osm_parts.proofs.OpeningLemmas.{if-err}
 use Rattle.osm_part_audits.specs.Faults.{AuditHasCause, IsOfParts}
 use Rattle.osm_part_audits.specs.declared.fault.AuditFault.TheVariants.{Parts}
+use Rattle.osm_part_audits.specs.Judging.{ShowsPart}
+use Rattle.osm_part_audits.specs.Showing.{AreShownParts}
 use Rattle.osm_part_audits.specs.Together.{AreAllJudged}
+use Rattle.osm_part_audits.proofs.ShowingLemmas.{shown-known}
 use Rattle.osm_part_audits.proofs.TogetherLemmas.{agreed-known, own-parts}
 use Rattle.osm_part_audits.proofs.together.audit_parts.Goals as goal
 
@@ -22,6 +25,23 @@ returns-clause-told g c = λ maps holds honest all.
 pub returns-clause-exact : goal.returns-clause-exact
 returns-clause-exact g c = λ maps holds honest all.
     IfOk-weaker c.verdict_of.result _ _ (λ verdict is agreed. agreed-known c.args.depth (g.F.FileBytes.bytes c.args.file.now) maps verdict is agreed) (returns-clause-told g c maps holds honest all)
+
+pub returns-clause-shown : goal.returns-clause-shown
+returns-clause-shown g c = λ honest deep tables.
+    let A = g.K.Audited in
+    let O = g.O.Openings in
+    let made = c.in_ok-all.ensures in
+    let known : Known = g.F.FileBytes.bytes c.args.file.now in
+    let before : Known = g.F.FileBytes.bytes c.size_of.new.file in
+    let stores = c.in_ok-all.all.stores.items in
+    let findings = c.in_ok-all.all.findings.items in
+    shown-known (O.lies c.args.openings.now) (λ store. A.has_rows (A.trees store)) A.layout A.trees known c.verdict_of.result c.args.count stores findings
+    (subst (λ (k : Known). findings ≡ [] → AreShownParts (O.lies c.args.openings.now) (λ store extents. ShowsPart (A.has_rows (A.trees store)) A.layout (A.trees store) k extents) 0 stores) c.in_ok-size.ensures.kept (made.shown honest deep tables))
+    made.many c.verdict_of.ensures.findings
+    (λ maps are. (
+    let there = subst (λ (l : List Part). AreStores false 0 maps l) (sym c.deref.ensures.value) are in
+    let read = subst (λ (l : List Part). AreRead maps false l) (sym c.deref-2.ensures.value) (c.in_ok-parts.ensures.read maps false there) in
+    c.verdict_of.ensures.covers maps known read c.in_ok-size.ensures.told))
 
 pub returns-in_err-size-clause-fault : goal.returns-in_err-size-clause-fault
 returns-in_err-size-clause-fault g c = λ maps holds honest all. if-err c.from_residual.result c.in_err-size.field-0.0 (IsOfParts maps) c.from_residual.ensures.1 (c.in_err-size.ensures.fault maps)

@@ -1,4 +1,4 @@
-use Rattle.std.proofs.Common.{◌≡◌, ◌≤◌, ◌<◌, ◌+◌, ◌++◌, ◌∷◌, ◌∙◌, [], false, List, length, take, refl, sym, ap, subst, arith}
+use Rattle.std.proofs.Common.{◌≡◌, ◌<◌, ◌+◌, ◌++◌, ◌∷◌, ◌∙◌, [], false, List, length, take, refl, sym, ap, subst, arith, length-append}
 use Rattle.std.proofs.lemmas.List.{take_all, length-take}
 use Rattle.osm_store.specs.Held.{HeldMap}
 use Rattle.osm_reading.specs.Framings.{Known}
@@ -6,11 +6,15 @@ use Rattle.osm_parts.specs.Reading.{AreStores, IsReadOf}
 use Rattle.osm_parts.specs.declared.runs.Part.{Part}
 use Rattle.osm_parts.proofs.PieceLemmas.{held-at}
 use Rattle.osm_store.specs.Keeping.{extents_of}
+use Rattle.osm_store.specs.declared.keeper.Extent.{Extent}
 use Rattle.osm_parts.proofs.OpeningLemmas.{if-err}
 use Rattle.osm_part_audits.specs.Faults.{AuditHasCause, IsOwn}
-use Rattle.osm_part_audits.specs.Judging.{AreJudged}
+use Rattle.osm_part_audits.specs.Judging.{AreJudged, ShowsPart}
+use Rattle.osm_part_audits.specs.Showing.{AreShownParts, IsShownAt, IsShownPart}
 use Rattle.osm_part_audits.specs.Together.{AreAllJudged}
 use Rattle.osm_part_audits.specs.declared.auditing.Finding.{Finding}
+use Rattle.osm_part_audits.proofs.FileFrames.{both-none}
+use Rattle.osm_part_audits.proofs.ShowingLemmas.{none-shown, shown-more}
 use Rattle.osm_part_audits.proofs.TogetherLemmas.{all-more, audit-later, no-stores, nothing-judged, stores-more, taken-place}
 use Rattle.osm_part_audits.proofs.together.gather.Goals as goal
 
@@ -20,6 +24,9 @@ loop-place-init g c = record {
   open_if = λ o. o;
   kept = λ h maps holds. holds;
   counted = omega arith;
+  still = λ at store lies. lies;
+  many = ap length c.new-stores.ensures.items;
+  shown = λ honest deep tables none. none-shown _ _ 0 _ c.new-stores.ensures.items;
   bytes = refl;
   read = λ maps holds honest all. subst (λ (l : List Part). AreStores false 0 (take 0 maps) l) (sym c.new-stores.ensures.items) (no-stores maps);
   found = λ maps holds honest all. nothing-judged c.args.depth (g.F.FileBytes.bytes c.args.file.now) maps _ c.new-findings.ensures.items;
@@ -33,11 +40,31 @@ loop-place-preserved g c =
     let known : Known = F.bytes c.args.file.now in
     let place = c.loop-place.place in
     let audit = c.in_ok-audit.audit in
+    let O = g.O.Openings in
+    let A = g.K.Audited in
+    let part : Part = record { place = place; extents = audit.extents; history = false } in
     record {
       honest = λ h. inv.honest (made.opens.keeps.honest h);
       open_if = λ o. inv.open_if (made.opens.keeps.open_if o);
       kept = λ h maps holds. made.opens.ok h maps (inv.kept (made.opens.keeps.honest h) maps holds);
       counted = omega (arith, inv.counted, made.counted);
+      still = λ at store lies. inv.still at store (made.still at store lies);
+      many = omega (arith, ap length c.in_ok-push.ensures.items, length-append c.loop-place.stores.items (part ∷ []), inv.many);
+      shown = λ honest deep tables none.
+          let both = both-none c.loop-place.findings.items audit.findings.items
+          (sym (c.in_ok-extend_from_slice.ensures.items ∙ ap (λ (fs : List Finding). c.loop-place.findings.items ++ fs) c.deref.ensures.value) ∙ none) in
+          let before = inv.shown (made.opens.keeps.honest honest) deep tables both.0 in
+          let shows : g.row.K.Denot → List Extent → Type 0 = λ store extents. ShowsPart (A.has_rows (A.trees store)) A.layout (A.trees store) known extents in
+          let own = made.shown honest deep (λ store lies. tables place store (inv.still place store lies)) both.1 in
+          let here : IsShownAt (O.lies c.args.openings.now place) shows audit.extents.items = record {
+            store = own.store;
+            there = inv.still place own.store own.there;
+            shown = subst (λ (k : Known). ShowsPart (A.has_rows (A.trees own.store)) A.layout (A.trees own.store) k audit.extents.items) inv.bytes own.shown;
+          } in
+          let at : place ≡ 0 + length c.loop-place.stores.items = omega (arith, inv.many) in
+          subst (λ (l : List Part). AreShownParts (O.lies c.args.openings.now) shows 0 l) (sym c.in_ok-push.ensures.items)
+          (shown-more (O.lies c.args.openings.now) shows 0 c.loop-place.stores.items part before
+          (subst (λ n. IsShownPart (O.lies c.args.openings.now n) shows n part) at (record { placed = refl; plain = refl; ranges = made.ranges; at = here })));
       bytes = made.kept ∙ inv.bytes;
       read = λ maps holds honest all.
           let earlier = made.opens.keeps.honest honest in
@@ -81,3 +108,6 @@ returns-in_err-audit-clause-cause g c = λ maps holds honest.
     let now = g.O.Openings.failures c.audit_at.new.openings in
     if-err c.from_residual.result c.in_err-audit.field-0.0 (AuditHasCause old now) c.from_residual.ensures.1
     (audit-later old (g.O.Openings.failures c.loop-place.openings) now c.in_err-audit.field-0.0 c.loop-place.invariant.counted (failed.cause maps (c.loop-place.invariant.kept (failed.opens.keeps.honest honest) maps holds) honest))
+
+pub returns-clause-shown : goal.returns-clause-shown
+returns-clause-shown g c = λ honest deep tables none. c.loop-place.invariant.shown honest deep tables none
