@@ -31,7 +31,9 @@ use Rattle.sqlite_store.specs.Db.{IsFile}
 use Rattle.sqlite_store.specs.Saved.{kept_schema}
 use Rattle.sqlite_store.specs.declared.store.FileStore.{FileStore}
 use Rattle.sqlite_store.specs.FileStore.{state, view, schema_of, IsReady}
+use Rattle.osm_openings.specs.Asked.{AreAsAsked, ListsAsAsked}
 use Rattle.osm_openings.specs.Catalog.{listings, AreListed, ListsFirst}
+use Rattle.osm_tree_writes.specs.Tables.{table_listings}
 use Rattle.sqlite_value.specs.declared.keys.Order.{Order}
 use Rattle.sqlite_store.specs.Roots.{has_index_root}
 use Rattle.osm_openings.specs.Presumed.{NamesSize, ReadsAs, root_order, told_roots}
@@ -92,7 +94,7 @@ present_among o [] h = absurd (cc)
 present_among o (r ∷ rows) h =
     elim (or_cases (describes (wanted_of o) r) (list_any (λ row. describes (wanted_of o) row) rows) h) [ inl here ↦ present_in o r here | inr later ↦ present_among o rows later ]
 
-all_present : (objects : List Object) (rows : List Row) → AreListed objects rows → (k : ℕ) (o : Object) → slice_get objects k ≡ Some o → is_present o.shape ≡ true
+pub all_present : (objects : List Object) (rows : List Row) → AreListed objects rows → (k : ℕ) (o : Object) → slice_get objects k ≡ Some o → is_present o.shape ≡ true
 all_present [] rows listed k o at = absurd (none-some o at)
 all_present (p ∷ objects) rows all zero o at =
     ap (λ (x : Object). is_present x.shape) (sym (same_Some p o at)) ∙ present_among p rows (and_parts (list_any (λ row. describes (wanted_of p) row) rows) _ all).0
@@ -137,6 +139,12 @@ first_listings objects rows expected is lists =
   where
     at_zero : (k : ℕ) → k ≡ 0 + k
     at_zero k = omega arith
+
+-- with each other tree listed as its row asks, that is a store's list beside others
+pub lists_as_asked : (objects : List Object) (rows : List Row) → listings 0 objects ≡ table_listings → ListsFirst objects rows → AreAsAsked (length objects) rows → ListsAsAsked rows
+lists_as_asked objects rows are first asked =
+    let nine : length objects ≡ 9 = sym (length-listings 0 objects) ∙ ap (λ (xs : List Row). length xs) are in
+    record { own = first_listings objects rows table_listings are first; asked = subst (λ n. AreAsAsked n rows) nine asked }
 
 pub of_some : {X : Type 0} (P : X → Type 0) (o : Option X) (x : X) → o ≡ Some x → IfSome o P → P x
 of_some P o x e h = subst (λ o. IfSome o P) e h

@@ -36,9 +36,9 @@ StandApart objects others rows = list_all (λ row. not (is_left_out row) || is_f
 abbrev pub AreInOrder : List Row → Type 0
 AreInOrder rows = are_in_order [] (map (head_at 1) rows) ≡ true
 
--- the row without its root page, as that of tree `tree`
-abbrev pub numbered : ℕ → Row → Row
-numbered tree row = Int (pos (tree + 1)) ∷ column row 1 ∷ column row 2 ∷ column row 3 ∷ column row 5 ∷ []
+-- The row without its root page, as that of the first tree behind those of a store: of the others it doesn't matter which it is.
+abbrev pub numbered : Row → Row
+numbered row = Int (pos 10) ∷ column row 1 ∷ column row 2 ∷ column row 3 ∷ column row 5 ∷ []
 
 -- each object has its row at its place in the list, so that they are the first
 abbrev pub ListsFirst : List Object → List Row → Type 0

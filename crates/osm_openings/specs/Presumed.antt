@@ -1,5 +1,5 @@
 -- What is presumed of two files that are opened with most of their pages unread, and what the trees are that such files read as.
-use Rattle.std.specs.Prelude.{◌≡◌, ℕ, ◌+◌, Bool, List, [], ◌∷◌, ◌++◌, map, length, IsTrue, Option, Some, None, if◌then◌else◌}
+use Rattle.std.specs.Prelude.{◌≡◌, ℕ, Bool, List, [], ◌∷◌, ◌++◌, map, IsTrue, Option, Some, None, if◌then◌else◌}
 use Rattle.sqlite_value.specs.Order.{Row, column}
 use Rattle.sqlite_value.specs.declared.keys.Order.{Order}
 use Rattle.sqlite_trees.specs.Sound.{is_text_only}
@@ -43,19 +43,19 @@ abbrev pub foreign_shape : Row → Option Order → Shape
 foreign_shape row root = if is_text_only (column row 1) then Pageless else tree_shape (plain_index row) root
 
 -- the tree of a row that is none of a store's own
-abbrev pub foreign_tree : ℕ → Row → Option Order → Wanted
-foreign_tree tree row root =
-    record { shape = foreign_shape (numbered tree row) root; reals = 0; row = column row 1 ∷ column row 2 ∷ column row 3 ∷ column row 5 ∷ [] }
+abbrev pub foreign_tree : Row → Option Order → Wanted
+foreign_tree row root =
+    record { shape = foreign_shape (numbered row) root; reals = 0; row = column row 1 ∷ column row 2 ∷ column row 3 ∷ column row 5 ∷ [] }
 
--- those of these rows, from this number on
-abbrev pub foreign_trees : ℕ → List Row → List (Option Order) → List Wanted
-foreign_trees tree [] roots = []
-foreign_trees tree (row ∷ rows) [] = []
-foreign_trees tree (row ∷ rows) (root ∷ roots) = foreign_tree tree row root ∷ foreign_trees (tree + 1) rows roots
+-- those of these rows
+abbrev pub foreign_trees : List Row → List (Option Order) → List Wanted
+foreign_trees [] roots = []
+foreign_trees (row ∷ rows) [] = []
+foreign_trees (row ∷ rows) (root ∷ roots) = foreign_tree row root ∷ foreign_trees rows roots
 
 -- the whole list: the objects, and the trees of these rows behind them
 abbrev pub trees_of : List Object → List Row → List (Option Order) → List Wanted
-trees_of objects rows roots = map wanted_of objects ++ foreign_trees (length objects) rows roots
+trees_of objects rows roots = map wanted_of objects ++ foreign_trees rows roots
 
 -- of each of these rows, the order of its tree if its root page begins an index
 abbrev pub told_roots : List Row → List Row → List Bool → List (Option Order)

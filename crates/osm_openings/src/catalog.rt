@@ -1,7 +1,7 @@
 //! The list of a database's trees, as its `sqlite_schema` tells of them: first those of a store, wherever their rows stand,
 //! and then all others.
 
-ghost use Rattle.std.specs.Prelude.{◌≡◌, ◌<◌, ◌^◌, ◌&&◌, ◌||◌, if◌then◌else◌, not, map, length, None, Some, IsTrue, IfOk, IfSome};
+ghost use Rattle.std.specs.Prelude.{◌≡◌, ◌&&◌, ◌||◌, if◌then◌else◌, not, map, length, None, Some, IsTrue, IfOk, IfSome};
 ghost use Rattle.std.specs.List.{list_any, list_all};
 ghost use Rattle.sqlite_value.specs.declared.value.Value.TheVariants.{Text};
 ghost use Rattle.sqlite_value.specs.Value.{owned};
@@ -27,6 +27,9 @@ use std::str::from_utf8;
 
 /// How many trees a list can have beside those of a store.
 const MAX_TREES: usize = 65_536;
+
+/// The rowid in the list of the first tree behind those of a store.
+const FIRST_FOREIGN: i64 = 10;
 
 /// Whether a tree is there.
 fn is_present(shape: Shape) -> bool
@@ -142,13 +145,12 @@ pub(crate) fn can_be_listed(objects: &[Object<'_>], others: &[Row], rows: &[Row]
     are_listed(objects, rows) && stand_apart(objects, others, rows) && are_in_order(rows, 1)
 }
 
-/// A row without its root page, as that of the tree with this number.
-fn numbered(alloc: Global, tree: usize, row: &Row) -> Result<Row, AllocError>
-    requires { tree < 2 ^ 62 }
-    ensures { IfOk result (λ all. all ≡ numbered tree row.now) }
+/// A row without its root page, as that of the first tree behind those of a store.
+fn numbered(alloc: Global, row: &Row) -> Result<Row, AllocError>
+    ensures { IfOk result (λ all. all ≡ numbered row.now) }
 {
     let mut all = Row::new(alloc);
-    all.push(ValueRef::Int((tree + 1) as i64))?;
+    all.push(ValueRef::Int(FIRST_FOREIGN))?;
     all.push(row.get(1))?;
     all.push(row.get(2))?;
     all.push(row.get(3))?;
@@ -171,19 +173,13 @@ fn tree_shape(alloc: Global, row: &Row, root: Option<Order>) -> Result<Shape, Al
 }
 
 /// The shape of a tree that is none of a store's own: one of another program is read as it is and never written.
-fn foreign_shape(
-    alloc: Global,
-    tree: usize,
-    row: &Row,
-    root: Option<Order>,
-) -> Result<Shape, AllocError>
-    requires { tree < 2 ^ 62 }
-    ensures { IfOk result (λ shape. shape ≡ foreign_shape (numbered tree row.now) root) }
+fn foreign_shape(alloc: Global, row: &Row, root: Option<Order>) -> Result<Shape, AllocError>
+    ensures { IfOk result (λ shape. shape ≡ foreign_shape (numbered row.now) root) }
 {
     if is_text_only(row.get(1)) {
         Ok(Shape::Pageless)
     } else {
-        tree_shape(alloc, &numbered(alloc, tree, row)?, root)
+        tree_shape(alloc, &numbered(alloc, row)?, root)
     }
 }
 
@@ -247,14 +243,12 @@ fn text_or_none_in(value: ValueRef<'_>) -> Option<Option<&str>>
 /// The tree of a row that is none of a store's own, if its texts are in UTF-8.
 fn foreign_tree<'a>(
     alloc: Global,
-    tree: usize,
     row: &'a Row,
     root: Option<Order>,
 ) -> Result<Option<Object<'a>>, AllocError>
-    requires { tree < 2 ^ 62 }
-    ensures { IfOk result (λ found. IfSome found (λ object. wanted_of object ≡ foreign_tree tree row.now root)) }
+    ensures { IfOk result (λ found. IfSome found (λ object. wanted_of object ≡ foreign_tree row.now root)) }
 {
-    let shape = foreign_shape(alloc, tree, row, root)?;
+    let shape = foreign_shape(alloc, row, root)?;
     let Some(kind) = text_in(row.get(1)) else {
         return Ok(None);
     };
@@ -313,8 +307,7 @@ pub(crate) fn trees_of<'a>(
     rows: &'a [Row],
     roots: &[Option<Order>],
 ) -> Result<Option<Vec<Object<'a>>>, AllocError>
-    requires same { length roots.now ≡ length rows.now }
-    requires few { length objects.now < 2 ^ 32 }
+    requires { length roots.now ≡ length rows.now }
     ensures { IfOk result (λ found. IfSome found (λ all. map wanted_of all.items ≡ trees_of objects.now rows.now roots.now)) }
 {
     if rows.len() > MAX_TREES {
@@ -322,7 +315,7 @@ pub(crate) fn trees_of<'a>(
     }
     let mut all = own_trees(alloc, objects)?;
     for at in 0..rows.len() {
-        let Some(object) = foreign_tree(alloc, objects.len() + at, &rows[at], roots[at])? else {
+        let Some(object) = foreign_tree(alloc, &rows[at], roots[at])? else {
             return Ok(None);
         };
         all.push(object)?;

@@ -1,6 +1,6 @@
 //! A database file, opened by the list of its trees alone, or with a look at each page and tree.
 
-ghost use Rattle.std.specs.Prelude.{◌≡◌, ◌<◌, ◌^◌, None, length, map, false, IsTrue, IfOk, IfSome};
+ghost use Rattle.std.specs.Prelude.{◌≡◌, None, length, map, false, IsTrue, IfOk, IfSome};
 ghost use Rattle.sqlite_trees.specs.Objects.{catalog_tree};
 ghost use Rattle.sqlite_store.specs.Catalog.{wanted_of};
 ghost use Rattle.sqlite_store.specs.FileStore.{view, is_shielded, IsReady};
@@ -8,6 +8,7 @@ ghost use Rattle.sqlite_store.specs.Unopened.{files_of, state_of, wanted_by, Are
 ghost use Rattle.sqlite_wal.specs.Files.{seen_image};
 ghost use Rattle.sqlite_wal.specs.PageSize.{bytes_of};
 ghost use Rattle.sqlite_wal.specs.Reads.{AreClean};
+ghost use Rattle.osm_openings.specs.Asked.{AreAsAsked};
 ghost use Rattle.osm_openings.specs.Catalog.{ListsFirst};
 ghost use Rattle.osm_openings.specs.Presumed.{IsPresumed, NamesSize, ReadsRows, ReadsAs, Lists, trees_of};
 
@@ -120,7 +121,6 @@ fn listed<'a, D: Disk + Drop>(
     requires log { IsTrue (D.Disk.is_usable files.log) }
     requires db { IsTrue (D.Disk.is_usable files.db) }
     requires same { length roots.now ≡ length rows.now }
-    requires few { length objects.now < 2 ^ 32 }
     ensures files { IfOk result (λ found. IfSome found (λ it. files_of it ≡ (files.log, files.db))) }
     ensures usable { IfOk result (λ found. IfSome found AreUsable) }
     ensures size { IfOk result (λ found. IfSome found (λ it. (state_of it).page_size ≡ bytes_of size)) }
@@ -145,7 +145,6 @@ fn list<D: Disk + Drop>(
 ) -> Result<Option<Unopened<D>>, AllocError>
     requires usable { AreUsable files }
     requires sized { (state_of files).page_size ≡ bytes_of size }
-    requires few { length objects.now < 2 ^ 32 }
     ensures usable { IfOk result (λ found. IfSome found AreUsable) }
     ensures lists { IfOk result (λ found. IfSome found (λ new. IsTrue (state_of new).is_clean → Lists objects.now files new)) }
 {
@@ -179,12 +178,12 @@ pub(crate) fn open_listed<D: Disk + Drop>(
 ) -> Result<Option<FileStore<D>>, AllocError>
     requires log { IsTrue (D.Disk.is_usable files.log) }
     requires db { IsTrue (D.Disk.is_usable files.db) }
-    requires few { length objects.now < 2 ^ 32 }
     requires presumed { IsPresumed objects.now (seen_image D.Disk files.log files.db) }
     ensures ready { IfOk result (λ found. IfSome found IsReady) }
     ensures plain { IfOk result (λ found. IfSome found (λ store. IsTrue (view store).is_clean → (view store).has_sums ≡ false)) }
     ensures listed { IfOk result (λ found. IfSome found (λ store. IsTrue (view store).is_clean → ListsFirst objects.now ((view store).trees catalog_tree))) }
     ensures reads { IfOk result (λ found. IfSome found (λ store. IsTrue (view store).is_clean → ReadsAs (seen_image D.Disk files.log files.db) (view store).trees)) }
+    ensures asked { IfOk result (λ found. IfSome found (λ store. IsTrue (view store).is_clean → AreAsAsked (length objects.now) ((view store).trees catalog_tree))) }
 {
     let Some(size) = page_size(alloc, &mut files)? else {
         return Ok(None);
@@ -209,12 +208,12 @@ pub(crate) fn open_checked<D: Disk + Drop>(
 ) -> Result<Option<FileStore<D>>, AllocError>
     requires log { IsTrue (D.Disk.is_usable files.log) }
     requires db { IsTrue (D.Disk.is_usable files.db) }
-    requires few { length objects.now < 2 ^ 32 }
     ensures ready { IfOk result (λ found. IfSome found IsReady) }
     ensures plain { IfOk result (λ found. IfSome found (λ store. IsTrue (view store).is_clean → (view store).has_sums ≡ false)) }
     ensures shielded { IfOk result (λ found. IfSome found (λ store. IsTrue (view store).is_clean → is_shielded store)) }
     ensures listed { IfOk result (λ found. IfSome found (λ store. IsTrue (view store).is_clean → ListsFirst objects.now ((view store).trees catalog_tree))) }
     ensures reads { IfOk result (λ found. IfSome found (λ store. IsTrue (view store).is_clean → ReadsAs (seen_image D.Disk files.log files.db) (view store).trees)) }
+    ensures asked { IfOk result (λ found. IfSome found (λ store. IsTrue (view store).is_clean → AreAsAsked (length objects.now) ((view store).trees catalog_tree))) }
 {
     let Some(size) = page_size(alloc, &mut files)? else {
         return Ok(None);

@@ -8,6 +8,7 @@ ghost use Rattle.sqlite_store.specs.FileStore.{view, is_shielded};
 ghost use Rattle.sqlite_wal.specs.Files.{seen_image};
 ghost use Rattle.osm_store.specs.declared.schema.layout.Layout.{Layout};
 ghost use Rattle.osm_store.specs.Rows.{version_row};
+ghost use Rattle.osm_openings.specs.Asked.{ListsAsAsked};
 ghost use Rattle.osm_openings.specs.Catalog.{listings};
 ghost use Rattle.osm_openings.specs.Presumed.{ArePresumedTables, ReadsAs};
 ghost use Rattle.osm_tree_writes.specs.Tables.{table_listing, index_listing, table_listings};
@@ -120,6 +121,8 @@ pub fn open_tables<D: Disk + Drop>(
     ensures version { IfOk result (λ found. IfSome found (λ store. IsTrue (view store).is_clean → (view store).trees 0 ≡ version_row Layout.Tables ∷ [])) }
     // they are what the files recover to, so that nothing was changed
     ensures reads { IfOk result (λ found. IfSome found (λ store. IsTrue (view store).is_clean → ReadsAs (seen_image D.Disk files.log files.db) (view store).trees)) }
+    // whatever else the database has is listed as its row in `sqlite_schema` asks
+    ensures asked { IfOk result (λ found. IfSome found (λ store. IsTrue (view store).is_clean → ListsAsAsked ((view store).trees catalog_tree))) }
 {
     let Some(store) = open_listed(alloc, files, options, &trees())? else {
         return Ok(None);
@@ -142,6 +145,8 @@ pub fn open_checked_tables<D: Disk + Drop>(
     ensures listed { IfOk result (λ found. IfSome found (λ store. IsTrue (view store).is_clean → take 9 ((view store).trees catalog_tree) ≡ table_listings)) }
     ensures version { IfOk result (λ found. IfSome found (λ store. IsTrue (view store).is_clean → (view store).trees 0 ≡ version_row Layout.Tables ∷ [])) }
     ensures reads { IfOk result (λ found. IfSome found (λ store. IsTrue (view store).is_clean → ReadsAs (seen_image D.Disk files.log files.db) (view store).trees)) }
+    // whatever else the database has is listed as its row in `sqlite_schema` asks
+    ensures asked { IfOk result (λ found. IfSome found (λ store. IsTrue (view store).is_clean → ListsAsAsked ((view store).trees catalog_tree))) }
 {
     let Some(store) = open_checked(alloc, files, options, &trees())? else {
         return Ok(None);

@@ -1,7 +1,7 @@
-pub mod PlaceLemmas
-pub mod ListedLemmas
 pub mod SchemaLemmas
+pub mod MovedLemmas
 pub mod ObjectLemmas
+pub mod ToldLemmas
 pub mod StableLemmas
 pub mod LayoutLemmas
 pub mod FoundLemmas
@@ -15,5 +15,4 @@ mod Places
 mod SameTrees
 mod Sizes
 mod Twins
-mod Unused
 mod VerifiedLemmas

@@ -24,20 +24,20 @@ use Rattle.osm_store.specs.Schema.Tables.{element, tag, link, element_key, tag_k
 use Rattle.osm_openings.specs.Catalog.{listings}
 use Rattle.osm_tree_writes.specs.Beside.{ListsAlone}
 use Rattle.osm_tree_writes.specs.Tables.{table_listings}
-use Rattle.osm_restarts.proofs.PlaceLemmas.{all_at}
-use Rattle.osm_restarts.proofs.ListedLemmas.{listed_at, named_once}
+use Rattle.osm_openings.proofs.PlaceLemmas.{all_at}
+use Rattle.osm_openings.proofs.ListedLemmas.{listed_at, named_once}
 use Rattle.osm_restarts.proofs.OneList.{numbered}
 use Rattle.osm_restarts.proofs.SchemaLemmas.{Knows, HasPages, HasOnly}
 
 -- ---- the rows of objects
-at_listings : (from : ℕ) (objects : List Object) (t : ℕ) (row : Row) → slice_get (listings from objects) t ≡ Some row → (o : Object) × (slice_get objects t ≡ Some o) × (row ≡ object_row (from + t) o)
+pub at_listings : (from : ℕ) (objects : List Object) (t : ℕ) (row : Row) → slice_get (listings from objects) t ≡ Some row → (o : Object) × (slice_get objects t ≡ Some o) × (row ≡ object_row (from + t) o)
 at_listings from [] t row at = absurd (none-some row at)
 at_listings from (o ∷ objects) zero row at = let start : from ≡ from + 0 = omega arith in (o, refl, sym (same_Some _ row at) ∙ ap (λ n. object_row n o) start)
 at_listings from (o ∷ objects) (suc t) row at =
     let next : from + 1 + t ≡ from + suc t = omega arith in
     let r = at_listings (from + 1) objects t row at in (r.0, r.1, r.2 ∙ ap (λ n. object_row n r.0) next)
 
-listings_at : (from : ℕ) (objects : List Object) (t : ℕ) (o : Object) → slice_get objects t ≡ Some o → slice_get (listings from objects) t ≡ Some (object_row (from + t) o)
+pub listings_at : (from : ℕ) (objects : List Object) (t : ℕ) (o : Object) → slice_get objects t ≡ Some o → slice_get (listings from objects) t ≡ Some (object_row (from + t) o)
 listings_at from [] t o at = absurd (none-some o at)
 listings_at from (p ∷ objects) zero o at = let start : from ≡ from + 0 = omega arith in ap (λ (x : Object). Some (object_row from x)) (same_Some p o at) ∙ ap (λ n. Some (object_row n o)) start
 listings_at from (p ∷ objects) (suc t) o at = let next : from + 1 + t ≡ from + suc t = omega arith in listings_at (from + 1) objects t o at ∙ ap (λ n. Some (object_row n o)) next

@@ -30,7 +30,7 @@ use Rattle.osm_restarts.proofs.Entries.{IsWords}
 use Rattle.osm_restarts.proofs.NineTrees.{own_trees, same_own}
 use Rattle.osm_restarts.proofs.SameTrees.{same_file_tree}
 use Rattle.osm_restarts.proofs.Twins.{AreTwins, same_row}
-use Rattle.osm_restarts.proofs.Unused.{no_page_0}
+use Rattle.osm_openings.proofs.KnownLemmas.{no_page_0}
 
 -- the row describes the table, and has a text or none
 abbrev IsOfTable : Row → Table → Type 0

@@ -14,7 +14,7 @@ use Rattle.sqlite_store.specs.declared.catalog.Wanted.{Wanted}
 use Rattle.sqlite_store.specs.Catalog.{is_present, is_about, describes, root_in, roots_in, shape_at, reals_at}
 use Rattle.sqlite_store.specs.Db.{rows_at, roots_of, shown, thawed, trees_in}
 use Rattle.sqlite_store.specs.Listing.{listed_from, all_trees, file_trees}
-use Rattle.osm_restarts.proofs.PlaceLemmas.{index_at}
+use Rattle.osm_openings.proofs.PlaceLemmas.{index_at}
 use Rattle.osm_restarts.proofs.Places.{placed, shape_there}
 
 same_root : (entries : List Row) (a b : Wanted) → is_present a.shape ≡ true → is_present b.shape ≡ true → column a.row 0 ≡ column b.row 0 → column a.row 1 ≡ column b.row 1

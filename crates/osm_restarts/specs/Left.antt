@@ -2,8 +2,8 @@
 use Rattle.std.specs.Prelude.{◌≡◌, ◌⊎◌, []}
 use Rattle.sqlite_trees.specs.Tree.{Trees}
 use Rattle.sqlite_trees.specs.Objects.{catalog_tree}
-use Rattle.osm_tree_writes.specs.Beside.{ListsAlone}
+use Rattle.osm_openings.specs.Asked.{IsFoundAgain}
 
--- the trees list those of a store that keeps elements in tables, and nothing else, or none
+-- the trees list those of a store that keeps elements in tables and nothing else, or beside those each other as its row asks, or none
 abbrev pub ListsAStore : Trees → Type 0
-ListsAStore db = ListsAlone (db catalog_tree) ⊎ (db catalog_tree ≡ [])
+ListsAStore db = IsFoundAgain (db catalog_tree) ⊎ (db catalog_tree ≡ [])

@@ -1,15 +1,18 @@
-use Rattle.std.proofs.Common.{◌≡◌, ◌∙◌, sym, ap, subst, IsTrue}
+use Rattle.std.proofs.Common.{◌≡◌, ◌∙◌, length, sym, ap, subst, IsTrue}
 use Rattle.std.proofs.lemmas.Result.{IfOk-weaker}
 use Rattle.sqlite_trees.specs.Objects.{catalog_tree}
 use Rattle.sqlite_store.specs.Listing.{listed_from}
 use Rattle.sqlite_pool.specs.Stored.{Recovers, is_summed}
+use Rattle.sqlite_store.specs.Db.{IsFile}
 use Rattle.sqlite_store.specs.FileStore.{state, view}
 use Rattle.sqlite_store.specs.Unopened.{state_of, image, wanted_by}
 use Rattle.sqlite_wal.specs.Files.{seen_image}
 use Rattle.sqlite_wal.specs.Reads.{AreClean}
 use Rattle.osm_openings.specs.Catalog.{ListsFirst}
-use Rattle.osm_openings.specs.Presumed.{NamesSize}
-use Rattle.osm_openings.proofs.OpeningLemmas.{if_none, listed_in, lists_first, of_some, same_pages, plain_size, trees_are, reads_as}
+use Rattle.osm_openings.specs.Presumed.{NamesSize, schema_rows}
+use Rattle.osm_openings.specs.Asked.{AreAsAsked}
+use Rattle.osm_openings.proofs.AskedLemmas.{asked_found}
+use Rattle.osm_openings.proofs.OpeningLemmas.{if_none, listed_in, lists_first, all_present, of_some, same_pages, plain_size, trees_are, is_sound, reads_as}
 use Rattle.osm_openings.proofs.opening.open_checked.Goals as goal
 
 pub returns-clause-ready : goal.returns-clause-ready
@@ -63,3 +66,22 @@ returns-in-Ok-clause-reads g c =
     reads_as store e.ready now (wanted_by mid) e.schema _ (state_of unopened).page_size h.pages named
     (subst (λ i. Recovers (state_of unopened).page_size i h.pages) images h.found)
     ((e.kept now).size ∙ h.size) (same_pages _ (image mid) _ _ (e.found now) h.again)
+
+pub returns-clause-asked : goal.returns-clause-asked
+returns-clause-asked g c = IfOk-weaker _ _ _ (if_none _) c.unread.ensures
+
+pub returns-in-Ok-clause-asked : goal.returns-in-Ok-clause-asked
+returns-in-Ok-clause-asked g c =
+    λ now.
+    let e = c.in-Ok.ensures in
+    let store = c.in-Ok.store in
+    let mid = c.in-Some-2.listed in
+    let objects = c.args.objects.now in
+    let h = of_some _ _ _ c.in-Some-2.is c.in_ok-listed.ensures.lists (e.honest now) in
+    let size = (state_of c.in_ok-unlisted.unlisted).page_size in
+    let reads = trees_are store e.ready now (wanted_by mid) e.schema in
+    let is = ap (λ trees. trees catalog_tree) reads ∙ listed_in _ _ _ ∙ ap (listed_from 0) h.wanted in
+    let sound = subst (λ n. ∥ IsFile n (wanted_by mid) h.pages ∥₁) ((e.kept now).size ∙ h.size)
+    (subst (λ p. ∥ IsFile (state store).page_size (wanted_by mid) p ∥₁) (same_pages _ (image mid) _ _ (e.found now) h.again) (is_sound store e.ready now (wanted_by mid) e.schema)) in
+    subst (AreAsAsked (length objects)) (sym is)
+    (asked_found objects size h.pages (subst (λ s. ∥ IsFile size s h.pages ∥₁) h.wanted sound) (all_present objects (schema_rows size h.pages) h.listed))

@@ -3,9 +3,10 @@ use Rattle.sqlite_trees.proofs.Doubt.{no_doubt}
 use Rattle.sqlite_trees.specs.Objects.{catalog_tree}
 use Rattle.sqlite_trees.specs.View.{View}
 use Rattle.osm_tree_writes.specs.Tables.{table_listings}
+use Rattle.osm_openings.specs.Asked.{ListsAsAsked}
 use Rattle.osm_openings.specs.Presumed.{ReadsAs}
 use Rattle.sqlite_wal.specs.Files.{seen_image}
-use Rattle.osm_openings.proofs.OpeningLemmas.{first_listings, if_kept}
+use Rattle.osm_openings.proofs.OpeningLemmas.{first_listings, lists_as_asked, if_kept}
 use Rattle.osm_openings.proofs.tables.open_checked_tables.Goals as goal
 
 pub returns-clause-ready : goal.returns-clause-ready
@@ -49,3 +50,12 @@ returns-clause-reads g c =
     if_kept _ _ _ _ c.of_version.ensures (λ store now kept.
     let read = kept.1 (no_doubt _ now) in
     subst (ReadsAs (seen_image g.D.Disk c.args.files.log c.args.files.db)) (sym (ap (λ (v : View). v.trees) read.0)) (reads (sym (ap (λ (v : View). v.is_clean) read.0) ∙ now)))
+
+pub returns-clause-asked : goal.returns-clause-asked
+returns-clause-asked g c =
+    let listed = rw c.in-Some.is at c.in_ok-store.ensures.listed in
+    let asked = rw c.in-Some.is at c.in_ok-store.ensures.asked in
+    if_kept _ _ _ _ c.of_version.ensures (λ store now kept.
+    let read = kept.1 (no_doubt _ now) in
+    let then = sym (ap (λ (v : View). v.is_clean) read.0) ∙ now in
+    subst ListsAsAsked (sym (ap (λ (v : View). v.trees catalog_tree) read.0)) (lists_as_asked _ _ c.trees.ensures (listed then) (asked then)))

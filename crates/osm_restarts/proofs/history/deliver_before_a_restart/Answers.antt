@@ -20,4 +20,4 @@ returns-clause-opens g c held holds alone clean plain image may =
     let same : c.into_store-store.result ≡ c.deliver-answer.new.keeper.store = c.into_store-store.ensures in
     let honest : IsClean (view c.deliver-answer.new.keeper.store) = subst (λ s. IsClean (view s)) same clean in
     let kept = subst (λ s. StandsAlone (view s) (recovers s)) (sym same) (c.deliver-answer.ensures.alone held holds honest alone) in
-    c.what_is_left_may_be_opened.ensures plain (λ db left. inl (kept.left db left)) image may
+    c.what_is_left_may_be_opened.ensures plain (λ db left. inl (inl (kept.left db left))) image may

@@ -85,7 +85,7 @@ tied Greater h = absurd (cc)
 pub same_to : (a b v : Value) → same_value a b ≡ true → same_value a v ≡ same_value b v
 same_to a b v same = ap is_eq (value_cmp_total.congr a b v (tied (value_cmp a b) same))
 
-turned : (a b : Value) → same_value a b ≡ same_value b a
+pub turned : (a b : Value) → same_value a b ≡ same_value b a
 turned a b = ap is_eq (value_cmp_total.antisymm a b) ∙ either (value_cmp b a)
   where
     either : (o : Ordering) → is_eq (ordering_reverse o) ≡ is_eq o

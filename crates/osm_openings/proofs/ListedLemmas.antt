@@ -15,7 +15,7 @@ use Rattle.sqlite_store.specs.declared.catalog.Wanted.{Wanted}
 use Rattle.sqlite_store.specs.Catalog.{is_present, same_value, describes, is_about}
 use Rattle.sqlite_store.specs.Listing.{listed, listed_from}
 use Rattle.sqlite_store.specs.Joined.{joined}
-use Rattle.osm_restarts.proofs.PlaceLemmas.{any_at}
+use Rattle.osm_openings.proofs.PlaceLemmas.{any_at}
 
 -- ---- a present place has its row in the list, and each row is that of a present place
 pub record Listed (from : ℕ) (schema : List Wanted) (row : Row) : Type 0 where
@@ -28,7 +28,7 @@ pub record Listed (from : ℕ) (schema : List Wanted) (row : Row) : Type 0 where
 abbrev listing_at : ℕ → Wanted → Row
 listing_at tree w = listing tree w.row w.shape w.reals
 
-first_row : (from : ℕ) (w : Wanted) (rest : List Row) → is_present w.shape ≡ true → listed from w w.shape ++ rest ≡ listing_at from w ∷ rest
+pub first_row : (from : ℕ) (w : Wanted) (rest : List Row) → is_present w.shape ≡ true → listed from w w.shape ++ rest ≡ listing_at from w ∷ rest
 first_row from w rest present = go w.shape refl present
   where
     go : (s : Shape) → w.shape ≡ s → is_present s ≡ true → listed from w s ++ rest ≡ listing_at from w ∷ rest
@@ -125,15 +125,25 @@ same_itself : (name : List ℕ) → same_name name name ≡ true
 unfolding same_name
 same_itself name = let low = map to_ascii_lowercase name in (bytes_eq-Decides low low).1 refl
 
+pub names_turned : (a b : List ℕ) → same_name a b ≡ true → same_name b a ≡ true
+unfolding same_name
+names_turned a b h = (bytes_eq-Decides (map to_ascii_lowercase b) (map to_ascii_lowercase a)).1 (sym ((bytes_eq-Decides (map to_ascii_lowercase a) (map to_ascii_lowercase b)).0 h))
+
+pub names_through : (a b c : List ℕ) → same_name a b ≡ true → same_name b c ≡ true → same_name a c ≡ true
+unfolding same_name
+names_through a b c h i =
+    (bytes_eq-Decides (map to_ascii_lowercase a) (map to_ascii_lowercase c)).1
+    ((bytes_eq-Decides (map to_ascii_lowercase a) (map to_ascii_lowercase b)).0 h ∙ (bytes_eq-Decides (map to_ascii_lowercase b) (map to_ascii_lowercase c)).0 i)
+
 not_after : (earlier : List Head) (rows : List Row) (i k : ℕ) (h : Head) (row : Row) → are_in_order earlier (map (head_at 1) rows) ≡ true
-    → slice_get earlier i ≡ Some h → slice_get rows k ≡ Some row → h.1 ≡ column row 2 → ⊥
+    → slice_get earlier i ≡ Some h → slice_get rows k ≡ Some row → same_name (bytes h.1) (bytes (column row 2)) ≡ true → ⊥
 unfolding may_follow
 not_after earlier [] i k h row ordered was at same = none-some row at
 not_after earlier (r ∷ rows) i zero h row ordered was at same =
     let step = and_parts _ (are_in_order (earlier ++ head_at 1 r ∷ []) (map (head_at 1) rows)) ordered in
     let free = not-true _ (and_parts _ _ step.0).0 in
     let is = same_Some r row at in
-    let met = any_at (λ e. same_name (bytes e.1) (bytes (column r 2))) earlier i h was (ap (λ v. same_name (bytes v) (bytes (column r 2))) (same ∙ ap (λ (x : Row). column x 2) (sym is)) ∙ same_itself (bytes (column r 2))) in
+    let met = any_at (λ e. same_name (bytes e.1) (bytes (column r 2))) earlier i h was (ap (λ (x : Row). same_name (bytes h.1) (bytes (column x 2))) is ∙ same) in
     false≢true (sym free ∙ met)
 not_after earlier (r ∷ rows) i (suc k) h row ordered was at same =
     let step = and_parts _ (are_in_order (earlier ++ head_at 1 r ∷ []) (map (head_at 1) rows)) ordered in
@@ -148,19 +158,27 @@ last_at : (xs : List Head) (h : Head) → slice_get (xs ++ h ∷ []) (length xs)
 last_at [] h = refl
 last_at (x ∷ xs) h = last_at xs h
 
+-- nor one name but for the case of its letters
+pub alike_once : (earlier : List Head) (rows : List Row) (k j : ℕ) (a b : Row) → are_in_order earlier (map (head_at 1) rows) ≡ true
+    → slice_get rows k ≡ Some a → slice_get rows j ≡ Some b → same_name (bytes (column a 2)) (bytes (column b 2)) ≡ true → k ≡ j
+alike_once earlier [] k j a b ordered at there same = absurd (none-some a at)
+alike_once earlier (r ∷ rows) zero zero a b ordered at there same = refl
+alike_once earlier (r ∷ rows) zero (suc j) a b ordered at there same =
+    let step = and_parts _ (are_in_order (earlier ++ head_at 1 r ∷ []) (map (head_at 1) rows)) ordered in
+    absurd (not_after (earlier ++ head_at 1 r ∷ []) rows (length earlier) j (head_at 1 r) b step.1 (last_at earlier (head_at 1 r)) there
+    (ap (λ (x : Row). same_name (bytes (column x 2)) (bytes (column b 2))) (same_Some r a at) ∙ same))
+alike_once earlier (r ∷ rows) (suc k) zero a b ordered at there same =
+    let step = and_parts _ (are_in_order (earlier ++ head_at 1 r ∷ []) (map (head_at 1) rows)) ordered in
+    absurd (not_after (earlier ++ head_at 1 r ∷ []) rows (length earlier) k (head_at 1 r) a step.1 (last_at earlier (head_at 1 r)) at
+    (ap (λ (x : Row). same_name (bytes (column x 2)) (bytes (column a 2))) (same_Some r b there) ∙ names_turned (bytes (column a 2)) (bytes (column b 2)) same))
+alike_once earlier (r ∷ rows) (suc k) (suc j) a b ordered at there same =
+    let step = and_parts _ (are_in_order (earlier ++ head_at 1 r ∷ []) (map (head_at 1) rows)) ordered in
+    ap suc (alike_once (earlier ++ head_at 1 r ∷ []) rows k j a b step.1 at there same)
+
 pub named_once : (earlier : List Head) (rows : List Row) (k j : ℕ) (a b : Row) → are_in_order earlier (map (head_at 1) rows) ≡ true
     → slice_get rows k ≡ Some a → slice_get rows j ≡ Some b → column a 2 ≡ column b 2 → k ≡ j
-named_once earlier [] k j a b ordered at there same = absurd (none-some a at)
-named_once earlier (r ∷ rows) zero zero a b ordered at there same = refl
-named_once earlier (r ∷ rows) zero (suc j) a b ordered at there same =
-    let step = and_parts _ (are_in_order (earlier ++ head_at 1 r ∷ []) (map (head_at 1) rows)) ordered in
-    absurd (not_after (earlier ++ head_at 1 r ∷ []) rows (length earlier) j (head_at 1 r) b step.1 (last_at earlier (head_at 1 r)) there (ap (λ (x : Row). column x 2) (same_Some r a at) ∙ same))
-named_once earlier (r ∷ rows) (suc k) zero a b ordered at there same =
-    let step = and_parts _ (are_in_order (earlier ++ head_at 1 r ∷ []) (map (head_at 1) rows)) ordered in
-    absurd (not_after (earlier ++ head_at 1 r ∷ []) rows (length earlier) k (head_at 1 r) a step.1 (last_at earlier (head_at 1 r)) at (ap (λ (x : Row). column x 2) (same_Some r b there) ∙ sym same))
-named_once earlier (r ∷ rows) (suc k) (suc j) a b ordered at there same =
-    let step = and_parts _ (are_in_order (earlier ++ head_at 1 r ∷ []) (map (head_at 1) rows)) ordered in
-    ap suc (named_once (earlier ++ head_at 1 r ∷ []) rows k j a b step.1 at there same)
+named_once earlier rows k j a b ordered at there same =
+    alike_once earlier rows k j a b ordered at there (ap (λ v. same_name (bytes v) (bytes (column b 2))) same ∙ same_itself (bytes (column b 2)))
 
 -- ---- what it means that a row describes a place
 pub record Described (w : Wanted) (row : Row) : Type 0 where
