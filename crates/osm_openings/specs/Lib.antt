@@ -1,3 +1,4 @@
 pub mod Catalog
 pub mod Obstacles
 pub mod Presumed
+pub mod Opened

@@ -1,6 +1,10 @@
 //! Stores over connections in memory and in the files of a machine: which store each is, how it is opened to be asked or filled,
 //! and what stands in the way.
 
+ghost use Rattle.sqlite_store.specs.FileStore.{view};
+ghost use Rattle.sqlite_trees.specs.View.{IsClean};
+ghost use Rattle.osm_databases.specs.Checked.{IsOfVersion};
+
 use super::openings::{Held, change, filled_machine, held_by, machine_of_blocks};
 use super::shared::{Machine, SharedFile};
 use osm_databases::databases::{
@@ -186,13 +190,18 @@ fn trees_that_take_blobs(rt: HostRuntime) -> Result<(), Fail> {
 impl Databases for Machine {
     type Trees = FileStore<SharedFile>;
 
+    ghost gives = { λ _ _ trees. IsClean (view trees) → IsOfVersion (view trees) };
+
     fn trees(
         &self,
         rt: &HostRuntime,
-        name: &str,
+        _name: &str,
     ) -> Result<Option<FileStore<SharedFile>>, StoreFault> {
         let files = self.files(rt.alloc())?;
-        told(rt, name, trees_in(rt, files, FEW_PAGES))
+        match trees_in(rt, files, FEW_PAGES) {
+            Ok(found) => Ok(found),
+            Err(refusal) => Err(refusal.fault),
+        }
     }
 
     fn obstruction(&self, rt: &HostRuntime, _name: &str) -> Option<Obstruction> {
