@@ -2,8 +2,8 @@
 //! are different `Databases`, since the files of the first are read alone.
 //!
 //! A store that keeps elements in tables is opened by its trees, or not at all: what stands in the way is told on standard
-//! error. SQL makes a store where there is none, and reads one that keeps elements as blocks, which other databases are
-//! filled from.
+//! error. SQL makes a store where there is none, and reads one that keeps elements as blocks, which is copied into another
+//! database.
 
 ghost use Rattle.std.specs.Prelude.{◌≡◌, ℕ, List, false, take, Some, IfOk, IfSome};
 ghost use Rattle.sqlite.specs.Held.{IsNew, state};
@@ -12,7 +12,6 @@ ghost use Rattle.sqlite_trees.specs.View.{IsClean};
 ghost use Rattle.osm_tree_writes.specs.Tables.{table_listings};
 ghost use Rattle.osm_tree_audits.specs.Looks.{IsLook};
 ghost use Rattle.osm_trees.specs.Below.{IsChecked};
-ghost use Rattle.osm_trees.specs.Ways.{counted};
 ghost use Rattle.osm_tree_writes.specs.Appending.{IsStoreAt, TakeBlobs};
 ghost use Rattle.osm_databases.specs.Checked.{HasWholeAdded, IsOfVersion};
 ghost use Rattle.osm_databases.specs.Found.{AreFound, AreReadFrom, AreFoundOrMade, AreMade};
@@ -22,7 +21,7 @@ use crate::stores::{BLOCKS, checked, made_where_none, taking_blobs};
 use osm_checked::CheckedStore;
 use osm_openings::{Obstacle, Obstruction, find_unkept};
 use osm_store::{BodyStore, StoreFault, TABLE_VERSION};
-use osm_trees::{Opened, TreeStore};
+use osm_trees::TreeStore;
 use sqlite::{Alter, Connection};
 
 /// Where databases are opened and closed. Their trees are named, and not what they lie in: so all that is done with them
@@ -225,28 +224,9 @@ pub fn opened_checked<D: CheckedDatabases>(
     Ok(store)
 }
 
-/// The store of a database of either version. One that keeps elements in tables is read by its trees, and one that keeps them
-/// as blocks of bytes by SQL.
-pub type AnyVersion<S> = Opened<TreeStore<S>, BodyStore<S>>;
-
-/// The store of a database, of whichever version. Nothing is written. Why it can't be opened is told on standard error. The
-/// fault is one of those of `opened`; it is also `Disk` where one that keeps elements as blocks has a virtual table, or a
-/// trigger on one of its tables.
-pub fn opened_of_any_version<D: Databases>(
-    rt: &HostRuntime,
-    databases: &D,
-    name: &str,
-) -> Result<AnyVersion<D::Trees>, StoreFault>
-    ensures { IfOk result (λ store. counted (λ trees. trees.failures) (λ blocks. blocks.failures) store ≡ 0) }
-{
-    match databases.trees(rt, name)? {
-        Some(trees) => Ok(Opened::ByTrees(TreeStore::new(trees))),
-        None => Ok(Opened::BySql(blocks_of(rt, databases, name)?)),
-    }
-}
-
 /// The store of a database that keeps elements as blocks, by SQL. Nothing is written. Why it can't be opened is told on
-/// standard error; one that keeps them in tables is `NotThisStore` with its version.
+/// standard error. The fault is one of those of `opened`, but one that keeps them in tables is `NotThisStore` with its version;
+/// it is also `Disk` where the database has a virtual table, or a trigger on one of the store's tables.
 pub fn source_of_blocks<D: Databases>(
     rt: &HostRuntime,
     databases: &D,
