@@ -6,12 +6,15 @@ pub mod StableLemmas
 pub mod LayoutLemmas
 pub mod FoundLemmas
 pub mod PremiseLemmas
+mod Begun
 mod Entries
 mod Events
 mod Held
 mod NineTrees
+mod NoStore
 mod OneList
 mod Places
+mod Resumed
 mod SameTrees
 mod Sizes
 mod Twins
