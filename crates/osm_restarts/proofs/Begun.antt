@@ -1,7 +1,6 @@
 -- What a crash leaves of a store that is being made is no store, or one that holds no blob.
-use Rattle.std.proofs.Common.{◌≡◌, ◌⊎◌, false, [], refl, subst, inl, inr}
+use Rattle.std.proofs.Common.{◌≡◌, ◌⊎◌, [], refl, subst, inl, inr}
 use Rattle.std.specs.FinMap.{empty}
-use Rattle.sqlite.specs.Held as connected
 use Rattle.sqlite_disk.specs.declared.Disk.{Ghosts}
 use Rattle.sqlite_wal.proofs.LogLemmas.{SeenMayStay}
 use Rattle.sqlite_wal.specs.Recovery.{Image}

@@ -1,6 +1,6 @@
 -- Pages that one list of trees takes for a database without a tree are a store by no other list.
 use Rattle.std.proofs.Common.{◌≡◌, ◌∙◌, ℕ, Bool, true, eqb, ◌&&◌, List, [], ◌∷◌, get_or, refl, sym, ap, inl, inr}
-use Rattle.std.specs.Prelude.{Some, slice_get, take}
+use Rattle.std.specs.Prelude.{slice_get, take}
 use Rattle.std.specs.List.{list_all, list_any}
 use Rattle.std.proofs.lemmas.Bool.{cases_Bool, and_parts, cond-false, eqb-true}
 use Rattle.std.proofs.lemmas.Option.{none-some}
@@ -13,7 +13,7 @@ use Rattle.sqlite_rules.specs.Lists.{Has}
 use Rattle.sqlite_pages.specs.PageMap.{PageMap}
 use Rattle.sqlite_pool.specs.File.{in_use}
 use Rattle.sqlite_store.specs.declared.catalog.Wanted.{Wanted}
-use Rattle.sqlite_store.specs.Catalog.{is_present, is_plain, describes, page_number, is_well_formed, has_no_pages, may_stand}
+use Rattle.sqlite_store.specs.Catalog.{is_plain, describes, page_number, is_well_formed, has_no_pages, may_stand}
 use Rattle.sqlite_store.specs.Db.{rows_at, IsDb, IsFile}
 use Rattle.sqlite_store.specs.Listing.{listed_from}
 use Rattle.osm_tree_writes.specs.Tables.{table_listings}

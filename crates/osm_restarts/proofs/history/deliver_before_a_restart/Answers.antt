@@ -1,4 +1,4 @@
-use Rattle.std.proofs.Common.{◌≡◌, [], ◌∷◌, sym, subst, inl}
+use Rattle.std.proofs.Common.{◌≡◌, sym, subst, inl}
 use Rattle.sqlite_trees.specs.View.{IsClean}
 use Rattle.sqlite_store.specs.FileStore.{view, recovers}
 use Rattle.osm_store.specs.declared.schema.layout.Layout.TheVariants.{Tables}
