@@ -21,7 +21,7 @@ use Rattle.sqlite_btree.specs.Stored.{IsLaidIn}
 use Rattle.sqlite_btree.proofs.StoredLemmas.{stored_root_live}
 use Rattle.sqlite_pages.specs.PageMap.{PageMap}
 use Rattle.sqlite_store.specs.declared.catalog.Wanted.{Wanted}
-use Rattle.sqlite_store.specs.Catalog.{same_value, is_present, is_about, describes, root_in, is_plain, shape_at}
+use Rattle.sqlite_store.specs.Catalog.{same_value, is_present, is_about, describes, page_number, root_in, is_plain, shape_at}
 use Rattle.sqlite_store.specs.Db.{rows_at, roots_of, IsKept, IsDb}
 use Rattle.osm_restarts.proofs.Places.{shape_there, root_there}
 
@@ -61,11 +61,11 @@ entry_parts w e is =
     let front = and_parts (is_present w.shape && same_value (column e 1) (column w.row 0) && same_value (column e 2) (column w.row 1)) _ all.0 in
     ((and_parts (is_present w.shape && same_value (column e 1) (column w.row 0)) _ front.0).1, all.1)
 
-found_root : (entries : List Row) (w : Wanted) → root_in entries w ≢ 0 → (e : Row) × Has entries e × (describes w e ≡ true)
+found_root : (entries : List Row) (w : Wanted) → root_in entries w ≢ 0 → (e : Row) × Has entries e × (describes w e ≡ true) × (page_number (column e 4) ≢ 0)
 found_root [] w some = absurd (some refl)
 found_root (e ∷ entries) w some = elim (cases_Bool (describes w e)) [
-  | inl here ↦ (e, inl refl, here)
-  | inr other ↦ let r = found_root entries w (λ none. some (rw (other, none))) in (r.0, inr r.1, r.2)
+  | inl here ↦ (e, inl refl, here, λ none. some (rw here none))
+  | inr other ↦ let r = found_root entries w (λ none. some (rw (other, none))) in (r.0, inr r.1, r.2, r.3)
 ]
 
 same_itself : (name : List ℕ) → same_name name name ≡ true
@@ -106,7 +106,7 @@ module _ {size : ℕ} {schema : List Wanted} {pages : PageMap} (none : pages 0 �
   live_root layout Table root plain laid kept = λ zero. none-some _ (sym none ∙ ap pages (sym zero) ∙ laid.nodes root (stored_root_live kept.1.stored))
   live_root layout (Index o) root plain laid kept = λ zero. none-some _ (sym none ∙ ap pages (sym zero) ∙ laid.nodes root (stored_root_live kept.1.stored))
 
-  pub has_entry : (t : ℕ) (w : Wanted) → slice_get schema t ≡ Some w → is_plain w.shape ≡ true → (e : Row) × Has (rows_at size pages Table 1) e × (describes w e ≡ true)
+  pub has_entry : (t : ℕ) (w : Wanted) → slice_get schema t ≡ Some w → is_plain w.shape ≡ true → (e : Row) × Has (rows_at size pages Table 1) e × (describes w e ≡ true) × (page_number (column e 4) ≢ 0)
   unfolding roots_of
   has_entry t w at plain =
       found_root (rows_at size pages Table 1) w (λ none.

@@ -1,5 +1,5 @@
 -- A store that is opened after a crash has one of the maps that the crash may leave.
-use Rattle.std.proofs.Common.{◌≡◌, ◌∙◌, false, refl, sym, subst, ap, inr}
+use Rattle.std.proofs.Common.{◌≡◌, ◌∙◌, false, [], refl, sym, subst, ap, inr}
 use Rattle.std.specs.Prelude.{take}
 use Rattle.std.proofs.Math.Logic.{∥∥₁_elim}
 use Rattle.sqlite_disk.specs.declared.Disk.{Ghosts}
@@ -16,13 +16,16 @@ use Rattle.sqlite_store.specs.declared.store.FileStore.{FileStore}
 use Rattle.sqlite_store.specs.FileStore.{state, view, schema_in, reading, recovers}
 use Rattle.osm_store.specs.declared.schema.layout.Layout.TheVariants.{Tables}
 use Rattle.osm_store.specs.Held.{HeldMap}
+use Rattle.osm_store.specs.LayoutHolding.{IsKept}
 use Rattle.osm_tree_writes.specs.Beside.{HasAStore}
+use Rattle.osm_tree_writes.specs.Putting.{TreesHold}
 use Rattle.osm_tree_writes.specs.Tables.{table_listings}
 use Rattle.osm_tree_writes.proofs.Obeying.{one_map_below}
 use Rattle.osm_trees.specs.Below.{HoldsBelow, LeavesAMap, MayLeave}
 use Rattle.osm_openings.specs.Presumed.{ReadsAs}
 use Rattle.osm_openings.proofs.OpeningLemmas.{listed_in, same_pages}
 use Rattle.osm_restarts.proofs.NineTrees.{own_trees, hold_again}
+use Rattle.osm_restarts.proofs.NoStore.{no_store}
 use Rattle.osm_restarts.proofs.OneList.{one_store}
 use Rattle.osm_restarts.proofs.Sizes.{names_size}
 
@@ -35,10 +38,10 @@ module _ {D : Type 0} {g : Ghosts D} (it : FileStore D g) (v : View) (plain : (v
   found = subst (λ n. Recovers n image reads.pages) size_is reads.found
 
   -- what the store that crashed reads these pages as
-  abbrev left : Trees
+  abbrev pub left : Trees
   left = reading it reads.pages
 
-  may_be_left : recovers it left
+  pub may_be_left : recovers it left
   may_be_left = (image, reads.pages, may, ∣ found ∣₁, refl)
 
   first_own : take 9 (listed_from 0 reads.schema) ≡ table_listings
@@ -55,12 +58,22 @@ module _ {D : Type 0} {g : Ghosts D} (it : FileStore D g) (v : View) (plain : (v
       (subst (HasAStore Tables) (listed_in (state it).page_size (schema_in it reads.pages) reads.pages) listed) first_own
       ∙ ap own_trees (ap (λ n. file_trees n reads.schema reads.pages) (sym size_is) ∙ sym reads.read))))
 
-  pub restart_holds : LeavesAMap (recovers it) → IsClean v → v.is_broken ≡ false → v.trees ≡ v.committed → (held : HeldMap) × MayLeave (recovers it) held × HoldsBelow Tables v held
-  restart_holds leaves clean unbroken settled =
-      let (held, kept, tables) = leaves left may_be_left in
-      let now = hold_again held left v.trees (reads_same tables.lists) (inr lists) tables in (
-        held,
-        record { kept = kept; trees = left; left = may_be_left; tables = tables },
+  -- it is no database without a tree
+  pub left_lists : left catalog_tree ≡ [] → ⊥
+  left_lists none =
+      ∥∥₁_elim it.safe (λ a. absurd a) (λ all.
+      let there = all image may in
+      let pages : there.0 ≡ reads.pages = same_pages (state it).page_size image there.0 reads.pages there.1 found in
+      ∥∥₁_elim there.2 (λ a. absurd a) (λ ours. ∥∥₁_elim reads.sound (λ a. absurd a) (λ file.
+      no_store (state it).page_size (schema_in it reads.pages) reads.schema reads.pages
+      (subst (λ (p : PageMap). IsFile (state it).page_size (schema_in it p) p) pages ours.file) (subst (λ n. IsFile n reads.schema reads.pages) size_is file)
+      (sym (listed_in (state it).page_size (schema_in it reads.pages) reads.pages) ∙ none) first_own)))
+
+  module _ (clean : IsClean v) (unbroken : v.is_broken ≡ false) (settled : v.trees ≡ v.committed) where
+    -- the map whose rows are left
+    pub holds_left : (held : HeldMap) → IsKept Tables held → TreesHold Tables held left → HoldsBelow Tables v held
+    holds_left held kept tables =
+        let now = hold_again held left v.trees (reads_same tables.lists) (inr lists) tables in
         record {
           clean = clean;
           unbroken = unbroken;
@@ -68,5 +81,9 @@ module _ {D : Type 0} {g : Ghosts D} (it : FileStore D g) (v : View) (plain : (v
           kept = kept;
           tables = now;
           only = λ other kept_too tables_too. one_map_below Tables other held v.trees kept_too kept tables_too now;
-        },
-      )
+        }
+
+  pub restart_holds : LeavesAMap (recovers it) → IsClean v → v.is_broken ≡ false → v.trees ≡ v.committed → (held : HeldMap) × MayLeave (recovers it) held × HoldsBelow Tables v held
+  restart_holds leaves clean unbroken settled =
+      let (held, kept, tables) = leaves left may_be_left in
+      (held, record { kept = kept; trees = left; left = may_be_left; tables = tables }, holds_left clean unbroken settled held kept tables)

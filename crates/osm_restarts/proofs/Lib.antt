@@ -6,13 +6,16 @@ pub mod StableLemmas
 pub mod LayoutLemmas
 pub mod FoundLemmas
 pub mod PremiseLemmas
+mod Begun
 mod BesideLemmas
 mod Entries
 mod Events
 mod Held
 mod NineTrees
+mod NoStore
 mod OneList
 mod Places
+mod Resumed
 mod SameTrees
 mod Sizes
 mod Twins

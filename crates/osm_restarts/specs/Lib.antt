@@ -1,2 +1,4 @@
 pub mod Beside
 pub mod Left
+pub mod Lives
+pub mod Copied

@@ -1,71 +1,128 @@
-//! That a history of deliveries goes on over what a crash left.
+//! That a history of deliveries goes on over what a crash left, crash after crash.
 
-ghost use Rattle.std.specs.Prelude.{◌≡◌, ℕ, false, List, [], ◌∷◌, ◌++◌, take};
+ghost use Rattle.std.specs.Prelude.{◌≡◌, ◌≤◌, ℕ, false, List, Some, [], ◌∷◌, ◌++◌};
 ghost use Rattle.std.specs.FinMap.{empty};
-ghost use Rattle.sqlite_trees.specs.Objects.{catalog_tree};
 ghost use Rattle.sqlite_trees.specs.View.{IsClean};
 ghost use Rattle.sqlite_store.specs.FileStore.{state, view, recovers};
 ghost use Rattle.sqlite_wal.specs.Recovery.{Image};
 ghost use Rattle.osm_store.specs.declared.schema.layout.Layout.TheVariants.{Tables};
 ghost use Rattle.osm_store.specs.Held.{HeldMap};
 ghost use Rattle.osm_trees.specs.Below.{HoldsBelow, LeavesAMap, MayLeave, StandsAlone};
-ghost use Rattle.osm_openings.specs.Presumed.{ArePresumedTables, ReadsAs};
-ghost use Rattle.osm_tree_writes.specs.Tables.{table_listings};
-ghost use Rattle.osm_import.specs.declared.answer.Answer.{Answer};
+ghost use Rattle.osm_import.specs.declared.answer.Answer.{Answer as AnswerValue};
 ghost use Rattle.osm_import.specs.Deliveries.{DeliveryValue};
+ghost use Rattle.osm_import.specs.FileHistories.{AreEventsOf, StandIn, events_of};
 ghost use Rattle.osm_import.specs.Files.{AreFrames, IsFrameAt};
-ghost use Rattle.osm_import.specs.Histories.{Event, broken, OfDeliveries, IsHistory, LeavesEvents, IsRestartable};
+ghost use Rattle.osm_import.specs.Flows.{input, output};
+ghost use Rattle.osm_import.specs.Histories.{Event, answered, broken, IsHistory, LeavesEvents};
+ghost use Rattle.osm_import.specs.Runs.{IsFault};
+ghost use Rattle.osm_import.specs.Streams.{Streams};
+ghost use Rattle.osm_restarts.specs.Left.{CrashesAfter, GoesOn, IsOpenedOver, LeavesHistory, MayBeOpened, MayCrashTo};
+ghost use Rattle.osm_restarts.specs.Lives.{Restart, AreRestarts, events_in};
 
 use crate::premise::what_is_left_may_be_opened;
 use crate::restart::a_restart_holds_what_was_left;
-use osm_import::deliver;
-use osm_import::laws::restart_law;
+use osm_import::{Answer, Source, StreamFault, Summary, deliver, import_stream};
 use osm_trees::TreeStore;
+use osm_value::Sink;
+use pbf_frame::MAX_OFFSET;
 use sqlite_disk::Disk;
 use sqlite_store::FileStore;
 use std::alloc::Global;
 
-/// A delivery of a frame of a file that a crash broke off, after any history of deliveries of that file, is one more event
-/// of the history: the store that either opening gives over what the crash left holds a map that may be delivered to again.
-/// `before` is the store as it was when it crashed, `after` the one that is opened; of the delivery the premise is what
-/// `deliver` promises.
+/// Deliveries of frames of a file, after any history of deliveries of that file, are more events of the history, whatever a
+/// crash behind them leaves: the store that either opening gives over that holds what comes of the longer history, may be
+/// delivered to again, and the next crash finds all that this one found. So it is with one delivery that a crash broke off,
+/// and with one that was answered with no fault. `before` is the store as it was when it crashed, `after` the one that is
+/// opened; of a delivery the premise is what `deliver` promises.
 pub fn a_restart_goes_on<D: Disk, E: Disk>(before: &FileStore<D>, after: &FileStore<E>)
-    ensures { (frames : List (List ℕ)) (events : List Event) (held : HeldMap) (delivery : DeliveryValue) (answer : Answer) → AreFrames frames
-        → OfDeliveries (λ d. IsFrameAt frames d.off d.bytes) events → IsFrameAt frames delivery.off delivery.bytes → IsHistory empty events held
+    ensures events { (frames : List (List ℕ)) (events more : List Event) (held : HeldMap) → AreFrames frames → AreEventsOf frames events → AreEventsOf frames more → IsHistory empty events held
+        → LeavesHistory held more (recovers before.now)
+        → (view before.now).has_sums ≡ false → (image : Image) → (state before.now).may_leave image → IsOpenedOver image (view after.now)
+        → (left : HeldMap) × MayLeave (recovers before.now) left × GoesOn frames (events ++ more) left after.now }
+    ensures broken { (frames : List (List ℕ)) (events : List Event) (held : HeldMap) (delivery : DeliveryValue) (answer : AnswerValue) → AreFrames frames
+        → AreEventsOf frames events → IsFrameAt frames delivery.off delivery.bytes → IsHistory empty events held
         → LeavesEvents (MayLeave (recovers before.now)) held delivery answer
-        → (view before.now).has_sums ≡ false → LeavesAMap (recovers before.now) → (image : Image) → (state before.now).may_leave image
-        → IsClean (view after.now) → (view after.now).is_broken ≡ false → (view after.now).trees ≡ (view after.now).committed
-        → ReadsAs image (view after.now).trees → take 9 ((view after.now).trees catalog_tree) ≡ table_listings
-        → (left : HeldMap) × HoldsBelow Tables (view after.now) left × IsRestartable frames (events ++ broken delivery ∷ []) left }
+        → (view before.now).has_sums ≡ false → LeavesAMap (recovers before.now) → (image : Image) → (state before.now).may_leave image → IsOpenedOver image (view after.now)
+        → (left : HeldMap) × GoesOn frames (events ++ broken delivery ∷ []) left after.now }
+    ensures answered { (frames : List (List ℕ)) (events : List Event) (held : HeldMap) (delivery : DeliveryValue) (answer : AnswerValue) → AreFrames frames
+        → AreEventsOf frames events → IsFrameAt frames delivery.off delivery.bytes → IsHistory empty events held
+        → LeavesEvents (MayLeave (recovers before.now)) held delivery answer → ¬ (IsFault answer)
+        → (view before.now).has_sums ≡ false → LeavesAMap (recovers before.now) → (image : Image) → (state before.now).may_leave image → IsOpenedOver image (view after.now)
+        → (left : HeldMap) × GoesOn frames (events ++ answered delivery answer ∷ []) left after.now }
 {
     a_restart_holds_what_was_left(before, after);
-    restart_law();
 }
 
-/// Delivers a blob to a store over files, and gives the files' trees back, which may crash now. Whatever the crash leaves, the
-/// store that either opening gives over it (`after`) holds a map to which the deliveries go on: of the delivery nothing is
-/// asked but what `deliver` promises of it. Where the store listed no object beside its own, what the crash leaves may be
-/// opened by the opening that looks at no other page.
+/// Any number of restarts, one after the other: a store that holds what comes of a history of deliveries of a file, and that
+/// is delivered to, crashes and is opened again, time after time, ends up with what comes of the one history of all these
+/// deliveries. So the whole list delivered once more without a fault gives all of the file, as one unbroken run does, and the
+/// next crash finds all that the first one found.
+pub fn a_life_is_one_history<D: Disk>(first: &FileStore<D>, last: &FileStore<D>)
+    ensures { (frames : List (List ℕ)) (events : List Event) (held : HeldMap) (restarts : List (Restart D.Disk)) → AreFrames frames → AreEventsOf frames events → IsHistory empty events held
+        → HoldsBelow Tables (view first.now) held → AreRestarts frames first.now restarts last.now
+        → (left : HeldMap) × GoesOn frames (events ++ events_in restarts) left last.now }
+{
+    let (_first, _last) = (first, last);
+}
+
+/// Delivers a blob to a store over files, and gives the files' trees back, which may crash now, with the answer. Whatever the
+/// crash leaves, the store that either opening gives over it (`after`) holds a map to which the deliveries go on: of the
+/// delivery nothing is asked but what `deliver` promises of it. Where the store listed no object beside its own, what the crash
+/// leaves may be opened by the opening that looks at no other page.
 pub fn deliver_before_a_restart<D: Disk, E: Disk>(
     alloc: Global,
     mut keeper: TreeStore<FileStore<D>>,
     off: u64,
     bytes: &[u8],
     after: &FileStore<E>,
-) -> FileStore<D>
-    ensures opens { (held : HeldMap) → HoldsBelow Tables (view keeper.store) held → StandsAlone (view keeper.store) (recovers keeper.store)
-        → IsClean (view result) → (view result).has_sums ≡ false → (image : Image) → (state result).may_leave image → ArePresumedTables image }
+) -> (FileStore<D>, Answer)
+    ensures opens { (held : HeldMap) → HoldsBelow Tables (view keeper.store) held → StandsAlone (view keeper.store) (recovers keeper.store) → MayBeOpened result.0 }
+    ensures leaves { IsClean (view result.0) → CrashesAfter (broken (record { off = off; bytes = bytes.now }) ∷ []) keeper.store result.0
+        × (¬ (IsFault result.1) → CrashesAfter (answered (record { off = off; bytes = bytes.now }) result.1 ∷ []) keeper.store result.0) }
     ensures goes_on { (frames : List (List ℕ)) (events : List Event) (held : HeldMap) → AreFrames frames
-        → OfDeliveries (λ d. IsFrameAt frames d.off d.bytes) events → IsFrameAt frames off bytes.now → IsHistory empty events held
-        → HoldsBelow Tables (view keeper.store) held → IsClean (view result) → (view result).has_sums ≡ false
-        → (image : Image) → (state result).may_leave image
-        → IsClean (view after.now) → (view after.now).is_broken ≡ false → (view after.now).trees ≡ (view after.now).committed
-        → ReadsAs image (view after.now).trees → take 9 ((view after.now).trees catalog_tree) ≡ table_listings
-        → (left : HeldMap) × HoldsBelow Tables (view after.now) left × IsRestartable frames (events ++ broken (record { off = off; bytes = bytes.now }) ∷ []) left }
+        → AreEventsOf frames events → IsFrameAt frames off bytes.now → IsHistory empty events held
+        → HoldsBelow Tables (view keeper.store) held → (image : Image) → MayCrashTo image result.0 → IsOpenedOver image (view after.now)
+        → (left : HeldMap) × GoesOn frames (events ++ broken (record { off = off; bytes = bytes.now }) ∷ []) left after.now }
+    ensures answered { (frames : List (List ℕ)) (events : List Event) (held : HeldMap) → AreFrames frames
+        → AreEventsOf frames events → IsFrameAt frames off bytes.now → IsHistory empty events held
+        → HoldsBelow Tables (view keeper.store) held → ¬ (IsFault result.1) → (image : Image) → MayCrashTo image result.0 → IsOpenedOver image (view after.now)
+        → (left : HeldMap) × GoesOn frames (events ++ answered (record { off = off; bytes = bytes.now }) result.1 ∷ []) left after.now }
 {
-    let _answer = deliver(alloc, &mut keeper, off, bytes);
+    let answer = deliver(alloc, &mut keeper, off, bytes);
     let store = keeper.into_store();
     what_is_left_may_be_opened(&store);
     a_restart_goes_on(&store, after);
-    store
+    (store, answer)
+}
+
+/// Imports what a reader gives into a store over files, and gives the files' trees back, which may crash now, with how the
+/// import ended. The reader stands at an offset of a file at which one of its frames begins, and may end before the file does.
+/// However the import ended, and whatever the crash leaves: the store that either opening gives over it (`after`) holds what
+/// comes of a longer history of deliveries of that file. Its new events are the frames that were read, each with the answer of
+/// its line, up to one that a fault or the crash broke off. The next import goes on from there. Where the store listed no object
+/// beside its own, what the crash leaves may be opened by the opening that looks at no other page.
+pub fn import_before_a_restart<D: Disk, E: Disk, R: Source, S: Sink>(
+    alloc: Global,
+    mut keeper: TreeStore<FileStore<D>>,
+    reader: &mut R,
+    from: u64,
+    max_blobs: u32,
+    out: &mut S,
+    after: &FileStore<E>,
+) -> (FileStore<D>, Result<Summary, StreamFault>)
+    requires { from ≤ MAX_OFFSET }
+    ensures opens { (held : HeldMap) → HoldsBelow Tables (view keeper.store) held → StandsAlone (view keeper.store) (recovers keeper.store) → MayBeOpened result.0 }
+    ensures leaves { (frames : List (List ℕ)) (piece : List ℕ) → AreFrames frames → StandIn frames from piece → R.bytes_left reader.old ≡ Some piece → IsClean (view result.0)
+        → Streams from max_blobs (input R.Source reader.old reader.new) (output S.Sink out.old out.new)
+        (λ deliveries answers. AreEventsOf frames (events_of deliveries answers) × CrashesAfter (events_of deliveries answers) keeper.store result.0) result.1 }
+    ensures goes_on { (frames : List (List ℕ)) (piece : List ℕ) (events : List Event) (held : HeldMap) → AreFrames frames → StandIn frames from piece → R.bytes_left reader.old ≡ Some piece
+        → AreEventsOf frames events → IsHistory empty events held → HoldsBelow Tables (view keeper.store) held → (image : Image) → MayCrashTo image result.0 → IsOpenedOver image (view after.now)
+        → Streams from max_blobs (input R.Source reader.old reader.new) (output S.Sink out.old out.new)
+        (λ deliveries answers. (left : HeldMap) × GoesOn frames (events ++ events_of deliveries answers) left after.now) result.1 }
+{
+    let outcome = import_stream(alloc, &mut keeper, reader, from, max_blobs, out);
+    let store = keeper.into_store();
+    what_is_left_may_be_opened(&store);
+    a_restart_goes_on(&store, after);
+    (store, outcome)
 }

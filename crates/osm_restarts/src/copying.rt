@@ -1,0 +1,45 @@
+//! That a copy goes on over what a crash left of it.
+
+ghost use Rattle.std.specs.Prelude.{MatchResult, ℕ};
+ghost use Rattle.sqlite_store.specs.FileStore.{view, recovers};
+ghost use Rattle.sqlite_wal.specs.Recovery.{Image};
+ghost use Rattle.osm_store.specs.declared.schema.layout.Layout.TheVariants.{Tables};
+ghost use Rattle.osm_store.specs.Held.{HeldMap};
+ghost use Rattle.osm_trees.specs.Below.{HoldsBelow, StandsAlone};
+ghost use Rattle.osm_import.specs.Copies.{IsUnited, IsUnitedBelow};
+ghost use Rattle.osm_restarts.specs.Copied.{CopyGoesOn};
+ghost use Rattle.osm_restarts.specs.Left.{IsOpenedOver, MayBeOpened, MayCrashTo};
+
+use crate::premise::what_is_left_may_be_opened;
+use crate::restart::a_restart_holds_what_was_left;
+use osm_import::{CopyCounts, CopyStop, copy_held};
+use osm_store::Reader;
+use osm_trees::TreeStore;
+use sqlite_disk::Disk;
+use sqlite_store::FileStore;
+use std::alloc::Global;
+
+/// Copies the blobs that a store holds into one over files, and gives the files' trees back, which may crash now, with how the
+/// copy ended. Whatever the crash leaves, the store that either opening gives over it (`after`) holds what was held with the
+/// blobs of the first store below some offset, and after `Ok` with all of them. The copy begun again ends in what it would
+/// have ended in with no crash, and the next crash finds all that this one found. Where the store listed no object beside its
+/// own, what the crash leaves may be opened by the opening that looks at no other page.
+pub fn copy_before_a_restart<D: Disk, E: Disk, F: Reader>(
+    alloc: Global,
+    from: &mut F,
+    mut to: TreeStore<FileStore<D>>,
+    after: &FileStore<E>,
+) -> (FileStore<D>, Result<CopyCounts, CopyStop>)
+    ensures opens { (source held : HeldMap) → F.holds from.old source → F.is_honest from.new → HoldsBelow Tables (view to.store) held
+        → StandsAlone (view to.store) (recovers to.store) → MayBeOpened result.0 }
+    ensures goes_on { (source held : HeldMap) → F.holds from.old source → F.is_honest from.new → HoldsBelow Tables (view to.store) held
+        → (image : Image) → MayCrashTo image result.0 → IsOpenedOver image (view after.now)
+        → (left : HeldMap) × CopyGoesOn source held left after.now
+        × MatchResult result.1 (λ _. IsUnited source held left) (λ _. (place : ℕ) × IsUnitedBelow place source held left) }
+{
+    let outcome = copy_held(alloc, from, &mut to);
+    let store = to.into_store();
+    what_is_left_may_be_opened(&store);
+    a_restart_holds_what_was_left(&store, after);
+    (store, outcome)
+}
