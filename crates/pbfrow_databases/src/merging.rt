@@ -51,7 +51,7 @@ fn merge_from<D: Databases, T: Keeper, W: Write>(
 ) -> u8
     ensures { result ≤ 1 }
 {
-    let mut sources = InTurn::new(Sources { rt, files, meter }, names);
+    let mut sources = InTurn::<MeteredSource<D>, _>::new(Sources { rt, files, meter }, names);
     merge_named::<MeteredSource<D>, _, _, _>(rt.alloc(), &mut sources, into, out)
 }
 

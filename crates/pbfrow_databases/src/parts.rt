@@ -51,7 +51,7 @@ fn ask_metered<D: Databases>(
         Ok(out) => out,
         Err(status) => return status,
     };
-    let mut parts = InTurn::new(Parts { rt, files, meter }, names);
+    let mut parts = InTurn::<MeteredPart<D>, _>::new(Parts { rt, files, meter }, names);
     let status = ask_named::<MeteredPart<D>, _, _>(rt.alloc(), &mut parts, question, &mut out);
     end(&mut out, meter, status)
 }

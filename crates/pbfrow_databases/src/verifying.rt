@@ -86,7 +86,7 @@ fn compare_parts<D: CheckedDatabases, W: Write>(
 ) -> u8
     ensures { result ≤ 1 }
 {
-    let mut parts = InTurn::new(CheckedParts { rt, files }, names);
+    let mut parts = InTurn::<CheckedStore<D::Trees>, _>::new(CheckedParts { rt, files }, names);
     let mut file = MeteredFile {
         file,
         watcher: meter,
