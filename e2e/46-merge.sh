@@ -77,10 +77,14 @@ expect "into a folder that isn't there" 1 "fault 65 Disk${nl}" merge nowhere/int
 "$pbfrow" merge two.db two.db > got.txt
 expect "a database into itself leaves it as it was" 0 "$nodes" export two.db --size 84
 if has sqlite3; then
-  rm -f into.db into.db-wal
+  rm -f into.db into.db-wal new.db new.db-wal
   . "$top/e2e/older.sh"
   older_two_nodes old.db
-  expect "a database of an earlier version and one of this" 0 "copied 2 held 0${nl}copied 0 held 2${nl}blobs copied 2 held 2${nl}" merge into.db old.db two.db
+  expect "a database of an earlier version" 1 "fault 66 NotThisStore${nl}" merge into.db old.db two.db
+  "$pbfrow" merge into.db old.db > got.txt 2> stderr.txt
+  grep -q "pbfrow migrate" stderr.txt && pass "which is to be copied by migrate first" || fail "which is to be copied by migrate first"
+  "$pbfrow" migrate old.db new.db > got.txt
+  expect "its copy of this version and another one" 0 "copied 2 held 0${nl}copied 0 held 2${nl}blobs copied 2 held 2${nl}" merge into.db new.db two.db
 else
   skip "a merge of a database of an earlier version" "sqlite3 isn't installed"
 fi

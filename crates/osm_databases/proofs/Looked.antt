@@ -1,24 +1,27 @@
 -- What trees are after reads that found each index whole.
-use Rattle.std.proofs.Common.{◌≡◌, ◌∙◌, false, take, [], ◌∷◌, IsTrue, Option, Some, None, sym, ap, subst}
+use Rattle.std.proofs.Common.{◌≡◌, ◌∙◌, false, take, Option, Some, None, sym, ap, subst}
 use Rattle.std.specs.Prelude.{IfSome}
 use Rattle.sqlite_trees.specs.Objects.{catalog_tree}
 use Rattle.sqlite_trees.specs.Tree.{Trees}
 use Rattle.sqlite_trees.specs.View.{View, doubt, IsClean}
-use Rattle.sqlite_trees.proofs.Doubt.{clean_of}
+use Rattle.sqlite_wal.specs.Recovery.{Image}
 use Rattle.sqlite_exec.specs.Calls.{OnlyReads}
-use Rattle.osm_store.specs.declared.schema.layout.Layout.TheVariants.{Tables}
-use Rattle.osm_store.specs.Rows.{version_row}
 use Rattle.osm_tree_writes.specs.Appending.{IsStoreAt}
 use Rattle.osm_tree_writes.specs.Putting.{IsIndexedStore}
 use Rattle.osm_tree_audits.specs.Looks.{IsLook}
 use Rattle.osm_tree_audits.specs.declared.look.Look.{Look}
 use Rattle.osm_trees.specs.Below.{IsChecked}
 use Rattle.osm_tree_writes.specs.Tables.{table_listings}
+use Rattle.osm_openings.specs.Opened.{IsOpened}
 use Rattle.osm_databases.specs.Checked.{IsOfVersion}
 
 -- two reads, one after the other
 pub reads_on : (a b c : View) → OnlyReads a b → OnlyReads b c → OnlyReads a c
 reads_on a b c ab bc = bc ∙ ap (λ (v : View). record v { cursors = c.cursors }) ab
+
+-- what was read of trees that are clean now was read of the first ones
+pub reads_from : (a b c : View) → (IsClean b → OnlyReads a b × (b.is_broken ≡ false)) → OnlyReads b c → IsClean c → OnlyReads a c
+reads_from a b c before after clean = reads_on a b c (before (ap (λ (v : View). doubt v.is_clean) (sym after) ∙ clean)).0 after
 
 pub checked_after : (old new : View) → OnlyReads old new → new.is_broken ≡ false → IsIndexedStore new.trees → IsClean new → (IsClean old → IsOfVersion old) → IsStoreAt old.shape
     → IsChecked new × (take 9 (new.trees catalog_tree) ≡ table_listings)
@@ -48,11 +51,9 @@ seen_on b c look whole after clean =
     let clean_b : IsClean b = ap (λ (v : View). doubt v.is_clean) (sym after) ∙ clean in
     subst (λ (db : Trees). IsLook db look) (sym (ap (λ (v : View). v.trees) after)) (whole clean_b).1
 
-pub found_of_version : {X : Type 0} (view : X → View) (found : Option X) → IfSome found (λ x. IsTrue (view x).is_clean → ((view x).is_broken ≡ false) × ((view x).trees ≡ (view x).committed))
-    → IfSome found (λ x. IsTrue (view x).is_clean → take 9 ((view x).trees catalog_tree) ≡ table_listings) → IfSome found (λ x. IsTrue (view x).is_clean → (view x).trees 0 ≡ version_row Tables ∷ [])
-    → IfSome found (λ x. IsClean (view x) → IsOfVersion (view x))
-found_of_version view None ready listed version = tt
-found_of_version view (Some x) ready listed version = λ clean.
-    let now = clean_of _ clean in
-    let up = ready now in
-    record { unbroken = up.0; settled = up.1; listed = listed now; version = version now }
+-- what was opened is of this version
+pub found_of_version : {X : Type 0} (view : X → View) (image : Image) (found : Option X) → IfSome found (λ x. IsClean (view x) → IsOpened image (view x)) → IfSome found (λ x. IsClean (view x) → IsOfVersion (view x))
+found_of_version view image None opened = tt
+found_of_version view image (Some x) opened = λ clean.
+    let known = opened clean in
+    record { unbroken = known.unbroken; settled = known.settled; listed = known.listed; version = known.version }

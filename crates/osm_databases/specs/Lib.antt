@@ -1,2 +1,3 @@
 pub mod Reasons
 pub mod Checked
+pub mod Found

@@ -2,26 +2,26 @@
 //! are different `Databases`, since the files of the first are read alone.
 //!
 //! A store that keeps elements in tables is opened by its trees, or not at all: what stands in the way is told on standard
-//! error. SQL makes a store where there is none, and reads one that keeps elements as blocks, which other databases are
-//! filled from.
+//! error. SQL makes a store where there is none, and reads one that keeps elements as blocks, which is copied into another
+//! database.
 
-ghost use Rattle.std.specs.Prelude.{◌≡◌, false, take, Some, IfOk, IfSome};
+ghost use Rattle.std.specs.Prelude.{◌≡◌, ℕ, List, false, take, Some, IfOk, IfSome};
 ghost use Rattle.sqlite.specs.Held.{IsNew, state};
 ghost use Rattle.sqlite_trees.specs.Objects.{catalog_tree};
 ghost use Rattle.sqlite_trees.specs.View.{IsClean};
 ghost use Rattle.osm_tree_writes.specs.Tables.{table_listings};
 ghost use Rattle.osm_tree_audits.specs.Looks.{IsLook};
 ghost use Rattle.osm_trees.specs.Below.{IsChecked};
-ghost use Rattle.osm_trees.specs.Ways.{counted};
-ghost use Rattle.osm_tree_writes.specs.Appending.{IsStoreAt};
+ghost use Rattle.osm_tree_writes.specs.Appending.{IsStoreAt, TakeBlobs};
 ghost use Rattle.osm_databases.specs.Checked.{HasWholeAdded, IsOfVersion};
+ghost use Rattle.osm_databases.specs.Found.{AreFound, AreReadFrom, AreFoundOrMade, AreMade};
 
 use crate::reason::{Reason, tell, tell_of_obstruction, told, told_of};
 use crate::stores::{BLOCKS, checked, made_where_none, taking_blobs};
 use osm_checked::CheckedStore;
 use osm_openings::{Obstacle, Obstruction, find_unkept};
 use osm_store::{BodyStore, StoreFault, TABLE_VERSION};
-use osm_trees::{Opened, TreeStore};
+use osm_trees::TreeStore;
 use sqlite::{Alter, Connection};
 
 /// Where databases are opened and closed. Their trees are named, and not what they lie in: so all that is done with them
@@ -29,8 +29,14 @@ use sqlite::{Alter, Connection};
 pub trait Databases {
     type Trees: Alter + Drop;
 
-    /// The trees of a database of this version. If it is anything else it is closed.
-    fn trees(&self, rt: &HostRuntime, name: &str) -> Result<Option<Self::Trees>, StoreFault>;
+    /// What is known of the trees that lie under a name, by the bytes of the name.
+    ghost gives: { Self → List ℕ → Self.Trees → Type 0 };
+
+    /// The trees of a database of this version: the first of them are those of a store, and nothing is written that isn't
+    /// committed. If it is anything else it is closed.
+    fn trees(&self, rt: &HostRuntime, name: &str) -> Result<Option<Self::Trees>, StoreFault>
+        ensures given { IfOk result (λ found. IfSome found (λ trees. gives self.now name.now trees)) }
+        ensures version { IfOk result (λ found. IfSome found (λ trees. IsClean (Self.Trees.Store.view trees) → IsOfVersion (Self.Trees.Store.view trees))) };
 
     /// What stands in the way of a database whose trees aren't opened, if that can be told. Nothing of it is changed, and
     /// nothing is told on standard error.
@@ -54,7 +60,8 @@ pub trait CheckedDatabases: Databases {
     /// The trees of a database of this version, each page and tree of which was looked at: the first of them are those of a
     /// store, and nothing is written that isn't committed. If it is anything else it is closed.
     fn checked_trees(&self, rt: &HostRuntime, name: &str) -> Result<Option<Self::Trees>, StoreFault>
-        ensures { IfOk result (λ found. IfSome found (λ trees. IsClean (Self.Trees.Store.view trees) → IsOfVersion (Self.Trees.Store.view trees))) };
+        ensures given { IfOk result (λ found. IfSome found (λ trees. Self.gives self.now name.now trees)) }
+        ensures version { IfOk result (λ found. IfSome found (λ trees. IsClean (Self.Trees.Store.view trees) → IsOfVersion (Self.Trees.Store.view trees))) };
 }
 
 /// The fault of a database whose trees aren't opened and in whose way nothing is known to stand, once SQL has said this of its
@@ -143,7 +150,8 @@ pub fn opened<D: Databases>(
     databases: &D,
     name: &str,
 ) -> Result<TreeStore<D::Trees>, StoreFault>
-    ensures { IfOk result (λ reader. reader.failures ≡ 0) }
+    ensures failures { IfOk result (λ reader. reader.failures ≡ 0) }
+    ensures found { IfOk result (λ reader. AreFound D.Trees.Store (D.gives databases.now name.now) reader.store) }
 {
     match databases.trees(rt, name)? {
         Some(trees) => Ok(TreeStore::new(trees)),
@@ -165,6 +173,7 @@ fn refuse_unkept<S: Alter>(rt: &HostRuntime, name: &str, trees: &S) -> Result<()
 fn keeping_all<S: Alter + Drop>(rt: &HostRuntime, name: &str, trees: S) -> Result<S, StoreFault>
     ensures same { IfOk result (λ kept. kept ≡ trees) }
     ensures store { IfOk result (λ kept. IsStoreAt (S.Store.view kept).shape) }
+    ensures takes { IfOk result (λ kept. IsClean (S.Store.view kept) → TakeBlobs (S.Store.view kept).shape ((S.Store.view kept).trees catalog_tree)) }
 {
     refuse_unkept(rt, name, &trees)?;
     match taking_blobs(rt.alloc(), trees) {
@@ -200,6 +209,7 @@ pub fn opened_checked<D: CheckedDatabases>(
     name: &str,
 ) -> Result<CheckedStore<D::Trees>, StoreFault>
     ensures failures { IfOk result (λ reader. reader.trees.failures ≡ 0) }
+    ensures found { IfOk result (λ reader. AreReadFrom D.Trees.Store (D.gives databases.now name.now) reader.trees.store) }
     ensures checked { IfOk result (λ reader. IsClean (D.Trees.Store.view reader.trees.store)
         → IsChecked (D.Trees.Store.view reader.trees.store) × (take 9 ((D.Trees.Store.view reader.trees.store).trees catalog_tree) ≡ table_listings)) }
     ensures look { IfOk result (λ reader. IsClean (D.Trees.Store.view reader.trees.store) → IsLook (D.Trees.Store.view reader.trees.store).trees reader.look) }
@@ -214,28 +224,9 @@ pub fn opened_checked<D: CheckedDatabases>(
     Ok(store)
 }
 
-/// The store of a database of either version. One that keeps elements in tables is read by its trees, and one that keeps them
-/// as blocks of bytes by SQL.
-pub type AnyVersion<S> = Opened<TreeStore<S>, BodyStore<S>>;
-
-/// The store of a database, of whichever version. Nothing is written. Why it can't be opened is told on standard error. The
-/// fault is one of those of `opened`; it is also `Disk` where one that keeps elements as blocks has a virtual table, or a
-/// trigger on one of its tables.
-pub fn opened_of_any_version<D: Databases>(
-    rt: &HostRuntime,
-    databases: &D,
-    name: &str,
-) -> Result<AnyVersion<D::Trees>, StoreFault>
-    ensures { IfOk result (λ store. counted (λ trees. trees.failures) (λ blocks. blocks.failures) store ≡ 0) }
-{
-    match databases.trees(rt, name)? {
-        Some(trees) => Ok(Opened::ByTrees(TreeStore::new(trees))),
-        None => Ok(Opened::BySql(blocks_of(rt, databases, name)?)),
-    }
-}
-
 /// The store of a database that keeps elements as blocks, by SQL. Nothing is written. Why it can't be opened is told on
-/// standard error; one that keeps them in tables is `NotThisStore` with its version.
+/// standard error. The fault is one of those of `opened`, but one that keeps them in tables is `NotThisStore` with its version;
+/// it is also `Disk` where the database has a virtual table, or a trigger on one of the store's tables.
 pub fn source_of_blocks<D: Databases>(
     rt: &HostRuntime,
     databases: &D,
@@ -256,7 +247,8 @@ fn made_in<D: Databases>(
     databases: &D,
     name: &str,
 ) -> Result<TreeStore<D::Trees>, StoreFault>
-    ensures { IfOk result (λ store. store.failures ≡ 0) }
+    ensures failures { IfOk result (λ store. store.failures ≡ 0) }
+    ensures made { IfOk result (λ store. AreMade D.Trees.Store store.store) }
 {
     refuse_obstructed(rt, databases, name)?;
     let connection = databases.connection(rt, name)?;
@@ -276,7 +268,9 @@ pub fn opened_or_made<D: Databases>(
     databases: &D,
     name: &str,
 ) -> Result<TreeStore<D::Trees>, StoreFault>
-    ensures { IfOk result (λ store. store.failures ≡ 0) }
+    ensures failures { IfOk result (λ store. store.failures ≡ 0) }
+    // it is the store that was found, or one that was made and holds nothing
+    ensures trees { IfOk result (λ store. AreFoundOrMade D.Trees.Store (D.gives databases.now name.now) store.store) }
 {
     match databases.trees(rt, name)? {
         Some(trees) => Ok(TreeStore::new(keeping_all(rt, name, trees)?)),

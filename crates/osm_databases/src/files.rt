@@ -1,8 +1,12 @@
 //! The files of this machine that a database lies in.
 
-ghost use Rattle.std.specs.Prelude.{◌≡◌, IsTrue, IfOk};
+ghost use Rattle.std.specs.Prelude.{◌≡◌, IsTrue, IfOk, IfSome};
+ghost use Rattle.sqlite_store.specs.FileStore.{view};
+ghost use Rattle.sqlite_trees.specs.View.{IsClean};
 ghost use Rattle.sqlite_wal.specs.Files.{image_at, seen_image};
+ghost use Rattle.osm_openings.specs.Opened.{IsOpened};
 ghost use Rattle.osm_openings.specs.Presumed.{ArePresumedTables};
+ghost use Rattle.osm_databases.specs.Checked.{IsOfVersion};
 
 use crate::databases::{CheckedDatabases, Databases};
 use crate::reason::{Reason, Refusal, told};
@@ -68,22 +72,50 @@ pub fn files_to_read<S: Start>(
     }
 }
 
-/// The same of a file of whose bytes nothing is claimed. Why they can't be opened is told on standard error.
-fn written(rt: &HostRuntime, name: &str) -> Result<Files<WriteFile>, StoreFault>
-    ensures log { IfOk result (λ files. IsTrue (⟦<WriteFile as Disk>⟧.is_usable files.log)) }
-    ensures db { IfOk result (λ files. IsTrue (⟦<WriteFile as Disk>⟧.is_usable files.db)) }
-    ensures presumed { IfOk result (λ files. ArePresumedTables (seen_image ⟦<WriteFile as Disk>⟧ files.log files.db)) }
+/// The trees of the database of this name, to be written, if its files, which held what `S` says, are a database of this
+/// version: at most these pages are kept in memory. That pages which aren't read are sound is presumed of those bytes. What a
+/// crash leaves of a store meets that (law `what_is_left_may_be_opened` of `osm_restarts`), and so does an empty file.
+pub fn trees_to_write<S: Start>(
+    rt: &HostRuntime,
+    name: &str,
+    start: S,
+    pages: KeptPages,
+) -> Result<Option<FileStore<WriteFrom<S>>>, Refusal>
+    requires { ArePresumedTables (image_at S.Start) }
+    ensures version { IfOk result (λ found. IfSome found (λ store. IsClean (view store) → IsOfVersion (view store))) }
+    ensures opened { IfOk result (λ found. IfSome found (λ store. IsClean (view store) → IsOpened (image_at S.Start) (view store))) }
 {
-    told(rt, name, files_to_write(rt, name, Unknown))
+    let files = files_to_write(rt, name, start)?;
+    trees_in(rt, files, pages)
 }
 
 /// The same, to be read alone.
-fn read_alone(rt: &HostRuntime, name: &str) -> Result<Files<ReadFile>, StoreFault>
-    ensures log { IfOk result (λ files. IsTrue (⟦<ReadFile as Disk>⟧.is_usable files.log)) }
-    ensures db { IfOk result (λ files. IsTrue (⟦<ReadFile as Disk>⟧.is_usable files.db)) }
-    ensures presumed { IfOk result (λ files. ArePresumedTables (seen_image ⟦<ReadFile as Disk>⟧ files.log files.db)) }
+pub fn trees_to_read<S: Start>(
+    rt: &HostRuntime,
+    name: &str,
+    start: S,
+    pages: KeptPages,
+) -> Result<Option<FileStore<ReadFrom<S>>>, Refusal>
+    requires { ArePresumedTables (image_at S.Start) }
+    ensures version { IfOk result (λ found. IfSome found (λ store. IsClean (view store) → IsOfVersion (view store))) }
+    ensures opened { IfOk result (λ found. IfSome found (λ store. IsClean (view store) → IsOpened (image_at S.Start) (view store))) }
 {
-    told(rt, name, files_to_read(rt, name, Unknown))
+    let files = files_to_read(rt, name, start)?;
+    trees_in(rt, files, pages)
+}
+
+/// The same, with a look at each page and each tree, so that nothing is presumed.
+pub fn checked_trees_to_read<S: Start>(
+    rt: &HostRuntime,
+    name: &str,
+    start: S,
+    pages: KeptPages,
+) -> Result<Option<FileStore<ReadFrom<S>>>, Refusal>
+    ensures version { IfOk result (λ found. IfSome found (λ store. IsClean (view store) → IsOfVersion (view store))) }
+    ensures opened { IfOk result (λ found. IfSome found (λ store. IsClean (view store) → IsOpened (image_at S.Start) (view store))) }
+{
+    let files = files_to_read(rt, name, start)?;
+    checked_trees_in(rt, files, pages)
 }
 
 /// What stands in the way of opening a database by its trees, if that can be told.
@@ -102,13 +134,14 @@ pub struct FilledFiles {
 impl Databases for FilledFiles {
     type Trees = FileStore<WriteFile>;
 
+    ghost gives = { λ _ _ trees. IsClean (view trees) → IsOpened (image_at ⟦<Unknown as Start>⟧) (view trees) };
+
     fn trees(
         &self,
         rt: &HostRuntime,
         name: &str,
     ) -> Result<Option<FileStore<WriteFile>>, StoreFault> {
-        let files = written(rt, name)?;
-        told(rt, name, trees_in(rt, files, self.pages))
+        told(rt, name, trees_to_write(rt, name, Unknown, self.pages))
     }
 
     fn obstruction(&self, rt: &HostRuntime, name: &str) -> Option<Obstruction> {
@@ -120,7 +153,7 @@ impl Databases for FilledFiles {
         rt: &HostRuntime,
         name: &str,
     ) -> Result<Connection<FileStore<WriteFile>>, StoreFault> {
-        let files = written(rt, name)?;
+        let files = told(rt, name, files_to_write(rt, name, Unknown))?;
         told(rt, name, connection_in(rt, files, self.pages))
     }
 
@@ -135,13 +168,14 @@ pub struct AskedFiles;
 impl Databases for AskedFiles {
     type Trees = FileStore<ReadFile>;
 
+    ghost gives = { λ _ _ trees. IsClean (view trees) → IsOpened (image_at ⟦<Unknown as Start>⟧) (view trees) };
+
     fn trees(
         &self,
         rt: &HostRuntime,
         name: &str,
     ) -> Result<Option<FileStore<ReadFile>>, StoreFault> {
-        let files = read_alone(rt, name)?;
-        told(rt, name, trees_in(rt, files, FEW_PAGES))
+        told(rt, name, trees_to_read(rt, name, Unknown, FEW_PAGES))
     }
 
     fn obstruction(&self, rt: &HostRuntime, name: &str) -> Option<Obstruction> {
@@ -153,7 +187,7 @@ impl Databases for AskedFiles {
         rt: &HostRuntime,
         name: &str,
     ) -> Result<Connection<FileStore<ReadFile>>, StoreFault> {
-        let files = read_alone(rt, name)?;
+        let files = told(rt, name, files_to_read(rt, name, Unknown))?;
         told(rt, name, connection_in(rt, files, MANY_PAGES))
     }
 
@@ -166,7 +200,10 @@ impl CheckedDatabases for AskedFiles {
         rt: &HostRuntime,
         name: &str,
     ) -> Result<Option<FileStore<ReadFile>>, StoreFault> {
-        let files = read_alone(rt, name)?;
-        told(rt, name, checked_trees_in(rt, files, MANY_PAGES))
+        told(
+            rt,
+            name,
+            checked_trees_to_read(rt, name, Unknown, MANY_PAGES),
+        )
     }
 }

@@ -69,6 +69,11 @@ impl fmt::Display for Reason {
     fn fmt<W: fmt::Write>(&self, f: &mut fmt::Formatter<W>) -> fmt::Result {
         match self {
             Reason::File(fault) => write!(f, "{fault}"),
+            Reason::Obstacle(Obstacle::FirstLayout) => write!(
+                f,
+                "{}: copy it into a new database by pbfrow migrate",
+                Obstacle::FirstLayout
+            ),
             Reason::Obstacle(obstacle) => write!(f, "{obstacle}"),
             Reason::Object(obstacle, name) => write_object(f, *obstacle, name.as_str()),
             Reason::Unsound => f.write_str(

@@ -144,6 +144,7 @@ pub fn with_whole_added_indexes<S: Alter + Drop>(alloc: Global, mut trees: S) ->
 /// `with_whole_indexes`, or of `with_whole_added_indexes`.
 pub(crate) fn checked<S: Alter + Drop>(alloc: Global, trees: S) -> Result<CheckedStore<S>, Refusal>
     ensures failures { IfOk result (λ reader. reader.trees.failures ≡ 0) }
+    ensures reads { IfOk result (λ reader. IsClean (S.Store.view reader.trees.store) → OnlyReads (S.Store.view trees) (S.Store.view reader.trees.store)) }
     ensures checked { IfOk result (λ reader. IsClean (S.Store.view reader.trees.store) → (IsClean (S.Store.view trees) → IsOfVersion (S.Store.view trees)) → IsStoreAt (S.Store.view trees).shape
         → IsChecked (S.Store.view reader.trees.store) × (take 9 ((S.Store.view reader.trees.store).trees catalog_tree) ≡ table_listings)) }
     ensures look { IfOk result (λ reader. IsClean (S.Store.view reader.trees.store) → IsLook (S.Store.view reader.trees.store).trees reader.look) }

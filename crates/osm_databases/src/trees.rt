@@ -1,11 +1,14 @@
 //! The trees of files, opened by their list or by SQL, and what stands in the way.
 
-ghost use Rattle.std.specs.Prelude.{◌≡◌, IsTrue, IfOk, IfSome};
+ghost use Rattle.std.specs.Prelude.{◌≡◌, false, IsTrue, IfOk, IfSome};
+ghost use Rattle.sqlite.specs.Files.{IsBlankAs, file_state, image_of};
 ghost use Rattle.sqlite.specs.Held.{IsNew};
-ghost use Rattle.sqlite_trees.specs.View.{IsClean};
-ghost use Rattle.sqlite_store.specs.FileStore.{view};
+ghost use Rattle.sqlite.specs.State.{HasCleanDisk};
+ghost use Rattle.sqlite_trees.specs.View.{IsClean, IsQuiet};
+ghost use Rattle.sqlite_store.specs.FileStore.{view, faults, recovers, is_shielded};
 ghost use Rattle.sqlite_wal.specs.Files.{seen_image};
-ghost use Rattle.osm_openings.specs.Presumed.{ArePresumedTables, ReadsAs};
+ghost use Rattle.osm_openings.specs.Opened.{IsOpened};
+ghost use Rattle.osm_openings.specs.Presumed.{ArePresumedTables};
 ghost use Rattle.osm_databases.specs.Checked.{IsOfVersion};
 
 use crate::reason::{Reason, Refusal};
@@ -61,7 +64,7 @@ fn options(rt: &HostRuntime, pages: KeptPages) -> Result<Options, Refusal> {
 }
 
 /// The trees of files that are a database of this version, of which at most these pages are kept in memory. They are what the
-/// files' bytes read as, if these are those of a sound database.
+/// files' bytes read as, if these are those of a sound database, and nothing is written beyond the last commit.
 pub fn trees_in<D: Disk + Drop>(
     rt: &HostRuntime,
     files: Files<D>,
@@ -70,7 +73,8 @@ pub fn trees_in<D: Disk + Drop>(
     requires log { IsTrue (D.Disk.is_usable files.log) }
     requires db { IsTrue (D.Disk.is_usable files.db) }
     requires presumed { ArePresumedTables (seen_image D.Disk files.log files.db) }
-    ensures reads { IfOk result (λ found. IfSome found (λ store. IsTrue (view store).is_clean → ReadsAs (seen_image D.Disk files.log files.db) (view store).trees)) }
+    ensures version { IfOk result (λ found. IfSome found (λ store. IsClean (view store) → IsOfVersion (view store))) }
+    ensures opened { IfOk result (λ found. IfSome found (λ store. IsClean (view store) → IsOpened (seen_image D.Disk files.log files.db) (view store))) }
 {
     let options = options(rt, pages)?;
     match open_tables(rt.alloc(), files, options) {
@@ -88,7 +92,7 @@ pub fn checked_trees_in<D: Disk + Drop>(
     requires log { IsTrue (D.Disk.is_usable files.log) }
     requires db { IsTrue (D.Disk.is_usable files.db) }
     ensures version { IfOk result (λ found. IfSome found (λ store. IsClean (view store) → IsOfVersion (view store))) }
-    ensures reads { IfOk result (λ found. IfSome found (λ store. IsTrue (view store).is_clean → ReadsAs (seen_image D.Disk files.log files.db) (view store).trees)) }
+    ensures opened { IfOk result (λ found. IfSome found (λ store. IsClean (view store) → IsOpened (seen_image D.Disk files.log files.db) (view store))) }
 {
     let options = options(rt, pages)?;
     match open_checked_tables(rt.alloc(), files, options) {
@@ -97,7 +101,8 @@ pub fn checked_trees_in<D: Disk + Drop>(
     }
 }
 
-/// Files, opened by SQL, of which at most these pages are kept in memory.
+/// Files, opened by SQL, of which at most these pages are kept in memory. The pages of a database that is made in files where
+/// there was none end in no sums.
 pub fn connection_in<D: Disk + Drop>(
     rt: &HostRuntime,
     files: Files<D>,
@@ -105,7 +110,8 @@ pub fn connection_in<D: Disk + Drop>(
 ) -> Result<Connection<FileStore<D>>, Refusal>
     requires log { IsTrue (D.Disk.is_usable files.log) }
     requires db { IsTrue (D.Disk.is_usable files.db) }
-    ensures { IfOk result IsNew }
+    ensures fresh { IfOk result IsNew }
+    ensures plain { IfOk result (λ connection. HasCleanDisk (file_state connection) → IsBlankAs false (image_of D.Disk files) → (view connection.store).has_sums ≡ false) }
 {
     let options = options(rt, pages)?;
     match Connection::open_files(rt.alloc(), files, options) {
@@ -134,8 +140,18 @@ pub fn obstacle_in<D: Disk + Drop>(rt: &HostRuntime, files: Files<D>) -> Option<
     find_obstacle(rt.alloc(), files, options).ok()?
 }
 
-/// Copies the log into the database, if it can be copied, and closes both files.
-pub fn close_files<D: Disk + Drop>(mut trees: FileStore<D>) {
+/// Takes back what isn't committed, and copies the log into the database, if it can be copied. What was committed stays so, and
+/// whatever a crash leaves then, it could leave before.
+pub fn copy_log<D: Disk>(trees: &mut FileStore<D>)
+    ensures committed { IsTrue (view trees.new).is_open → (view trees.new).committed ≡ (view trees.old).committed }
+    ensures undone { IsTrue (view trees.new).is_open → (view trees.new).trees ≡ (view trees.old).committed }
+    ensures quiet { IsQuiet view faults recovers is_shielded trees.old trees.new }
+{
     trees.rollback();
     let _copied = trees.checkpoint();
+}
+
+/// Copies the log into the database, if it can be copied, and closes both files.
+pub fn close_files<D: Disk + Drop>(mut trees: FileStore<D>) {
+    copy_log(&mut trees);
 }

@@ -37,6 +37,13 @@ use Rattle.osm_tree_writes.specs.Tables.{table_listings}
 use Rattle.sqlite_value.specs.declared.keys.Order.{Order}
 use Rattle.sqlite_store.specs.Roots.{has_index_root}
 use Rattle.osm_openings.specs.Presumed.{NamesSize, ReadsAs, root_order, told_roots}
+use Rattle.osm_openings.specs.Opened.{IsOpened}
+use Rattle.osm_store.specs.declared.schema.layout.Layout.TheVariants.{Tables}
+use Rattle.osm_store.specs.Rows.{version_row}
+use Rattle.osm_tree_writes.specs.Tables.{table_listings}
+use Rattle.sqlite_exec.specs.Calls.{OnlyReads}
+use Rattle.sqlite_trees.specs.Tree.{Trees}
+use Rattle.sqlite_trees.specs.View.{View}
 
 pub if_none : {X : Type 0} (P : X → Type 0) (o : Option X) → o ≡ None → IfSome o P
 if_none P None e = tt
@@ -191,3 +198,17 @@ clean_files {g = g} it log db is clean = subst (λ p. AreClean g p.0 p.1) is cle
 pub roots_told : (entries rows : List Row) (pages : PageMap) → told_roots entries rows (map (has_index_root pages) rows) ≡ map (root_order entries pages) rows
 roots_told entries [] pages = refl
 roots_told entries (row ∷ rows) pages = ap (λ (orders : List (Option Order)). root_order entries pages row ∷ orders) (roots_told entries rows pages)
+
+-- what was known of trees is so after a read, which has found the version's row
+pub opened_on : (image : Image) (old new : View) → OnlyReads old new → new.is_broken ≡ false → old.trees ≡ old.committed → old.has_sums ≡ false → take 9 (old.trees catalog_tree) ≡ table_listings → old.trees 0 ≡ version_row Tables ∷ []
+    → ReadsAs image old.trees → IsOpened image new
+opened_on image old new reads unbroken settled plain listed version read =
+    let same : new.trees ≡ old.trees = ap (λ (v : View). v.trees) reads in
+    record {
+      unbroken = unbroken;
+      settled = same ∙ settled ∙ sym (ap (λ (v : View). v.committed) reads);
+      plain = ap (λ (v : View). v.has_sums) reads ∙ plain;
+      listed = ap (λ (trees : Trees). take 9 (trees catalog_tree)) same ∙ listed;
+      version = ap (λ (trees : Trees). trees 0) same ∙ version;
+      reads = subst (ReadsAs image) (sym same) read;
+    }

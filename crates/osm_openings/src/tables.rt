@@ -1,6 +1,6 @@
 //! The trees of a store that keeps elements in tables.
 
-ghost use Rattle.std.specs.Prelude.{◌≡◌, ◌∷◌, [], ℕ, take, false, IsTrue, IfOk, IfSome};
+ghost use Rattle.std.specs.Prelude.{◌≡◌, ◌∷◌, [], ℕ, false, IsTrue, IfOk, IfSome};
 ghost use Rattle.sqlite_trees.specs.Objects.{catalog_tree, object_row, text_or_null};
 ghost use Rattle.sqlite_trees.specs.View.{IsClean, IsQuiet};
 ghost use Rattle.sqlite_exec.specs.Calls.{OnlyReads};
@@ -10,7 +10,8 @@ ghost use Rattle.osm_store.specs.declared.schema.layout.Layout.{Layout};
 ghost use Rattle.osm_store.specs.Rows.{version_row};
 ghost use Rattle.osm_openings.specs.Asked.{ListsAsAsked};
 ghost use Rattle.osm_openings.specs.Catalog.{listings};
-ghost use Rattle.osm_openings.specs.Presumed.{ArePresumedTables, ReadsAs};
+ghost use Rattle.osm_openings.specs.Opened.{IsOpened};
+ghost use Rattle.osm_openings.specs.Presumed.{ArePresumedTables};
 ghost use Rattle.osm_tree_writes.specs.Tables.{table_listing, index_listing, table_listings};
 
 use crate::opening::{open_checked, open_listed};
@@ -115,12 +116,7 @@ pub fn open_tables<D: Disk + Drop>(
     requires log { IsTrue (D.Disk.is_usable files.log) }
     requires db { IsTrue (D.Disk.is_usable files.db) }
     requires presumed { ArePresumedTables (seen_image D.Disk files.log files.db) }
-    ensures ready { IfOk result (λ found. IfSome found (λ store. IsTrue (view store).is_clean → ((view store).is_broken ≡ false) × ((view store).trees ≡ (view store).committed))) }
-    ensures plain { IfOk result (λ found. IfSome found (λ store. IsTrue (view store).is_clean → (view store).has_sums ≡ false)) }
-    ensures listed { IfOk result (λ found. IfSome found (λ store. IsTrue (view store).is_clean → take 9 ((view store).trees catalog_tree) ≡ table_listings)) }
-    ensures version { IfOk result (λ found. IfSome found (λ store. IsTrue (view store).is_clean → (view store).trees 0 ≡ version_row Layout.Tables ∷ [])) }
-    // they are what the files recover to, so that nothing was changed
-    ensures reads { IfOk result (λ found. IfSome found (λ store. IsTrue (view store).is_clean → ReadsAs (seen_image D.Disk files.log files.db) (view store).trees)) }
+    ensures opened { IfOk result (λ found. IfSome found (λ store. IsClean (view store) → IsOpened (seen_image D.Disk files.log files.db) (view store))) }
     // whatever else the database has is listed as its row in `sqlite_schema` asks
     ensures asked { IfOk result (λ found. IfSome found (λ store. IsTrue (view store).is_clean → ListsAsAsked ((view store).trees catalog_tree))) }
 {
@@ -139,12 +135,8 @@ pub fn open_checked_tables<D: Disk + Drop>(
 ) -> Result<Option<FileStore<D>>, AllocError>
     requires log { IsTrue (D.Disk.is_usable files.log) }
     requires db { IsTrue (D.Disk.is_usable files.db) }
-    ensures ready { IfOk result (λ found. IfSome found (λ store. IsTrue (view store).is_clean → ((view store).is_broken ≡ false) × ((view store).trees ≡ (view store).committed))) }
-    ensures plain { IfOk result (λ found. IfSome found (λ store. IsTrue (view store).is_clean → (view store).has_sums ≡ false)) }
+    ensures opened { IfOk result (λ found. IfSome found (λ store. IsClean (view store) → IsOpened (seen_image D.Disk files.log files.db) (view store))) }
     ensures shielded { IfOk result (λ found. IfSome found (λ store. IsTrue (view store).is_clean → is_shielded store)) }
-    ensures listed { IfOk result (λ found. IfSome found (λ store. IsTrue (view store).is_clean → take 9 ((view store).trees catalog_tree) ≡ table_listings)) }
-    ensures version { IfOk result (λ found. IfSome found (λ store. IsTrue (view store).is_clean → (view store).trees 0 ≡ version_row Layout.Tables ∷ [])) }
-    ensures reads { IfOk result (λ found. IfSome found (λ store. IsTrue (view store).is_clean → ReadsAs (seen_image D.Disk files.log files.db) (view store).trees)) }
     // whatever else the database has is listed as its row in `sqlite_schema` asks
     ensures asked { IfOk result (λ found. IfSome found (λ store. IsTrue (view store).is_clean → ListsAsAsked ((view store).trees catalog_tree))) }
 {

@@ -6,6 +6,7 @@ pub mod StableLemmas
 pub mod LayoutLemmas
 pub mod FoundLemmas
 pub mod PremiseLemmas
+mod BesideLemmas
 mod Entries
 mod Events
 mod Held

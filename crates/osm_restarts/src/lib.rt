@@ -2,6 +2,7 @@
 //! `verify` passes holds the map of an import.
 #![tactic(auto)]
 
+pub mod beside;
 pub mod history;
 pub mod memory;
 pub mod premise;

@@ -1,4 +1,3 @@
 pub mod Below
 pub mod Putting
 pub mod Reading
-pub mod Ways

@@ -9,7 +9,5 @@ mod parts;
 mod row;
 mod search;
 mod tree_store;
-mod ways;
 
 pub use tree_store::TreeStore;
-pub use ways::Opened;

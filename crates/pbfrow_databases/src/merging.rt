@@ -2,10 +2,9 @@
 
 ghost use Rattle.std.specs.Prelude.{◌≤◌};
 
-use osm_databases::databases::{
-    AnyVersion, Databases, close, opened_of_any_version, opened_or_made,
-};
+use osm_databases::databases::{Databases, close, opened, opened_or_made};
 use osm_store::{Keeper, StoreFault};
+use osm_trees::TreeStore;
 use osm_value::Outlet;
 use pbfrow_answers::ending::refuse;
 use pbfrow_answers::named::merge_named;
@@ -17,10 +16,9 @@ use std::io;
 use std::io::Write;
 
 /// A store that tells the meter of its blobs.
-type MeteredSource<'a, D> = MeteredStore<'a, AnyVersion<<D as Databases>::Trees>, Meter<'a>>;
+type MeteredSource<'a, D> = MeteredStore<'a, TreeStore<<D as Databases>::Trees>, Meter<'a>>;
 
-/// Opens databases of either version, each of which tells the meter of its blobs: one of this version is read by its trees, and
-/// one of the first by SQL.
+/// Opens databases, each of which tells the meter of its blobs.
 #[derive(Drop)]
 struct Sources<'a, D> {
     rt: &'a HostRuntime,
@@ -32,7 +30,7 @@ impl<'a, D: Databases> OpensNamed<MeteredSource<'a, D>> for Sources<'a, D> {
     ghost lies = { λ sources name store. Unit {0} };
 
     fn open_named(&self, name: &str) -> Result<MeteredSource<'a, D>, StoreFault> {
-        let store = opened_of_any_version(self.rt, self.files, name)?;
+        let store = opened(self.rt, self.files, name)?;
         Ok(MeteredStore {
             store,
             watcher: self.meter,

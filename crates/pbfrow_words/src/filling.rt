@@ -64,12 +64,12 @@ Example:
 
 const MERGE_HELP: &str =
     "Each FROM is a database that holds blobs of the same file, such as one that
-another machine has filled with a part of it, or one that an earlier pbfrow
-made. The blobs of each are copied into INTO, which is made if it is missing or
-empty. What INTO holds already stays, and each FROM is only read. Prints
-'copied N held H' for each FROM: how many blobs were added to INTO, and how many
-it held already; and last 'blobs copied N held H'. The line of a fault ends the
-merge: run the same command again to complete it.
+another machine has filled with a part of it. One that an earlier pbfrow made
+is refused: copy it by migrate first. The blobs of each are copied into INTO,
+which is made if it is missing or empty. What INTO holds already stays, and each
+FROM is only read. Prints 'copied N held H' for each FROM: how many blobs were
+added to INTO, and how many it held already; and last 'blobs copied N held H'.
+The line of a fault ends the merge: run the same command again to complete it.
 
 Exit status: 0 if INTO holds all blobs of each FROM, else 1.
 

@@ -1,11 +1,14 @@
 //! Stores over connections in memory and in the files of a machine: which store each is, how it is opened to be asked or filled,
 //! and what stands in the way.
 
+ghost use Rattle.sqlite_store.specs.FileStore.{view};
+ghost use Rattle.sqlite_trees.specs.View.{IsClean};
+ghost use Rattle.osm_databases.specs.Checked.{IsOfVersion};
+
 use super::openings::{Held, change, filled_machine, held_by, machine_of_blocks};
 use super::shared::{Machine, SharedFile};
 use osm_databases::databases::{
-    CheckedDatabases, Databases, close, opened, opened_checked, opened_of_any_version,
-    opened_or_made, source_of_blocks,
+    CheckedDatabases, Databases, close, opened, opened_checked, opened_or_made, source_of_blocks,
 };
 use osm_databases::reason::told;
 use osm_databases::stores::{made, made_where_none, taking_blobs};
@@ -15,7 +18,7 @@ use osm_databases::trees::{
 use osm_import::deliver_all;
 use osm_openings::{Obstacle, Obstruction};
 use osm_store::{Keeper, Reader, StoreFault, TableStore};
-use osm_trees::{Opened, TreeStore};
+use osm_trees::TreeStore;
 use sqlite::{Alter, Connection, FileStore, MemStore};
 use std::alloc::Global;
 use std::test::*;
@@ -186,13 +189,18 @@ fn trees_that_take_blobs(rt: HostRuntime) -> Result<(), Fail> {
 impl Databases for Machine {
     type Trees = FileStore<SharedFile>;
 
+    ghost gives = { λ _ _ trees. IsClean (view trees) → IsOfVersion (view trees) };
+
     fn trees(
         &self,
         rt: &HostRuntime,
-        name: &str,
+        _name: &str,
     ) -> Result<Option<FileStore<SharedFile>>, StoreFault> {
         let files = self.files(rt.alloc())?;
-        told(rt, name, trees_in(rt, files, FEW_PAGES))
+        match trees_in(rt, files, FEW_PAGES) {
+            Ok(found) => Ok(found),
+            Err(refusal) => Err(refusal.fault),
+        }
     }
 
     fn obstruction(&self, rt: &HostRuntime, _name: &str) -> Option<Obstruction> {
@@ -238,37 +246,22 @@ fn opens_checked<D: CheckedDatabases>(rt: &HostRuntime, databases: &D) -> Outcom
     Ok(by_trees(rt.alloc(), opened_checked(rt, databases, NAME)?))
 }
 
-fn opens_any_version<D: Databases>(rt: &HostRuntime, databases: &D) -> Outcome {
-    match opened_of_any_version(rt, databases, NAME)? {
-        Opened::ByTrees(store) => Ok(by_trees(rt.alloc(), store)),
-        Opened::BySql(store) => Ok(by_sql(rt.alloc(), store)),
-    }
-}
-
 fn opens_blocks<D: Databases>(rt: &HostRuntime, databases: &D) -> Outcome {
     Ok(by_sql(rt.alloc(), source_of_blocks(rt, databases, NAME)?))
 }
 
-/// What comes of opening a database, one of any version, and one of blocks.
-fn outcomes<D: Databases>(rt: &HostRuntime, databases: &D) -> [Outcome; 3] {
-    [
-        opens(rt, databases),
-        opens_any_version(rt, databases),
-        opens_blocks(rt, databases),
-    ]
+/// What comes of opening a database, and one of blocks.
+fn outcomes<D: Databases>(rt: &HostRuntime, databases: &D) -> [Outcome; 2] {
+    [opens(rt, databases), opens_blocks(rt, databases)]
 }
 
 /// The same of a machine. Its files are named here alone, since what names them takes longer to prove.
-fn of_machine(rt: &HostRuntime, machine: &Machine) -> [Outcome; 3] {
+fn of_machine(rt: &HostRuntime, machine: &Machine) -> [Outcome; 2] {
     outcomes(rt, machine)
 }
 
 /// The file of three frames, in a store of this version.
-const WHOLE: [Outcome; 3] = [
-    Ok((Way::ByTrees, Held::All)),
-    Ok((Way::ByTrees, Held::All)),
-    OF_ROWS,
-];
+const WHOLE: [Outcome; 2] = [Ok((Way::ByTrees, Held::All)), OF_ROWS];
 
 #[test]
 fn a_database_of_this_version(rt: HostRuntime) -> Result<(), Fail> {
@@ -281,7 +274,7 @@ fn a_database_of_this_version(rt: HostRuntime) -> Result<(), Fail> {
 fn a_database_of_blocks(rt: HostRuntime) -> Result<(), Fail> {
     let machine = machine_of_blocks(rt.alloc())?;
     let blocks = Ok((Way::Blocks, Held::All));
-    assert_eq!(rt; of_machine(&rt, &machine), [OF_BLOCKS, blocks, blocks]);
+    assert_eq!(rt; of_machine(&rt, &machine), [OF_BLOCKS, blocks]);
     Ok(())
 }
 
@@ -325,14 +318,14 @@ fn indexes_of_somebodys_own(rt: HostRuntime) -> Result<(), Fail> {
 #[test]
 fn files_without_a_store(rt: HostRuntime) -> Result<(), Fail> {
     let machine = Machine::new(rt.alloc(), b"")?;
-    assert_eq!(rt; of_machine(&rt, &machine), [NO_STORE; 3]);
+    assert_eq!(rt; of_machine(&rt, &machine), [NO_STORE; 2]);
     change(rt.alloc(), &machine, STRANGER)?;
-    assert_eq!(rt; of_machine(&rt, &machine), [NO_STORE; 3]);
+    assert_eq!(rt; of_machine(&rt, &machine), [NO_STORE; 2]);
     let text = Machine::new(
         rt.alloc(),
         b"This text is no database, and longer than 18 bytes.",
     )?;
-    assert_eq!(rt; of_machine(&rt, &text), [REFUSED; 3]);
+    assert_eq!(rt; of_machine(&rt, &text), [REFUSED; 2]);
     Ok(())
 }
 
@@ -403,7 +396,7 @@ fn a_database_that_was_changed(rt: HostRuntime) -> Result<(), Fail> {
     for (sql, back) in CHANGES {
         let machine = filled_machine(rt.alloc())?;
         change(rt.alloc(), &machine, *sql)?;
-        assert_eq!(rt; of_machine(&rt, &machine), [REFUSED; 3], "{sql}");
+        assert_eq!(rt; of_machine(&rt, &machine), [REFUSED; 2], "{sql}");
         assert_eq!(rt; fills_machine(&rt, &machine), Err(StoreFault::Disk));
         assert_eq!(rt; checked_machine(&rt, &machine), REFUSED);
         change(rt.alloc(), &machine, *back)?;

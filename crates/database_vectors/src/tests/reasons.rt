@@ -57,7 +57,7 @@ fn texts() -> [(Reason, &'static str); 25] {
         ),
         (
             Reason::Obstacle(Obstacle::FirstLayout),
-            "a database of version 1 of pbfrow's tables",
+            "a database of version 1 of pbfrow's tables: copy it into a new database by pbfrow migrate",
         ),
         (
             Reason::Obstacle(Obstacle::Utf16),

@@ -7,7 +7,7 @@ use Rattle.osm_databases.proofs.databases.opened_checked.Goals as goal
 
 pub returns-clause-checked : goal.returns-clause-checked
 returns-clause-checked g c = λ clean.
-    let known = rw c.in-Some.is at c.in_ok-found.ensures in
+    let known = rw c.in-Some.is at c.in_ok-found.ensures.version in
     let version = subst (λ (s : g.row.D-Trees.Denot). IsClean (g.D.Trees.Store.view s) → IsOfVersion (g.D.Trees.Store.view s)) (sym c.in_ok-kept.ensures.same) known in
     told_of (λ (refusal : Refusal). refusal.fault) _ _ _ _ c.told.ensures c.in_ok-store.was c.checked.ensures.checked clean version c.in_ok-kept.ensures.store
 
@@ -16,3 +16,16 @@ returns-clause-added g c = λ clean. told_of (λ (refusal : Refusal). refusal.fa
 
 pub returns-clause-look : goal.returns-clause-look
 returns-clause-look g c = λ clean. told_of (λ (refusal : Refusal). refusal.fault) _ _ _ _ c.told.ensures c.in_ok-store.was c.checked.ensures.look clean
+
+pub returns-clause-found : goal.returns-clause-found
+returns-clause-found g c =
+    let given = rw c.in-Some.is at c.in_ok-found.ensures.given in
+    let version = rw c.in-Some.is at c.in_ok-found.ensures.version in
+    record {
+      first = c.in_ok-kept.kept;
+      found = record {
+        given = subst (λ (s : g.row.D-Trees.Denot). g.D.Databases.gives c.args.databases.now c.args.name.now s) (sym c.in_ok-kept.ensures.same) given;
+        version = subst (λ (s : g.row.D-Trees.Denot). IsClean (g.D.Trees.Store.view s) → IsOfVersion (g.D.Trees.Store.view s)) (sym c.in_ok-kept.ensures.same) version;
+      };
+      reads = λ clean. told_of (λ (refusal : Refusal). refusal.fault) _ _ _ _ c.told.ensures c.in_ok-store.was c.checked.ensures.reads clean;
+    }

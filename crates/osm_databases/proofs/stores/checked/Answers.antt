@@ -1,4 +1,4 @@
-use Rattle.osm_databases.proofs.Looked.{checked_on, seen_on}
+use Rattle.osm_databases.proofs.Looked.{checked_on, reads_from, seen_on}
 use Rattle.osm_databases.proofs.stores.checked.Goals as goal
 
 pub returns-clause-checked : goal.returns-clause-checked
@@ -9,3 +9,6 @@ returns-clause-look g c = rw (c.new-2.ensures, c.new.ensures) (λ clean. seen_on
 
 pub returns-clause-added : goal.returns-clause-added
 returns-clause-added g c = rw (c.new-2.ensures, c.new.ensures) (λ clean. c.in_ok-kept.ensures.whole clean)
+
+pub returns-clause-reads : goal.returns-clause-reads
+returns-clause-reads g c = rw (c.new-2.ensures, c.new.ensures) (λ clean. reads_from _ (g.S.Store.view c.in_ok-whole.whole) _ c.in_ok-whole.ensures.reads (c.in_ok-kept.ensures.reads clean).0 clean)
