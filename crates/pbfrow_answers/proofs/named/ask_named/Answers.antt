@@ -1,4 +1,4 @@
-use Rattle.std.proofs.Common.{◌≡◌, ◌∙◌, sym, subst}
+use Rattle.std.proofs.Common.{◌∙◌, sym}
 use Rattle.pbfrow_answers.proofs.named.ask_named.Goals as goal
 
 pub returns-clause-status : goal.returns-clause-status

@@ -1,4 +1,4 @@
-use Rattle.std.proofs.Common.{◌≡◌, ◌∙◌, sym, subst}
+use Rattle.std.proofs.Common.{◌∙◌, sym}
 use Rattle.pbfrow_answers.proofs.named.verify_named.Goals as goal
 
 pub returns-clause-told : goal.returns-clause-told
