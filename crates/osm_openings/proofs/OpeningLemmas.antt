@@ -13,7 +13,7 @@ use Rattle.sqlite_trees.specs.declared.store.Shape.{Shape}
 use Rattle.sqlite_trees.specs.declared.store.Shape.TheVariants.{Absent, Table, Index, Pageless, FrozenTable, FrozenIndex}
 use Rattle.sqlite_trees.specs.Objects.{catalog_tree, shape_code, listing, object_row, text_or_null}
 use Rattle.sqlite_trees.specs.Tree.{no_trees}
-use Rattle.sqlite_trees.proofs.Doubt.{no_doubt}
+use Rattle.sqlite_trees.proofs.Doubt.{no_doubt, clean_of}
 use Rattle.sqlite_disk.specs.declared.Disk.{Ghosts}
 use Rattle.sqlite_pool.specs.Pool as pool
 use Rattle.sqlite_wal.specs.Reads.{AreClean}
@@ -43,7 +43,7 @@ use Rattle.osm_store.specs.Rows.{version_row}
 use Rattle.osm_tree_writes.specs.Tables.{table_listings}
 use Rattle.sqlite_exec.specs.Calls.{OnlyReads}
 use Rattle.sqlite_trees.specs.Tree.{Trees}
-use Rattle.sqlite_trees.specs.View.{View}
+use Rattle.sqlite_trees.specs.View.{View, IsClean}
 
 pub if_none : {X : Type 0} (P : X → Type 0) (o : Option X) → o ≡ None → IfSome o P
 if_none P None e = tt
@@ -212,3 +212,15 @@ opened_on image old new reads unbroken settled plain listed version read =
       version = ap (λ (trees : Trees). trees 0) same ∙ version;
       reads = subst (ReadsAs image) (sym same) read;
     }
+
+-- and of whatever of them is given
+pub opened_found : {X E : Type 0} (show : X → View) (Quiet : X → Type 0) (image : Image) (old : View) (result : Result (Option X) E) → old.trees ≡ old.committed → (IsTrue old.is_clean → old.has_sums ≡ false)
+    → (IsTrue old.is_clean → take 9 (old.trees catalog_tree) ≡ table_listings) → (IsTrue old.is_clean → ReadsAs image old.trees)
+    → IfOk result (λ found. IfSome found (λ x. Quiet x × (IsClean (show x) → OnlyReads old (show x) × ((show x).is_broken ≡ false) × (old.trees 0 ≡ version_row Tables ∷ []))))
+    → IfOk result (λ found. IfSome found (λ x. IsClean (show x) → IsOpened image (show x)))
+opened_found show Quiet image old (Err e) settled plain listed reads kept = tt
+opened_found show Quiet image old (Ok None) settled plain listed reads kept = tt
+opened_found show Quiet image old (Ok (Some x)) settled plain listed reads kept = λ clean.
+    let read = kept.1 clean in
+    let now : IsTrue old.is_clean = sym (ap (λ (v : View). v.is_clean) read.0) ∙ clean_of _ clean in
+    opened_on image old (show x) read.0 read.1 settled (plain now) (listed now) read.2 (reads now)

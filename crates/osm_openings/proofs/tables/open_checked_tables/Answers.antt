@@ -1,10 +1,12 @@
 use Rattle.std.proofs.Common.{◌≡◌, ◌∙◌, ap, subst, sym}
-use Rattle.sqlite_trees.proofs.Doubt.{clean_of, no_doubt}
+use Rattle.sqlite_trees.proofs.Doubt.{no_doubt}
 use Rattle.sqlite_trees.specs.Objects.{catalog_tree}
 use Rattle.sqlite_trees.specs.View.{View}
+use Rattle.sqlite_store.specs.FileStore.{view}
+use Rattle.sqlite_wal.specs.Files.{seen_image}
 use Rattle.osm_tree_writes.specs.Tables.{table_listings}
 use Rattle.osm_openings.specs.Asked.{ListsAsAsked}
-use Rattle.osm_openings.proofs.OpeningLemmas.{first_listings, if_kept, lists_as_asked, opened_on}
+use Rattle.osm_openings.proofs.OpeningLemmas.{first_listings, if_kept, lists_as_asked, opened_found}
 use Rattle.osm_openings.proofs.tables.open_checked_tables.Goals as goal
 
 pub returns-clause-opened : goal.returns-clause-opened
@@ -13,10 +15,7 @@ returns-clause-opened g c =
     let plain = rw c.in-Some.is at c.in_ok-store.ensures.plain in
     let listed = rw c.in-Some.is at c.in_ok-store.ensures.listed in
     let reads = rw c.in-Some.is at c.in_ok-store.ensures.reads in
-    if_kept _ _ _ _ c.of_version.ensures (λ store clean kept.
-    let read = kept.1 clean in
-    let now = sym (ap (λ (v : View). v.is_clean) read.0) ∙ clean_of _ clean in
-    opened_on _ _ _ read.0 read.1 ready.clean (plain now) (first_listings _ _ table_listings c.trees.ensures (listed now)) read.2 (reads now))
+    opened_found view _ (seen_image g.D.Disk c.args.files.log c.args.files.db) (view c.in-Some.store) _ ready.clean plain (λ now. first_listings _ _ table_listings c.trees.ensures (listed now)) reads c.of_version.ensures
 
 pub returns-clause-shielded : goal.returns-clause-shielded
 returns-clause-shielded g c =
