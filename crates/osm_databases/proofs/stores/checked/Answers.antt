@@ -11,4 +11,4 @@ pub returns-clause-added : goal.returns-clause-added
 returns-clause-added g c = rw (c.new-2.ensures, c.new.ensures) (λ clean. c.in_ok-kept.ensures.whole clean)
 
 pub returns-clause-reads : goal.returns-clause-reads
-returns-clause-reads g c = rw (c.new-2.ensures, c.new.ensures) (λ clean. reads_from _ (g.S.Store.view c.in_ok-whole.whole) _ c.in_ok-whole.ensures.reads (c.in_ok-kept.ensures.reads clean).0 clean)
+returns-clause-reads g c = rw (c.new-2.ensures, c.new.ensures) (λ clean. reads_from (g.S.Store.view c.args.trees) (g.S.Store.view c.in_ok-whole.whole) (g.S.Store.view c.in_ok-kept.kept) c.in_ok-whole.ensures.reads (c.in_ok-kept.ensures.reads clean).0 clean)
