@@ -5,6 +5,7 @@ ghost use Rattle.std.specs.Prelude.{◌≤◌};
 use osm_databases::databases::{Databases, opened};
 use osm_store::StoreFault;
 use osm_trees::TreeStore;
+use osm_value::Sink;
 use pbfrow_answers::named::ask_named;
 use pbfrow_answers::questions::goes_by_blobs;
 use pbfrow_answers::turns::{InTurn, OpensNamed};
@@ -37,6 +38,21 @@ impl<'a, D: Databases> OpensNamed<MeteredPart<'a, D>> for Parts<'a, D> {
     }
 }
 
+/// Asks a question of several databases, each of which tells the meter of its blobs, and answers the exit status.
+fn ask_from<D: Databases, S: Sink>(
+    rt: &HostRuntime,
+    files: &D,
+    names: &[&str],
+    question: Question,
+    meter: &Meter,
+    out: &mut S,
+) -> u8
+    ensures { result ≤ 1 }
+{
+    let mut parts = InTurn::<MeteredPart<D>, _>::new(Parts { rt, files, meter }, names);
+    ask_named::<MeteredPart<D>, _, _>(rt.alloc(), &mut parts, question, out)
+}
+
 /// Asks a question of several databases, and answers the exit status. The meter is told of their blobs.
 fn ask_metered<D: Databases>(
     rt: &HostRuntime,
@@ -51,8 +67,7 @@ fn ask_metered<D: Databases>(
         Ok(out) => out,
         Err(status) => return status,
     };
-    let mut parts = InTurn::<MeteredPart<D>, _>::new(Parts { rt, files, meter }, names);
-    let status = ask_named::<MeteredPart<D>, _, _>(rt.alloc(), &mut parts, question, &mut out);
+    let status = ask_from(rt, files, names, question, meter, &mut out);
     end(&mut out, meter, status)
 }
 
