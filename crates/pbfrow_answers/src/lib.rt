@@ -3,6 +3,8 @@
 #![tactic(auto)]
 
 pub mod ending;
+pub mod named;
+pub mod past;
 pub mod questions;
 pub mod starting;
 pub mod turns;

@@ -86,6 +86,13 @@ abbrev pub IsTold : ℕ → Result Summary StreamFault → Result Summary Stream
 IsTold to (Ok summary) told = ((summary.next ≡ to) × (told ≡ Ok summary)) ⊎ ((summary.next ≢ to) × EndsBefore to told)
 IsTold to (Err stop) told = (told ≡ Err stop) ⊎ ((ends_input stop.fault ≡ true) × EndsBefore to told)
 
+-- the import of the whole input, of which so many bytes are dropped and whose next byte stands at an offset, and the exit
+-- status; what is left of the input afterwards is said by nobody
+abbrev pub ImportsAll : ℕ → ℕ → Known → Output → Type 0 → (List DeliveryValue → List Answer → Type 0) → ℕ → Type 0
+ImportsAll dropped at bytes output Same Took status = (outcome : Result Summary StreamFault) × (source : Input) × (listed : Known)
+    × (source.before ≡ bytes) × Imports dropped at source (record output { after = listed }) Same Took outcome
+    × EndsLine listed output.after output.has_failed outcome × (status ≡ import_status outcome output.has_failed)
+
 -- the import of what of the input stands before an offset, what is told of it, and the exit status
 abbrev pub ImportsRange : ℕ → ℕ → ℕ → Known → Output → Type 0 → (List DeliveryValue → List Answer → Type 0) → ℕ → Type 0
 ImportsRange dropped from to bytes output Same Took status = (outcome told : Result Summary StreamFault) × (source : Input) × (listed : Known)

@@ -1,11 +1,13 @@
 //! The command `verify` on several stores that hold parts of one file.
 
-ghost use Rattle.std.specs.Prelude.{◌≡◌, ◌≤◌, ◌++◌, List, codes, length, IfSome};
+ghost use Rattle.std.specs.Prelude.{◌≡◌, ◌≤◌, ◌++◌, ℕ, List, codes, length, IfSome};
 ghost use Rattle.std.specs.Fmt.{decimal};
 ghost use Rattle.std.specs.List.{count_by};
 ghost use Rattle.osm_value.specs.Printing.{Prints};
 ghost use Rattle.osm_store.specs.Held.{HeldMap};
 ghost use Rattle.osm_parts.specs.Opening.{KeepsMaps};
+ghost use Rattle.osm_part_audits.specs.Judging.{ShowsPart};
+ghost use Rattle.osm_part_audits.specs.Showing.{ShowTogether};
 ghost use Rattle.osm_part_audits.specs.Together.{HoldFile};
 ghost use Rattle.pbfrow_commands.specs.VerifyingParts.{VerifiesParts, audit_fault_line, finding_line, finding_lines, is_other, verdict_line, verdict_text};
 
@@ -124,6 +126,10 @@ pub fn verify_parts<K: Audited + Drop, O: Openings<K>, F: FileBytes, S: Sink>(
     // At 0 the file is a row of good frames, the blobs of each store are some of theirs, and together they are all.
     ensures exact { (maps : List HeldMap) → O.holds openings.old maps → O.is_honest openings.new → length maps ≡ count → result ≡ 0
         → IfSome (F.bytes file.old) (λ bytes. HoldFile depth bytes maps) }
+    // At 0 by elements, whatever rows the tables have had: those of each store are the rows of the frames of the file that its
+    // extents name, and no others, and each frame of the file is named. That leaves out more rows than SQL can count.
+    ensures shown { O.is_honest openings.new → depth ≡ Depth.Elements → ((place : ℕ) (store : K) → O.lies openings.old place store → K.is_honest store → K.has_tables store) → result ≡ 0
+        → IfSome (F.bytes file.old) (λ bytes. ShowTogether (O.lies openings.old) (λ store extents. ShowsPart (K.has_rows (K.trees store)) K.layout (K.trees store) (Some bytes) extents) count bytes) }
     ensures keeps { KeepsMaps O.holds O.is_honest O.is_open openings.old openings.new }
     ensures bound { result ≤ 1 }
 {

@@ -1,10 +1,15 @@
 //! The command that copies a database into another: `migrate`.
 
-ghost use Rattle.std.specs.Prelude.{◌≤◌};
+ghost use Rattle.std.specs.Prelude.{◌≡◌, ◌≤◌, Result};
+ghost use Rattle.osm_value.specs.Sink.{Wrote};
+ghost use Rattle.osm_import.specs.Stores.{Stays};
+ghost use Rattle.osm_import.specs.declared.copy.CopyCounts.{CopyCounts as CopyCountsValue};
+ghost use Rattle.osm_import.specs.declared.copy.CopyStop.{CopyStop as CopyStopValue};
+ghost use Rattle.pbfrow_commands.specs.Copying.{CopiesStore, copy_status, outcome_line};
 
 use osm_databases::databases::{Databases, close, opened_or_made, source_of_blocks};
 use osm_store::{Keeper, Reader};
-use osm_value::Outlet;
+use osm_value::{Outlet, Sink};
 use pbfrow_answers::ending::refuse;
 use pbfrow_commands::metered::MeteredStore;
 use pbfrow_commands::migrate::migrate;
@@ -14,25 +19,26 @@ use std::alloc::Global;
 use std::io;
 use std::io::Write;
 
-/// Copies what a store holds into another, and answers the exit status.
-fn copied<F: Reader + Drop, T: Keeper, W: Write>(
+/// Copies what a store holds into another, and answers the first and the exit status, as `migrate` does.
+fn copied<F: Reader, T: Keeper, S: Sink>(
     alloc: Global,
     from: F,
     to: &mut T,
     meter: &Meter,
-    out: &mut Outlet<W>,
-) -> u8
-    ensures { result ≤ 1 }
+    out: &mut S,
+) -> (F, u8)
+    ensures copies { (outcome : Result CopyCountsValue CopyStopValue) × CopiesStore F.Reader T.Reader from result.0 to.old to.new outcome
+        × Wrote (S.written out.old) (outcome_line outcome) (S.written out.new) (S.has_failed out.new) × (result.1 ≡ copy_status outcome (S.has_failed out.new)) }
+    ensures source { Stays F.Reader from result.0 }
+    ensures bound { result.1 ≤ 1 }
 {
-    migrate(
-        alloc,
-        &mut MeteredStore {
-            store: from,
-            watcher: meter,
-        },
-        to,
-        out,
-    )
+    let mut metered = MeteredStore {
+        store: from,
+        watcher: meter,
+    };
+    let status = migrate(alloc, &mut metered, to, out);
+    let MeteredStore { store, watcher: _ } = metered;
+    (store, status)
 }
 
 /// Copies what a store holds into a database, and answers the exit status.
@@ -50,7 +56,7 @@ fn copy_into<D: Databases, F: Reader + Drop, W: Write>(
         Ok(store) => store,
         Err(fault) => return refuse(out, fault),
     };
-    let status = copied(rt.alloc(), from, &mut store, meter, out);
+    let (_from, status) = copied(rt.alloc(), from, &mut store, meter, out);
     close(files, store);
     status
 }

@@ -1,11 +1,30 @@
 //! The commands on one database: they open it and write the answer to standard output.
 
-ghost use Rattle.std.specs.Prelude.{◌<◌, ◌≤◌, IfSome};
+ghost use Rattle.std.specs.Prelude.{◌≡◌, ◌<◌, ◌≤◌, ◌-◌, ℕ, ℤ, Bool, List, Option, Result, IfSome, filter, take};
+ghost use Rattle.std.specs.FinMap.{empty};
+ghost use Rattle.osm_value.specs.declared.element.MemberKind.{MemberKind as MemberKindValue};
+ghost use Rattle.osm_value.specs.declared.form.Form.TheVariants as form;
+ghost use Rattle.osm_store.specs.Calls.{OfHeld};
+ghost use Rattle.osm_store.specs.Held.{HeldMap};
+ghost use Rattle.osm_store.specs.Keeping.{extents_of};
+ghost use Rattle.osm_store.specs.Rows.{is_of, placed_in};
+ghost use Rattle.osm_reading.specs.Framings.{Known};
+ghost use Rattle.osm_import.specs.ExportCauses.{ExportHasCause, ExportIsOwn};
+ghost use Rattle.osm_import.specs.Exports.{IsExport, size_of};
+ghost use Rattle.osm_import.specs.Flows.{output};
+ghost use Rattle.osm_import.specs.Merges.{ImportsPart};
+ghost use Rattle.osm_import.specs.Pbf.{IsPbfExport};
+ghost use Rattle.osm_import.specs.Stores.{Stays, Takes};
+ghost use Rattle.osm_import.specs.declared.export.fault.ExportFault.{ExportFault as ExportFaultValue};
+ghost use Rattle.pbfrow_commands.specs.Exporting.{EndsExport};
+ghost use Rattle.pbfrow_commands.specs.Finding.{TellsMatches};
+ghost use Rattle.pbfrow_commands.specs.Importing.{HoldsFile, HoldsRange, ImportsAll, ImportsRange};
+ghost use Rattle.pbfrow_commands.specs.Status.{TellsStatus};
 
 use osm_databases::databases::{Databases, close, opened, opened_or_made};
 use osm_import::{Inlet, Stop};
-use osm_store::Keeper;
-use osm_value::{MemberKind, Outlet};
+use osm_store::{Keeper, Reader};
+use osm_value::{MemberKind, Outlet, Sink};
 use pbf_frame::MAX_OFFSET;
 use pbfrow_answers::ending::refuse;
 use pbfrow_answers::questions::{ask_one, goes_by_blobs};
@@ -33,19 +52,31 @@ pub(crate) enum Query {
     Element(MemberKind, i64),
 }
 
-/// Imports what a reader gives into a store, all of it or what stands before an offset, and answers the exit status.
-fn imported<R: Read + Drop, K: Keeper, W: Write>(
+/// Imports what a reader gives into a store, all of it or what stands before an offset, and answers the exit status: as
+/// `import` does the one, and `import_to` the other.
+fn imported<R: Read + Drop, K: Keeper, S: Sink>(
     alloc: Global,
     mut reader: R,
     store: &mut K,
     start: Start,
     to: Option<u64>,
-    out: &mut Outlet<W>,
+    out: &mut S,
 ) -> u8
     requires begins { start.at ≤ MAX_OFFSET }
     requires drops { start.dropped ≤ start.at }
     requires ends { IfSome to (λ n. (start.at < n) × (n ≤ MAX_OFFSET)) }
-    ensures { result ≤ 1 }
+    // all of it
+    ensures all { to ≡ None → ImportsAll start.dropped start.at (R.remaining reader) (output S.Sink out.old out.new) (store.new ≡ store.old) (Takes K.Reader store.old store.new) result }
+    ensures one_file { (file : List ℕ) (held : HeldMap) → to ≡ None → R.remaining reader ≡ Some file → start.dropped ≡ 0 → start.at ≡ 0 → K.holds store.old held → K.is_honest store.new
+        → result ≡ 0 → HoldsFile (K.holds store.new) file held }
+    ensures part { (piece : List ℕ) → to ≡ None → R.remaining reader ≡ Some piece → start.dropped ≡ 0 → K.holds store.old empty → K.is_honest store.new
+        → result ≡ 0 → ImportsPart (K.holds store.new) start.at piece }
+    // what stands before an offset
+    ensures range { (end : ℕ) → to ≡ Some end → ImportsRange start.dropped start.at end (R.remaining reader) (output S.Sink out.old out.new) (store.new ≡ store.old) (Takes K.Reader store.old store.new) result }
+    ensures whole { (end : ℕ) → to ≡ Some end → OfHeld K.Reader store.old store.new (λ held. result ≡ 0 → HoldsRange (K.holds store.new) held start.dropped start.at end (R.remaining reader)) }
+    ensures range_part { (end : ℕ) (bytes : List ℕ) → to ≡ Some end → R.remaining reader ≡ Some bytes → start.dropped ≡ 0 → K.holds store.old empty → K.is_honest store.new
+        → result ≡ 0 → ImportsPart (K.holds store.new) start.at (take (end - start.at) bytes) }
+    ensures bound { result ≤ 1 }
 {
     match to {
         None => import(alloc, &mut Inlet::new(reader), store, start, out),
@@ -122,6 +153,30 @@ pub(crate) fn fill<D: Databases>(
     status
 }
 
+/// Asks a store, and answers the exit status: as `ask_one` does what several can be asked as well, and `find` the other. What
+/// it holds stays.
+fn answer_query<K: Reader, S: Sink>(alloc: Global, store: &mut K, query: Query, out: &mut S) -> u8
+    ensures status { (size : Option ℕ) (held : HeldMap) → query ≡ Query.Whole (Question.Status size) → K.holds store.old held → K.is_honest store.new
+        → TellsStatus held size (K.failures store.old) (K.failures store.new) (S.written out.old) (S.written out.new) (S.has_failed out.new) result }
+    ensures lines { (size : Option ℕ) (partial : Bool) (held : HeldMap) → query ≡ Query.Whole (Question.Export size partial form.Lines) → K.holds store.old held → K.is_honest store.new
+        → (answer : Result (Unit {0}) ExportFaultValue) × (text : Known) × IsExport held (size_of size (extents_of held)) partial (S.written out.old) text answer
+        × ExportHasCause (K.failures store.old) (K.failures store.new) (S.has_failed out.new) answer × ExportIsOwn answer
+        × EndsExport text (S.written out.new) (S.has_failed out.new) result answer }
+    ensures pbf { (size : Option ℕ) (partial : Bool) (held : HeldMap) → query ≡ Query.Whole (Question.Export size partial form.Pbf) → K.holds store.old held → K.is_honest store.new
+        → (answer : Result (Unit {0}) ExportFaultValue) × (text : Known) × IsPbfExport held (size_of size (extents_of held)) partial (S.written out.old) text answer
+        × ExportHasCause (K.failures store.old) (K.failures store.new) (S.has_failed out.new) answer × ExportIsOwn answer
+        × EndsExport text (S.written out.new) (S.has_failed out.new) result answer }
+    ensures found { (kind : MemberKindValue) (id : ℤ) (held : HeldMap) → query ≡ Query.Element kind id → K.holds store.old held → K.is_honest store.new
+        → TellsMatches (filter (is_of kind id) (placed_in held)) (K.failures store.old) (K.failures store.new) (S.written out.old) (S.written out.new) (S.has_failed out.new) result }
+    ensures stays { Stays K.Reader store.old store.new }
+    ensures bound { result ≤ 1 }
+{
+    match query {
+        Query::Whole(question) => ask_one(alloc, store, question, out),
+        Query::Element(kind, id) => find(alloc, store, kind, id, out),
+    }
+}
+
 /// Asks a database, and answers the exit status. If there is no database, none is made.
 pub(crate) fn ask<D: Databases>(rt: &HostRuntime, files: &D, database: &str, query: Query) -> u8
     ensures { result ≤ 1 }
@@ -141,10 +196,7 @@ pub(crate) fn ask<D: Databases>(rt: &HostRuntime, files: &D, database: &str, que
                 store,
                 watcher: &meter,
             };
-            match query {
-                Query::Whole(question) => ask_one(rt.alloc(), &mut store, question, &mut out),
-                Query::Element(kind, id) => find(rt.alloc(), &mut store, kind, id, &mut out),
-            }
+            answer_query(rt.alloc(), &mut store, query, &mut out)
         }
         Err(fault) => refuse(&mut out, fault),
     };

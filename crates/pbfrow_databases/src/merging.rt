@@ -7,8 +7,8 @@ use osm_store::{Keeper, StoreFault};
 use osm_trees::TreeStore;
 use osm_value::Outlet;
 use pbfrow_answers::ending::refuse;
+use pbfrow_answers::named::merge_named;
 use pbfrow_answers::turns::{InTurn, OpensNamed};
-use pbfrow_commands::merge::merge_all;
 use pbfrow_commands::metered::MeteredStore;
 use pbfrow_meters::meter::Meter;
 use pbfrow_reading::metered::MeteredOutput;
@@ -27,6 +27,8 @@ struct Sources<'a, D> {
 }
 
 impl<'a, D: Databases> OpensNamed<MeteredSource<'a, D>> for Sources<'a, D> {
+    ghost lies = { λ sources name store. Unit {0} };
+
     fn open_named(&self, name: &str) -> Result<MeteredSource<'a, D>, StoreFault> {
         let store = opened(self.rt, self.files, name)?;
         Ok(MeteredStore {
@@ -47,9 +49,8 @@ fn merge_from<D: Databases, T: Keeper, W: Write>(
 ) -> u8
     ensures { result ≤ 1 }
 {
-    let mut sources = InTurn::new(Sources { rt, files, meter }, names);
-    let count = names.len() as u64;
-    merge_all::<MeteredSource<D>, _, _, _>(rt.alloc(), &mut sources, count, into, out)
+    let mut sources = InTurn::<MeteredSource<D>, _>::new(Sources { rt, files, meter }, names);
+    merge_named::<MeteredSource<D>, _, _, _>(rt.alloc(), &mut sources, into, out)
 }
 
 /// `merge`: copies what databases hold, among those that are only asked, into one of those that are filled, which is made if it

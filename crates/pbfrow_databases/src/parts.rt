@@ -5,7 +5,9 @@ ghost use Rattle.std.specs.Prelude.{◌≤◌};
 use osm_databases::databases::{Databases, opened};
 use osm_store::StoreFault;
 use osm_trees::TreeStore;
-use pbfrow_answers::questions::{ask_in_turn, goes_by_blobs};
+use osm_value::Sink;
+use pbfrow_answers::named::ask_named;
+use pbfrow_answers::questions::goes_by_blobs;
 use pbfrow_answers::turns::{InTurn, OpensNamed};
 use pbfrow_commands::metered::MeteredStore;
 use pbfrow_meters::ending::end;
@@ -25,6 +27,8 @@ struct Parts<'a, D> {
 }
 
 impl<'a, D: Databases> OpensNamed<MeteredPart<'a, D>> for Parts<'a, D> {
+    ghost lies = { λ parts name store. Unit {0} };
+
     fn open_named(&self, name: &str) -> Result<MeteredPart<'a, D>, StoreFault> {
         let store = opened(self.rt, self.files, name)?;
         Ok(MeteredStore {
@@ -32,6 +36,21 @@ impl<'a, D: Databases> OpensNamed<MeteredPart<'a, D>> for Parts<'a, D> {
             watcher: self.meter,
         })
     }
+}
+
+/// Asks a question of several databases, each of which tells the meter of its blobs, and answers the exit status.
+fn ask_from<D: Databases, S: Sink>(
+    rt: &HostRuntime,
+    files: &D,
+    names: &[&str],
+    question: Question,
+    meter: &Meter,
+    out: &mut S,
+) -> u8
+    ensures { result ≤ 1 }
+{
+    let mut parts = InTurn::<MeteredPart<D>, _>::new(Parts { rt, files, meter }, names);
+    ask_named::<MeteredPart<D>, _, _>(rt.alloc(), &mut parts, question, out)
 }
 
 /// Asks a question of several databases, and answers the exit status. The meter is told of their blobs.
@@ -48,15 +67,7 @@ fn ask_metered<D: Databases>(
         Ok(out) => out,
         Err(status) => return status,
     };
-    let mut parts = InTurn::new(Parts { rt, files, meter }, names);
-    let count = names.len() as u64;
-    let status = ask_in_turn::<MeteredPart<D>, _, _>(
-        rt.alloc(),
-        &mut parts,
-        count,
-        question,
-        &mut out,
-    );
+    let status = ask_from(rt, files, names, question, meter, &mut out);
     end(&mut out, meter, status)
 }
 

@@ -9,10 +9,10 @@ use osm_tree_audits::{Stray, stray_row};
 use osm_value::Outlet;
 use osm_verify::Depth;
 use pbfrow_answers::ending::refuse;
+use pbfrow_answers::named::verify_named;
 use pbfrow_answers::turns::{InTurn, OpensNamed};
 use pbfrow_commands::metered::MeteredFile;
 use pbfrow_commands::verify::verify;
-use pbfrow_commands::verify_parts::verify_parts;
 use pbfrow_meters::ending::end;
 use pbfrow_meters::meter::Meter;
 use pbfrow_meters::output::standard_output;
@@ -67,6 +67,8 @@ struct CheckedParts<'a, D> {
 }
 
 impl<D: CheckedDatabases> OpensNamed<CheckedStore<D::Trees>> for CheckedParts<'_, D> {
+    ghost lies = { λ parts name store. Unit {0} };
+
     fn open_named(&self, name: &str) -> Result<CheckedStore<D::Trees>, StoreFault> {
         opened_checked(self.rt, self.files, name)
     }
@@ -84,20 +86,12 @@ fn compare_parts<D: CheckedDatabases, W: Write>(
 ) -> u8
     ensures { result ≤ 1 }
 {
-    let mut parts = InTurn::new(CheckedParts { rt, files }, names);
-    let count = names.len() as u64;
+    let mut parts = InTurn::<CheckedStore<D::Trees>, _>::new(CheckedParts { rt, files }, names);
     let mut file = MeteredFile {
         file,
         watcher: meter,
     };
-    verify_parts::<CheckedStore<D::Trees>, _, _, _>(
-        rt.alloc(),
-        &mut parts,
-        count,
-        &mut file,
-        depth,
-        out,
-    )
+    verify_named::<CheckedStore<D::Trees>, _, _, _>(rt.alloc(), &mut parts, &mut file, depth, out)
 }
 
 /// Compares a file with a database, or with several that hold parts of it, and answers the exit status. No database is made.

@@ -7,6 +7,7 @@ use osm_store::StoreFault;
 use osm_value::{Form, Outlet, Sink};
 use osm_verify::Depth;
 use pbfrow_answers::ending::{let_go, refuse};
+use pbfrow_answers::named::ask_named;
 use pbfrow_answers::questions::{ask_in_turn, ask_one, goes_by_blobs};
 use pbfrow_answers::starting::{depth_of, most_bytes, start_of};
 use pbfrow_answers::turns::{InTurn, OpensNamed};
@@ -48,6 +49,8 @@ struct ByName {
 }
 
 impl<K: NewStore> OpensNamed<K> for ByName {
+    ghost lies = { λ opener name store. Unit {0} };
+
     fn open_named(&self, name: &str) -> Result<K, StoreFault> {
         let range = if name == "first" {
             (0, 47, 0)
@@ -62,10 +65,9 @@ impl<K: NewStore> OpensNamed<K> for ByName {
 
 /// What the databases of these names answer, and the exit status.
 fn answer_of<K: NewStore>(alloc: Global, names: &[&str], question: Question) -> (u8, Vec<u8>) {
-    let mut databases = InTurn::new(ByName { alloc }, names);
+    let mut databases = InTurn::<K, _>::new(ByName { alloc }, names);
     let mut out = Outlet::new(Vec::new(alloc));
-    let count = names.len() as u64;
-    let status = ask_in_turn::<K, _, _>(alloc, &mut databases, count, question, &mut out);
+    let status = ask_named::<K, _, _>(alloc, &mut databases, question, &mut out);
     (status, out.into_inner())
 }
 

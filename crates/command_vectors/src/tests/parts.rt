@@ -58,6 +58,8 @@ impl<K: NewStore> Openings<K> for Ranges<'_> {
 
     ghost lends = { λ ranges maps held. ⊥ };
 
+    ghost lies = { λ ranges place store. Unit {0} };
+
     ghost is_honest = { λ ranges. ⊥ };
 
     ghost is_open = { λ ranges. ⊥ };
