@@ -15,7 +15,7 @@ pub returns-clause-opens : goal.returns-clause-opens
 returns-clause-opens g c source held reads given holds alone image crashed =
     let same : c.into_store-store.result ≡ c.copy_held-outcome.new.to.store = c.into_store-store.ensures in
     let honest : IsClean (view c.copy_held-outcome.new.to.store) = subst (λ s. IsClean (view s)) same crashed.honest in
-    let kept = subst (λ s. StandsAlone (view s) (recovers s)) (sym same) (c.copy_held-outcome.ensures.alone source held reads given holds honest alone) in
+    let kept = subst (λ s. StandsAlone (view s) (recovers s)) (sym same) (c.copy_held-outcome.ensures.alone held holds honest alone) in
     c.what_is_left_may_be_opened.ensures crashed.plain (λ db left. inl (inl (kept.left db left))) image crashed.left
 
 some_of : (leaves : HeldMap → Type 0) (source held left : HeldMap) (outcome : Result CopyCounts CopyStop) → CrashLeavesSome leaves source held outcome → leaves left
@@ -27,7 +27,7 @@ pub returns-clause-goes_on : goal.returns-clause-goes_on
 returns-clause-goes_on g c source held reads given holds image crashed opened =
     let same : c.into_store-store.result ≡ c.copy_held-outcome.new.to.store = c.into_store-store.ensures in
     let honest : IsClean (view c.copy_held-outcome.new.to.store) = subst (λ s. IsClean (view s)) same crashed.honest in
-    let whole = subst (λ s. LeavesAMap (recovers s)) (sym same) (c.copy_held-outcome.ensures.whole source held reads given holds honest) in
+    let whole = subst (λ s. LeavesAMap (recovers s)) (sym same) (c.copy_held-outcome.ensures.whole held holds honest) in
     let found = c.a_restart_holds_what_was_left.ensures crashed.plain whole image crashed.left opened.clean opened.unbroken opened.settled opened.reads opened.listed in
     let left = found.0 in
     let crash = subst (λ s. CrashLeavesSome (MayLeave (recovers s)) source held c.copy_held-outcome.result) (sym same) (c.copy_held-outcome.ensures.crash source held reads given holds honest) in
