@@ -1,6 +1,7 @@
 //! The command that copies several databases into one: `merge`.
 
 ghost use Rattle.std.specs.Prelude.{◌≤◌};
+ghost use Rattle.osm_databases.specs.Found.{AreFound};
 
 use osm_databases::databases::{Databases, close, opened, opened_or_made};
 use osm_store::{Keeper, StoreFault};
@@ -27,7 +28,7 @@ struct Sources<'a, D> {
 }
 
 impl<'a, D: Databases> OpensNamed<MeteredSource<'a, D>> for Sources<'a, D> {
-    ghost lies = { λ sources name store. Unit {0} };
+    ghost lies = { λ sources name store. AreFound D.Trees.Store (D.gives sources.files.now name) store.store.store };
 
     fn open_named(&self, name: &str) -> Result<MeteredSource<'a, D>, StoreFault> {
         let store = opened(self.rt, self.files, name)?;

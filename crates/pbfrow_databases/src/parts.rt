@@ -1,6 +1,7 @@
 //! The commands on several databases that hold parts of one file: `status` and `export`.
 
 ghost use Rattle.std.specs.Prelude.{◌≤◌};
+ghost use Rattle.osm_databases.specs.Found.{AreFound};
 
 use osm_databases::databases::{Databases, opened};
 use osm_store::StoreFault;
@@ -27,7 +28,7 @@ struct Parts<'a, D> {
 }
 
 impl<'a, D: Databases> OpensNamed<MeteredPart<'a, D>> for Parts<'a, D> {
-    ghost lies = { λ parts name store. Unit {0} };
+    ghost lies = { λ parts name store. AreFound D.Trees.Store (D.gives parts.files.now name) store.store.store };
 
     fn open_named(&self, name: &str) -> Result<MeteredPart<'a, D>, StoreFault> {
         let store = opened(self.rt, self.files, name)?;

@@ -1,6 +1,7 @@
 //! The command that compares a PBF file and a database, or several that hold parts of it: `verify`.
 
 ghost use Rattle.std.specs.Prelude.{◌≤◌};
+ghost use Rattle.osm_databases.specs.Found.{AreReadFrom};
 
 use osm_checked::CheckedStore;
 use osm_databases::databases::{CheckedDatabases, opened_checked};
@@ -67,7 +68,7 @@ struct CheckedParts<'a, D> {
 }
 
 impl<D: CheckedDatabases> OpensNamed<CheckedStore<D::Trees>> for CheckedParts<'_, D> {
-    ghost lies = { λ parts name store. Unit {0} };
+    ghost lies = { λ parts name store. AreReadFrom D.Trees.Store (D.gives parts.files.now name) store.trees.store };
 
     fn open_named(&self, name: &str) -> Result<CheckedStore<D::Trees>, StoreFault> {
         opened_checked(self.rt, self.files, name)
