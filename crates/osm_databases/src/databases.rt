@@ -154,7 +154,7 @@ pub fn opened<D: Databases>(
     ensures found { IfOk result (λ reader. AreFound D.Trees.Store (D.gives databases.now name.now) reader.store) }
 {
     match databases.trees(rt, name)? {
-        Some(_) => match databases.trees(rt, "")? { Some(trees) => Ok(TreeStore::new(trees)), None => Err(refused(rt, databases, name)) },
+        Some(trees) => Ok(TreeStore::new(trees)),
         None => Err(refused(rt, databases, name)),
     }
 }

@@ -120,7 +120,7 @@ pub fn import_before_a_restart<D: Disk, E: Disk, R: Source, S: Sink>(
         → Streams from max_blobs (input R.Source reader.old reader.new) (output S.Sink out.old out.new)
         (λ deliveries answers. (left : HeldMap) × GoesOn frames (events ++ events_of deliveries answers) left after.now) result.1 }
 {
-    let outcome = import_stream(alloc, &mut keeper, reader, 0, max_blobs, out);
+    let outcome = import_stream(alloc, &mut keeper, reader, from, max_blobs, out);
     let store = keeper.into_store();
     what_is_left_may_be_opened(&store);
     a_restart_goes_on(&store, after);
