@@ -30,7 +30,8 @@ def tables(lines):
             measure = next((it for it in MEASURES if it in rows[0]), None)
             if measure:
                 at = rows[0].index(measure)
-                yield measure, [(row[0], float(row[at])) for row in rows[2:]]
+                # a median has the least and the greatest behind it, in brackets
+                yield measure, [(row[0], float(row[at].split()[0])) for row in rows[2:]]
         # `make bench` says the size of a database between two rows
         if not line.startswith("    "):
             rows = []

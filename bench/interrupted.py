@@ -1,13 +1,15 @@
 #!/usr/bin/env python3
-"""What a restart saves: interrupted.py PBFROW FILE [PEERS], in a folder with room for the databases and the programs of
-bench/peers that are compiled there. Each importer stores the file once, undisturbed; then a new import is killed (`kill -9`) at
-half of that time and done again, as its manual says: pbfrow's by the same command, the others' from nothing, since they have no
-other way. Prints a table: the seconds of the undisturbed import, those of the import behind the kill, by how much that is less
-than the whole, and how many bytes the kill left of what was stored. What isn't installed is named and left out.
+"""What a restart saves: interrupted.py PBFROW FILE [ROUNDS], in a folder with room for the databases, and with the program
+store_tables of bench/peers if it is compiled there. Each importer stores the file once, undisturbed; then a new import is killed
+(`kill -9`) at half of that time and done again, as its manual says: pbfrow's by the same command, the others' from nothing, since
+they have no other way. All do so in turn, in five rounds unless ROUNDS says how many. Prints a table: the seconds of the
+undisturbed import, those of the import behind the kill, by how much that is less than the whole, and how many bytes the kill left
+of what was stored; each as the median, with the least and the greatest. What isn't installed is named and left out.
 """
 import glob
 import os
 import shutil
+import statistics
 import subprocess
 import sys
 import time
@@ -19,7 +21,7 @@ Importer = tuple[str, list[str], str, bool]
 def importers(pbfrow: str, file: str) -> list[Importer]:
     return [
         ("`pbfrow import`", [pbfrow, "import", file, "kept.db"], "kept.db*", True),
-        ("C++ over stock SQLite, the same tables", ["./store_tables", file, "kept.db"], "kept.db*", False),
+        ("C++ over stock SQLite, WAL, FULL", ["./store_tables", file, "kept.db"], "kept.db*", False),
         ("`spatialite_osm_raw`", ["spatialite_osm_raw", "-o", file, "-d", "kept.db"], "kept.db*", False),
         ("`ogr2ogr -f SQLite`", ["ogr2ogr", "-f", "SQLite", "kept.db", file], "kept.db*", False),
     ]
@@ -51,28 +53,41 @@ def kill_after(words: list[str], seconds: float) -> None:
             importing.kill()
 
 
-def row(name: str, words: list[str], made: str, goes_on: bool) -> str:
+def one_round(words: list[str], made: str, goes_on: bool) -> tuple[float, int, float, float]:
+    """Seconds undisturbed, bytes that the kill left to go on with, seconds behind it, and by how much these are less."""
     remove(made)
     whole = seconds_of(words)
     remove(made)
     kill_after(words, whole / 2)
-    left = size(made)
+    left = size(made) if goes_on else 0
     if not goes_on:
         remove(made)
     again = seconds_of(words)
     remove(made)
-    return f"| {name} | {whole:.2f} | {left if goes_on else 0:,} | {again:.2f} | {again / whole:.2f} |"
+    return whole, left, again, again / whole
+
+
+def told(figures: list[float], form: str) -> str:
+    """The median, with the least and the greatest if there are several."""
+    median = format(statistics.median(figures), form)
+    return median if len(figures) == 1 else f"{median} ({min(figures):{form}} to {max(figures):{form}})"
 
 
 def main() -> None:
     pbfrow, file = sys.argv[1:3]
+    rounds = int(sys.argv[3]) if len(sys.argv) > 3 else 5
+    there = []
+    for importer in importers(pbfrow, file):
+        if shutil.which(importer[1][0]):
+            there.append(importer)
+        else:
+            print(f"not measured: {importer[1][0]} isn't there", file=sys.stderr)
+    figures = [[one_round(words, made, goes_on) for _, words, made, goes_on in there] for _ in range(rounds)]
     print("| Importer | undisturbed, s | bytes that the kill left to go on with | s of the import behind it | of the undisturbed |")
     print("|---|---|---|---|---|")
-    for name, words, made, goes_on in importers(pbfrow, file):
-        if shutil.which(words[0]):
-            print(row(name, words, made, goes_on), flush=True)
-        else:
-            print(f"not measured: {words[0]} isn't there", file=sys.stderr)
+    for (name, *_), of_rounds in zip(there, zip(*figures)):
+        whole, left, again, share = (list(each) for each in zip(*of_rounds))
+        print(f"| {name} | {told(whole, '.2f')} | {told(left, ',.0f')} | {told(again, '.2f')} | {told(share, '.2f')} |")
 
 
 if __name__ == "__main__":

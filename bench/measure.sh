@@ -25,6 +25,28 @@ row() {
     '{ printf "| %s | %.2f | %.2f | %.0f | %.0f |\n", name, $1, $2 + $3, ($1 > 0 ? b / 1e6 / $1 : 0), $4 / 1024 }'
 }
 
+# spread NAME FILE [RATIOS]: the row of runs that are given line by line, where each figure is the median, with the least and the
+# greatest behind it; and of further figures of each line, ratios, too.
+spread() {
+  awk -v name="$1" -v bytes="$(stat -c %s "$2")" -v ratios="${3:-0}" '
+    { figure[1, NR] = $1; figure[2, NR] = $2 + $3; figure[3, NR] = bytes / 1e6 / ($1 > 0 ? $1 : 0.01); figure[4, NR] = $4 / 1024
+      for (i = 1; i <= ratios; i++) figure[4 + i, NR] = $(4 + i) }
+    function told(which, form,   i, j, x) {
+      for (i = 2; i <= NR; i++) {
+        x = figure[which, i]
+        for (j = i - 1; j > 0 && figure[which, j] > x; j--) figure[which, j + 1] = figure[which, j]
+        figure[which, j + 1] = x
+      }
+      x = (figure[which, int((NR + 1) / 2)] + figure[which, int(NR / 2) + 1]) / 2
+      return NR == 1 ? sprintf(form, x) : sprintf(form " (" form " to " form ")", x, figure[which, 1], figure[which, NR])
+    }
+    END {
+      row = "| " name " | " told(1, "%.2f") " | " told(2, "%.2f") " | " told(3, "%.0f") " | " told(4, "%.0f") " |"
+      for (i = 1; i <= ratios; i++) row = row " " told(4 + i, "%.2f") " |"
+      print row
+    }'
+}
+
 # measure NAME FILE COMMAND..: runs the command with the file as standard input, and prints the row of its best run.
 measure() {
   local name=$1 file=$2
@@ -72,7 +94,7 @@ mosaic() {
 built() {
   local name=$1
   shift
-  [ -x "$name" ] || g++ -O2 -std=c++17 -o "$name" "$top/bench/peers/$name.cpp" "$@" 2>/dev/null || { echo "not measured: $name doesn't compile here" >&2; return 1; }
+  [ "$name" -nt "$top/bench/peers/$name.cpp" ] || g++ -O2 -std=c++17 -o "$name" "$top/bench/peers/$name.cpp" "$@" 2>/dev/null || { echo "not measured: $name doesn't compile here" >&2; return 1; }
 }
 
 # there NAME: whether this program is installed.

@@ -14,6 +14,7 @@ expect "the same import again" 0 "$held" import "$two" two.db
 sound "which sqlite3 finds whole" two.db
 expect "its status" 0 "blobs 2 end 84 gaps 0${nl}" status two.db
 expect "its status against a longer file" 0 "gap 84 85${nl}blobs 2 end 84 gaps 1${nl}" status two.db --size 85
+expect "its counts" 0 "blobs 2 end 84 gaps 0${nl}nodes 2 ways 0 relations 0${nl}tags 0 links 0${nl}oldest - newest -${nl}" status two.db --counts
 expect "its export" 0 "$nodes" export two.db
 expect "its export at the file's size" 0 "$nodes" export two.db --size 84
 expect "its export at a smaller size" 1 "fault 70 PastEnd${nl}" export two.db --size 83
@@ -37,6 +38,20 @@ expect "an import of a file that is cut" 1 "0 stored 0${nl}fault 18 BlobCut at 4
 expect "the whole file after it" 0 "0 held${nl}47 stored 2${nl}blobs stored 1 held 1 bad 0 refused 0${nl}" import "$two" cut.db
 expect "and its export" 0 "$nodes" export cut.db
 sound "an import that went on is found whole" cut.db
+
+rm -f quiet.db
+expect "an import with --quiet" 0 "blobs stored 2 held 0 bad 0 refused 0${nl}" import "$two" quiet.db --quiet
+expect "the same with --quiet again" 0 "blobs stored 0 held 2 bad 0 refused 0${nl}" import --quiet "$two" quiet.db
+expect "what it has stored" 0 "$nodes" export quiet.db --size 84
+head -c 47 "$two" | cat "$two" - > again.osm.pbf
+expect "with --quiet a bad blob has its line" 1 "fault 62 HeaderNotFirst at 84${nl}blobs stored 0 held 2 bad 1 refused 0${nl}" import again.osm.pbf quiet.db --quiet
+{ head -c 83 "$two"; printf '\002'; } > differing.osm.pbf
+expect "and a refused one" 1 "fault 63 Differs at 47${nl}blobs stored 0 held 1 bad 0 refused 1${nl}" import differing.osm.pbf quiet.db --quiet
+expect "and a cut" 1 "fault 18 BlobCut at 47${nl}" import cut.osm.pbf quiet.db --quiet
+expect "and an early end" 1 "fault 68 ReadFailed at 84${nl}" import "$two" quiet.db --to 85 --quiet
+rm -f quiet-part.db
+expect "an import of a part with --quiet" 0 "blobs stored 1 held 0 bad 0 refused 0${nl}" import data-frame quiet-part.db --at 47 --to 84 --quiet
+expect "the same part of the whole file" 0 "blobs stored 0 held 1 bad 0 refused 0${nl}" import "$two" quiet-part.db --from 47 --quiet
 
 rm -f from.db
 expect "an import from the second frame" 0 "47 stored 2${nl}blobs stored 1 held 0 bad 0 refused 0${nl}" import "$two" from.db --from 47

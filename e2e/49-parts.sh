@@ -29,6 +29,31 @@ for order in "1 2 3 4" "4 3 2 1" "3 1 4 2"; do
   same "PBF of parts $order" got.osm.pbf whole.osm.pbf
 done
 
+# the counts of the elements, of one database and of several, as osmium and sqlite3 have them
+milliseconds() { echo "$(date -ud "$(osmium fileinfo -e -g "data.timestamp.$1" "$country")" +%s)000"; }
+counts() { osmium fileinfo -e -g "data.count.$1" "$country"; }
+"$pbfrow" status whole.db --counts > counts.txt
+"$pbfrow" status part-4.db part-2.db part-1.db part-3.db --counts > got.txt
+same "the counts of parts" got.txt counts.txt
+"$pbfrow" status part-4.db part-1.db part-3.db whole.db part-2.db part-2.db --counts --size "$size" > got.txt
+same "and of parts that hold the same" got.txt counts.txt
+if has osmium; then
+  grep -E '^(nodes|oldest) ' counts.txt > got.txt
+  lines "nodes $(counts nodes) ways $(counts ways) relations $(counts relations)" "oldest $(milliseconds first) newest $(milliseconds last)" > want.txt
+  same "osmium counts as many, and finds the same times" got.txt want.txt
+else
+  skip "the counts are osmium's" "osmium isn't installed"
+fi
+if has sqlite3; then
+  tail -n 3 counts.txt > got.txt
+  sqlite3 -readonly whole.db "SELECT format('nodes %d ways %d relations %d', sum(kind = 0), sum(kind = 1), sum(kind = 2)) FROM element;
+    SELECT format('tags %d links %d', (SELECT count(*) FROM tag), (SELECT count(*) FROM link));
+    SELECT format('oldest %d newest %d', min(time), max(time)) FROM element" > want.txt
+  same "and sqlite3 counts as many rows" got.txt want.txt
+else
+  skip "the counts are those of the rows" "sqlite3 isn't installed"
+fi
+
 # some of the parts
 blobs_of() { awk '/^blobs/ { print $3 }' "part-$1.txt"; }
 read -r second third < <(sed -n 2p plan.txt)

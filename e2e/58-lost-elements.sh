@@ -17,6 +17,7 @@ stops() {
   expect "$1: an export" 1 "$line$nl" export changed.db
   "$pbfrow" export changed.db --form pbf > changed.osm.pbf
   [ $? = 1 ] && [ "$(tail -c $((${#line} + 1)) changed.osm.pbf)" = "$line" ] && pass "$1: an export as PBF" || fail "$1: an export as PBF"
+  expect "$1: the counts" 1 "$line$nl" status changed.db --counts
   before=$(($(stat -c %s changed.osm.pbf) - ${#line} - 1))
   head -c "$before" changed.osm.pbf > front.osm.pbf
   head -c "$before" sound.osm.pbf > want.osm.pbf
@@ -46,6 +47,7 @@ if has sqlite3; then
   "$pbfrow" import "$two" nodes.db --from 47 > got.txt
   sqlite3 nodes.db "DELETE FROM element WHERE pos = 1"
   expect "an export of two databases, of which one has lost an element" 1 "fault 66 NotThisStore at 47${nl}" export nodes.db header.db
+  expect "and their counts" 1 "fault 66 NotThisStore at 47${nl}" status nodes.db header.db --counts
   rm -f into.db*
   cp sound.db into.db
   expect "a blob that is held already isn't copied" 0 "copied 0 held 1${nl}blobs copied 0 held 1${nl}" merge into.db nodes.db

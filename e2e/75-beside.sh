@@ -234,9 +234,12 @@ EOF
   lines "blobs stored 11 held 1 bad 0 refused 0" > want.txt
   same "an import of the rest, beside the example's" got.txt want.txt
   sound "sqlite3 finds the database whole, beside the example's" taken.db
-  sqlite3 taken.db "SELECT count(*) FROM node; SELECT count(*) FROM way_node; SELECT count(*) FROM member; SELECT count(*) FROM tag INDEXED BY tag_by_key WHERE key >= ''; SELECT count(*) FROM link INDEXED BY link_by_ref WHERE kind >= 0" > got.txt
+  sqlite3 taken.db "SELECT count(*) FROM node; SELECT count(*) FROM way_node; SELECT count(*) FROM member; SELECT count(*), count(lat), count(lon), count(name) FROM place; SELECT count(*) FROM tag INDEXED BY tag_by_key WHERE key >= ''; SELECT count(*) FROM link INDEXED BY link_by_ref WHERE kind >= 0" > got.txt
   sqlite3 plain.db "SELECT count(*) FROM element WHERE kind = 0; SELECT count(*) FROM link JOIN element USING (off, pos) WHERE element.kind = 1 AND ref IN (SELECT id FROM element WHERE kind = 0);
-    SELECT count(*) FROM link JOIN element USING (off, pos) WHERE element.kind = 2; SELECT count(*) FROM tag; SELECT count(*) FROM link" > want.txt
+    SELECT count(*) FROM link JOIN element USING (off, pos) WHERE element.kind = 2;
+    SELECT total, placed, placed, (SELECT count(*) FROM tag JOIN element USING (off, pos) WHERE kind < 2 AND key = 'name') FROM (SELECT count(*) AS total FROM element WHERE kind < 2),
+      (SELECT count(*) AS placed FROM (SELECT off, pos FROM element WHERE kind = 0 UNION SELECT off, pos FROM element JOIN link USING (off, pos) WHERE element.kind = 1 AND ref IN (SELECT id FROM element WHERE kind = 0)));
+    SELECT count(*) FROM tag; SELECT count(*) FROM link" > want.txt
   same "the example's views and indexes show all rows" got.txt want.txt
 
   if [ -x /usr/bin/time ]; then

@@ -75,6 +75,11 @@ if has python3 && python3 -c 'import pty; pty.openpty()' 2>/dev/null; then
   "$pbfrow" import "$country" plain.db > want.txt
   shows want.txt import /dev/stdin slow.db
 
+  rm -f slow.db
+  tail -n 1 want.txt > last.txt
+  shows last.txt import /dev/stdin slow.db --quiet
+  told "import --quiet counts the blobs that it doesn't print" "[0-9]+\.[0-9] MB, [1-9][0-9]* blobs, $rate"
+
   "$pbfrow" verify "$country" plain.db > verified.txt
   shows verified.txt verify /dev/stdin plain.db
 

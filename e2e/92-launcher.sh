@@ -88,8 +88,8 @@ fi
 echo "$name: rt $*"
 [ "$1" = lib ] || "out/$name" list /dev/null
 RT
-printf '#!/bin/sh\n' | tee bin/rattle > repository/edits/check
-chmod 755 bin/rt bin/rattle repository/edits/check
+printf '#!/bin/sh\n' | tee bin/rattle repository/gate/unused > repository/edits/check
+chmod 755 bin/rt bin/rattle repository/edits/check repository/gate/unused
 path_without_stub=$PATH
 export STUB_KIT=$work/kit.txt STUB_STEPS=$work/steps.txt STUB_SECONDS=0.3 RT_JOBS=4 PATH="$work/bin:$PATH"
 echo "a kit" > kit.txt

@@ -1,5 +1,5 @@
 # make -j 16 -f parts.mk FILE=berlin-raw.osm.pbf N=16: imports FILE in N parts, and merges them into whole.db.
-# A part is done once its import has ended with 0, which the mark part-FROM-TO.done says; the database of an import that
+# A part is done once its import has exited with 0, which the mark part-FROM-TO.done says; the database of an import that
 # was killed is no mark. So a second make does what is missing.
 PBFROW ?= pbfrow
 N ?= 16

@@ -1,4 +1,4 @@
--- Two indexes and three views for a database of pbfrow, after its first import: sqlite3 country.db < views.sql
+-- Two indexes and four views for a database of pbfrow, after its first import: sqlite3 country.db < views.sql
 -- From then on each import and merge keeps the indexes complete, and the views show what is there. DROP INDEX and DROP VIEW take
 -- them away again, at any time.
 
@@ -20,6 +20,19 @@ FROM element AS way
 JOIN link USING (off, pos)
 LEFT JOIN element AS node ON node.kind = 0 AND node.id = link.ref
 WHERE way.kind = 1;
+
+-- each node and way with its name, and where it is, in degrees: a way is at the mean of its nodes, which is near its middle. In a
+-- file with history each version of it has a row, and its name.
+CREATE VIEW IF NOT EXISTS place AS
+SELECT off, pos, kind, id,
+  (SELECT val FROM tag WHERE tag.off = element.off AND tag.pos = element.pos AND key = 'name') AS name,
+  CASE kind WHEN 0 THEN lat / 1e9 ELSE
+    (SELECT avg(node.lat) / 1e9 FROM link JOIN element AS node ON node.kind = 0 AND node.id = link.ref
+      WHERE link.off = element.off AND link.pos = element.pos) END AS lat,
+  CASE kind WHEN 0 THEN lon / 1e9 ELSE
+    (SELECT avg(node.lon) / 1e9 FROM link JOIN element AS node ON node.kind = 0 AND node.id = link.ref
+      WHERE link.off = element.off AND link.pos = element.pos) END AS lon
+FROM element WHERE kind IN (0, 1);
 
 -- the members of each relation, in its order: their kind is 0 for a node, 1 for a way and 2 for a relation
 CREATE VIEW IF NOT EXISTS member AS

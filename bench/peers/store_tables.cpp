@@ -1,10 +1,13 @@
 // What pbfrow's second layout stores, by stock SQLite: one transaction a blob, elements, tags and links as rows of the same tables.
+// Each is on the disk once it is committed, as pbfrow's: a write-ahead log, `synchronous = FULL`, and the log is copied into the
+// database at 64 MiB and at the end.
 // Words: FILE DATABASE [FROM [TO]]. libosmium reads the file; its buffers stand for the blobs, as far as the tables go. Those from
 // FROM up to TO, counted from 0, are stored; where FROM is there and isn't 0, the database has the tables already.
 #include <climits>
 #include <cstdio>
 #include <cstdlib>
 #include <cstring>
+#include <initializer_list>
 #include <osmium/io/pbf_input.hpp>
 #include <osmium/io/reader.hpp>
 #include <osmium/osm.hpp>
@@ -80,6 +83,7 @@ static void put(long off, long pos, const osmium::OSMObject& it) {
 
 int main(int argc, char* argv[]) {
     if (argc < 3 || argc > 5 || sqlite3_open(argv[2], &db) != SQLITE_OK) return 2;
+    run("PRAGMA journal_mode = WAL; PRAGMA synchronous = FULL; PRAGMA wal_autocheckpoint = 16384;");
     const long from = argc > 3 ? std::atol(argv[3]) : 0;
     const long to = argc > 4 ? std::atol(argv[4]) : LONG_MAX;
     if (from == 0) run("CREATE TABLE meta (version INTEGER PRIMARY KEY) STRICT;"
@@ -109,6 +113,8 @@ int main(int argc, char* argv[]) {
         step(blob);
         run("COMMIT");
     }
+    for (sqlite3_stmt* statement : {element, tag, link_row, blob}) sqlite3_finalize(statement);
+    if (sqlite3_close(db) != SQLITE_OK) return 1;
     std::printf("%ld rows\n", rows);
     return 0;
 }

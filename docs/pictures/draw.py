@@ -193,6 +193,7 @@ SAYS = {
     "database_vectors": "tests of databases in files",
     "command_vectors": "tests of the commands",
     "pbfrow_words": "the command line",
+    "pbfrow_counts": "counts of elements",
     "pbfrow_commands": "what each command does",
     "pbfrow_meters": "progress, exit statuses",
     "pbfrow_cli": "how a program begins",

@@ -1,6 +1,7 @@
 mod answers;
 mod ask;
 mod check;
+mod counts;
 mod import;
 mod import_to;
 mod list;

@@ -1,19 +1,17 @@
 -- Reading the arrays of dense nodes: one field, one payload, all of them.
-use Rattle.std.proofs.Common.{◌≡◌, ℕ, ◌+◌, ◌<◌, List, [], ◌∷◌, ◌++◌, map, length, drop, get_or, true, false, refl, sym, ap, ◌∙◌, Option, None, Result, Ok, ◌%◌, ◌^◌}
-use Rattle.std.specs.Prelude.{option_map, cond, ◌==◌}
-use Rattle.std.specs.List.{flat_map, cons_option}
+use Rattle.std.proofs.Common.{◌≡◌, ℕ, ◌+◌, ◌<◌, List, [], ◌∷◌, ◌++◌, map, length, drop, get_or, refl, sym, ap, ◌∙◌, Option, ◌%◌, ◌^◌}
+use Rattle.std.specs.Prelude.{option_map}
+use Rattle.std.specs.List.{flat_map}
 use Rattle.std.specs.Option.{option_or}
 use Rattle.std.proofs.lemmas.List.{map-append, drop_more}
 use Rattle.pbf_wire.specs.declared.fault.WireFault.{WireFault}
-use Rattle.pbf_wire.specs.declared.field.Field.{Field}
-use Rattle.pbf_wire.specs.Field.{Content, Number, Fixed64, Bytes, Fixed32, Entry, content_of}
-use Rattle.pbf_wire.specs.FieldList.{view_item}
-use Rattle.pbf_wire.specs.Readings.{front, fields, wire, packed, fitting, numbers_of, bytes_of, each, nums, sub, sint64, sint32, int32}
+use Rattle.pbf_wire.specs.Field.{Entry}
+use Rattle.pbf_wire.specs.Readings.{fields, wire, packed, each, nums, sub, sint64, sint32, int32}
 use Rattle.osm_block.specs.declared.fields.TheConstants.{DENSEINFO_CHANGESET, DENSEINFO_TIMESTAMP, DENSEINFO_UID, DENSEINFO_USER_SID, DENSEINFO_VERSION, DENSEINFO_VISIBLE, DENSE_DENSEINFO, DENSE_ID, DENSE_KEYS_VALS, DENSE_LAT, DENSE_LON}
 use Rattle.osm_block.specs.declared.fault.BlockFault.TheVariants as faults
 use Rattle.osm_block.specs.declared.dense.fields.DenseFields.{DenseFields}
 use Rattle.osm_block.specs.Message.{boolean, Dense, wires, arrays, dense_message}
-use Rattle.osm_block.specs.FieldsLeft.{numbers_in, fault_in, first_there}
+use Rattle.osm_block.specs.FieldsLeft.{first_there}
 use Rattle.osm_block.specs.Dense.{dense_message_of}
 use Rattle.osm_block.specs.DenseFieldsRead.{ArrayRead, DenseInfoRead}
 use Rattle.osm_block.specs.Phases.{first, wire_phases}
@@ -22,31 +20,6 @@ use Rattle.osm_block.proofs.ReadingLemmas.{each-append}
 
 -- ---- one field
 
-module _ {A : Type 0} (read : Content → Option A) (items rest : List (Result Entry WireFault)) (item : Result Field WireFault) (field : Field) (k : ℕ) (e : items ≡ view_item item ∷ rest) (is : item ≡ Ok field) where
-  in_front : fitting read k (front items) ≡ cons_option (cond (field.number == k) (read (content_of field.value)) None) (fitting read k (front rest))
-  in_front = ap (λ l. fitting read k (front l)) e ∙ ap (λ r. fitting read k (front (view_item r ∷ rest))) is
-
-  pub fitting_at : (field.number == k) ≡ true → fitting read k (front items) ≡ cons_option (read (content_of field.value)) (fitting read k (front rest))
-  fitting_at h = in_front ∙ ap (λ b. cons_option (cond b (read (content_of field.value)) None) (fitting read k (front rest))) h
-
-  pub fitting_past : (field.number == k) ≡ false → fitting read k (front items) ≡ fitting read k (front rest)
-  fitting_past h = in_front ∙ ap (λ b. cons_option (cond b (read (content_of field.value)) None) (fitting read k (front rest))) h
-
-numbers_any : (x : Content) (rest : List (List ℕ)) → flat_map (λ ns. ns) (cons_option (numbers_of x) rest) ≡ numbers_in x ++ flat_map (λ ns. ns) rest
-numbers_any (Number n) rest = refl
-numbers_any (Fixed64 bs) rest = refl
-numbers_any (Bytes bs) rest = refl
-numbers_any (Fixed32 bs) rest = refl
-
-faults_any : (x : Content) (rest : List (List ℕ)) → first_there (map packed (cons_option (bytes_of x) rest)) ≡ option_or (fault_in x) (first_there (map packed rest))
-faults_any (Number n) rest = refl
-faults_any (Fixed64 bs) rest = refl
-faults_any (Bytes bs) rest = refl
-faults_any (Fixed32 bs) rest = refl
-
--- what a field of the array adds
--- another field adds nothing
--- nothing is left behind a fault, nor at the end
 -- ---- one payload
 
 pub faults_more : {B : Type 0} (now : B → List ℕ) (ps : List B) (i : ℕ) (d : B) (k : ℕ) (old new total : Option WireFault) → i < length ps →

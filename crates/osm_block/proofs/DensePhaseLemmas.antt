@@ -1,11 +1,10 @@
 -- The phases of a dense message, one part after the other.
-use Rattle.std.proofs.Common.{◌≡◌, ℕ, List, [], ◌∷◌, map, length, Bool, true, false, not, ◌&&◌, refl, sym, ap, ◌∙◌, ℤ, Some, None, nat_eq}
+use Rattle.std.proofs.Common.{◌≡◌, ℕ, List, [], ◌∷◌, map, length, Bool, not, ◌&&◌, refl, sym, ap, ◌∙◌, ℤ, Some, None, nat_eq}
 use Rattle.std.specs.Prelude.{◌||◌}
 use Rattle.std.specs.List.{list_all}
 use Rattle.std.proofs.lemmas.List.{length-map}
 use Rattle.pbf_wire.specs.Readings.{is_there}
 use Rattle.osm_value.specs.Ranges.{is_wide, is_version, is_uid, passes}
-use Rattle.osm_block.specs.declared.fault.BlockFault.{BlockFault}
 use Rattle.osm_block.specs.declared.fault.BlockFault.TheVariants as faults
 use Rattle.osm_block.specs.declared.dense.arrays.DenseArrays.{DenseArrays}
 use Rattle.osm_block.specs.Message.{Context, DenseMessage}
@@ -35,12 +34,6 @@ fits_lengths f g xs ids t m h e =
 abbrev pub sums_fit : List ℤ → Bool
 sums_fit ds = list_all fits_i64 (front_sums ds)
 
-fault_of : (b : Bool) (f : BlockFault) → when (not b) faults.SumTooLarge ≡ Some f → (b ≡ false) × (f ≡ faults.SumTooLarge)
-fault_of true f e = absurd cc
-fault_of false f e = let h : f ≡ faults.SumTooLarge = cc in (refl, h)
-
--- one array whose sums don't fit, wherever it stands
--- one more array whose sums fit
 -- ---- the ranges
 
 abbrev pub message_in_range : Context → DenseMessage → Bool

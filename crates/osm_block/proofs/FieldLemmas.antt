@@ -76,8 +76,6 @@ array_fault array k whole h = sym (option_or-none array.fault) ∙ h.fault
 pub info_fault : (info : InfoFields) (whole : List Entry) → InfoLeft info ELEMENT_INFO [] whole → info.fault ≡ first_there (map wire (each whole ELEMENT_INFO))
 info_fault info whole h = sym (option_or-none info.fault) ∙ h.fault
 
--- the messages
-
 record ElementRead (element : ElementFields) (whole : List Entry) : Type 0 where
   id : element.id ≡ last whole ELEMENT_ID
   keys : element.keys.numbers.items ≡ nums whole ELEMENT_KEYS
@@ -112,10 +110,6 @@ relation_read relation whole h =
     let memids : relation.memids.numbers.items ≡ nums whole RELATION_MEMIDS = array_numbers relation.memids RELATION_MEMIDS whole h.memids in
     let types : relation.types.numbers.items ≡ nums whole RELATION_TYPES = array_numbers relation.types RELATION_TYPES whole h.types in
     cc
-
-pub none_of : {A B : Type 0} (f : A → B) (o : Option A) → option_map f o ≡ None → o ≡ None
-none_of f None e = refl
-none_of f (Some x) e = cc
 
 -- ---- the first fault of the payloads
 

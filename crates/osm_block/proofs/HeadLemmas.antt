@@ -45,11 +45,6 @@ scales w = int_le (pos 1) (context (fields w)).granularity && int_le (pos 1) (co
 abbrev pub last_phase : List ℕ → List Phase
 last_phase w = when (not (scales w)) faults.BadGranularity ∷ []
 
-pub no_table : (w : List ℕ) → wire w ≡ None → is_there (each (fields w) BLOCK_STRINGTABLE) ≡ false → first (head_phases w) ≡ Some faults.NoStringTable
-no_table w none empty =
-    ap (λ o. first (option_map faults.BlockWire o ∷ when (not (is_there (each (fields w) BLOCK_STRINGTABLE))) faults.NoStringTable ∷ (tables w ++ texts w) ++ last_phase w)) none
-    ∙ ap (λ v. first (when (not v) faults.NoStringTable ∷ (tables w ++ texts w) ++ last_phase w)) empty
-
 pub past_table : (w : List ℕ) → wire w ≡ None → is_there (each (fields w) BLOCK_STRINGTABLE) ≡ true → first (head_phases w) ≡ first ((tables w ++ texts w) ++ last_phase w)
 past_table w none there =
     ap (λ o. first (option_map faults.BlockWire o ∷ when (not (is_there (each (fields w) BLOCK_STRINGTABLE))) faults.NoStringTable ∷ (tables w ++ texts w) ++ last_phase w)) none

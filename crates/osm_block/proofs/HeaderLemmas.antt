@@ -13,7 +13,7 @@ use Rattle.pbf_wire.specs.FieldList.{item_and, items_from, items_within, view_it
 use Rattle.pbf_wire.specs.Readings.{front, fields, wire, each, sub, is_there, fitting, number_of, bytes_of}
 use Rattle.pbf_wire.specs.Walk.{items_left}
 use Rattle.pbf_wire.proofs.FieldListLaws.{items_step}
-use Rattle.osm_block.specs.declared.fields.TheConstants.{HEADER_BBOX, HEADER_OPTIONAL_FEATURES, HEADER_REPLICATION_BASE_URL, HEADER_REQUIRED_FEATURES, HEADER_SOURCE, HEADER_WRITINGPROGRAM}
+use Rattle.osm_block.specs.declared.fields.TheConstants.{HEADER_BBOX, HEADER_REQUIRED_FEATURES}
 use Rattle.osm_block.specs.declared.header.fault.HeaderFault.TheVariants as faults
 use Rattle.osm_block.specs.declared.header.BBox.{BBox}
 use Rattle.osm_block.specs.HeaderBlock.{box_of, Phase, when, first, wire_phase, is_incomplete, are_texts, unknown_feature, header_fault}
@@ -122,16 +122,6 @@ header_fault_is w v boxes incomplete texts unknown ev eb ei et eu =
     after : (p : Phase) (ps qs : List Phase) → first ((p ∷ ps) ++ qs) ≡ first (p ∷ first ps ∷ qs)
     after None ps qs = first-append ps qs
     after (Some f) ps qs = refl
-
--- where all texts are UTF-8, those of one field are
-pub texts_of : (fs : List Entry) → are_texts fs ≡ true → (list_all is_utf8 (each fs HEADER_REQUIRED_FEATURES) ≡ true) × (list_all is_utf8 (each fs HEADER_OPTIONAL_FEATURES) ≡ true) × (list_all is_utf8 (each fs HEADER_WRITINGPROGRAM) ≡ true) × (list_all is_utf8 (each fs HEADER_SOURCE) ≡ true) × (list_all is_utf8 (each fs HEADER_REPLICATION_BASE_URL) ≡ true)
-texts_of fs e =
-    let a = both _ _ e in
-    let b = both _ _ a.1 in
-    let c = both _ _ b.1 in
-    let d = both _ _ c.1 in
-    let f = both _ _ d.1 in
-    (a.0, b.0, c.0, d.0, f.0)
 
 none_is : (n : Bool) (b : Option BBox) → is_some b ≡ not n → n ≡ is_none b
 none_is true None e = refl

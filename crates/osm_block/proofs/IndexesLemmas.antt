@@ -1,10 +1,9 @@
 -- Tests of indexes, as the code makes them and as the phases do.
-use Rattle.std.proofs.Common.{◌≡◌, ℕ, arith, ◌%◌, ◌^◌, ◌<◌, List, [], ◌∷◌, ◌++◌, map, refl, sym, ap, ◌∙◌, ℤ, Option, Some, None, Bool, true, false, ◌&&◌}
+use Rattle.std.proofs.Common.{◌≡◌, ℕ, ◌%◌, ◌^◌, List, [], ◌∷◌, ◌++◌, map, refl, sym, ap, ◌∙◌, ℤ, Option, Some, None, Bool, true, false, ◌&&◌}
 use Rattle.std.specs.Prelude.{option_map, option_to_list, nat_lt}
 use Rattle.std.specs.List.{list_all}
 use Rattle.std.proofs.lemmas.List.Folds.{list_all-append}
 use Rattle.std.proofs.lemmas.Bool.{true≢false}
-use Rattle.std.proofs.lemmas.Bool.Decides.{nat_tests}
 use Rattle.pbf_wire.specs.Readings.{uint32, int32}
 use Rattle.osm_block.specs.Phases.{is_index}
 use Rattle.osm_block.specs.FieldsLeft.{all_below, user_in, tag_indexes_in, indexes_in}
@@ -63,8 +62,3 @@ and_left false b h = h
 pub and_right : (a b : Bool) → (a && b) ≡ true → b ≡ true
 and_right true b h = h
 and_right false b h = absurd (true≢false (sym h))
-
-by_ltb : (x n : ℕ) → nat_lt x n ≡ true → x < n
-by_ltb x n h = grind (arith, nat_tests)
-
--- from the test of all to each

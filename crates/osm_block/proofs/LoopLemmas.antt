@@ -1,22 +1,20 @@
 -- Messages read one after the other.
 use Rattle.std.proofs.Common.{◌≡◌, ℕ, ◌+◌, ◌<◌, List, [], ◌∷◌, ◌++◌, map, length, drop, take, get_or, refl, sym, ap, subst, ◌∙◌, Option, Some, None, append_assoc, append-nil, arith}
-use Rattle.std.specs.Prelude.{option_map, IsNone, OnOk, Result, Ok, Err, Bool, true, false, not, nat_le, ◌≤◌}
+use Rattle.std.specs.Prelude.{IsNone, OnOk, Result, Ok, Err, Bool, false, not, nat_le, ◌≤◌}
 use Rattle.std.proofs.lemmas.Bool.Decides.{nat_tests}
 use Rattle.pbf_wire.specs.Field.{Entry}
 use Rattle.osm_block.specs.declared.fields.TheConstants.{GROUP_DENSE, GROUP_NODES, GROUP_RELATIONS, GROUP_WAYS}
-use Rattle.osm_block.specs.declared.fault.BlockFault.TheVariants as faults
 use Rattle.std.specs.List.{flat_map, AllByRecursion}
 use Rattle.std.proofs.lemmas.List.{map-append, drop_more, take_more}
 use Rattle.std.proofs.lemmas.Grind.{flat_map-append}
 use Rattle.pbf_wire.specs.declared.fault.WireFault.{WireFault}
 use Rattle.osm_block.specs.declared.fault.BlockFault.{BlockFault}
 use Rattle.osm_value.specs.declared.element.Element.{Element}
-use Rattle.pbf_wire.specs.Readings.{fields, wire}
 use Rattle.osm_block.specs.Message.{Context, Message, Plain, Dense, Way, Relation, wires, messages}
 use Rattle.pbf_wire.specs.Readings.{each}
-use Rattle.osm_block.specs.Block.{Joins, AllAreWire, GroupOf, kinds_in}
-use Rattle.osm_block.specs.Phases.{Phase, first, wire_phases, message_phases, phases_after_wire, group_phases, when}
-use Rattle.osm_block.specs.Reads.{Says, Appended, AppendedOne}
+use Rattle.osm_block.specs.Block.{Joins, AllAreWire}
+use Rattle.osm_block.specs.Phases.{Phase, first, wire_phases, message_phases, phases_after_wire}
+use Rattle.osm_block.specs.Reads.{Says, Appended}
 use Rattle.osm_block.proofs.ReadingLemmas.{first-append_none, first-append_some}
 
 pub first-front_none : (ps qs : List Phase) → first (ps ++ qs) ≡ None → first ps ≡ None
@@ -45,9 +43,6 @@ Joins-append R es fs (y ∷ ys) zs g h =
     (g.0, g.1 ++ fs, ap (λ l. l ++ fs) g.2 ∙ append_assoc g.0 g.1 fs, g.3, Joins-append R g.1 fs ys zs g.4 h)
 
 -- ---- a loop over payloads, each made a message
-
-abbrev pub made : {B M : Type 0} → (List ℕ → M) → (B → List ℕ) → List B → List M
-made make now ps = map make (map now ps)
 
 next-phases : {B M : Type 0} (phases : M → List Phase) (make : List ℕ → M) (now : B → List ℕ) (ps : List B) (i : ℕ) (d : B) → i < length ps →
     flat_map phases (map make (map now (drop i ps))) ≡ phases (make (now (get_or ps i d))) ++ flat_map phases (map make (map now (drop (i + 1) ps)))
@@ -108,16 +103,5 @@ messages_are gs p q r s ep eq er es =
     ∙ ap (λ x. map Plain (each gs GROUP_NODES) ++ (Dense (each gs GROUP_DENSE) ∷ (map Way x ++ map Relation s))) er
     ∙ ap (λ x. map Plain (each gs GROUP_NODES) ++ (Dense (each gs GROUP_DENSE) ∷ (map Way (each gs GROUP_WAYS) ++ map Relation x))) es
 
-pub mixed : (b : Context) (g : List ℕ) (m : Bool) → wire g ≡ None → m ≡ not (nat_le (kinds_in (fields g)) 1) → m ≡ true → first (group_phases b g) ≡ Some faults.MixedGroup
-mixed b g m none is stands =
-    ap (λ o. first (option_map faults.BlockWire o ∷ when (not (nat_le (kinds_in (fields g)) 1)) faults.MixedGroup ∷ flat_map (message_phases b) (messages (fields g)))) none
-    ∙ ap (λ v. first (when v faults.MixedGroup ∷ flat_map (message_phases b) (messages (fields g)))) (sym is ∙ stands)
-
 pub few : (n : ℕ) (m : Bool) → m ≡ not (nat_le n 1) → m ≡ false → n ≤ 1
 few n m is fine = grind (arith, nat_tests)
-
-pub group_is : (b : Context) (old new : List Element) (g : List ℕ) (m : Bool) (ms : List Message) → wire g ≡ None → m ≡ not (nat_le (kinds_in (fields g)) 1) → m ≡ false → ms ≡ messages (fields g) →
-    Appended b old new ms → AppendedOne (GroupOf b) old new g
-group_is b old new g m ms none is fine same a =
-    let P : List Message → Type 0 = λ l. Joins (Says b) a.0 l in
-    (a.0, a.1, record { is_message = none; one_kind = few (kinds_in (fields g)) m is fine; elements_are = subst P same a.2 })

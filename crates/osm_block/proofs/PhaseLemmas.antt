@@ -36,15 +36,6 @@ late_way b m id there even sums =
     ∙ pass (same_length m.keys m.vals) faults.LengthsDiffer _ even
     ∙ skip (when (not (list_all fits_i64 (front_sums m.refs))) faults.SumTooLarge) _ sums
 
--- the test of the ranges, as the code makes it
-pub way_range : (b : Context) (m : WayMessage) (id : ℤ) (refs : List ℤ) (w r i : Bool) → m.id ≡ Some id → refs ≡ front_sums m.refs →
-    w ≡ is_wide id → r ≡ list_all is_wide refs → i ≡ info_in_range b m.info →
-    (w && r && i) ≡ (passes is_wide m.id && list_all is_wide (front_sums m.refs) && info_in_range b m.info)
-way_range b m id refs w r i there sums is_w is_r is_i =
-    let ww : w ≡ passes is_wide m.id = is_w ∙ ap (passes is_wide) (sym there) in
-    let rr : r ≡ list_all is_wide (front_sums m.refs) = is_r ∙ ap (list_all is_wide) sums in
-    cc
-
 -- what is known of a way once its references are taken
 pub record WayRead (b : Context) (m : WayMessage) (id : ℤ) (refs : List ℤ) : Type 0 where
   pub there : m.id ≡ Some id

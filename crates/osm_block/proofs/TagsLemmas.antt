@@ -61,10 +61,6 @@ at_single b texts (suc n) (negsuc k) some differs = refl
 pub at_none_left : (b : Bool) (texts n : ℕ) (k : ℤ) (kv : List ℤ) → n ≡ 0 → stands b texts (pairs_of n (k ∷ kv)) ≡ Some faults.TagsUneven
 at_none_left b texts n k kv is = ap (λ m. stands b texts (pairs_of m (k ∷ kv))) is
 
-pub at_end_left : (b : Bool) (texts n : ℕ) → 0 < n → stands b texts (pairs_of n []) ≡ Some faults.TagsUneven
-at_end_left b texts zero some = absurd (omega arith)
-at_end_left b texts (suc n) some = refl
-
 -- ---- the same at an index of the array, where the phase of the rest is that of the whole
 
 pub none_left_stops : (whole : Phase) (b : Bool) (texts n i : ℕ) (kv : List ℤ) → i < length kv → stands b texts (pairs_of n (drop i kv)) ≡ whole → n ≡ 0 → whole ≡ Some faults.TagsUneven

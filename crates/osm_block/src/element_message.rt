@@ -4,7 +4,6 @@ ghost use Rattle.std.specs.Prelude.{◌≡◌, ◌∷◌, [], ◌++◌, ℕ, Lis
 ghost use Rattle.std.specs.List.{flat_map};
 ghost use Rattle.pbf_wire.specs.Field.{Entry, view};
 ghost use Rattle.pbf_wire.specs.Readings.{fields, wire, each};
-ghost use Rattle.osm_block.specs.declared.fault.BlockFault.TheVariants as faults;
 ghost use Rattle.osm_block.specs.declared.fields.TheConstants.{ELEMENT_INFO, ELEMENT_KEYS, ELEMENT_VALS};
 ghost use Rattle.osm_block.specs.Message.{Message, arrays, wires, wires_with};
 ghost use Rattle.osm_block.specs.Block.{MessageOf};

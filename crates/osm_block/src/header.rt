@@ -1,10 +1,10 @@
 //! Header blocks: which features a file needs, which area it covers, and who wrote it.
 
-ghost use Rattle.std.specs.Prelude.{◌≡◌, List, map, true, IfOk, option_map, IsTrue};
+ghost use Rattle.std.specs.Prelude.{◌≡◌, map, true, IfOk, option_map};
 ghost use Rattle.std.specs.List.{list_all};
 ghost use Rattle.std.specs.Option.{option_copied};
 ghost use Rattle.std.specs.Str.{is_utf8};
-ghost use Rattle.pbf_wire.specs.Readings.{fields, wire, each, sub, int64, last, is_there};
+ghost use Rattle.pbf_wire.specs.Readings.{fields, each, sub, int64, last, is_there};
 ghost use Rattle.osm_block.specs.declared.fields.TheConstants.{HEADER_REQUIRED_FEATURES, HEADER_OPTIONAL_FEATURES};
 ghost use Rattle.osm_block.specs.declared.header.fault.HeaderFault.TheVariants as faults;
 ghost use Rattle.osm_block.specs.HeaderBlock.{HeaderValue, Answers, header_value, header_fault, first, wire_phase, box_of, side, last_text, are_texts, is_known, unknown_feature};

@@ -1,14 +1,14 @@
 //! The Info of an element.
 
-ghost use Rattle.std.specs.Prelude.{◌≡◌, None, Some, map, pos, true, option_map, option_copied, unwrap_or, nat_lt, length, ◌%◌, ◌^◌};
+ghost use Rattle.std.specs.Prelude.{◌≡◌, None, Some, map, true, option_map, option_copied, unwrap_or, nat_lt, length, ◌%◌, ◌^◌};
 ghost use Rattle.std.specs.Option.{option_or};
 ghost use Rattle.pbf_wire.specs.Readings.{fields, wire, int32, int64, uint32};
-ghost use Rattle.osm_value.specs.Ranges.{is_wide, passes, is_version, is_uid};
+ghost use Rattle.osm_value.specs.Ranges.{is_wide, passes};
 ghost use Rattle.osm_block.specs.Message.{boolean};
 ghost use Rattle.osm_block.specs.FieldsLeft.{info_after, no_info};
 ghost use Rattle.osm_block.specs.Block.{text_at, time, version as version_of, InfoOf};
 ghost use Rattle.osm_block.specs.Fields.{context_of, info_message_of};
-ghost use Rattle.osm_block.specs.Phases.{info_in_range, all_in, user_indexes};
+ghost use Rattle.osm_block.specs.Phases.{info_in_range};
 
 use crate::fields::{
     INFO_CHANGESET, INFO_TIMESTAMP, INFO_UID, INFO_USER_SID, INFO_VERSION, INFO_VISIBLE,

@@ -1,6 +1,6 @@
 //! Tests of numbers by their ranges, and of indexes by the table.
 
-ghost use Rattle.std.specs.Prelude.{◌≡◌, ◌<◌, ◌≤◌, ◌≤ℤ◌, ◌+ℤ◌, ◌-ℤ◌, ◌*ℤ◌, nat_lt, pos, negsuc, true, unsigned_abs, IsTrue, ◌%◌, ◌^◌};
+ghost use Rattle.std.specs.Prelude.{◌≡◌, ◌<◌, ◌≤◌, ◌≤ℤ◌, ◌+ℤ◌, ◌-ℤ◌, ◌*ℤ◌, nat_lt, true, unsigned_abs, IsTrue, ◌%◌, ◌^◌};
 ghost use Rattle.std.specs.List.{list_all, AllByRecursion};
 ghost use Rattle.osm_value.specs.Ranges.{is_wide, is_version, is_uid, passes};
 ghost use Rattle.osm_block.specs.Block.{coordinate, time, version as version_of};

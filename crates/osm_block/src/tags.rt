@@ -1,6 +1,6 @@
 //! The tags of dense nodes.
 
-ghost use Rattle.std.specs.Prelude.{◌≡◌, ◌<◌, ◌↔◌, IsTrue, ◌&&◌};
+ghost use Rattle.std.specs.Prelude.{◌≡◌, ◌&&◌};
 ghost use Rattle.osm_block.specs.Phases.{Answers, first, tags_phases, is_index};
 
 use crate::fault::BlockFault;

@@ -1,6 +1,6 @@
 //! The texts of the string table.
 
-ghost use Rattle.std.specs.Prelude.{◌≡◌, map, ⊤, IfOk, ◌∷◌, []};
+ghost use Rattle.std.specs.Prelude.{◌≡◌, map, ⊤, IfOk};
 ghost use Rattle.std.specs.List.{flat_map, AllByRecursion};
 ghost use Rattle.osm_value.specs.Ranges.{IsText};
 ghost use Rattle.osm_block.specs.Phases.{Gives, Answers, first, text_phases};

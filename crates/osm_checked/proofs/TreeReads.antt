@@ -25,7 +25,7 @@ module _ {S : Type 0} (g : Ghosts S) (shuts : (s : S) → (g.view s).is_open ≡
     same = λ clean up. (reads.same clean up, refl);
     crash = reads.crash;
     whole = reads.whole;
-    alone = reads.alone;
+    list = reads.list;
     own = λ held holds. reads.own held holds.0;
     counted = reads.counted;
   }
@@ -37,7 +37,7 @@ module _ {S : Type 0} (g : Ghosts S) (shuts : (s : S) → (g.view s).is_open ≡
     same = λ clean up. (reads.same clean up, refl);
     crash = reads.crash;
     whole = reads.whole;
-    alone = reads.alone;
+    list = reads.list;
     own = λ held holds. reads.own held holds.0;
     counted = reads.counted;
   }

@@ -1,5 +1,5 @@
 -- What callers see of a store whose indexes were looked at, and what a read leaves of it.
-use Rattle.std.specs.Prelude.{◌≡◌, ℕ, Bool, false, IsTrue, refl, Result}
+use Rattle.std.specs.Prelude.{◌≡◌, ℕ, Bool, refl, Result}
 use Rattle.std.proofs.Common.{sym, subst, ◌∙◌}
 use Rattle.std.specs.Coded.{Coded, code_by, coded×, coded_ℕ, coded_bool}
 use Rattle.sqlite_trees.specs.declared.store.Store.{Ghosts}
@@ -11,7 +11,7 @@ use Rattle.osm_store.specs.Held.{HeldMap}
 use Rattle.osm_store.specs.Keeping.{OnlyReads}
 use Rattle.osm_tree_audits.specs.declared.look.Look.{Look}
 use Rattle.osm_tree_audits.specs.Looks.{IsLook}
-use Rattle.osm_trees.specs.Below.{HoldsBelow, IsIndexed, IsUsable, LeavesAMap, MayLeave, SameTrees, StandsAlone}
+use Rattle.osm_trees.specs.Below.{HoldsBelow, IsIndexed, IsUsable, LeavesAMap, MayLeave, SameTrees, ListsAlways}
 use Rattle.osm_trees.specs.Reading.{Reading, indexed_after, reading_code, same_next, same_self}
 
 pub record Checking (S : Type 0) : Type 0 where
@@ -47,7 +47,7 @@ SameChecked g one other = SameTrees (g.view one.trees.store) (g.view other.trees
 -- the call has left the trees, and has counted its failure
 abbrev pub JustReadsChecked : {S T : Type 0} → Ghosts S → Checking S → Result T StoreFault → Checking S → Type 0
 JustReadsChecked g old result new =
-    OnlyReads (HoldsChecked g) (λ c left. MayLeave (g.recovers c.trees.store) left) (λ c. LeavesAMap (g.recovers c.trees.store)) (λ c. StandsAlone (g.view c.trees.store) (g.recovers c.trees.store)) (SameChecked g)
+    OnlyReads (HoldsChecked g) (λ c left. MayLeave (g.recovers c.trees.store) left) (λ c. LeavesAMap (g.recovers c.trees.store)) (λ c rows. ListsAlways (g.view c.trees.store) (g.recovers c.trees.store) rows) (SameChecked g)
     (λ c. IsClean (g.view c.trees.store)) (λ c. IsUsable (g.view c.trees.store)) (λ c. c.trees.failures) old result new
 
 pub same_look : (a b : Trees) (x y : Look) → b ≡ a → y ≡ x → IsLook a x → IsLook b y

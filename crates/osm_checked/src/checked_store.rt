@@ -55,7 +55,7 @@ impl<S: Store> Reader for CheckedStore<S> {
     ghost use Rattle.sqlite_trees.specs.View.{IsClean};
     ghost use Rattle.osm_store.specs.declared.schema.layout.Layout.TheVariants.{Tables};
     ghost use Rattle.osm_store.specs.StoreLaws.{few_texts_of, open_or_shut};
-    ghost use Rattle.osm_trees.specs.Below.{IsUsable, MayLeave, LeavesAMap, StandsAlone};
+    ghost use Rattle.osm_trees.specs.Below.{IsUsable, MayLeave, LeavesAMap, ListsAlways};
     ghost use Rattle.osm_trees.specs.Reading.{leaves_held_alone, leaves_held};
     ghost use Rattle.osm_checked.specs.Checking.{HoldsChecked, SameChecked, same_seen_next, same_seen_self};
 
@@ -65,7 +65,7 @@ impl<S: Store> Reader for CheckedStore<S> {
 
     ghost leaves_a_map = { λ c. LeavesAMap (S.Store.recovers c.trees.store) };
 
-    ghost is_alone = { λ c. StandsAlone (S.Store.view c.trees.store) (S.Store.recovers c.trees.store) };
+    ghost lists = { λ c rows. ListsAlways (S.Store.view c.trees.store) (S.Store.recovers c.trees.store) rows };
 
     ghost same_tables = { SameChecked S.Store };
 

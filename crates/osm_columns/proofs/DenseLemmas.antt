@@ -1,5 +1,5 @@
 -- What the columns have of dense nodes, from their arrays.
-use Rattle.std.proofs.Common.{◌≡◌, ℕ, suc, ◌+◌, ◌<◌, ◌^◌, ◌-◌, List, [], ◌∷◌, ◌++◌, length, map, sum, replicate, refl, sym, ap, ◌∙◌, ℤ, pos, negsuc, zero, Option, Some, None, Bool, true, false, arith}
+use Rattle.std.proofs.Common.{◌≡◌, ℕ, suc, ◌+◌, ◌<◌, List, [], ◌∷◌, length, map, sum, replicate, refl, sym, ap, ◌∙◌, ℤ, pos, negsuc, zero, Option, Some, None, arith}
 use Rattle.std.specs.Prelude.{unwrap_or}
 use Rattle.std.proofs.lemmas.List.{length-map, map-id}
 use Rattle.osm_value.specs.declared.element.Element.TheVariants as elements
@@ -9,9 +9,9 @@ use Rattle.osm_block.specs.declared.dense.arrays.DenseArrays.{DenseArrays}
 use Rattle.osm_block.specs.Message.{Context}
 use Rattle.osm_block.specs.DenseTags.{Pair}
 use Rattle.osm_block.specs.NodeTags.{node_pairs}
-use Rattle.osm_block.specs.Block.{coordinate, time, version, values_for, texts_at, all_there}
+use Rattle.osm_block.specs.Block.{time, version, values_for, texts_at, all_there}
 use Rattle.osm_block.specs.Groups.{AreNodesOf}
-use Rattle.osm_columns.specs.Values.{kind_number, lat_of_element, lon_of_element, version_of_element, time_of_element, changeset_of_element, uid_of_element, flag_of_element, number_of_flag, no_int, no_long}
+use Rattle.osm_columns.specs.Values.{kind_number, version_of_element, time_of_element, changeset_of_element, uid_of_element, flag_of_element, number_of_flag, no_int, no_long}
 use Rattle.std.proofs.lemmas.List.Sums.{sum_by-cons}
 use Rattle.osm_columns.specs.Lists.{sums_from}
 use Rattle.osm_columns.proofs.GroupLemmas.{mapped-twice}
@@ -58,12 +58,6 @@ kinds-of b c ns h = ap (λ k. replicate k 0) (sym (node-count b c ns h)) ∙ sam
 
 pub ids-of : (b : Context) (c : DenseArrays) (ns : List NodeValue) → AreNodesOf b c ns → c.ids.items ≡ map (λ n. id_of_element (elements.Node n)) ns
 ids-of b c ns h = sym h.ids
-
-pub lats-of : (b : Context) (c : DenseArrays) (ns : List NodeValue) → AreNodesOf b c ns → map (coordinate b.lat_offset b.granularity) c.lats.items ≡ map (λ n. lat_of_element (elements.Node n)) ns
-lats-of b c ns h = sym h.lats
-
-pub lons-of : (b : Context) (c : DenseArrays) (ns : List NodeValue) → AreNodesOf b c ns → map (coordinate b.lon_offset b.granularity) c.lons.items ≡ map (λ n. lon_of_element (elements.Node n)) ns
-lons-of b c ns h = sym h.lons
 
 pub versions-there : (b : Context) (c : DenseArrays) (ns : List NodeValue) → AreNodesOf b c ns → 0 < length c.versions.items → c.versions.items ≡ map (λ n. version_of_element (elements.Node n)) ns
 versions-there b c ns h some = sym (same-versions c.versions.items) ∙ there (λ n. n.info.version) (λ o. unwrap_or o (negsuc 0)) version ns c.versions.items h.versions some

@@ -1,17 +1,17 @@
 -- The texts of dense nodes, named by the indexes of their block's table.
 use Rattle.std.proofs.Common.{◌≡◌, ℕ, suc, zero, ◌<◌, List, [], ◌∷◌, ◌++◌, length, map, replicate, refl, sym, ap, subst, ◌∙◌, ℤ, pos, negsuc, Option, Some, None, Bool, true, false, ◌&&◌, append-nil, arith}
 use Rattle.std.specs.Prelude.{option_map}
-use Rattle.std.specs.List.{list_all, flat_map, slice_get}
+use Rattle.std.specs.List.{list_all}
 use Rattle.std.proofs.lemmas.Bool.{ltb-true}
 use Rattle.std.proofs.lemmas.Grind.{flat_map-append}
-use Rattle.std.proofs.lemmas.List.{map-append, length-map}
+use Rattle.std.proofs.lemmas.List.{map-append}
 use Rattle.osm_value.specs.declared.element.Element.{Element}
 use Rattle.osm_value.specs.declared.element.Element.TheVariants as elements
 use Rattle.osm_value.specs.Value.{Text, NodeValue}
 use Rattle.osm_value.specs.Elements.{tags_of_element}
 use Rattle.osm_block.specs.declared.dense.arrays.DenseArrays.{DenseArrays}
 use Rattle.osm_block.specs.Message.{Context}
-use Rattle.osm_block.specs.Block.{text_at, texts_at, all_there, values_for}
+use Rattle.osm_block.specs.Block.{text_at, texts_at, all_there}
 use Rattle.osm_block.specs.DenseTags.{Pair, indexes_of}
 use Rattle.osm_block.specs.NodeTags.{node_pairs, pair_indexes}
 use Rattle.osm_block.specs.Phases.{is_index}

@@ -1,7 +1,7 @@
 -- Running sums of counts, and where lists end.
-use Rattle.std.proofs.Common.{◌≡◌, ℕ, suc, ◌+◌, ◌<◌, ◌≤◌, List, [], ◌∷◌, ◌++◌, length, map, take, drop, get_or, sum, refl, sym, ap, ◌∙◌, add_assoc, arith}
+use Rattle.std.proofs.Common.{◌≡◌, ℕ, suc, ◌+◌, ◌<◌, ◌≤◌, List, [], ◌∷◌, ◌++◌, length, map, take, drop, get_or, sum, refl, sym, ap, ◌∙◌, arith}
 use Rattle.std.proofs.lemmas.List.Sums.{sum_by-cons, sum_by-append}
-use Rattle.std.proofs.lemmas.List.{length-append, length-map, length-take-le, take_more, map-append, take-append-drop}
+use Rattle.std.proofs.lemmas.List.{length-append, length-map, length-take-le, map-append, take-append-drop}
 use Rattle.osm_columns.specs.Lists.{joined, ends_from, sums_from}
 use Rattle.osm_columns.specs.Columns.{Adds}
 use Rattle.osm_columns.proofs.ListLemmas.{mapped-next}

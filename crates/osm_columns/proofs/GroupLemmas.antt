@@ -1,6 +1,6 @@
 -- Groups one after the other, and what is mapped of what they hold.
-use Rattle.std.proofs.Common.{◌≡◌, ℕ, suc, ◌+◌, ◌<◌, ◌≤◌, List, [], ◌∷◌, ◌++◌, length, map, take, drop, get_or, refl, sym, ap, subst, ◌∙◌, append_assoc, append-nil, arith}
-use Rattle.std.proofs.lemmas.List.{take_more, take-append-drop, drop_more, length-append, map-append}
+use Rattle.std.proofs.Common.{◌≡◌, ℕ, ◌+◌, ◌<◌, ◌≤◌, List, [], ◌∷◌, ◌++◌, length, map, take, drop, get_or, refl, sym, ap, subst, ◌∙◌, append_assoc, append-nil, arith}
+use Rattle.std.proofs.lemmas.List.{take_more, take-append-drop, length-append, map-append}
 use Rattle.osm_block.specs.Block.{Joins}
 use Rattle.osm_columns.specs.Lists.{joined}
 use Rattle.osm_columns.proofs.ListLemmas.{joined-append}

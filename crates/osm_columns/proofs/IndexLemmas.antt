@@ -1,13 +1,10 @@
 -- Indexes behind those that were there, while the dictionary grows.
-use Rattle.std.proofs.Common.{◌≡◌, List, [], ◌++◌, ℤ, Option, sym, ap, subst, ◌∙◌, append_assoc, append-nil}
+use Rattle.std.proofs.Common.{◌≡◌, List, [], ◌++◌, ℤ, Option, sym, ap, subst, ◌∙◌, append_assoc}
 use Rattle.osm_value.specs.Value.{Text}
 use Rattle.osm_columns.specs.declared.dictionary.Dictionary.{Dictionary}
 use Rattle.osm_columns.specs.Texts.{NameAll, Extends}
 use Rattle.osm_columns.specs.Indexes.{NamesMore, texts_in}
-use Rattle.osm_columns.proofs.TextLemmas.{extended, extends-same, extends-twice, all-append}
-
-pub none-yet : (d : Dictionary) (v : List ℤ) → NamesMore [] d d v v
-none-yet d v = record { extends = extends-same (texts_in d); added = []; behind = sym (append-nil v); names = tt }
+use Rattle.osm_columns.proofs.TextLemmas.{extended, extends-twice, all-append}
 
 pub more-twice : (a b : List (Option Text)) (d e f : Dictionary) (u v w : List ℤ) → NamesMore a d e u v → NamesMore b e f v w → NamesMore (a ++ b) d f u w
 more-twice a b d e f u v w h k = record {

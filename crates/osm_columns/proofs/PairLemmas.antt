@@ -12,7 +12,7 @@ use Rattle.osm_block.proofs.IndexesLemmas.{and_left, and_right}
 use Rattle.osm_columns.specs.Lists.{joined}
 use Rattle.osm_columns.specs.Indexes.{index_in}
 use Rattle.osm_columns.proofs.ListLemmas.{joined-more}
-use Rattle.osm_block.proofs.NodeTagsLemmas.{front_at_zero, front_at_pair, front_at_end}
+use Rattle.osm_block.proofs.NodeTagsLemmas.{front_at_pair}
 
 pub length-node-pairs : (n : ℕ) (kv : List ℤ) → length (node_pairs n kv) ≡ n
 length-node-pairs zero kv = refl

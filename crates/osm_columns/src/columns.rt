@@ -1,7 +1,6 @@
 //! The arrays of a caller.
 
-ghost use Rattle.std.specs.Prelude.{◌≡◌, ℕ, List, length};
-ghost use Rattle.osm_value.specs.Value.{Text};
+ghost use Rattle.std.specs.Prelude.{◌≡◌};
 ghost use Rattle.osm_columns.specs.Columns.{has_room, elements_fit, tags_fit, refs_fit, members_fit, texts_fit, columns_fit};
 
 use crate::counts::Counts;

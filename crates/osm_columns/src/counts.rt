@@ -1,6 +1,6 @@
 //! How long columns are.
 
-ghost use Rattle.std.specs.Prelude.{◌≡◌, ◌++◌, ◌∷◌, [], List, length, IfSome, IfOk, map};
+ghost use Rattle.std.specs.Prelude.{◌≡◌, List, length, IfSome, IfOk, map};
 ghost use Rattle.osm_value.specs.declared.element.Element.{Element};
 ghost use Rattle.osm_block.specs.Groups.{GroupsHold};
 ghost use Rattle.osm_columns.specs.Lists.{joined};

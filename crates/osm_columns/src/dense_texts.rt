@@ -1,6 +1,6 @@
 //! The texts of dense nodes, by the indexes of their block's table.
 
-ghost use Rattle.std.specs.Prelude.{◌≡◌, ◌<◌, ◌≤◌, ◌++◌, ◌∷◌, [], List, IfOk, OnOk, length, drop, map, true};
+ghost use Rattle.std.specs.Prelude.{◌≡◌, ◌≤◌, ◌++◌, IfOk, OnOk, length, drop, map, true};
 ghost use Rattle.std.specs.List.{list_all};
 ghost use Rattle.osm_block.specs.DenseTags.{indexes_of};
 ghost use Rattle.osm_block.specs.NodeTags.{front_pairs, node_pairs, pair_indexes};

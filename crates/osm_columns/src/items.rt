@@ -1,6 +1,6 @@
 //! Items, written into an array behind a column.
 
-ghost use Rattle.std.specs.Prelude.{◌≡◌, ℕ, ◌+◌, ◌<◌, ◌≤◌, ◌∷◌, [], List, length, replicate};
+ghost use Rattle.std.specs.Prelude.{◌≡◌, ◌+◌, ◌<◌, ◌≤◌, ◌∷◌, [], length, replicate};
 ghost use Rattle.osm_columns.specs.Columns.{over, Adds};
 
 /// Writes an item into the array, behind a column of so many items.

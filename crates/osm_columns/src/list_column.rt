@@ -5,7 +5,6 @@ ghost use Rattle.osm_value.specs.declared.element.Element.{Element};
 ghost use Rattle.osm_value.specs.declared.element.Element.TheVariants as elements;
 ghost use Rattle.osm_value.specs.Value.{NodeValue};
 ghost use Rattle.osm_block.specs.Message.{Context};
-ghost use Rattle.osm_block.specs.Fields.{context_of};
 ghost use Rattle.osm_block.specs.Groups.{GroupHolds, GroupsHold};
 ghost use Rattle.osm_columns.specs.Lists.{joined};
 ghost use Rattle.osm_columns.specs.Columns.{over, Adds};

@@ -1,6 +1,6 @@
 //! How many elements there are, by their kinds, and how many references.
 
-ghost use Rattle.std.specs.Prelude.{◌≡◌, ◌+◌, List, IfSome};
+ghost use Rattle.std.specs.Prelude.{List, IfSome};
 ghost use Rattle.osm_value.specs.declared.element.Element.{Element};
 ghost use Rattle.osm_block.specs.Message.{Context};
 ghost use Rattle.osm_block.specs.Groups.{GroupHolds, GroupsHold};

@@ -1,7 +1,7 @@
 //! What a column has of one element.
 
 ghost use Rattle.std.specs.Prelude.{◌≡◌};
-ghost use Rattle.osm_columns.specs.Values.{number_of_kind, kind_number, lat_of_element, lon_of_element, version_in, time_in, changeset_in, uid_in, number_of_flag, flag_in};
+ghost use Rattle.osm_columns.specs.Values.{number_of_kind, kind_number, lat_of_element, lon_of_element, version_in, time_in, changeset_in, uid_in, flag_in};
 
 use osm_value::{Element, Info, MemberKind};
 

@@ -1,9 +1,10 @@
 -- What trees are after reads that found each index whole.
-use Rattle.std.proofs.Common.{◌≡◌, ◌∙◌, false, take, Option, Some, None, sym, ap, subst}
+use Rattle.std.proofs.Common.{◌≡◌, ◌∙◌, false, take, IsTrue, Option, Some, None, sym, ap, subst}
 use Rattle.std.specs.Prelude.{IfSome}
 use Rattle.sqlite_trees.specs.Objects.{catalog_tree}
 use Rattle.sqlite_trees.specs.Tree.{Trees}
 use Rattle.sqlite_trees.specs.View.{View, doubt, IsClean}
+use Rattle.sqlite_trees.proofs.Doubt.{clean_of}
 use Rattle.sqlite_wal.specs.Recovery.{Image}
 use Rattle.sqlite_exec.specs.Calls.{OnlyReads}
 use Rattle.osm_tree_writes.specs.Appending.{IsStoreAt}
@@ -12,6 +13,7 @@ use Rattle.osm_tree_audits.specs.Looks.{IsLook}
 use Rattle.osm_tree_audits.specs.declared.look.Look.{Look}
 use Rattle.osm_trees.specs.Below.{IsChecked}
 use Rattle.osm_tree_writes.specs.Tables.{table_listings}
+use Rattle.osm_openings.specs.Asked.{ListsAsAsked}
 use Rattle.osm_openings.specs.Opened.{IsOpened}
 use Rattle.osm_databases.specs.Checked.{IsOfVersion}
 
@@ -52,8 +54,9 @@ seen_on b c look whole after clean =
     subst (λ (db : Trees). IsLook db look) (sym (ap (λ (v : View). v.trees) after)) (whole clean_b).1
 
 -- what was opened is of this version
-pub found_of_version : {X : Type 0} (view : X → View) (image : Image) (found : Option X) → IfSome found (λ x. IsClean (view x) → IsOpened image (view x)) → IfSome found (λ x. IsClean (view x) → IsOfVersion (view x))
-found_of_version view image None opened = tt
-found_of_version view image (Some x) opened = λ clean.
+pub found_of_version : {X : Type 0} (view : X → View) (image : Image) (found : Option X) → IfSome found (λ x. IsClean (view x) → IsOpened image (view x))
+    → IfSome found (λ x. IsTrue (view x).is_clean → ListsAsAsked ((view x).trees catalog_tree)) → IfSome found (λ x. IsClean (view x) → IsOfVersion (view x))
+found_of_version view image None opened asked = tt
+found_of_version view image (Some x) opened asked = λ clean.
     let known = opened clean in
-    record { unbroken = known.unbroken; settled = known.settled; listed = known.listed; version = known.version }
+    record { unbroken = known.unbroken; settled = known.settled; listed = known.listed; version = known.version; asked = asked (clean_of (view x).is_clean clean) }

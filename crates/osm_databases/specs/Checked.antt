@@ -8,13 +8,16 @@ use Rattle.osm_store.specs.Rows.{version_row}
 use Rattle.osm_added_indexes.specs.Added.{AreKept, plain_indexes}
 use Rattle.osm_tree_writes.specs.Tables.{table_listings}
 use Rattle.osm_tree_audits.specs.Indexes.{AreWhole}
+use Rattle.osm_openings.specs.Asked.{ListsAsAsked}
 
--- the store can go on, nothing is written, and its first trees are those of a store of this version
+-- The store can go on, nothing is written, and its first trees are those of a store of this version. Each other is listed as its
+-- row asks.
 pub record IsOfVersion (v : View) : Type 0 where
   pub unbroken : v.is_broken ≡ false
   pub settled : v.trees ≡ v.committed
   pub listed : take 9 (v.trees catalog_tree) ≡ table_listings
   pub version : v.trees 0 ≡ version_row Tables ∷ []
+  pub asked : ListsAsAsked (v.trees catalog_tree)
 
 -- each index that somebody has added to a table of the store is one that a put keeps, and has one entry for each row of its table, and no other
 abbrev pub HasWholeAdded : Trees → Type 0

@@ -5,7 +5,7 @@
 //! error. SQL makes a store where there is none, and reads one that keeps elements as blocks, which is copied into another
 //! database.
 
-ghost use Rattle.std.specs.Prelude.{◌≡◌, ℕ, List, false, take, Some, IfOk, IfSome};
+ghost use Rattle.std.specs.Prelude.{◌≡◌, ℕ, List, false, take, IfOk, IfSome};
 ghost use Rattle.sqlite.specs.Held.{IsNew, state};
 ghost use Rattle.sqlite_trees.specs.Objects.{catalog_tree};
 ghost use Rattle.sqlite_trees.specs.View.{IsClean};
@@ -14,7 +14,7 @@ ghost use Rattle.osm_tree_audits.specs.Looks.{IsLook};
 ghost use Rattle.osm_trees.specs.Below.{IsChecked};
 ghost use Rattle.osm_tree_writes.specs.Appending.{IsStoreAt, TakeBlobs};
 ghost use Rattle.osm_databases.specs.Checked.{HasWholeAdded, IsOfVersion};
-ghost use Rattle.osm_databases.specs.Found.{AreFound, AreReadFrom, AreFoundOrMade, AreMade};
+ghost use Rattle.osm_databases.specs.Found.{AreFound, AreReadFrom, AreFoundOrMade, AreMade, AreMadeUnder};
 
 use crate::reason::{Reason, tell, tell_of_obstruction, told, told_of};
 use crate::stores::{BLOCKS, checked, made_where_none, taking_blobs};
@@ -31,6 +31,9 @@ pub trait Databases {
 
     /// What is known of the trees that lie under a name, by the bytes of the name.
     ghost gives: { Self → List ℕ → Self.Trees → Type 0 };
+
+    /// What is known of the trees of a store that is made under a name.
+    ghost makes: { Self → List ℕ → Self.Trees → Type 0 };
 
     /// The trees of a database of this version: the first of them are those of a store, and nothing is written that isn't
     /// committed. If it is anything else it is closed.
@@ -49,6 +52,12 @@ pub trait Databases {
         name: &str,
     ) -> Result<Connection<Self::Trees>, StoreFault>
         ensures { IfOk result IsNew };
+
+    /// The store that is made under a name, where its database has no store and no table of anybody's. It holds no blob. Where
+    /// none is made nothing is written, and why is told on standard error.
+    fn make(&self, rt: &HostRuntime, name: &str) -> Result<TreeStore<Self::Trees>, StoreFault>
+        ensures failures { IfOk result (λ store. store.failures ≡ 0) }
+        ensures made { IfOk result (λ store. AreMadeUnder Self.Trees.Store (makes self.now name.now) store.store) };
 
     /// Closes a database. If it was written to, its log is copied into it; if that fails the log stays, and is read when the
     /// database is next opened.
@@ -72,6 +81,22 @@ fn told_version(rt: &HostRuntime, name: &str, fault: StoreFault) -> StoreFault {
         return StoreFault::Disk;
     }
     told_of(rt, name, fault)
+}
+
+/// The store that is made where a connection has none (`made_where_none`). Why none is made is told.
+pub fn made_or_told<S: Alter + Drop>(
+    rt: &HostRuntime,
+    name: &str,
+    connection: Connection<S>,
+) -> Result<TreeStore<S>, StoreFault>
+    requires { (state S.Store connection).in_transaction ≡ false }
+    ensures failures { IfOk result (λ store. store.failures ≡ 0) }
+    ensures made { IfOk result (λ store. AreMade S.Store store.store) }
+{
+    match made_where_none(connection) {
+        Ok(store) => Ok(store),
+        Err(fault) => Err(told_version(rt, name, fault)),
+    }
 }
 
 /// Refuses a database in whose way something stands, which is told.
@@ -248,14 +273,10 @@ fn made_in<D: Databases>(
     name: &str,
 ) -> Result<TreeStore<D::Trees>, StoreFault>
     ensures failures { IfOk result (λ store. store.failures ≡ 0) }
-    ensures made { IfOk result (λ store. AreMade D.Trees.Store store.store) }
+    ensures made { IfOk result (λ store. AreMadeUnder D.Trees.Store (D.makes databases.now name.now) store.store) }
 {
     refuse_obstructed(rt, databases, name)?;
-    let connection = databases.connection(rt, name)?;
-    match made_where_none(connection) {
-        Ok(store) => Ok(store),
-        Err(fault) => Err(told_version(rt, name, fault)),
-    }
+    databases.make(rt, name)
 }
 
 /// The store of a database that is to take blobs, which is made if there is none; it is written by its trees. Where it is
@@ -269,8 +290,8 @@ pub fn opened_or_made<D: Databases>(
     name: &str,
 ) -> Result<TreeStore<D::Trees>, StoreFault>
     ensures failures { IfOk result (λ store. store.failures ≡ 0) }
-    // it is the store that was found, or one that was made and holds nothing
-    ensures trees { IfOk result (λ store. AreFoundOrMade D.Trees.Store (D.gives databases.now name.now) store.store) }
+    // it is the store that was found under this name, or one that was made under it and holds nothing
+    ensures trees { IfOk result (λ store. AreFoundOrMade D.Trees.Store (D.gives databases.now name.now) (D.makes databases.now name.now) store.store) }
 {
     match databases.trees(rt, name)? {
         Some(trees) => Ok(TreeStore::new(keeping_all(rt, name, trees)?)),

@@ -1,21 +1,25 @@
 //! The files of this machine that a database lies in.
 
 ghost use Rattle.std.specs.Prelude.{◌≡◌, IsTrue, IfOk, IfSome};
+ghost use Rattle.std.specs.FinMap.{empty};
 ghost use Rattle.sqlite_store.specs.FileStore.{view};
 ghost use Rattle.sqlite_trees.specs.View.{IsClean};
 ghost use Rattle.sqlite_wal.specs.Files.{image_at, seen_image};
+ghost use Rattle.osm_store.specs.declared.schema.layout.Layout.TheVariants.{Tables};
+ghost use Rattle.osm_trees.specs.Below.{HoldsBelow};
 ghost use Rattle.osm_openings.specs.Opened.{IsOpened};
 ghost use Rattle.osm_openings.specs.Presumed.{ArePresumedTables};
 ghost use Rattle.osm_databases.specs.Checked.{IsOfVersion};
 
-use crate::databases::{CheckedDatabases, Databases};
-use crate::reason::{Reason, Refusal, told};
+use crate::databases::{CheckedDatabases, Databases, made_or_told};
+use crate::reason::{Reason, Refusal, told, told_of};
 use crate::trees::{
     FEW_PAGES, KeptPages, MANY_PAGES, checked_trees_in, close_files, connection_in, obstacle_in,
     trees_in,
 };
 use osm_openings::Obstruction;
 use osm_store::StoreFault;
+use osm_trees::TreeStore;
 use pbfrow_files::{
     OpenFault, ReadFile, ReadFrom, WriteFile, WriteFrom, open_to_read, open_to_write,
 };
@@ -136,6 +140,8 @@ impl Databases for FilledFiles {
 
     ghost gives = { λ _ _ trees. IsClean (view trees) → IsOpened (image_at ⟦<Unknown as Start>⟧) (view trees) };
 
+    ghost makes = { λ _ _ trees. IsClean (view trees) → HoldsBelow Tables (view trees) empty };
+
     fn trees(
         &self,
         rt: &HostRuntime,
@@ -157,6 +163,15 @@ impl Databases for FilledFiles {
         told(rt, name, connection_in(rt, files, self.pages))
     }
 
+    fn make(
+        &self,
+        rt: &HostRuntime,
+        name: &str,
+    ) -> Result<TreeStore<FileStore<WriteFile>>, StoreFault> {
+        let connection = self.connection(rt, name)?;
+        made_or_told(rt, name, connection)
+    }
+
     fn close(&self, trees: FileStore<WriteFile>) {
         close_files(trees)
     }
@@ -169,6 +184,9 @@ impl Databases for AskedFiles {
     type Trees = FileStore<ReadFile>;
 
     ghost gives = { λ _ _ trees. IsClean (view trees) → IsOpened (image_at ⟦<Unknown as Start>⟧) (view trees) };
+
+    // they make none
+    ghost makes = { λ _ _ _. ⊥ };
 
     fn trees(
         &self,
@@ -189,6 +207,14 @@ impl Databases for AskedFiles {
     ) -> Result<Connection<FileStore<ReadFile>>, StoreFault> {
         let files = told(rt, name, files_to_read(rt, name, Unknown))?;
         told(rt, name, connection_in(rt, files, MANY_PAGES))
+    }
+
+    fn make(
+        &self,
+        rt: &HostRuntime,
+        name: &str,
+    ) -> Result<TreeStore<FileStore<ReadFile>>, StoreFault> {
+        Err(told_of(rt, name, StoreFault::NotThisStore(None)))
     }
 
     fn close(&self, _trees: FileStore<ReadFile>) {}

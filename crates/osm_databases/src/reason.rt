@@ -1,6 +1,6 @@
 //! Why a database isn't opened, in a fault for programs and in words for people.
 
-ghost use Rattle.std.specs.Prelude.{◌≡◌, None, MatchResult};
+ghost use Rattle.std.specs.Prelude.{◌≡◌, MatchResult};
 ghost use Rattle.osm_databases.specs.Reasons.{fault_of_file, fault_of_obstacle};
 
 use osm_openings::{Obstacle, Obstruction};

@@ -11,9 +11,10 @@ ghost use Rattle.sqlite_trees.specs.Objects.{catalog_tree};
 ghost use Rattle.osm_tree_writes.specs.Appending.{IsStoreAt, TakeBlobs};
 ghost use Rattle.osm_tree_writes.specs.Putting.{IsIndexedStore};
 ghost use Rattle.osm_tree_audits.specs.Looks.{IsLook};
-ghost use Rattle.osm_trees.specs.Below.{HoldsBelow, IsChecked, StandsAlone};
+ghost use Rattle.osm_trees.specs.Below.{HoldsBelow, IsChecked};
 ghost use Rattle.osm_tree_writes.specs.Tables.{table_listings};
 ghost use Rattle.osm_databases.specs.Checked.{HasWholeAdded, IsOfVersion};
+ghost use Rattle.osm_databases.specs.Found.{ListOnlyAStore};
 
 use crate::reason::{Reason, Refusal};
 use osm_added_indexes::plain_indexes;
@@ -36,7 +37,7 @@ pub(crate) const BLOCKS: i64 = 1;
 pub fn made<S: Alter + Drop>(connection: Connection<S>) -> Result<TreeStore<S>, StoreFault>
     requires { (state S.Store connection).in_transaction ≡ false }
     ensures empty { IfOk result (λ trees. IsClean (S.Store.view trees.store) → HoldsBelow Tables (S.Store.view trees.store) empty) }
-    ensures alone { IfOk result (λ trees. IsClean (S.Store.view trees.store) → StandsAlone (S.Store.view trees.store) (S.Store.recovers trees.store)) }
+    ensures alone { IfOk result (λ trees. IsClean (S.Store.view trees.store) → ListOnlyAStore (S.Store.view trees.store) (S.Store.recovers trees.store)) }
     ensures bare { (state S.Store connection).now.schema ≢ no_schema → result ≡ Err (StoreFault.NotThisStore None) }
     ensures failures { IfOk result (λ trees. trees.failures ≡ 0) }
 {
@@ -58,7 +59,7 @@ pub fn made_where_none<S: Alter + Drop>(
 ) -> Result<TreeStore<S>, StoreFault>
     requires { (state S.Store connection).in_transaction ≡ false }
     ensures empty { IfOk result (λ trees. IsClean (S.Store.view trees.store) → HoldsBelow Tables (S.Store.view trees.store) empty) }
-    ensures alone { IfOk result (λ trees. IsClean (S.Store.view trees.store) → StandsAlone (S.Store.view trees.store) (S.Store.recovers trees.store)) }
+    ensures alone { IfOk result (λ trees. IsClean (S.Store.view trees.store) → ListOnlyAStore (S.Store.view trees.store) (S.Store.recovers trees.store)) }
     ensures failures { IfOk result (λ trees. trees.failures ≡ 0) }
 {
     let (fault, connection) = match BodyStore::adopt(connection) {

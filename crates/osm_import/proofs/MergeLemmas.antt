@@ -14,7 +14,7 @@ use Rattle.osm_import.specs.Runs.{IsRun, Runs, IsFault, IsNone, IsGoodIn}
 use Rattle.osm_import.specs.declared.answer.Answer.{Answer}
 use Rattle.osm_import.specs.Step.{IsEntry}
 use Rattle.osm_import.specs.Copies.{IsMerged, IsUnited}
-use Rattle.osm_import.specs.Merges.{AreUnited, IsImported, AreImported, all_of, UnionsAreImports, UnionsAreUnrefused, UnionsStay, placed_from, frames_in, AreRuns, PartsAreOneImport, UnionsAreTakenAgain, ImportsPart}
+use Rattle.osm_import.specs.Merges.{AreUnited, IsFrontUnited, IsImported, AreImported, all_of, UnionsAreImports, UnionsAreUnrefused, UnionsStay, placed_from, frames_in, AreRuns, PartsAreOneImport, UnionsAreTakenAgain, ImportsPart}
 use Rattle.std.specs.Io.KnownBytes.{Consumes, IsAtEnd}
 use Rattle.osm_reading.specs.Framings.{Known}
 use Rattle.osm_import.specs.Flows.{Input, Output}
@@ -22,6 +22,7 @@ use Rattle.osm_import.specs.Streams.{Reply, frames_of, answers_of, deliveries_at
 use Rattle.osm_import.specs.declared.stream.summary.Summary.{Summary}
 use Rattle.osm_reading.specs.declared.stream.fault.StreamFault.{StreamFault}
 use Rattle.osm_import.specs.declared.answer.Conflict.TheVariants.{Differs, Overlap}
+use Rattle.osm_import.proofs.CopyLemmas.{merged_none}
 use Rattle.osm_import.proofs.FilesLemmas.{stands-apart, stands-same, entry-same}
 use Rattle.osm_import.proofs.HistoryLemmas.{among-good, nothing-held}
 use Rattle.osm_import.proofs.RunsLemmas.{run-imports}
@@ -165,6 +166,18 @@ unions_stay source held after again first second = one_map again after (λ off b
     at : (off : ℕ) (blob : Blob) → get source off ≡ Some blob → get after off ≡ None → (o : Option Blob) → get held off ≡ o → get after off ≡ Some blob
     at off blob there free None none = first.added off blob tt there none
     at off blob there free (Some other) was = (let bad : Some other ≡ None = sym (first.kept off other was) ∙ free in absurd cc)
+
+-- ---- a front of the sources
+
+-- a merge begins with none of them
+pub front_begun : (sources : List HeldMap) (held : HeldMap) → IsFrontUnited sources held held
+front_begun [] held = refl
+front_begun (source ∷ sources) held = inl (0, merged_none (λ off. off < 0) source held (λ off less. omega (arith, less)))
+
+-- and goes on with a front of those behind the ones that were united
+pub front_behind : (front behind : List HeldMap) (held middle left : HeldMap) → AreUnited front held middle → IsFrontUnited behind middle left → IsFrontUnited (front ++ behind) held left
+front_behind [] behind held middle left same rest = subst (λ (h : HeldMap). IsFrontUnited behind h left) same rest
+front_behind (source ∷ front) behind held middle left (next, united, also) rest = inr (next, united, front_behind front behind next middle left also rest)
 
 -- ---- a file in parts
 

@@ -1,6 +1,6 @@
 -- Sets of texts, and how many different ones a list has.
 use Rattle.std.proofs.Common.{◌≡◌, ℕ, ◌+◌, ◌*◌, ◌-◌, ◌^◌, ◌<◌, ◌≤◌, cond, Bool, true, false, not, ◌||◌, ◌&&◌, ◌↔◌, IsTrue, Option, Some, None, List, [], ◌∷◌, ◌++◌, map, filter, length, take, get_or, refl, sym, ap, subst, ◌∙◌, arith, bytes_eq, Bor, length-append}
-use Rattle.std.specs.Prelude.{flat_map, option_to_list}
+use Rattle.std.specs.Prelude.{option_to_list}
 use Rattle.std.specs.List.{AllByRecursion, IsDistinct, list_any}
 use Rattle.std.specs.Set.{is_member}
 use Rattle.std.specs.HashSet.{HashSet, hash_set_len, IsUnique}

@@ -1,5 +1,5 @@
 -- What a crash leaves of a stream is what comes of a history of deliveries of its file.
-use Rattle.std.proofs.Common.{◌≡◌, ℕ, ◌+◌, ◌≤◌, List, [], ◌∷◌, ◌++◌, length, take, Some, None, Result, Ok, Err, refl, sym, ap, subst, ◌∙◌, inl, inr, arith, append_assoc, append-nil, length-append}
+use Rattle.std.proofs.Common.{◌≡◌, ℕ, ◌+◌, ◌≤◌, List, [], ◌∷◌, ◌++◌, length, take, Some, None, Result, Ok, Err, refl, sym, ap, subst, ◌∙◌, inl, inr, arith, append_assoc, length-append}
 use Rattle.std.proofs.lemmas.List.{take_at, append_cancel_left}
 use Rattle.std.specs.Io.KnownBytes.{Consumes}
 use Rattle.pbf_frame.specs.Frame.{Found, frame_at, found_at}
@@ -14,7 +14,7 @@ use Rattle.osm_import.specs.Deliveries.{DeliveryValue}
 use Rattle.osm_import.specs.Files.{AreFrames, AreOfFile, StandsAt, IsFrameAt, joined}
 use Rattle.osm_import.specs.FileHistories.{AreEventsOf, events_of, StandIn}
 use Rattle.osm_import.specs.Flows.{Input, Output}
-use Rattle.osm_import.specs.Histories.{answered, broken, IsHistory}
+use Rattle.osm_import.specs.Histories.{answered, IsHistory}
 use Rattle.osm_import.specs.Runs.{LeavesAfter}
 use Rattle.osm_import.specs.Streams.{Reply, frames_of, answers_of, deliveries_at, Streams}
 use Rattle.osm_import.specs.declared.answer.Answer.{Answer}

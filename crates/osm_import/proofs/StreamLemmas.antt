@@ -14,7 +14,7 @@ use Rattle.osm_import.specs.Deliveries.{DeliveryValue}
 use Rattle.osm_reading.specs.Framings.{Known, HasNoFrame}
 use Rattle.osm_import.specs.Flows.{Input, Output}
 use Rattle.osm_import.specs.Runs.{IsFault, IsNone}
-use Rattle.osm_import.specs.Lines.{answer_line}
+use Rattle.osm_import.specs.Lines.{told_line}
 use Rattle.osm_import.specs.Streams.{Reply, frames_of, answers_of, deliveries_at, lines_at, end_at, summary_of, ended_at, IsStop, Stops, Streams}
 use Rattle.osm_import.specs.StreamSteps.{FrameAnswered, FrameStop}
 use Rattle.osm_import.specs.declared.answer.Answer.{Answer}
@@ -55,7 +55,7 @@ unread (Some bs) piece (Some ys) x h = h ∙ sym (append_assoc x piece ys)
 
 -- ---- the frames so far
 
-pub record InStream (from count : ℕ) (f : Framing) (before now written_old written_now : Known) (summary : Summary) (Took : List DeliveryValue → List Answer → Type 0) : Type 0 where
+pub record InStream (tells : Answer → Bool) (from count : ℕ) (f : Framing) (before now written_old written_now : Known) (summary : Summary) (Took : List DeliveryValue → List Answer → Type 0) : Type 0 where
   pub replies : List Reply
   pub frames : AreFrames (frames_of replies)
   pub took : Took (deliveries_at from replies) (answers_of replies)
@@ -65,7 +65,7 @@ pub record InStream (from count : ℕ) (f : Framing) (before now written_old wri
   pub inside : f.offset ≤ 4611686018427387904
   pub empty : f.rest ≡ []
   pub read : Consumes before now (joined (frames_of replies))
-  pub lines : Appends written_old written_now (lines_at from replies)
+  pub lines : Appends written_old written_now (lines_at tells from replies)
   pub sums : summary ≡ summary_of (answers_of replies) (end_at from replies)
   pub next : summary.next ≡ f.offset
   pub small : Small summary count
@@ -88,8 +88,8 @@ abbrev pub Counts : Summary → Answer → ℕ → Summary → Type 0
 Counts summary a fin next = (list : List Answer) (at : ℕ) → summary ≡ summary_of list at → next ≡ summary_of (list ++ a ∷ []) fin
 
 pub stream-more : (from count : ℕ) (f g : Framing) (before written_old : Known) (input : Input) (output : Output) (summary next : Summary) (Then Now : List DeliveryValue → List Answer → Type 0) (One : ℕ → List ℕ → Answer → Type 0) (blob : Delivered)
-    → InStream from count f before input.before written_old output.before summary Then → FrameAnswered f g input output One blob → Grows Then One Now → Counts summary blob.answer blob.fin next
-    → InStream from (count + 1) g before input.after written_old output.after next Now
+    → InStream output.tells from count f before input.before written_old output.before summary Then → FrameAnswered f g input output One blob → Grows Then One Now → Counts summary blob.answer blob.fin next
+    → InStream output.tells from (count + 1) g before input.after written_old output.after next Now
 stream-more from count f g before written_old input output summary next Then Now One blob so_far one grows counts =
     let rs = so_far.replies in
     let r : Reply = (one.frame, blob.answer) in
@@ -109,8 +109,8 @@ stream-more from count f g before written_old input output summary next Then Now
       inside = (let fits = one.fits in let moved = one.moved in omega arith);
       empty = one.empty;
       read = subst (λ (v : List ℕ). Consumes before input.after v) (sym (ap joined (frames-push rs r) ∙ joined-push (frames_of rs) one.frame)) (Consumes-trans before input.before input.after (joined (frames_of rs)) one.frame so_far.read one.read);
-      lines = subst (λ (v : List ℕ). Appends written_old output.after v) (sym (lines-push from rs r))
-          (Appends-trans written_old output.before output.after (lines_at from rs) (answer_line (end_at from rs) blob.answer) so_far.lines (subst (λ n. Appends output.before output.after (answer_line n blob.answer)) so_far.stands one.line));
+      lines = subst (λ (v : List ℕ). Appends written_old output.after v) (sym (lines-push output.tells from rs r))
+          (Appends-trans written_old output.before output.after (lines_at output.tells from rs) (told_line output.tells (end_at from rs) blob.answer) so_far.lines (subst (λ n. Appends output.before output.after (told_line output.tells n blob.answer)) so_far.stands one.line));
       sums = sums;
       next = ap (λ (s : Summary). s.next) sums ∙ sym stands;
       small = subst (λ (s : Summary). Small s (count + 1)) (sym sums) (subst (λ n. Small (summary_of (answers_of (rs ++ r ∷ [])) (end_at from (rs ++ r ∷ []))) n)
@@ -136,7 +136,7 @@ not-both-zero : (a b : ℕ) → (eqb a 0 && eqb b 0) ≡ false → a ≡ 0 → b
 not-both-zero a b e x y = grind (arith, nat_tests)
 
 pub stream-ends : (from limit count : ℕ) (f : Framing) (input : Input) (piece : List ℕ) (output : Output) (summary : Summary) (Took : List DeliveryValue → List Answer → Type 0)
-    → InStream from count f input.before (prepend_known piece input.after) output.before output.after summary Took → IsAtEnd (prepend_known piece input.after) → count ≤ limit
+    → InStream output.tells from count f input.before (prepend_known piece input.after) output.before output.after summary Took → IsAtEnd (prepend_known piece input.after) → count ≤ limit
     → Streams from limit input output Took (ended_at from summary)
 stream-ends from limit count f input piece output summary Took so_far end few = by (eqb from 0 && eqb summary.next 0) refl
   where
@@ -175,7 +175,7 @@ stream-ends from limit count f input piece output summary Took so_far end few = 
           few = (let many = so_far.many in let len = ap length all in omega arith);
           stands = sym zeros.0 ∙ sym (ap (end_at from) none);
           read = subst (λ (v : List ℕ). Consumes input.before input.after v) (sym (append-nil (joined (frames_of (rs ++ []))) ∙ ap (λ (xs : List Reply). joined (frames_of xs)) all)) left.1;
-          why = (refl, zeros.0, none, refl, left.0, subst (λ (xs : List Reply). Appends output.before output.after (lines_at from xs)) none so_far.lines);
+          why = (refl, zeros.0, none, refl, left.0, subst (λ (xs : List Reply). Appends output.before output.after (lines_at output.tells from xs)) none so_far.lines);
         }
 
 -- ---- a stop
@@ -185,8 +185,8 @@ Stays Then Same Now = (ds : List DeliveryValue) (rs : List Answer) → Same → 
 
 -- a stop at which no frame was being delivered
 pub stop-between : (from limit count : ℕ) (f : Framing) (input : Input) (piece : List ℕ) (mid : Known) (output : Output) (written_mid : Known) (summary : Summary) (Then Now : List DeliveryValue → List Answer → Type 0) (Same : Type 0) (stop : Stop) (got : List ℕ)
-    → InStream from count f input.before mid output.before written_mid summary Then → Consumes mid (prepend_known piece input.after) got → Stays Then Same Now → Same → count ≤ limit
-    → ((rs : List Reply) → length rs ≡ count → f.offset ≡ end_at from rs → Appends output.before written_mid (lines_at from rs) → IsStop from limit input output rs [] (got ++ piece) stop)
+    → InStream output.tells from count f input.before mid output.before written_mid summary Then → Consumes mid (prepend_known piece input.after) got → Stays Then Same Now → Same → count ≤ limit
+    → ((rs : List Reply) → length rs ≡ count → f.offset ≡ end_at from rs → Appends output.before written_mid (lines_at output.tells from rs) → IsStop from limit input output rs [] (got ++ piece) stop)
     → Stops from limit input output Now (record { fault = stop; at = summary.next })
 stop-between from limit count f input piece mid output written_mid summary Then Now Same stop got so_far read stays same few why =
     let rs = so_far.replies in
@@ -207,8 +207,8 @@ stop-between from limit count f input piece mid output written_mid summary Then 
 
 -- a stop at a frame that was being delivered
 pub stop-at : (from limit count : ℕ) (f : Framing) (input : Input) (piece : List ℕ) (mid : Known) (output : Output) (written_mid : Known) (summary : Summary) (Then Now : List DeliveryValue → List Answer → Type 0) (One : ℕ → List ℕ → Answer → Type 0) (stop : Stop) (w : List ℕ) (a : Answer)
-    → InStream from count f input.before mid output.before written_mid summary Then → Consumes mid (prepend_known piece input.after) w → Grows Then One Now → IsFrame w → One f.offset w a → count < limit
-    → ((rs : List Reply) → f.offset ≡ end_at from rs → Appends output.before written_mid (lines_at from rs) → IsStop from limit input output rs ((w, a) ∷ []) piece stop)
+    → InStream output.tells from count f input.before mid output.before written_mid summary Then → Consumes mid (prepend_known piece input.after) w → Grows Then One Now → IsFrame w → One f.offset w a → count < limit
+    → ((rs : List Reply) → f.offset ≡ end_at from rs → Appends output.before written_mid (lines_at output.tells from rs) → IsStop from limit input output rs ((w, a) ∷ []) piece stop)
     → Stops from limit input output Now (record { fault = stop; at = summary.next })
 stop-at from limit count f input piece mid output written_mid summary Then Now One stop w a so_far read grows whole one few why =
     let rs = so_far.replies in
@@ -229,7 +229,7 @@ stop-at from limit count f input piece mid output written_mid summary Then Now O
 
 -- what the call for a frame stopped at, after the frames so far
 pub stream-stops : (from limit count : ℕ) (f : Framing) (input : Input) (piece : List ℕ) (mid : Known) (output : Output) (written_mid : Known) (summary : Summary) (Then Now : List DeliveryValue → List Answer → Type 0) (One : ℕ → List ℕ → Answer → Type 0) (Same : Type 0) (stop : Stop)
-    → InStream from count f input.before mid output.before written_mid summary Then → FrameStop f (record { before = mid; after = prepend_known piece input.after; has_failed = input.has_failed }) (record { before = written_mid; after = output.after; has_failed = output.has_failed }) Same One stop
+    → InStream output.tells from count f input.before mid output.before written_mid summary Then → FrameStop f (record { before = mid; after = prepend_known piece input.after; has_failed = input.has_failed }) (record { tells = output.tells; before = written_mid; after = output.after; has_failed = output.has_failed }) Same One stop
     → Stays Then Same Now → Grows Then One Now → count < limit → (stop ≡ ReadFailed → piece ≡ [])
     → Stops from limit input output Now (record { fault = stop; at = summary.next })
 stream-stops from limit count f input piece mid output written_mid summary Then Now One Same (Frame fault) so_far h stays grows few spent =
@@ -237,7 +237,7 @@ stream-stops from limit count f input piece mid output written_mid summary Then 
     stop-between from limit count f input piece mid output written_mid summary Then Now Same (Frame fault) it.0 so_far it.2 stays h.1 (omega arith)
     (λ rs many here lines. (
       refl,
-      subst (λ (o : Known). Appends output.before o (lines_at from rs)) (sym h.0) lines,
+      subst (λ (o : Known). Appends output.before o (lines_at output.tells from rs)) (sym h.0) lines,
       (it.0, piece, it.1, refl, subst (λ n. FaultStands fault (record { offset = n; rest = it.0; lent = it.1 }) ⊎ (IsUnfinished fault (record { offset = n; rest = it.0; lent = it.1 }) × IsAtEnd (prepend_known piece input.after))) here it.3),
     ))
 stream-stops from limit count f input piece mid output written_mid summary Then Now One Same ReadFailed so_far h stays grows few spent =
@@ -245,16 +245,16 @@ stream-stops from limit count f input piece mid output written_mid summary Then 
     (λ rs many here lines. (
       h.2,
       refl,
-      subst (λ (o : Known). Appends output.before o (lines_at from rs)) (sym h.0) lines,
+      subst (λ (o : Known). Appends output.before o (lines_at output.tells from rs)) (sym h.0) lines,
       subst (λ n. HasNoFrame n (h.3.0 ++ piece)) here (subst (λ (v : List ℕ). HasNoFrame f.offset v) (sym (ap (λ (v : List ℕ). h.3.0 ++ v) (spent refl) ∙ append-nil h.3.0)) h.3.2),
     ))
 stream-stops from limit count f input piece mid output written_mid summary Then Now One Same (Store fault) so_far h stays grows few spent = elim h.1 [
   | inl own ↦
       stop-between from limit count f input piece mid output written_mid summary Then Now Same (Store fault) own.2.0 so_far own.2.1 stays own.0 (omega arith)
-      (λ rs many here lines. (subst (λ (o : Known). Appends output.before o (lines_at from rs)) (sym h.0) lines, inl (refl, own.1)))
+      (λ rs many here lines. (subst (λ (o : Known). Appends output.before o (lines_at output.tells from rs)) (sym h.0) lines, inl (refl, own.1)))
   | inr one ↦
       stop-at from limit count f input piece mid output written_mid summary Then Now One (Store fault) one.0 (answers.Fault fault) so_far one.2 grows one.1 one.3 few
-      (λ rs here lines. (subst (λ (o : Known). Appends output.before o (lines_at from rs)) (sym h.0) lines, inr refl))
+      (λ rs here lines. (subst (λ (o : Known). Appends output.before o (lines_at output.tells from rs)) (sym h.0) lines, inr refl))
 ]
 stream-stops from limit count f input piece mid output written_mid summary Then Now One Same WriteFailed so_far h stays grows few spent =
     let it = h.1 in
@@ -263,16 +263,16 @@ stream-stops from limit count f input piece mid output written_mid summary Then 
       h.0,
       refl,
       (it.5, tt),
-      front-of-piece output.before written_mid output.after (lines_at from rs) (answer_line f.offset it.1) [] (lines_at from (rs ++ (it.0, it.1) ∷ [])) lines
-          (append-nil (lines_at from rs ++ answer_line f.offset it.1) ∙ ap (λ n. lines_at from rs ++ answer_line n it.1) here ∙ sym (lines-push from rs (it.0, it.1))) it.6,
+      front-of-piece output.before written_mid output.after (lines_at output.tells from rs) (told_line output.tells f.offset it.1) [] (lines_at output.tells from (rs ++ (it.0, it.1) ∷ [])) lines
+          (append-nil (lines_at output.tells from rs ++ told_line output.tells f.offset it.1) ∙ ap (λ n. lines_at output.tells from rs ++ told_line output.tells n it.1) here ∙ sym (lines-push output.tells from rs (it.0, it.1))) it.6,
     ))
 stream-stops from limit count f input piece mid output written_mid summary Then Now One Same NoHeaderFirst so_far h stays grows few spent = absurd h
 stream-stops from limit count f input piece mid output written_mid summary Then Now One Same BlobLimit so_far h stays grows few spent = absurd h
 
 -- nothing was read yet
-pub stream-begins : (from : ℕ) (left written : Known) (f : Framing) (summary : Summary) (Took : List DeliveryValue → List Answer → Type 0) → f.offset ≡ from → f.rest ≡ [] → from ≤ 4611686018427387904 → summary ≡ summary_of [] from → Took [] []
-    → InStream from 0 f left (prepend_known [] left) written written summary Took
-stream-begins from left written f summary Took here empty inside is took = record {
+pub stream-begins : (tells : Answer → Bool) (from : ℕ) (left written : Known) (f : Framing) (summary : Summary) (Took : List DeliveryValue → List Answer → Type 0) → f.offset ≡ from → f.rest ≡ [] → from ≤ 4611686018427387904 → summary ≡ summary_of [] from → Took [] []
+    → InStream tells from 0 f left (prepend_known [] left) written written summary Took
+stream-begins tells from left written f summary Took here empty inside is took = record {
   replies = [];
   frames = tt;
   took = took;
@@ -289,9 +289,9 @@ stream-begins from left written f summary Took here empty inside is took = recor
 }
 
 -- no memory for a piece
-pub never-begun : (from limit : ℕ) (left written : Known) (source_failed sink_failed : Bool) (Took : List DeliveryValue → List Answer → Type 0) → Took [] []
-    → Stops from limit (record { before = left; after = left; has_failed = source_failed }) (record { before = written; after = written; has_failed = sink_failed }) Took (record { fault = Store Memory; at = from })
-never-begun from limit left written source_failed sink_failed Took took = record {
+pub never-begun : (tells : Answer → Bool) (from limit : ℕ) (left written : Known) (source_failed sink_failed : Bool) (Took : List DeliveryValue → List Answer → Type 0) → Took [] []
+    → Stops from limit (record { before = left; after = left; has_failed = source_failed }) (record { tells = tells; before = written; after = written; has_failed = sink_failed }) Took (record { fault = Store Memory; at = from })
+never-begun tells from limit left written source_failed sink_failed Took took = record {
   replies = [];
   last = [];
   rest = [];
@@ -305,10 +305,10 @@ never-begun from limit left written source_failed sink_failed Took took = record
 }
 
 -- a call that read no frame
-pub stream-stays : (from count : ℕ) (f : Framing) (before mid now written_old written_mid written_now : Known) (summary : Summary) (Then Now : List DeliveryValue → List Answer → Type 0) (Same : Type 0)
-    → InStream from count f before mid written_old written_mid summary Then → Consumes mid now [] → written_now ≡ written_mid → Stays Then Same Now → Same
-    → InStream from count f before now written_old written_now summary Now
-stream-stays from count f before mid now written_old written_mid written_now summary Then Now Same so_far read wrote stays same = record {
+pub stream-stays : (tells : Answer → Bool) (from count : ℕ) (f : Framing) (before mid now written_old written_mid written_now : Known) (summary : Summary) (Then Now : List DeliveryValue → List Answer → Type 0) (Same : Type 0)
+    → InStream tells from count f before mid written_old written_mid summary Then → Consumes mid now [] → written_now ≡ written_mid → Stays Then Same Now → Same
+    → InStream tells from count f before now written_old written_now summary Now
+stream-stays tells from count f before mid now written_old written_mid written_now summary Then Now Same so_far read wrote stays same = record {
   replies = so_far.replies;
   frames = so_far.frames;
   took = stays (deliveries_at from so_far.replies) (answers_of so_far.replies) same so_far.took;
@@ -318,7 +318,7 @@ stream-stays from count f before mid now written_old written_mid written_now sum
   inside = so_far.inside;
   empty = so_far.empty;
   read = subst (λ (v : List ℕ). Consumes before now v) (append-nil (joined (frames_of so_far.replies))) (Consumes-trans before mid now (joined (frames_of so_far.replies)) [] so_far.read read);
-  lines = subst (λ (o : Known). Appends written_old o (lines_at from so_far.replies)) (sym wrote) so_far.lines;
+  lines = subst (λ (o : Known). Appends written_old o (lines_at tells from so_far.replies)) (sym wrote) so_far.lines;
   sums = so_far.sums;
   next = so_far.next;
   small = so_far.small;

@@ -1,10 +1,10 @@
 -- One more frame and its answer.
-use Rattle.std.proofs.Common.{◌≡◌, ℕ, suc, ◌+◌, ◌≤◌, List, [], ◌∷◌, ◌++◌, length, refl, sym, ap, ◌∙◌, append_assoc, append-nil}
+use Rattle.std.proofs.Common.{◌≡◌, ℕ, Bool, suc, ◌+◌, ◌≤◌, List, [], ◌∷◌, ◌++◌, length, refl, sym, ap, ◌∙◌, append_assoc, append-nil}
 use Rattle.std.proofs.lemmas.List.Sums.{count_by-le-length}
 use Rattle.osm_reading.specs.Good.{IsFrame}
 use Rattle.osm_import.specs.Files.{AreFrames, joined}
 use Rattle.osm_import.specs.Deliveries.{DeliveryValue}
-use Rattle.osm_import.specs.Lines.{answer_line}
+use Rattle.osm_import.specs.Lines.{told_line}
 use Rattle.osm_import.specs.Streams.{Reply, frames_of, answers_of, deliveries_at, lines_at, end_at, is_stored, is_held, is_bad, is_refused, summary_of}
 use Rattle.osm_import.specs.declared.answer.Answer.{Answer}
 use Rattle.osm_import.specs.declared.stream.summary.Summary.{Summary}
@@ -24,10 +24,10 @@ pub deliveries-push : (off : ℕ) (rs : List Reply) (r : Reply) → deliveries_a
 deliveries-push off [] r = refl
 deliveries-push off (x ∷ rs) r = ap (λ (l : List DeliveryValue). delivery_of off x.0 ∷ l) (deliveries-push (off + length x.0) rs r)
 
-pub lines-push : (off : ℕ) (rs : List Reply) (r : Reply) → lines_at off (rs ++ r ∷ []) ≡ lines_at off rs ++ answer_line (end_at off rs) r.1
-lines-push off [] r = append-nil (answer_line off r.1)
-lines-push off (x ∷ rs) r = ap (λ (l : List ℕ). answer_line off x.1 ++ l) (lines-push (off + length x.0) rs r)
-    ∙ sym (append_assoc (answer_line off x.1) (lines_at (off + length x.0) rs) (answer_line (end_at (off + length x.0) rs) r.1))
+pub lines-push : (tells : Answer → Bool) (off : ℕ) (rs : List Reply) (r : Reply) → lines_at tells off (rs ++ r ∷ []) ≡ lines_at tells off rs ++ told_line tells (end_at off rs) r.1
+lines-push tells off [] r = append-nil (told_line tells off r.1)
+lines-push tells off (x ∷ rs) r = ap (λ (l : List ℕ). told_line tells off x.1 ++ l) (lines-push tells (off + length x.0) rs r)
+    ∙ sym (append_assoc (told_line tells off x.1) (lines_at tells (off + length x.0) rs) (told_line tells (end_at (off + length x.0) rs) r.1))
 
 pub end-push : (off : ℕ) (rs : List Reply) (r : Reply) → end_at off (rs ++ r ∷ []) ≡ end_at off rs + length r.0
 end-push off [] r = refl

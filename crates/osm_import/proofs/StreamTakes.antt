@@ -19,7 +19,7 @@ took-none store settled has_map self s = record {
   unbroken = λ held is honest none. (held, refl, is);
   crash = λ held is honest left it. settled s held left is it;
   whole = λ held is honest. has_map s held is;
-  alone = λ held is honest alone. alone;
+  list = λ held is honest rows lists. lists;
   own = λ held is honest. tt;
   causes = refl;
   same = λ honest is_open none. self s;
@@ -50,7 +50,7 @@ took-more {S} store settled self joined old mid new ds rs off bytes a sound all 
                 (none-push IsFault rs a sound none) (λ left it. settled new step.0 left step.2 it))
           ]);
       whole = λ held is honest. (let before = all.unbroken held is (one.honest honest) sound in one.whole before.0 before.2 honest);
-      alone = λ held is honest alone. (let before = all.unbroken held is (one.honest honest) sound in one.alone before.0 before.2 honest (all.alone held is (one.honest honest) alone));
+      list = λ held is honest rows lists. (let before = all.unbroken held is (one.honest honest) sound in one.list before.0 before.2 honest rows (all.list held is (one.honest honest) rows lists));
       own = λ held is honest. (let before = all.unbroken held is (one.honest honest) sound in own-push rs a (all.own held is (one.honest honest)) (one.own before.0 before.2 honest));
       causes = each-causes store old new (ds ++ d ∷ []) (rs ++ a ∷ []) each;
       same = λ honest up none. each-same store self joined old new (ds ++ d ∷ []) (rs ++ a ∷ []) each honest up none;

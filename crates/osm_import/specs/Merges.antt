@@ -1,5 +1,5 @@
 -- Several maps united in one.
-use Rattle.std.specs.Prelude.{◌≡◌, ◌↔◌, ℕ, ◌+◌, List, [], ◌∷◌, ◌++◌, length, Some}
+use Rattle.std.specs.Prelude.{◌≡◌, ◌⊎◌, ◌↔◌, ℕ, zero, suc, ◌+◌, List, [], ◌∷◌, ◌++◌, length, Some}
 use Rattle.std.specs.FinMap.{get, empty}
 use Rattle.osm_store.specs.Held.{Blob, HeldMap}
 use Rattle.osm_import.specs.Copies.{IsUnited, IsUnitedBelow, IsRefused}
@@ -14,6 +14,17 @@ use Rattle.osm_import.specs.declared.answer.Conflict.{Conflict}
 abbrev pub AreUnited : List HeldMap → HeldMap → HeldMap → Type 0
 AreUnited [] held after = after ≡ held
 AreUnited (source ∷ sources) held after = (next : HeldMap) × IsUnited source held next × AreUnited sources next after
+
+-- A front of them was: all blobs of the first ones, and those of the next below some offset.
+abbrev pub IsFrontUnited : List HeldMap → HeldMap → HeldMap → Type 0
+IsFrontUnited [] held after = after ≡ held
+IsFrontUnited (source ∷ sources) held after = ((below : ℕ) × IsUnitedBelow below source held after) ⊎ ((next : HeldMap) × IsUnited source held next × IsFrontUnited sources next after)
+
+-- Those in front of the one at a place were, and of that one the blobs below an offset, where the next is refused.
+abbrev pub IsUnionRefused : List HeldMap → ℕ → ℕ → Conflict → HeldMap → HeldMap → Type 0
+IsUnionRefused [] place off conflict held after = ⊥
+IsUnionRefused (source ∷ sources) zero off conflict held after = IsUnitedBelow off source held after × IsRefused source after off conflict
+IsUnionRefused (source ∷ sources) (suc place) off conflict held after = (next : HeldMap) × IsUnited source held next × IsUnionRefused sources place off conflict next after
 
 -- all good deliveries of the list are held, and nothing else: what an import of them to a new store comes to
 abbrev pub IsImported : List DeliveryValue → HeldMap → Type 0

@@ -4,7 +4,7 @@ use Rattle.std.specs.FinMap.{get}
 use Rattle.osm_value.specs.declared.element.Element.{Element}
 use Rattle.osm_store.specs.Held.{Blob, HeldMap, IsFree}
 use Rattle.osm_store.specs.Calls.{OfHeld}
-use Rattle.osm_store.specs.Keeping.{extent_of, with_blob}
+use Rattle.osm_store.specs.Keeping.{KeepsList, extent_of, with_blob}
 use Rattle.osm_store.specs.declared.keeper.Extent.{Extent}
 use Rattle.osm_store.specs.declared.keeper.Reader.{Ghosts}
 use Rattle.osm_import.specs.Copies.{BlobCopied, CopiesBlob, CrashLeavesBlob, BlobHasCause, BlobTells, IsOwnBlob, ComeTo, is_added}
@@ -24,7 +24,7 @@ pub record TakesOne {S : Type 0} (store : Ghosts S) (old new : S) (off : ℕ) (b
   pub crash : OfHeld store old new (λ held. CrashLeaves (store.leaves new) held off bytes)
   pub events : OfHeld store old new (λ held. LeavesEvents (store.leaves new) held (record { off = off; bytes = bytes }) answer)
   pub whole : OfHeld store old new (λ _. store.leaves_a_map new)
-  pub alone : OfHeld store old new (λ _. store.is_alone old → store.is_alone new)
+  pub list : OfHeld store old new (λ _. KeepsList store.lists old new)
   pub own : OfHeld store old new (λ _. IsOwn answer)
   pub cause : FaultHasCause (store.failures old) (store.failures new) answer
   pub same : store.is_honest new → store.is_open new → ¬ (IsStored answer) → store.same_tables old new
@@ -50,7 +50,7 @@ pub record Takes {S : Type 0} (store : Ghosts S) (old new : S) (deliveries : Lis
   pub unbroken : OfHeld store old new (λ held. IsNone IsFault replies → Runs (store.holds new) held deliveries replies)
   pub crash : OfHeld store old new (λ held. LeavesAfter (store.leaves new) held deliveries replies)
   pub whole : OfHeld store old new (λ _. store.leaves_a_map new)
-  pub alone : OfHeld store old new (λ _. store.is_alone old → store.is_alone new)
+  pub list : OfHeld store old new (λ _. KeepsList store.lists old new)
   pub own : OfHeld store old new (λ _. AreOwn replies)
   pub causes : HaveCauses (store.failures old) (store.failures new) replies
   pub same : store.is_honest new → store.is_open new → IsNone IsStored replies → store.same_tables old new
@@ -113,7 +113,7 @@ pub record CopiesOne {F T : Type 0} (from : Ghosts F) (to : Ghosts T) (first las
   pub crash : WhereHeld from to first last old new copy.0 (λ held blob. CrashLeavesBlob (to.leaves new) held copy.0.off blob)
   pub kept : OfHeld to old new (λ held. KeepsHeld to new copy.1 held)
   pub whole : OfHeld to old new (λ _. to.leaves_a_map new)
-  pub alone : OfHeld to old new (λ _. to.is_alone old → to.is_alone new)
+  pub list : OfHeld to old new (λ _. KeepsList to.lists old new)
   pub own : WhereHeld from to first last old new copy.0 (λ held blob. IsOwnBlob copy.1)
   pub source : Rereads from first copy.1 last
   pub cause : BlobHasCause (from.failures first) (from.failures last) (to.failures old) (to.failures new) copy.1

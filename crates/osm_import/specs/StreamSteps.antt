@@ -8,7 +8,7 @@ use Rattle.osm_faults.specs.declared.fault.StoreFault.TheVariants.{Memory}
 use Rattle.osm_reading.specs.Good.{IsFrame}
 use Rattle.osm_import.specs.Flows.{Input, Output}
 use Rattle.osm_import.specs.Runs.{IsFault}
-use Rattle.osm_import.specs.Lines.{answer_line}
+use Rattle.osm_import.specs.Lines.{told_line}
 use Rattle.osm_import.specs.declared.answer.Answer.{Answer}
 use Rattle.osm_import.specs.declared.answer.Answer.TheVariants as answers
 use Rattle.osm_import.specs.declared.stream.run.Delivered.{Delivered}
@@ -22,7 +22,7 @@ Gave f g Same Took (Ok (Some blob)) = FrameWaits f × (blob.off ≡ f.offset) ×
 Gave f g Same Took (Ok None) = (waiting f ≡ Ok None) × (g.offset ≡ f.offset) × (g.rest ≡ f.rest) × Same
 Gave f g Same Took (Err fault) = FaultStands fault f × Same
 
--- one frame was read and answered, and its line written
+-- one frame was read and answered, and its line written where it is told
 pub record FrameAnswered (f g : Framing) (input : Input) (output : Output) (Took : ℕ → List ℕ → Answer → Type 0) (blob : Delivered) : Type 0 where
   pub frame : List ℕ
   pub whole : IsFrame frame
@@ -33,7 +33,7 @@ pub record FrameAnswered (f g : Framing) (input : Input) (output : Output) (Took
   pub read : Consumes input.before input.after frame
   pub took : Took f.offset frame blob.answer
   pub answered : ¬ (IsFault blob.answer)
-  pub line : Appends output.before output.after (answer_line f.offset blob.answer)
+  pub line : Appends output.before output.after (told_line output.tells f.offset blob.answer)
 
 -- the frame at which it stopped
 abbrev pub FrameStop : Framing → Input → Output → Type 0 → (ℕ → List ℕ → Answer → Type 0) → Stop → Type 0
@@ -47,7 +47,7 @@ FrameStop f input output Same Took (Store fault) =
     ⊎ ((frame : List ℕ) × IsFrame frame × Consumes input.before input.after frame × Took f.offset frame (answers.Fault fault)))
 FrameStop f input output Same Took WriteFailed =
     (output.has_failed ≡ true) × ((frame : List ℕ) × (answer : Answer) × IsFrame frame × Consumes input.before input.after frame × Took f.offset frame answer × ¬ (IsFault answer)
-    × AppendsFront output.before output.after (answer_line f.offset answer))
+    × AppendsFront output.before output.after (told_line output.tells f.offset answer))
 FrameStop f input output Same Took NoHeaderFirst = ⊥
 FrameStop f input output Same Took BlobLimit = ⊥
 

@@ -11,7 +11,7 @@ use Rattle.osm_import.specs.Gaps.{Tiles}
 use Rattle.osm_import.specs.Deliveries.{DeliveryValue}
 use Rattle.osm_import.specs.Flows.{Input, Output}
 use Rattle.osm_import.specs.Runs.{IsFault, IsNone}
-use Rattle.osm_import.specs.Lines.{answer_line}
+use Rattle.osm_import.specs.Lines.{told_line}
 use Rattle.osm_reading.specs.Framings.{HasNoFrame}
 use Rattle.osm_import.specs.declared.answer.Answer.{Answer}
 use Rattle.osm_import.specs.declared.answer.Answer.TheVariants as answers
@@ -39,10 +39,10 @@ abbrev pub deliveries_at : ℕ → List Reply → List DeliveryValue
 deliveries_at off [] = []
 deliveries_at off (reply ∷ replies) = record { off = off; bytes = reply.0 } ∷ deliveries_at (off + length reply.0) replies
 
--- their lines
-abbrev pub lines_at : ℕ → List Reply → List ℕ
-lines_at off [] = []
-lines_at off (reply ∷ replies) = answer_line off reply.1 ++ lines_at (off + length reply.0) replies
+-- the lines of those answers that are told
+abbrev pub lines_at : (Answer → Bool) → ℕ → List Reply → List ℕ
+lines_at tells off [] = []
+lines_at tells off (reply ∷ replies) = told_line tells off reply.1 ++ lines_at tells (off + length reply.0) replies
 
 -- the offset behind them
 abbrev pub end_at : ℕ → List Reply → ℕ
@@ -92,26 +92,26 @@ pub record EndsWell (from limit : ℕ) (input : Input) (output : Output) (Took :
   pub few : length replies ≤ limit
   pub read : Consumes input.before input.after (joined (frames_of replies))
   pub ended : IsAtEnd input.after
-  pub lines : Appends output.before output.after (lines_at from replies)
+  pub lines : Appends output.before output.after (lines_at output.tells from replies)
   pub sums : summary ≡ summary_of (answers_of replies) (end_at from replies)
   pub some : from ≡ 0 → replies ≢ []
 
 -- Why it stopped behind these answered frames, with this frame being delivered if there is one, and these bytes read behind it.
 abbrev pub IsStop : ℕ → ℕ → Input → Output → List Reply → List Reply → List ℕ → Stop → Type 0
 IsStop from limit input output replies last rest (Frame fault) =
-    (last ≡ []) × Appends output.before output.after (lines_at from replies)
+    (last ≡ []) × Appends output.before output.after (lines_at output.tells from replies)
     × ((got more lent : List ℕ) × (rest ≡ got ++ more) × (FaultStands fault (record { offset = end_at from replies; rest = got; lent = lent })
     ⊎ (IsUnfinished fault (record { offset = end_at from replies; rest = got; lent = lent }) × IsAtEnd (prepend_known more input.after))))
 IsStop from limit input output replies last rest NoHeaderFirst =
     (last ≡ []) × (from ≡ 0) × (replies ≡ []) × (rest ≡ []) × IsAtEnd input.after × Appends output.before output.after []
 IsStop from limit input output replies last rest WriteFailed =
-    (output.has_failed ≡ true) × (length last ≡ 1) × IsNone IsFault (answers_of last) × AppendsFront output.before output.after (lines_at from (replies ++ last))
+    (output.has_failed ≡ true) × (length last ≡ 1) × IsNone IsFault (answers_of last) × AppendsFront output.before output.after (lines_at output.tells from (replies ++ last))
 IsStop from limit input output replies last rest (Store fault) =
-    Appends output.before output.after (lines_at from replies) × (((last ≡ []) × (fault ≡ Memory)) ⊎ (answers_of last ≡ answers.Fault fault ∷ []))
+    Appends output.before output.after (lines_at output.tells from replies) × (((last ≡ []) × (fault ≡ Memory)) ⊎ (answers_of last ≡ answers.Fault fault ∷ []))
 IsStop from limit input output replies last rest ReadFailed =
-    (input.has_failed ≡ true) × (last ≡ []) × Appends output.before output.after (lines_at from replies) × HasNoFrame (end_at from replies) rest
+    (input.has_failed ≡ true) × (last ≡ []) × Appends output.before output.after (lines_at output.tells from replies) × HasNoFrame (end_at from replies) rest
 IsStop from limit input output replies last rest BlobLimit =
-    (last ≡ []) × (length replies ≡ limit) × (0 < length rest) × Appends output.before output.after (lines_at from replies)
+    (last ≡ []) × (length replies ≡ limit) × (0 < length rest) × Appends output.before output.after (lines_at output.tells from replies)
 
 pub record Stops (from limit : ℕ) (input : Input) (output : Output) (Took : List DeliveryValue → List Answer → Type 0) (stop : StreamFault) : Type 0 where
   pub replies : List Reply

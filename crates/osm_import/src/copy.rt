@@ -1,10 +1,10 @@
 //! Copies of held blobs from one store into another.
 
-ghost use Rattle.std.specs.Prelude.{◌≡◌, ◌⊎◌, ◌<◌, ◌≤◌, ◌^◌, ℕ, false, List, Some, All, IfOk, IfErr};
+ghost use Rattle.std.specs.Prelude.{◌≡◌, ◌⊎◌, ◌≤◌, false, List, Some, All, IfOk, IfErr};
 ghost use Rattle.std.specs.FinMap.{get};
 ghost use Rattle.osm_store.specs.Calls.{OfHeld};
 ghost use Rattle.osm_store.specs.Held.{Blob, HeldMap};
-ghost use Rattle.osm_store.specs.Keeping.{IsRange, extent_of, extents_of};
+ghost use Rattle.osm_store.specs.Keeping.{IsRange, KeepsList, extent_of, extents_of};
 ghost use Rattle.osm_import.specs.Copies.{BlobCopied, CopiesBlob, Copies, CrashLeavesBlob, CrashLeavesSome, BlobHasCause, CopyHasCause, BlobTells, CopyTells, IsOwnBlob, IsOwnCopy, ComeTo, is_added};
 ghost use Rattle.osm_faults.specs.declared.fault.StoreFault.TheVariants.{Memory};
 ghost use Rattle.osm_import.specs.declared.copy.CopyFault.TheVariants.{Store};
@@ -113,7 +113,7 @@ fn copy_blob<F: Reader, T: Keeper>(
         → get source extent.now.off ≡ Some blob → extent.now ≡ extent_of (extent.now.off, blob) → CrashLeavesBlob (T.leaves to.new) held extent.now.off blob }
     ensures kept { OfHeld T.Reader to.old to.new (λ held. KeepsHeld T.Reader to.new result held) }
     ensures whole { OfHeld T.Reader to.old to.new (λ _. T.leaves_a_map to.new) }
-    ensures alone { OfHeld T.Reader to.old to.new (λ _. T.is_alone to.old → T.is_alone to.new) }
+    ensures list { OfHeld T.Reader to.old to.new (λ _. KeepsList T.lists to.old to.new) }
     ensures own { (source held : HeldMap) (blob : Blob) → F.holds from.old source → F.is_honest from.new → T.holds to.old held → T.is_honest to.new
         → get source extent.now.off ≡ Some blob → extent.now ≡ extent_of (extent.now.off, blob) → IsOwnBlob result }
     ensures source { Rereads F.Reader from.old result from.new }
@@ -171,7 +171,7 @@ fn copy_blobs<F: Reader, T: Keeper>(
         → CrashLeavesSome (T.leaves to.new) source held result }
     ensures kept { OfHeld T.Reader to.old to.new (λ held. KeepsHeld T.Reader to.new result held) }
     ensures whole { OfHeld T.Reader to.old to.new (λ _. T.leaves_a_map to.new) }
-    ensures alone { OfHeld T.Reader to.old to.new (λ _. T.is_alone to.old → T.is_alone to.new) }
+    ensures list { OfHeld T.Reader to.old to.new (λ _. KeepsList T.lists to.old to.new) }
     ensures own { (source held : HeldMap) → F.holds from.old source → F.is_honest from.new → T.holds to.old held → T.is_honest to.new → extents.now ≡ extents_of source → IsOwnCopy result }
     ensures reached { (source : HeldMap) → extents.now ≡ extents_of source → IfErr result (λ stop. (blob : Blob) × (get source stop.off ≡ Some blob)) }
     ensures source { Rereads F.Reader from.old result from.new }
@@ -234,7 +234,7 @@ pub fn copy_held<F: Reader, T: Keeper>(
     // What the other store held stays, whatever the first one holds and gives.
     ensures kept { OfHeld T.Reader to.old to.new (λ held. KeepsHeld T.Reader to.new result held) }
     ensures whole { OfHeld T.Reader to.old to.new (λ _. T.leaves_a_map to.new) }
-    ensures alone { OfHeld T.Reader to.old to.new (λ _. T.is_alone to.old → T.is_alone to.new) }
+    ensures list { OfHeld T.Reader to.old to.new (λ _. KeepsList T.lists to.old to.new) }
 
     // What the first store holds stays.
     ensures source { Rereads F.Reader from.old result from.new }

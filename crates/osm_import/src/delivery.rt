@@ -2,6 +2,7 @@
 
 ghost use Rattle.std.specs.Prelude.{◌≡◌, ◌==◌, ◌≤◌, find};
 ghost use Rattle.osm_store.specs.Calls.{OfHeld};
+ghost use Rattle.osm_store.specs.Keeping.{KeepsList};
 ghost use Rattle.osm_reading.specs.Good.{IsGood};
 ghost use Rattle.osm_import.specs.Step.{Delivers, CrashLeaves, FaultHasCause, IsOwn};
 ghost use Rattle.osm_import.specs.Runs.{IsStored, StaysShut};
@@ -36,7 +37,7 @@ fn deliver_good<K: Keeper>(
     ensures step { OfHeld K.Reader keeper.old keeper.new (λ held. Delivers (K.is_open keeper.new) (K.holds keeper.new) held off bytes.now result) }
     ensures crash { OfHeld K.Reader keeper.old keeper.new (λ held. CrashLeaves (K.leaves keeper.new) held off bytes.now) }
     ensures whole { OfHeld K.Reader keeper.old keeper.new (λ _. K.leaves_a_map keeper.new) }
-    ensures alone { OfHeld K.Reader keeper.old keeper.new (λ _. K.is_alone keeper.old → K.is_alone keeper.new) }
+    ensures list { OfHeld K.Reader keeper.old keeper.new (λ _. KeepsList K.lists keeper.old keeper.new) }
     ensures own { OfHeld K.Reader keeper.old keeper.new (λ _. IsOwn result) }
     ensures cause { FaultHasCause (K.failures keeper.old) (K.failures keeper.new) result }
     ensures honest { K.is_honest keeper.new → K.is_honest keeper.old }

@@ -3,6 +3,8 @@
 mod line;
 mod run;
 mod summary;
+mod teller;
 
 pub use run::import_stream;
 pub use summary::Summary;
+pub use teller::{Teller, Told};

@@ -1,20 +1,18 @@
 -- What a list of trees says of each place of a schema, and what the order of `sqlite_schema` says of names.
-use Rattle.std.proofs.Common.{◌≡◌, ◌∙◌, ◌+◌, ℕ, zero, suc, pos, true, false, ◌&&◌, List, [], ◌∷◌, ◌++◌, length, refl, sym, ap, ap₂, inl, inr, arith, map}
+use Rattle.std.proofs.Common.{◌≡◌, ◌∙◌, ◌+◌, ℕ, zero, suc, true, false, ◌&&◌, List, [], ◌∷◌, ◌++◌, length, refl, sym, ap, ap₂, inl, inr, arith, map}
 use Rattle.std.specs.Prelude.{Some, slice_get}
 use Rattle.std.specs.Char.{to_ascii_lowercase}
 use Rattle.std.proofs.lemmas.Option.{none-some, same_Some}
 use Rattle.std.proofs.lemmas.Bool.{cases_Bool, and_parts, not-true, false≢true}
 use Rattle.std.proofs.lemmas.Slice.Eq.{bytes_eq-Decides}
-use Rattle.sqlite_value.specs.declared.value.Value.TheVariants.{Int}
 use Rattle.sqlite_value.specs.Order.{Row, column, bytes}
 use Rattle.sqlite_trees.specs.declared.store.Shape.{Shape}
 use Rattle.sqlite_trees.specs.declared.store.Shape.TheVariants.{Absent, Table, Index, Pageless, FrozenTable, FrozenIndex}
-use Rattle.sqlite_trees.specs.Objects.{listing, shape_code}
+use Rattle.sqlite_trees.specs.Objects.{listing}
 use Rattle.sqlite_trees.specs.Sound.{Head, head_at, same_name, may_follow, are_in_order}
 use Rattle.sqlite_store.specs.declared.catalog.Wanted.{Wanted}
 use Rattle.sqlite_store.specs.Catalog.{is_present, same_value, describes, is_about}
 use Rattle.sqlite_store.specs.Listing.{listed, listed_from}
-use Rattle.sqlite_store.specs.Joined.{joined}
 use Rattle.osm_openings.proofs.PlaceLemmas.{any_at}
 
 -- ---- a present place has its row in the list, and each row is that of a present place
@@ -49,14 +47,6 @@ no_row from w rest absent = go w.shape absent
     go Pageless h = absurd (cc)
     go FrozenTable h = absurd (cc)
     go (FrozenIndex o) h = absurd (cc)
-
-pub absent_shape : (s : Shape) → is_present s ≡ false → s ≡ Absent
-absent_shape Absent h = refl
-absent_shape Table h = absurd (cc)
-absent_shape (Index o) h = absurd (cc)
-absent_shape Pageless h = absurd (cc)
-absent_shape FrozenTable h = absurd (cc)
-absent_shape (FrozenIndex o) h = absurd (cc)
 
 pub listed_at : (from : ℕ) (schema : List Wanted) (t : ℕ) (w : Wanted) → slice_get schema t ≡ Some w → is_present w.shape ≡ true
     → (k : ℕ) × (slice_get (listed_from from schema) k ≡ Some (listing_at (from + t) w))
@@ -94,31 +84,6 @@ at_listed from (v ∷ schema) k row at = elim (cases_Bool (is_present v.shape)) 
         let start : from ≡ from + 0 = omega arith in
         record { at = 0; wanted = v; there = refl; present = here; is = sym (same_Some _ row is) ∙ ap (λ n. listing_at n v) start }
     by_place here (suc j) is rest = later from v schema row (rest j is)
-
--- ---- rows joined with their shapes
-abbrev pub with_layout : Row → Shape × ℕ → Row
-with_layout row layout = row ++ Int (pos (shape_code layout.0)) ∷ Int (pos layout.1) ∷ []
-
-pub joined_at : (rows : List Row) (layouts : List (Shape × ℕ)) (k : ℕ) (row : Row) (layout : Shape × ℕ) → slice_get rows k ≡ Some row → slice_get layouts k ≡ Some layout
-    → slice_get (joined rows layouts) k ≡ Some (with_layout row layout)
-joined_at [] layouts k row layout e f = absurd (none-some _ e)
-joined_at (r ∷ rows) [] k row layout e f = absurd (none-some _ f)
-joined_at (r ∷ rows) (l ∷ layouts) zero row layout e f = ap₂ (λ (x : Row) (y : Shape × ℕ). Some (with_layout x y)) (same_Some r row e) (same_Some l layout f)
-joined_at (r ∷ rows) (l ∷ layouts) (suc k) row layout e f = joined_at rows layouts k row layout e f
-
-pub record Joined (rows : List Row) (layouts : List (Shape × ℕ)) (k : ℕ) (row : Row) : Type 0 where
-  pub short : Row
-  pub layout : Shape × ℕ
-  pub row_at : slice_get rows k ≡ Some short
-  pub layout_at : slice_get layouts k ≡ Some layout
-  pub is : row ≡ with_layout short layout
-
-pub at_joined : (rows : List Row) (layouts : List (Shape × ℕ)) (k : ℕ) (row : Row) → slice_get (joined rows layouts) k ≡ Some row → Joined rows layouts k row
-at_joined [] layouts k row at = absurd (none-some row at)
-at_joined (r ∷ rows) [] k row at = absurd (none-some row at)
-at_joined (r ∷ rows) (l ∷ layouts) zero row at = record { short = r; layout = l; row_at = refl; layout_at = refl; is = sym (same_Some _ row at) }
-at_joined (r ∷ rows) (l ∷ layouts) (suc k) row at =
-    let j = at_joined rows layouts k row at in record { short = j.short; layout = j.layout; row_at = j.row_at; layout_at = j.layout_at; is = j.is }
 
 -- ---- no two rows of an ordered list have one name
 same_itself : (name : List ℕ) → same_name name name ≡ true

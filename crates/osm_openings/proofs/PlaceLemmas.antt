@@ -82,9 +82,6 @@ tied Less h = absurd (cc)
 tied Equal h = refl
 tied Greater h = absurd (cc)
 
-pub same_to : (a b v : Value) → same_value a b ≡ true → same_value a v ≡ same_value b v
-same_to a b v same = ap is_eq (value_cmp_total.congr a b v (tied (value_cmp a b) same))
-
 pub turned : (a b : Value) → same_value a b ≡ same_value b a
 turned a b = ap is_eq (value_cmp_total.antisymm a b) ∙ either (value_cmp b a)
   where
@@ -92,9 +89,6 @@ turned a b = ap is_eq (value_cmp_total.antisymm a b) ∙ either (value_cmp b a)
     either Less = refl
     either Equal = refl
     either Greater = refl
-
-pub same_from : (a b v : Value) → same_value a b ≡ true → same_value v a ≡ same_value v b
-same_from a b v same = turned v a ∙ same_to a b v same ∙ turned b v
 
 pub is_text_of : (v : Value) (t : List ℕ) → same_value v (Text t) ≡ true → v ≡ Text t
 is_text_of Null t same = absurd (let e = class_tied Null (Text t) (tied _ same) in omega (arith, e))

@@ -1,6 +1,6 @@
 //! What stands in the way of a database that can't be opened, or can't be written to.
 
-ghost use Rattle.std.specs.Prelude.{◌≡◌, None, Some, [], codes, IsTrue, IfOk};
+ghost use Rattle.std.specs.Prelude.{◌≡◌, [], IsTrue, IfOk};
 ghost use Rattle.std.specs.List.{list_any};
 ghost use Rattle.std.specs.Str as text;
 ghost use Rattle.osm_openings.specs.declared.obstacles.Obstacle.TheVariants as found;

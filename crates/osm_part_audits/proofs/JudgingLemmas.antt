@@ -1,5 +1,5 @@
 -- From what is read and compared to what is found.
-use Rattle.std.proofs.Common.{◌≡◌, ℕ, zero, suc, ◌+◌, ◌<◌, ◌≤◌, true, true≢false, List, [], ◌∷◌, ◌++◌, map, length, take, get_or, Option, Some, None, Result, Ok, Err, refl, sym, ◌∙◌, ap, subst, arith, length-append}
+use Rattle.std.proofs.Common.{◌≡◌, ℕ, zero, suc, ◌+◌, ◌<◌, ◌≤◌, true, true≢false, List, [], ◌∷◌, ◌++◌, map, length, take, get_or, Option, Some, None, Result, Ok, Err, refl, sym, ◌∙◌, ap, subst, arith}
 use Rattle.std.specs.Prelude.{IfOk, IfSome, IsNone}
 use Rattle.std.specs.List.{cons_option}
 use Rattle.std.specs.Ordering.{nat_cmp}
@@ -28,31 +28,13 @@ use Rattle.osm_verify.specs.declared.comparing.Agreement.{Agreement}
 use Rattle.osm_verify.specs.declared.comparing.Agreement.TheVariants.{Same, Missing, Differs}
 use Rattle.osm_verify.specs.declared.comparing.Depth.{Depth}
 use Rattle.osm_verify.specs.declared.comparing.Depth.TheVariants.{Elements}
-use Rattle.osm_verify.proofs.AuditLemmas.{frame-long}
-use Rattle.osm_part_audits.specs.InFile.{EndsBefore, IsIn}
+use Rattle.osm_part_audits.specs.InFile.{IsIn}
 use Rattle.osm_part_audits.specs.Judging.{AreEntriesIn, AreJudged, IsFound, IsJudged, IsNoEntry, IsStray, finding_of}
 use Rattle.osm_part_audits.specs.declared.auditing.Finding.{Finding}
 use Rattle.osm_part_audits.specs.declared.auditing.Finding.TheVariants as finding
-use Rattle.osm_part_audits.proofs.FileRows.{one-blob, stands-within}
+use Rattle.osm_part_audits.proofs.FileRows.{one-blob}
 
 -- ---- no good frame there
-
-entry-short : (off : ℕ) (frame : List ℕ) (entry : Blob) → IsEntry off frame entry → length frame ≤ 33685507
-entry-short off frame entry is =
-    let good = is.good in
-    let f = good.placed.frame in
-    omega (arith, ap length f.joined, length-append f.name (f.header ++ good.blob), length-append f.header good.blob, f.four, f.short, f.says.6)
-
-pub stray-long : (known : Known) (extent : Extent) → extent.off + 33685507 < extent.fin → IfSome known (λ file. IsStray file extent)
-stray-long None extent long = tt
-stray-long (Some file) extent long = λ bytes stands ends entry is. (let short = entry-short extent.off bytes entry is in omega (arith, short, ends, long))
-
-pub stray-short : (known : Known) (extent : Extent) (count : ℕ) → extent.fin ≡ extent.off + count → EndsBefore known extent.off count → IfSome known (λ file. IsStray file extent)
-stray-short None extent count fin before = tt
-stray-short (Some file) extent count fin before = λ bytes stands ends entry is. (
-    let long = frame-long extent.off bytes entry is in
-    let fits = stands-within file extent.off bytes stands (omega (arith, long)) in
-    omega (arith, fits, ends, fin, before))
 
 front-same : (bytes other x y : List ℕ) → length other ≡ length bytes → bytes ++ x ≡ other ++ y → other ≡ bytes
 front-same bytes other x y long same = sym (take_at other y (length bytes) long) ∙ ap (take (length bytes)) (sym same) ∙ take_at bytes x (length bytes) refl

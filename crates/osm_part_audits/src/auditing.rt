@@ -1,12 +1,11 @@
 //! One store and a file of whose blobs it ought to hold some.
 
-ghost use Rattle.std.specs.Prelude.{◌≡◌, ◌+◌, ◌++◌, ◌≤◌, ℕ, [], All, IsTrue, List, length, IfOk, IfErr, IfSome, IsNone, OnOk};
+ghost use Rattle.std.specs.Prelude.{◌≡◌, ◌+◌, ◌++◌, ◌≤◌, ℕ, [], All, List, length, IfOk, IfErr, IfSome, IsNone, OnOk};
 ghost use Rattle.std.specs.List.{cons_option};
 ghost use Rattle.osm_value.specs.declared.element.Element.{Element as ElementValue};
 ghost use Rattle.osm_store.specs.Audit.{AreCountable, ShowsCounts, counts_of, elements_held};
 ghost use Rattle.osm_store.specs.Calls.{KeepsTables, OfHeld};
-ghost use Rattle.osm_store.specs.Keeping.{IsForeign, IsRange, extents_of};
-ghost use Rattle.osm_import.specs.Step.{HasCause};
+ghost use Rattle.osm_store.specs.Keeping.{IsRange, extents_of};
 ghost use Rattle.osm_import.specs.Stores.{Rereads};
 ghost use Rattle.osm_verify.specs.Agreements.{IsSame};
 ghost use Rattle.osm_verify.specs.Audits.{CountsMore, IsEntryOf};

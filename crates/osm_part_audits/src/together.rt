@@ -1,6 +1,6 @@
 //! Several stores and the file of which they ought to hold all.
 
-ghost use Rattle.std.specs.Prelude.{◌≡◌, ◌↔◌, ◌≤◌, ◌++◌, [], ℕ, Some, IsTrue, false, All, List, length, slice_get, IfOk, IfErr, IfSome};
+ghost use Rattle.std.specs.Prelude.{◌≡◌, ◌↔◌, ◌≤◌, [], ℕ, Some, IsTrue, false, All, List, length, slice_get, IfOk, IfErr, IfSome};
 ghost use Rattle.osm_store.specs.Held.{HeldMap, IsApart};
 ghost use Rattle.osm_store.specs.Keeping.{IsRange, extents_of};
 ghost use Rattle.osm_reading.specs.Framings.{Known};

@@ -71,24 +71,6 @@ module _ {K : Type 0} (holds : K → HeldMap → Type 0) (slots : List (Option K
         },
       )
 
-  -- put back, it is there again
-  pub returned : (taken : Option ℕ) (place : ℕ) (store : K) (held : HeldMap) → LendsOne holds slots taken maps held → holds store held → taken ≡ Some place → HoldsEach holds (set slots place (Some store)) maps
-  returned taken place store held lends is taken_is =
-      let same : lends.place ≡ place = (let e : Some lends.place ≡ Some place = sym lends.taken_at ∙ taken_is in cc) in
-      let free : slice_get slots place ≡ Some None = subst (λ (i : ℕ). slice_get slots i ≡ Some None) same lends.free in
-      record {
-        long = length-set slots place (Some store) ∙ lends.long;
-        each = λ other one at. elim (equal-or other place) [
-          | inl here ↦ (
-              let at_place : slice_get maps place ≡ Some one = subst (λ (i : ℕ). slice_get maps i ≡ Some one) here at in
-              let lent_at : slice_get maps place ≡ Some held = subst (λ (i : ℕ). slice_get maps i ≡ Some held) same lends.at in
-              let held_is : held ≡ one = (let e : Some held ≡ Some one = sym lent_at ∙ at_place in cc) in
-              (store, subst (λ (i : ℕ). slice_get (set slots place (Some store)) i ≡ Some (Some store)) (sym here) (same-set slots place None (Some store) free), subst (λ (m : HeldMap). holds store m) held_is is)
-              )
-          | inr apart ↦ (let it = lends.others other one (λ e. apart (e ∙ same)) at in (it.0, other-set slots place other (Some store) apart ∙ it.1, it.2))
-        ];
-      }
-
 module _ {K : Type 0} (Is : K → Type 0) (slots : List (Option K)) (place : ℕ) (store : K) where
   -- with what was taken they are all
   pub all-with : slice_get slots place ≡ Some (Some store) → AllAreIn Is (set slots place None) → Is store → AllAreIn Is slots

@@ -1,5 +1,5 @@
 -- What a framer takes of an input, and when it takes no more.
-use Rattle.std.specs.Prelude.{◌≡◌, ◌⊎◌, ℕ, ◌+◌, ◌<◌, Bool, List, [], ◌++◌, length, Option, true}
+use Rattle.std.specs.Prelude.{◌≡◌, ◌⊎◌, ℕ, ◌<◌, Bool, List, [], ◌++◌, length, Option, true}
 use Rattle.std.specs.Io.KnownBytes.{Consumes}
 use Rattle.pbf_frame.specs.declared.fault.FrameFault.{FrameFault}
 use Rattle.pbf_frame.specs.Framer.{Framing, FrameWaits, FaultStands}

@@ -4,15 +4,13 @@ use Rattle.std.specs.FinMap.{empty}
 use Rattle.sqlite_disk.specs.declared.Disk.{Ghosts}
 use Rattle.sqlite_wal.proofs.LogLemmas.{SeenMayStay}
 use Rattle.sqlite_trees.specs.Objects.{catalog_tree}
-use Rattle.sqlite_trees.specs.Tree.{Trees}
 use Rattle.sqlite_store.specs.declared.store.FileStore.{FileStore}
 use Rattle.sqlite_store.specs.FileStore.{view, recovers}
 use Rattle.sqlite_store.specs.Laws.{settled_at, shut_is_broken}
 use Rattle.osm_store.specs.declared.schema.layout.Layout.TheVariants.{Tables}
 use Rattle.osm_store.specs.Held.{HeldMap}
-use Rattle.osm_tree_writes.specs.Beside.{ListsAlone}
 use Rattle.osm_trees.specs.Below.{HoldsBelow}
-use Rattle.osm_trees.specs.Reading.{leaves_held, stands_alone}
+use Rattle.osm_trees.specs.Reading.{leaves_held}
 use Rattle.osm_import.specs.Deliveries.{DeliveryValue}
 use Rattle.osm_import.specs.FileHistories.{AreEventsOf}
 use Rattle.osm_import.specs.Files.{AreFrames, IsFrameAt}
@@ -21,6 +19,7 @@ use Rattle.osm_import.proofs.HistoryLemmas.{history-of_file, histories-restart, 
 use Rattle.osm_restarts.specs.Left.{CanCrash, GoesOn}
 use Rattle.osm_restarts.specs.Lives.{Restart, AreRestarts, events_in}
 use Rattle.osm_restarts.proofs.Held.{restart_holds}
+use Rattle.osm_restarts.proofs.ListLemmas.{lists_still, listed_opens}
 
 pub history_join : (first : HeldMap) (events more : List Event) (held last : HeldMap) → IsHistory first events held → IsHistory held more last → IsHistory first (events ++ more) last
 history_join first [] more held last same walked = subst (λ (map : HeldMap). IsHistory map more last) same walked
@@ -39,7 +38,8 @@ module _ {D : Type 0} {g : Ghosts D} (stays : SeenMayStay g) (it : FileStore D g
   pub can_crash : (left : HeldMap) → HoldsBelow Tables (view it) left → CanCrash it
   can_crash left holds = record {
     whole = leaves_held (view it) (recovers it) left holds (settled_at it stays) (shut_is_broken it);
-    alone = λ lists. stands_alone (view it) (recovers it) holds.unbroken (settled_at it stays) (shut_is_broken it) (subst (λ (db : Trees). ListsAlone (db catalog_tree)) holds.settled lists);
+    list = lists_still stays it left holds;
+    opens = listed_opens it ((view it).trees catalog_tree) (lists_still stays it left holds);
   }
 
   pub goes_on : (frames : List (List ℕ)) (events : List Event) (left : HeldMap) → AreFrames frames → AreEventsOf frames events → IsHistory empty events left → HoldsBelow Tables (view it) left → GoesOn frames events left it

@@ -11,6 +11,8 @@ mod BesideLemmas
 mod Entries
 mod Events
 mod Held
+mod ListLemmas
+mod MergeLemmas
 mod NineTrees
 mod NoStore
 mod OneList

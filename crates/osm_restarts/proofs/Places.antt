@@ -1,5 +1,5 @@
 -- The rows of a list of trees, by their places.
-use Rattle.std.proofs.Common.{◌≡◌, ℕ, ◌+◌, zero, suc, List, [], ◌∷◌, true, false, get_or, refl, sym, subst, ap, ◌∙◌, inl, inr, arith}
+use Rattle.std.proofs.Common.{◌≡◌, ℕ, ◌+◌, zero, suc, List, [], ◌∷◌, true, false, get_or, refl, subst, ap, ◌∙◌, inl, inr, arith}
 use Rattle.std.specs.Prelude.{slice_get, Some}
 use Rattle.std.proofs.lemmas.Bool.{cases_Bool}
 use Rattle.std.proofs.lemmas.Option.{none-some, same_Some}
@@ -8,7 +8,7 @@ use Rattle.sqlite_trees.specs.declared.store.Shape.{Shape}
 use Rattle.sqlite_trees.specs.declared.store.Shape.TheVariants.{Absent, Table, Index, Pageless, FrozenTable, FrozenIndex}
 use Rattle.sqlite_trees.specs.Objects.{listing}
 use Rattle.sqlite_rules.specs.Lists.{Has}
-use Rattle.sqlite_rules.proofs.ListLemmas.{has_left, has_right, has_either}
+use Rattle.sqlite_rules.proofs.ListLemmas.{has_either}
 use Rattle.sqlite_store.specs.declared.catalog.Wanted.{Wanted}
 use Rattle.sqlite_store.specs.Catalog.{is_present, shape_at, roots_in, root_in}
 use Rattle.sqlite_store.specs.Listing.{listed, listed_from}
@@ -53,17 +53,6 @@ placed from (w ∷ schema) row h = elim (has_either (listed from w w.shape) (lis
       let next : from + 1 + p.place ≡ from + suc p.place = omega arith in
       record { place = suc p.place; wanted = p.wanted; at = p.at; present = p.present; is = p.is ∙ ap (λ n. listing n p.wanted.row p.wanted.shape p.wanted.reals) next }
 ]
-
-pub lists_place : (from : ℕ) (schema : List Wanted) (place : ℕ) (w : Wanted) → slice_get schema place ≡ Some w → is_present w.shape ≡ true
-    → Has (listed_from from schema) (listing (from + place) w.row w.shape w.reals)
-lists_place from [] place w at present = absurd (none-some w at)
-lists_place from (v ∷ schema) zero w at present =
-    let same : w ≡ v = sym (same_Some v w at) in
-    let first : from + 0 ≡ from = omega arith in
-    rw first (has_left (listed from v v.shape) (listed_from (from + 1) schema) _ (rw same (subst (λ rows. Has rows (listing from v.row v.shape v.reals)) (sym (one_listed from v v.shape (ap (λ (x : Wanted). is_present x.shape) (sym same) ∙ present))) (inl refl))))
-lists_place from (v ∷ schema) (suc place) w at present =
-    let next : from + suc place ≡ from + 1 + place = omega arith in
-    rw next (has_right (listed from v v.shape) (listed_from (from + 1) schema) _ (lists_place (from + 1) schema place w at present))
 
 pub shape_there : (schema : List Wanted) (place : ℕ) (w : Wanted) → slice_get schema place ≡ Some w → shape_at schema place ≡ w.shape
 shape_there [] place w at = absurd (none-some w at)

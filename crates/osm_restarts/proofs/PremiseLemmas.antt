@@ -1,6 +1,5 @@
 -- That the files of a store meet the premise of its opening.
 use Rattle.std.proofs.Common.{◌⊎◌, ◌≡◌, ◌∙◌, ◌≤◌, ◌%◌, ℕ, false, eqb, List, [], refl, sym, ap, subst, inl, inr, arith}
-use Rattle.std.specs.Prelude.{Some, slice_get}
 use Rattle.std.proofs.Math.Logic.{∥∥₁_elim, ∥∥₁_map}
 use Rattle.std.proofs.lemmas.Bool.{cases_Bool, cases_eq, cond-true, cond-false, false≢true}
 use Rattle.sqlite_trees.specs.declared.schema.Object.{Object}

@@ -7,18 +7,18 @@ use Rattle.osm_import.specs.Copies.{IsMerged, IsUnited, IsUnitedBelow, IsRefused
 use Rattle.osm_import.specs.declared.answer.Conflict.{Conflict}
 use Rattle.osm_import.specs.declared.answer.Conflict.TheVariants.{Differs, Overlap}
 
-one_blob : (held : HeldMap) (off : ℕ) (a b : Blob) → get held off ≡ Some a → get held off ≡ Some b → a ≡ b
+pub one_blob : (held : HeldMap) (off : ℕ) (a b : Blob) → get held off ≡ Some a → get held off ≡ Some b → a ≡ b
 one_blob held off a b one other = let same : Some a ≡ Some b = sym one ∙ other in cc
 
-held_or_free : (held : HeldMap) (off : ℕ) (there : Option Blob) → get held off ≡ there → ((blob : Blob) × (get held off ≡ Some blob)) ⊎ (get held off ≡ None)
+pub held_or_free : (held : HeldMap) (off : ℕ) (there : Option Blob) → get held off ≡ there → ((blob : Blob) × (get held off ≡ Some blob)) ⊎ (get held off ≡ None)
 held_or_free held off (Some blob) is = inl (blob, is)
 held_or_free held off None is = inr is
 
-not_free : (held : HeldMap) (off : ℕ) (blob : Blob) → get held off ≡ Some blob → get held off ≡ None → ⊥
+pub not_free : (held : HeldMap) (off : ℕ) (blob : Blob) → get held off ≡ Some blob → get held off ≡ None → ⊥
 not_free held off blob is free = let bad : Some blob ≡ None = sym is ∙ free in cc
 
 -- where a blob was taken one of its digest is held
-taken_there : (Taken : ℕ → Type 0) (source held left : HeldMap) → IsMerged Taken source held left → (off : ℕ) (blob : Blob) → Taken off → get source off ≡ Some blob
+pub taken_there : (Taken : ℕ → Type 0) (source held left : HeldMap) → IsMerged Taken source held left → (off : ℕ) (blob : Blob) → Taken off → get source off ≡ Some blob
     → (other : Blob) × (get left off ≡ Some other) × (other.digest ≡ blob.digest)
 taken_there Taken source held left one off blob taken of = elim (held_or_free held off (get held off) refl) [
   | inl (other, was) ↦ (other, one.kept off other was, one.same off blob other taken of was)

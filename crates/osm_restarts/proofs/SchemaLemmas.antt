@@ -15,11 +15,11 @@ use Rattle.sqlite_trees.specs.declared.schema.Object.{Object}
 use Rattle.sqlite_trees.specs.Objects.{description, text_or_null}
 use Rattle.sqlite_trees.specs.Sound.{is_text_only, is_virtual, same_name}
 use Rattle.sqlite_store.specs.declared.catalog.Wanted.{Wanted}
-use Rattle.sqlite_store.specs.Catalog.{is_present, same_value, describes, is_about, is_near, has_no_pages, may_stand, shape_fits, pages_fit, fits_shape, is_listed_once, MayAllStand, wanted_of}
+use Rattle.sqlite_store.specs.Catalog.{is_present, same_value, describes, is_near, has_no_pages, may_stand, shape_fits, pages_fit, fits_shape, is_listed_once, MayAllStand, wanted_of}
 use Rattle.sqlite_store.specs.Catalog.{text_or_null as wanted_text}
 use Rattle.osm_openings.specs.Catalog.{is_own, is_left_out, is_free, others, AreListed, StandApart}
 use Rattle.osm_openings.specs.Presumed.{foreign_tree, foreign_trees, trees_of}
-use Rattle.osm_openings.proofs.PlaceLemmas.{any_at, any_place, all_at, all_from, mapped_at, at_mapped, counted_once, same_from, is_text_of, is_null_of}
+use Rattle.osm_openings.proofs.PlaceLemmas.{any_at, any_place, all_at, all_from, mapped_at, at_mapped, counted_once, is_text_of, is_null_of}
 use Rattle.osm_openings.proofs.ListedLemmas.{described}
 use Rattle.osm_openings.proofs.ForeignLemmas.{append_first, append_second, appended, from_filter, to_filter, foreign_at, at_foreign, describes_itself}
 use Rattle.osm_openings.proofs.KnownLemmas.{KnownParts, Once, described_or_pageless, stands, stands_unlisted, formed, stood, once, exact_at, fit_at, one_row, old_text}
@@ -47,15 +47,6 @@ listed_once_from rows w h = le-leb _ 1 h
 text_fits : (w : Wanted) → w.shape ≡ Pageless → is_text_only (column w.row 0) ≡ true → fits_shape w ≡ true
 text_fits w shape text = rw shape text
 
-through : (a b c v : Value) → same_value a b ≡ true → same_value a c ≡ true → same_value v b ≡ same_value v c
-through a b c v p q = sym (same_from a b v p) ∙ same_from a c v q
-
-same_describes : (v w : Wanted) (x : Row) → is_present v.shape ≡ is_present w.shape → same_value (column x 1) (column v.row 0) ≡ same_value (column x 1) (column w.row 0)
-    → same_value (column x 2) (column v.row 1) ≡ same_value (column x 2) (column w.row 1) → same_value (column x 3) (column v.row 2) ≡ same_value (column x 3) (column w.row 2)
-    → same_value (column x 5) (column v.row 3) ≡ same_value (column x 5) (column w.row 3) → describes v x ≡ describes w x
-unfolding describes is_about
-same_describes v w x present kind name owner sql = ap₂ ◌&&◌ (ap₂ ◌&&◌ (ap₂ ◌&&◌ (ap₂ ◌&&◌ present kind) name) owner) sql
-
 or_false : (a b : Bool) → (a || b) ≡ false → (a ≡ false) × (b ≡ false)
 or_false true b h = absurd (cc)
 or_false false b h = (refl, h)
@@ -63,11 +54,6 @@ or_false false b h = (refl, h)
 apart_if : (out apart : Bool) → out ≡ true → (not out || apart) ≡ true → apart ≡ true
 apart_if true apart e h = h
 apart_if false apart e h = absurd (cc)
-
-kept_text : (v t : Bool) → v ≡ true → (v && not t) ≡ false → t ≡ true
-kept_text true true e h = refl
-kept_text true false e h = absurd (cc)
-kept_text false t e h = absurd (cc)
 
 free_parts : (objects : List Object) (rows : List Row) (table : List ℕ) → is_free objects rows table ≡ true
     → (list_any (λ (o : Object). same_name table o.table.now) objects ≡ false) × (list_any (λ (other : Row). same_name table (bytes (column other 3))) rows ≡ false)

@@ -10,9 +10,8 @@ use Rattle.sqlite_store.specs.FileStore.{state, view, recovers}
 use Rattle.sqlite_wal.specs.Recovery.{Image}
 use Rattle.osm_store.specs.declared.schema.layout.Layout.TheVariants.{Tables}
 use Rattle.osm_store.specs.Held.{HeldMap}
-use Rattle.osm_tree_writes.specs.Beside.{ListsAlone}
 use Rattle.osm_tree_writes.specs.Tables.{table_listings}
-use Rattle.osm_trees.specs.Below.{HoldsBelow, LeavesAMap, MayLeave, StandsAlone}
+use Rattle.osm_trees.specs.Below.{HoldsBelow, LeavesAMap, MayLeave, ListsAlways}
 use Rattle.osm_openings.specs.Asked.{IsFoundAgain}
 use Rattle.osm_openings.specs.Presumed.{ArePresumedTables, ReadsAs}
 use Rattle.osm_import.specs.FileHistories.{AreEventsOf}
@@ -52,10 +51,12 @@ pub record LeavesHistory (held : HeldMap) (events : List Event) (recovers : Tree
 abbrev pub CrashesAfter : {D : Type 0} {g : Ghosts D} → List Event → FileStore D g → FileStore D g → Type 0
 CrashesAfter events first last = (held : HeldMap) → HoldsBelow Tables (view first) held → LeavesHistory held events (recovers last)
 
--- what the next crash leaves of a store is a map, and it stands alone if it lists nothing beside its own trees
+-- What the next crash leaves of a store is a map, and lists what the store lists. If an opening finds that list again, what is left
+-- may be opened.
 pub record CanCrash {D : Type 0} {g : Ghosts D} (store : FileStore D g) : Type 0 where
   pub whole : LeavesAMap (recovers store)
-  pub alone : ListsAlone ((view store).trees catalog_tree) → StandsAlone (view store) (recovers store)
+  pub list : ListsAlways (view store) (recovers store) ((view store).trees catalog_tree)
+  pub opens : IsFoundAgain ((view store).trees catalog_tree) → MayBeOpened store
 
 -- A store that was opened over what a crash left holds what comes of a history of deliveries of a file to a new store, and
 -- nothing but blobs of that file. So the deliveries can go on, and the history with them: the next crash finds all that this one

@@ -1,11 +1,14 @@
 //! That a copy goes on over what a crash left of it.
 
 ghost use Rattle.std.specs.Prelude.{MatchResult, ℕ};
+ghost use Rattle.sqlite_trees.specs.Objects.{catalog_tree};
+ghost use Rattle.sqlite_trees.specs.View.{IsClean};
 ghost use Rattle.sqlite_store.specs.FileStore.{view, recovers};
 ghost use Rattle.sqlite_wal.specs.Recovery.{Image};
 ghost use Rattle.osm_store.specs.declared.schema.layout.Layout.TheVariants.{Tables};
 ghost use Rattle.osm_store.specs.Held.{HeldMap};
-ghost use Rattle.osm_trees.specs.Below.{HoldsBelow, StandsAlone};
+ghost use Rattle.osm_openings.specs.Asked.{IsFoundAgain};
+ghost use Rattle.osm_trees.specs.Below.{HoldsBelow, ListsAlways};
 ghost use Rattle.osm_import.specs.Copies.{IsUnited, IsUnitedBelow};
 ghost use Rattle.osm_restarts.specs.Copied.{CopyGoesOn};
 ghost use Rattle.osm_restarts.specs.Left.{IsOpenedOver, MayBeOpened, MayCrashTo};
@@ -22,8 +25,9 @@ use std::alloc::Global;
 /// Copies the blobs that a store holds into one over files, and gives the files' trees back, which may crash now, with how the
 /// copy ended. Whatever the crash leaves, the store that either opening gives over it (`after`) holds what was held with the
 /// blobs of the first store below some offset, and after `Ok` with all of them. The copy begun again ends in what it would
-/// have ended in with no crash, and the next crash finds all that this one found. Where the store listed no object beside its
-/// own, what the crash leaves may be opened by the opening that looks at no other page.
+/// have ended in with no crash, and the next crash finds all that this one found. The list of objects stays what it was. Where it
+/// has no object beside a store's own, or each as its row asks, what the crash leaves may be opened by the opening that looks at
+/// no other page.
 pub fn copy_before_a_restart<D: Disk, E: Disk, F: Reader>(
     alloc: Global,
     from: &mut F,
@@ -31,7 +35,9 @@ pub fn copy_before_a_restart<D: Disk, E: Disk, F: Reader>(
     after: &FileStore<E>,
 ) -> (FileStore<D>, Result<CopyCounts, CopyStop>)
     ensures opens { (source held : HeldMap) → F.holds from.old source → F.is_honest from.new → HoldsBelow Tables (view to.store) held
-        → StandsAlone (view to.store) (recovers to.store) → MayBeOpened result.0 }
+        → IsFoundAgain ((view to.store).trees catalog_tree) → MayBeOpened result.0 }
+    ensures list { (held : HeldMap) → HoldsBelow Tables (view to.store) held → IsClean (view result.0)
+        → ListsAlways (view result.0) (recovers result.0) ((view to.store).trees catalog_tree) }
     ensures goes_on { (source held : HeldMap) → F.holds from.old source → F.is_honest from.new → HoldsBelow Tables (view to.store) held
         → (image : Image) → MayCrashTo image result.0 → IsOpenedOver image (view after.now)
         → (left : HeldMap) × CopyGoesOn source held left after.now

@@ -2,12 +2,14 @@
 
 ghost use Rattle.std.specs.Prelude.{◌≡◌, ◌≤◌, ℕ, false, List, Some, [], ◌∷◌, ◌++◌};
 ghost use Rattle.std.specs.FinMap.{empty};
+ghost use Rattle.sqlite_trees.specs.Objects.{catalog_tree};
 ghost use Rattle.sqlite_trees.specs.View.{IsClean};
 ghost use Rattle.sqlite_store.specs.FileStore.{state, view, recovers};
 ghost use Rattle.sqlite_wal.specs.Recovery.{Image};
 ghost use Rattle.osm_store.specs.declared.schema.layout.Layout.TheVariants.{Tables};
 ghost use Rattle.osm_store.specs.Held.{HeldMap};
-ghost use Rattle.osm_trees.specs.Below.{HoldsBelow, LeavesAMap, MayLeave, StandsAlone};
+ghost use Rattle.osm_openings.specs.Asked.{IsFoundAgain};
+ghost use Rattle.osm_trees.specs.Below.{HoldsBelow, LeavesAMap, ListsAlways, MayLeave};
 ghost use Rattle.osm_import.specs.declared.answer.Answer.{Answer as AnswerValue};
 ghost use Rattle.osm_import.specs.Deliveries.{DeliveryValue};
 ghost use Rattle.osm_import.specs.FileHistories.{AreEventsOf, StandIn, events_of};
@@ -21,7 +23,7 @@ ghost use Rattle.osm_restarts.specs.Lives.{Restart, AreRestarts, events_in};
 
 use crate::premise::what_is_left_may_be_opened;
 use crate::restart::a_restart_holds_what_was_left;
-use osm_import::{Answer, Source, StreamFault, Summary, deliver, import_stream};
+use osm_import::{Answer, Source, StreamFault, Summary, Teller, deliver, import_stream};
 use osm_trees::TreeStore;
 use osm_value::Sink;
 use pbf_frame::MAX_OFFSET;
@@ -67,8 +69,9 @@ pub fn a_life_is_one_history<D: Disk>(first: &FileStore<D>, last: &FileStore<D>)
 
 /// Delivers a blob to a store over files, and gives the files' trees back, which may crash now, with the answer. Whatever the
 /// crash leaves, the store that either opening gives over it (`after`) holds a map to which the deliveries go on: of the
-/// delivery nothing is asked but what `deliver` promises of it. Where the store listed no object beside its own, what the crash
-/// leaves may be opened by the opening that looks at no other page.
+/// delivery nothing is asked but what `deliver` promises of it. The list of objects stays what it was. Where it has no object
+/// beside a store's own, or each as its row asks, as both openings give it, what the crash leaves may be opened by the opening
+/// that looks at no other page.
 pub fn deliver_before_a_restart<D: Disk, E: Disk>(
     alloc: Global,
     mut keeper: TreeStore<FileStore<D>>,
@@ -76,7 +79,9 @@ pub fn deliver_before_a_restart<D: Disk, E: Disk>(
     bytes: &[u8],
     after: &FileStore<E>,
 ) -> (FileStore<D>, Answer)
-    ensures opens { (held : HeldMap) → HoldsBelow Tables (view keeper.store) held → StandsAlone (view keeper.store) (recovers keeper.store) → MayBeOpened result.0 }
+    ensures opens { (held : HeldMap) → HoldsBelow Tables (view keeper.store) held → IsFoundAgain ((view keeper.store).trees catalog_tree) → MayBeOpened result.0 }
+    ensures list { (held : HeldMap) → HoldsBelow Tables (view keeper.store) held → IsClean (view result.0)
+        → ListsAlways (view result.0) (recovers result.0) ((view keeper.store).trees catalog_tree) }
     ensures leaves { IsClean (view result.0) → CrashesAfter (broken (record { off = off; bytes = bytes.now }) ∷ []) keeper.store result.0
         × (¬ (IsFault result.1) → CrashesAfter (answered (record { off = off; bytes = bytes.now }) result.1 ∷ []) keeper.store result.0) }
     ensures goes_on { (frames : List (List ℕ)) (events : List Event) (held : HeldMap) → AreFrames frames
@@ -98,29 +103,33 @@ pub fn deliver_before_a_restart<D: Disk, E: Disk>(
 /// Imports what a reader gives into a store over files, and gives the files' trees back, which may crash now, with how the
 /// import ended. The reader stands at an offset of a file at which one of its frames begins, and may end before the file does.
 /// However the import ended, and whatever the crash leaves: the store that either opening gives over it (`after`) holds what
-/// comes of a longer history of deliveries of that file. Its new events are the frames that were read, each with the answer of
-/// its line, up to one that a fault or the crash broke off. The next import goes on from there. Where the store listed no object
-/// beside its own, what the crash leaves may be opened by the opening that looks at no other page.
-pub fn import_before_a_restart<D: Disk, E: Disk, R: Source, S: Sink>(
+/// comes of a longer history of deliveries of that file. Its new events are the frames that were read, each with its
+/// answer, up to one that a fault or the crash broke off. The next import goes on from there. The list of objects stays what it
+/// was. Where it has no object beside a store's own, or each as its row asks, what the crash leaves may be opened by the opening
+/// that looks at no other page.
+pub fn import_before_a_restart<D: Disk, E: Disk, R: Source, T: Teller, S: Sink>(
     alloc: Global,
     mut keeper: TreeStore<FileStore<D>>,
     reader: &mut R,
     from: u64,
     max_blobs: u32,
+    teller: &T,
     out: &mut S,
     after: &FileStore<E>,
 ) -> (FileStore<D>, Result<Summary, StreamFault>)
     requires { from ≤ MAX_OFFSET }
-    ensures opens { (held : HeldMap) → HoldsBelow Tables (view keeper.store) held → StandsAlone (view keeper.store) (recovers keeper.store) → MayBeOpened result.0 }
+    ensures opens { (held : HeldMap) → HoldsBelow Tables (view keeper.store) held → IsFoundAgain ((view keeper.store).trees catalog_tree) → MayBeOpened result.0 }
+    ensures list { (held : HeldMap) → HoldsBelow Tables (view keeper.store) held → IsClean (view result.0)
+        → ListsAlways (view result.0) (recovers result.0) ((view keeper.store).trees catalog_tree) }
     ensures leaves { (frames : List (List ℕ)) (piece : List ℕ) → AreFrames frames → StandIn frames from piece → R.bytes_left reader.old ≡ Some piece → IsClean (view result.0)
-        → Streams from max_blobs (input R.Source reader.old reader.new) (output S.Sink out.old out.new)
+        → Streams from max_blobs (input R.Source reader.old reader.new) (output (T.tells teller.now) S.Sink out.old out.new)
         (λ deliveries answers. AreEventsOf frames (events_of deliveries answers) × CrashesAfter (events_of deliveries answers) keeper.store result.0) result.1 }
     ensures goes_on { (frames : List (List ℕ)) (piece : List ℕ) (events : List Event) (held : HeldMap) → AreFrames frames → StandIn frames from piece → R.bytes_left reader.old ≡ Some piece
         → AreEventsOf frames events → IsHistory empty events held → HoldsBelow Tables (view keeper.store) held → (image : Image) → MayCrashTo image result.0 → IsOpenedOver image (view after.now)
-        → Streams from max_blobs (input R.Source reader.old reader.new) (output S.Sink out.old out.new)
+        → Streams from max_blobs (input R.Source reader.old reader.new) (output (T.tells teller.now) S.Sink out.old out.new)
         (λ deliveries answers. (left : HeldMap) × GoesOn frames (events ++ events_of deliveries answers) left after.now) result.1 }
 {
-    let outcome = import_stream(alloc, &mut keeper, reader, from, max_blobs, out);
+    let outcome = import_stream(alloc, &mut keeper, reader, from, max_blobs, teller, out);
     let store = keeper.into_store();
     what_is_left_may_be_opened(&store);
     a_restart_goes_on(&store, after);

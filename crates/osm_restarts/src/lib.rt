@@ -7,6 +7,7 @@ pub mod copying;
 pub mod creation;
 pub mod history;
 pub mod memory;
+pub mod merging;
 pub mod premise;
 pub mod restart;
 pub mod verified;

@@ -11,10 +11,10 @@ use sqlite_disk::Disk;
 use sqlite_store::FileStore;
 
 /// Whatever a crash may leave of the files of a store, its opening may presume of them what it presumes, as long as no pages
-/// end in sums, and what is left lists the trees of a store and nothing else, or no tree at all: that of a store that was being
-/// made, and of one that stands alone (`StandsAlone`), between any two calls and where one was broken off, since each call
-/// keeps it so. Or it lists each other tree as its row asks (`ListsAsAsked`): that of a store that an opening gave over a
-/// database with somebody's own tables, indexes, views and triggers, and into which blobs were put (`put_beside_others`).
+/// end in sums, and what is left lists no tree at all, as that of a store that was being made; or the trees of a store and
+/// nothing else; or each other tree as its row asks (`ListsAsAsked`), as that of a store that an opening gave over a database
+/// with somebody's own tables, indexes, views and triggers. What a store lists it lists between any two calls and where one was
+/// broken off, since each call keeps it so (`ListsAlways`).
 pub fn what_is_left_may_be_opened<D: Disk>(store: &FileStore<D>)
     ensures { (view store.now).has_sums ≡ false → ((db : Trees) → recovers store.now db → ListsAStore db) → (image : Image) → (state store.now).may_leave image → ArePresumedTables image }
 {

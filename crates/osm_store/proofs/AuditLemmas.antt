@@ -1,6 +1,5 @@
 -- What the queries of an audit read, and what it comes to.
 pub mod Telling
-pub mod Steps
 pub mod RowLists
 pub mod AtOffset
 pub mod BlobReads

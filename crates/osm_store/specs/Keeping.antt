@@ -2,6 +2,7 @@
 use Rattle.std.specs.Prelude.{◌≡◌, ◌⊎◌, ℕ, ◌+◌, ◌-◌, ◌^◌, ◌<◌, ◌≤◌, ◌==◌, Bool, ◌&&◌, nat_lt, List, map, length, AllPairs, Result, Ok, Err, if◌then◌else◌, OnOk, OnErr, IfErr}
 use Rattle.std.specs.FinMap.{entries, insert}
 use Rattle.pbf_frame.specs.declared.part.TheConstants.{MAX_OFFSET}
+use Rattle.sqlite.specs.Order.{Row}
 use Rattle.osm_store.specs.Held.{Blob, HeldMap, IsFree, HaveFewTexts}
 use Rattle.osm_store.specs.declared.keeper.Extent.{Extent}
 use Rattle.osm_faults.specs.declared.fault.StoreFault.{StoreFault}
@@ -37,8 +38,12 @@ abbrev pub IsForeign : StoreFault → Type 0
 IsForeign (NotThisStore found) = Unit {0}
 IsForeign _ = ⊥
 
+-- whatever rows the list of objects has in the first of two stores, and in all that a crash leaves of it, it has in the second
+abbrev pub KeepsList : {S : Type 0} → (S → List Row → Type 0) → S → S → Type 0
+KeepsList lists old new = (rows : List Row) → lists old rows → lists new rows
+
 -- the call has kept what the store holds, if it can go on, and what a crash may leave, and has counted its failure
-pub record OnlyReads {S T : Type 0} (holds leaves : S → HeldMap → Type 0) (leaves_a_map is_alone : S → Type 0) (same_tables : S → S → Type 0) (is_honest is_open : S → Type 0) (failures : S → ℕ) (old : S) (result : Result T StoreFault) (new : S) : Type 0 where
+pub record OnlyReads {S T : Type 0} (holds leaves : S → HeldMap → Type 0) (leaves_a_map : S → Type 0) (lists : S → List Row → Type 0) (same_tables : S → S → Type 0) (is_honest is_open : S → Type 0) (failures : S → ℕ) (old : S) (result : Result T StoreFault) (new : S) : Type 0 where
   pub honest : is_honest new → is_honest old
   pub open_if : is_open new → is_open old
   pub ok : OnOk result (is_honest new → (held : HeldMap) → holds old held → holds new held)
@@ -46,7 +51,7 @@ pub record OnlyReads {S T : Type 0} (holds leaves : S → HeldMap → Type 0) (l
   pub same : is_honest new → is_open new → same_tables old new
   pub crash : is_honest new → (held : HeldMap) → leaves new held → leaves old held
   pub whole : is_honest new → leaves_a_map old → leaves_a_map new
-  pub alone : is_honest new → is_alone old → is_alone new
+  pub list : is_honest new → KeepsList lists old new
   pub own : (held : HeldMap) → holds old held → is_honest new → IfErr result (λ fault. ¬ (IsForeign fault))
   pub counted : failures new ≡ failures_after result (failures old)
 
@@ -61,7 +66,7 @@ pub record IsAddable (held : HeldMap) (off : ℕ) (blob : Blob) : Type 0 where
 
 -- the call adds the blob at a free place, or has failed. A crash leaves what it left before or the new map. A store that
 -- has to be opened again takes nothing, and a crash leaves nothing new
-pub record Adds {S T : Type 0} (holds leaves : S → HeldMap → Type 0) (leaves_a_map is_alone : S → Type 0) (same_tables : S → S → Type 0) (is_honest is_open : S → Type 0) (failures : S → ℕ) (off : ℕ) (blob : Blob) (old : S) (result : Result T StoreFault) (new : S) : Type 0 where
+pub record Adds {S T : Type 0} (holds leaves : S → HeldMap → Type 0) (leaves_a_map : S → Type 0) (lists : S → List Row → Type 0) (same_tables : S → S → Type 0) (is_honest is_open : S → Type 0) (failures : S → ℕ) (off : ℕ) (blob : Blob) (old : S) (result : Result T StoreFault) (new : S) : Type 0 where
   pub honest : is_honest new → is_honest old
   pub open_if : is_open new → is_open old
   pub ok : OnOk result (is_honest new → (held : HeldMap) → holds old held → IsAddable held off blob → holds new (with_blob held off blob))
@@ -69,7 +74,7 @@ pub record Adds {S T : Type 0} (holds leaves : S → HeldMap → Type 0) (leaves
   pub same : is_honest new → is_open new → OnErr result (same_tables old new)
   pub crash : is_honest new → (held left : HeldMap) → holds old held → IsAddable held off blob → leaves new left → leaves old left ⊎ (left ≡ with_blob held off blob)
   pub whole : is_honest new → (held : HeldMap) → holds old held → IsAddable held off blob → leaves_a_map new
-  pub alone : is_honest new → (held : HeldMap) → holds old held → IsAddable held off blob → is_alone old → is_alone new
+  pub list : is_honest new → (held : HeldMap) → holds old held → IsAddable held off blob → KeepsList lists old new
   pub own : (held : HeldMap) → holds old held → is_honest new → IsAddable held off blob → IfErr result (λ fault. ¬ (IsForeign fault))
   pub was_open : is_honest new → OnOk result (is_open old)
   pub shut : is_honest new → ¬ (is_open old) → (left : HeldMap) → leaves new left → leaves old left

@@ -6,7 +6,7 @@ use Rattle.std.specs.FinMap.{entries}
 use Rattle.sqlite.specs.Order.{Row}
 use Rattle.sqlite.specs.Tree.{Trees}
 use Rattle.sqlite.specs.State.{State, HasCleanDisk}
-use Rattle.sqlite_catalog.specs.Listing.{IsSound}
+use Rattle.sqlite_catalog.specs.Listing.{IsSound, Lists}
 use Rattle.osm_store.specs.declared.keeper.Extent.{Extent}
 use Rattle.osm_store.specs.declared.schema.layout.Layout.{Layout}
 use Rattle.osm_store.specs.declared.schema.layout.Layout.TheVariants.{Bodies, Tables}
@@ -72,3 +72,7 @@ SameTables old new = new.committed ≡ old.committed
 -- whatever a crash now leaves, the tables' rows are those of a map
 abbrev pub LeavesAMap : Layout → State → Type 0
 LeavesAMap layout s = (db : Trees) → s.may_leave db → (left : HeldMap) × IsKept layout left × TablesHold layout left db
+
+-- these rows list the tables of a store and nothing else, in some order, and so do those of whatever a crash now leaves
+abbrev pub ListsAlways : Layout → State → List Row → Type 0
+ListsAlways layout s rows = Lists rows (schema_of layout) × LeavesAMap layout s

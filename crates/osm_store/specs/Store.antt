@@ -8,7 +8,7 @@ use Rattle.osm_faults.specs.declared.fault.StoreFault.{StoreFault}
 use Rattle.osm_store.specs.declared.schema.layout.Layout.{Layout}
 use Rattle.osm_store.specs.Held.{Blob}
 use Rattle.osm_store.specs.Keeping.{OnlyReads, Adds}
-use Rattle.osm_store.specs.LayoutHolding.{Holds, MayLeave, SameTables, LeavesAMap}
+use Rattle.osm_store.specs.LayoutHolding.{Holds, MayLeave, SameTables, LeavesAMap, ListsAlways}
 
 pub record Store (S : Type 0) : Type 0 where
   pub connection : Held S
@@ -20,10 +20,10 @@ store_code {S} code = code_by (Held S × ℕ) (coded× (held_code code) coded_�
 
 -- the call has left the tables, and has counted its failure
 abbrev pub JustReads : {S T : Type 0} → Layout → Ghosts S → Store S → Result T StoreFault → Store S → Type 0
-JustReads layout g old result new = OnlyReads (λ s held. Holds layout (state g s.connection) held) (λ s left. MayLeave layout (state g s.connection) left) (λ s. LeavesAMap layout (state g s.connection)) (λ s. LeavesAMap layout (state g s.connection))
+JustReads layout g old result new = OnlyReads (λ s held. Holds layout (state g s.connection) held) (λ s left. MayLeave layout (state g s.connection) left) (λ s. LeavesAMap layout (state g s.connection)) (λ s rows. ListsAlways layout (state g s.connection) rows)
     (λ s t. SameTables (state g s.connection) (state g t.connection)) (λ s. HasCleanDisk (state g s.connection)) (λ s. HasCleanDisk (state g s.connection) × IsTrue (state g s.connection).is_open) (λ s. s.failures) old result new
 
 -- the call has added the blob, or has left the tables and counted its failure
 abbrev pub AddsBlob : {S T : Type 0} → Layout → Ghosts S → ℕ → Blob → Store S → Result T StoreFault → Store S → Type 0
-AddsBlob layout g off blob old result new = Adds (λ s held. Holds layout (state g s.connection) held) (λ s left. MayLeave layout (state g s.connection) left) (λ s. LeavesAMap layout (state g s.connection)) (λ s. LeavesAMap layout (state g s.connection))
+AddsBlob layout g off blob old result new = Adds (λ s held. Holds layout (state g s.connection) held) (λ s left. MayLeave layout (state g s.connection) left) (λ s. LeavesAMap layout (state g s.connection)) (λ s rows. ListsAlways layout (state g s.connection) rows)
     (λ s t. SameTables (state g s.connection) (state g t.connection)) (λ s. HasCleanDisk (state g s.connection)) (λ s. HasCleanDisk (state g s.connection) × IsTrue (state g s.connection).is_open) (λ s. s.failures) off blob old result new

@@ -61,7 +61,7 @@ pub trait Audited: Reader {
         ensures held { (held : HeldMap) → Self.holds self.old held → Self.is_honest self.new → AllByRecursion IsPlain elements.now
             → IfOk result (λ told. IsTrue told ↔ (map.get held off ≡ Some (record { fin = fin; digest = digest.now; kind = kind; elements = elements.now }))) }
         ensures opened { Self.is_honest self.new → IfOk result (λ _. Self.is_open self.new) }
-        ensures reads { OnlyReads Self.holds Self.leaves Self.leaves_a_map Self.is_alone Self.same_tables Self.is_honest Self.is_open Self.failures self.old result self.new };
+        ensures reads { OnlyReads Self.holds Self.leaves Self.leaves_a_map Self.lists Self.same_tables Self.is_honest Self.is_open Self.failures self.old result self.new };
 
     /// Whether each table has exactly so many rows. What is held stays, also after a fault, which is that of a read that
     /// has failed, or `Memory`.
@@ -71,7 +71,7 @@ pub trait Audited: Reader {
         // the tables of a held map have as many rows as the map
         ensures held { (held : HeldMap) → Self.holds self.old held → Self.is_honest self.new → counts.now ≡ counts_of (elements_held held) → AreCountable counts.now → IfOk result IsTrue }
         ensures opened { Self.is_honest self.new → IfOk result (λ _. Self.is_open self.new) }
-        ensures reads { OnlyReads Self.holds Self.leaves Self.leaves_a_map Self.is_alone Self.same_tables Self.is_honest Self.is_open Self.failures self.old result self.new };
+        ensures reads { OnlyReads Self.holds Self.leaves Self.leaves_a_map Self.lists Self.same_tables Self.is_honest Self.is_open Self.failures self.old result self.new };
 
     /// Of the rows of a blob, as `put` writes them, queries see this blob, and no other.
     ghost shown: { (db : Trees) (off : ℕ) (blob : Blob) → has_rows db off blob → ShowsBlob layout db off blob };

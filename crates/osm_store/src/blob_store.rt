@@ -140,7 +140,7 @@ impl<S: Alter, L: StoreLayout> Reader for BlobStore<S, L> {
     ghost use Rattle.sqlite.specs.State.{HasCleanDisk};
     ghost use Rattle.sqlite.specs.Held.{state};
     ghost use Rattle.std.specs.Prelude.{IsTrue, refl};
-    ghost use Rattle.osm_store.specs.LayoutHolding.{Holds, MayLeave, LeavesAMap, SameTables};
+    ghost use Rattle.osm_store.specs.LayoutHolding.{Holds, MayLeave, LeavesAMap, ListsAlways, SameTables};
     ghost use Rattle.osm_store.specs.StoreLaws.{leaves_held_alone, leaves_held, few_texts_of, open_or_shut, same_then};
 
     ghost holds = { λ s held. Holds L.LAYOUT (state S.Store s.connection) held };
@@ -149,8 +149,7 @@ impl<S: Alter, L: StoreLayout> Reader for BlobStore<S, L> {
 
     ghost leaves_a_map = { λ s. LeavesAMap L.LAYOUT (state S.Store s.connection) };
 
-    // tables that hold a map are listed alone
-    ghost is_alone = { λ s. LeavesAMap L.LAYOUT (state S.Store s.connection) };
+    ghost lists = { λ s rows. ListsAlways L.LAYOUT (state S.Store s.connection) rows };
 
     ghost same_tables = { λ s t. SameTables (state S.Store s.connection) (state S.Store t.connection) };
 

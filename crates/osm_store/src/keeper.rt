@@ -1,6 +1,7 @@
 //! What is asked of a store.
-ghost use Rattle.std.specs.Prelude.{◌≡◌, ◌⊎◌, ℕ, ◌<◌, ◌≤◌, Some, IfOk, All, filter};
+ghost use Rattle.std.specs.Prelude.{◌≡◌, ◌⊎◌, ℕ, ◌<◌, ◌≤◌, List, Some, IfOk, All, filter};
 ghost use Rattle.std.specs.FinMap as map;
+ghost use Rattle.sqlite.specs.Order.{Row};
 ghost use Rattle.osm_store.specs.Flags.{has_flags};
 ghost use Rattle.osm_store.specs.Held.{Blob, HeldMap, IsApart, HaveFewTexts};
 ghost use Rattle.osm_store.specs.Load.Loading.{HasRowsOf, IsInPlace};
@@ -41,8 +42,8 @@ pub trait Reader {
     /// Whatever a crash now leaves, the tables' rows are those of a map.
     ghost leaves_a_map: { Self → Type 0 };
 
-    /// The database lists no object beside those of the store, nor does what a crash now leaves of it.
-    ghost is_alone: { Self → Type 0 };
+    /// The list of the database's objects has these rows, and so it has in whatever a crash now leaves.
+    ghost lists: { Self → List Row → Type 0 };
 
     /// The last commits of both have the same tables with the same rows, whether or not these are those of a map.
     ghost same_tables: { Self → Self → Type 0 };
@@ -63,7 +64,7 @@ pub trait Reader {
             → IfOk result (λ extents. extents.items ≡ extents_of held) }
         ensures ranges { IfOk result (λ extents. All IsRange extents.items) }
         ensures apart { IfOk result (λ extents. AscendApart extents.items) }
-        ensures reads { OnlyReads holds leaves leaves_a_map is_alone same_tables is_honest is_open failures self.old result self.new };
+        ensures reads { OnlyReads holds leaves leaves_a_map lists same_tables is_honest is_open failures self.old result self.new };
 
     /// The held extents that share a byte with `from..to`, ascending by offset; both are offsets in bytes, `to` at
     /// most `MAX_OFFSET`. What is held stays, also after a fault.
@@ -78,7 +79,7 @@ pub trait Reader {
         ensures touching { (held : HeldMap) → holds self.old held → is_honest self.new
             → IfOk result (λ extents. extents.items ≡ filter (touches from to) (extents_of held)) }
         ensures apart { IfOk result (λ extents. AscendApart extents.items) }
-        ensures reads { OnlyReads holds leaves leaves_a_map is_alone same_tables is_honest is_open failures self.old result self.new };
+        ensures reads { OnlyReads holds leaves leaves_a_map lists same_tables is_honest is_open failures self.old result self.new };
 
     /// The rows of the blob that is held at an offset. Where none is held there, nothing is said of the answer but that
     /// its rows, as those of any blob, are at the positions 0, 1, 2, .. What is held stays, also after a fault.
@@ -86,20 +87,20 @@ pub trait Reader {
         ensures rows { (held : HeldMap) (blob : Blob) → holds self.old held → is_honest self.new
             → map.get held off ≡ Some blob → IfOk result (λ loaded. HasRowsOf loaded blob.elements) }
         ensures positions { IfOk result IsInPlace }
-        ensures reads { OnlyReads holds leaves leaves_a_map is_alone same_tables is_honest is_open failures self.old result self.new };
+        ensures reads { OnlyReads holds leaves leaves_a_map lists same_tables is_honest is_open failures self.old result self.new };
 
     /// All held elements of this kind and id, each after the offset of its blob and its position there, ascending by both.
     /// What is held stays, also after a fault.
     fn find(&mut self, alloc: Global, kind: MemberKind, id: i64) -> Result<Found, StoreFault>
         ensures found { (held : HeldMap) → holds self.old held → is_honest self.new
             → IfOk result (λ found. AreMatches found (filter (is_of kind id) (placed_in held))) }
-        ensures reads { OnlyReads holds leaves leaves_a_map is_alone same_tables is_honest is_open failures self.old result self.new };
+        ensures reads { OnlyReads holds leaves leaves_a_map lists same_tables is_honest is_open failures self.old result self.new };
 
     /// Whether any held element has a flag of visibility, as those of a file with history have. What is held stays, also
     /// after a fault.
     fn history(&mut self, alloc: Global) -> Result<bool, StoreFault>
         ensures flags { (held : HeldMap) → holds self.old held → is_honest self.new → IfOk result (λ found. found ≡ has_flags held) }
-        ensures reads { OnlyReads holds leaves leaves_a_map is_alone same_tables is_honest is_open failures self.old result self.new };
+        ensures reads { OnlyReads holds leaves leaves_a_map lists same_tables is_honest is_open failures self.old result self.new };
 
     /// How many calls have answered a fault, up to 2 ^ 64 - 1.
     fn failures(&self) -> u64
@@ -142,6 +143,6 @@ pub trait Keeper: Reader {
     ) -> Result<(), StoreFault>
         requires order { off < fin }
         requires limit { fin ≤ MAX_OFFSET }
-        ensures adds { Adds Self.holds Self.leaves Self.leaves_a_map Self.is_alone Self.same_tables Self.is_honest Self.is_open Self.failures off
+        ensures adds { Adds Self.holds Self.leaves Self.leaves_a_map Self.lists Self.same_tables Self.is_honest Self.is_open Self.failures off
             (record { fin = fin; digest = digest.now; kind = kind; elements = elements.now }) self.old result self.new };
 }

@@ -1,5 +1,5 @@
 -- A table whose rows stand in the order of an index: those whose entries begin with a key stand one behind another.
-use Rattle.std.proofs.Common.{◌≡◌, ℕ, ℤ, Bool, true, false, cond, is_lt, Less, Equal, Greater, true≢false, List, [], ◌∷◌, map, filter, flat_map, drop, length, IsTrue, refl, sym, ap, subst, ◌∙◌, arith}
+use Rattle.std.proofs.Common.{◌≡◌, ℕ, Bool, true, false, cond, is_lt, Less, Equal, Greater, true≢false, List, [], ◌∷◌, map, filter, flat_map, drop, length, IsTrue, refl, sym, ap, subst, ◌∙◌, arith}
 use Rattle.std.specs.List.{AllByRecursion}
 use Rattle.std.proofs.lemmas.Cmp.{tied_itself}
 use Rattle.sqlite_value.specs.declared.value.Value.{Value}

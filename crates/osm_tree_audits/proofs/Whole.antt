@@ -1,5 +1,5 @@
 -- Where the rows at the offset of each blob of a map are kept, and the tables have no more rows, these are the rows of the map.
-use Rattle.std.proofs.Common.{◌≡◌, ℕ, ◌+◌, ◌-◌, ◌^◌, ◌<◌, min, pos, Bool, false, Less, is_gt, List, [], ◌∷◌, ◌++◌, map, flat_map, filter, drop, length, length-append, refl, sym, ap, ap₂, subst, ◌∙◌, arith, IsPermutation}
+use Rattle.std.proofs.Common.{◌≡◌, ℕ, ◌-◌, ◌^◌, ◌<◌, min, pos, false, Less, is_gt, List, [], ◌∷◌, map, flat_map, filter, drop, length, refl, sym, ap, subst, ◌∙◌, arith, IsPermutation}
 use Rattle.std.specs.Prelude.{sum_by}
 use Rattle.std.specs.FinMap.{entries}
 use Rattle.std.specs.List.{AllByRecursion}

@@ -10,7 +10,7 @@ ghost use Rattle.osm_store.specs.TableRows.{element_rows, tag_rows, link_rows};
 ghost use Rattle.osm_tree_writes.specs.Putting.{IsIndexedStore};
 ghost use Rattle.osm_tree_audits.specs.Looking.{Looks};
 ghost use Rattle.osm_tree_audits.specs.Auditing.{KeepsAt, KeepsBlob};
-ghost use Rattle.osm_tree_audits.specs.ElementTables.{index_of, rows_in, table_of};
+ghost use Rattle.osm_tree_audits.specs.ElementTables.{rows_in, table_of};
 ghost use Rattle.osm_tree_audits.specs.Looks.{IsInOrder, IsLook};
 ghost use Rattle.osm_tree_audits.specs.Walking.{Begins, IsWalkBy, reached_by};
 

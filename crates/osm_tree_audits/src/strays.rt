@@ -1,6 +1,6 @@
 //! Rows of elements, of tags and of links at whose offset no blob is held.
 
-ghost use Rattle.std.specs.Prelude.{◌≡◌, ◌↔◌, [], false, All, Any, IsTrue, IfSome, IfOk, IfErr, OnOk, MatchOption};
+ghost use Rattle.std.specs.Prelude.{◌≡◌, ◌↔◌, false, All, IsTrue, IfSome, IfOk, IfErr, OnOk, MatchOption};
 ghost use Rattle.sqlite_value.specs.declared.value.Value.TheVariants.{Int};
 ghost use Rattle.sqlite_value.specs.Order.{column};
 ghost use Rattle.sqlite_trees.specs.View.{IsClean, StayLive};

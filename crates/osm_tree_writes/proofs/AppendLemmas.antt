@@ -62,9 +62,6 @@ pub next_after : {E : Type 0} (answer : Result ℤ E) (fault : E) (sum : Option 
 next_after answer fault (Some next) id fits P is sum h = rw is (h next sum.1)
 next_after answer fault None id fits P is sum h = rw is tt
 
-pub after_none : (rows : List Row) (row : Row) (next : ℤ) → IsLast rows row false → IsAfter next rows
-after_none rows row next none = subst (IsAfter next) (sym none) tt
-
 -- ---- a row behind the others
 
 take_front : (rows more : List Row) → take (length rows) (rows ++ more) ≡ rows

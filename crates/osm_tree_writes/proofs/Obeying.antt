@@ -32,7 +32,7 @@ use Rattle.osm_store.specs.Schema.Bodies.{meta, blob as blobs}
 use Rattle.osm_store.specs.Schema.Tables.{element, tag, link, table_schema}
 use Rattle.osm_store.specs.TableRows.{Part, element_row, element_rows, flag, lat_of, lon_of, link_row, link_rows, links_at, tag_row, tag_rows, tags_at}
 use Rattle.osm_store.proofs.MapLemmas.OneMap.{element_before, rises, tags_rise, links_rise, one_map_of}
-use Rattle.osm_store.proofs.MapLemmas.OneMore.{unheld, inserted, kept_more, more_elements, put_entry}
+use Rattle.osm_store.proofs.MapLemmas.OneMore.{unheld, inserted, more_elements, put_entry}
 use Rattle.osm_store.proofs.MapLemmas.PlacedLaws.{IsBefore, placed_in_rise}
 use Rattle.osm_tree_writes.specs.Beside.{HasAStore}
 use Rattle.osm_tree_writes.specs.Putting.{AreTables, IsIndexedStore, PutsBelow, TreesHold}
@@ -163,11 +163,6 @@ obey held db is_meta is_blob has tables indexed = record { rules = keeps_rules h
 -- ---- a put
 
 module _ (held : HeldMap) (off : ℕ) (blob : Blob) (kept : IsKept Tables held) (addable : IsAddable held off blob) (order : off < blob.fin) (limit : blob.fin ≤ MAX_OFFSET) (is : IsBlob Tables blob) where
-  -- the map with the blob can be kept
-  pub kept_with : IsKept Tables (with_blob held off blob)
-  kept_with = kept_more held off blob Tables kept addable.free order limit is
-
-  -- and the trees that the put leaves hold it
   pub hold_with : (old new : Trees) → TreesHold Tables held old → PutsBelow old new (extent_of (off, blob)) (placed off 0 blob.elements) → TreesHold Tables (with_blob held off blob) new
   hold_with old new holds puts =
       let is_meta = puts.meta ∙ holds.meta in

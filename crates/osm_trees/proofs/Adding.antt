@@ -1,7 +1,8 @@
 -- A put of a blob's rows into the trees keeps what a keeper promises of it.
-use Rattle.std.proofs.Common.{◌≡◌, ◌⊎◌, inl, inr, ℕ, ◌<◌, ◌≤◌, false, length, IsTrue, Result, Ok, Err, ap, sym, subst, ◌∙◌, arith}
+use Rattle.std.proofs.Common.{◌≡◌, ◌⊎◌, inl, inr, ℕ, ◌<◌, ◌≤◌, false, List, length, IsTrue, Result, Ok, Err, ap, sym, ◌∙◌, arith}
 use Rattle.std.specs.Prelude.{OnOk, OnErr, IfErr}
 use Rattle.std.specs.List.{AllByRecursion}
+use Rattle.sqlite_value.specs.Order.{Row}
 use Rattle.sqlite_trees.specs.declared.store.Store.{Ghosts}
 use Rattle.sqlite_trees.specs.Tree.{Trees}
 use Rattle.sqlite_trees.specs.View.{doubt, IsClean}
@@ -15,10 +16,9 @@ use Rattle.osm_store.specs.Keeping.{IsAddable, IsForeign, extent_of, failures_af
 use Rattle.osm_store.specs.LayoutHolding.{IsBlob, IsKept}
 use Rattle.osm_store.specs.Rows.{placed}
 use Rattle.osm_store.proofs.MapLemmas.OneMore.{kept_more}
-use Rattle.osm_tree_writes.specs.Beside.{ListsAlone}
 use Rattle.osm_tree_writes.specs.Putting.{PutsBelow, TreesHold}
 use Rattle.osm_tree_writes.proofs.Obeying.{hold_with, one_map_below}
-use Rattle.osm_trees.specs.Below.{HoldsBelow, IsUsable, MayLeave, LeavesAMap, StandsAlone}
+use Rattle.osm_trees.specs.Below.{HoldsBelow, IsUsable, MayLeave, LeavesAMap, ListsAlways}
 use Rattle.osm_trees.specs.Putting.{AddsBelow}
 use Rattle.osm_trees.specs.Reading.{Reading, leaves_held, open_of}
 use Rattle.osm_trees.proofs.Mending.{holds_still}
@@ -80,16 +80,12 @@ module _ {S : Type 0} (g : Ghosts S) (old new : Reading S) (off : ℕ) (blob : B
     ]
 
     -- ---- the list of all objects is none of the trees that a put writes
-    listed_as_before : StandsAlone (g.view old.store) (g.recovers old.store) → (db : Trees) → Puts off blob (g.view old.store).trees db → ListsAlone (db catalog_tree)
-    listed_as_before alone db puts =
-        let same : db catalog_tree ≡ (g.view old.store).committed catalog_tree = puts.catalog ∙ ap (λ (f : Trees). f catalog_tree) holds.settled in
-        subst ListsAlone (sym same) (alone.committed (holds.clean, was_open holds.unbroken))
+    module _ (rows : List Row) (lists : ListsAlways (g.view old.store) (g.recovers old.store) rows) where
+      listed_as_before : (db : Trees) → Puts off blob (g.view old.store).trees db → db catalog_tree ≡ rows
+      listed_as_before db puts = puts.catalog ∙ ap (λ (f : Trees). f catalog_tree) holds.settled ∙ lists.committed (holds.clean, was_open holds.unbroken)
 
-    left_alone : {r : Result (Unit {0}) StoreFault} → Written r → IsClean (g.view new.store) → StandsAlone (g.view old.store) (g.recovers old.store) → (db : Trees) → g.recovers new.store db → ListsAlone (db catalog_tree)
-    left_alone w clean alone db left = elim (w.crash clean db left) [
-      | inl before ↦ alone.left db before
-      | inr put ↦ listed_as_before alone db put.2
-    ]
+      left_listed : {r : Result (Unit {0}) StoreFault} → Written r → IsClean (g.view new.store) → (db : Trees) → g.recovers new.store db → db catalog_tree ≡ rows
+      left_listed w clean db left = elim (w.crash clean db left) [ inl before ↦ lists.left db before | inr put ↦ listed_as_before db put.2 ]
 
   -- what is left after a put into a store that has to be opened again was left before
   left_before : {r : Result (Unit {0}) StoreFault} → Written r → IsClean (g.view new.store) → ¬ (IsUsable (g.view old.store)) → (db : Trees) → g.recovers new.store db → g.recovers old.store db
@@ -110,9 +106,9 @@ module _ {S : Type 0} (g : Ghosts S) (old new : Reading S) (off : ℕ) (blob : B
     same = λ clean up. tt;
     crash = λ clean held left holds can may. leaves_more held holds can w clean left may;
     whole = λ clean held holds can. leaves_a_map held holds can w clean;
-    alone = λ clean held holds can alone. record {
-      committed = λ up. subst (λ (db : Trees). ListsAlone (db catalog_tree)) (sym (w.committed clean).2) (listed_as_before held holds can alone (g.view new.store).trees (w.added clean));
-      left = left_alone held holds can w clean alone;
+    list = λ clean held holds can rows lists. record {
+      committed = λ up. ap (λ (db : Trees). db catalog_tree) (w.committed clean).2 ∙ listed_as_before held holds can rows lists (g.view new.store).trees (w.added clean);
+      left = left_listed held holds can rows lists w clean;
     };
     own = λ held holds clean can. tt;
     was_open = λ clean. (omega (arith, w.clean, clean), was_open (w.committed clean).0);
@@ -128,9 +124,9 @@ module _ {S : Type 0} (g : Ghosts S) (old new : Reading S) (off : ℕ) (blob : B
     same = λ clean up. let left = w.unchanged clean up.1 in record { committed = left.3; settled = λ settled. left.2 ∙ sym left.3 };
     crash = λ clean held left holds can may. leaves_more held holds can w clean left may;
     whole = λ clean held holds can. leaves_a_map held holds can w clean;
-    alone = λ clean held holds can alone. record {
-      committed = λ up. subst (λ (db : Trees). ListsAlone (db catalog_tree)) (sym (w.unchanged clean up.1).3) (alone.committed (holds.clean, was_open holds.unbroken));
-      left = left_alone held holds can w clean alone;
+    list = λ clean held holds can rows lists. record {
+      committed = λ up. ap (λ (db : Trees). db catalog_tree) (w.unchanged clean up.1).3 ∙ lists.committed (holds.clean, was_open holds.unbroken);
+      left = left_listed held holds can rows lists w clean;
     };
     own = λ held holds clean can. w.ours;
     was_open = λ clean. tt;

@@ -1,6 +1,7 @@
 -- Results that are said clause by clause, and reads as the reader promises them.
-use Rattle.std.proofs.Common.{◌≡◌, false, IsTrue, Result, Ok, Err, sym, subst}
+use Rattle.std.proofs.Common.{◌≡◌, ◌∙◌, false, IsTrue, List, Result, Ok, Err, ap, sym, subst}
 use Rattle.std.specs.Prelude.{MatchResult, IfOk, IfErr, OnOk}
+use Rattle.sqlite_value.specs.Order.{Row}
 use Rattle.sqlite_trees.specs.declared.store.Store.{Ghosts}
 use Rattle.sqlite_trees.specs.View.{IsClean}
 use Rattle.sqlite_trees.specs.Objects.{catalog_tree}
@@ -9,9 +10,8 @@ use Rattle.osm_faults.specs.declared.fault.StoreFault.{StoreFault}
 use Rattle.osm_store.specs.declared.schema.layout.Layout.TheVariants.{Tables}
 use Rattle.osm_store.specs.Held.{HeldMap}
 use Rattle.osm_store.specs.Keeping.{IsForeign, failures_after}
-use Rattle.osm_tree_writes.specs.Beside.{ListsAlone}
 use Rattle.osm_tree_audits.specs.Looking.{Looks}
-use Rattle.osm_trees.specs.Below.{HoldsBelow, IsUsable, Mends, StandsAlone}
+use Rattle.osm_trees.specs.Below.{HoldsBelow, IsUsable, Mends, ListsAlways}
 use Rattle.osm_trees.specs.Reading.{Reading, JustReads, open_of}
 use Rattle.osm_trees.proofs.Looking.{holds_after}
 use Rattle.osm_trees.proofs.Mending.{Leaves, Stands, clean_until, leaves_by, outcomes_all, stands, holds_standing}
@@ -38,12 +38,12 @@ sound_of A P (Ok x) a f = f a
 sound_of A P (Err e) a f = tt
 
 module _ {S : Type 0} (g : Ghosts S) (old mid new : S) (left : Leaves g old mid) (mends : Mends g mid new) where
-  still_alone : StandsAlone (g.view old) (g.recovers old) → StandsAlone (g.view new) (g.recovers new)
-  still_alone alone = record {
+  still_lists : (rows : List Row) → ListsAlways (g.view old) (g.recovers old) rows → ListsAlways (g.view new) (g.recovers new) rows
+  still_lists rows lists = record {
     committed = λ up.
         let after = stands g old mid new left mends up.0 up.1 in
-        subst (λ (db : Trees). ListsAlone (db catalog_tree)) (sym after.same.committed) (alone.committed (left.clean (clean_until g mid new mends up.0), after.was_open));
-    left = λ db leaves. alone.left db (outcomes_all g old mid new left mends db leaves);
+        ap (λ (db : Trees). db catalog_tree) after.same.committed ∙ lists.committed (left.clean (clean_until g mid new mends up.0), after.was_open);
+    left = λ db leaves. lists.left db (outcomes_all g old mid new left mends db leaves);
   }
 
 module _ {S : Type 0} (g : Ghosts S) (old : Reading S) (mid : S) (new : Reading S) (left : Leaves g old.store mid) (mends : Mends g mid new.store) where
@@ -71,7 +71,7 @@ module _ {S : Type 0} (g : Ghosts S) (old : Reading S) (mid : S) (new : Reading 
     same = λ clean up. (after up).same;
     crash = λ clean held may. record { kept = may.kept; trees = may.trees; left = outcomes may.trees may.left; tables = may.tables };
     whole = λ clean all db leaves. all db (outcomes db leaves);
-    alone = λ clean alone. still_alone g old.store mid new.store left mends alone;
+    list = λ clean. still_lists g old.store mid new.store left mends;
     own = λ held holds clean. tt;
     counted = counted;
   }
@@ -83,7 +83,7 @@ module _ {S : Type 0} (g : Ghosts S) (old : Reading S) (mid : S) (new : Reading 
     same = λ clean up. (after up).same;
     crash = λ clean held may. record { kept = may.kept; trees = may.trees; left = outcomes may.trees may.left; tables = may.tables };
     whole = λ clean all db leaves. all db (outcomes db leaves);
-    alone = λ clean alone. still_alone g old.store mid new.store left mends alone;
+    list = λ clean. still_lists g old.store mid new.store left mends;
     own = λ held holds clean. answers (clean_mid clean) held holds;
     counted = counted;
   }
@@ -117,7 +117,7 @@ refused g old new fault reads = record {
   same = reads.same;
   crash = reads.crash;
   whole = reads.whole;
-  alone = reads.alone;
+  list = reads.list;
   own = reads.own;
   counted = reads.counted;
 }

@@ -13,9 +13,6 @@ same_trees a b reads = ap (λ (v : View). v.trees) reads
 pub same_commit : (a b : View) → OnlyReads a b → b.committed ≡ a.committed
 same_commit a b reads = ap (λ (v : View). v.committed) reads
 
-pub up_after : (a b : View) → OnlyReads a b → a.is_broken ≡ false → b.is_broken ≡ false
-up_after a b reads up = ap (λ (v : View). v.is_broken) reads ∙ up
-
 pub holds_after : (layout : Layout) (a b : View) (held : HeldMap) → OnlyReads a b → IsClean b → b.is_broken ≡ false → HoldsBelow layout a held → HoldsBelow layout b held
 holds_after layout a b held reads clean up holds = record {
   clean = clean;

@@ -1,5 +1,5 @@
 -- When the trees of a store hold a map, with no word of SQL, and what a read leaves of them.
-use Rattle.std.specs.Prelude.{◌≡◌, Bool, false, IsTrue, [], ◌∷◌}
+use Rattle.std.specs.Prelude.{◌≡◌, Bool, false, IsTrue, List, [], ◌∷◌}
 use Rattle.sqlite_value.specs.Order.{Row, column}
 use Rattle.sqlite_trees.specs.declared.store.Store.{Ghosts}
 use Rattle.sqlite_trees.specs.Tree.{Trees}
@@ -11,7 +11,6 @@ use Rattle.osm_store.specs.Held.{HeldMap}
 use Rattle.osm_store.specs.LayoutHolding.{IsKept}
 use Rattle.osm_store.specs.Rows.{version_row}
 use Rattle.osm_tree_writes.specs.Appending.{IsStoreAt}
-use Rattle.osm_tree_writes.specs.Beside.{ListsAlone}
 use Rattle.osm_tree_writes.specs.Putting.{IsIndexedStore, TreesHold}
 
 -- the store can go on, nothing is written, and its trees' rows are those of this map and of no other
@@ -48,10 +47,10 @@ pub record MayLeave (recovers : Trees → Type 0) (held : HeldMap) : Type 0 wher
 abbrev pub LeavesAMap : (Trees → Type 0) → Type 0
 LeavesAMap recovers = (db : Trees) → recovers db → (left : HeldMap) × IsKept Tables left × TreesHold Tables left db
 
--- the trees list nothing beside those of a store, if they needn't be opened again, nor do those that a crash leaves
-pub record StandsAlone (v : View) (recovers : Trees → Type 0) : Type 0 where
-  pub committed : IsUsable v → ListsAlone (v.committed catalog_tree)
-  pub left : (db : Trees) → recovers db → ListsAlone (db catalog_tree)
+-- these rows list the objects of the last commit, if the trees needn't be opened again, and of whatever a crash leaves
+pub record ListsAlways (v : View) (recovers : Trees → Type 0) (rows : List Row) : Type 0 where
+  pub committed : IsUsable v → v.committed catalog_tree ≡ rows
+  pub left : (db : Trees) → recovers db → db catalog_tree ≡ rows
 
 -- the last commits have the same trees, and nothing is written beyond the one if nothing is beyond the other
 pub record SameTrees (old new : View) : Type 0 where

@@ -10,12 +10,12 @@ use Rattle.osm_store.specs.Held.{Blob}
 use Rattle.osm_store.specs.Keeping.{Adds}
 use Rattle.osm_added_indexes.specs.Added.{plain_indexes}
 use Rattle.osm_tree_writes.specs.Appending.{KeepIndexed}
-use Rattle.osm_trees.specs.Below.{HoldsBelow, IsUsable, MayLeave, LeavesAMap, SameTrees, StandsAlone}
+use Rattle.osm_trees.specs.Below.{HoldsBelow, IsUsable, MayLeave, LeavesAMap, SameTrees, ListsAlways}
 use Rattle.osm_trees.specs.Reading.{Reading}
 
 -- what each keeper promises, of this store
 abbrev pub AddsBelow : {S T : Type 0} → Ghosts S → ℕ → Blob → Reading S → Result T StoreFault → Reading S → Type 0
-AddsBelow g off blob old result new = Adds (λ r held. HoldsBelow Tables (g.view r.store) held) (λ r left. MayLeave (g.recovers r.store) left) (λ r. LeavesAMap (g.recovers r.store)) (λ r. StandsAlone (g.view r.store) (g.recovers r.store)) (λ r s. SameTrees (g.view r.store) (g.view s.store))
+AddsBelow g off blob old result new = Adds (λ r held. HoldsBelow Tables (g.view r.store) held) (λ r left. MayLeave (g.recovers r.store) left) (λ r. LeavesAMap (g.recovers r.store)) (λ r rows. ListsAlways (g.view r.store) (g.recovers r.store) rows) (λ r s. SameTrees (g.view r.store) (g.view s.store))
     (λ r. IsClean (g.view r.store)) (λ r. IsUsable (g.view r.store)) (λ r. r.failures) off blob old result new
 
 -- Of the indexes that somebody has added to the tables, as the list of objects tells of them, each that had one entry for each

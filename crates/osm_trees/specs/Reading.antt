@@ -1,6 +1,6 @@
 -- What callers see of a reader of trees, and what a crash leaves of one that can go on.
 use Rattle.std.specs.Prelude.{◌≡◌, ℕ, Bool, true, false, IsTrue, refl, Result}
-use Rattle.std.proofs.Common.{sym, subst, ◌∙◌}
+use Rattle.std.proofs.Common.{ap, sym, subst, ◌∙◌}
 use Rattle.std.specs.Coded.{Coded, code_by, coded×, coded_ℕ}
 use Rattle.sqlite_trees.specs.declared.store.Store.{Ghosts}
 use Rattle.sqlite_trees.specs.Objects.{catalog_tree}
@@ -11,9 +11,8 @@ use Rattle.osm_store.specs.declared.schema.layout.Layout.TheVariants.{Tables}
 use Rattle.osm_store.specs.Held.{HeldMap}
 use Rattle.osm_store.specs.Keeping.{OnlyReads}
 use Rattle.osm_store.specs.LayoutHolding.{IsKept}
-use Rattle.osm_tree_writes.specs.Beside.{ListsAlone}
 use Rattle.osm_tree_writes.specs.Putting.{IsIndexedStore, TreesHold}
-use Rattle.osm_trees.specs.Below.{HoldsBelow, IsUsable, MayLeave, LeavesAMap, StandsAlone, SameTrees, IsIndexed}
+use Rattle.osm_trees.specs.Below.{HoldsBelow, IsUsable, MayLeave, LeavesAMap, ListsAlways, SameTrees, IsIndexed}
 
 pub record Reading (S : Type 0) : Type 0 where
   pub store : S
@@ -25,7 +24,7 @@ reading_code {S} code = code_by (S × ℕ) (coded× code coded_ℕ) (λ r. (r.st
 
 -- the call has left the trees, and has counted its failure
 abbrev pub JustReads : {S T : Type 0} → Ghosts S → Reading S → Result T StoreFault → Reading S → Type 0
-JustReads g old result new = OnlyReads (λ r held. HoldsBelow Tables (g.view r.store) held) (λ r left. MayLeave (g.recovers r.store) left) (λ r. LeavesAMap (g.recovers r.store)) (λ r. StandsAlone (g.view r.store) (g.recovers r.store)) (λ r s. SameTrees (g.view r.store) (g.view s.store))
+JustReads g old result new = OnlyReads (λ r held. HoldsBelow Tables (g.view r.store) held) (λ r left. MayLeave (g.recovers r.store) left) (λ r. LeavesAMap (g.recovers r.store)) (λ r rows. ListsAlways (g.view r.store) (g.recovers r.store) rows) (λ r s. SameTrees (g.view r.store) (g.view s.store))
     (λ r. IsClean (g.view r.store)) (λ r. IsUsable (g.view r.store)) (λ r. r.failures) old result new
 
 -- one store has the trees that it has, and what is the same after one call and after the next is the same after both
@@ -57,10 +56,10 @@ module _ (v : View) (recovers : Trees → Type 0) (held : HeldMap) (holds : Hold
   pub leaves_held : (db : Trees) → recovers db → (left : HeldMap) × IsKept Tables left × TreesHold Tables left db
   leaves_held db may = (held, holds.kept, subst (TreesHold Tables held) (sym (left_is db may)) holds.tables)
 
--- a store that can go on and lists nothing else stands alone
-pub stands_alone : (v : View) (recovers : Trees → Type 0) → v.is_broken ≡ false → ((db : Trees) → IsTrue v.is_open → recovers db → db ≡ v.committed) → (v.is_open ≡ false → IsTrue v.is_broken)
-    → ListsAlone (v.committed catalog_tree) → StandsAlone v recovers
-stands_alone v recovers up settles shuts lists = record {
-  committed = λ _. lists;
-  left = λ db left. subst (λ (ts : Trees). ListsAlone (ts catalog_tree)) (sym (settles db (open_of _ _ shuts up) left)) lists;
+-- a crash leaves of a store that can go on what it lists
+pub lists_always : (v : View) (recovers : Trees → Type 0) → v.is_broken ≡ false → v.trees ≡ v.committed → ((db : Trees) → IsTrue v.is_open → recovers db → db ≡ v.committed) → (v.is_open ≡ false → IsTrue v.is_broken)
+    → ListsAlways v recovers (v.trees catalog_tree)
+lists_always v recovers up settled settles shuts = record {
+  committed = λ _. ap (λ (ts : Trees). ts catalog_tree) (sym settled);
+  left = λ db left. ap (λ (ts : Trees). ts catalog_tree) (settles db (open_of _ _ shuts up) left ∙ sym settled);
 }

@@ -1,6 +1,6 @@
 //! The extents of the held blobs, read from the tree of their table.
 
-ghost use Rattle.std.specs.Prelude.{◌≡◌, ◌<◌, ◌≤◌, ◌-◌, pos, false, List, [], ◌∷◌, map, filter, reverse, length, All, IfOk, IfErr, OnOk, MatchResult};
+ghost use Rattle.std.specs.Prelude.{◌≡◌, ◌<◌, ◌≤◌, ◌-◌, pos, false, List, [], ◌∷◌, map, filter, reverse, All, IfOk, OnOk, MatchResult};
 ghost use Rattle.sqlite_value.specs.declared.value.Value.TheVariants.{Int};
 ghost use Rattle.sqlite_trees.specs.View.{IsClean, IsQuiet};
 ghost use Rattle.sqlite_exec.specs.Calls.{OnlyReads};

@@ -10,7 +10,6 @@ ghost use Rattle.osm_store.specs.declared.schema.layout.Layout.TheVariants.{Tabl
 ghost use Rattle.osm_store.specs.Schema.Tables.{table_schema};
 ghost use Rattle.osm_store.specs.Held.{HeldMap};
 ghost use Rattle.osm_store.specs.LayoutHolding.{Holds};
-ghost use Rattle.osm_tree_writes.specs.Beside.{ListsAlone};
 ghost use Rattle.osm_trees.specs.Below.{HoldsBelow};
 
 use crate::tree_store::TreeStore;
@@ -27,9 +26,9 @@ pub fn holds_below<S: Alter>(connection: &Connection<S>)
     let _connection = connection;
 }
 
-/// Trees that hold a map, and list the objects of a store and nothing else, stand alone: so does what a crash leaves of them.
-pub fn what_lists_nothing_else_stands_alone<S: Store>(store: &TreeStore<S>)
-    ensures { (held : HeldMap) → ⟦<TreeStore<S> as Reader>⟧.holds store.now held → ListsAlone ((S.Store.view store.now.store).trees catalog_tree) → ⟦<TreeStore<S> as Reader>⟧.is_alone store.now }
+/// A crash leaves of trees that hold a map what these list, whatever somebody has beside a store's own.
+pub fn a_crash_leaves_the_list<S: Store>(store: &TreeStore<S>)
+    ensures { (held : HeldMap) → ⟦<TreeStore<S> as Reader>⟧.holds store.now held → ⟦<TreeStore<S> as Reader>⟧.lists store.now ((S.Store.view store.now.store).trees catalog_tree) }
 {
     let _store = store;
 }

@@ -105,7 +105,7 @@ impl<S: Store> Reader for TreeStore<S> {
     ghost use Rattle.sqlite_trees.specs.View.{IsClean};
     ghost use Rattle.osm_store.specs.declared.schema.layout.Layout.TheVariants.{Tables};
     ghost use Rattle.osm_store.specs.StoreLaws.{few_texts_of, open_or_shut};
-    ghost use Rattle.osm_trees.specs.Below.{HoldsBelow, IsUsable, MayLeave, LeavesAMap, SameTrees, StandsAlone};
+    ghost use Rattle.osm_trees.specs.Below.{HoldsBelow, IsUsable, MayLeave, LeavesAMap, SameTrees, ListsAlways};
     ghost use Rattle.osm_trees.specs.Reading.{leaves_held_alone, leaves_held, same_self, same_next};
 
     ghost holds = { λ r held. HoldsBelow Tables (S.Store.view r.store) held };
@@ -114,7 +114,7 @@ impl<S: Store> Reader for TreeStore<S> {
 
     ghost leaves_a_map = { λ r. LeavesAMap (S.Store.recovers r.store) };
 
-    ghost is_alone = { λ r. StandsAlone (S.Store.view r.store) (S.Store.recovers r.store) };
+    ghost lists = { λ r rows. ListsAlways (S.Store.view r.store) (S.Store.recovers r.store) rows };
 
     ghost same_tables = { λ r s. SameTrees (S.Store.view r.store) (S.Store.view s.store) };
 

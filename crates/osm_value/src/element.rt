@@ -1,10 +1,9 @@
 //! Nodes, ways and relations, with absolute numbers and texts.
 
-ghost use Rattle.std.specs.Prelude.{◌≡◌, List, map, None, IsTrue};
-ghost use Rattle.std.specs.List.{AllByRecursion};
+ghost use Rattle.std.specs.Prelude.{◌≡◌, map};
 ghost use Rattle.std.specs.Option.{option_copied};
 ghost use Rattle.osm_value.specs.Value.{InfoValue, MemberValue, NodeValue, WayValue, RelationValue};
-ghost use Rattle.osm_value.specs.Ranges.{IsWide, IsText, IsTextOrNone, AreTags, IsInfo, IsMember, IsNode, IsWay, IsRelation, passes, is_wide, is_version, is_uid};
+ghost use Rattle.osm_value.specs.Ranges.{IsInfo, IsMember, IsNode, IsWay, IsRelation};
 
 use std::marker::Model;
 

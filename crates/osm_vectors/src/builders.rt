@@ -1,6 +1,6 @@
 //! Blob messages and frames of any size.
 
-ghost use Rattle.std.specs.Prelude.{◌≡◌, ◌++◌, ◌≤◌, IfOk, length, replicate};
+ghost use Rattle.std.specs.Prelude.{◌≡◌, ◌≤◌, IfOk, length, replicate};
 ghost use Rattle.osm_vectors.specs.Builders.{framed};
 ghost use Rattle.pbf_frame.specs.Write.{blob_bytes};
 

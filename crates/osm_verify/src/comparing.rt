@@ -1,6 +1,6 @@
 //! One frame of a file and what a store holds at its offset.
 
-ghost use Rattle.std.specs.Prelude.{◌≡◌, ◌==◌, ◌+◌, ◌<◌, ◌≤◌, length, find, filter, nat_le, IfOk, IfErr};
+ghost use Rattle.std.specs.Prelude.{◌≡◌, ◌==◌, ◌≤◌, length, find, filter, nat_le, IfOk, IfErr};
 ghost use Rattle.sha2.specs.Sha256.{sha256};
 ghost use Rattle.osm_store.specs.Calls.{KeepsTables, OfHeld};
 ghost use Rattle.osm_store.specs.Keeping.{IsForeign, extents_of};

@@ -13,10 +13,6 @@ use Rattle.osm_write.specs.Canon.{number, number_field, bytes_field}
 
 -- ---- numbers and fields
 
-last_is : (n : ℕ) → shortest_within zero n ≡ n ∷ []
-unfolding shortest_within
-last_is n = refl
-
 within_starts : (k n : ℕ) → (b : ℕ) × (bs : List ℕ) × (shortest_within k n ≡ b ∷ bs)
 unfolding shortest_within
 within_starts zero n = (n, [], refl)

@@ -63,10 +63,6 @@ abbrev pub first_uses : List Text → List Text
 first_uses [] = []
 first_uses (t ∷ ts) = t ∷ filter (λ u. not (bytes_eq u t)) (first_uses ts)
 
--- text 0 is empty, and isn't used
-abbrev pub table_of : List Element → List Text
-table_of es = [] ∷ first_uses (flat_map texts_of es)
-
 abbrev pub index_in : Text → List Text → ℕ
 index_in t [] = 0
 index_in t (u ∷ us) = if bytes_eq u t then 0 else suc (index_in t us)

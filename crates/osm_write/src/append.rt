@@ -1,6 +1,6 @@
 //! Fields, appended to the bytes of a message.
 
-ghost use Rattle.std.specs.Prelude.{◌≡◌, ◌++◌, ℕ, ℤ, Option, OnOk, length};
+ghost use Rattle.std.specs.Prelude.{◌≡◌, ◌++◌, ℕ, ℤ, Option, OnOk};
 ghost use Rattle.std.specs.List.{filter_map};
 ghost use Rattle.osm_write.specs.Arrays.{AnswerEach, IsWideOrNone};
 ghost use Rattle.osm_write.specs.Canon.{number_field, int_field, bytes_field, message_field, packed_field, delta_field, optional};

@@ -1,10 +1,9 @@
 //! The whole block.
 
-ghost use Rattle.std.specs.Prelude.{◌≡◌, ◌++◌, ◌≤◌, ◌<◌, ◌∷◌, OnOk, IfOk, MatchResult, map, List, [], length};
+ghost use Rattle.std.specs.Prelude.{◌≡◌, ◌++◌, ◌≤◌, ◌∷◌, OnOk, IfOk, MatchResult, map, [], length};
 ghost use Rattle.std.specs.List.{flat_map, AllByRecursion};
-ghost use Rattle.osm_value.specs.Value.{Text};
 ghost use Rattle.osm_write.specs.Scale.{view};
-ghost use Rattle.osm_write.specs.Canon.{bytes_field, group_bytes, groups_of, granularity_field, block_bytes, canon};
+ghost use Rattle.osm_write.specs.Canon.{bytes_field, group_bytes, groups_of, granularity_field, canon};
 ghost use Rattle.osm_write.specs.Write.{IsFault};
 ghost use Rattle.osm_write.specs.Laws.{FewTexts};
 ghost use Rattle.osm_block.specs.Block.{Block};

@@ -1,10 +1,8 @@
 //! What a block says for all its elements, gathered from them.
 
-ghost use Rattle.std.specs.Prelude.{◌≡◌, ◌<◌, ◌%◌, ◌==◌, OnOk, IfOk, map, List, option_to_list, unsigned_abs, ◌++◌};
-ghost use Rattle.std.specs.Option.{option_copied};
+ghost use Rattle.std.specs.Prelude.{◌≡◌, ◌%◌, ◌==◌, OnOk, IfOk, map, option_to_list, unsigned_abs};
 ghost use Rattle.std.specs.List.{flat_map, list_all, AllByRecursion};
 ghost use Rattle.osm_value.specs.Elements.{IsElement, info_of_element};
-ghost use Rattle.osm_value.specs.Value.{Text};
 ghost use Rattle.osm_write.specs.Texts.{with_texts};
 ghost use Rattle.osm_write.specs.Scale.{view};
 ghost use Rattle.osm_write.specs.Canon.{tag_texts, texts_of, coordinates_of, scale_of};

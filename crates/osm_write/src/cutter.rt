@@ -1,6 +1,6 @@
 //! Blocks of a list of elements, none of them too large.
 
-ghost use Rattle.std.specs.Prelude.{◌≡◌, ◌≤◌, List, length, take, drop, MatchResult, OnOk};
+ghost use Rattle.std.specs.Prelude.{◌≡◌, ◌≤◌, List, length, MatchResult, OnOk};
 ghost use Rattle.osm_value.specs.declared.element.Element.{Element};
 ghost use Rattle.osm_write.specs.Cutter.{StepOk, StepErr, NextOk, FirstFits};
 

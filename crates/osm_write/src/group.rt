@@ -1,6 +1,6 @@
 //! The message of a group.
 
-ghost use Rattle.std.specs.Prelude.{◌≡◌, ◌++◌, OnOk, IfOk, map, List};
+ghost use Rattle.std.specs.Prelude.{◌≡◌, ◌++◌, OnOk, IfOk, map};
 ghost use Rattle.std.specs.List.{flat_map, filter_map};
 ghost use Rattle.osm_write.specs.Scale.{view};
 ghost use Rattle.osm_write.specs.Canon.{group_bytes, way_or_relation, node_of, dense_bytes, message_field};

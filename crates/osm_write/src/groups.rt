@@ -1,6 +1,6 @@
 //! Groups: maximal runs of elements that may stand in one message.
 
-ghost use Rattle.std.specs.Prelude.{◌≡◌, ◌<◌, ◌≤◌, ◌++◌, ◌∷◌, OnOk, map, List, length, take, drop};
+ghost use Rattle.std.specs.Prelude.{◌≡◌, ◌<◌, ◌≤◌, ◌∷◌, length, take, drop};
 ghost use Rattle.osm_write.specs.Canon.{same, same_present, fit_together, groups_of};
 
 use osm_value::{Element, Info};

@@ -1,6 +1,6 @@
 //! The header block.
 
-ghost use Rattle.std.specs.Prelude.{◌≡◌, ◌++◌, ◌∷◌, [], List, IfOk, OnOk, None, if◌then◌else◌, codes};
+ghost use Rattle.std.specs.Prelude.{◌≡◌, ◌++◌, IfOk, OnOk, None};
 ghost use Rattle.std.specs.List.{flat_map};
 ghost use Rattle.osm_block.specs.HeaderBlock.{header_fault, header_value};
 ghost use Rattle.pbf_wire.specs.Readings.{fields};

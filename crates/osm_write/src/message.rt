@@ -1,6 +1,6 @@
 //! Ways and relations, and what they share with each other.
 
-ghost use Rattle.std.specs.Prelude.{◌≡◌, ◌++◌, OnOk, map, length};
+ghost use Rattle.std.specs.Prelude.{◌≡◌, ◌++◌, OnOk, map};
 ghost use Rattle.osm_write.specs.Scale.{view};
 ghost use Rattle.osm_write.specs.Canon.{index_of, flag_number, number_field, optional, info_bytes, head_bytes, way_bytes, message_field, members_bytes, relation_bytes, number_of_kind};
 

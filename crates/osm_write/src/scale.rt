@@ -1,6 +1,6 @@
 //! What a block says for all its elements: its texts and its granularities.
 
-ghost use Rattle.std.specs.Prelude.{◌≡◌, ◌<◌, ◌^◌, ◌-◌, ◌≤ℤ◌, pos, int_div, option_map};
+ghost use Rattle.std.specs.Prelude.{◌≡◌, ◌<◌, ◌^◌, ◌-◌, pos, option_map};
 ghost use Rattle.osm_value.specs.Ranges.{IsWide};
 ghost use Rattle.osm_write.specs.Arrays.{IsWideOrNone};
 ghost use Rattle.osm_write.specs.Canon.{index_of, raw_coordinate, times_of};

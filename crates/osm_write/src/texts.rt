@@ -1,6 +1,6 @@
 //! The texts of a block, each once, in order of first use.
 
-ghost use Rattle.std.specs.Prelude.{◌≡◌, ◌+◌, ◌<◌, ◌^◌, List, [], map, suc, OnOk, length};
+ghost use Rattle.std.specs.Prelude.{◌≡◌, ◌<◌, ◌^◌, List, [], map, OnOk};
 ghost use Rattle.osm_value.specs.Value.{Text};
 ghost use Rattle.osm_write.specs.Texts.{Knows, with_text};
 ghost use Rattle.osm_write.specs.Canon.{index_in};

@@ -88,9 +88,6 @@ ends_fine f (inr waits) =
     end_of_frame true v g e = refl
     end_of_frame false v g e = rw e refl
 
-pub fine_end_is : (f : Framing) → IfOk (part_end f.offset f.rest) (λ end. length f.rest ≤ end) → (ended f ≡ Ok tt) ↔ MayEnd f
-fine_end_is f within = (may_end f within, ends_fine f)
-
 -- a fault of a frame that is not early means that bytes are missing
 late_is_cut : (fault : FrameFault) (w : List ℕ) → FirstFault fault w → (is_early fault ≡ true → ⊥) → is_cut fault ≡ true
 late_is_cut LengthCut w first late = refl

@@ -74,19 +74,6 @@ pub record Cutting (size count : ℕ) (ends : List ℕ) (from : ℕ) (ranges : L
   pub latest : All (λ end. from < end → end * count / size ≤ from * count / size) ends
   pub last : last_end 0 ends * count / size ≤ from * count / size
 
-pub cutting-begins : (size count : ℕ) → Cutting size count [] 0 []
-cutting-begins size count = record {
-  tiled = refl;
-  within = omega arith;
-  framed = All-nil (λ (range : Range). Contains [] range.to);
-  before = All-nil (λ (range : Range). range.to ≤ 0);
-  seen = All-nil (λ end. end ≤ 0);
-  few = omega arith;
-  even = All-nil (IsEven [] count size);
-  latest = All-nil (λ end. 0 < end → end * count / size ≤ 0 * count / size);
-  last = omega arith;
-}
-
 -- a range that ends before a frame doesn't see its end
 even-behind : (ends : List ℕ) (end count size : ℕ) (range : Range) → range.to ≤ end → IsEven ends count size range → IsEven (ends ++ end ∷ []) count size range
 even-behind ends end count size range behind even =
@@ -152,15 +139,6 @@ cutting-whole size count ends from ranges is some many h =
       few = omega (arith, all, subst (λ n. length ranges ≤ n * count / size) end h.few);
       even = subst (λ n. All (IsEven ends count n) ranges) is h.even;
     }
-
-pub no-ranges : (count : ℕ) (ends : List ℕ) → length ends ≡ 0 → AreRanges ends count []
-no-ranges count [] none = record {
-  tiled = refl;
-  framed = All-nil (λ (range : Range). Contains [] range.to);
-  few = omega arith;
-  even = All-nil (IsEven [] count 0);
-}
-no-ranges count (end ∷ ends) none = absurd (omega arith)
 
 -- the size is the end of the last frame
 pub size-is : (size : ℕ) (ends : List ℕ) → slice_get ends (length ends - 1) ≡ Some size → size ≡ last_end 0 ends

@@ -1,14 +1,19 @@
 //! The commands on several databases, all of those that are named, one after the other.
 
 ghost use Rattle.std.specs.Prelude.{◌≡◌, ◌≤◌, ℕ, Bool, List, Option, Some, IfSome};
+ghost use Rattle.osm_value.specs.Sink.{Wrote};
 ghost use Rattle.osm_value.specs.declared.form.Form.TheVariants as form;
+ghost use Rattle.osm_store.specs.Calls.{OfHeld};
 ghost use Rattle.osm_store.specs.Held.{HeldMap};
+ghost use Rattle.osm_import.specs.Stores.{HoldsStill, Keeps};
+ghost use Rattle.osm_import.specs.declared.copy.CopyCounts.{CopyCounts as CopyCountsValue};
 ghost use Rattle.osm_parts.specs.Opening.{KeepsMaps};
 ghost use Rattle.osm_part_audits.specs.Judging.{ShowsPart};
 ghost use Rattle.osm_part_audits.specs.Showing.{ShowTogether};
 ghost use Rattle.osm_part_audits.specs.Together.{HoldFile};
+ghost use Rattle.pbfrow_commands.specs.Counting.{TellsCounts};
 ghost use Rattle.pbfrow_commands.specs.InParts.{TellsParts, TellsLines, TellsPbf};
-ghost use Rattle.pbfrow_commands.specs.Merging.{IsMergeOf, TakesOf};
+ghost use Rattle.pbfrow_commands.specs.Merging.{IsMergeOf, IsTotal, MergesStores, TakesOf, merge_status, merge_text};
 ghost use Rattle.pbfrow_commands.specs.Status.{TellsStatus};
 ghost use Rattle.pbfrow_commands.specs.VerifyingParts.{VerifiesParts};
 
@@ -32,6 +37,9 @@ pub fn ask_named<K: Reader + Drop, O: Several<K>, S: Sink>(
 ) -> u8
     ensures status { (size : Option ℕ) (maps : List HeldMap) → question ≡ Question.Status size → O.holds openings.old maps → O.is_honest openings.new
         → TellsParts (λ whole. TellsStatus whole size (O.failures openings.old) (O.failures openings.new) (S.written out.old) (S.written out.new) (S.has_failed out.new) result)
+        maps (O.failures openings.old) (O.failures openings.new) (S.written out.old) (S.written out.new) (S.has_failed out.new) result }
+    ensures counts { (size : Option ℕ) (maps : List HeldMap) → question ≡ Question.Counts size → O.holds openings.old maps → O.is_honest openings.new
+        → TellsParts (λ whole. TellsCounts whole size (O.failures openings.old) (O.failures openings.new) (S.written out.old) (S.written out.new) (S.has_failed out.new) result)
         maps (O.failures openings.old) (O.failures openings.new) (S.written out.old) (S.written out.new) (S.has_failed out.new) result }
     ensures lines { (size : Option ℕ) (partial : Bool) (maps : List HeldMap) → question ≡ Question.Export size partial form.Lines → O.holds openings.old maps → O.is_honest openings.new
         → TellsParts (TellsLines size partial (O.failures openings.old) (O.failures openings.new) (S.written out.old) (S.written out.new) (S.has_failed out.new) result)
@@ -78,6 +86,11 @@ pub fn merge_named<F: Reader + Drop, O: Several<F>, T: Keeper, S: Sink>(
         → result ≡ 0 → (after : HeldMap) × IsMergeOf maps held after × T.holds into.new after }
     ensures kept { (maps : List HeldMap) (held : HeldMap) → O.holds openings.old maps → O.is_honest openings.new → T.holds into.old held → T.is_honest into.new
         → T.is_open into.new → (after : HeldMap) × TakesOf maps held after × T.holds into.new after }
+    ensures stays { OfHeld T.Reader into.old into.new (λ held. T.is_open into.new → HoldsStill T.Reader into.new held) }
+    ensures left { OfHeld T.Reader into.old into.new (λ held. (left : HeldMap) → T.leaves into.new left → Keeps held left) }
+    ensures merges { (counts : List CopyCountsValue) × (outcome : _)
+        × MergesStores O.holds O.is_honest O.failures T.Reader openings.old openings.new (O.many openings.old) into.old into.new counts outcome × IsTotal counts outcome
+        × Wrote (S.written out.old) (merge_text counts outcome) (S.written out.new) (S.has_failed out.new) × (result ≡ merge_status outcome (S.has_failed out.new)) }
     ensures keeps { KeepsMaps O.holds O.is_honest O.is_open openings.old openings.new }
     ensures honest { T.is_honest into.new → T.is_honest into.old }
     ensures open_if { T.is_open into.new → T.is_open into.old }

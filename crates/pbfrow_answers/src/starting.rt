@@ -1,10 +1,11 @@
-//! Where an import begins and how much of its input it reads, and how much of each blob is compared, by the words that were
-//! given.
+//! Where an import begins, how much of its input it reads and which blobs it tells, and how much of each blob is compared, by
+//! the words that were given.
 
 ghost use Rattle.std.specs.Prelude.{◌≡◌, ◌<◌, ◌≤◌, IfSome, if◌then◌else◌};
 ghost use Rattle.pbfrow_words.specs.Filling.{begins_at, drops};
 ghost use Rattle.pbfrow_answers.specs.Starting.{most_bytes};
 
+use osm_import::Told;
 use osm_verify::Depth;
 use pbfrow_commands::import::Start;
 
@@ -34,6 +35,13 @@ pub fn most_bytes(start: Start, to: Option<u64>) -> u64
         None => u64::MAX,
         Some(to) => start.dropped + (to - start.at),
     }
+}
+
+/// Which blobs an import writes a line for: all, or only those that are bad or refused.
+pub fn told_of(quiet: bool) -> Told
+    ensures { result ≡ (if quiet then Told.Faults else Told.All) }
+{
+    if quiet { Told::Faults } else { Told::All }
 }
 
 /// How much of each blob is compared: its elements too, or its extent alone.

@@ -67,10 +67,6 @@ blob_behind type blob w n le f =
 pub rest-is : (w : List ℕ) (from : ℕ) → take (length w - from) (drop from w) ≡ drop from w
 rest-is w from = take_all (length w - from) (drop from w) (omega (arith, length-drop from w))
 
--- what lies in the rest of w lies in w
-pub span-drop : (w : List ℕ) (from at n : ℕ) → span at n (drop from w) ≡ span (from + at) n w
-span-drop w from at n = ap (take n) (drop-drop at from w) ∙ ap (λ k. take n (drop k w)) (omega arith)
-
 -- ---- a walk over fields that looks for the last bytes
 
 -- a place lies in w

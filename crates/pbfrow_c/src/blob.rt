@@ -1,6 +1,6 @@
 //! Where the payload of a blob lies.
 
-ghost use Rattle.std.specs.Prelude.{◌≡◌, ◌≤◌, ◌+◌, IfOk, IfErr, IfSome, length, take, drop, option_map, Result, Ok, Err, None};
+ghost use Rattle.std.specs.Prelude.{◌≡◌, ◌≤◌, ◌+◌, IfOk, IfErr, IfSome, length, take, drop, option_map};
 ghost use Rattle.pbf_wire.specs.Fault.{Gives};
 ghost use Rattle.pbf_wire.specs.Field.{view};
 ghost use Rattle.pbf_wire.specs.Readings.{bytes_of, fields, last, last_bytes};

@@ -1,7 +1,5 @@
 //! Blocks in columns.
 
-ghost use Rattle.std.specs.Prelude.{◌≡◌, List};
-ghost use Rattle.osm_block.specs.Block.{Block};
 ghost use Rattle.osm_block.specs.Phases.{Gives, fault};
 ghost use Rattle.pbfrow_c.specs.Blocks.{IsReading, CountsAnswer, ColumnsAnswer};
 

@@ -1,13 +1,12 @@
 //! Header blocks: their numbers and texts.
 
 ghost use Rattle.std.specs.Prelude.{◌≡◌, ◌++◌, IfNone, IfOk, IfSome, OnOk, length, map};
-ghost use Rattle.osm_value.specs.Value.{Text};
 ghost use Rattle.std.specs.Option.{option_copied};
 ghost use Rattle.pbf_wire.specs.Readings.{fields};
 ghost use Rattle.osm_block.specs.HeaderBlock.{header_fault, header_value, number_of};
 ghost use Rattle.osm_block.specs.HeaderTexts.{texts_left};
 ghost use Rattle.osm_columns.specs.Lists.{joined};
-ghost use Rattle.pbfrow_c.specs.Header.{IsTold, box_or_0, flag_of, listed, texts_of, values_of};
+ghost use Rattle.pbfrow_c.specs.Header.{IsTold, listed, texts_of, values_of};
 
 use osm_block::{BBox, HeaderBlock, Texts, read_header_block};
 use osm_columns::{TextColumn, put_texts, text_bytes_of, texts_fit};

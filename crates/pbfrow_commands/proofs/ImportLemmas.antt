@@ -34,9 +34,6 @@ skip-more count left n next old mid new buffer within most rest h read = record 
   read = Consumes-trans old mid new h.bytes (take n buffer) h.read read;
 }
 
-take-none : (n : ℕ) (buffer : List ℕ) → n ≡ 0 → take n buffer ≡ []
-take-none n buffer is = nil_from_length (take n buffer) (omega (arith, length-take n buffer))
-
 -- no bytes were skipped
 pub skips-nothing : (file : List ℕ) (old new : Known) → old ≡ Some file → Skips 0 old new → new ≡ Some file
 skips-nothing file old None is h = absurd (subst (λ (k : Known). Consumes k None h.bytes) is h.read)

@@ -1,3 +1,4 @@
+pub mod CensusLemmas
 pub mod CommandTexts
 pub mod ExportLemmas
 pub mod FindLemmas

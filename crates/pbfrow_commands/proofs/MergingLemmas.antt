@@ -1,5 +1,5 @@
 -- Stores that are copied into one, one after the other.
-use Rattle.std.proofs.Common.{◌≡◌, ℕ, zero, suc, ◌+◌, ◌-◌, ◌^◌, ◌<◌, ◌≤◌, min, Bool, List, [], ◌∷◌, ◌++◌, length, take, slice_get, Option, Some, None, Result, Ok, Err, add-one, append_assoc, refl, sym, ◌∙◌, ap, subst, inl, inr, arith}
+use Rattle.std.proofs.Common.{◌≡◌, ℕ, zero, suc, ◌+◌, ◌-◌, ◌^◌, ◌<◌, ◌≤◌, min, Bool, List, [], ◌∷◌, ◌++◌, length, take, slice_get, Option, Some, None, Result, Ok, Err, add-one, append_assoc, append-nil, refl, sym, ◌∙◌, ap, subst, inl, inr}
 use Rattle.std.specs.Prelude.{sum_by}
 use Rattle.std.specs.FinMap.{get, entries}
 use Rattle.std.specs.List.{flat_map}
@@ -10,12 +10,14 @@ use Rattle.osm_value.proofs.SinkLemmas.{Wrote-text}
 use Rattle.osm_store.specs.Held.{Blob, HeldMap}
 use Rattle.osm_store.specs.declared.keeper.Reader.{Ghosts}
 use Rattle.osm_import.specs.Copies.{IsMerged, IsUnited, Copies, CrashLeavesSome, Stops, held_among, FaultIsCaused, CopyHasCause, IsOwnCopy}
+use Rattle.osm_import.specs.Merges.{AreUnited, IsFrontUnited}
 use Rattle.osm_import.specs.Stores.{KeepsHeld}
 use Rattle.osm_reading.specs.Framings.{Known}
 use Rattle.osm_import.specs.declared.copy.CopyCounts.{CopyCounts}
 use Rattle.osm_import.specs.declared.copy.CopyFault.{CopyFault}
 use Rattle.osm_import.specs.declared.copy.CopyFault.TheVariants.{Refused, Spoiled, Store}
 use Rattle.osm_import.specs.declared.copy.CopyStop.{CopyStop}
+use Rattle.osm_import.proofs.MergeLemmas.{front_begun, front_behind}
 use Rattle.osm_parts.specs.Opening.{AddsUp, OnlyOpens}
 use Rattle.osm_parts.specs.Parts.{IsInPart}
 use Rattle.osm_parts.proofs.OpeningLemmas.{cause-closed, cause-later}
@@ -62,7 +64,7 @@ unheld-before held middle off kept free = at (get held off) refl
     at None is = is
     at (Some blob) is = absurd (let bad : Some blob ≡ None = sym (kept blob is) ∙ free in cc)
 
-pub takes-none : (maps : List HeldMap) (held : HeldMap) → TakesOf maps held held
+takes-none : (maps : List HeldMap) (held : HeldMap) → TakesOf maps held held
 takes-none maps held = record { kept = λ off blob is. is; only = λ off blob is. inl is }
 
 pub takes-one : (P : ℕ → Type 0) (source held after : HeldMap) → IsMerged P source held after → TakesOf (source ∷ []) held after
@@ -125,9 +127,9 @@ pub copies-at : (is_open : Type 0) (holds : HeldMap → Type 0) (source held : H
 copies-at is_open holds source held (Ok counts) copies = copies
 copies-at is_open holds source held (Err stop) copies = copies
 
-pub crash-takes : (leaves : HeldMap → Type 0) (source held left : HeldMap) (outcome : Result CopyCounts CopyStop) → CrashLeavesSome leaves source held outcome → leaves left → TakesOf (source ∷ []) held left
-crash-takes leaves source held left (Ok counts) crash may = takes-one (λ off. Unit {0}) source held left (crash left may)
-crash-takes leaves source held left (Err stop) crash may = let it = crash left may in takes-one (λ off. off < it.0) source held left it.1
+pub crash-front : (leaves : HeldMap → Type 0) (source held left : HeldMap) (outcome : Result CopyCounts CopyStop) → CrashLeavesSome leaves source held outcome → leaves left → IsFrontUnited (source ∷ []) held left
+crash-front leaves source held left (Ok counts) crash may = inr (left, crash left may, refl)
+crash-front leaves source held left (Err stop) crash may = inl (crash left may)
 
 pub own-merged : (outcome : Result CopyCounts CopyStop) → IsOwnCopy outcome → IsOwnMerge (merged_of outcome)
 own-merged (Ok counts) own = tt
@@ -180,13 +182,26 @@ merges-take is_open holds maps held counts (Err (Stopped stop)) (front, source, 
     at Spoiled never = absurd never
     at (Store fault) (after, united, now) = (after, takes-one (λ off. off < stop.off) source next after united, now up)
 
--- a crash at a store leaves what was held with blobs of the maps up to it
-pub left-takes : (maps : List HeldMap) (place : ℕ) (source held middle left : HeldMap) (counts : List CopyCounts) → slice_get maps place ≡ Some source → AreCopied (take place maps) counts held middle → TakesOf (source ∷ []) middle left → TakesOf maps held left
-left-takes maps place source held middle left counts at copied one =
+pub copied-united : (maps : List HeldMap) (counts : List CopyCounts) (held after : HeldMap) → AreCopied maps counts held after → AreUnited maps held after
+copied-united [] [] held after same = same
+copied-united [] (first ∷ counts) held after copied = absurd copied
+copied-united (source ∷ maps) [] held after copied = absurd copied
+copied-united (source ∷ maps) (first ∷ counts) held after (next, united, sum, among, rest) = (next, united, copied-united maps counts next after rest)
+
+-- all of them are a front
+pub copied-front : (maps : List HeldMap) (counts : List CopyCounts) (held after : HeldMap) → AreCopied maps counts held after → IsFrontUnited maps held after
+copied-front maps counts held after copied = subst (λ (l : List HeldMap). IsFrontUnited l held after) (append-nil maps) (front_behind maps [] held after after (copied-united maps counts held after copied) refl)
+
+front-wider : (source : HeldMap) (behind : List HeldMap) (middle left : HeldMap) → IsFrontUnited (source ∷ []) middle left → IsFrontUnited (source ∷ behind) middle left
+front-wider source behind middle left (inl part) = inl part
+front-wider source behind middle left (inr (next, united, same)) = inr (next, united, subst (λ (h : HeldMap). IsFrontUnited behind next h) (sym same) (front_begun behind next))
+
+-- a crash at a store leaves a front that ends in it
+pub left-front : (maps : List HeldMap) (place : ℕ) (source held middle left : HeldMap) (counts : List CopyCounts) → slice_get maps place ≡ Some source → AreCopied (take place maps) counts held middle → IsFrontUnited (source ∷ []) middle left → IsFrontUnited maps held left
+left-front maps place source held middle left counts at copied one =
     let it = parted maps place source at in
-    let both : TakesOf (take place maps ++ source ∷ []) held left = takes-then (take place maps) (source ∷ []) held middle left (copied-merges (take place maps) counts held middle copied).takes one in
-    let all : (take place maps ++ source ∷ []) ++ it.0 ≡ maps = append_assoc (take place maps) (source ∷ []) it.0 ∙ sym it.1 in
-    subst (λ (l : List HeldMap). TakesOf l held left) all (takes-wider (take place maps ++ source ∷ []) it.0 held left both)
+    subst (λ (l : List HeldMap). IsFrontUnited l held left) (sym it.1)
+    (front_behind (take place maps) (source ∷ it.0) held middle left (copied-united (take place maps) counts held middle copied) (front-wider source it.0 middle left one))
 
 -- ---- the counts and the lines
 

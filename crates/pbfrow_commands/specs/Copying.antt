@@ -3,6 +3,7 @@ use Rattle.std.specs.Prelude.{◌≡◌, ℕ, ◌≤◌, ◌++◌, Bool, List, R
 use Rattle.std.specs.Fmt.{decimal}
 use Rattle.osm_store.specs.Calls.{OfHeld}
 use Rattle.osm_store.specs.Held.{HeldMap}
+use Rattle.osm_store.specs.Keeping.{KeepsList}
 use Rattle.osm_store.specs.declared.keeper.Reader.{Ghosts}
 use Rattle.osm_import.specs.Copies.{Copies, CopyHasCause, CopyTells, CrashLeavesSome, IsOwnCopy}
 use Rattle.osm_import.specs.Stores.{CopiesInTurn, KeepsHeld}
@@ -19,7 +20,7 @@ pub record CopiesStore {A B : Type 0} (from : Ghosts A) (to : Ghosts B) (from_ol
   pub crash : (source held : HeldMap) → from.holds from_old source → from.is_honest from_new → to.holds to_old held → to.is_honest to_new → CrashLeavesSome (to.leaves to_new) source held outcome
   pub kept : OfHeld to to_old to_new (λ held. KeepsHeld to to_new outcome held)
   pub whole : OfHeld to to_old to_new (λ _. to.leaves_a_map to_new)
-  pub alone : OfHeld to to_old to_new (λ _. to.is_alone to_old → to.is_alone to_new)
+  pub list : OfHeld to to_old to_new (λ _. KeepsList to.lists to_old to_new)
   pub own : (source held : HeldMap) → from.holds from_old source → from.is_honest from_new → to.holds to_old held → to.is_honest to_new → IsOwnCopy outcome
   pub cause : CopyHasCause (from.failures from_old) (from.failures from_new) (to.failures to_old) (to.failures to_new) outcome
   pub told : CopyTells (from.failures from_old) (from.failures from_new) (to.failures to_old) (to.failures to_new) outcome

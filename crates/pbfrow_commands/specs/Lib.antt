@@ -1,5 +1,6 @@
 pub mod CommandLines
 pub mod Copying
+pub mod Counting
 pub mod Exporting
 pub mod Finding
 pub mod Importing

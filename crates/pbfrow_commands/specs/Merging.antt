@@ -1,12 +1,13 @@
 -- What the command `merge` does: to the store that it fills, from several others, and to its output.
-use Rattle.std.specs.Prelude.{◌≡◌, ◌⊎◌, ℕ, ◌+◌, Bool, List, [], ◌∷◌, ◌++◌, length, sum_by, Some, None, Result, Ok, Err, if◌then◌else◌}
+use Rattle.std.specs.Prelude.{◌≡◌, ◌⊎◌, ℕ, ◌+◌, Bool, List, [], ◌∷◌, ◌++◌, length, sum_by, Some, None, Result, Ok, Err, OnOk, if◌then◌else◌}
 use Rattle.std.specs.FinMap.{get, entries}
 use Rattle.std.specs.List.{flat_map}
 use Rattle.osm_store.specs.Calls.{OfHeld}
 use Rattle.osm_store.specs.Held.{Blob, HeldMap}
-use Rattle.osm_store.specs.Keeping.{IsForeign}
+use Rattle.osm_store.specs.Keeping.{IsForeign, KeepsList}
 use Rattle.osm_store.specs.declared.keeper.Reader.{Ghosts}
 use Rattle.osm_import.specs.Copies.{Copies, Stops, IsUnited, held_among, FaultIsCaused, IsOwnFault}
+use Rattle.osm_import.specs.Merges.{AreUnited, IsFrontUnited}
 use Rattle.osm_import.specs.Step.{HasCause}
 use Rattle.osm_import.specs.Stores.{KeepsHeld}
 use Rattle.osm_import.specs.declared.copy.CopyCounts.{CopyCounts}
@@ -111,13 +112,15 @@ IsOwnMerge (Ok total) = Unit {0}
 IsOwnMerge (Err (Unopened fault)) = ¬ (IsForeign fault)
 IsOwnMerge (Err (Stopped stop)) = IsOwnFault stop.fault
 
--- What a merge of so many stores came to: what the filled one holds, what a crash may leave of it, and why it ended early,
--- if it did. What it held stays, whatever the others hold and give.
+-- What a merge of so many stores came to: what the filled one holds, what a crash may leave of it, and why it ended early, if it
+-- did. A crash leaves what was held with a front of the merge, and after Ok with all of it. What was held stays, whatever the
+-- others hold and give.
 pub record MergesStores {A B : Type 0} (holds : A → List HeldMap → Type 0) (is_honest : A → Type 0) (failures : A → ℕ) (to : Ghosts B) (from_old from_new : A) (count : ℕ) (to_old to_new : B) (counts : List CopyCounts) (outcome : Result CopyCounts MergeStop) : Type 0 where
   pub merges : (maps : List HeldMap) (held : HeldMap) → holds from_old maps → is_honest from_new → length maps ≡ count → to.holds to_old held → to.is_honest to_new → Merges (to.is_open to_new) (to.holds to_new) maps held counts outcome
-  pub crash : (maps : List HeldMap) (held : HeldMap) → holds from_old maps → is_honest from_new → length maps ≡ count → to.holds to_old held → to.is_honest to_new → (left : HeldMap) → to.leaves to_new left → TakesOf maps held left
+  pub crash : (maps : List HeldMap) (held : HeldMap) → holds from_old maps → is_honest from_new → length maps ≡ count → to.holds to_old held → to.is_honest to_new → (left : HeldMap) → to.leaves to_new left → IsFrontUnited maps held left
+  pub all : (maps : List HeldMap) (held : HeldMap) → holds from_old maps → is_honest from_new → length maps ≡ count → to.holds to_old held → to.is_honest to_new → OnOk outcome ((left : HeldMap) → to.leaves to_new left → AreUnited maps held left)
   pub kept : OfHeld to to_old to_new (λ held. KeepsHeld to to_new outcome held)
   pub whole : OfHeld to to_old to_new (λ _. to.leaves_a_map to_new)
-  pub alone : OfHeld to to_old to_new (λ _. to.is_alone to_old → to.is_alone to_new)
+  pub list : OfHeld to to_old to_new (λ _. KeepsList to.lists to_old to_new)
   pub own : (maps : List HeldMap) (held : HeldMap) → holds from_old maps → is_honest from_new → length maps ≡ count → to.holds to_old held → to.is_honest to_new → IsOwnMerge outcome
   pub cause : MergeHasCause (failures from_old) (failures from_new) (to.failures to_old) (to.failures to_new) outcome

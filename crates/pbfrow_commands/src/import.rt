@@ -14,7 +14,7 @@ ghost use Rattle.osm_reading.specs.declared.stream.fault.StreamFault.{StreamFaul
 ghost use Rattle.pbfrow_commands.specs.Importing.{Skips, IsShort, Imports, ImportsRange, EndsBefore, EndsLine, EndsStop, import_status, HoldsFile, HoldsRange, IsTold, ends_input, front_of};
 
 use crate::report::put_summary;
-use osm_import::{Inlet, Source, Stop, StreamFault, Summary, import_stream};
+use osm_import::{Inlet, Source, Stop, StreamFault, Summary, Teller, import_stream};
 use osm_store::Keeper;
 use osm_value::Sink;
 use pbf_frame::{FrameFault, MAX_OFFSET};
@@ -62,22 +62,23 @@ fn skip<R: Source>(reader: &mut R, count: u64) -> Result<(), Short>
 }
 
 /// Reads and drops the bytes before the start, and imports the blobs from there on.
-fn import_from<R: Source, K: Keeper, S: Sink>(
+fn import_from<R: Source, K: Keeper, T: Teller, S: Sink>(
     alloc: Global,
     reader: &mut R,
     store: &mut K,
     start: Start,
+    teller: &T,
     out: &mut S,
 ) -> Result<Summary, StreamFault>
     requires { start.at ≤ MAX_OFFSET }
-    ensures imports { Imports start.dropped start.at (input R.Source reader.old reader.new) (output S.Sink out.old out.new) (store.new ≡ store.old) (Takes K.Reader store.old store.new) result }
+    ensures imports { Imports start.dropped start.at (input R.Source reader.old reader.new) (output (T.tells teller.now) S.Sink out.old out.new) (store.new ≡ store.old) (Takes K.Reader store.old store.new) result }
     ensures one_file { (file : List ℕ) (held : HeldMap) → R.bytes_left reader.old ≡ Some file → start.dropped ≡ 0 → start.at ≡ 0 → K.holds store.old held → K.is_honest store.new
         → IfOk result (λ summary. ImportsFile (K.holds store.new) file held summary) }
     ensures part { (piece : List ℕ) → R.bytes_left reader.old ≡ Some piece → start.dropped ≡ 0 → K.holds store.old empty → K.is_honest store.new
         → IfOk result (λ _. ImportsPart (K.holds store.new) start.at piece) }
 {
     match skip(reader, start.dropped) {
-        Ok(()) => import_stream(alloc, store, reader, start.at, MAX_BLOBS, out),
+        Ok(()) => import_stream(alloc, store, reader, start.at, MAX_BLOBS, teller, out),
         Err(_) => Err(StreamFault {
             fault: Stop::ReadFailed,
             at: start.at,
@@ -121,22 +122,23 @@ fn finish<S: Sink>(out: &mut S, outcome: Result<Summary, StreamFault>) -> u8
 }
 
 /// Imports the blobs of a reader into a store. The first `dropped` bytes are read and dropped; what comes behind them
-/// stands at the offset `at` of the file, and a blob has to begin there. Writes a line for each blob, and finally the
+/// stands at the offset `at` of the file, and a blob has to begin there. Writes a line for each blob that is told, and finally the
 /// counts or the line of the fault at which it stopped. Answers the exit status: 0 if all blobs are held, and 1 if a blob
 /// was bad or refused, the import stopped, or the output failed.
 ///
 /// If it answers 0 at the offset 0 over a reader whose bytes are known, none of them dropped, these are a file; and if the
 /// store held nothing but blobs of that file, what it holds now tiles the file. At any offset, they are frames one behind
 /// the other; and if the store held nothing, what it holds now is what a run of these at their offsets leaves.
-pub fn import<R: Source, K: Keeper, S: Sink>(
+pub fn import<R: Source, K: Keeper, T: Teller, S: Sink>(
     alloc: Global,
     reader: &mut R,
     store: &mut K,
     start: Start,
+    teller: &T,
     out: &mut S,
 ) -> u8
     requires { start.at ≤ MAX_OFFSET }
-    ensures imports { (outcome : Result SummaryValue StreamFaultValue) × (listed : Known) × Imports start.dropped start.at (input R.Source reader.old reader.new) (record (output S.Sink out.old out.new) { after = listed })
+    ensures imports { (outcome : Result SummaryValue StreamFaultValue) × (listed : Known) × Imports start.dropped start.at (input R.Source reader.old reader.new) (record (output (T.tells teller.now) S.Sink out.old out.new) { after = listed })
         (store.new ≡ store.old) (Takes K.Reader store.old store.new) outcome
         × EndsLine listed (S.written out.new) (S.has_failed out.new) outcome × (result ≡ import_status outcome (S.has_failed out.new)) }
     ensures one_file { (file : List ℕ) (held : HeldMap) → R.bytes_left reader.old ≡ Some file → start.dropped ≡ 0 → start.at ≡ 0 → K.holds store.old held → K.is_honest store.new
@@ -145,7 +147,7 @@ pub fn import<R: Source, K: Keeper, S: Sink>(
         → result ≡ 0 → ImportsPart (K.holds store.new) start.at piece }
     ensures bound { result ≤ 1 }
 {
-    let outcome = import_from(alloc, reader, store, start, out);
+    let outcome = import_from(alloc, reader, store, start, teller, out);
     finish(out, outcome)
 }
 
@@ -209,24 +211,32 @@ fn reached(
 }
 
 /// Imports the blobs of a reader that stand before the offset `to` of the file, from which on nothing is read.
-fn import_before<R: Read, K: Keeper, S: Sink>(
+fn import_before<R: Read, K: Keeper, T: Teller, S: Sink>(
     alloc: Global,
     reader: &mut R,
     store: &mut K,
     start: Start,
     to: u64,
+    teller: &T,
     out: &mut S,
 ) -> Result<Summary, StreamFault>
     requires drops { start.dropped ≤ start.at }
     requires begins { start.at < to }
     requires ends { to ≤ MAX_OFFSET }
     ensures imports { (outcome : Result SummaryValue StreamFaultValue) × (source : Input) × (source.before ≡ front_of (start.dropped + (to - start.at)) (R.remaining reader.old))
-        × Imports start.dropped start.at source (output S.Sink out.old out.new) (store.new ≡ store.old) (Takes K.Reader store.old store.new) outcome × IsTold to outcome result }
+        × Imports start.dropped start.at source (output (T.tells teller.now) S.Sink out.old out.new) (store.new ≡ store.old) (Takes K.Reader store.old store.new) outcome × IsTold to outcome result }
     ensures part { (piece : List ℕ) → front_of (start.dropped + (to - start.at)) (R.remaining reader.old) ≡ Some piece → start.dropped ≡ 0 → K.holds store.old empty → K.is_honest store.new
         → IfOk result (λ _. ImportsPart (K.holds store.new) start.at piece) }
 {
     let mut front = reader.take(start.dropped + (to - start.at));
-    let outcome = import_from(alloc, &mut Inlet::new(&mut front), store, start, out);
+    let outcome = import_from(
+        alloc,
+        &mut Inlet::new(&mut front),
+        store,
+        start,
+        teller,
+        out,
+    );
     reached(outcome, to, front.limit())
 }
 
@@ -237,23 +247,24 @@ fn import_before<R: Read, K: Keeper, S: Sink>(
 /// If it answers 0, every byte from the start to `to` is in a frame that is held: whole frames, each held at its offset,
 /// follow one another from the one to the other, and where the reader's bytes are known they are these frames. What was held
 /// before stays held, and beside it nothing is held but these frames.
-pub fn import_to<R: Read, K: Keeper, S: Sink>(
+pub fn import_to<R: Read, K: Keeper, T: Teller, S: Sink>(
     alloc: Global,
     reader: &mut R,
     store: &mut K,
     start: Start,
     to: u64,
+    teller: &T,
     out: &mut S,
 ) -> u8
     requires drops { start.dropped ≤ start.at }
     requires begins { start.at < to }
     requires ends { to ≤ MAX_OFFSET }
-    ensures imports { ImportsRange start.dropped start.at to (R.remaining reader.old) (output S.Sink out.old out.new) (store.new ≡ store.old) (Takes K.Reader store.old store.new) result }
+    ensures imports { ImportsRange start.dropped start.at to (R.remaining reader.old) (output (T.tells teller.now) S.Sink out.old out.new) (store.new ≡ store.old) (Takes K.Reader store.old store.new) result }
     ensures whole { OfHeld K.Reader store.old store.new (λ held. result ≡ 0 → HoldsRange (K.holds store.new) held start.dropped start.at to (R.remaining reader.old)) }
     ensures part { (bytes : List ℕ) → R.remaining reader.old ≡ Some bytes → start.dropped ≡ 0 → K.holds store.old empty → K.is_honest store.new
         → result ≡ 0 → ImportsPart (K.holds store.new) start.at (take (to - start.at) bytes) }
     ensures bound { result ≤ 1 }
 {
-    let outcome = import_before(alloc, reader, store, start, to, out);
+    let outcome = import_before(alloc, reader, store, start, to, teller, out);
     finish(out, outcome)
 }

@@ -2,6 +2,7 @@
 //! status, 0 or 1, and opens no file and reads no command line.
 #![tactic(auto)]
 
+pub mod counts;
 pub mod export;
 pub mod find;
 pub mod import;

@@ -5,6 +5,8 @@ ghost use Rattle.osm_value.specs.Sink.{Wrote};
 ghost use Rattle.osm_value.specs.Printing.{Prints};
 ghost use Rattle.osm_store.specs.Calls.{OfHeld};
 ghost use Rattle.osm_store.specs.Held.{HeldMap};
+ghost use Rattle.osm_store.specs.Keeping.{KeepsList};
+ghost use Rattle.osm_import.specs.Merges.{IsFrontUnited};
 ghost use Rattle.osm_import.specs.Stores.{HoldsStill, Keeps, KeepsHeld, Rereads};
 ghost use Rattle.osm_import.specs.declared.copy.CopyCounts.{CopyCounts as CopyCountsValue};
 ghost use Rattle.osm_parts.specs.Opening.{KeepsMaps, OnlyOpens};
@@ -84,10 +86,10 @@ fn merge_at<F: Reader + Drop, O: Openings<F>, T: Keeper, S: Sink>(
     ensures copies { (maps : List HeldMap) (source held : HeldMap) → O.holds openings.old maps → O.is_honest openings.new → slice_get maps place ≡ Some source → T.holds into.old held → T.is_honest into.new
         → CopiesAt (T.is_open into.new) (T.holds into.new) source held result }
     ensures crash { (maps : List HeldMap) (source held : HeldMap) → O.holds openings.old maps → O.is_honest openings.new → slice_get maps place ≡ Some source → T.holds into.old held → T.is_honest into.new
-        → (left : HeldMap) → T.leaves into.new left → TakesOf (source ∷ []) held left }
+        → (left : HeldMap) → T.leaves into.new left → IsFrontUnited (source ∷ []) held left }
     ensures kept { OfHeld T.Reader into.old into.new (λ held. KeepsHeld T.Reader into.new result held) }
     ensures whole { OfHeld T.Reader into.old into.new (λ _. T.leaves_a_map into.new) }
-    ensures alone { OfHeld T.Reader into.old into.new (λ _. T.is_alone into.old → T.is_alone into.new) }
+    ensures list { OfHeld T.Reader into.old into.new (λ _. KeepsList T.lists into.old into.new) }
     ensures own { (maps : List HeldMap) (source held : HeldMap) → O.holds openings.old maps → O.is_honest openings.new → slice_get maps place ≡ Some source → T.holds into.old held → T.is_honest into.new
         → IsOwnMerge result }
     ensures line { Prints S.Sink out.old out.new (store_line result) }

@@ -1,16 +1,14 @@
-//! Files, writers and stores that tell a watcher what they do. Each does what the one inside it does.
+//! Files, tellers and stores that tell a watcher what they do. Each does what the one inside it does.
 
 ghost use Rattle.std.specs.Prelude.{None};
-ghost use Rattle.osm_store.specs.Held.{HeldMap};
 
-use osm_import::SourceFailed;
+use osm_import::{Answer, SourceFailed, Teller};
 use osm_part_audits::FileBytes;
 use osm_store::{Extent, Found, Loaded, Reader, StoreFault};
 use osm_value::MemberKind;
 use pbfrow_reading::watcher::Watcher;
 use std::alloc::Global;
-use std::io;
-use std::io::{ErrorKind, Read, Seek, SeekFrom, Write};
+use std::io::{ErrorKind, Read, Seek, SeekFrom};
 
 /// A file that can seek and tells how many bytes were read of it, and of each read as of a blob. What it holds is said nowhere:
 /// no contract of `Seek` says what is read behind a seek.
@@ -51,30 +49,19 @@ impl<R: Read + Seek, P: Watcher> FileBytes for MeteredFile<'_, R, P> {
     }
 }
 
-/// A writer of lines, each of which is told as a blob.
+/// A teller that tells the watcher of each blob that was answered, whether or not its line is written.
 #[derive(Drop)]
-pub struct BlobLines<'a, W, P> {
-    pub writer: W,
+pub struct MeteredTeller<'a, T, P> {
+    pub teller: T,
     pub watcher: &'a P,
 }
 
-impl<W: Write, P: Watcher> Write for BlobLines<'_, W, P> {
-    ghost contents = { λ b. W.contents b.writer };
+impl<T: Teller, P: Watcher> Teller for MeteredTeller<'_, T, P> {
+    ghost tells = { λ m answer. T.tells m.teller answer };
 
-    fn write(&mut self, buf: &[u8]) -> io::Result<usize> {
-        let result = self.writer.write(buf);
-        if let Ok(count) = &result {
-            for byte in &buf[..*count] {
-                if *byte == b'\n' {
-                    self.watcher.see_blob();
-                }
-            }
-        }
-        result
-    }
-
-    fn flush(&mut self) -> io::Result<()> {
-        self.writer.flush()
+    fn tells(&self, answer: &Answer) -> bool {
+        self.watcher.see_blob();
+        self.teller.tells(answer)
     }
 }
 
@@ -93,7 +80,7 @@ impl<K: Reader, P: Watcher> Reader for MeteredStore<'_, K, P> {
 
     ghost leaves_a_map = { λ m. K.leaves_a_map m.store };
 
-    ghost is_alone = { λ m. K.is_alone m.store };
+    ghost lists = { λ m. K.lists m.store };
 
     ghost same_tables = { λ m n. K.same_tables m.store n.store };
 

@@ -79,7 +79,7 @@ pub(crate) fn put_gaps<S: Sink>(out: &mut S, gaps: &[(u64, u64)])
 }
 
 /// Writes `blobs BLOBS end END gaps GAPS`.
-fn put_counts<S: Sink>(out: &mut S, blobs: u64, end: u64, gaps: u64)
+pub(crate) fn put_counts<S: Sink>(out: &mut S, blobs: u64, end: u64, gaps: u64)
     ensures { Prints S.Sink out.old out.new (counts_line blobs end gaps) }
 {
     put_total(out, b"blobs ", blobs);

@@ -1,11 +1,11 @@
 //! The command `verify`: whether a store holds exactly what an import of a file gives.
 
-ghost use Rattle.std.specs.Prelude.{◌≡◌, ◌↔◌, ◌+◌, ◌-◌, ◌<◌, ◌≤◌, ◌++◌, ◌∷◌, [], filter, length, codes, true, ℕ, List, IsTrue, IfOk, IfErr, IfSome, OnOk, OnErr};
+ghost use Rattle.std.specs.Prelude.{◌≡◌, ◌↔◌, ◌+◌, ◌<◌, ◌≤◌, ◌++◌, ◌∷◌, [], filter, length, codes, true, ℕ, List, IsTrue, IfOk, IfErr, IfSome, OnOk, OnErr};
 ghost use Rattle.std.specs.Fmt.{decimal};
 ghost use Rattle.pbf_frame.specs.declared.part.TheConstants.{MAX_OFFSET as LAST};
 ghost use Rattle.osm_value.specs.Printing.{Prints};
 ghost use Rattle.osm_value.specs.declared.element.Element.{Element as ElementValue};
-ghost use Rattle.osm_store.specs.Audit.{AreCountable, ShowsCounts, counts_of as counts_of_rows, elements_held};
+ghost use Rattle.osm_store.specs.Audit.{counts_of as counts_of_rows, elements_held};
 ghost use Rattle.osm_store.specs.Calls.{KeepsTables, OfHeld};
 ghost use Rattle.osm_store.specs.Keeping.{IsForeign, extents_of};
 ghost use Rattle.osm_import.specs.Files.{IsFile};
@@ -15,7 +15,7 @@ ghost use Rattle.osm_import.specs.Stores.{Rereads, Stays};
 ghost use Rattle.osm_verify.specs.Agreements.{begins};
 ghost use Rattle.osm_verify.specs.Audits.{CountsMore};
 ghost use Rattle.osm_verify.specs.Laws.{IsExact};
-ghost use Rattle.pbfrow_commands.specs.Verifying.{Compared, HasCompared, HasCountedRows, HasElements, HasOwnElements, HasSeen, HasSeenInput, IsClosing, IsComparison, IsCompared, IsSeen, ComparesBlobs, ShowsFile, VerifiesInput, agree, agreement_line, close_text, compared_lines, comparison_line, counts_line, counts_of, extra_line, extra_lines, first_extra, header_line, is_agreed, is_whole};
+ghost use Rattle.pbfrow_commands.specs.Verifying.{Compared, HasCompared, HasCountedRows, HasElements, HasOwnElements, HasSeen, HasSeenInput, IsClosing, IsComparison, IsCompared, IsSeen, ComparesBlobs, ShowsFile, VerifiesInput, agree, agreement_line, close_text, compared_lines, comparison_line, counts_line, counts_of, extra_lines, first_extra, header_line, is_agreed, is_whole};
 ghost use Rattle.pbfrow_reading.specs.Walks.{IsPart, Part, status_of};
 
 use osm_import::{

@@ -4,12 +4,12 @@ ghost use Rattle.std.specs.Prelude.{◌≤◌};
 ghost use Rattle.pbfrow_words.specs.Words.{BeginsWithin, CutsSome, EndsWithin};
 
 use crate::copying::copy;
-use crate::database::{Query, ask, fill};
+use crate::database::{Part, Query, ask, fill};
 use crate::merging::merge;
 use crate::parts::ask_parts;
 use crate::verifying::compare_all;
 use osm_databases::databases::{CheckedDatabases, Databases};
-use pbfrow_answers::starting::{depth_of, start_of};
+use pbfrow_answers::starting::{depth_of, start_of, told_of};
 use pbfrow_cli::reading::{cut_file, read_file};
 use pbfrow_words::Words;
 
@@ -35,7 +35,12 @@ pub fn run<A: CheckedDatabases, D: Databases>(
             database,
             start,
             to,
-        } => fill(rt, filled, file, database, start_of(start), to),
+            quiet,
+        } => {
+            let start = start_of(start);
+            let part = Part { start, to };
+            fill(rt, filled, file, database, part, told_of(quiet))
+        }
         Words::Migrate { old, new } => copy(rt, asked, filled, old, new),
         Words::Merge { into, from } => merge(rt, asked, merged, into, from.as_slice()),
         Words::Verify {

@@ -16,13 +16,14 @@ ghost use Rattle.osm_import.specs.Merges.{ImportsPart};
 ghost use Rattle.osm_import.specs.Pbf.{IsPbfExport};
 ghost use Rattle.osm_import.specs.Stores.{Stays, Takes};
 ghost use Rattle.osm_import.specs.declared.export.fault.ExportFault.{ExportFault as ExportFaultValue};
+ghost use Rattle.pbfrow_commands.specs.Counting.{TellsCounts};
 ghost use Rattle.pbfrow_commands.specs.Exporting.{EndsExport};
 ghost use Rattle.pbfrow_commands.specs.Finding.{TellsMatches};
 ghost use Rattle.pbfrow_commands.specs.Importing.{HoldsFile, HoldsRange, ImportsAll, ImportsRange};
 ghost use Rattle.pbfrow_commands.specs.Status.{TellsStatus};
 
 use osm_databases::databases::{Databases, close, opened, opened_or_made};
-use osm_import::{Inlet, Stop};
+use osm_import::{Inlet, Stop, Teller, Told};
 use osm_store::{Keeper, Reader};
 use osm_value::{MemberKind, Outlet, Sink};
 use pbf_frame::MAX_OFFSET;
@@ -31,7 +32,7 @@ use pbfrow_answers::questions::{ask_one, goes_by_blobs};
 use pbfrow_answers::starting::most_bytes;
 use pbfrow_commands::find::find;
 use pbfrow_commands::import::{Start, import, import_to, seek_start};
-use pbfrow_commands::metered::{BlobLines, MeteredStore};
+use pbfrow_commands::metered::{MeteredStore, MeteredTeller};
 use pbfrow_meters::ending::{FAULTY, end};
 use pbfrow_meters::meter::Meter;
 use pbfrow_meters::output::standard_output;
@@ -52,58 +53,75 @@ pub(crate) enum Query {
     Element(MemberKind, i64),
 }
 
+/// What of a file an import reads.
+#[derive(Clone, Copy)]
+pub(crate) struct Part {
+    pub start: Start,
+    /// The offset at which the input has to end, above that of the start and at most 2^62.
+    pub to: Option<u64>,
+}
+
 /// Imports what a reader gives into a store, all of it or what stands before an offset, and answers the exit status: as
 /// `import` does the one, and `import_to` the other.
-fn imported<R: Read + Drop, K: Keeper, S: Sink>(
+fn imported<R: Read + Drop, K: Keeper, T: Teller, S: Sink>(
     alloc: Global,
     mut reader: R,
     store: &mut K,
     start: Start,
     to: Option<u64>,
+    teller: &T,
     out: &mut S,
 ) -> u8
     requires begins { start.at ≤ MAX_OFFSET }
     requires drops { start.dropped ≤ start.at }
     requires ends { IfSome to (λ n. (start.at < n) × (n ≤ MAX_OFFSET)) }
     // all of it
-    ensures all { to ≡ None → ImportsAll start.dropped start.at (R.remaining reader) (output S.Sink out.old out.new) (store.new ≡ store.old) (Takes K.Reader store.old store.new) result }
+    ensures all { to ≡ None → ImportsAll start.dropped start.at (R.remaining reader) (output (T.tells teller.now) S.Sink out.old out.new) (store.new ≡ store.old) (Takes K.Reader store.old store.new) result }
     ensures one_file { (file : List ℕ) (held : HeldMap) → to ≡ None → R.remaining reader ≡ Some file → start.dropped ≡ 0 → start.at ≡ 0 → K.holds store.old held → K.is_honest store.new
         → result ≡ 0 → HoldsFile (K.holds store.new) file held }
     ensures part { (piece : List ℕ) → to ≡ None → R.remaining reader ≡ Some piece → start.dropped ≡ 0 → K.holds store.old empty → K.is_honest store.new
         → result ≡ 0 → ImportsPart (K.holds store.new) start.at piece }
     // what stands before an offset
-    ensures range { (end : ℕ) → to ≡ Some end → ImportsRange start.dropped start.at end (R.remaining reader) (output S.Sink out.old out.new) (store.new ≡ store.old) (Takes K.Reader store.old store.new) result }
+    ensures range { (end : ℕ) → to ≡ Some end → ImportsRange start.dropped start.at end (R.remaining reader) (output (T.tells teller.now) S.Sink out.old out.new) (store.new ≡ store.old) (Takes K.Reader store.old store.new) result }
     ensures whole { (end : ℕ) → to ≡ Some end → OfHeld K.Reader store.old store.new (λ held. result ≡ 0 → HoldsRange (K.holds store.new) held start.dropped start.at end (R.remaining reader)) }
     ensures range_part { (end : ℕ) (bytes : List ℕ) → to ≡ Some end → R.remaining reader ≡ Some bytes → start.dropped ≡ 0 → K.holds store.old empty → K.is_honest store.new
         → result ≡ 0 → ImportsPart (K.holds store.new) start.at (take (end - start.at) bytes) }
     ensures bound { result ≤ 1 }
 {
     match to {
-        None => import(alloc, &mut Inlet::new(reader), store, start, out),
-        Some(to) => import_to(alloc, &mut reader, store, start, to, out),
+        None => import(alloc, &mut Inlet::new(reader), store, start, teller, out),
+        Some(to) => import_to(alloc, &mut reader, store, start, to, teller, out),
     }
 }
 
 /// Imports what a reader gives into a database, and answers the exit status.
-fn fill_from<D: Databases, R: Read + Drop, W: Write>(
+fn fill_from<D: Databases, R: Read + Drop, T: Teller, W: Write>(
     rt: &HostRuntime,
     files: &D,
     reader: R,
     database: &str,
-    start: Start,
-    to: Option<u64>,
+    part: Part,
+    teller: &T,
     out: &mut Outlet<W>,
 ) -> u8
-    requires begins { start.at ≤ MAX_OFFSET }
-    requires drops { start.dropped ≤ start.at }
-    requires ends { IfSome to (λ n. (start.at < n) × (n ≤ MAX_OFFSET)) }
+    requires begins { part.start.at ≤ MAX_OFFSET }
+    requires drops { part.start.dropped ≤ part.start.at }
+    requires ends { IfSome part.to (λ n. (part.start.at < n) × (n ≤ MAX_OFFSET)) }
     ensures { result ≤ 1 }
 {
     let mut store = match opened_or_made(rt, files, database) {
         Ok(store) => store,
         Err(fault) => return refuse(out, fault),
     };
-    let status = imported(rt.alloc(), reader, &mut store, start, to, out);
+    let status = imported(
+        rt.alloc(),
+        reader,
+        &mut store,
+        part.start,
+        part.to,
+        teller,
+        out,
+    );
     close(files, store);
     status
 }
@@ -115,40 +133,42 @@ pub(crate) fn fill<D: Databases>(
     files: &D,
     file: &str,
     database: &str,
-    start: Start,
-    to: Option<u64>,
+    part: Part,
+    told: Told,
 ) -> u8
-    requires begins { start.at ≤ MAX_OFFSET }
-    requires drops { start.dropped ≤ start.at }
-    requires ends { IfSome to (λ n. (start.at < n) × (n ≤ MAX_OFFSET)) }
+    requires begins { part.start.at ≤ MAX_OFFSET }
+    requires drops { part.start.dropped ≤ part.start.at }
+    requires ends { IfSome part.to (λ n. (part.start.at < n) × (n ≤ MAX_OFFSET)) }
     ensures { result ≤ 1 }
 {
     let meter = Meter::new(rt, true);
-    let lines = BlobLines {
-        writer: MeteredOutput {
-            writer: io::writer(rt),
-            watcher: &meter,
-        },
+    let lines = MeteredOutput {
+        writer: io::writer(rt),
         watcher: &meter,
     };
     // each line goes out before more is read
     let Ok(lines) = LineWriter::new(rt.alloc(), lines) else {
-        return refuse_memory(&mut Outlet::new(io::writer(rt)), Some(start.at));
+        return refuse_memory(&mut Outlet::new(io::writer(rt)), Some(part.start.at));
     };
     let mut out = Outlet::new(lines);
     let Ok(mut input) = File::open(rt, file) else {
         let fault = Stop::ReadFailed;
-        put_fault_at(&mut out, fault.number(), fault.name(), start.at);
+        put_fault_at(&mut out, fault.number(), fault.name(), part.start.at);
         return FAULTY;
     };
-    let all = start.dropped;
-    let start = seek_start(&mut input, start);
-    meter.measure_part(&input, all - start.dropped, most_bytes(start, to));
+    let all = part.start.dropped;
+    let start = seek_start(&mut input, part.start);
+    let part = Part { start, to: part.to };
+    meter.measure_part(&input, all - start.dropped, most_bytes(start, part.to));
     let reader = MeteredReader {
         reader: input,
         watcher: &meter,
     };
-    let status = fill_from(rt, files, reader, database, start, to, &mut out);
+    let teller = MeteredTeller {
+        teller: told,
+        watcher: &meter,
+    };
+    let status = fill_from(rt, files, reader, database, part, &teller, &mut out);
     meter.erase();
     status
 }
@@ -158,6 +178,8 @@ pub(crate) fn fill<D: Databases>(
 fn answer_query<K: Reader, S: Sink>(alloc: Global, store: &mut K, query: Query, out: &mut S) -> u8
     ensures status { (size : Option ℕ) (held : HeldMap) → query ≡ Query.Whole (Question.Status size) → K.holds store.old held → K.is_honest store.new
         → TellsStatus held size (K.failures store.old) (K.failures store.new) (S.written out.old) (S.written out.new) (S.has_failed out.new) result }
+    ensures counts { (size : Option ℕ) (held : HeldMap) → query ≡ Query.Whole (Question.Counts size) → K.holds store.old held → K.is_honest store.new
+        → TellsCounts held size (K.failures store.old) (K.failures store.new) (S.written out.old) (S.written out.new) (S.has_failed out.new) result }
     ensures lines { (size : Option ℕ) (partial : Bool) (held : HeldMap) → query ≡ Query.Whole (Question.Export size partial form.Lines) → K.holds store.old held → K.is_honest store.new
         → (answer : Result (Unit {0}) ExportFaultValue) × (text : Known) × IsExport held (size_of size (extents_of held)) partial (S.written out.old) text answer
         × ExportHasCause (K.failures store.old) (K.failures store.new) (S.has_failed out.new) answer × ExportIsOwn answer

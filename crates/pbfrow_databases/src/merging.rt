@@ -1,6 +1,9 @@
 //! The command that copies several databases into one: `merge`.
 
 ghost use Rattle.std.specs.Prelude.{◌≤◌};
+ghost use Rattle.osm_store.specs.Calls.{OfHeld};
+ghost use Rattle.osm_store.specs.Held.{HeldMap};
+ghost use Rattle.osm_import.specs.Stores.{HoldsStill, Keeps};
 ghost use Rattle.osm_databases.specs.Found.{AreFound};
 
 use osm_databases::databases::{Databases, close, opened, opened_or_made};
@@ -39,7 +42,8 @@ impl<'a, D: Databases> OpensNamed<MeteredSource<'a, D>> for Sources<'a, D> {
     }
 }
 
-/// Copies what databases hold into a store, one after the other, up to a fault, and answers the exit status.
+/// Copies what databases hold into a store, one after the other, up to a fault, and answers the exit status. Whatever they hold
+/// and whatever the status, what the store held stays, also after a crash.
 fn merge_from<D: Databases, T: Keeper, W: Write>(
     rt: &HostRuntime,
     files: &D,
@@ -48,7 +52,11 @@ fn merge_from<D: Databases, T: Keeper, W: Write>(
     meter: &Meter,
     out: &mut Outlet<W>,
 ) -> u8
-    ensures { result ≤ 1 }
+    ensures stays { OfHeld T.Reader into.old into.new (λ held. T.is_open into.new → HoldsStill T.Reader into.new held) }
+    ensures left { OfHeld T.Reader into.old into.new (λ held. (left : HeldMap) → T.leaves into.new left → Keeps held left) }
+    ensures honest { T.is_honest into.new → T.is_honest into.old }
+    ensures open_if { T.is_open into.new → T.is_open into.old }
+    ensures bound { result ≤ 1 }
 {
     let mut sources = InTurn::<MeteredSource<D>, _>::new(Sources { rt, files, meter }, names);
     merge_named::<MeteredSource<D>, _, _, _>(rt.alloc(), &mut sources, into, out)

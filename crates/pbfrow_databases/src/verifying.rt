@@ -1,11 +1,16 @@
 //! The command that compares a PBF file and a database, or several that hold parts of it: `verify`.
 
-ghost use Rattle.std.specs.Prelude.{◌≤◌};
+ghost use Rattle.std.specs.Prelude.{◌≡◌, ◌≤◌, ℕ, List, IfSome};
+ghost use Rattle.osm_store.specs.Calls.{OfHeld};
+ghost use Rattle.osm_import.specs.Files.{IsFile};
+ghost use Rattle.osm_import.specs.Stores.{Stays};
+ghost use Rattle.osm_verify.specs.Laws.{IsExact};
 ghost use Rattle.osm_databases.specs.Found.{AreReadFrom};
+ghost use Rattle.pbfrow_commands.specs.Verifying.{ShowsFile, VerifiesInput};
 
 use osm_checked::CheckedStore;
 use osm_databases::databases::{CheckedDatabases, opened_checked};
-use osm_store::StoreFault;
+use osm_store::{Audited, StoreFault};
 use osm_tree_audits::{Stray, stray_row};
 use osm_value::Outlet;
 use osm_verify::Depth;
@@ -20,6 +25,7 @@ use pbfrow_meters::output::standard_output;
 use pbfrow_reading::input::refuse_input;
 use pbfrow_reading::metered::MeteredReader;
 use sqlite_trees::store::Store;
+use std::alloc::Global;
 use std::fs::File;
 use std::io::{Read, Write};
 
@@ -34,12 +40,40 @@ fn tell_of_stray<S: Store>(rt: &HostRuntime, name: &str, trees: &mut S) {
     }
 }
 
+/// Compares what a reader gives with what a store holds, and answers the store, which was only read, and the exit status, as
+/// `verify` does. The meter is told of each byte and blob.
+fn compared<K: Audited, R: Read + Drop, W: Write>(
+    alloc: Global,
+    mut store: K,
+    reader: R,
+    depth: Depth,
+    meter: &Meter,
+    out: &mut Outlet<W>,
+) -> (K, u8)
+    ensures verified { OfHeld K.Reader store result.0 (λ held. VerifiesInput depth held (R.remaining reader) (W.contents out.old.writer) (W.contents out.new.writer) out.new.has_failed (K.failures store) (K.failures result.0) result.1) }
+    // At 0 the input is a file of good blobs, and the store holds what an import of it comes to.
+    ensures exact { OfHeld K.Reader store result.0 (λ held. result.1 ≡ 0
+        → IfSome (R.remaining reader) (λ bytes. (frames : List (List ℕ)) × IsFile bytes frames × IsExact depth held frames)) }
+    // At 0 by elements, whatever rows the tables have had, they are those that an import of the input writes.
+    ensures shown { K.is_honest result.0 → K.has_tables store → depth ≡ Depth.Elements → result.1 ≡ 0
+        → IfSome (R.remaining reader) (λ bytes. (frames : List (List ℕ)) × IsFile bytes frames × ShowsFile (K.has_rows (K.trees store)) K.layout (K.trees store) frames) }
+    ensures stays { Stays K.Reader store result.0 }
+    ensures bound { result.1 ≤ 1 }
+{
+    let mut input = MeteredReader {
+        reader,
+        watcher: meter,
+    };
+    let status = verify(alloc, &mut store, &mut input, depth, meter, out);
+    (store, status)
+}
+
 /// Compares what a reader gives with a database, each page and index of which is looked at as it is opened, and answers the
 /// exit status.
-fn compare_in<D: CheckedDatabases, R: Read, W: Write>(
+fn compare_in<D: CheckedDatabases, R: Read + Drop, W: Write>(
     rt: &HostRuntime,
     files: &D,
-    input: &mut R,
+    reader: R,
     database: &str,
     depth: Depth,
     meter: &Meter,
@@ -47,11 +81,11 @@ fn compare_in<D: CheckedDatabases, R: Read, W: Write>(
 ) -> u8
     ensures { result ≤ 1 }
 {
-    let mut store = match opened_checked(rt, files, database) {
+    let store = match opened_checked(rt, files, database) {
         Ok(store) => store,
         Err(fault) => return refuse(out, fault),
     };
-    let status = verify(rt.alloc(), &mut store, input, depth, meter, out);
+    let (store, status) = compared(rt.alloc(), store, reader, depth, meter, out);
     let mut trees = store.into_store();
     if status != 0 && depth == Depth::Elements {
         meter.erase();
@@ -114,11 +148,7 @@ pub(crate) fn compare_all<D: CheckedDatabases>(
         Ok(file) => {
             meter.measure(&file);
             if names.len() == 1 {
-                let mut input = MeteredReader {
-                    reader: file,
-                    watcher: &meter,
-                };
-                compare_in(rt, files, &mut input, names[0], depth, &meter, &mut out)
+                compare_in(rt, files, file, names[0], depth, &meter, &mut out)
             } else {
                 compare_parts(rt, files, file, names, depth, &meter, &mut out)
             }

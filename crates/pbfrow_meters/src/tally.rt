@@ -1,6 +1,6 @@
 //! What a command has done so far, and whether its progress line is due.
 
-ghost use Rattle.std.specs.Prelude.{◌≡◌, ◌↔◌, ◌+◌, ◌==◌, ◌<◌, ◌++◌, ◌∷◌, [], ℕ, List, Some, true, false, not, IsTrue};
+ghost use Rattle.std.specs.Prelude.{◌≡◌, ◌↔◌, ◌+◌, ◌==◌, ◌++◌, ◌∷◌, [], ℕ, List, Some, true, false, not, IsTrue};
 ghost use Rattle.pbfrow_reading.specs.Checking.{capped};
 ghost use Rattle.pbfrow_meters.specs.Tallies.{IsDue, at_least};
 

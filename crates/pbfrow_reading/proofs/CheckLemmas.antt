@@ -1,5 +1,5 @@
 -- Counting blobs one by one, and what `check` has done.
-use Rattle.std.proofs.Common.{◌≡◌, ◌≢◌, ℕ, ◌+◌, ◌-◌, ◌^◌, ◌==◌, ◌&&◌, min, cond, Bool, true, false, List, [], ◌∷◌, ◌++◌, length, Ok, Err, refl, sym, ap, subst, ◌∙◌, arith, append-nil, append_assoc, add-zero, ◌<◌, take, get_or}
+use Rattle.std.proofs.Common.{◌≡◌, ◌≢◌, ℕ, ◌+◌, ◌-◌, ◌^◌, ◌==◌, ◌&&◌, min, cond, Bool, true, List, [], ◌∷◌, ◌++◌, length, Ok, Err, refl, sym, ap, subst, ◌∙◌, arith, append-nil, append_assoc, add-zero, ◌<◌, take, get_or}
 use Rattle.std.specs.Prelude.{IfSome, is_ok, is_err}
 use Rattle.std.specs.List.{count_by, flat_map}
 use Rattle.std.specs.Io.KnownBytes.{Appends}
@@ -50,17 +50,6 @@ same a b c d e a' b' c' d' e' p q r s t = rw (p, q, r, s, t) refl
 
 count-push : {X : Type 0} (p : X → Bool) (xs : List X) (x : X) → count_by p (xs ++ x ∷ []) ≡ count_by p xs + cond (p x) 1 0
 count-push p xs x = sum_by_push (λ y. cond (p y) 1 0) xs x
-
--- a count with an element more, which counts or doesn't
-counted : (p : Element → Bool) (n old : ℕ) (es : List Element) (e : Element) → p e ≡ true → n ≡ min (old + 1) (2 ^ 64 - 1) → old ≡ capped (count_by p es) → n ≡ capped (count_by p (es ++ e ∷ []))
-counted p n old es e counts is was =
-    let more : count_by p (es ++ e ∷ []) ≡ count_by p es + 1 = count-push p es e ∙ ap (λ b. count_by p es + cond b 1 0) counts in
-    omega (arith, is, was, more)
-
-passed : (p : Element → Bool) (old : ℕ) (es : List Element) (e : Element) → p e ≡ false → old ≡ capped (count_by p es) → old ≡ capped (count_by p (es ++ e ∷ []))
-passed p old es e passes was =
-    let more : count_by p (es ++ e ∷ []) ≡ count_by p es + 0 = count-push p es e ∙ ap (λ b. count_by p es + cond b 1 0) passes in
-    omega (arith, was, more)
 
 flat-push : {X Y : Type 0} (f : X → List Y) (xs : List X) (x : X) → flat_map f (xs ++ x ∷ []) ≡ flat_map f xs ++ f x
 flat-push f xs x = sym (flat_map_more f [] xs x)

@@ -1,7 +1,7 @@
 -- Going over the frames of an input one by one, as a loop does.
 use Rattle.std.proofs.Common.{◌≡◌, ℕ, ◌+◌, ◌&&◌, Bool, true, false, List, [], ◌∷◌, ◌++◌, length, refl, sym, ap, subst, ◌∙◌, arith, append_assoc, append-nil, length-append, add-zero, zero-add}
 use Rattle.std.proofs.lemmas.Bool.{false≢true}
-use Rattle.std.specs.Io.KnownBytes.{Consumes, IsAtEnd, Keeps}
+use Rattle.std.specs.Io.KnownBytes.{Consumes, Keeps}
 use Rattle.std.proofs.KnownBytes.{Appends-kept, Consumes-trans, Consumes-nil}
 use Rattle.osm_value.specs.Sink.{Wrote, Writes}
 use Rattle.osm_value.proofs.SinkLemmas.{Appends-from_keeps, Wrote-append, Wrote-text, started, whole_text}
@@ -84,12 +84,6 @@ going-more Has line left was now at w old mid written before failed frames p so_
     }
 
 -- ---- how they end
-
--- the input has ended
-pub tells-whole : {A : Type 0} (Has : ℕ → Part A → Type 0) (line : ℕ → Part A → List ℕ) (left : Known) (now : Reading) (old written : Known) (failed : Bool) (frames : List (Part A))
-    → Going Has line left now old written failed frames → IsAtEnd now.left → TellsFrames Has line left old written failed frames Whole
-tells-whole Has line left now old written failed frames so_far end =
-    record { walked = record { found = so_far.found; behind = now.left; read = so_far.read; ended = end }; lines = so_far.lines }
 
 -- the next frame can't be read
 pub tells-early : {A : Type 0} (Has : ℕ → Part A → Type 0) (line : ℕ → Part A → List ℕ) (left : Known) (was now : Reading) (old written : Known) (failed : Bool) (frames : List (Part A)) (stop : StreamFault)

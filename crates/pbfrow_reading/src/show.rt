@@ -1,6 +1,6 @@
 //! The command `show`: each blob, with the lines of its header, its elements or its fault.
 
-ghost use Rattle.std.specs.Prelude.{◌≡◌, ◌≤◌, true, ℕ, List, Option, length, is_ok, IfOk, OnErr};
+ghost use Rattle.std.specs.Prelude.{◌≡◌, ◌≤◌, true, List, Option, length, is_ok, IfOk, OnErr};
 ghost use Rattle.std.specs.List.{flat_map};
 ghost use Rattle.std.specs.Option.{option_copied};
 ghost use Rattle.osm_block.specs.HeaderTexts.{texts_left};

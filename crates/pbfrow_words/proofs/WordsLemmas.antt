@@ -15,7 +15,7 @@ start_within (Skip n) (Some text) at is = is.1.2.2
 start_within (At n) from at is = is.1.2.2
 
 begins_within : (w : Words) (name : Text) (rows : List Row) → Says w name rows → BeginsWithin w
-begins_within (command.Import file database start to) name rows said = start_within start _ _ said.3
+begins_within (command.Import file database start to quiet) name rows said = start_within start _ _ said.3
 begins_within (command.Read reading file) name rows said = tt
 begins_within (command.Ranges file count) name rows said = tt
 begins_within (command.Migrate old new) name rows said = tt
@@ -30,7 +30,7 @@ said_begins_within w None said = absurd said
 
 cuts_some : (w : Words) (name : Text) (rows : List Row) → Says w name rows → CutsSome w
 cuts_some (command.Ranges file count) name rows said = said.2.1
-cuts_some (command.Import file database start to) name rows said = tt
+cuts_some (command.Import file database start to quiet) name rows said = tt
 cuts_some (command.Read reading file) name rows said = tt
 cuts_some (command.Migrate old new) name rows said = tt
 cuts_some (command.Merge into from) name rows said = tt
@@ -47,7 +47,7 @@ end_within start None given is = tt
 end_within start (Some n) given is = (is.0, is.1.2.2)
 
 ends_within : (w : Words) (name : Text) (rows : List Row) → Says w name rows → EndsWithin w
-ends_within (command.Import file database start to) name rows said = end_within start to _ said.4
+ends_within (command.Import file database start to quiet) name rows said = end_within start to _ said.4
 ends_within (command.Ranges file count) name rows said = tt
 ends_within (command.Read reading file) name rows said = tt
 ends_within (command.Migrate old new) name rows said = tt

@@ -1,5 +1,5 @@
 -- The commands that ask a database, as clap's model of a command has them, and what a question says of their matches.
-use Rattle.std.specs.Prelude.{◌≡◌, ℤ, List, Option, Some, [], ◌∷◌, codes}
+use Rattle.std.specs.Prelude.{◌≡◌, ℤ, true, false, List, Option, Some, [], ◌∷◌, codes}
 use Rattle.clap.specs.Words.{App, Row, Rule, Text, first_of, new_app, new_rule, one_of, with_rule, with_subcommand}
 use Rattle.osm_value.specs.declared.element.MemberKind.{MemberKind}
 use Rattle.osm_value.specs.declared.form.Form.{Form}
@@ -7,7 +7,7 @@ use Rattle.osm_value.specs.declared.form.Form.TheVariants as form
 use Rattle.pbfrow_words.specs.Arguments.{IsFlag, IsNumber, flag, offset_option, required_argument, required_arguments}
 use Rattle.pbfrow_words.specs.Element.{element_at}
 use Rattle.pbfrow_words.specs.declared.asking.Question.{Question}
-use Rattle.pbfrow_words.specs.declared.asking.Question.TheVariants.{Status, Export}
+use Rattle.pbfrow_words.specs.declared.asking.Question.TheVariants.{Status, Counts, Export}
 
 abbrev pub form_option : Rule
 form_option = record (new_rule (codes "form")) {
@@ -16,9 +16,12 @@ form_option = record (new_rule (codes "form")) {
   defaults = codes "lines" ∷ [];
 }
 
+abbrev pub counts_flag : Rule
+counts_flag = flag (codes "counts")
+
 abbrev pub status_command : App
-status_command = with_rule (with_rule (new_app (codes "status"))
-    (required_arguments (codes "DB"))) (offset_option (codes "size"))
+status_command = with_rule (with_rule (with_rule (new_app (codes "status"))
+    (required_arguments (codes "DB"))) (offset_option (codes "size"))) counts_flag
 
 abbrev pub with_export_choices : App → App
 with_export_choices command = with_rule (with_rule command (flag (codes "partial"))) form_option
@@ -42,6 +45,9 @@ IsForm form.Pbf given = given ≡ Some (codes "pbf")
 -- the question is that of a subcommand of this name with these matches
 abbrev pub Asks : Question → Text → List Row → Type 0
 Asks (Status size) name rows = (name ≡ codes "status") × IsNumber size (one_of (codes "size") rows)
+    × IsFlag false (one_of (codes "counts") rows)
+Asks (Counts size) name rows = (name ≡ codes "status") × IsNumber size (one_of (codes "size") rows)
+    × IsFlag true (one_of (codes "counts") rows)
 Asks (Export size partial how) name rows = (name ≡ codes "export") × IsNumber size (one_of (codes "size") rows)
     × IsFlag partial (one_of (codes "partial") rows) × IsForm how (first_of (codes "form") rows)
 

@@ -1,7 +1,7 @@
 -- The commands that fill a database, as clap's model of a command has them.
 use Rattle.std.specs.Prelude.{◌≡◌, ◌<◌, ℕ, Option, Some, None, false, codes}
 use Rattle.clap.specs.Words.{App, Rule, Text, new_app, with_rule, with_subcommand}
-use Rattle.pbfrow_words.specs.Arguments.{IsNumber, offset_option, required_argument, required_arguments}
+use Rattle.pbfrow_words.specs.Arguments.{IsNumber, flag, offset_option, required_argument, required_arguments}
 use Rattle.pbfrow_words.specs.declared.filling.Start.{Start}
 use Rattle.pbfrow_words.specs.declared.filling.Start.TheVariants.{Skip, At}
 
@@ -10,8 +10,8 @@ abbrev pub at_option : Rule
 at_option = record (offset_option (codes "at")) { is_free = false }
 
 abbrev pub import_command : App
-import_command = with_rule (with_rule (with_rule (with_rule (with_rule (new_app (codes "import"))
-    (required_argument (codes "FILE"))) (required_argument (codes "DB"))) (offset_option (codes "from"))) at_option) (offset_option (codes "to"))
+import_command = with_rule (with_rule (with_rule (with_rule (with_rule (with_rule (new_app (codes "import"))
+    (required_argument (codes "FILE"))) (required_argument (codes "DB"))) (offset_option (codes "from"))) at_option) (offset_option (codes "to"))) (flag (codes "quiet"))
 
 abbrev pub migrate_command : App
 migrate_command = with_rule (with_rule (new_app (codes "migrate"))

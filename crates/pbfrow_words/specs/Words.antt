@@ -25,10 +25,10 @@ abbrev pub Says : Words → Text → List Row → Type 0
 Says (command.Read reading file) name rows = Reads reading name × (text_of file ≡ first_of (codes "FILE") rows)
 Says (command.Ranges file count) name rows = (name ≡ codes "ranges")
     × (Some file.now ≡ first_of (codes "FILE") rows) × IsCount count (one_of (codes "N") rows)
-Says (command.Import file database start to) name rows = (name ≡ codes "import")
+Says (command.Import file database start to quiet) name rows = (name ≡ codes "import")
     × (Some file.now ≡ first_of (codes "FILE") rows)
     × (Some database.now ≡ first_of (codes "DB") rows) × IsStart start (one_of (codes "from") rows) (one_of (codes "at") rows)
-    × IsEnd start to (one_of (codes "to") rows)
+    × IsEnd start to (one_of (codes "to") rows) × IsFlag quiet (one_of (codes "quiet") rows)
 Says (command.Migrate old new) name rows = (name ≡ codes "migrate")
     × (Some old.now ≡ first_of (codes "OLD") rows) × (Some new.now ≡ first_of (codes "NEW") rows)
 Says (command.Merge into from) name rows = (name ≡ codes "merge")
@@ -42,12 +42,12 @@ Says (command.Find database kind id) name rows = (name ≡ codes "find")
 
 -- an import begins at 2^62 at most
 abbrev pub BeginsWithin : Words → Type 0
-BeginsWithin (command.Import file database start to) = begins_at start ≤ 4611686018427387904
+BeginsWithin (command.Import file database start to quiet) = begins_at start ≤ 4611686018427387904
 BeginsWithin _ = Unit {0}
 
 -- an import that has to end somewhere ends behind its start, and at 2^62 at most
 abbrev pub EndsWithin : Words → Type 0
-EndsWithin (command.Import file database start to) = IfSome to (λ n. (begins_at start < n) × (n ≤ 4611686018427387904))
+EndsWithin (command.Import file database start to quiet) = IfSome to (λ n. (begins_at start < n) × (n ≤ 4611686018427387904))
 EndsWithin _ = Unit {0}
 
 -- a file is cut into one range or more

@@ -23,6 +23,10 @@ pub enum Question {
     Status {
         size: Option<u64>,
     },
+    /// What `Status` asks, and the counts of the elements.
+    Counts {
+        size: Option<u64>,
+    },
     Export {
         size: Option<u64>,
         /// Whether what is held is written even if blobs are missing.
@@ -36,6 +40,11 @@ const STATUS_HELP: &str =
 and last 'blobs B end N gaps G'. Without --size, blobs that are missing at the
 end of the file go unnoticed.
 
+With --counts three more lines follow: 'nodes N ways W relations R', 'tags T links
+L' (links are the nodes of ways and the members of relations), and 'oldest TIME
+newest TIME', in milliseconds since 1970, or - for both if no element has a time.
+All elements are read for this.
+
 Several databases that hold blobs of one file, in any order, are read one after
 the other, as if one held all of it; a blob that several hold counts once. They
 may not hold different blobs at one offset (fault 63), nor blobs that overlap
@@ -45,6 +54,7 @@ Exit status: 0 if the databases were read, else 1.
 
 Examples:
   pbfrow status berlin.db --size 73400320
+  pbfrow status berlin.db --counts
   pbfrow status part-1.db part-2.db";
 
 const EXPORT_HELP: &str =
@@ -62,8 +72,8 @@ Exit status: 0 if all was written, else 1.
 
 Examples:
   pbfrow export berlin.db --size 73400320
-  pbfrow export berlin.db --form pbf > berlin.osm.pbf
-  pbfrow export part-1.db part-2.db --form pbf > berlin.osm.pbf";
+  pbfrow export berlin.db --form pbf > berlin-out.osm.pbf
+  pbfrow export part-1.db part-2.db --form pbf > berlin-out.osm.pbf";
 
 const FIND_HELP: &str =
     "Prints 'OFFSET POSITION LINE' for each time that the element is held: the offset
@@ -93,6 +103,17 @@ fn size_option<'a>(alloc: Global) -> Arg<'a>
     offset_option(alloc, "size", "Size of the whole PBF file in bytes")
 }
 
+fn counts_flag<'a>(alloc: Global) -> Arg<'a>
+    ensures rule { rule_of result ≡ definitions.counts_flag }
+    ensures local { result.global ≡ false }
+{
+    flag(
+        alloc,
+        "counts",
+        "Count the elements, their tags and links too, and tell their times",
+    )
+}
+
 fn status_command<'a>(alloc: Global) -> Result<Command<'a>, AllocError>
     ensures shape { IfOk result (λ c. app_of c ≡ definitions.status_command) }
     ensures local { IfOk result (λ c. (fields_of c).has_globals ≡ false) }
@@ -104,7 +125,8 @@ fn status_command<'a>(alloc: Global) -> Result<Command<'a>, AllocError>
         STATUS_HELP,
     );
     let command = with_argument(command, databases(alloc))?;
-    with_argument(command, size_option(alloc))
+    let command = with_argument(command, size_option(alloc))?;
+    with_argument(command, counts_flag(alloc))
 }
 
 fn with_export_choices<'a>(alloc: Global, command: Command<'a>) -> Result<Command<'a>, AllocError>
@@ -179,9 +201,12 @@ fn form_of(matches: &ArgMatches, id: &str) -> Option<Form>
 fn status_of(matches: &ArgMatches) -> Option<Question>
     ensures { IfSome result (λ q. Asks q (codes "status") (rows_of (found_of matches.now))) }
 {
-    Some(Question::Status {
-        size: number_of(matches, "size")?,
-    })
+    let size = number_of(matches, "size")?;
+    if flag_of(matches, "counts") {
+        Some(Question::Counts { size })
+    } else {
+        Some(Question::Status { size })
+    }
 }
 
 fn export_of(matches: &ArgMatches) -> Option<Question>

@@ -1,7 +1,7 @@
 //! The element that `find` looks for.
 
 ghost use Rattle.std.specs.Prelude.{◌≡◌, ◌≤◌, IfSome};
-ghost use Rattle.pbfrow_words.specs.Element.{Names, element_at, kind_at, magnitude_at, magnitude_from};
+ghost use Rattle.pbfrow_words.specs.Element.{Names, element_at, kind_at, magnitude_at};
 
 use osm_value::MemberKind;
 

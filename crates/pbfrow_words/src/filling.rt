@@ -7,8 +7,8 @@ ghost use Rattle.pbfrow_words.specs.Filling as definitions;
 ghost use Rattle.pbfrow_words.specs.Filling.{IsEnd, IsStart, begins_at};
 
 use crate::arguments::{
-    database, file, new_command, number_of, offset_option, required_argument, required_arguments,
-    with_argument, with_command,
+    database, file, flag, new_command, number_of, offset_option, required_argument,
+    required_arguments, with_argument, with_command,
 };
 use clap::{Arg, ArgMatches, Command};
 use std::alloc::{AllocError, Global};
@@ -26,15 +26,17 @@ const IMPORT_HELP: &str =
     "The database is made if it is missing or empty. Prints 'OFFSET stored COUNT' for
 each blob, 'OFFSET held' if it is held already, or the line of its fault; after
 a bad or refused blob it goes on with the next. At the end of the input it prints
-'blobs stored S held H bad B refused R'.
+'blobs stored S held H bad B refused R'. With --quiet a blob that is stored or
+held already gets no line.
 
 A blob is stored whole or not at all, even if the run is killed or the machine
 stops: run the same import again to complete it. Blobs may come in any order,
 over any number of runs.
 
 With --from the import begins behind the first N bytes of FILE, where a blob has
-to begin; they are dropped, and not read if FILE isn't a pipe. With --at nothing
-is dropped: FILE is a part that begins with a blob, at offset N of the whole.
+to begin; they are dropped, and if FILE isn't a pipe only the last of them is
+read. With --at nothing is dropped: FILE is a part that begins with a blob, at
+offset N of the whole.
 With --to it reads no byte at or after offset N of the whole, and an input that
 ends before N is 'fault 68 ReadFailed' at the offset where it ended. So exit
 status 0 says that every byte from the start to N is in a blob that is held,
@@ -44,9 +46,9 @@ into such parts.
 Exit status: 0 if all blobs are held, and the input reached N of --to, else 1.
 
 Examples:
-  pbfrow import berlin.osm.pbf berlin.db
-  pbfrow import berlin.osm.pbf part.db --from 1048576 --to 2097152
-  curl -r 1048576-2097151 https://example.org/berlin.osm.pbf |
+  pbfrow import berlin-raw.osm.pbf berlin.db
+  pbfrow import berlin-raw.osm.pbf part.db --from 1048576 --to 2097152
+  curl -r 1048576-2097151 https://example.org/berlin-raw.osm.pbf |
     pbfrow import /dev/stdin part.db --at 1048576 --to 2097152";
 
 const MIGRATE_HELP: &str =
@@ -104,7 +106,9 @@ fn import_command<'a>(alloc: Global) -> Result<Command<'a>, AllocError>
         "to",
         "Offset at which the input has to end, in bytes",
     );
-    with_argument(command, to)
+    let command = with_argument(command, to)?;
+    let quiet = flag(alloc, "quiet", "Print no line for a blob stored or held");
+    with_argument(command, quiet)
 }
 
 /// Where an import begins by its options. None if a number is above 2^62, or if clap let through both options.

@@ -27,8 +27,8 @@ only its line is printed.
 Exit status: 0 if the whole file is frames, else 1.
 
 Example, on four processors:
-  pbfrow ranges berlin.osm.pbf 4 | xargs -P 4 -L 1 sh -c \\
-    'pbfrow import berlin.osm.pbf part-$0.db --from $0 --to $1'";
+  pbfrow ranges berlin-raw.osm.pbf 4 | xargs -P 4 -L 1 sh -c \\
+    'pbfrow import berlin-raw.osm.pbf part-$0.db --from $0 --to $1'";
 
 fn count_argument<'a>(alloc: Global) -> Arg<'a>
     ensures rule { rule_of result ≡ definitions.count_argument }

@@ -26,8 +26,8 @@ above 126, and %, is written as % and two upper-case hexadecimal digits.
 Exit status: 0 if the whole file is frames, else 1.
 
 Examples:
-  pbfrow list berlin.osm.pbf
-  pbfrow list < berlin.osm.pbf";
+  pbfrow list berlin-raw.osm.pbf
+  pbfrow list < berlin-raw.osm.pbf";
 
 const CHECK_HELP: &str =
     "Prints the line of its fault for each bad blob, up to a frame fault, and last
@@ -36,7 +36,7 @@ const CHECK_HELP: &str =
 Exit status: 0 if there is no fault, else 1.
 
 Example:
-  pbfrow check berlin.osm.pbf";
+  pbfrow check berlin-raw.osm.pbf";
 
 const SHOW_HELP: &str =
     "Prints a line 'blob OFFSET TYPE LENGTH' for each blob, and after it the lines of
@@ -49,7 +49,7 @@ replication-sequence, replication-url.
 Exit status: 0 if there is no fault, else 1.
 
 Example:
-  pbfrow show berlin.osm.pbf | grep highway=";
+  pbfrow show berlin-raw.osm.pbf | grep highway=";
 
 fn reading_command<'a>(
     alloc: Global,

@@ -30,9 +30,9 @@ Exit status: 0 if all blobs of FILE are good and the databases hold these and no
 others, else 1.
 
 Examples:
-  pbfrow verify berlin.osm.pbf berlin.db
-  pbfrow verify berlin.osm.pbf berlin.db --elements
-  pbfrow verify berlin.osm.pbf part-1.db part-2.db";
+  pbfrow verify berlin-raw.osm.pbf berlin.db
+  pbfrow verify berlin-raw.osm.pbf berlin.db --elements
+  pbfrow verify berlin-raw.osm.pbf part-1.db part-2.db";
 
 fn verify_command<'a>(alloc: Global) -> Result<Command<'a>, AllocError>
     ensures shape { IfOk result (λ c. app_of c ≡ definitions.verify_command) }

@@ -40,6 +40,8 @@ pub enum Words<'a> {
         start: Start,
         /// The offset at which the input has to end, above that of the start and at most 2^62.
         to: Option<u64>,
+        /// Whether a blob that is stored or held gets no line.
+        quiet: bool,
     },
     Migrate {
         old: &'a str,
@@ -81,8 +83,8 @@ Exit status: 0 if all went well, 1 if a fault was printed, verify found a
 difference or the output couldn't be written, 2 for invalid arguments.
 
 Examples:
-  pbfrow check berlin.osm.pbf
-  pbfrow import berlin.osm.pbf berlin.db
+  pbfrow check berlin-raw.osm.pbf
+  pbfrow import berlin-raw.osm.pbf berlin.db
   pbfrow export berlin.db";
 
 /// The program with its commands.
@@ -120,6 +122,7 @@ fn import_of<'a>(matches: &ArgMatches<'a>) -> Option<Words<'a>>
         database: text_of(matches, "DB")?,
         start,
         to: end_of(matches, start)?,
+        quiet: flag_of(matches, "quiet"),
     })
 }
 

@@ -9,7 +9,8 @@ use crate::fixtures::{
 use crate::memory::{BodiesInMemory, NewStore, TablesInMemory, TreesInMemory};
 use osm_block::read_block;
 use osm_import::{
-    Answer, ExportFault, Inlet, StreamFault, Summary, deliver, deliver_all, gaps, import_stream,
+    Answer, ExportFault, Inlet, StreamFault, Summary, Told, deliver, deliver_all, gaps,
+    import_stream,
 };
 use osm_store::{Extent, Keeper, Reader, StoreFault};
 use osm_value::{Element, Form, MemberKind, Outlet, write_line};
@@ -165,7 +166,7 @@ pub fn put_block<K: Keeper>(
     store.put(alloc, off, fin, &extent.digest, extent.kind, &elements)
 }
 
-/// Imports what a reader gives, from 0 and at most so many blobs: the outcome, and the lines that are written.
+/// Imports what a reader gives, from 0 and at most so many blobs: the outcome, and the lines that are written, one for each blob.
 pub fn import<K: Keeper, R: Read + Drop>(
     alloc: Global,
     store: &mut K,
@@ -174,7 +175,15 @@ pub fn import<K: Keeper, R: Read + Drop>(
 ) -> (Result<Summary, StreamFault>, Vec<u8>) {
     let mut source = Inlet::new(reader);
     let mut out = Outlet::new(Vec::new(alloc));
-    let outcome = import_stream(alloc, store, &mut source, 0, max_blobs, &mut out);
+    let outcome = import_stream(
+        alloc,
+        store,
+        &mut source,
+        0,
+        max_blobs,
+        &Told::All,
+        &mut out,
+    );
     (outcome, out.into_inner())
 }
 

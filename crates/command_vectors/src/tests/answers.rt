@@ -3,13 +3,14 @@
 use super::parts::{Range, Ranges, part_of};
 use super::stores::{Blocks, Columns, NewStore, import_two_nodes};
 use super::support::{Closed, TWO_NODES};
+use osm_import::Told;
 use osm_store::StoreFault;
 use osm_value::{Form, Outlet, Sink};
 use osm_verify::Depth;
 use pbfrow_answers::ending::{let_go, refuse};
-use pbfrow_answers::named::ask_named;
+use pbfrow_answers::named::{ask_named, merge_named};
 use pbfrow_answers::questions::{ask_in_turn, ask_one, goes_by_blobs};
-use pbfrow_answers::starting::{depth_of, most_bytes, start_of};
+use pbfrow_answers::starting::{depth_of, most_bytes, start_of, told_of};
 use pbfrow_answers::turns::{InTurn, OpensNamed};
 use pbfrow_meters::ending::{FAULTY, end};
 use pbfrow_meters::meter::Meter;
@@ -24,6 +25,8 @@ use std::test::*;
 
 const STATUS: Question = Question::Status { size: None };
 
+const COUNTS: Question = Question::Counts { size: None };
+
 const LINES: Question = Question::Export {
     size: None,
     partial: false,
@@ -31,8 +34,12 @@ const LINES: Question = Question::Export {
 };
 
 /// What `status` and `export` write of the file of two nodes.
-const TOLD: [(Question, &[u8]); 2] = [
+const TOLD: [(Question, &[u8]); 3] = [
     (STATUS, b"blobs 2 end 84 gaps 0\n"),
+    (
+        COUNTS,
+        b"blobs 2 end 84 gaps 0\nnodes 2 ways 0 relations 0\ntags 0 links 0\noldest - newest -\n",
+    ),
     (LINES, b"n 1 1000 -100 [] {}\nn 2 900 -100 [] {}\n"),
 ];
 
@@ -102,9 +109,38 @@ fn expect_answers<K: NewStore, R: Abort + Alloc<A = Global>>(rt: &R) -> Result<(
 #[test]
 fn questions_are_answered(rt: HostRuntime) -> Result<(), Fail> {
     assert!(rt; goes_by_blobs(LINES));
+    assert!(rt; goes_by_blobs(COUNTS));
     assert!(rt; !goes_by_blobs(STATUS));
     expect_answers::<Blocks, _>(&rt)?;
     expect_answers::<Columns, _>(&rt)
+}
+
+/// What a merge of the databases of these names writes, and the exit status.
+fn merge_of<K: NewStore>(alloc: Global, names: &[&str], into: &mut K) -> (u8, Vec<u8>) {
+    let mut databases = InTurn::<K, _>::new(ByName { alloc }, names);
+    let mut out = Outlet::new(Vec::new(alloc));
+    let status = merge_named::<K, _, _, _>(alloc, &mut databases, into, &mut out);
+    (status, out.into_inner())
+}
+
+/// What was copied stays where a later name has no database, and the merge is begun again.
+#[test]
+fn databases_are_merged_by_their_names(rt: HostRuntime) -> Result<(), Fail> {
+    let mut into = Columns::new_store(rt.alloc()).ok_or("a store")?;
+    let (status, told) = merge_of(rt.alloc(), &["second", "third"], &mut into);
+    assert_eq!(rt; status, FAULTY);
+    let text = b"copied 1 held 0\nfault 65 Disk\n";
+    assert!(rt; told.as_slice() == text.as_slice());
+    let (status, told) = merge_of(rt.alloc(), &["second", "first"], &mut into);
+    assert_eq!(rt; status, 0);
+    let text = b"copied 0 held 1\ncopied 1 held 0\nblobs copied 1 held 1\n";
+    assert!(rt; told.as_slice() == text.as_slice());
+    for (question, text) in TOLD {
+        let mut out = Outlet::new(Vec::new(rt.alloc()));
+        assert_eq!(rt; ask_one(rt.alloc(), &mut into, question, &mut out), 0);
+        assert!(rt; out.into_inner().as_slice() == text);
+    }
+    Ok(())
 }
 
 #[test]
@@ -118,6 +154,8 @@ fn begins_and_ends_where_the_words_say(rt: HostRuntime) {
     assert_eq!(rt; most_bytes(placed, Some(1_500)), 500);
     assert_eq!(rt; depth_of(true), Depth::Elements);
     assert_eq!(rt; depth_of(false), Depth::Extents);
+    assert_eq!(rt; told_of(true), Told::Faults);
+    assert_eq!(rt; told_of(false), Told::All);
 }
 
 #[test]

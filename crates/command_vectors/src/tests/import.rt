@@ -1,10 +1,10 @@
 //! Tests of `import`.
 
 use super::stores::{
-    Blocks, Columns, NewStore, expect_import, import_four_blobs, import_two_nodes,
+    Blocks, Columns, NewStore, expect_import, expect_telling, import_four_blobs, import_two_nodes,
 };
 use super::support::{Breaking, Closed, TWO_NODES};
-use osm_import::Inlet;
+use osm_import::{Inlet, Told};
 use osm_value::Outlet;
 use pbfrow_commands::import::{Start, import};
 use std::alloc::Global;
@@ -47,6 +47,50 @@ fn imports_blobs_of_other_types_of<K: NewStore, R: Abort + Alloc<A = Global>>(
 fn imports_blobs_of_other_types(rt: HostRuntime) -> Result<(), Fail> {
     imports_blobs_of_other_types_of::<Blocks, _>(&rt)?;
     imports_blobs_of_other_types_of::<Columns, _>(&rt)
+}
+
+/// Of blobs that are stored or held nothing is written.
+fn imports_quietly_of<K: NewStore, R: Abort + Alloc<A = Global>>(rt: &R) -> Result<(), Fail> {
+    let mut store = K::new_store(rt.alloc()).ok_or("a store")?;
+    let mut header_again = Vec::new(rt.alloc());
+    header_again.extend_from_slice(&TWO_NODES[..])?;
+    header_again.extend_from_slice(&TWO_NODES[..47])?;
+    let mut differing = Vec::new(rt.alloc());
+    differing.extend_from_slice(&TWO_NODES[..83])?;
+    differing.extend_from_slice(&[2])?;
+    for (file, status, text) in [
+        (
+            &TWO_NODES[..],
+            0,
+            &b"blobs stored 2 held 0 bad 0 refused 0\n"[..],
+        ),
+        (
+            &TWO_NODES[..],
+            0,
+            &b"blobs stored 0 held 2 bad 0 refused 0\n"[..],
+        ),
+        (
+            &header_again[..],
+            1,
+            &b"fault 62 HeaderNotFirst at 84\nblobs stored 0 held 2 bad 1 refused 0\n"[..],
+        ),
+        (
+            &differing[..],
+            1,
+            &b"fault 63 Differs at 47\nblobs stored 0 held 1 bad 0 refused 1\n"[..],
+        ),
+        (&TWO_NODES[..83], 1, &b"fault 18 BlobCut at 47\n"[..]),
+    ] {
+        let input = Cursor::new(file);
+        expect_telling(rt, &mut store, input, 0, Told::Faults, status, text);
+    }
+    Ok(())
+}
+
+#[test]
+fn imports_quietly(rt: HostRuntime) -> Result<(), Fail> {
+    imports_quietly_of::<Blocks, _>(&rt)?;
+    imports_quietly_of::<Columns, _>(&rt)
 }
 
 fn completes_a_file_that_was_cut_of<K: NewStore, R: Abort + Alloc<A = Global>>(
@@ -145,7 +189,14 @@ fn imports_a_part_of<K: NewStore, R: Abort + Alloc<A = Global>>(rt: &R) -> Resul
         let start = Start { dropped: 0, at };
         let mut input = Inlet::new(Cursor::new(part));
         assert_eq!(rt;
-            import(rt.alloc(), &mut input, &mut store, start, &mut out),
+            import(
+                rt.alloc(),
+                &mut input,
+                &mut store,
+                start,
+                &Told::All,
+                &mut out
+            ),
             status
         );
         assert!(rt; out.into_inner().as_slice() == text);
@@ -275,7 +326,14 @@ fn stops_where_a_write_fails_of<K: NewStore, R: Abort + Alloc<A = Global>>(
     let mut input = Inlet::new(Cursor::new(&TWO_NODES[..]));
     let mut out = Outlet::new(Closed);
     assert_eq!(rt;
-        import(rt.alloc(), &mut input, &mut store, START, &mut out),
+        import(
+            rt.alloc(),
+            &mut input,
+            &mut store,
+            START,
+            &Told::All,
+            &mut out
+        ),
         1
     );
     expect_import(

@@ -2,6 +2,7 @@
 
 use super::stores::{Blocks, Columns, NewStore};
 use super::support::{Breaking, Dripping, TWO_NODES};
+use osm_import::Told;
 use osm_store::Keeper;
 use osm_value::Outlet;
 use pbfrow_commands::import::{Start, import_to, seek_start};
@@ -30,6 +31,7 @@ fn expect_import_to<K: Keeper, R: Read + Drop>(
             store,
             start,
             u64::from(to),
+            &Told::All,
             &mut out,
         );
         assert_eq!(rt; ended, status);
@@ -133,6 +135,33 @@ fn reads_no_further_of<K: NewStore, R: Abort + Alloc<A = Global>>(rt: &R) -> Res
 fn reads_no_further(rt: HostRuntime) -> Result<(), Fail> {
     reads_no_further_of::<Blocks, _>(&rt)?;
     reads_no_further_of::<Columns, _>(&rt)
+}
+
+/// Of blobs that are stored or held nothing is written.
+#[test]
+fn imports_quietly_to_an_offset(rt: HostRuntime) -> Result<(), Fail> {
+    let mut store = Columns::new_store(rt.alloc()).ok_or("a store")?;
+    let start = Start { dropped: 0, at: 0 };
+    for (length, status, text) in [
+        (60_usize, 1, &b"fault 68 ReadFailed at 60\n"[..]),
+        (84, 0, &b"blobs stored 1 held 1 bad 0 refused 0\n"[..]),
+    ] {
+        let mut input = Cursor::new(TWO_NODES.split_at(length).0);
+        let mut out = Outlet::new(Vec::new(rt.alloc()));
+        let told = Told::Faults;
+        let ended = import_to(
+            rt.alloc(),
+            &mut input,
+            &mut store,
+            start,
+            84,
+            &told,
+            &mut out,
+        );
+        assert_eq!(rt; ended, status);
+        assert!(rt; out.into_inner().as_slice() == text);
+    }
+    Ok(())
 }
 
 #[test]

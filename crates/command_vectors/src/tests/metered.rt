@@ -2,15 +2,17 @@
 
 use super::stores::{Columns, NewStore, import_two_nodes};
 use super::support::TWO_NODES;
-use osm_import::Inlet;
+use osm_import::{Inlet, Told};
 use osm_value::{Form, Outlet};
 use pbfrow_commands::export::export;
 use pbfrow_commands::import::{Start, import};
-use pbfrow_commands::metered::{BlobLines, MeteredStore};
+use pbfrow_commands::metered::{MeteredStore, MeteredTeller};
 use pbfrow_reading::metered::{MeteredOutput, MeteredReader};
 use pbfrow_reading::watcher::Watcher;
+use std::alloc::Global;
 use std::cell::Cell;
 use std::io::Cursor;
+use std::process::Abort;
 use std::test::*;
 
 /// A watcher that counts what it is told.
@@ -62,33 +64,42 @@ impl Watcher for Counting {
     }
 }
 
-/// All bytes of the input are told, and each line of the output.
-#[test]
-fn an_import_is_told(rt: HostRuntime) -> Result<(), Fail> {
+/// All bytes of the input are told, and each blob, whether or not its line is written.
+fn expect_told<R: Abort + Alloc<A = Global>>(rt: &R, answers: Told, lines: &[u8]) {
     let alloc = rt.alloc();
     let told = Counting::new();
     let input = MeteredReader {
         reader: Cursor::new(&TWO_NODES[..]),
         watcher: &told,
     };
-    let output = MeteredOutput {
+    let mut out = Outlet::new(MeteredOutput {
         writer: Vec::new(alloc),
         watcher: &told,
-    };
-    let mut out = Outlet::new(BlobLines {
-        writer: output,
-        watcher: &told,
     });
-    let mut store = Columns::new_store(alloc).expect(&rt, "a store");
+    let teller = MeteredTeller {
+        teller: answers,
+        watcher: &told,
+    };
+    let mut store = Columns::new_store(alloc).expect(rt, "a store");
     let start = Start { dropped: 0, at: 0 };
-    let status = import(alloc, &mut Inlet::new(input), &mut store, start, &mut out);
-    let text = out.into_inner().writer.writer;
+    let mut input = Inlet::new(input);
+    let status = import(alloc, &mut input, &mut store, start, &teller, &mut out);
+    let text = out.into_inner().writer;
     assert_eq!(rt; status, 0);
-    let lines = b"0 stored 0\n47 stored 2\nblobs stored 2 held 0 bad 0 refused 0\n";
-    assert!(rt; text.as_slice() == &lines[..]);
-    assert!(rt; told.bytes.get() == 84 && told.blobs.get() == 3);
+    assert!(rt; text.as_slice() == lines);
+    assert!(rt; told.bytes.get() == 84 && told.blobs.get() == 2);
     assert!(rt; told.output.get() == lines.len() && told.has_given_way.get());
-    Ok(())
+}
+
+#[test]
+fn an_import_is_told(rt: HostRuntime) {
+    let lines = b"0 stored 0\n47 stored 2\nblobs stored 2 held 0 bad 0 refused 0\n";
+    expect_told(&rt, Told::All, lines);
+    expect_told(
+        &rt,
+        Told::Faults,
+        b"blobs stored 2 held 0 bad 0 refused 0\n",
+    );
 }
 
 /// The end of the last blob is told as the size, and then the offset of each blob that is loaded.

@@ -4,7 +4,7 @@ ghost use Rattle.std.specs.Prelude.{◌≡◌, IfSome};
 
 use super::stores::{Blocks, Columns, NewStore, four_blobs};
 use super::support::{Closed, TWO_NODES, WRITTEN_HEADER};
-use osm_import::Inlet;
+use osm_import::{Inlet, Told};
 use osm_parts::Openings;
 use osm_store::{Reader, StoreFault};
 use osm_value::{Form, Outlet};
@@ -35,7 +35,7 @@ pub fn part_of<K: NewStore>(alloc: Global, file: &[u8], ranges: &[Range]) -> Opt
         };
         let mut input = Inlet::new(Cursor::new(file.get(..*to as usize)?));
         let mut out = Outlet::new(Vec::new(alloc));
-        import(alloc, &mut input, &mut store, start, &mut out);
+        import(alloc, &mut input, &mut store, start, &Told::All, &mut out);
     }
     if store.failures() == 0 {
         Some(store)

@@ -1,7 +1,7 @@
 //! Stores in memory for the tests of commands.
 
 use super::support::{EXTRA, TWO_NODES};
-use osm_import::Inlet;
+use osm_import::{Inlet, Told};
 use osm_store::{Audited, BlobStore, BodyStore, Keeper, StoreLayout, TableStore};
 use osm_value::Outlet;
 use pbfrow_commands::import::{Start, import};
@@ -50,12 +50,26 @@ pub fn expect_import<K: Keeper, R: Read + Drop>(
     status: u8,
     text: &[u8],
 ) {
+    expect_telling(rt, store, input, from, Told::All, status, text);
+}
+
+/// Imports an input, of which these answers are told, and expects this exit status and exactly this text.
+pub fn expect_telling<K: Keeper, R: Read + Drop>(
+    rt: &(impl Abort + Alloc<A = Global>),
+    store: &mut K,
+    input: R,
+    from: u8,
+    told: Told,
+    status: u8,
+    text: &[u8],
+) {
     let mut out = Outlet::new(Vec::new(rt.alloc()));
     let start = Start {
         dropped: u64::from(from),
         at: u64::from(from),
     };
-    let ended = import(rt.alloc(), &mut Inlet::new(input), store, start, &mut out);
+    let mut input = Inlet::new(input);
+    let ended = import(rt.alloc(), &mut input, store, start, &told, &mut out);
     assert_eq!(rt; ended, status);
     assert!(rt; out.into_inner().as_slice() == text);
 }

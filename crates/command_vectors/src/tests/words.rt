@@ -48,6 +48,10 @@ static IMPORT_TO_BEFORE: [&str; 8] = ["pbfrow", "import", "F", "D", "--from", "4
 
 static IMPORT_TO_TOO_FAR: [&str; 6] = ["pbfrow", "import", "F", "D", "--to", "4611686018427387905"];
 
+static IMPORT_QUIETLY: [&str; 9] = [
+    "pbfrow", "import", "--quiet", "F", "D", "--at", "47", "--to", "48",
+];
+
 static RANGES: [&str; 4] = ["pbfrow", "ranges", "F", "4294967295"];
 
 static RANGES_NONE: [&str; 4] = ["pbfrow", "ranges", "F", "0"];
@@ -87,6 +91,8 @@ static SHOW_TWO: [&str; 4] = ["pbfrow", "show", "F", "G"];
 static STATUS: [&str; 5] = ["pbfrow", "status", "D", "--size", "85"];
 
 static STATUS_OF_PARTS: [&str; 7] = ["pbfrow", "status", "D", "E", "D", "--size", "85"];
+
+static STATUS_WITH_COUNTS: [&str; 6] = ["pbfrow", "status", "D", "--counts", "--size", "85"];
 
 static STATUS_OF_NOTHING: [&str; 4] = ["pbfrow", "status", "--size", "85"];
 
@@ -133,7 +139,8 @@ fn words_of_import(rt: HostRuntime) {
                 file: "F",
                 database: "D",
                 start: Start::Skip(47),
-                to: None
+                to: None,
+                quiet: false
             })
         )
     );
@@ -144,7 +151,8 @@ fn words_of_import(rt: HostRuntime) {
                 file: "F",
                 database: "D",
                 start: Start::Skip(0),
-                to: None
+                to: None,
+                quiet: false
             })
         )
     );
@@ -161,7 +169,8 @@ fn words_of_import_of_a_part(rt: HostRuntime) {
                 file: "F",
                 database: "D",
                 start: Start::At(47),
-                to: None
+                to: None,
+                quiet: false
             })
         )
     );
@@ -174,21 +183,24 @@ fn expect_import_to<R: Abort + Alloc<A = Global>>(
     words: &'static [&'static str],
     start: Start,
     to: u64,
+    quiet: bool,
 ) {
     let expected = Words::Import {
         file: "F",
         database: "D",
         start,
         to: Some(to),
+        quiet,
     };
     assert!(rt; read_words(rt.alloc(), words).ok() == Some(expected));
 }
 
 #[test]
 fn words_of_import_to_an_offset(rt: HostRuntime) {
-    expect_import_to(&rt, IMPORT_TO.as_slice(), Start::At(47), 48);
-    expect_import_to(&rt, IMPORT_FROM_TO.as_slice(), Start::Skip(47), 84);
-    expect_import_to(&rt, IMPORT_TO_ALONE.as_slice(), Start::Skip(0), 84);
+    expect_import_to(&rt, IMPORT_TO.as_slice(), Start::At(47), 48, false);
+    expect_import_to(&rt, IMPORT_QUIETLY.as_slice(), Start::At(47), 48, true);
+    expect_import_to(&rt, IMPORT_FROM_TO.as_slice(), Start::Skip(47), 84, false);
+    expect_import_to(&rt, IMPORT_TO_ALONE.as_slice(), Start::Skip(0), 84, false);
     assert!(rt; read_words(rt.alloc(), IMPORT_TO_NOTHING.as_slice()).is_err());
     assert!(rt; read_words(rt.alloc(), IMPORT_TO_ITS_START.as_slice()).is_err());
     assert!(rt; read_words(rt.alloc(), IMPORT_TO_BEFORE.as_slice()).is_err());
@@ -283,6 +295,8 @@ fn words_of_status(rt: HostRuntime) -> Result<(), Fail> {
     let question = Question::Status { size: Some(85) };
     expect_question(&rt, STATUS.as_slice(), &["D"], question)?;
     expect_question(&rt, STATUS_OF_PARTS.as_slice(), &["D", "E", "D"], question)?;
+    let counts = Question::Counts { size: Some(85) };
+    expect_question(&rt, STATUS_WITH_COUNTS.as_slice(), &["D"], counts)?;
     assert!(rt; read_words(rt.alloc(), STATUS_OF_NOTHING.as_slice()).is_err());
     Ok(())
 }

@@ -1,14 +1,18 @@
 //! Stores over connections in memory and in the files of a machine: which store each is, how it is opened to be asked or filled,
 //! and what stands in the way.
 
+ghost use Rattle.std.specs.FinMap.{empty};
 ghost use Rattle.sqlite_store.specs.FileStore.{view};
 ghost use Rattle.sqlite_trees.specs.View.{IsClean};
+ghost use Rattle.osm_store.specs.declared.schema.layout.Layout.TheVariants.{Tables};
+ghost use Rattle.osm_trees.specs.Below.{HoldsBelow};
 ghost use Rattle.osm_databases.specs.Checked.{IsOfVersion};
 
 use super::openings::{Held, change, filled_machine, held_by, machine_of_blocks};
 use super::shared::{Machine, SharedFile};
 use osm_databases::databases::{
-    CheckedDatabases, Databases, close, opened, opened_checked, opened_or_made, source_of_blocks,
+    CheckedDatabases, Databases, close, made_or_told, opened, opened_checked, opened_or_made,
+    source_of_blocks,
 };
 use osm_databases::reason::told;
 use osm_databases::stores::{made, made_where_none, taking_blobs};
@@ -191,6 +195,8 @@ impl Databases for Machine {
 
     ghost gives = { λ _ _ trees. IsClean (view trees) → IsOfVersion (view trees) };
 
+    ghost makes = { λ _ _ trees. IsClean (view trees) → HoldsBelow Tables (view trees) empty };
+
     fn trees(
         &self,
         rt: &HostRuntime,
@@ -214,6 +220,15 @@ impl Databases for Machine {
     ) -> Result<Connection<FileStore<SharedFile>>, StoreFault> {
         let files = self.files(rt.alloc())?;
         told(rt, name, connection_in(rt, files, FEW_PAGES))
+    }
+
+    fn make(
+        &self,
+        rt: &HostRuntime,
+        name: &str,
+    ) -> Result<TreeStore<FileStore<SharedFile>>, StoreFault> {
+        let connection = self.connection(rt, name)?;
+        made_or_told(rt, name, connection)
     }
 
     fn close(&self, trees: FileStore<SharedFile>) {

@@ -1,16 +1,16 @@
 //! The arrays of dense nodes as absolute numbers.
 
-ghost use Rattle.std.specs.Prelude.{◌≡◌, ◌&&◌, ◌||◌, nat_eq, length, map, not, IfOk, ⊤};
+ghost use Rattle.std.specs.Prelude.{◌≡◌, ◌&&◌, ◌||◌, nat_eq, length, map, not, IfOk};
 ghost use Rattle.std.specs.List.{list_all};
 ghost use Rattle.pbf_wire.specs.Readings.{int32, is_there};
-ghost use Rattle.osm_value.specs.Ranges.{is_wide, is_version, is_uid, passes};
+ghost use Rattle.osm_value.specs.Ranges.{is_version, is_uid, passes};
 ghost use Rattle.osm_block.specs.declared.fault.BlockFault.TheVariants as faults;
 ghost use Rattle.osm_block.specs.Message.{boolean};
-ghost use Rattle.osm_block.specs.Block.{time, version as version_of};
+ghost use Rattle.osm_block.specs.Block.{version as version_of};
 ghost use Rattle.osm_block.specs.Differences.{front_sums, fits_i64};
 ghost use Rattle.osm_block.specs.Dense.{AreArraysOf, dense_message_of, arrays_in_range};
 ghost use Rattle.osm_block.specs.Fields.{context_of};
-ghost use Rattle.osm_block.specs.Phases.{Gives, when, same_length, dense_info_fits, deltas_of, coordinate_in_range, is_index};
+ghost use Rattle.osm_block.specs.Phases.{Gives, when, same_length, dense_info_fits, deltas_of, is_index};
 
 use super::fields::DenseFields;
 use crate::deltas::absolute;

@@ -1,9 +1,9 @@
 //! The arrays of dense nodes, as they stand in the message.
 
-ghost use Rattle.std.specs.Prelude.{◌≡◌, ◌++◌, map, OnOk, ⊤, ◌%◌, ◌^◌};
+ghost use Rattle.std.specs.Prelude.{◌≡◌, ◌++◌, map, OnOk, ⊤};
 ghost use Rattle.std.specs.List.{flat_map};
 ghost use Rattle.std.specs.Option.{option_or};
-ghost use Rattle.pbf_wire.specs.Readings.{fields, wire, packed, each, nums};
+ghost use Rattle.pbf_wire.specs.Readings.{fields, packed, each, nums};
 ghost use Rattle.osm_block.specs.Message.{Dense, dense_message, wires};
 ghost use Rattle.osm_block.specs.FieldsLeft.{first_there};
 ghost use Rattle.osm_block.specs.Dense.{dense_message_of};

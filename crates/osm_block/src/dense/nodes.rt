@@ -1,6 +1,6 @@
 //! Dense nodes, built from their arrays.
 
-ghost use Rattle.std.specs.Prelude.{◌≡◌, ◌*ℤ◌, ◌<◌, length, true, pos, IsTrue, IfOk, OnOk, Some, None, option_map, option_and_then, option_copied, slice_get, slice_index_or, map, ◌++◌};
+ghost use Rattle.std.specs.Prelude.{◌≡◌, ◌<◌, length, true, pos, IsTrue, OnOk, Some, option_map, option_and_then, option_copied, slice_get, slice_index_or, map};
 ghost use Rattle.std.specs.List.{list_all};
 ghost use Rattle.osm_value.specs.Ranges.{is_wide, is_uid, passes, AreTags};
 ghost use Rattle.osm_block.specs.Phases.{is_index, coordinate_in_range};

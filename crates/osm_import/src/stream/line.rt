@@ -1,11 +1,12 @@
 //! The lines of answered blobs.
 
-ghost use Rattle.std.specs.Prelude.{◌≡◌, ◌++◌, OnOk, OnErr, IsTrue};
+ghost use Rattle.std.specs.Prelude.{OnOk, OnErr, IsTrue};
 ghost use Rattle.std.specs.Io.KnownBytes.{Appends};
 ghost use Rattle.osm_value.specs.Sink.{AppendsFront};
 ghost use Rattle.osm_value.specs.Printing.{Prints};
-ghost use Rattle.osm_import.specs.Lines.{answer_line, stored_line, held_line};
+ghost use Rattle.osm_import.specs.Lines.{answer_line, stored_line, held_line, told_line};
 
+use super::teller::Teller;
 use crate::answer::Answer;
 use osm_reading::put_fault_at;
 use osm_value::{Sink, put, put_digits};
@@ -45,16 +46,20 @@ fn put_answer<S: Sink>(out: &mut S, off: u64, answer: &Answer)
 #[derive(Drop)]
 pub(super) struct NotWritten;
 
-/// Writes the line of an answered blob, and none for a fault of the store.
-pub(super) fn write_answer<S: Sink>(
+/// Writes the line of an answered blob if it is told, and none for a fault of the store.
+pub(super) fn write_answer<T: Teller, S: Sink>(
     out: &mut S,
+    teller: &T,
     off: u64,
     answer: &Answer,
 ) -> Result<(), NotWritten>
-    ensures line { OnOk result (Appends (S.written out.old) (S.written out.new) (answer_line off answer.now)) }
-    ensures front { OnErr result (AppendsFront (S.written out.old) (S.written out.new) (answer_line off answer.now)) }
+    ensures line { OnOk result (Appends (S.written out.old) (S.written out.new) (told_line (T.tells teller.now) off answer.now)) }
+    ensures front { OnErr result (AppendsFront (S.written out.old) (S.written out.new) (told_line (T.tells teller.now) off answer.now)) }
     ensures failed { OnErr result (IsTrue (S.has_failed out.new)) }
 {
+    if !teller.tells(answer) {
+        return Ok(());
+    }
     put_answer(out, off, answer);
     if out.failed() {
         return Err(NotWritten);

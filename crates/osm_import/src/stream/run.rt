@@ -1,6 +1,6 @@
 //! The run over a stream.
 
-ghost use Rattle.std.specs.Prelude.{◌≡◌, ◌≤◌, ◌<◌, ◌+◌, [], ℕ, List, Some, IfOk, IfErr};
+ghost use Rattle.std.specs.Prelude.{◌≡◌, ◌≤◌, [], ℕ, List, Some, IfOk, IfErr};
 ghost use Rattle.std.specs.FinMap.{empty};
 ghost use Rattle.osm_store.specs.Held.{HeldMap};
 ghost use Rattle.osm_import.specs.Merges.{ImportsPart};
@@ -11,6 +11,7 @@ ghost use Rattle.osm_import.specs.StreamSteps.{FrameStep, Gave};
 
 use super::line::write_answer;
 use super::summary::Summary;
+use super::teller::Teller;
 use crate::answer::Answer;
 use crate::delivery::deliver;
 use osm_reading::{Piece, Source, Stop, StreamFault, has_more, read_frame};
@@ -46,17 +47,18 @@ fn deliver_waiting<K: Keeper>(
     Ok(Some(Delivered { off, fin, answer }))
 }
 
-/// Reads the next frame, delivers it and writes its line. None where the input has ended.
-fn import_frame<K: Keeper, R: Source, S: Sink>(
+/// Reads the next frame, delivers it and writes its line if it is told. None where the input has ended.
+fn import_frame<K: Keeper, R: Source, T: Teller, S: Sink>(
     alloc: Global,
     keeper: &mut K,
     framer: &mut Framer,
     piece: &mut Piece,
     reader: &mut R,
+    teller: &T,
     out: &mut S,
 ) -> Result<Option<Delivered>, Stop>
     requires { framer.old.rest ≡ [] }
-    ensures step { FrameStep framer.old framer.new (input_behind R.Source piece.old piece.new reader.old reader.new) (output S.Sink out.old out.new)
+    ensures step { FrameStep framer.old framer.new (input_behind R.Source piece.old piece.new reader.old reader.new) (output (T.tells teller.now) S.Sink out.old out.new)
         (keeper.new ≡ keeper.old) (TakesOne K.Reader keeper.old keeper.new) result }
     ensures spent { IfErr result (λ stop. stop ≡ Stop.ReadFailed → piece.new ≡ []) }
 {
@@ -69,7 +71,7 @@ fn import_frame<K: Keeper, R: Source, S: Sink>(
     if let Answer::Fault(fault) = blob.answer {
         return Err(Stop::Store(fault));
     }
-    match write_answer(out, blob.off, &blob.answer) {
+    match write_answer(out, teller, blob.off, &blob.answer) {
         Ok(()) => Ok(Some(blob)),
         Err(_) => Err(Stop::WriteFailed),
     }
@@ -88,9 +90,9 @@ fn ended(from: u64, summary: Summary) -> Result<Summary, StreamFault>
     Ok(summary)
 }
 
-/// Imports the frames of a reader that stands at the offset `from`, in bytes and at most 2^62, each with one line:
-/// `OFFSET stored COUNT`, `OFFSET held`, or `fault NUMBER NAME at OFFSET` for a blob that is bad or refused, and goes
-/// on. At `Ok` nothing is left in the reader. It stops, with the offset of the frame that was being read or delivered:
+/// Imports the frames of a reader that stands at the offset `from`, in bytes and at most 2^62, each with one line if the
+/// teller says so: `OFFSET stored COUNT`, `OFFSET held`, or `fault NUMBER NAME at OFFSET` for a blob that is bad or refused,
+/// and goes on. At `Ok` nothing is left in the reader. It stops, with the offset of the frame that was being read or delivered:
 ///
 /// - at a fault of a frame, and with `NoHeaderFirst` where the input is empty and `from` is 0;
 /// - with `Store` where a call of the store has failed or memory was refused, and with no line for that frame;
@@ -102,16 +104,17 @@ fn ended(from: u64, summary: Summary) -> Result<Summary, StreamFault>
 ///
 /// Over the bytes of a whole reader, from 0, `Ok` says that they are a file; and where the store held nothing but
 /// entries of that file and no blob was bad, what it holds now tiles the file.
-pub fn import_stream<K: Keeper, R: Source, S: Sink>(
+pub fn import_stream<K: Keeper, R: Source, T: Teller, S: Sink>(
     alloc: Global,
     keeper: &mut K,
     reader: &mut R,
     from: u64,
     max_blobs: u32,
+    teller: &T,
     out: &mut S,
 ) -> Result<Summary, StreamFault>
     requires { from ≤ MAX_OFFSET }
-    ensures streams { Streams from max_blobs (input R.Source reader.old reader.new) (output S.Sink out.old out.new) (Takes K.Reader keeper.old keeper.new) result }
+    ensures streams { Streams from max_blobs (input R.Source reader.old reader.new) (output (T.tells teller.now) S.Sink out.old out.new) (Takes K.Reader keeper.old keeper.new) result }
     ensures one_file { (file : List ℕ) (held : HeldMap) → R.bytes_left reader.old ≡ Some file → from ≡ 0 → K.holds keeper.old held → K.is_honest keeper.new
         → IfOk result (λ summary. ImportsFile (K.holds keeper.new) file held summary) }
 
@@ -134,7 +137,7 @@ pub fn import_stream<K: Keeper, R: Source, S: Sink>(
     };
     let mut framer = Framer::new(alloc, from);
     for _blobs in 0..max_blobs {
-        match import_frame(alloc, keeper, &mut framer, &mut piece, reader, out) {
+        match import_frame(alloc, keeper, &mut framer, &mut piece, reader, teller, out) {
             Ok(Some(blob)) => summary.add(&blob.answer, blob.fin),
             Ok(None) => return ended(from, summary),
             Err(fault) => {

@@ -1,25 +1,10 @@
 -- A loop that compares rows with those that items stand for, one after the other.
-use Rattle.std.proofs.Common.{◌≡◌, ℕ, zero, suc, ◌+◌, ◌<◌, ◌≤◌, List, [], ◌∷◌, ◌++◌, length, map, take, get_or, refl, sym, ap, ap₂, ◌∙◌, arith}
-use Rattle.std.proofs.lemmas.List.{get_or-map, length-map, take_all}
+use Rattle.std.proofs.Common.{◌≡◌, ℕ, zero, suc, ◌+◌, ◌<◌, List, [], ◌∷◌, ◌++◌, length, map, take, get_or, refl, sym, ap, ap₂, ◌∙◌, arith}
+use Rattle.std.proofs.lemmas.List.{get_or-map, length-map}
 use Rattle.sqlite.specs.Order.{Row}
 use Rattle.osm_value.specs.declared.element.Element.{Element}
 use Rattle.osm_store.specs.Rows.{Placed, placed}
-use Rattle.osm_store.proofs.PutLemmas.Placing.{next_taken, mapped_more, first_rows_more}
-
-module _ {X Y : Type 0} (row : X → Y) (ys : List Y) (xs : List X) where
-  pub same_more : (at : ℕ) (y : Y) (x : X) → at < length ys → at < length xs → y ≡ get_or ys at y → x ≡ get_or xs at x → take at ys ≡ map row (take at xs) → y ≡ row x
-      → take (at + 1) ys ≡ map row (take (at + 1) xs)
-  same_more at y x low below is here before same =
-      next_taken ys at y low is ∙ ap₂ (λ a b. a ++ b) before (ap (λ z. z ∷ []) same) ∙ sym (mapped_more row xs at x below here)
-
-  pub same_at : (at : ℕ) (y : Y) (x : X) → at < length xs → y ≡ get_or ys at y → x ≡ get_or xs at x → ys ≡ map row xs → y ≡ row x
-  same_at at y x below is here all = is ∙ ap (λ l. get_or l at y) all ∙ get_or-map row xs at x y below ∙ ap row (sym here)
-
-  pub same_length : ys ≡ map row xs → length ys ≡ length xs
-  same_length all = ap length all ∙ length-map xs row
-
-  pub all_same : (at : ℕ) → length ys ≤ at → length xs ≤ at → take at ys ≡ map row (take at xs) → ys ≡ map row xs
-  all_same at past beyond so_far = sym (take_all at ys past) ∙ so_far ∙ ap (map row) (take_all at xs beyond)
+use Rattle.osm_store.proofs.PutLemmas.Placing.{next_taken, first_rows_more}
 
 -- the same of the elements of a blob, each at its position
 placed_get : (off position : ℕ) (es : List Element) (at : ℕ) (e : Element) (p : Placed) → at < length es → get_or (placed off position es) at p ≡ (off, position + at, get_or es at e)
@@ -46,6 +31,3 @@ module _ (row : Placed → Row) (off : ℕ) (rows : List Row) (es : List Element
 
   pub placed_same_length : rows ≡ map row (placed off 0 es) → length rows ≡ length es
   placed_same_length all = ap length all ∙ length-map (placed off 0 es) row ∙ placed_long off 0 es
-
-  pub placed_all_same : (at : ℕ) → length rows ≤ at → length es ≤ at → take at rows ≡ map row (placed off 0 (take at es)) → rows ≡ map row (placed off 0 es)
-  placed_all_same at past beyond so_far = sym (take_all at rows past) ∙ so_far ∙ ap (λ l. map row (placed off 0 l)) (take_all at es beyond)

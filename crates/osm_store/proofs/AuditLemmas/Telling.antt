@@ -1,5 +1,5 @@
 -- What a bool that tells one fact tells of another.
-use Rattle.std.proofs.Common.{◌≡◌, Bool, false, true≢false, List, IsTrue, Result, Ok, Err, sym, ◌∙◌, subst}
+use Rattle.std.proofs.Common.{◌≡◌, Bool, List, Result, Ok, Err, subst}
 use Rattle.std.specs.Prelude.{◌↔◌, IfOk, IfErr, MatchResult}
 
 pub iff_then : {A B C : Type 0} → A ↔ B → B ↔ C → A ↔ C
@@ -15,10 +15,6 @@ ok_told (Err e) f h = tt
 
 pub meant : {X : Type 0} {T : Type 0} (xs ys zs : List X) → ys ≡ zs → T ↔ (xs ≡ ys) → T ↔ (xs ≡ zs)
 meant {X} {T} xs ys zs is told = subst (λ (l : List X). T ↔ (xs ≡ l)) is told
-
--- what is false of a part is false of the whole
-pub untrue : {A T : Type 0} (b : Bool) → b ≡ false → IsTrue b ↔ A → (T → A) → IsTrue false ↔ T
-untrue b is told part = ((λ bad. absurd (true≢false (sym bad))), λ whole. absurd (true≢false (sym (told.1 (part whole)) ∙ is)))
 
 pub both_told : {T E : Type 0} (P : Type 0) (F : E → Type 0) (r : Result T E) → IfOk r (λ _. P) → IfErr r F → MatchResult r (λ _. P) F
 both_told P F (Ok v) ok err = ok

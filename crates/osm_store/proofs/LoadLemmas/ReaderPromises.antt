@@ -27,7 +27,7 @@ module _ {S T : Type 0} (layout : Layout) (g : Ghosts S) (old new : Store S) (as
     same = λ clean up. (asks.keeps clean).committed up.1;
     crash = λ clean held may. asks_leaves layout (state g old.connection) (state g new.connection) asks clean held may;
     whole = λ clean all. asks_leaves_a_map layout (state g old.connection) (state g new.connection) asks clean all;
-    alone = λ clean all. asks_leaves_a_map layout (state g old.connection) (state g new.connection) asks clean all;
+    list = λ clean rows all. (all.0, asks_leaves_a_map layout (state g old.connection) (state g new.connection) asks clean all.1);
     own = λ held holds clean. tt;
     counted = counted;
   }
@@ -39,7 +39,7 @@ module _ {S T : Type 0} (layout : Layout) (g : Ghosts S) (old new : Store S) (as
     same = λ clean up. (asks.keeps clean).committed up.1;
     crash = λ clean held may. asks_leaves layout (state g old.connection) (state g new.connection) asks clean held may;
     whole = λ clean all. asks_leaves_a_map layout (state g old.connection) (state g new.connection) asks clean all;
-    alone = λ clean all. asks_leaves_a_map layout (state g old.connection) (state g new.connection) asks clean all;
+    list = λ clean rows all. (all.0, asks_leaves_a_map layout (state g old.connection) (state g new.connection) asks clean all.1);
     own = λ held holds clean. answers clean held holds;
     counted = counted;
   }

@@ -110,9 +110,6 @@ placed_at held off blob is =
     let there = at_entry (entries held) off blob (sym (get-entries held off) ∙ is) in
     nested_at (λ (e : Entry). e.0) (λ (p : Placed). p.0) (λ (a b : Placed). a.1 < b.1) within here by_position (entries held) there.0 (off, blob) (entries_rise held) there.1
 
-pub elements_at : (held : HeldMap) (off : ℕ) (blob : Blob) → get held off ≡ Some blob → map (λ (p : Placed). p.2) (filter (is_in off) (placed_in held)) ≡ blob.elements
-elements_at held off blob is = ap (map (λ (p : Placed). p.2)) (placed_at held off blob is) ∙ elements_of off 0 blob.elements
-
 -- where none is held there is none
 unequal : (m n : ℕ) → (m ≡ n → ⊥) → (m == n) ≡ false
 unequal m n e = grind (arith, nat_tests)

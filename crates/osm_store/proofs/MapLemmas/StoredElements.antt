@@ -1,21 +1,17 @@
 -- What is known of each held element.
-use Rattle.std.proofs.Common.{ℕ, ◌+◌, List, [], ◌∷◌, All}
+use Rattle.std.proofs.Common.{ℕ, ◌+◌, List, [], ◌∷◌}
 use Rattle.std.specs.List.{AllByRecursion}
 use Rattle.std.specs.FinMap.{entries}
-use Rattle.std.proofs.lemmas.List.Elements.{All-from_recursion}
 use Rattle.sqlite_trees.proofs.ListLemmas.{all_weaker, all_both, all-flat_map}
 use Rattle.osm_value.specs.declared.element.Element.{Element}
 use Rattle.osm_store.specs.declared.schema.layout.Layout.{Layout}
-use Rattle.osm_store.specs.Held.{Blob, HeldMap, HasFewTexts}
+use Rattle.osm_store.specs.Held.{HeldMap, HasFewTexts}
 use Rattle.osm_store.specs.Rows.{Placed, placed, placed_in, CanStore, IsStored}
-use Rattle.osm_store.specs.LayoutHolding.{IsBlob, IsKept}
+use Rattle.osm_store.specs.LayoutHolding.{IsKept}
 use Rattle.osm_store.proofs.MapLemmas.PlacedLaws.{within}
 
 pub stored_both : (layout : Layout) (es : List Element) → AllByRecursion (CanStore layout) es → AllByRecursion HasFewTexts es → AllByRecursion (IsStored layout) es
 stored_both layout = all_both (CanStore layout) HasFewTexts (IsStored layout) (λ e can few. (can, few))
-
-pub blob_stored : (layout : Layout) (blob : Blob) → IsBlob layout blob → All (IsStored layout) blob.elements
-blob_stored layout blob is = All-from_recursion _ _ (stored_both layout blob.elements is.can_store is.few_texts)
 
 placed_stored : (layout : Layout) (off position : ℕ) (es : List Element) → AllByRecursion (IsStored layout) es → AllByRecursion (λ (p : Placed). IsStored layout p.2) (placed off position es)
 placed_stored layout off position [] h = tt

@@ -65,7 +65,7 @@ module _ {S T : Type 0} (layout : Layout) (g : Ghosts S) (old new : Store S) (of
     same = λ clean up. tt;
     crash = λ clean held left holds can may. leaves_more held off blob layout (state g old.connection) (state g new.connection) holds can.free order limit w.crash (blob_is layout blob digest can.few_texts) clean left may;
     whole = λ clean held holds can. leaves_a_map held off blob layout (state g old.connection) (state g new.connection) holds can.free order limit w.crash (blob_is layout blob digest can.few_texts) settles clean;
-    alone = λ clean held holds can all. leaves_a_map held off blob layout (state g old.connection) (state g new.connection) holds can.free order limit w.crash (blob_is layout blob digest can.few_texts) settles clean;
+    list = λ clean held holds can rows all. (all.0, leaves_a_map held off blob layout (state g old.connection) (state g new.connection) holds can.free order limit w.crash (blob_is layout blob digest can.few_texts) settles clean);
     own = λ held holds clean free. tt;
     was_open = λ clean. (omega (arith, w.crash.clean, clean), (w.committed clean).0);
     shut = λ clean closed left may. shut_leaves w clean closed left may;
@@ -80,7 +80,7 @@ module _ {S T : Type 0} (layout : Layout) (g : Ghosts S) (old new : Store S) (of
     same = λ clean up. (w.unchanged clean up.1).2;
     crash = λ clean held left holds can may. leaves_more held off blob layout (state g old.connection) (state g new.connection) holds can.free order limit w.crash (blob_is layout blob digest can.few_texts) clean left may;
     whole = λ clean held holds can. leaves_a_map held off blob layout (state g old.connection) (state g new.connection) holds can.free order limit w.crash (blob_is layout blob digest can.few_texts) settles clean;
-    alone = λ clean held holds can all. leaves_a_map held off blob layout (state g old.connection) (state g new.connection) holds can.free order limit w.crash (blob_is layout blob digest can.few_texts) settles clean;
+    list = λ clean held holds can rows all. (all.0, leaves_a_map held off blob layout (state g old.connection) (state g new.connection) holds can.free order limit w.crash (blob_is layout blob digest can.few_texts) settles clean);
     own = λ held holds clean free. w.ours;
     was_open = λ clean. tt;
     shut = λ clean closed left may. shut_leaves w clean closed left may;

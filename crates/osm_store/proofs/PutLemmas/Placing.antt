@@ -32,9 +32,6 @@ next_taken xs at x low is =
     let next : at + 1 ≡ suc at = omega arith in
     ap (λ n. take n xs) next ∙ take-suc xs at x low ∙ ap (λ x. take at xs ++ x ∷ []) (sym is)
 
-pub mapped_more : {X R : Type 0} (row : X → R) (xs : List X) (at : ℕ) (x : X) → at < length xs → x ≡ get_or xs at x → map row (take (at + 1) xs) ≡ map row (take at xs) ++ row x ∷ []
-mapped_more row xs at x low is = ap (map row) (next_taken xs at x low is) ∙ map-append row (take at xs) (x ∷ [])
-
 pub placed_more : (off first : ℕ) (es : List Element) (at : ℕ) (e : Element) → at < length es → e ≡ get_or es at e → placed off first (take (at + 1) es) ≡ placed off first (take at es) ++ (off, first + at, e) ∷ []
 placed_more off first es at e low is =
     let n : first + length (take at es) ≡ first + at = omega (arith, length-take at es) in

@@ -119,39 +119,6 @@ adds_extent layout old new off fin digest kind n count over h =
 
 -- ---- all elements of a blob
 
-pub adds_bodies : (old new : State) (elements : List Placed) → AddsRows Bodies 2 old new (map body_row elements) → AddsElements Bodies old new elements
-adds_bodies old new elements h = record {
-  over = h.over;
-  kept = h.kept;
-  sound = h.sound;
-  meta = h.others.0 (λ e. cc);
-  blob = h.others.1.0 (λ e. cc);
-  elements = h.rows;
-}
-
-pub adds_tables : (old first second new : State) (elements : List Placed) → AddsRows Tables 2 old first (element_rows elements) → AddsRows Tables 4 first second (tag_rows elements) → AddsRows Tables 6 second new (link_rows elements)
-    → AddsElements Tables old new elements
-adds_tables old first second new elements a b c =
-    let meta : new.now.trees 0 ≡ old.now.trees 0 = c.others.0 (λ e. cc) ∙ b.others.0 (λ e. cc) ∙ a.others.0 (λ e. cc) in
-    let blob : new.now.trees 1 ≡ old.now.trees 1 = c.others.1.0 (λ e. cc) ∙ b.others.1.0 (λ e. cc) ∙ a.others.1.0 (λ e. cc) in
-    let element : new.now.trees 2 ≡ first.now.trees 2 = c.others.1.1.0 (λ e. cc) ∙ b.others.1.1.0 (λ e. cc) in
-    let tag_before : first.now.trees 4 ≡ old.now.trees 4 = a.others.1.1.1.0 (λ e. cc) in
-    let tag_after : new.now.trees 4 ≡ second.now.trees 4 = c.others.1.1.1.0 (λ e. cc) in
-    let link : second.now.trees 6 ≡ old.now.trees 6 = b.others.1.1.1.1.0 (λ e. cc) ∙ a.others.1.1.1.1.0 (λ e. cc) in
-    let tags : Gains (old.now.trees 4) (tag_rows elements) (second.now.trees 4) = subst (λ rows. Gains rows (tag_rows elements) (second.now.trees 4)) tag_before b.rows in
-    record {
-      over = c.over;
-      kept = keeps_then old second new (keeps_then old first second a.kept b.kept) c.kept;
-      sound = λ h. c.sound (b.sound (a.sound h));
-      meta = meta;
-      blob = blob;
-      elements = (
-        subst (Gains (old.now.trees 2) (element_rows elements)) (sym element) a.rows,
-        subst (Gains (old.now.trees 4) (tag_rows elements)) (sym tag_after) tags,
-        subst (λ rows. Gains rows (link_rows elements) (new.now.trees 6)) link c.rows,
-      );
-    }
-
 -- what was so before a row of `blob` was written
 gains_after : (layout : Layout) (elements : List Placed) (old mid new : Trees) → KeepsOthers layout 1 old mid → GainsElements layout elements mid new → GainsElements layout elements old new
 gains_after Bodies elements old mid new kept h = subst (λ rows. Gains rows (map body_row elements) (new 2)) (kept.1.1.0 (λ e. cc)) h

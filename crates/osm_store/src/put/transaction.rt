@@ -7,7 +7,7 @@ ghost use Rattle.sqlite.specs.Held.{state};
 ghost use Rattle.osm_store.specs.Inside.{WorksInside};
 ghost use Rattle.osm_store.specs.Keeping.{IsForeign};
 ghost use Rattle.osm_store.specs.Schema.Layouts.{schema_of};
-ghost use Rattle.osm_store.specs.Rows.{blob_code, placed, extent_row, CanStore};
+ghost use Rattle.osm_store.specs.Rows.{placed, extent_row, CanStore};
 ghost use Rattle.osm_store.specs.Schema.Over.{IsWriting};
 ghost use Rattle.osm_store.specs.Put.Steps.{AddsElements, AddsExtent, Puts, Writes};
 

@@ -1,6 +1,6 @@
 //! Streams of frames.
 
-use osm_import::{Inlet, Stop, StreamFault, Summary, gaps, import_stream};
+use osm_import::{Inlet, Stop, StreamFault, Summary, Told, gaps, import_stream};
 use osm_store::Extent;
 use osm_value::Outlet;
 use osm_vectors::{FailingReader, FailingWriter};
@@ -92,6 +92,36 @@ fn streams_that_end_early(rt: HostRuntime) -> Result<(), Fail> {
     over_all_stores(rt.alloc(), STEPS)
 }
 
+/// Of blobs that are stored or held nothing is written.
+fn quiet_streams_of<K: NewStore, R: Abort + Alloc<A = Global>>(rt: &R) -> Result<(), Fail> {
+    let alloc = rt.alloc();
+    let mut store = K::new_store(alloc)?;
+    for (bytes, wanted, lines) in [
+        (FILE_BYTES, BOTH_STORED, &b""[..]),
+        (FILE_BYTES, BOTH_HELD, &b""[..]),
+        (
+            FILE_BYTES.split_at(47).1,
+            ONE_BAD,
+            &b"fault 61 NoHeaderFirst at 0\n"[..],
+        ),
+    ] {
+        let mut source = Inlet::new(bytes);
+        let mut out = Outlet::new(Vec::new(alloc));
+        let told = Told::Faults;
+        let outcome = import_stream(alloc, &mut store, &mut source, 0, 9, &told, &mut out);
+        assert_eq!(rt; outcome, Ok(wanted));
+        assert!(rt; out.into_inner().as_slice() == lines);
+    }
+    Ok(())
+}
+
+#[test]
+fn quiet_streams(rt: HostRuntime) -> Result<(), Fail> {
+    quiet_streams_of::<BodiesInMemory, _>(&rt)?;
+    quiet_streams_of::<TablesInMemory, _>(&rt)?;
+    quiet_streams_of::<TreesInMemory, _>(&rt)
+}
+
 fn readers_that_fail_of<K: NewStore, R: Abort + Alloc<A = Global>>(rt: &R) -> Result<(), Fail> {
     let alloc = rt.alloc();
     for count in 0..85 {
@@ -150,7 +180,7 @@ fn writers_that_fail_of<K: NewStore, R: Abort + Alloc<A = Global>>(rt: &R) -> Re
         let mut source = Inlet::new(FILE_BYTES);
         let inner = Vec::new(alloc);
         let mut out = Outlet::new(FailingWriter { inner, room });
-        let outcome = import_stream(alloc, &mut store, &mut source, 0, 9, &mut out);
+        let outcome = import_stream(alloc, &mut store, &mut source, 0, 9, &Told::All, &mut out);
         let (wanted, held) = wanted_with_room(room);
         assert_eq!(rt; outcome, wanted, "with room for {room}");
         let lines = out.into_inner().inner;

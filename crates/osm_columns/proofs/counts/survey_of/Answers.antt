@@ -1,4 +1,4 @@
-use Rattle.std.proofs.Common.{rules, ◌≡◌, ◌∙◌, List, length, map, ap, sym}
+use Rattle.std.proofs.Common.{rules, ◌≡◌, ◌∙◌, length, map, ap, sym}
 use Rattle.std.proofs.lemmas.List.{length-map}
 use Rattle.osm_columns.specs.Lists.{joined, all_tags, all_members}
 use Rattle.osm_columns.specs.Indexes.{AreIndexes}

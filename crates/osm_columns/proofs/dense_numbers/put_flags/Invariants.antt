@@ -1,4 +1,4 @@
-use Rattle.std.proofs.Common.{◌≡◌, length, map, take, Some}
+use Rattle.std.proofs.Common.{map, take, Some}
 use Rattle.osm_columns.specs.Values.{number_of_flag}
 use Rattle.osm_columns.specs.Columns.{Adds}
 use Rattle.osm_columns.proofs.dense_numbers.put_flags.Given as goal

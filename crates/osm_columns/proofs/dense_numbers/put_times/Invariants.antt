@@ -1,4 +1,4 @@
-use Rattle.std.proofs.Common.{◌≡◌, length, map, take}
+use Rattle.std.proofs.Common.{map, take}
 use Rattle.osm_block.specs.Block.{time}
 use Rattle.osm_columns.specs.Columns.{Adds}
 use Rattle.osm_columns.proofs.dense_numbers.put_times.Given as goal

@@ -1,4 +1,4 @@
-use Rattle.std.proofs.Common.{rules, refl, ◌≡◌, ◌<◌, ◌+◌, length, get_or, pos, take, map, sym, FitsSigned, w32, w64, arith, ℤ}
+use Rattle.std.proofs.Common.{rules, refl, ◌≡◌, ◌<◌, ◌+◌, length, get_or, pos, take, sym, FitsSigned, w32, w64, arith, ℤ}
 use Rattle.std.proofs.lemmas.Int.{to_z-of_z}
 use Rattle.std.proofs.lemmas.List.{map-id}
 use Rattle.osm_columns.proofs.AddLemmas.{adds-next, adds-same}

@@ -1,4 +1,4 @@
-use Rattle.std.proofs.Common.{◌≡◌, ◌∙◌, ◌+◌, ◌-◌, ◌++◌, ℤ, List, length, map, take, drop, ap}
+use Rattle.std.proofs.Common.{◌∙◌, ◌+◌, ◌-◌, ◌++◌, ℤ, length, take, drop, ap}
 use Rattle.osm_block.specs.DenseTags.{Pair}
 use Rattle.osm_block.specs.NodeTags.{node_pairs}
 use Rattle.osm_columns.specs.Indexes.{index_in}

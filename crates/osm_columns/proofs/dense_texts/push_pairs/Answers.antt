@@ -4,7 +4,7 @@ use Rattle.osm_block.specs.Phases.{is_index}
 use Rattle.osm_block.proofs.TagsLemmas.{zero_from_bits, not_zero_from_bits}
 use Rattle.osm_block.proofs.NodeTagsLemmas.{front_at_zero, front_at_end, nothing_behind}
 use Rattle.osm_columns.specs.Indexes.{index_in}
-use Rattle.osm_columns.proofs.PairLemmas.{NextInTable, next-pair, pair-pushed, AllPushed, all-pushed}
+use Rattle.osm_columns.proofs.PairLemmas.{NextInTable, next-pair, pair-pushed, all-pushed}
 use Rattle.osm_columns.proofs.dense_texts.push_pairs.Goals as goal
 
 pub returns-then-key-eq0-clause-rest : goal.returns-then-key-eq0-clause-rest

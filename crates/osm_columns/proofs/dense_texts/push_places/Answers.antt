@@ -1,4 +1,4 @@
-use Rattle.std.proofs.Common.{rules, refl, ◌≡◌, ◌∙◌, ◌<◌, ◌+◌, ◌++◌, ◌∷◌, [], length, map, take, get_or, ap, sym, pos, FitsSigned, to_z, of_z, w32, w64, arith, append_assoc}
+use Rattle.std.proofs.Common.{rules, refl, ◌≡◌, ◌∙◌, ◌<◌, ◌++◌, ◌∷◌, [], length, map, take, get_or, ap, pos, FitsSigned, to_z, of_z, w32, w64, arith, append_assoc}
 use Rattle.std.proofs.lemmas.Int.{to_z-of_z}
 use Rattle.osm_columns.specs.Indexes.{index_in}
 use Rattle.osm_columns.proofs.ListLemmas.{mapped-next}

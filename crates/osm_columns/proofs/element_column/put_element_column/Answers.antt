@@ -1,6 +1,5 @@
-use Rattle.std.proofs.Common.{◌≡◌, ◌∙◌, ◌<◌, ◌≤◌, ◌++◌, ◌+◌, [], List, length, map, take, get_or, ap, sym, subst, refl, arith}
+use Rattle.std.proofs.Common.{◌≡◌, ◌∙◌, ◌<◌, ◌≤◌, ◌+◌, [], List, length, map, take, get_or, ap, sym, subst, refl, arith}
 use Rattle.std.proofs.lemmas.List.{map-append, length-append, length-map, take_all}
-use Rattle.osm_value.specs.declared.element.Element.{Element}
 use Rattle.osm_block.specs.declared.groups.GroupElements.{GroupElements}
 use Rattle.osm_block.specs.Block.{Joins}
 use Rattle.osm_block.specs.Fields.{context_of}

@@ -1,7 +1,5 @@
-use Rattle.std.proofs.Common.{◌≡◌, ◌∙◌, List, map, ap, sym}
+use Rattle.std.proofs.Common.{◌∙◌, map, ap, sym}
 use Rattle.osm_value.specs.declared.element.Element.TheVariants as elements
-use Rattle.osm_block.specs.Fields.{context_of}
-use Rattle.osm_block.specs.Groups.{GroupHolds}
 use Rattle.osm_columns.proofs.AddLemmas.{adds-same}
 use Rattle.osm_columns.proofs.GroupLemmas.{mapped-twice}
 use Rattle.osm_columns.proofs.element_column.put_group.Goals as goal

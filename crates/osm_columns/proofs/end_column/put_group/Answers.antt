@@ -1,4 +1,4 @@
-use Rattle.std.proofs.Common.{◌≡◌, ◌∙◌, ◌+◌, List, map, sum, ap, sym}
+use Rattle.std.proofs.Common.{◌∙◌, map, ap, sym}
 use Rattle.osm_value.specs.declared.element.Element.TheVariants as elements
 use Rattle.osm_columns.specs.Lists.{sums_from}
 use Rattle.osm_columns.proofs.AddLemmas.{adds-same}

@@ -1,4 +1,4 @@
-use Rattle.std.proofs.Common.{◌≡◌, ◌∙◌, ◌<◌, ◌≤◌, ◌+◌, length, map, take, sum, get_or, ap, sym, arith}
+use Rattle.std.proofs.Common.{◌≡◌, ◌<◌, ◌≤◌, ◌+◌, length, map, take, sum, arith}
 use Rattle.osm_columns.proofs.EndLemmas.{sum-next, sum-front, ends-next}
 use Rattle.osm_columns.proofs.end_column.put_listed.Goals as goal
 

@@ -1,5 +1,4 @@
-use Rattle.std.proofs.Common.{◌≡◌, ◌∙◌, ◌+◌, [], List, length, map, ap, sym, refl, arith}
-use Rattle.osm_value.specs.declared.element.Element.{Element}
+use Rattle.std.proofs.Common.{◌≡◌, ◌∙◌, [], length, map, ap, sym, arith}
 use Rattle.osm_value.specs.declared.element.Element.TheVariants as elements
 use Rattle.osm_columns.specs.Lists.{joined}
 use Rattle.osm_columns.proofs.AddLemmas.{adds-none, adds-same}

@@ -1,4 +1,4 @@
-use Rattle.std.proofs.Common.{◌≡◌, ◌∙◌, ◌<◌, ◌≤◌, ◌+◌, ◌++◌, length, map, take, refl, sym, ap, arith}
+use Rattle.std.proofs.Common.{◌≡◌, ◌<◌, ◌≤◌, ◌+◌, length, map, take, refl, arith}
 use Rattle.osm_columns.specs.Lists.{joined}
 use Rattle.osm_columns.proofs.AddLemmas.{adds-same, adds-twice}
 use Rattle.osm_columns.proofs.ListLemmas.{IsNext, next-joined, next-end, next-fits}

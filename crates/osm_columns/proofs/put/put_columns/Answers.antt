@@ -1,12 +1,11 @@
-use Rattle.std.proofs.Common.{rules, ◌≡◌, ◌∙◌, ◌<◌, ◌≤◌, ◌^◌, ℕ, ℤ, List, length, map, ap, sym, subst, true, refl, arith}
+use Rattle.std.proofs.Common.{◌≡◌, ◌∙◌, ◌<◌, ◌≤◌, ◌^◌, ℤ, List, length, map, ap, sym, subst, arith}
 use Rattle.std.proofs.lemmas.List.{length-map}
 use Rattle.osm_value.specs.declared.element.Element.{Element}
-use Rattle.osm_value.specs.Value.{Text}
 use Rattle.osm_value.specs.Elements.{tags_of_element}
 use Rattle.osm_block.proofs.IndexesLemmas.{and_left, and_right}
 use Rattle.osm_columns.specs.Values.{members_of_element, number_of_kind}
-use Rattle.osm_columns.specs.Lists.{joined, ends_of, all_tags, all_refs, all_members}
-use Rattle.osm_columns.specs.Columns.{over, elements_fit, refs_fit, texts_fit, IsSurvey, HoldsElements, HoldsTagEnds, HoldsMemberIds, HoldsTexts}
+use Rattle.osm_columns.specs.Lists.{joined, ends_of, all_tags, all_members}
+use Rattle.osm_columns.specs.Columns.{over, elements_fit, refs_fit, texts_fit, IsSurvey, HoldsElements}
 use Rattle.osm_columns.proofs.TextLemmas.{length-named}
 use Rattle.osm_columns.proofs.RoomLemmas.{HasListRoom, list-room-of}
 use Rattle.osm_columns.proofs.put.put_columns.Goals as goal

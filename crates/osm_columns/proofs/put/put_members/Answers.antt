@@ -1,4 +1,4 @@
-use Rattle.std.proofs.Common.{rules, ◌≡◌, ◌∙◌, ◌<◌, ◌≤◌, ◌^◌, ℕ, ℤ, List, length, map, sum, ap, refl, arith}
+use Rattle.std.proofs.Common.{rules, ◌≡◌, ◌∙◌, ◌<◌, ◌≤◌, ◌^◌, ℕ, ℤ, length, map, sum, ap, refl, arith}
 use Rattle.std.proofs.lemmas.List.{length-map}
 use Rattle.osm_value.specs.Value.{MemberValue}
 use Rattle.osm_columns.specs.Values.{members_of_element, number_of_kind}

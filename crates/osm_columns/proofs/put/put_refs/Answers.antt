@@ -1,4 +1,4 @@
-use Rattle.std.proofs.Common.{rules, ◌≡◌, ◌∙◌, ◌<◌, ◌≤◌, ◌^◌, length, map, sum, ap, refl, arith}
+use Rattle.std.proofs.Common.{rules, ◌≡◌, ◌∙◌, ◌<◌, ◌≤◌, ◌^◌, length, map, sum, ap, arith}
 use Rattle.osm_columns.specs.Values.{refs_of_element}
 use Rattle.osm_columns.specs.Lists.{all_refs}
 use Rattle.osm_columns.specs.Columns.{over}

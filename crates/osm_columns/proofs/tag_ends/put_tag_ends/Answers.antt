@@ -1,4 +1,4 @@
-use Rattle.std.proofs.Common.{◌≡◌, ◌∙◌, ◌<◌, ◌≤◌, ◌+◌, ◌-◌, ◌++◌, List, length, map, take, drop, sum, ap, arith}
+use Rattle.std.proofs.Common.{◌≡◌, ◌∙◌, ◌≤◌, ◌+◌, ◌-◌, ◌++◌, List, length, map, take, drop, sum, ap, arith}
 use Rattle.osm_block.specs.DenseTags.{Pair}
 use Rattle.osm_block.specs.NodeTags.{front_pairs, node_pairs}
 use Rattle.osm_columns.proofs.EndLemmas.{sum-next, sum-front, ends-next}

@@ -1,4 +1,4 @@
-use Rattle.std.proofs.Common.{rules, ◌≡◌, ◌∙◌, ◌+◌, length, drop, get_or, ap, sym, pos, FitsSigned, w32, arith}
+use Rattle.std.proofs.Common.{rules, ◌≡◌, ◌∙◌, length, drop, get_or, ap, sym, pos, FitsSigned, w32, arith}
 use Rattle.osm_block.specs.NodeTags.{front_pairs}
 use Rattle.osm_block.proofs.TagsLemmas.{zero_from_bits, not_zero_from_bits}
 use Rattle.osm_block.proofs.NodeTagsLemmas.{front_at_zero, front_at_end, nothing_behind}

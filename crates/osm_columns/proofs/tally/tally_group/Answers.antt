@@ -1,4 +1,4 @@
-use Rattle.std.proofs.Common.{rules, refl, ◌≡◌, ◌∙◌, length, map, sym, ap}
+use Rattle.std.proofs.Common.{rules, refl, ◌≡◌, ◌∙◌, length, sym}
 use Rattle.osm_columns.proofs.DenseLemmas.{node-count}
 use Rattle.osm_columns.proofs.TallyLemmas.{nodes-tallied}
 use Rattle.osm_columns.proofs.tally.tally_group.Goals as goal

@@ -12,8 +12,9 @@ use Rattle.osm_store.specs.declared.schema.layout.Layout.TheVariants.{Tables}
 use Rattle.osm_store.specs.LayoutHolding.{Holds}
 use Rattle.osm_tree_writes.specs.Putting.{TreesHold}
 use Rattle.osm_tree_writes.proofs.Obeying.{one_map_below, trees_of}
-use Rattle.osm_trees.specs.Below.{HoldsBelow, StandsAlone}
-use Rattle.osm_trees.specs.Reading.{open_of, stands_alone}
+use Rattle.osm_trees.specs.Below.{HoldsBelow}
+use Rattle.osm_trees.specs.Reading.{open_of, lists_always}
+use Rattle.osm_databases.specs.Found.{ListOnlyAStore}
 use Rattle.osm_databases.proofs.stores.made.Goals as goal
 
 pub returns-clause-empty : goal.returns-clause-empty
@@ -48,7 +49,7 @@ returns-clause-alone g c =
     let old = c.into_connection.result.store in
     let new = c.into_store-trees.result in
     let made : c.new.result.store ≡ new = ap (λ r. r.store) c.new.ensures in
-    subst (λ s. IsClean (view s) → StandsAlone (view s) (g.S.Store.recovers s)) (sym made) (λ clean.
+    subst (λ s. IsClean (view s) → ListOnlyAStore (view s) (g.S.Store.recovers s)) (sym made) (λ clean.
     let before : IsClean (view old) = omega (arith, clean, c.into_store-trees.ensures.quiet.clean) in
     let holds : Holds Tables (state g.S.Store c.into_connection.result) empty =
     subst (λ h. HasCleanDisk (state g.S.Store h) → Holds Tables (state g.S.Store h) empty) (sym c.into_connection.ensures) c.in-Ok.ensures.empty before in
@@ -58,5 +59,7 @@ returns-clause-alone g c =
     let back : (view new).trees ≡ (view old).committed = (undone.undone up).0 in
     let committed : (view new).committed ≡ (view old).committed = (undone.kept clean).committed up in
     let same : (view old).trees ≡ (view new).trees = ap (λ (db : Database). db.trees) holds.settled ∙ sym back in
-    let listed : Lists ((view new).committed catalog_tree) table_schema = subst (λ (db : Trees). Lists (db catalog_tree) table_schema) (same ∙ back ∙ sym committed) holds.tables.sound.lists in
-    stands_alone (view new) (g.S.Store.recovers new) unbroken (λ db open_now left. g.met.S.Store.settled new db open_now left) (g.met.S.Store.broken_if_shut new) (inl listed))
+    let listed : Lists ((view new).trees catalog_tree) table_schema = subst (λ (db : Trees). Lists (db catalog_tree) table_schema) same holds.tables.sound.lists in (
+      inl listed,
+      lists_always (view new) (g.S.Store.recovers new) unbroken (back ∙ sym committed) (λ db open_now left. g.met.S.Store.settled new db open_now left) (g.met.S.Store.broken_if_shut new),
+    ))

@@ -1,4 +1,4 @@
-use Rattle.std.proofs.Common.{◌≡◌, ◌∙◌, sym, ap, IsTrue}
+use Rattle.std.proofs.Common.{◌∙◌, sym, ap, IsTrue}
 use Rattle.sqlite_trees.proofs.Doubt.{no_doubt}
 use Rattle.sqlite_trees.specs.View.{View, IsClean}
 use Rattle.sqlite_store.specs.FileStore.{state, view}

@@ -151,21 +151,21 @@ returns-clause-own g c = λ source held blob from_holds from_honest holds honest
     (c.in_ok-touched.ensures.touching held holds earlier) (search rules) (c.deref-3.ensures.value ∙ sym c.deref-2.ensures.value) few in
     c.in-Err.ensures.adds.own held (c.in_ok-touched.ensures.reads.ok earlier held holds) honest can
 
-pub returns-in-Ok-clause-alone : goal.returns-in-Ok-clause-alone
-returns-in-Ok-clause-alone g c = λ held holds honest alone.
+pub returns-in-Ok-clause-list : goal.returns-in-Ok-clause-list
+returns-in-Ok-clause-list g c = λ held holds honest rows lists.
     let earlier = c.put.ensures.adds.honest honest in
     let few = c.in_ok-few.ensures.0 c.if-not-few.false in
     let can = addable held c.args.extent.now.off c.args.extent.now.fin c.in_ok-touched.touched.items c.args.extent.now.digest c.args.extent.now.kind c.deref-3.result.now c.deref-2.result.now
     (c.in_ok-touched.ensures.touching held holds earlier) (search rules) (c.deref-3.ensures.value ∙ sym c.deref-2.ensures.value) few in
-    c.put.ensures.adds.alone honest held (c.in_ok-touched.ensures.reads.ok earlier held holds) can (c.in_ok-touched.ensures.reads.alone earlier alone)
+    c.put.ensures.adds.list honest held (c.in_ok-touched.ensures.reads.ok earlier held holds) can rows (c.in_ok-touched.ensures.reads.list earlier rows lists)
 
-pub returns-clause-alone : goal.returns-clause-alone
-returns-clause-alone g c = λ held holds honest alone.
+pub returns-clause-list : goal.returns-clause-list
+returns-clause-list g c = λ held holds honest rows lists.
     let earlier = c.put.ensures.adds.honest honest in
     let few = c.in_ok-few.ensures.0 c.if-not-few.false in
     let can = addable held c.args.extent.now.off c.args.extent.now.fin c.in_ok-touched.touched.items c.args.extent.now.digest c.args.extent.now.kind c.deref-3.result.now c.deref-2.result.now
     (c.in_ok-touched.ensures.touching held holds earlier) (search rules) (c.deref-3.ensures.value ∙ sym c.deref-2.ensures.value) few in
-    c.put.ensures.adds.alone honest held (c.in_ok-touched.ensures.reads.ok earlier held holds) can (c.in_ok-touched.ensures.reads.alone earlier alone)
+    c.put.ensures.adds.list honest held (c.in_ok-touched.ensures.reads.ok earlier held holds) can rows (c.in_ok-touched.ensures.reads.list earlier rows lists)
 
 pub returns-then-len-extent-clause-step : goal.returns-then-len-extent-clause-step
 returns-then-len-extent-clause-step g c = λ source held blob from_holds from_honest holds honest of is.

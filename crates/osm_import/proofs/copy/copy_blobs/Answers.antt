@@ -22,7 +22,7 @@ loop-extent-init g c = record {
   counted = omega arith;
   told = (refl, refl);
   kept = λ held holds honest. (held, keeps-same held, holds);
-  alone = λ held holds honest alone. alone;
+  list = λ held holds honest rows lists. lists;
   each = ([], (refl, refl), (refl, refl, refl));
   merged = λ source held from_holds from_honest holds honest are. (held, merged_none (λ off. IsAt [] off) source held (λ off none. none), holds, refl);
 }
@@ -43,7 +43,7 @@ loop-extent-preserved g c =
       crash = made.crash;
       kept = made.kept;
       whole = made.whole;
-      alone = made.alone;
+      list = made.list;
       own = made.own;
       source = made.source;
       cause = made.cause;
@@ -70,7 +70,7 @@ loop-extent-preserved g c =
           let before = inv.kept held holds (made.honest honest) in
           let step = (made.kept before.0 before.2 honest).ok in
           (step.0, keeps-then held before.0 step.0 before.1 step.1, step.2);
-      alone = λ held holds honest alone. (let before = inv.kept held holds (made.honest honest) in made.alone before.0 before.2 honest (inv.alone held holds (made.honest honest) alone));
+      list = λ held holds honest rows lists. (let before = inv.kept held holds (made.honest honest) in made.list before.0 before.2 honest rows (inv.list held holds (made.honest honest) rows lists));
       each = (
         inv.each.0 ++ (_, Ok c.in-Ok.answer) ∷ [],
         copies-push g.F.Reader T c.args.from.now c.loop-extent.from c.copy_blob.new.from c.args.to.now c.loop-extent.to c.copy_blob.new.to inv.each.0 _ inv.each.1 one,
@@ -161,7 +161,7 @@ returns-in-Err-clause-each g c =
       crash = made.crash;
       kept = made.kept;
       whole = made.whole;
-      alone = made.alone;
+      list = made.list;
       own = made.own;
       source = made.source;
       cause = made.cause;
@@ -218,12 +218,12 @@ returns-in-Err-clause-reached g c = λ source are.
     let at = at_blob source c.args.extents.now c.loop-extent.extent-index _ are (omega arith) is in
     (at.blob, at.found)
 
-pub returns-in-Err-clause-alone : goal.returns-in-Err-clause-alone
-returns-in-Err-clause-alone g c = λ held holds honest alone.
+pub returns-in-Err-clause-list : goal.returns-in-Err-clause-list
+returns-in-Err-clause-list g c = λ held holds honest rows lists.
     let inv = c.loop-extent.invariant in
     let made = c.in-Err.ensures in
     let before = inv.kept held holds (made.honest honest) in
-    made.alone before.0 before.2 honest (inv.alone held holds (made.honest honest) alone)
+    made.list before.0 before.2 honest rows (inv.list held holds (made.honest honest) rows lists)
 
 pub returns-in-Err-clause-told : goal.returns-in-Err-clause-told
 returns-in-Err-clause-told g c =
@@ -233,5 +233,5 @@ returns-in-Err-clause-told g c =
     tells_on (F.failures c.args.from.now) (F.failures c.loop-extent.from) (F.failures c.copy_blob.new.from) (T.failures c.args.to.now) (T.failures c.loop-extent.to) (T.failures c.copy_blob.new.to) c.in-Err.fault
     inv.told.0 inv.told.1 c.in-Err.ensures.told
 
-pub returns-clause-alone : goal.returns-clause-alone
-returns-clause-alone g c = c.loop-extent.invariant.alone
+pub returns-clause-list : goal.returns-clause-list
+returns-clause-list g c = c.loop-extent.invariant.list

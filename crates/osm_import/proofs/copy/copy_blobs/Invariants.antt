@@ -1,7 +1,7 @@
 use Rattle.std.proofs.Common.{◌≡◌, ◌≤◌, ◌+◌, List, take}
 use Rattle.std.specs.FinMap.{entries}
 use Rattle.osm_store.specs.Held.{HeldMap}
-use Rattle.osm_store.specs.Keeping.{extents_of}
+use Rattle.osm_store.specs.Keeping.{KeepsList, extents_of}
 use Rattle.osm_import.specs.Copies.{BlobCopied, IsMerged, AreCounted, held_among}
 use Rattle.osm_import.specs.Stores.{CopiesEach, HoldsStill}
 use Rattle.osm_import.proofs.CopyLemmas.{IsAt}
@@ -24,7 +24,7 @@ invariant-loop-extent g l =
       counted : T.failures l.fn.to ≤ T.failures l.to;
       told : (F.failures l.from ≡ F.failures l.fn.from) × (T.failures l.to ≡ T.failures l.fn.to);
       kept : (held : HeldMap) → T.holds l.fn.to held → T.is_honest l.to → HoldsStill T l.to held;
-      alone : (held : HeldMap) → T.holds l.fn.to held → T.is_honest l.to → T.is_alone l.fn.to → T.is_alone l.to;
+      list : (held : HeldMap) → T.holds l.fn.to held → T.is_honest l.to → KeepsList T.lists l.fn.to l.to;
       each : (copies : List BlobCopied) × CopiesEach F T l.fn.from l.from l.fn.to l.to copies × AreCounted copies l.copied l.held;
       merged : (source held : HeldMap) → F.holds l.fn.from source → F.is_honest l.from → T.holds l.fn.to held → T.is_honest l.to → l.extents ≡ extents_of source
           → (after : HeldMap) × IsMerged (λ off. IsAt (take l.extent-index l.extents) off) source held after × T.holds l.to after × (l.held ≡ held_among held (take l.extent-index (entries source)));

@@ -15,7 +15,7 @@ returns-in-Ok g c =
           leaves-events (K.is_open c.deliver_good.new.keeper) (K.holds c.deliver_good.new.keeper) (K.leaves c.deliver_good.new.keeper) (λ now left. g.met.K.Reader.settled c.deliver_good.new.keeper now left)
           held c.args.off c.args.bytes.now c.deliver_good.result (made.step held holds honest) (made.crash held holds honest);
       whole = made.whole;
-      alone = made.alone;
+      list = made.list;
       own = made.own;
       cause = made.cause;
       same = made.same;
@@ -32,7 +32,7 @@ returns-in-Err-Bad g c = record {
   crash = search rules;
   events = search rules;
   whole = search rules;
-  alone = search rules;
+  list = λ held holds honest rows lists. lists;
   own = search rules;
   cause = search rules;
   same = search rules;

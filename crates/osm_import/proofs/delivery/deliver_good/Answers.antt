@@ -87,20 +87,20 @@ returns-in-Ok-put-clause-whole g c = λ held holds honest.
     let earlier = c.put.ensures.adds.honest honest in
     c.put.ensures.adds.whole honest held (c.in-Ok.ensures.reads.ok earlier held holds) (addable held c.args.off (c.args.off + length c.args.bytes.now) c.in-Ok.touched.items c.digest-digest.result c.args.good.now.kind c.deref-2.result.now c.args.good.now.elements.items (c.in-Ok.ensures.touching held holds earlier) (search rules) c.deref-2.ensures.value (few-texts c.args.off c.args.bytes.now c.args.good.now.kind c.args.good.now.elements.items c.requires))
 
-pub returns-in-Ok-put-clause-alone : goal.returns-in-Ok-put-clause-alone
-returns-in-Ok-put-clause-alone g c = λ held holds honest alone.
+pub returns-in-Ok-put-clause-list : goal.returns-in-Ok-put-clause-list
+returns-in-Ok-put-clause-list g c = λ held holds honest rows lists.
     let earlier = c.put.ensures.adds.honest honest in
-    c.put.ensures.adds.alone honest held (c.in-Ok.ensures.reads.ok earlier held holds) (addable held c.args.off (c.args.off + length c.args.bytes.now) c.in-Ok.touched.items c.digest-digest.result c.args.good.now.kind c.deref-2.result.now c.args.good.now.elements.items (c.in-Ok.ensures.touching held holds earlier) (search rules) c.deref-2.ensures.value (few-texts c.args.off c.args.bytes.now c.args.good.now.kind c.args.good.now.elements.items c.requires)) (c.in-Ok.ensures.reads.alone earlier alone)
+    c.put.ensures.adds.list honest held (c.in-Ok.ensures.reads.ok earlier held holds) (addable held c.args.off (c.args.off + length c.args.bytes.now) c.in-Ok.touched.items c.digest-digest.result c.args.good.now.kind c.deref-2.result.now c.args.good.now.elements.items (c.in-Ok.ensures.touching held holds earlier) (search rules) c.deref-2.ensures.value (few-texts c.args.off c.args.bytes.now c.args.good.now.kind c.args.good.now.elements.items c.requires)) rows (c.in-Ok.ensures.reads.list earlier rows lists)
 
 pub returns-clause-whole : goal.returns-clause-whole
 returns-clause-whole g c = λ held holds honest.
     let earlier = c.put.ensures.adds.honest honest in
     c.put.ensures.adds.whole honest held (c.in-Ok.ensures.reads.ok earlier held holds) (addable held c.args.off (c.args.off + length c.args.bytes.now) c.in-Ok.touched.items c.digest-digest.result c.args.good.now.kind c.deref-2.result.now c.args.good.now.elements.items (c.in-Ok.ensures.touching held holds earlier) (search rules) c.deref-2.ensures.value (few-texts c.args.off c.args.bytes.now c.args.good.now.kind c.args.good.now.elements.items c.requires))
 
-pub returns-clause-alone : goal.returns-clause-alone
-returns-clause-alone g c = λ held holds honest alone.
+pub returns-clause-list : goal.returns-clause-list
+returns-clause-list g c = λ held holds honest rows lists.
     let earlier = c.put.ensures.adds.honest honest in
-    c.put.ensures.adds.alone honest held (c.in-Ok.ensures.reads.ok earlier held holds) (addable held c.args.off (c.args.off + length c.args.bytes.now) c.in-Ok.touched.items c.digest-digest.result c.args.good.now.kind c.deref-2.result.now c.args.good.now.elements.items (c.in-Ok.ensures.touching held holds earlier) (search rules) c.deref-2.ensures.value (few-texts c.args.off c.args.bytes.now c.args.good.now.kind c.args.good.now.elements.items c.requires)) (c.in-Ok.ensures.reads.alone earlier alone)
+    c.put.ensures.adds.list honest held (c.in-Ok.ensures.reads.ok earlier held holds) (addable held c.args.off (c.args.off + length c.args.bytes.now) c.in-Ok.touched.items c.digest-digest.result c.args.good.now.kind c.deref-2.result.now c.args.good.now.elements.items (c.in-Ok.ensures.touching held holds earlier) (search rules) c.deref-2.ensures.value (few-texts c.args.off c.args.bytes.now c.args.good.now.kind c.args.good.now.elements.items c.requires)) rows (c.in-Ok.ensures.reads.list earlier rows lists)
 
 pub returns-clause-own : goal.returns-clause-own
 returns-clause-own g c = λ held holds honest.

@@ -1,8 +1,7 @@
-use Rattle.std.proofs.Common.{◌≡◌, ◌∙◌, List, ap, ap₂, sym, subst, IsTrue}
-use Rattle.sqlite_value.specs.Order.{Row}
+use Rattle.std.proofs.Common.{◌≡◌, ◌∙◌, ap, ap₂, sym, subst}
 use Rattle.sqlite_pool.specs.Stored.{Recovers}
 use Rattle.sqlite_store.specs.Db.{IsFile}
-use Rattle.sqlite_store.specs.Unopened.{state_of, files_of, image, wanted_by}
+use Rattle.sqlite_store.specs.Unopened.{state_of, image, wanted_by}
 use Rattle.sqlite_wal.specs.Files.{seen_image}
 use Rattle.osm_openings.specs.Presumed.{trees_of, trees_in}
 use Rattle.osm_openings.proofs.OpeningLemmas.{of_some, clean_files}

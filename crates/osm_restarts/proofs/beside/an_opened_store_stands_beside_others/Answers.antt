@@ -1,7 +1,7 @@
-use Rattle.std.proofs.Common.{◌∙◌, sym, ap, subst}
+use Rattle.std.proofs.Common.{sym, subst}
 use Rattle.sqlite_trees.specs.Tree.{Trees}
 use Rattle.sqlite_trees.specs.Objects.{catalog_tree}
-use Rattle.sqlite_store.specs.FileStore.{state, view}
+use Rattle.sqlite_store.specs.FileStore.{state}
 use Rattle.sqlite_store.specs.Laws.{not_broken, settled_at}
 use Rattle.osm_openings.specs.Asked.{ListsAsAsked}
 use Rattle.osm_restarts.proofs.beside.an_opened_store_stands_beside_others.Goals as goal

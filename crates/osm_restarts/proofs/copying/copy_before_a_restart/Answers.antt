@@ -1,22 +1,31 @@
 use Rattle.std.proofs.Common.{◌≡◌, ◌⊎◌, ℕ, Result, Ok, Err, sym, subst, inl, inr}
 use Rattle.std.specs.Prelude.{MatchResult}
+use Rattle.sqlite_trees.specs.Objects.{catalog_tree}
 use Rattle.sqlite_trees.specs.View.{IsClean}
 use Rattle.sqlite_store.specs.FileStore.{view, recovers}
 use Rattle.osm_store.specs.Held.{HeldMap}
-use Rattle.osm_trees.specs.Below.{MayLeave, LeavesAMap, StandsAlone}
+use Rattle.osm_trees.specs.Below.{MayLeave, LeavesAMap, ListsAlways}
 use Rattle.osm_import.specs.Copies.{CrashLeavesSome, IsUnited, IsUnitedBelow}
 use Rattle.osm_import.specs.declared.copy.CopyCounts.{CopyCounts}
 use Rattle.osm_import.specs.declared.copy.CopyStop.{CopyStop}
+use Rattle.osm_openings.specs.Asked.{IsFoundAgain}
 use Rattle.osm_restarts.proofs.Events.{can_crash}
+use Rattle.osm_restarts.proofs.ListLemmas.{lists_still}
 use Rattle.osm_restarts.proofs.Resumed.{refused_again, united_again}
 use Rattle.osm_restarts.proofs.copying.copy_before_a_restart.Goals as goal
 
-pub returns-clause-opens : goal.returns-clause-opens
-returns-clause-opens g c source held reads given holds alone image crashed =
+pub returns-clause-list : goal.returns-clause-list
+returns-clause-list g c held holds clean =
     let same : c.into_store-store.result ≡ c.copy_held-outcome.new.to.store = c.into_store-store.ensures in
-    let honest : IsClean (view c.copy_held-outcome.new.to.store) = subst (λ s. IsClean (view s)) same crashed.honest in
-    let kept = subst (λ s. StandsAlone (view s) (recovers s)) (sym same) (c.copy_held-outcome.ensures.alone held holds honest alone) in
-    c.what_is_left_may_be_opened.ensures crashed.plain (λ db left. inl (inl (kept.left db left))) image crashed.left
+    let honest : IsClean (view c.copy_held-outcome.new.to.store) = subst (λ s. IsClean (view s)) same clean in
+    let rows = (view c.args.to.store).trees catalog_tree in
+    subst (λ s. ListsAlways (view s) (recovers s) rows) (sym same)
+    (c.copy_held-outcome.ensures.list held holds honest rows (lists_still g.met.D.Disk.seen_may_stay c.args.to.store held holds))
+
+pub returns-clause-opens : goal.returns-clause-opens
+returns-clause-opens g c source held reads given holds found image crashed =
+    let listed = returns-clause-list g c held holds crashed.honest in
+    c.what_is_left_may_be_opened.ensures crashed.plain (λ db left. inl (subst IsFoundAgain (sym (listed.left db left)) found)) image crashed.left
 
 some_of : (leaves : HeldMap → Type 0) (source held left : HeldMap) (outcome : Result CopyCounts CopyStop) → CrashLeavesSome leaves source held outcome → leaves left
     → (IsUnited source held left ⊎ ((place : ℕ) × IsUnitedBelow place source held left)) × MatchResult outcome (λ _. IsUnited source held left) (λ _. (place : ℕ) × IsUnitedBelow place source held left)

@@ -1,20 +1,29 @@
 use Rattle.std.proofs.Common.{◌≡◌, sym, subst, inl}
+use Rattle.sqlite_trees.specs.Objects.{catalog_tree}
 use Rattle.sqlite_trees.specs.View.{IsClean}
 use Rattle.sqlite_store.specs.FileStore.{view, recovers}
 use Rattle.osm_store.specs.declared.schema.layout.Layout.TheVariants.{Tables}
 use Rattle.osm_store.specs.Held.{HeldMap}
-use Rattle.osm_trees.specs.Below.{HoldsBelow, MayLeave, LeavesAMap, StandsAlone}
+use Rattle.osm_trees.specs.Below.{HoldsBelow, MayLeave, LeavesAMap, ListsAlways}
 use Rattle.osm_import.specs.Deliveries.{DeliveryValue}
 use Rattle.osm_import.specs.Histories.{LeavesEvents, answered, broken}
+use Rattle.osm_openings.specs.Asked.{IsFoundAgain}
 use Rattle.osm_restarts.proofs.Events.{one_event}
+use Rattle.osm_restarts.proofs.ListLemmas.{lists_still}
 use Rattle.osm_restarts.proofs.history.deliver_before_a_restart.Goals as goal
 
-pub returns-clause-opens : goal.returns-clause-opens
-returns-clause-opens g c held holds alone image crash =
+pub returns-clause-list : goal.returns-clause-list
+returns-clause-list g c held holds clean =
     let same : c.into_store-store.result ≡ c.deliver-answer.new.keeper.store = c.into_store-store.ensures in
-    let honest : IsClean (view c.deliver-answer.new.keeper.store) = subst (λ s. IsClean (view s)) same crash.honest in
-    let kept = subst (λ s. StandsAlone (view s) (recovers s)) (sym same) (c.deliver-answer.ensures.alone held holds honest alone) in
-    c.what_is_left_may_be_opened.ensures crash.plain (λ db left. inl (inl (kept.left db left))) image crash.left
+    let honest : IsClean (view c.deliver-answer.new.keeper.store) = subst (λ s. IsClean (view s)) same clean in
+    let rows = (view c.args.keeper.store).trees catalog_tree in
+    subst (λ s. ListsAlways (view s) (recovers s) rows) (sym same)
+    (c.deliver-answer.ensures.list held holds honest rows (lists_still g.met.D.Disk.seen_may_stay c.args.keeper.store held holds))
+
+pub returns-clause-opens : goal.returns-clause-opens
+returns-clause-opens g c held holds found image crash =
+    let listed = returns-clause-list g c held holds crash.honest in
+    c.what_is_left_may_be_opened.ensures crash.plain (λ db left. inl (subst IsFoundAgain (sym (listed.left db left)) found)) image crash.left
 
 pub returns-clause-leaves : goal.returns-clause-leaves
 returns-clause-leaves g c clean =

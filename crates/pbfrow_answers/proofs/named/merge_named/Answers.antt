@@ -6,3 +6,6 @@ returns-clause-union g c = λ maps held holds honest before after. c.merge_all.e
 
 pub returns-clause-kept : goal.returns-clause-kept
 returns-clause-kept g c = λ maps held holds honest before after. c.merge_all.ensures.kept maps held holds honest (c.count-count.ensures.maps maps holds ∙ sym c.count-count.ensures.exact) before after
+
+pub returns-clause-merges : goal.returns-clause-merges
+returns-clause-merges g c = rw (← c.count-count.ensures.exact) c.merge_all.ensures.merges

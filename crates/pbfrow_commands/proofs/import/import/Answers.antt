@@ -17,7 +17,7 @@ returns-clause-imports g c =
     let made = c.import_from-outcome in (
       made.result,
       g.S.Sink.written made.new.out,
-      imports-last c.args.start.dropped c.args.start.at (input g.R.Source c.args.reader.now made.new.reader) (output g.S.Sink c.args.out.now made.new.out) (g.S.Sink.has_failed c.finish.new.out) (made.new.store ≡ c.args.store.now)
+      imports-last c.args.start.dropped c.args.start.at (input g.R.Source c.args.reader.now made.new.reader) (output (g.T.Teller.tells c.args.teller.now) g.S.Sink c.args.out.now made.new.out) (g.S.Sink.has_failed c.finish.new.out) (made.new.store ≡ c.args.store.now)
           (Takes g.K.Reader c.args.store.now made.new.store) made.result c.finish.ensures.kept made.ensures.imports,
       c.finish.ensures.line,
       c.finish.ensures.status,

@@ -14,7 +14,7 @@ returns-clause-imports g c =
       it.1,
       g.S.Sink.written made.new.out,
       it.2,
-      imports-on c.args.start.dropped c.args.start.at c.args.to it.1 (output g.S.Sink c.args.out.now made.new.out) (g.S.Sink.has_failed c.finish.new.out) (made.new.store ≡ c.args.store.now)
+      imports-on c.args.start.dropped c.args.start.at c.args.to it.1 (output (g.T.Teller.tells c.args.teller.now) g.S.Sink c.args.out.now made.new.out) (g.S.Sink.has_failed c.finish.new.out) (made.new.store ≡ c.args.store.now)
           (Takes g.K.Reader c.args.store.now made.new.store) it.0 made.result it.4 c.finish.ensures.kept it.3,
       it.4,
       c.finish.ensures.line,
@@ -24,7 +24,7 @@ returns-clause-imports g c =
 pub returns-clause-whole : goal.returns-clause-whole
 returns-clause-whole g c = λ held is honest ended.
     range-imported g.K.Reader c.args.store.now c.import_before-outcome.new.store held is honest c.args.start.dropped c.args.start.at c.args.to (g.R.Read.remaining c.args.reader.now)
-    (output g.S.Sink c.args.out.now c.finish.new.out) (c.import_before-outcome.new.store ≡ c.args.store.now) c.finish.result (returns-clause-imports g c) ended
+    (output (g.T.Teller.tells c.args.teller.now) g.S.Sink c.args.out.now c.finish.new.out) (c.import_before-outcome.new.store ≡ c.args.store.now) c.finish.result (returns-clause-imports g c) ended
 
 pub returns-clause-part : goal.returns-clause-part
 returns-clause-part g c = λ bytes is none holds honest ended.

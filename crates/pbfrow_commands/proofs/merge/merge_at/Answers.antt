@@ -1,14 +1,16 @@
 use Rattle.std.proofs.Common.{◌∷◌, [], Result, sym, subst}
 use Rattle.osm_value.specs.Sink.{Writes}
 use Rattle.osm_store.specs.Held.{HeldMap}
+use Rattle.osm_import.specs.Merges.{IsFrontUnited}
 use Rattle.osm_import.specs.Stores.{KeepsHeld}
 use Rattle.osm_import.specs.declared.copy.CopyCounts.{CopyCounts}
 use Rattle.osm_import.proofs.CopiesLemmas.{kept-still}
+use Rattle.osm_import.proofs.MergeLemmas.{front_begun}
 use Rattle.osm_parts.proofs.OpeningLemmas.{same-held, opened-closed}
 use Rattle.osm_parts.specs.Opening.{OnlyOpens}
-use Rattle.pbfrow_commands.specs.Merging.{CopiesAt, IsOwnMerge, MergeHasCause, TakesOf, store_line}
+use Rattle.pbfrow_commands.specs.Merging.{CopiesAt, IsOwnMerge, MergeHasCause, store_line}
 use Rattle.pbfrow_commands.specs.declared.merge.MergeStop.{MergeStop}
-use Rattle.pbfrow_commands.proofs.MergingLemmas.{takes-none, copies-at, crash-takes, own-merged, cause-merged, kept-merged, line-merged, opens-merged}
+use Rattle.pbfrow_commands.proofs.MergingLemmas.{copies-at, crash-front, own-merged, cause-merged, kept-merged, line-merged, opens-merged}
 use Rattle.pbfrow_commands.proofs.merge.merge_at.Goals as goal
 
 pub returns-in-Err-clause-copies : goal.returns-in-Err-clause-copies
@@ -16,7 +18,7 @@ returns-in-Err-clause-copies g c = λ maps source held holds honest at into_hold
 
 pub returns-in-Err-clause-crash : goal.returns-in-Err-clause-crash
 returns-in-Err-clause-crash g c = λ maps source held holds honest at into_holds into_honest left may.
-    subst (λ (h : HeldMap). TakesOf (source ∷ []) held h) (sym (g.met.T.Reader.settled _ held left into_holds may)) (takes-none (source ∷ []) held)
+    subst (λ (h : HeldMap). IsFrontUnited (source ∷ []) held h) (sym (g.met.T.Reader.settled _ held left into_holds may)) (front_begun (source ∷ []) held)
 
 pub returns-in-Err-clause-kept : goal.returns-in-Err-clause-kept
 returns-in-Err-clause-kept g c = λ held into_holds into_honest. kept-still g.T.Reader c.args.into.now _ held into_holds (λ left may. g.met.T.Reader.settled _ held left into_holds may)
@@ -24,8 +26,8 @@ returns-in-Err-clause-kept g c = λ held into_holds into_honest. kept-still g.T.
 pub returns-in-Err-clause-whole : goal.returns-in-Err-clause-whole
 returns-in-Err-clause-whole g c = λ held into_holds into_honest. g.met.T.Reader.leaves_held _ held into_holds
 
-pub returns-in-Err-clause-alone : goal.returns-in-Err-clause-alone
-returns-in-Err-clause-alone g c = λ held into_holds into_honest alone. alone
+pub returns-in-Err-clause-list : goal.returns-in-Err-clause-list
+returns-in-Err-clause-list g c = λ held into_holds into_honest rows lists. lists
 
 pub returns-in-Err-clause-own : goal.returns-in-Err-clause-own
 returns-in-Err-clause-own g c = λ maps source held holds honest at into_holds into_honest. c.in-Err.ensures.own maps holds honest
@@ -50,7 +52,7 @@ returns-clause-crash g c = λ maps source held holds honest at into_holds into_h
     let made = c.merge_one-outcome.ensures in
     let it = c.in-Ok.ensures.lent maps holds both.0 (made.source.stays.honest both.1) in
     let from_holds = subst (λ (m : HeldMap). g.F.Reader.holds c.in-Ok.store m) (same-held maps c.args.place it.held source it.at at) it.store in
-    crash-takes (g.T.Reader.leaves c.merge_one-outcome.new.into) source held left c.merge_one-outcome.result (made.copies.crash source held from_holds both.1 into_holds into_honest) may
+    crash-front (g.T.Reader.leaves c.merge_one-outcome.new.into) source held left c.merge_one-outcome.result (made.copies.crash source held from_holds both.1 into_holds into_honest) may
 
 pub returns-clause-kept : goal.returns-clause-kept
 returns-clause-kept g c = λ held into_holds into_honest.
@@ -61,8 +63,8 @@ returns-clause-kept g c = λ held into_holds into_honest.
 pub returns-clause-whole : goal.returns-clause-whole
 returns-clause-whole g c = c.merge_one-outcome.ensures.copies.whole
 
-pub returns-clause-alone : goal.returns-clause-alone
-returns-clause-alone g c = c.merge_one-outcome.ensures.copies.alone
+pub returns-clause-list : goal.returns-clause-list
+returns-clause-list g c = c.merge_one-outcome.ensures.copies.list
 
 pub returns-clause-own : goal.returns-clause-own
 returns-clause-own g c = λ maps source held holds honest at into_holds into_honest.

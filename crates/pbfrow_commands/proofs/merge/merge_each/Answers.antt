@@ -3,13 +3,14 @@ use Rattle.std.proofs.lemmas.List.{take_all}
 use Rattle.osm_value.specs.Sink.{Writes}
 use Rattle.osm_store.specs.Held.{HeldMap}
 use Rattle.osm_import.specs.declared.copy.CopyCounts.{CopyCounts}
+use Rattle.osm_import.specs.Merges.{AreUnited, IsFrontUnited}
 use Rattle.osm_import.specs.Stores.{Keeps}
 use Rattle.osm_import.proofs.CopiesLemmas.{keeps-same, keeps-then}
 use Rattle.osm_import.proofs.HandedOn.{handed}
 use Rattle.osm_parts.proofs.PieceLemmas.{held-at}
-use Rattle.pbfrow_commands.specs.Merging.{AreCopied, IsTotal, MergesStores, TakesOf, store_lines}
+use Rattle.pbfrow_commands.specs.Merging.{AreCopied, IsTotal, MergesStores, store_lines}
 use Rattle.pbfrow_commands.specs.declared.merge.MergeStop.{MergeStop}
-use Rattle.pbfrow_commands.proofs.MergingLemmas.{parted, take-next, take-none, copied-merges, copied-more, left-takes, merge-cause-later, line-more, lines-end}
+use Rattle.pbfrow_commands.proofs.MergingLemmas.{parted, take-next, take-none, copied-front, copied-united, copied-more, left-front, merge-cause-later, line-more, lines-end}
 use Rattle.pbfrow_reading.proofs.LineLemmas.{lines-none}
 use Rattle.pbfrow_commands.proofs.merge.merge_each.Goals as goal
 
@@ -21,7 +22,7 @@ loop-place-init g c = record {
   from_counted = omega arith;
   counted = omega arith;
   kept = λ held into_holds into_honest. (held, keeps-same held, into_holds);
-  alone = λ held into_holds into_honest alone. alone;
+  list = λ held into_holds into_honest rows lists. lists;
   honest = λ h. h;
   open_if = λ o. o;
   copied = (
@@ -48,9 +49,9 @@ loop-place-preserved g c =
           let before = inv.kept held into_holds (made.honest into_honest) in
           let step = (made.kept before.0 before.2 into_honest).ok in
           (step.0, keeps-then held before.0 step.0 before.1 step.1, step.2);
-      alone = λ held into_holds into_honest alone.
+      list = λ held into_holds into_honest rows lists.
           let before = inv.kept held into_holds (made.honest into_honest) in
-          made.alone before.0 before.2 into_honest (inv.alone held into_holds (made.honest into_honest) alone);
+          made.list before.0 before.2 into_honest rows (inv.list held into_holds (made.honest into_honest) rows lists);
       honest = λ h. inv.honest (made.honest h);
       open_if = λ o. inv.open_if (made.open_if o);
       copied = (
@@ -85,7 +86,11 @@ returns-clause-merges g c =
         crash = λ maps held holds honest all into_holds into_honest left may.
             let it = inv.copied.3 maps held holds honest all into_holds into_honest in
             let copied = subst (λ (l : List HeldMap). AreCopied l counts held it.0) (take_all c.loop-place.place maps (omega (arith, all, c.loop-place-test.false))) it.1 in
-            subst (λ (h : HeldMap). TakesOf maps held h) (sym (g.met.T.Reader.settled _ it.0 left it.2 may)) (copied-merges maps counts held it.0 copied).takes;
+            subst (λ (h : HeldMap). IsFrontUnited maps held h) (sym (g.met.T.Reader.settled _ it.0 left it.2 may)) (copied-front maps counts held it.0 copied);
+        all = λ maps held holds honest all into_holds into_honest left may.
+            let it = inv.copied.3 maps held holds honest all into_holds into_honest in
+            let copied = subst (λ (l : List HeldMap). AreCopied l counts held it.0) (take_all c.loop-place.place maps (omega (arith, all, c.loop-place-test.false))) it.1 in
+            subst (λ (h : HeldMap). AreUnited maps held h) (sym (g.met.T.Reader.settled _ it.0 left it.2 may)) (copied-united maps counts held it.0 copied);
         kept = λ held into_holds into_honest.
             let now = inv.kept held into_holds into_honest in
             record {
@@ -94,7 +99,7 @@ returns-clause-merges g c =
               crash = λ left may. subst (Keeps held) (sym (g.met.T.Reader.settled _ now.0 left now.2 may)) now.1;
             };
         whole = λ held into_holds into_honest. (let now = inv.kept held into_holds into_honest in g.met.T.Reader.leaves_held _ now.0 now.2);
-        alone = inv.alone;
+        list = inv.list;
         own = λ maps held holds honest all into_holds into_honest. tt;
         cause = tt;
       },
@@ -131,7 +136,8 @@ returns-in_err-counts-clause-merges g c =
             let before = inv.copied.3 maps held holds earlier all into_holds (made.honest into_honest) in
             let low : c.loop-place.place < length maps = omega (arith, all, c.loop-place-test.true) in
             let at = held-at maps c.loop-place.place low in
-            left-takes maps c.loop-place.place at.0 held before.0 left counts at.1 before.1 (made.crash maps at.0 before.0 (inv.from_kept earlier maps holds) honest at.1 before.2 into_honest left may);
+            left-front maps c.loop-place.place at.0 held before.0 left counts at.1 before.1 (made.crash maps at.0 before.0 (inv.from_kept earlier maps holds) honest at.1 before.2 into_honest left may);
+        all = λ maps held holds honest all into_holds into_honest. tt;
         kept = λ held into_holds into_honest.
             let before = inv.kept held into_holds (made.honest into_honest) in
             let kept = made.kept before.0 before.2 into_honest in
@@ -141,9 +147,9 @@ returns-in_err-counts-clause-merges g c =
               crash = λ left may. keeps-then held before.0 left before.1 (kept.crash left may);
             };
         whole = λ held into_holds into_honest. (let before = inv.kept held into_holds (made.honest into_honest) in made.whole before.0 before.2 into_honest);
-        alone = λ held into_holds into_honest alone.
+        list = λ held into_holds into_honest rows lists.
             let before = inv.kept held into_holds (made.honest into_honest) in
-            made.alone before.0 before.2 into_honest (inv.alone held into_holds (made.honest into_honest) alone);
+            made.list before.0 before.2 into_honest rows (inv.list held into_holds (made.honest into_honest) rows lists);
         own = λ maps held holds honest all into_holds into_honest.
             let earlier = made.opens.keeps.honest honest in
             let before = inv.copied.3 maps held holds earlier all into_holds (made.honest into_honest) in

@@ -2,6 +2,7 @@ use Rattle.std.proofs.Common.{◌≡◌, ◌≤◌, List, length, take}
 use Rattle.std.specs.List.{flat_map}
 use Rattle.osm_value.specs.Sink.{Writes}
 use Rattle.osm_store.specs.Held.{HeldMap}
+use Rattle.osm_store.specs.Keeping.{KeepsList}
 use Rattle.osm_import.specs.Stores.{HoldsStill}
 use Rattle.osm_import.specs.declared.copy.CopyCounts.{CopyCounts}
 use Rattle.pbfrow_commands.specs.Copying.{copied_line}
@@ -20,7 +21,7 @@ invariant-loop-place g l =
       from_counted : O.failures l.fn.openings ≤ O.failures l.openings;
       counted : T.failures l.fn.into ≤ T.failures l.into;
       kept : (held : HeldMap) → T.holds l.fn.into held → T.is_honest l.into → HoldsStill T l.into held;
-      alone : (held : HeldMap) → T.holds l.fn.into held → T.is_honest l.into → T.is_alone l.fn.into → T.is_alone l.into;
+      list : (held : HeldMap) → T.holds l.fn.into held → T.is_honest l.into → KeepsList T.lists l.fn.into l.into;
       honest : T.is_honest l.into → T.is_honest l.fn.into;
       open_if : T.is_open l.into → T.is_open l.fn.into;
       copied : (counts : List CopyCounts) × (l.total ≡ total_of counts) × Writes (S.written l.fn.out) (S.has_failed l.fn.out) (S.written l.out) (S.has_failed l.out) (flat_map copied_line counts)

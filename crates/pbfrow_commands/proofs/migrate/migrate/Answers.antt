@@ -6,7 +6,7 @@ use Rattle.pbfrow_commands.proofs.migrate.migrate.Goals as goal
 pub returns-clause-copies : goal.returns-clause-copies
 returns-clause-copies g c = (
   c.copy_held-outcome.result,
-  record { copies = c.copy_held-outcome.ensures.copies; crash = c.copy_held-outcome.ensures.crash; kept = c.copy_held-outcome.ensures.kept; whole = c.copy_held-outcome.ensures.whole; alone = c.copy_held-outcome.ensures.alone; own = c.copy_held-outcome.ensures.own; cause = c.copy_held-outcome.ensures.cause; told = c.copy_held-outcome.ensures.told; each = c.copy_held-outcome.ensures.each; same = c.copy_held-outcome.ensures.same; counted = c.copy_held-outcome.ensures.counted },
+  record { copies = c.copy_held-outcome.ensures.copies; crash = c.copy_held-outcome.ensures.crash; kept = c.copy_held-outcome.ensures.kept; whole = c.copy_held-outcome.ensures.whole; list = c.copy_held-outcome.ensures.list; own = c.copy_held-outcome.ensures.own; cause = c.copy_held-outcome.ensures.cause; told = c.copy_held-outcome.ensures.told; each = c.copy_held-outcome.ensures.each; same = c.copy_held-outcome.ensures.same; counted = c.copy_held-outcome.ensures.counted },
   c.put_outcome.ensures.line _ [] (started _ _),
   c.put_outcome.ensures.status,
 )

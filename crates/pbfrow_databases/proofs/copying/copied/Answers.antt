@@ -10,7 +10,7 @@ returns-clause-copies g c =
         crash = made.1.crash;
         kept = made.1.kept;
         whole = made.1.whole;
-        alone = made.1.alone;
+        list = made.1.list;
         own = made.1.own;
         cause = made.1.cause;
         told = made.1.told;
@@ -21,7 +21,7 @@ returns-clause-copies g c =
               crash = one.crash;
               kept = one.kept;
               whole = one.whole;
-              alone = one.alone;
+              list = one.list;
               own = one.own;
               source = record {
                 stays = record { honest = one.source.stays.honest; open_if = one.source.stays.open_if; kept = one.source.stays.kept; crash = one.source.stays.crash; whole = one.source.stays.whole };

@@ -1,4 +1,4 @@
-use Rattle.std.proofs.Common.{rules, ◌≡◌, ◌∙◌, ◌+◌, length, map, replicate, sum, ap, sym, arith}
+use Rattle.std.proofs.Common.{rules, ◌≡◌, ◌∙◌, length, map, replicate, sum, ap, sym, arith}
 use Rattle.osm_columns.proofs.AddLemmas.{adds-same}
 use Rattle.osm_columns.proofs.DenseLemmas.{node-count, sums-of-none, sum-of-none}
 use Rattle.osm_columns.proofs.ends.MemberEndsEndColumn.put_dense.Goals as goal

@@ -1,11 +1,9 @@
-use Rattle.std.proofs.Common.{rules, ◌≡◌, ◌∙◌, ◌<◌, ◌+◌, ◌^◌, List, ℤ, ℕ, length, map, sum, ap, sym, subst, arith}
+use Rattle.std.proofs.Common.{rules, ◌≡◌, ◌∙◌, ◌<◌, ◌+◌, ◌^◌, List, length, map, sum, ap, arith}
 use Rattle.osm_block.specs.NodeTags.{node_pairs}
 use Rattle.osm_value.specs.Value.{NodeValue}
 use Rattle.osm_value.specs.Elements.{tags_of_element}
 use Rattle.osm_value.specs.declared.element.Element.TheVariants as elements
 use Rattle.osm_block.specs.DenseTags.{Pair}
-use Rattle.osm_block.specs.Fields.{context_of}
-use Rattle.osm_block.specs.Groups.{AreNodesOf}
 use Rattle.osm_columns.specs.Lists.{sums_from}
 use Rattle.osm_columns.proofs.AddLemmas.{adds-same}
 use Rattle.osm_columns.proofs.DenseLemmas.{tag-counts}

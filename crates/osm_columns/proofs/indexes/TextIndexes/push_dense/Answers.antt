@@ -1,4 +1,4 @@
-use Rattle.std.proofs.Common.{rules, ◌≡◌, ◌∙◌, ◌<◌, ◌++◌, ℤ, List, length, map, replicate, negsuc, ap, sym}
+use Rattle.std.proofs.Common.{rules, ◌≡◌, ◌∙◌, ◌++◌, ℤ, length, map, replicate, negsuc, ap}
 use Rattle.osm_block.specs.DenseTags.{Pair}
 use Rattle.osm_block.specs.NodeTags.{node_pairs}
 use Rattle.osm_columns.specs.Lists.{joined}

@@ -1,13 +1,10 @@
-use Rattle.std.proofs.Common.{◌≡◌, ◌∙◌, ◌++◌, List, length, map, ap, sym, subst, Option, Some, true}
+use Rattle.std.proofs.Common.{◌∙◌, ◌++◌, List, length, ap, sym, subst}
 use Rattle.std.specs.List.{list_all}
 use Rattle.osm_value.specs.declared.element.Element.{Element}
-use Rattle.osm_value.specs.Value.{Text}
 use Rattle.osm_block.specs.DenseTags.{indexes_of}
 use Rattle.osm_block.specs.NodeTags.{node_pairs}
 use Rattle.osm_block.specs.Phases.{is_index}
-use Rattle.osm_columns.specs.Texts.{Extends}
-use Rattle.osm_columns.specs.Indexes.{AreIndexes, texts_in}
-use Rattle.osm_columns.proofs.TextLemmas.{extends-same}
+use Rattle.osm_columns.specs.Indexes.{AreIndexes}
 use Rattle.osm_columns.proofs.indexes.TextIndexes.push_group.Goals as goal
 
 pub push_dense-requires-clause-users : goal.push_dense-requires-clause-users

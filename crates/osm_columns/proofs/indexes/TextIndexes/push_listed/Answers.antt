@@ -1,5 +1,4 @@
-use Rattle.std.proofs.Common.{◌≡◌, ◌<◌, List, ◌++◌, ◌∷◌, [], length, take, ap, ◌∙◌, sym, subst, append_assoc, append-nil, arith}
-use Rattle.std.proofs.lemmas.List.{take_all}
+use Rattle.std.proofs.Common.{◌<◌, List, ◌++◌, ◌∷◌, [], length, take, ap, ◌∙◌, sym, subst, append_assoc, append-nil, arith}
 use Rattle.osm_value.specs.declared.element.Element.{Element}
 use Rattle.osm_columns.specs.Indexes.{AreIndexes}
 use Rattle.osm_columns.proofs.ListLemmas.{taken-next}

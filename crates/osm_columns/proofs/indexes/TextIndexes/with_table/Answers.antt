@@ -1,4 +1,4 @@
-use Rattle.std.proofs.Common.{Bor, ℕ, ◌≡◌, ◌∙◌, ◌++◌, List, [], ℤ, map, Option, Some, sym, subst}
+use Rattle.std.proofs.Common.{Bor, ℕ, List, Option, Some, sym, subst}
 use Rattle.osm_value.specs.Value.{Text}
 use Rattle.osm_columns.specs.Texts.{NameAll}
 use Rattle.osm_columns.specs.Indexes.{texts_in}

@@ -1,4 +1,4 @@
-use Rattle.std.proofs.Common.{◌≡◌, ◌+◌, length, map, take}
+use Rattle.std.proofs.Common.{◌≡◌, ◌+◌, map, take}
 use Rattle.osm_columns.specs.Values.{number_of_kind}
 use Rattle.osm_columns.specs.Columns.{Adds}
 use Rattle.osm_columns.proofs.lists.MemberKindsListColumn.put_of.Given as goal

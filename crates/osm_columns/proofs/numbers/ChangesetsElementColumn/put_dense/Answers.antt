@@ -1,6 +1,5 @@
-use Rattle.std.proofs.Common.{rules, ◌≡◌, ◌<◌, ◌∙◌, ap, sym, length, replicate, inl, inr, ⊎_elim, negsuc, arith}
+use Rattle.std.proofs.Common.{rules, ◌≡◌, ◌<◌, ◌∙◌, ap, sym, length, replicate, arith}
 use Rattle.osm_columns.specs.Values.{no_long}
-use Rattle.osm_columns.specs.Columns.{Adds}
 use Rattle.osm_columns.proofs.AddLemmas.{adds-same, none-or-some}
 use Rattle.osm_columns.proofs.DenseLemmas.{changesets-there, changesets-missing}
 use Rattle.osm_columns.proofs.numbers.ChangesetsElementColumn.put_dense.Goals as goal

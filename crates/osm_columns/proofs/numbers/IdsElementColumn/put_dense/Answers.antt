@@ -1,4 +1,4 @@
-use Rattle.std.proofs.Common.{rules, ◌≡◌, ◌∙◌}
+use Rattle.std.proofs.Common.{◌∙◌}
 use Rattle.osm_columns.proofs.AddLemmas.{adds-same}
 use Rattle.osm_columns.proofs.DenseLemmas.{ids-of}
 use Rattle.osm_columns.proofs.numbers.IdsElementColumn.put_dense.Goals as goal

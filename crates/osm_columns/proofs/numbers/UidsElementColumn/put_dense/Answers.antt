@@ -1,4 +1,4 @@
-use Rattle.std.proofs.Common.{rules, ◌≡◌, ◌<◌, ◌∙◌, ap, length, map, replicate, arith}
+use Rattle.std.proofs.Common.{rules, ◌≡◌, ◌<◌, ◌∙◌, ap, length, replicate}
 use Rattle.osm_columns.specs.Values.{no_int}
 use Rattle.osm_columns.proofs.AddLemmas.{adds-same}
 use Rattle.osm_columns.proofs.DenseLemmas.{uids-there, uids-missing}

@@ -1,6 +1,4 @@
-use Rattle.std.proofs.Common.{rules, ◌≡◌, ◌<◌, ◌∙◌, ap, sym, length, replicate, inl, inr, ⊎_elim, negsuc, arith}
-use Rattle.osm_columns.specs.Values.{no_long}
-use Rattle.osm_columns.specs.Columns.{Adds}
+use Rattle.std.proofs.Common.{rules, ◌≡◌, ◌<◌, ◌∙◌, ap, sym, length, replicate, negsuc, arith}
 use Rattle.osm_columns.proofs.AddLemmas.{adds-same, none-or-some}
 use Rattle.osm_columns.proofs.DenseLemmas.{versions-there, versions-missing}
 use Rattle.osm_columns.proofs.numbers.VersionsElementColumn.put_dense.Goals as goal

@@ -1,4 +1,4 @@
-use Rattle.std.proofs.Common.{rules, ◌≡◌, ◌<◌, ◌∙◌, ap, length, map, replicate, arith}
+use Rattle.std.proofs.Common.{rules, ◌≡◌, ◌<◌, ◌∙◌, ap, length, map, replicate}
 use Rattle.std.proofs.Common.{Some}
 use Rattle.osm_columns.specs.Values.{number_of_flag}
 use Rattle.osm_columns.proofs.AddLemmas.{adds-same}

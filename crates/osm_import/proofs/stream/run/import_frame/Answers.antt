@@ -14,16 +14,16 @@ pub returns-in_err-read_frame-clause-step : goal.returns-in_err-read_frame-claus
 returns-in_err-read_frame-clause-step g c =
     let before = prepend_known c.args.piece.now (g.R.Source.bytes_left c.args.reader.now) in
     let after = prepend_known c.read_frame.new.piece (g.R.Source.bytes_left c.read_frame.new.reader) in
-    subst (λ (r : Result (Option Delivered) Stop). FrameStep c.args.framer.now c.read_frame.new.framer (input_behind g.R.Source c.args.piece.now c.read_frame.new.piece c.args.reader.now c.read_frame.new.reader) (output g.S.Sink c.args.out.now c.args.out.now)
+    subst (λ (r : Result (Option Delivered) Stop). FrameStep c.args.framer.now c.read_frame.new.framer (input_behind g.R.Source c.args.piece.now c.read_frame.new.piece c.args.reader.now c.read_frame.new.reader) (output (g.T.Teller.tells c.args.teller.now) g.S.Sink c.args.out.now c.args.out.now)
     (c.args.keeper.now ≡ c.args.keeper.now) (TakesOne g.K.Reader c.args.keeper.now c.args.keeper.now) r) (sym (handed c.from_residual.result _ c.from_residual.ensures.1))
-    (reading-stopped c.args.framer.now before after (g.S.Sink.written c.args.out.now) (g.R.Source.has_failed c.read_frame.new.reader) (g.S.Sink.has_failed c.args.out.now) (c.args.keeper.now ≡ c.args.keeper.now) (TakesOne g.K.Reader c.args.keeper.now c.args.keeper.now) c.read_frame.new.framer c.in_err-read_frame.field-0.0
+    (reading-stopped (g.T.Teller.tells c.args.teller.now) c.args.framer.now before after (g.S.Sink.written c.args.out.now) (g.R.Source.has_failed c.read_frame.new.reader) (g.S.Sink.has_failed c.args.out.now) (c.args.keeper.now ≡ c.args.keeper.now) (TakesOne g.K.Reader c.args.keeper.now c.args.keeper.now) c.read_frame.new.framer c.in_err-read_frame.field-0.0
     (got-of c.args.framer.now c.read_frame.new.framer before after c.read_frame.ensures.moved c.requires) (c.read_frame.ensures.begun (begun-empty c.args.framer.now c.requires)) c.in_err-read_frame.ensures.err refl)
 
 pub returns-in-Err-clause-step : goal.returns-in-Err-clause-step
 returns-in-Err-clause-step g c =
     let before = prepend_known c.args.piece.now (g.R.Source.bytes_left c.args.reader.now) in
     let after = prepend_known c.read_frame.new.piece (g.R.Source.bytes_left c.read_frame.new.reader) in
-    frame-stopped c.args.framer.now before after (g.S.Sink.written c.args.out.now) (g.R.Source.has_failed c.read_frame.new.reader) (g.S.Sink.has_failed c.args.out.now) (c.deliver_waiting.new.keeper ≡ c.args.keeper.now) (TakesOne g.K.Reader c.args.keeper.now c.deliver_waiting.new.keeper) c.read_frame.new.framer c.in-Err.fault
+    frame-stopped (g.T.Teller.tells c.args.teller.now) c.args.framer.now before after (g.S.Sink.written c.args.out.now) (g.R.Source.has_failed c.read_frame.new.reader) (g.S.Sink.has_failed c.args.out.now) (c.deliver_waiting.new.keeper ≡ c.args.keeper.now) (TakesOne g.K.Reader c.args.keeper.now c.deliver_waiting.new.keeper) c.read_frame.new.framer c.in-Err.fault
     (got-of c.args.framer.now c.read_frame.new.framer before after c.read_frame.ensures.moved c.requires) (inl c.in-Err.ensures.0) c.in-Err.ensures.1
 
 pub returns-in-Ok-None-clause-step : goal.returns-in-Ok-None-clause-step
