@@ -18,10 +18,9 @@ ghost use Rattle.osm_databases.specs.Found.{AreFound, AreReadFrom, AreFoundOrMad
 
 use crate::reason::{Reason, tell, tell_of_obstruction, told, told_of};
 use crate::stores::{BLOCKS, checked, made_where_none, taking_blobs};
-use osm_checked::CheckedStore;
 use osm_openings::{Obstacle, Obstruction, find_unkept};
 use osm_store::{BodyStore, StoreFault, TABLE_VERSION};
-use osm_trees::TreeStore;
+use osm_trees::{CheckedStore, TreeStore};
 use sqlite::{Alter, Connection};
 
 /// Where databases are opened and closed. Their trees are named, and not what they lie in: so all that is done with them

@@ -18,11 +18,10 @@ ghost use Rattle.osm_databases.specs.Found.{ListOnlyAStore};
 
 use crate::reason::{Reason, Refusal};
 use osm_added_indexes::plain_indexes;
-use osm_checked::CheckedStore;
 use osm_store::{BodyStore, StoreFault, TableStore};
 use osm_tree_audits::{Look, Looked, faulty_added_index, look_at_indexes};
 use osm_tree_writes::takes_blobs;
-use osm_trees::TreeStore;
+use osm_trees::{CheckedStore, TreeStore};
 use sqlite::{Alter, Connection};
 use sqlite_schema::schema::Index;
 use sqlite_trees::store::Store;

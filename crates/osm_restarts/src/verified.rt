@@ -9,9 +9,8 @@ ghost use Rattle.osm_tree_writes.specs.Tables.{table_listings};
 ghost use Rattle.osm_import.specs.Merges.{IsImported, placed_from};
 ghost use Rattle.osm_verify.specs.Audits.{KeepsImport};
 
-use osm_checked::CheckedStore;
 use osm_store::{Audited, Reader};
-use osm_trees::TreeStore;
+use osm_trees::{CheckedStore, TreeStore};
 use sqlite_trees::store::Store;
 
 /// A store over trees whose database was looked at as it was opened, each page, tree and index of it, whatever it lists behind

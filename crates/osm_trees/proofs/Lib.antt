@@ -9,3 +9,4 @@ pub mod Bridge
 pub mod Downward
 pub mod Adding
 pub mod Audits
+pub mod CheckedReads

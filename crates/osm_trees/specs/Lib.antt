@@ -1,3 +1,4 @@
 pub mod Below
 pub mod Putting
 pub mod Reading
+pub mod Checking

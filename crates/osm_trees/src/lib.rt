@@ -1,6 +1,7 @@
-//! A store of blobs below SQL, over the trees of its database.
+//! A store of blobs below SQL, over the trees of its database; and one that is read alone, each index of which was looked at.
 #![tactic(auto)]
 
+mod checked_store;
 mod extents;
 mod history;
 pub mod laws;
@@ -10,4 +11,5 @@ mod row;
 mod search;
 mod tree_store;
 
+pub use checked_store::CheckedStore;
 pub use tree_store::TreeStore;

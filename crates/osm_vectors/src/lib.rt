@@ -1,6 +1,6 @@
-//! The tests of the wire format, of frames, of elements and their lines, and of blocks read and written; and what they share
-//! with the tests of stores and of the importer: vectors of the format as bytes, builders of messages, and readers and
-//! writers that fail.
+//! The tests of the wire format, of frames, of elements and their lines, of blocks read and written, and of columns; and what
+//! they share with the tests of stores and of the importer: vectors of the format as bytes, builders of messages, and readers
+//! and writers that fail.
 #![tactic(auto)]
 
 mod builders;

@@ -1,6 +1,7 @@
 mod blobs;
 mod blocks;
 mod changed;
+mod columns;
 mod encoding;
 mod failing;
 mod first_faults;

@@ -4,3 +4,9 @@ pub mod LawLemmas
 pub mod AuditLemmas
 pub mod TellLemmas
 pub mod KeptLemmas
+pub mod FileFrames
+pub mod FileRows
+pub mod JudgingLemmas
+pub mod MadeMaps
+pub mod ShowingLemmas
+pub mod TogetherLemmas

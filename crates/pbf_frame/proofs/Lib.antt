@@ -6,3 +6,4 @@ pub mod FramerLaws
 pub mod WaitingLaws
 pub mod EndLaws
 pub mod WriteLaws
+pub mod CuttingLemmas

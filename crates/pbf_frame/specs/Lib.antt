@@ -6,3 +6,4 @@ pub mod Front
 pub mod Parts
 pub mod Framer
 pub mod Write
+pub mod Cutting

@@ -1,4 +1,4 @@
-//! The frames of a PBF file: a length, a BlobHeader and a Blob.
+//! The frames of a PBF file: a length, a BlobHeader and a Blob; and a file of frames cut into ranges.
 #![tactic(auto)]
 
 mod blob;
@@ -10,6 +10,7 @@ mod header;
 mod kind;
 pub mod laws;
 mod part;
+mod ranges;
 mod write;
 
 pub use blob::{BlobFault, Compression, MAX_RAW, raw};
@@ -18,4 +19,5 @@ pub use frame::{Frame, read_frame, whole_frame};
 pub use framer::Framer;
 pub use kind::Kind;
 pub use part::MAX_OFFSET;
+pub use ranges::{Range, ranges_of};
 pub use write::write_frame;

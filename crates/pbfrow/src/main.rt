@@ -5,8 +5,8 @@
 use osm_databases::databases::Databases;
 use osm_databases::files::{AskedFiles, FilledFiles};
 use osm_databases::trees::{FEW_PAGES, MANY_PAGES};
-use pbfrow_cli::entry::{Program, start};
 use pbfrow_databases::commands::run;
+use pbfrow_terminal::entry::{Program, start};
 use pbfrow_words::Words;
 use std::process::ExitCode;
 

@@ -6,8 +6,8 @@ ghost use Rattle.pbfrow_reading.specs.CommandLines.{store_fault_line};
 
 use osm_store::{Reader, StoreFault};
 use osm_value::Sink;
-use pbfrow_meters::ending::FAULTY;
 use pbfrow_reading::report::put_store_fault;
+use pbfrow_terminal::ending::FAULTY;
 
 /// Writes the line of a fault of a database, and answers the exit status.
 pub fn refuse<S: Sink>(out: &mut S, fault: StoreFault) -> u8

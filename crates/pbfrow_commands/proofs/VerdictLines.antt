@@ -5,9 +5,9 @@ use Rattle.std.specs.Fmt.{decimal}
 use Rattle.std.specs.List.{count_by}
 use Rattle.std.proofs.lemmas.List.Filters.{length-filter_both}
 use Rattle.std.proofs.lemmas.List.Sums.{length-filter}
-use Rattle.osm_part_audits.specs.declared.auditing.Finding.{Finding}
-use Rattle.osm_part_audits.specs.declared.auditing.Finding.TheVariants.{Differs, Extra}
-use Rattle.osm_part_audits.specs.declared.together.Verdict.{Verdict}
+use Rattle.osm_verify.specs.declared.part_audit.Finding.{Finding}
+use Rattle.osm_verify.specs.declared.part_audit.Finding.TheVariants.{Differs, Extra}
+use Rattle.osm_verify.specs.declared.together.Verdict.{Verdict}
 use Rattle.pbfrow_commands.specs.CommandLines.{gap_lines}
 use Rattle.pbfrow_commands.specs.VerifyingParts.{finding_lines, is_extra, is_other, verdict_line, verdict_text}
 use Rattle.pbfrow_commands.proofs.CommandTexts.{four-counts}

@@ -10,8 +10,8 @@ use Rattle.std.proofs.lemmas.List.Elements.{All-contains}
 use Rattle.pbf_frame.specs.declared.fault.FrameFault.{FrameFault}
 use Rattle.pbf_frame.specs.Frame.{Found, found_at, frame_at}
 use Rattle.pbf_frame.proofs.FrameLaws.{frame_again}
-use Rattle.pbf_ranges.specs.Cutting.{Tile, last_end}
-use Rattle.pbf_ranges.specs.declared.Range.{Range}
+use Rattle.pbf_frame.specs.Cutting.{Tile, last_end}
+use Rattle.pbf_frame.specs.declared.ranges.Range.{Range}
 use Rattle.osm_store.specs.Held.{Blob, HeldMap, IsApart}
 use Rattle.osm_import.specs.Copies.{IsUnited}
 use Rattle.osm_import.specs.Deliveries.{DeliveryValue}

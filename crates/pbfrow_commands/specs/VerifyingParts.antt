@@ -6,13 +6,13 @@ use Rattle.osm_value.specs.Sink.{Wrote}
 use Rattle.osm_store.specs.Held.{HeldMap}
 use Rattle.osm_reading.specs.Framings.{Known}
 use Rattle.osm_reading.specs.declared.stream.fault.Stop.TheVariants.{ReadFailed}
-use Rattle.osm_part_audits.specs.Faults.{AuditHasCause, IsOfParts}
-use Rattle.osm_part_audits.specs.Together.{IsClean, IsVerdict}
-use Rattle.osm_part_audits.specs.declared.auditing.Finding.{Finding}
-use Rattle.osm_part_audits.specs.declared.auditing.Finding.TheVariants.{Differs, Extra}
-use Rattle.osm_part_audits.specs.declared.fault.AuditFault.{AuditFault}
-use Rattle.osm_part_audits.specs.declared.fault.AuditFault.TheVariants.{Unread, Parts}
-use Rattle.osm_part_audits.specs.declared.together.Verdict.{Verdict}
+use Rattle.osm_verify.specs.Faults.{AuditHasCause, IsOfParts}
+use Rattle.osm_verify.specs.Together.{IsClean, IsVerdict}
+use Rattle.osm_verify.specs.declared.part_audit.Finding.{Finding}
+use Rattle.osm_verify.specs.declared.part_audit.Finding.TheVariants.{Differs, Extra}
+use Rattle.osm_verify.specs.declared.fault.AuditFault.{AuditFault}
+use Rattle.osm_verify.specs.declared.fault.AuditFault.TheVariants.{Unread, Parts}
+use Rattle.osm_verify.specs.declared.together.Verdict.{Verdict}
 use Rattle.osm_verify.specs.declared.comparing.Depth.{Depth}
 use Rattle.pbfrow_commands.specs.CommandLines.{gap_lines}
 use Rattle.pbfrow_reading.specs.CommandLines.{stop_line}

@@ -7,8 +7,8 @@ use Rattle.osm_reading.specs.Framings.{Known}
 use Rattle.osm_import.specs.Files.{AreFrames, IsHeldOfFile, joined}
 use Rattle.osm_import.specs.Merges.{AreUnited, IsImported, placed_from}
 use Rattle.osm_parts.specs.Parts.{AreApart, AreParts, FollowFrom}
-use Rattle.pbf_ranges.specs.Cutting.{Tile}
-use Rattle.pbf_ranges.specs.declared.Range.{Range}
+use Rattle.pbf_frame.specs.Cutting.{Tile}
+use Rattle.pbf_frame.specs.declared.ranges.Range.{Range}
 use Rattle.pbfrow_commands.specs.Importing.{AreHeld, HoldsRange, IsOfFrames}
 use Rattle.pbfrow_reading.specs.Ranging.{Cuts}
 

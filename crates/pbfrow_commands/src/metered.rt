@@ -3,9 +3,9 @@
 ghost use Rattle.std.specs.Prelude.{None};
 
 use osm_import::{Answer, SourceFailed, Teller};
-use osm_part_audits::FileBytes;
 use osm_store::{Extent, Found, Loaded, Reader, StoreFault};
 use osm_value::MemberKind;
+use osm_verify::FileBytes;
 use pbfrow_reading::watcher::Watcher;
 use std::alloc::Global;
 use std::io::{ErrorKind, Read, Seek, SeekFrom};

@@ -10,7 +10,7 @@ use crate::parts::ask_parts;
 use crate::verifying::compare_all;
 use osm_databases::databases::{CheckedDatabases, Databases};
 use pbfrow_answers::starting::{depth_of, start_of, told_of};
-use pbfrow_cli::reading::{cut_file, read_file};
+use pbfrow_terminal::reading::{cut_file, read_file};
 use pbfrow_words::Words;
 
 /// Runs a command over the databases of a program, and answers the exit status. Those that are only asked are `asked`, those

@@ -14,8 +14,8 @@ use pbfrow_answers::ending::refuse;
 use pbfrow_answers::named::merge_named;
 use pbfrow_answers::turns::{InTurn, OpensNamed};
 use pbfrow_commands::metered::MeteredStore;
-use pbfrow_meters::meter::Meter;
 use pbfrow_reading::metered::MeteredOutput;
+use pbfrow_terminal::meter::Meter;
 use std::io;
 use std::io::Write;
 

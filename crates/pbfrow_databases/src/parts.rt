@@ -11,9 +11,9 @@ use pbfrow_answers::named::ask_named;
 use pbfrow_answers::questions::goes_by_blobs;
 use pbfrow_answers::turns::{InTurn, OpensNamed};
 use pbfrow_commands::metered::MeteredStore;
-use pbfrow_meters::ending::end;
-use pbfrow_meters::meter::Meter;
-use pbfrow_meters::output::standard_output;
+use pbfrow_terminal::ending::end;
+use pbfrow_terminal::meter::Meter;
+use pbfrow_terminal::output::standard_output;
 use pbfrow_words::Question;
 
 /// A store that tells the meter of its blobs.

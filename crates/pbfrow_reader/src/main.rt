@@ -4,8 +4,8 @@
 
 ghost use Rattle.std.specs.Prelude.{◌≡◌};
 
-use pbfrow_cli::entry::{INVALID_ARGUMENTS, Program, start};
-use pbfrow_cli::reading::{cut_file, read_file};
+use pbfrow_terminal::entry::{INVALID_ARGUMENTS, Program, start};
+use pbfrow_terminal::reading::{cut_file, read_file};
 use pbfrow_words::Words;
 use std::process::ExitCode;
 

@@ -10,7 +10,7 @@ use Rattle.osm_block.specs.declared.header.BBox.{BBox}
 use Rattle.pbfrow_reading.specs.Checking.{totals_line}
 use Rattle.osm_value.specs.Escape.{escaped, hex_digit}
 use Rattle.pbfrow_reading.specs.Listing.{byte_text, frame_line}
-use Rattle.pbf_ranges.specs.declared.Range.{Range}
+use Rattle.pbf_frame.specs.declared.ranges.Range.{Range}
 use Rattle.pbfrow_reading.specs.Ranging.{range_line}
 use Rattle.pbfrow_reading.specs.Showing.{blob_line, box_line, number_line, text_line}
 use Rattle.pbfrow_reading.specs.declared.check.Counts.{Counts}

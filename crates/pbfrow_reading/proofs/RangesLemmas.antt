@@ -8,9 +8,9 @@ use Rattle.osm_value.proofs.SinkLemmas.{started, whole_text, Wrote-text}
 use Rattle.osm_reading.specs.Framings.{Known}
 use Rattle.osm_reading.specs.FrameReads.{Reading, GivesFrame, Halts, LacksFrame, framing_of}
 use Rattle.osm_reading.specs.declared.stream.fault.StreamFault.{StreamFault}
-use Rattle.pbf_ranges.specs.Cutting.{AreEnds, AreRanges, last_end}
-use Rattle.pbf_ranges.specs.declared.Range.{Range}
-use Rattle.pbf_ranges.proofs.CuttingLemmas.{last_end-get, last_end-push}
+use Rattle.pbf_frame.specs.Cutting.{AreEnds, AreRanges, last_end}
+use Rattle.pbf_frame.specs.declared.ranges.Range.{Range}
+use Rattle.pbf_frame.proofs.CuttingLemmas.{last_end-get, last_end-push}
 use Rattle.pbfrow_reading.specs.Listing.{Plain, HasAny}
 use Rattle.pbfrow_reading.specs.Ranging.{AreCut, Cuts, CutsInput, ends_from, range_lines}
 use Rattle.pbfrow_reading.specs.Walks.{joined, AreFound, Walks, is_whole, ending_line, status_of}

@@ -4,8 +4,8 @@ use Rattle.std.specs.List.{AllByRecursion, flat_map}
 use Rattle.std.specs.Fmt.{decimal}
 use Rattle.osm_value.specs.Sink.{Wrote}
 use Rattle.osm_reading.specs.Framings.{Known}
-use Rattle.pbf_ranges.specs.Cutting.{AreRanges}
-use Rattle.pbf_ranges.specs.declared.Range.{Range}
+use Rattle.pbf_frame.specs.Cutting.{AreRanges}
+use Rattle.pbf_frame.specs.declared.ranges.Range.{Range}
 use Rattle.pbfrow_reading.specs.Listing.{HasAny, Plain}
 use Rattle.pbfrow_reading.specs.Walks.{Part, IsPart, joined, Walks, is_whole, ending_line, status_of}
 use Rattle.pbfrow_reading.specs.declared.input.Ending.{Ending}

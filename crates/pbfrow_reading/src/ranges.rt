@@ -3,8 +3,8 @@
 ghost use Rattle.std.specs.Prelude.{◌≡◌, ◌<◌, ◌≤◌, List, false, IfOk, IfErr, IfSome};
 ghost use Rattle.std.specs.Io.KnownBytes.{Appends};
 ghost use Rattle.osm_value.specs.Printing.{Prints};
-ghost use Rattle.pbf_ranges.specs.Cutting.{AreEnds, AreRanges};
-ghost use Rattle.pbf_ranges.specs.declared.Range.{Range as RangeValue};
+ghost use Rattle.pbf_frame.specs.Cutting.{AreEnds, AreRanges};
+ghost use Rattle.pbf_frame.specs.declared.ranges.Range.{Range as RangeValue};
 ghost use Rattle.pbfrow_reading.specs.Listing.{HasAny, Plain};
 ghost use Rattle.pbfrow_reading.specs.Ranging.{Cuts, CutsInput, ends_from, range_line, range_lines};
 ghost use Rattle.pbfrow_reading.specs.Walks.{Walks};
@@ -14,7 +14,7 @@ use crate::input::{Ending, finish, store_stop};
 use osm_faults::StoreFault;
 use osm_reading::{FrameReader, Inlet, StreamFault};
 use osm_value::{Sink, put, put_digits};
-use pbf_ranges::{Range, ranges_of};
+use pbf_frame::{Range, ranges_of};
 use std::alloc::Global;
 use std::io::Read;
 

@@ -2,7 +2,7 @@
 
 use super::support::{Breaking, Closed, EXTRA, TWO_NODES};
 use osm_value::Outlet;
-use pbf_ranges::{Range, ranges_of};
+use pbf_frame::{Range, ranges_of};
 use pbfrow_reading::ranges::ranges;
 use std::alloc::Global;
 use std::io::{Cursor, Read};

@@ -1,6 +1,6 @@
 use Rattle.std.proofs.Common.{sym, subst}
 use Rattle.osm_value.specs.Sink.{Writes}
-use Rattle.osm_part_audits.specs.declared.fault.AuditFault.{AuditFault}
+use Rattle.osm_verify.specs.declared.fault.AuditFault.{AuditFault}
 use Rattle.pbfrow_commands.specs.VerifyingParts.{audit_fault_line}
 use Rattle.pbfrow_commands.proofs.verify_parts.put_audit_fault.Goals as goal
 

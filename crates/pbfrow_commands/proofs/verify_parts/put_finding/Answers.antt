@@ -1,6 +1,6 @@
 use Rattle.std.proofs.Common.{sym, subst}
 use Rattle.osm_value.specs.Sink.{Writes}
-use Rattle.osm_part_audits.specs.declared.auditing.Finding.{Finding}
+use Rattle.osm_verify.specs.declared.part_audit.Finding.{Finding}
 use Rattle.pbfrow_commands.specs.VerifyingParts.{finding_line}
 use Rattle.pbfrow_commands.proofs.verify_parts.put_finding.Goals as goal
 

@@ -1,4 +1,4 @@
-use Rattle.osm_part_audits.specs.declared.auditing.Finding.TheVariants.{Differs}
+use Rattle.osm_verify.specs.declared.part_audit.Finding.TheVariants.{Differs}
 use Rattle.pbfrow_commands.specs.VerifyingParts.{finding_line}
 use Rattle.pbfrow_reading.proofs.LineLemmas.{lines-all, lines-more, lines-none}
 use Rattle.pbfrow_commands.proofs.verify_parts.put_findings.Goals as goal

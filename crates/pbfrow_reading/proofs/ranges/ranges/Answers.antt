@@ -1,6 +1,6 @@
 use Rattle.std.proofs.Common.{List, subst}
 use Rattle.osm_value.specs.Sink.{Writes}
-use Rattle.pbf_ranges.specs.declared.Range.{Range}
+use Rattle.pbf_frame.specs.declared.ranges.Range.{Range}
 use Rattle.pbfrow_reading.specs.Ranging.{range_lines}
 use Rattle.pbfrow_reading.proofs.RangesLemmas.{cuts-early, cuts-known, cuts-whole}
 use Rattle.pbfrow_reading.proofs.ranges.ranges.Goals as goal

@@ -1,6 +1,0 @@
-pub mod FileFrames
-pub mod FileRows
-pub mod JudgingLemmas
-pub mod MadeMaps
-pub mod ShowingLemmas
-pub mod TogetherLemmas

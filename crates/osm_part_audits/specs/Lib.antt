@@ -1,5 +1,0 @@
-pub mod InFile
-pub mod Judging
-pub mod Faults
-pub mod Together
-pub mod Showing

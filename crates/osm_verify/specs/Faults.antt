@@ -1,0 +1,25 @@
+-- The causes of what keeps stores from being compared with a file.
+use Rattle.std.specs.Prelude.{ℕ, List}
+use Rattle.osm_store.specs.Held.{HeldMap}
+use Rattle.osm_store.specs.Keeping.{IsForeign}
+use Rattle.osm_parts.specs.PartsFaults.{IsOfMaps, PartsFaultHasCause}
+use Rattle.osm_parts.specs.declared.fault.PartsFault.TheVariants.{Interleaved, Refused, Store}
+use Rattle.osm_verify.specs.declared.fault.AuditFault.{AuditFault}
+use Rattle.osm_verify.specs.declared.fault.AuditFault.TheVariants.{Unread, Parts}
+
+-- one store alone that holds a map is found to be no other's, and in nobody's way
+abbrev pub IsOwn : AuditFault → Type 0
+IsOwn (Unread off) = Unit {0}
+IsOwn (Parts (Store fault)) = ¬ (IsForeign fault)
+IsOwn (Parts (Interleaved off)) = ⊥
+IsOwn (Parts (Refused conflict off)) = ⊥
+
+-- these maps bear the fault out
+abbrev pub IsOfParts : List HeldMap → AuditFault → Type 0
+IsOfParts maps (Unread off) = Unit {0}
+IsOfParts maps (Parts fault) = IsOfMaps maps fault
+
+-- a store's fault has a cause
+abbrev pub AuditHasCause : ℕ → ℕ → AuditFault → Type 0
+AuditHasCause before now (Unread off) = Unit {0}
+AuditHasCause before now (Parts fault) = PartsFaultHasCause before now fault
