@@ -92,9 +92,9 @@ STAGES = [  # title, the crate that does it, and the parts, each with what stand
     ("a frame", "pbf_frame", [("length", "4 bytes"), ("BlobHeader", "type, size"), ("Blob", "stored raw")]),
     ("a block", "osm_block", [("strings", ""), ("nodes", ""), ("ways", ""), ("relations", "")]),
     ("elements", "osm_value", [("n 14690", "lat, lon"), ("w 1367", "nodes"), ("r 9", "members"), ("tags", "key=value")]),
-    ("rows", "osm_store", [("blob", "off, fin, digest"), ("element", "id, lat, lon"), ("tag", "key, val"), ("link", "ref, role")]),
+    ("rows", "osm_rows", [("blob", "off, fin, digest"), ("element", "id, lat, lon"), ("tag", "key, val"), ("link", "ref, role")]),
 ]
-BACK = [("a new file", ""), ("frames", "pbf_frame"), ("blocks", "osm_write"), ("elements", "osm_import"), ("held blobs", "osm_store")]
+BACK = [("a new file", ""), ("frames", "pbf_frame"), ("blocks", "osm_write"), ("elements", "osm_import"), ("held blobs", "osm_rows")]
 WAYS_IN = ["cut", "unpack", "decode", "store"]
 WAYS_OUT = ["join", "frame", "encode", "load"]
 LEFT, CARD, BETWEEN = 20, 164, 56  # one column: a card, and the room for the arrow behind it
@@ -169,7 +169,8 @@ SAYS = {
     "osm_faults": "why a store fails",
     "osm_reading": "frames read, good or bad",
     "pbfrow_reading": "commands on a file alone",
-    "osm_store": "blobs in a database",
+    "osm_rows": "the rows of a map",
+    "osm_sql_store": "blobs in a database, by SQL",
     "osm_added_indexes": "indexes of one's own",
     "osm_tree_writes": "blobs put below SQL",
     "osm_tree_audits": "rows of trees, told",

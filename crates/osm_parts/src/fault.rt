@@ -6,7 +6,7 @@ ghost use Rattle.osm_parts.specs.declared.fault.PartsFault.TheVariants.{Store};
 ghost use Rattle.osm_parts.specs.PartsFaults.{parts_number_of, parts_name_of};
 
 use osm_import::Conflict;
-use osm_store::StoreFault;
+use osm_rows::StoreFault;
 use std::alloc::{AllocError, AllocFailed};
 use thiserror::Error;
 

@@ -6,7 +6,7 @@ ghost use Rattle.osm_parts.specs.declared.fault.PartsFault.TheVariants.{Store};
 ghost use Rattle.osm_verify.specs.declared.fault.AuditFault.TheVariants.{Parts};
 
 use osm_parts::PartsFault;
-use osm_store::StoreFault;
+use osm_rows::StoreFault;
 use std::alloc::{AllocError, AllocFailed};
 use thiserror::Error;
 

@@ -1,6 +1,6 @@
 -- Stores that are opened by names, one after the other.
 use Rattle.std.specs.Prelude.{◌≡◌, ℕ, Bool, true, false, List, Some, Result, Ok, Err, length, slice_get}
-use Rattle.osm_store.specs.Held.{HeldMap}
+use Rattle.osm_rows.specs.Held.{HeldMap}
 use Rattle.osm_faults.specs.declared.fault.StoreFault.{StoreFault}
 use Rattle.osm_faults.specs.declared.fault.StoreFault.TheVariants.{NotThisStore}
 

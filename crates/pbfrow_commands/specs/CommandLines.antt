@@ -3,7 +3,7 @@ use Rattle.std.specs.Prelude.{ℕ, List, ◌++◌, codes}
 use Rattle.std.specs.List.{flat_map}
 use Rattle.std.specs.Fmt.{decimal}
 use Rattle.osm_value.specs.Line.{line}
-use Rattle.osm_store.specs.Rows.{Placed}
+use Rattle.osm_rows.specs.Rows.{Placed}
 use Rattle.osm_import.specs.declared.stream.summary.Summary.{Summary}
 
 -- the last line of an import

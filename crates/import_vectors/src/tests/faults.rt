@@ -2,7 +2,7 @@
 
 use osm_import::{Conflict, CopyFault, CopyStop, ExamineFault, Fault, Stop, examine};
 use osm_parts::PartsFault;
-use osm_store::StoreFault;
+use osm_rows::StoreFault;
 use pbf_frame::FrameFault;
 use std::test::*;
 use store_vectors::fixtures::HEADER;

@@ -1,5 +1,5 @@
 use Rattle.std.proofs.Common.{◌++◌, List, length, sym, subst}
-use Rattle.osm_store.specs.declared.keeper.Extent.{Extent}
+use Rattle.osm_rows.specs.declared.keeper.Extent.{Extent}
 use Rattle.osm_value.specs.Sink.{Wrote}
 use Rattle.pbfrow_commands.specs.Verifying.{close_text, counts_line, counts_of, extra_lines, header_line}
 use Rattle.pbfrow_commands.specs.declared.verify.Close.{Close}
