@@ -13,7 +13,7 @@ use Rattle.pbf_frame.proofs.WaitingLaws.{fault_again, waits_again}
 use Rattle.osm_reading.specs.Framings.{Moved, ReadHasCause, IsFull, Known}
 use Rattle.osm_reading.specs.FrameReads.{LacksFrame}
 use Rattle.osm_reading.specs.declared.stream.fault.Stop.{Stop}
-use Rattle.osm_reading.specs.declared.stream.fault.Stop.TheVariants.{Frame, NoHeaderFirst, WriteFailed, Store, ReadFailed, BlobLimit}
+use Rattle.osm_reading.specs.declared.stream.fault.Stop.TheVariants.{Frame, NoHeaderFirst, ReadFailed, Memory}
 use Rattle.osm_reading.proofs.Moves.{moved_both}
 
 -- ---- when it takes no more
@@ -77,11 +77,9 @@ lacks-frame f true left e full end (inr unfinished, others, may) = elim (full re
 -- where it has stopped before that
 pub stopped-frame : (f : Framing) (left : Option (List ℕ)) (has_failed : Bool) (stop : Stop) → ReadHasCause has_failed stop → (stop ≡ ReadFailed → IsFull f → ⊥) → LacksFrame f left has_failed stop
 stopped-frame f left has_failed ReadFailed cause unfilled = (cause, unfilled refl)
-stopped-frame f left has_failed (Store fault) cause unfilled = cause
+stopped-frame f left has_failed Memory cause unfilled = tt
 stopped-frame f left has_failed (Frame fault) cause unfilled = absurd cause
 stopped-frame f left has_failed NoHeaderFirst cause unfilled = absurd cause
-stopped-frame f left has_failed WriteFailed cause unfilled = absurd cause
-stopped-frame f left has_failed BlobLimit cause unfilled = absurd cause
 
 -- ---- a piece
 

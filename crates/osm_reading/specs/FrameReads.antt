@@ -3,11 +3,10 @@ use Rattle.std.specs.Prelude.{◌≡◌, ◌⊎◌, ℕ, ◌+◌, ◌<◌, ◌�
 use Rattle.std.specs.Borrow.{Bor}
 use Rattle.std.specs.Io.KnownBytes.{Consumes, IsAtEnd, Keeps, prepend_known}
 use Rattle.pbf_frame.specs.Framer.{Framing, FrameWaits, FaultStands, IsUnfinished}
-use Rattle.osm_faults.specs.declared.fault.StoreFault.TheVariants.{Memory}
 use Rattle.osm_reading.specs.Good.{IsFrame}
 use Rattle.osm_reading.specs.Framings.{Known, IsFull, HasFull, HasNoFrame}
 use Rattle.osm_reading.specs.declared.stream.fault.Stop.{Stop}
-use Rattle.osm_reading.specs.declared.stream.fault.Stop.TheVariants.{Frame, Store, ReadFailed}
+use Rattle.osm_reading.specs.declared.stream.fault.Stop.TheVariants.{Frame, ReadFailed, Memory}
 use Rattle.osm_reading.specs.declared.stream.fault.StreamFault.{StreamFault}
 
 -- ---- a framer that was fed from an input
@@ -21,7 +20,7 @@ HasFrame f left = FrameWaits f ⊎ ((f.rest ≡ []) × IsAtEnd left)
 abbrev pub LacksFrame : Framing → Known → Bool → Stop → Type 0
 LacksFrame f left failed (Frame fault) = FaultStands fault f ⊎ (IsUnfinished fault f × IsAtEnd left)
 LacksFrame f left failed ReadFailed = (failed ≡ true) × (IsFull f → ⊥)
-LacksFrame f left failed (Store fault) = fault ≡ Memory
+LacksFrame f left failed Memory = Unit {0}
 LacksFrame f left failed _ = ⊥
 
 -- ---- a reader of frames

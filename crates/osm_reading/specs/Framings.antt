@@ -3,9 +3,8 @@ use Rattle.std.specs.Prelude.{◌≡◌, ◌⊎◌, ℕ, ◌<◌, Bool, List, []
 use Rattle.std.specs.Io.KnownBytes.{Consumes}
 use Rattle.pbf_frame.specs.declared.fault.FrameFault.{FrameFault}
 use Rattle.pbf_frame.specs.Framer.{Framing, FrameWaits, FaultStands}
-use Rattle.osm_faults.specs.declared.fault.StoreFault.TheVariants.{Memory}
 use Rattle.osm_reading.specs.declared.stream.fault.Stop.{Stop}
-use Rattle.osm_reading.specs.declared.stream.fault.Stop.TheVariants.{Store, ReadFailed}
+use Rattle.osm_reading.specs.declared.stream.fault.Stop.TheVariants.{ReadFailed, Memory}
 
 -- what a reader has left, or what a writer holds, where it tells it
 abbrev pub Known : Type 0
@@ -34,5 +33,5 @@ Moved f g before after = (x : List ℕ) × (g.offset ≡ f.offset) × (g.rest �
 -- why a piece isn't read: a read failed, or memory was refused
 abbrev pub ReadHasCause : Bool → Stop → Type 0
 ReadHasCause failed ReadFailed = failed ≡ true
-ReadHasCause failed (Store fault) = fault ≡ Memory
+ReadHasCause failed Memory = Unit {0}
 ReadHasCause failed _ = ⊥

@@ -15,7 +15,7 @@ use Rattle.osm_value.proofs.SinkLemmas.{Wrote-text, whole_text}
 use Rattle.osm_reading.specs.Framings.{Known}
 use Rattle.osm_reading.specs.declared.fault.Fault.{Fault}
 use Rattle.osm_reading.specs.declared.stream.fault.Stop.{Stop}
-use Rattle.osm_reading.specs.declared.stream.fault.Stop.TheVariants.{Frame, NoHeaderFirst, WriteFailed, Store, ReadFailed, BlobLimit}
+use Rattle.osm_reading.specs.declared.stream.fault.Stop.TheVariants.{Frame, NoHeaderFirst, ReadFailed, Memory}
 use Rattle.pbfrow_reading.specs.Checking.{ChecksInput, Passes, bad_line, capped, check_end, checked_line, counts_at_end, counts_behind, counts_of, elements_in, some_good, tally, totals_line}
 use Rattle.osm_reading.specs.declared.stream.fault.StreamFault.{StreamFault}
 use Rattle.pbfrow_reading.specs.CommandLines.{stop_line}
@@ -107,10 +107,8 @@ no-fault (p ∷ blobs) c is some =
 pub no-counts : (blobs : List Judged) (stop : Stop) → ((fault : FrameFault) → stop ≢ Frame fault) → counts_behind blobs stop ≡ []
 no-counts blobs (Frame fault) other = absurd (other fault refl)
 no-counts blobs NoHeaderFirst other = refl
-no-counts blobs WriteFailed other = refl
-no-counts blobs (Store fault) other = refl
 no-counts blobs ReadFailed other = refl
-no-counts blobs BlobLimit other = refl
+no-counts blobs Memory other = refl
 
 pub frame-end : (before : List ℕ) (blobs : List Judged) (stop : StreamFault) (fault : FrameFault) (c : Counts) → stop.fault ≡ Frame fault → c ≡ counts_of blobs 1
     → (before ++ stop_line stop.fault stop.at) ++ totals_line c ≡ before ++ check_end (Early stop) blobs

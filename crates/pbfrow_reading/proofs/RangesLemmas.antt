@@ -90,7 +90,7 @@ passed-early left was now frames ends stop so_far halts = record {
 pub cut-refused : (left : Known) (frames : List Plain) (ends : List ℕ) (at : ℕ) (stop : StreamFault) → WalksTo left frames Whole → ends ≡ ends_from 0 frames → at ≡ last_end 0 ends → stop ≡ refused at → WalksTo left frames (Early stop)
 cut-refused left frames ends at stop walked ends-are at-is is =
     let end : at ≡ length (joined frames) = omega (arith, at-is, ap (last_end 0) ends-are, last_end-ends_from 0 frames) in
-    subst (λ (s : StreamFault). WalksTo left frames (Early s)) (sym is) (record { found = walked.found; behind = walked.behind; read = walked.read; ended = (end, ([], walked.behind, false, Consumes-nil walked.behind, refl)) })
+    subst (λ (s : StreamFault). WalksTo left frames (Early s)) (sym is) (record { found = walked.found; behind = walked.behind; read = walked.read; ended = (end, ([], walked.behind, false, Consumes-nil walked.behind, tt)) })
 
 pub last-or-none : (ends : List ℕ) → unwrap_or (slice_get ends (length ends - 1)) 0 ≡ last_end 0 ends
 last-or-none [] = refl

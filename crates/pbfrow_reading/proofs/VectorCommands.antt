@@ -5,8 +5,7 @@ use Rattle.osm_value.specs.declared.element.Element.{Element}
 use Rattle.osm_value.specs.declared.element.Element.TheVariants.{Node}
 use Rattle.osm_block.specs.HeaderBlock.{HeaderValue}
 use Rattle.osm_reading.specs.declared.fault.Fault.TheVariants.{HeaderNotFirst}
-use Rattle.osm_reading.specs.declared.stream.fault.Stop.TheVariants.{Frame, Store, ReadFailed}
-use Rattle.osm_faults.specs.declared.fault.StoreFault.TheVariants.{Memory}
+use Rattle.osm_reading.specs.declared.stream.fault.Stop.TheVariants.{Frame, ReadFailed, Memory}
 use Rattle.pbf_frame.specs.declared.fault.FrameFault.TheVariants.{BlobCut}
 use Rattle.pbfrow_reading.specs.Checking.{check_end, checked_line}
 use Rattle.pbfrow_reading.specs.Listing.{Plain, listed_line}
@@ -73,7 +72,7 @@ not_read : check_end (Early (record { fault = ReadFailed; at = 47 })) (header �
 unfolding digits
 not_read = refl
 
-no_memory : check_end (Early (record { fault = Store Memory; at = 47 })) (header ∷ []) ≡ codes "fault 65 Memory at 47\n"
+no_memory : check_end (Early (record { fault = Memory; at = 47 })) (header ∷ []) ≡ codes "fault 65 Memory at 47\n"
 unfolding digits
 no_memory = refl
 

@@ -8,8 +8,7 @@ use Rattle.osm_value.proofs.SinkLemmas.{Appends-from_keeps, Wrote-append, Wrote-
 use Rattle.osm_reading.specs.Framings.{Known}
 use Rattle.osm_reading.specs.FrameReads.{Reading, GivesFrame, Halts, LacksFrame, framing_of}
 use Rattle.osm_reading.specs.declared.stream.fault.StreamFault.{StreamFault}
-use Rattle.osm_reading.specs.declared.stream.fault.Stop.TheVariants.{Store}
-use Rattle.osm_faults.specs.declared.fault.StoreFault.TheVariants.{Memory}
+use Rattle.osm_reading.specs.declared.stream.fault.Stop.TheVariants.{Memory}
 use Rattle.pbfrow_reading.specs.Walks.{Part, IsPart, joined, lines_from, AreFound, HasEnded, Walks, TellsFrames, is_whole, status_of}
 use Rattle.pbfrow_reading.specs.declared.input.Ending.{Ending}
 use Rattle.pbfrow_reading.specs.declared.input.Ending.TheVariants.{Whole, Early, Unwritten}
@@ -99,13 +98,13 @@ tells-early Has line left was now old written failed frames stop so_far halts = 
 }
 
 abbrev pub refused : ℕ → StreamFault
-refused at = record { fault = Store Memory; at = at }
+refused at = record { fault = Memory; at = at }
 
 -- memory was refused for what is in the next frame
 unfoldable pub walks-refused : {A : Type 0} (Has : ℕ → Part A → Type 0) (line : ℕ → Part A → List ℕ) (left : Known) (was now : Reading) (at : ℕ) (w : List ℕ) (old mid : Known) (before failed : Bool) (frames : List (Part A))
     → Going Has line left was old mid before frames → GivesFrame was now at w → Walks Has left failed frames (Early (refused at))
 walks-refused Has line left was now at w old mid before failed frames so_far gives =
-    record { found = so_far.found; behind = was.left; read = so_far.read; ended = (gives.here ∙ so_far.stands, (w, now.left, false, gives.read, refl)) }
+    record { found = so_far.found; behind = was.left; read = so_far.read; ended = (gives.here ∙ so_far.stands, (w, now.left, false, gives.read, tt)) }
 
 pub tells-refused : {A : Type 0} (Has : ℕ → Part A → Type 0) (line : ℕ → Part A → List ℕ) (left : Known) (was now : Reading) (at : ℕ) (w : List ℕ) (old mid : Known) (failed : Bool) (frames : List (Part A)) (ending : Ending)
     → Going Has line left was old mid failed frames → GivesFrame was now at w → ending ≡ Early (refused at) → TellsFrames Has line left old mid failed frames ending
@@ -117,7 +116,7 @@ tells-refused Has line left was now at w old mid failed frames ending so_far giv
 -- memory was refused before a byte was read
 pub walks-nothing : {A : Type 0} (Has : ℕ → Part A → Type 0) (left : Known) (failed : Bool) (stop : StreamFault) → stop ≡ refused 0 → Walks Has left failed [] (Early stop)
 walks-nothing Has left failed stop is = subst (λ (s : StreamFault). Walks Has left failed [] (Early s)) (sym is)
-    (record { found = tt; behind = left; read = Consumes-nil left; ended = (refl, ([], left, false, Consumes-nil left, refl)) })
+    (record { found = tt; behind = left; read = Consumes-nil left; ended = (refl, ([], left, false, Consumes-nil left, tt)) })
 
 pub tells-nothing : {A : Type 0} (Has : ℕ → Part A → Type 0) (line : ℕ → Part A → List ℕ) (left written : Known) (failed : Bool) (stop : StreamFault) → stop ≡ refused 0 → TellsFrames Has line left written written failed [] (Early stop)
 tells-nothing Has line left written failed stop is = record { walked = walks-nothing Has left failed stop is; lines = started written failed }

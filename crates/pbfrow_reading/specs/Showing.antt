@@ -11,9 +11,8 @@ use Rattle.osm_value.specs.Sink.{Wrote}
 use Rattle.osm_value.specs.Value.{Text}
 use Rattle.osm_block.specs.HeaderBlock.{HeaderValue}
 use Rattle.osm_block.specs.declared.header.BBox.{BBox}
-use Rattle.osm_faults.specs.declared.fault.StoreFault.TheVariants.{Memory}
 use Rattle.osm_reading.specs.Framings.{Known}
-use Rattle.osm_reading.specs.declared.stream.fault.Stop.TheVariants.{Store}
+use Rattle.osm_reading.specs.declared.stream.fault.Stop.TheVariants.{Memory}
 use Rattle.pbfrow_reading.specs.Checking.{bad_line}
 use Rattle.pbfrow_reading.specs.Listing.{Plain, byte_text}
 use Rattle.pbfrow_reading.specs.Verdicts.{Verdict, Judged, HasVerdict, all_good}
@@ -69,7 +68,7 @@ shown_lines at p = blob_line at p.type_name (length p.bytes) ++ verdict_lines at
 -- Memory was refused for what is in the next frame, which ended the frames.
 abbrev pub IsBegun : ℕ → Known → Ending → Option Plain → Type 0
 IsBegun at left ending None = Unit {0}
-IsBegun at left ending (Some p) = IsPart p × ((behind : Known) × Consumes left behind p.bytes) × (ending ≡ Early (record { fault = Store Memory; at = at }))
+IsBegun at left ending (Some p) = IsPart p × ((behind : Known) × Consumes left behind p.bytes) × (ending ≡ Early (record { fault = Memory; at = at }))
 
 abbrev pub begun_line : ℕ → Option Plain → List ℕ
 begun_line at begun = of_option (λ p. blob_line at p.type_name (length p.bytes)) begun

@@ -10,18 +10,17 @@ ghost use Rattle.osm_reading.specs.declared.stream.fault.Stop.TheVariants.{ReadF
 ghost use Rattle.pbfrow_reading.specs.CommandLines.{stop_line};
 ghost use Rattle.pbfrow_reading.specs.Walks.{ending_line, is_whole, status_of};
 
-use osm_faults::StoreFault;
 use osm_reading::{FrameReader, Source, Stop, StreamFault, put_fault_at};
 use osm_value::{Outlet, Sink, SinkFailed};
 use pbf_frame::{Frame, whole_frame};
 use std::io::Write;
 
-/// A call of the store has failed at this offset, or memory was refused.
-pub fn store_stop(fault: StoreFault, at: u64) -> StreamFault
-    ensures { result ≡ record { fault = Stop.Store fault; at = at } }
+/// Memory was refused at this offset.
+pub(crate) fn memory_refused(at: u64) -> StreamFault
+    ensures { result ≡ record { fault = Stop.Memory; at = at } }
 {
     StreamFault {
-        fault: Stop::Store(fault),
+        fault: Stop::Memory,
         at,
     }
 }
@@ -40,9 +39,9 @@ pub enum Ending {
 impl Ending {
     /// Memory was refused for what is in the frame at this offset.
     pub(crate) fn refused(at: u64) -> Ending
-        ensures { result ≡ Ending.Early (record { fault = Stop.Store StoreFault.Memory; at = at }) }
+        ensures { result ≡ Ending.Early (record { fault = Stop.Memory; at = at }) }
     {
-        Ending::Early(store_stop(StoreFault::Memory, at))
+        Ending::Early(memory_refused(at))
     }
 }
 

@@ -10,8 +10,7 @@ ghost use Rattle.pbfrow_reading.specs.Ranging.{Cuts, CutsInput, ends_from, range
 ghost use Rattle.pbfrow_reading.specs.Walks.{Walks};
 ghost use Rattle.pbfrow_reading.specs.declared.input.Ending.TheVariants as ending;
 
-use crate::input::{Ending, finish, store_stop};
-use osm_faults::StoreFault;
+use crate::input::{Ending, finish, memory_refused};
 use osm_reading::{FrameReader, Inlet, StreamFault};
 use osm_value::{Sink, put, put_digits};
 use pbf_frame::{Range, ranges_of};
@@ -33,7 +32,7 @@ fn ends_of<R: Read>(alloc: Global, input: &mut R) -> Result<Vec<u64>, StreamFaul
             Ok(Some((at, bytes))) => {
                 let end = at + bytes.len() as u64;
                 let Ok(()) = ends.push(end) else {
-                    return Err(store_stop(StoreFault::Memory, at));
+                    return Err(memory_refused(at));
                 };
             }
             Ok(None) => return Ok(ends),
@@ -54,7 +53,7 @@ fn cut<R: Read>(alloc: Global, input: &mut R, count: u64) -> Result<Vec<Range>, 
     };
     match ranges_of(alloc, &ends, count) {
         Ok(ranges) => Ok(ranges),
-        Err(_) => Err(store_stop(StoreFault::Memory, ends.last().copied().unwrap_or(0))),
+        Err(_) => Err(memory_refused(ends.last().copied().unwrap_or(0))),
     }
 }
 

@@ -1,13 +1,12 @@
-//! Why a stream ends early.
+//! Why the frames of a source end early.
 
 ghost use Rattle.std.specs.Prelude.{◌≡◌};
 ghost use Rattle.osm_reading.specs.StopFaults.{stop_number_of, stop_name_of};
 
-use osm_faults::StoreFault;
 use pbf_frame::FrameFault;
 use thiserror::Error;
 
-/// Why a stream ends early.
+/// Why the frames of a source end early.
 #[derive(Clone, Copy, Debug, PartialEq, Eq, Error)]
 pub enum Stop {
     /// The input isn't a sequence of frames.
@@ -16,33 +15,23 @@ pub enum Stop {
     /// The input has no byte, and was read from offset 0.
     #[error("the input has no first blob")]
     NoHeaderFirst,
-    /// It comes only where the sink has failed.
-    #[error("a write failed")]
-    WriteFailed,
-    /// A call of the store has failed, or memory was refused.
-    #[error("{0}")]
-    Store(StoreFault),
     /// It comes only where the source has failed.
     #[error("a read failed")]
     ReadFailed,
-    /// The input has bytes behind the last blob that was asked for.
-    #[error("the input has more blobs")]
-    BlobLimit,
+    #[error("memory was refused")]
+    Memory,
 }
 
 impl Stop {
-    /// The number that this fault has in every message of the program: 24, 61, 68, 69, or that of the frame's or the
-    /// store's fault.
+    /// The number that this fault has in every message of the program: 61, 65, 68, or that of the frame's fault.
     pub fn number(self) -> u8
         ensures { result ≡ stop_number_of self }
     {
         match self {
             Stop::Frame(fault) => fault.number(),
             Stop::NoHeaderFirst => 61,
-            Stop::WriteFailed => 24,
-            Stop::Store(fault) => fault.number(),
             Stop::ReadFailed => 68,
-            Stop::BlobLimit => 69,
+            Stop::Memory => 65,
         }
     }
 
@@ -53,15 +42,13 @@ impl Stop {
         match self {
             Stop::Frame(fault) => fault.name(),
             Stop::NoHeaderFirst => "NoHeaderFirst",
-            Stop::WriteFailed => "WriteFailed",
-            Stop::Store(fault) => fault.name(),
             Stop::ReadFailed => "ReadFailed",
-            Stop::BlobLimit => "BlobLimit",
+            Stop::Memory => "Memory",
         }
     }
 }
 
-/// Why a stream ends early, and the offset, in bytes, of the frame that was being read or delivered then.
+/// Why the frames of a source end early, and the offset, in bytes, of the frame that was being read then.
 #[derive(Clone, Copy, Debug, PartialEq, Eq, Error)]
 #[error("{fault} (at {at})")]
 pub struct StreamFault {

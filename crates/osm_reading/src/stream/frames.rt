@@ -5,8 +5,7 @@ ghost use Rattle.std.specs.Borrow.{sem};
 ghost use Rattle.std.specs.Io.BufRead.{Rests};
 ghost use Rattle.std.specs.Io.KnownBytes.{prepend_known};
 ghost use Rattle.pbf_frame.specs.declared.part.TheConstants.{MAX_OFFSET};
-ghost use Rattle.osm_faults.specs.declared.fault.StoreFault.TheVariants.{Memory};
-ghost use Rattle.osm_reading.specs.declared.stream.fault.Stop.TheVariants.{Store};
+ghost use Rattle.osm_reading.specs.declared.stream.fault.Stop.TheVariants.{Memory};
 ghost use Rattle.osm_reading.specs.FrameReads.{Reading, ReadsFrame, IsReady};
 ghost use Rattle.osm_reading.specs.Framings.{IsBegun};
 
@@ -14,7 +13,6 @@ use super::fault::{Stop, StreamFault};
 use super::piece::Piece;
 use super::reading::{absorb, read_frame};
 use super::source::Source;
-use osm_faults::StoreFault;
 use pbf_frame::Framer;
 use std::alloc::{AllocError, Global};
 use std::marker::Model;
@@ -46,11 +44,11 @@ impl<R: Source> FrameReader<R> {
         R: Drop,
         requires { from ≤ MAX_OFFSET }
         ensures ok { IfOk result (λ r. r ≡ record { offset = from; left = R.bytes_left reader; has_failed = R.has_failed reader; read = []; behind = R.bytes_left reader }) }
-        ensures err { IfErr result (λ stop. stop ≡ record { fault = Store Memory; at = from }) }
+        ensures err { IfErr result (λ stop. stop ≡ record { fault = Memory; at = from }) }
     {
         let Ok(piece) = Piece::new(alloc) else {
             return Err(StreamFault {
-                fault: Stop::Store(StoreFault::Memory),
+                fault: Stop::Memory,
                 at: from,
             });
         };
@@ -77,7 +75,7 @@ impl<R: Source> FrameReader<R> {
     ///
     /// - at a fault of a frame, also where the input ends inside one, and answers that fault again from then on;
     /// - with `ReadFailed` where a read failed, and then no whole frame is among the bytes that were read;
-    /// - with `Store` where memory was refused.
+    /// - with `Memory` where memory was refused.
     ///
     /// At the last two nothing is lost.
     pub fn next(&mut self) -> Result<Option<(u64, &[u8])>, StreamFault>

@@ -17,7 +17,7 @@ fn put_fault_and<S: Sink>(out: &mut S, number: u8, name: &str, behind: &[u8])
     put(out, behind);
 }
 
-/// Writes `fault NUMBER NAME` and a line feed: a fault of a store as a whole. A sink that fails is met as by `put`.
+/// Writes `fault NUMBER NAME` and a line feed: a fault at no offset of a file. A sink that fails is met as by `put`.
 pub fn put_plain_fault<S: Sink>(out: &mut S, number: u8, name: &str)
     ensures { Prints S.Sink out.old out.new (plain_fault_line number name.now) }
 {

@@ -9,7 +9,6 @@ ghost use Rattle.osm_reading.specs.FrameReads.{HasFrame, LacksFrame};
 use super::fault::Stop;
 use super::piece::Piece;
 use super::source::{Source, SourceFailed};
-use osm_faults::StoreFault;
 use pbf_frame::{FrameFault, Framer};
 use std::alloc::AllocError;
 
@@ -84,7 +83,7 @@ fn fill<R: Source>(framer: &mut Framer, piece: &mut Piece, reader: &mut R) -> Re
         match absorb(framer, piece) {
             Ok(true) => return Ok(true),
             Ok(false) => {}
-            Err(_) => return Err(Stop::Store(StoreFault::Memory)),
+            Err(_) => return Err(Stop::Memory),
         }
         match has_more(piece, reader) {
             Ok(true) => {}

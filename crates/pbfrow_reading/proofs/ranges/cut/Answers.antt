@@ -9,4 +9,4 @@ returns-clause-err g c =
     let read = c.in-Ok.ensures.ok in
     let last : c.unwrap_or.result ≡ unwrap_or (slice_get c.in-Ok.ends.items (length c.in-Ok.ends.items - 1)) 0 =
     cc (c.unwrap_or.ensures, c.copied.ensures, c.last.ensures.value, c.deref-in-Err-ranges_of.ensures.value) in
-    (read.0, cut-refused (g.R.Read.remaining c.args.input.now) read.0 ends c.unwrap_or.result c.store_stop.result read.1 read.3 (last ∙ last-or-none ends) c.store_stop.ensures)
+    (read.0, cut-refused (g.R.Read.remaining c.args.input.now) read.0 ends c.unwrap_or.result c.memory_refused.result read.1 read.3 (last ∙ last-or-none ends) c.memory_refused.ensures)
