@@ -166,7 +166,6 @@ SAYS = {
     "osm_write": "writing blocks",
     "osm_columns": "elements in columns",
     "pbfrow_c": "the library for C",
-    "osm_faults": "why a store fails",
     "osm_reading": "frames read, good or bad",
     "pbfrow_reading": "commands on a file alone",
     "osm_rows": "the rows of a map",

@@ -11,7 +11,7 @@ use Rattle.osm_rows.specs.HeldLaws.{get-insert_here, get-insert_other, get-inser
 use Rattle.osm_rows.specs.Keeping.{extents_of, extent_of}
 use Rattle.osm_rows.specs.declared.keeper.Extent.{Extent}
 use Rattle.osm_value.specs.declared.element.Element.{Element}
-use Rattle.osm_faults.specs.declared.fault.StoreFault.{StoreFault}
+use Rattle.osm_rows.specs.declared.fault.StoreFault.{StoreFault}
 use Rattle.osm_import.specs.Step.{HasCause}
 use Rattle.osm_import.specs.declared.answer.Conflict.TheVariants.{Differs, Overlap}
 use Rattle.osm_import.specs.declared.copy.CopyFault.{CopyFault}

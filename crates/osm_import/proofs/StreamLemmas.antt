@@ -7,7 +7,7 @@ use Rattle.pbf_frame.specs.declared.fault.FrameFault.{FrameFault}
 use Rattle.pbf_frame.specs.Framer.{Framing, FrameWaits, FaultStands, IsUnfinished, waiting}
 use Rattle.pbf_frame.proofs.WaitingLaws.{waiting_again}
 use Rattle.pbf_wire.proofs.Choices.{ok_is}
-use Rattle.osm_faults.specs.declared.fault.StoreFault.TheVariants.{Memory}
+use Rattle.osm_rows.specs.declared.fault.StoreFault.TheVariants.{Memory}
 use Rattle.osm_reading.specs.Good.{IsFrame}
 use Rattle.osm_import.specs.Files.{AreFrames, joined}
 use Rattle.osm_import.specs.Deliveries.{DeliveryValue}

@@ -11,7 +11,7 @@ use Rattle.std.proofs.lemmas.List.Sorted.{Contains-permutation, IsPermutation-sy
 use Rattle.pbf_frame.specs.declared.kind.Kind.TheVariants.{OsmHeader}
 use Rattle.osm_rows.specs.Held.{Blob, HeldMap, IsApart}
 use Rattle.osm_rows.specs.Keeping.{extents_of, extent_of, IsForeign}
-use Rattle.osm_faults.specs.declared.fault.StoreFault.{StoreFault}
+use Rattle.osm_rows.specs.declared.fault.StoreFault.{StoreFault}
 use Rattle.osm_rows.specs.declared.keeper.Extent.{Extent}
 use Rattle.osm_import.specs.declared.answer.Conflict.TheVariants.{Differs, Overlap}
 use Rattle.osm_import.proofs.Touching.{find-head, find-tail, sorted-tail, find-cons}

@@ -6,7 +6,7 @@ use Rattle.osm_rows.specs.Flags.{has_flags}
 use Rattle.osm_rows.specs.Held.{Blob, HeldMap, IsApart}
 use Rattle.osm_rows.specs.Keeping.{extent_of}
 use Rattle.osm_rows.specs.declared.keeper.Extent.{Extent}
-use Rattle.osm_faults.specs.declared.fault.StoreFault.TheVariants.{Memory}
+use Rattle.osm_rows.specs.declared.fault.StoreFault.TheVariants.{Memory}
 use Rattle.osm_import.specs.declared.answer.Conflict.TheVariants.{Differs, Overlap}
 use Rattle.osm_parts.specs.Parts.{IsInPart}
 use Rattle.osm_parts.specs.declared.fault.PartsFault.{PartsFault}

@@ -1,7 +1,7 @@
 //! Why several stores aren't read as one map.
 
 ghost use Rattle.std.specs.Prelude.{◌≡◌};
-ghost use Rattle.osm_faults.specs.declared.fault.StoreFault.TheVariants.{Memory};
+ghost use Rattle.osm_rows.specs.declared.fault.StoreFault.TheVariants.{Memory};
 ghost use Rattle.osm_parts.specs.declared.fault.PartsFault.TheVariants.{Store};
 ghost use Rattle.osm_parts.specs.PartsFaults.{parts_number_of, parts_name_of};
 

@@ -5,8 +5,8 @@ use Rattle.pbf_frame.specs.declared.part.TheConstants.{MAX_OFFSET}
 use Rattle.sqlite.specs.Order.{Row}
 use Rattle.osm_rows.specs.Held.{Blob, HeldMap, IsFree, HaveFewTexts}
 use Rattle.osm_rows.specs.declared.keeper.Extent.{Extent}
-use Rattle.osm_faults.specs.declared.fault.StoreFault.{StoreFault}
-use Rattle.osm_faults.specs.declared.fault.StoreFault.TheVariants.{NotThisStore}
+use Rattle.osm_rows.specs.declared.fault.StoreFault.{StoreFault}
+use Rattle.osm_rows.specs.declared.fault.StoreFault.TheVariants.{NotThisStore}
 
 -- the extent of a held blob
 abbrev pub extent_of : ℕ × Blob → Extent

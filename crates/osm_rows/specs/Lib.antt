@@ -12,3 +12,4 @@ pub mod Flags
 pub mod LayoutHolding
 pub mod StoreLaws
 pub mod Audit
+pub mod Faults

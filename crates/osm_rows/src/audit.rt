@@ -11,9 +11,9 @@ ghost use Rattle.osm_rows.specs.Audit.{ShowsBlob, ShowsCounts, AreCountable, IsP
 ghost use Rattle.osm_rows.specs.Held.{Blob, HeldMap};
 ghost use Rattle.osm_rows.specs.Keeping.{OnlyReads};
 
+use crate::StoreFault;
 use crate::keeper::Reader;
 pub use counts::Counts;
-use osm_faults::StoreFault;
 use osm_value::Element;
 use pbf_frame::{Kind, MAX_OFFSET};
 use std::alloc::Global;

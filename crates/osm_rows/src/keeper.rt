@@ -9,8 +9,8 @@ ghost use Rattle.osm_rows.specs.Load.Finding.{AreMatches};
 ghost use Rattle.osm_rows.specs.Keeping.{extents_of, touches, IsRange, AscendApart, OnlyReads, Adds};
 ghost use Rattle.osm_rows.specs.Rows.{is_of, placed_in};
 
+use crate::StoreFault;
 use crate::load::{Found, Loaded};
-use osm_faults::StoreFault;
 use osm_value::{Element, MemberKind};
 use pbf_frame::{Kind, MAX_OFFSET};
 use std::alloc::Global;

@@ -4,7 +4,7 @@ use Rattle.std.specs.Borrow.{MutBor}
 use Rattle.sqlite.specs.Store.{Ghosts}
 use Rattle.sqlite.specs.Held.{Held, state}
 use Rattle.sqlite.specs.State.{HasCleanDisk, KeepsCommit, Survives}
-use Rattle.osm_faults.specs.declared.fault.StoreFault.{StoreFault}
+use Rattle.osm_rows.specs.declared.fault.StoreFault.{StoreFault}
 use Rattle.osm_rows.specs.Keeping.{IsForeign}
 
 -- the transaction is that of the same connection, nothing is committed, and a crash leaves nothing new

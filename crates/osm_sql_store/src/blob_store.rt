@@ -5,7 +5,7 @@ ghost use Rattle.std.specs.FinMap.{empty};
 ghost use Rattle.sqlite.specs.State.{HasCleanDisk};
 ghost use Rattle.sqlite.specs.Held.{state};
 ghost use Rattle.osm_sql_store.specs.Load.Asking.{JustAsks, NamesVersion};
-ghost use Rattle.osm_faults.specs.Faults.{NamesNoVersion};
+ghost use Rattle.osm_rows.specs.Faults.{NamesNoVersion};
 ghost use Rattle.osm_rows.specs.Held.{HeldMap};
 ghost use Rattle.osm_rows.specs.LayoutHolding.{Holds, TablesHold};
 ghost use Rattle.osm_rows.specs.Keeping.{IsForeign};
@@ -18,9 +18,8 @@ use crate::failures::failures_after;
 use crate::load::{all_extents, any_flag_held, find_held, load_held, touched_extents};
 use crate::put::put_rows;
 use crate::schema::{adopt_store, create_store};
-use osm_faults::StoreFault;
 use osm_rows::{
-    Audited, Bodies, Counts, Extent, Found, Keeper, Loaded, Reader, StoreLayout, Tables,
+    Audited, Bodies, Counts, Extent, Found, Keeper, Loaded, Reader, StoreFault, StoreLayout, Tables,
 };
 use osm_value::{Element, MemberKind};
 use pbf_frame::Kind;

@@ -3,7 +3,7 @@
 ghost use Rattle.std.specs.Prelude.{◌≡◌};
 ghost use Rattle.osm_rows.specs.Keeping.{failures_after};
 
-use osm_faults::StoreFault;
+use osm_rows::StoreFault;
 
 /// The count of failures after a call with this answer; it stays at the greatest number.
 pub(crate) fn failures_after<T>(answer: &Result<T, StoreFault>, failures: u64) -> u64

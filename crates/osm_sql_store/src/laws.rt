@@ -11,8 +11,7 @@ ghost use Rattle.osm_rows.specs.Keeping.{IsForeign};
 ghost use Rattle.osm_rows.specs.LayoutHolding.{Holds, IsKept, LeavesAMap, MayLeave, TablesHold};
 
 use crate::blob_store::BlobStore;
-use osm_faults::StoreFault;
-use osm_rows::{Layout, StoreLayout};
+use osm_rows::{Layout, StoreFault, StoreLayout};
 use sqlite::{Alter, Connection, MemStore};
 
 /// What was stored before flags of visibility were read and written holds the same map: in either layout the rows that the

@@ -9,7 +9,7 @@ use Rattle.sqlite_trees.specs.View.{doubt, IsClean}
 use Rattle.sqlite_trees.specs.Objects.{catalog_tree}
 use Rattle.pbf_frame.specs.declared.part.TheConstants.{MAX_OFFSET}
 use Rattle.osm_value.specs.Elements.{IsElement}
-use Rattle.osm_faults.specs.declared.fault.StoreFault.{StoreFault}
+use Rattle.osm_rows.specs.declared.fault.StoreFault.{StoreFault}
 use Rattle.osm_rows.specs.declared.schema.layout.Layout.TheVariants.{Tables}
 use Rattle.osm_rows.specs.Held.{Blob, HeldMap}
 use Rattle.osm_rows.specs.Keeping.{IsAddable, IsForeign, extent_of, failures_after, with_blob}

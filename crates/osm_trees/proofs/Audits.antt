@@ -12,7 +12,7 @@ use Rattle.sqlite_trees.proofs.ListLemmas.{filter-map}
 use Rattle.osm_value.specs.declared.element.Element.{Element}
 use Rattle.osm_value.specs.Elements.{tags_of_element}
 use Rattle.osm_rows.specs.declared.audit.counts.Counts.{Counts}
-use Rattle.osm_faults.specs.declared.fault.StoreFault.{StoreFault}
+use Rattle.osm_rows.specs.declared.fault.StoreFault.{StoreFault}
 use Rattle.osm_rows.specs.declared.keeper.Extent.{Extent}
 use Rattle.osm_rows.specs.declared.schema.layout.Layout.TheVariants.{Tables}
 use Rattle.osm_rows.specs.Audit.{AreCountable, IsPlain, ShowsCounts, counts_of, elements_held}

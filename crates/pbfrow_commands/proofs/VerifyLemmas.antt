@@ -17,7 +17,7 @@ use Rattle.osm_rows.specs.Audit.{AreCountable, ShowsBlob, ShowsCounts, counts_of
 use Rattle.osm_rows.specs.Held.{Blob, HeldMap, IsApart}
 use Rattle.osm_rows.specs.Keeping.{extents_of}
 use Rattle.osm_rows.specs.declared.audit.counts.Counts.{Counts as Rows}
-use Rattle.osm_faults.specs.declared.fault.StoreFault.{StoreFault}
+use Rattle.osm_rows.specs.declared.fault.StoreFault.{StoreFault}
 use Rattle.osm_rows.specs.declared.keeper.Extent.{Extent}
 use Rattle.osm_rows.specs.declared.schema.layout.Layout.{Layout}
 use Rattle.osm_reading.specs.Framings.{Known}

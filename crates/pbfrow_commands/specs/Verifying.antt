@@ -11,7 +11,7 @@ use Rattle.osm_rows.specs.Audit.{AreCountable, ShowsCounts, counts_of as counts_
 use Rattle.osm_rows.specs.Held.{Blob, HeldMap}
 use Rattle.osm_rows.specs.Keeping.{IsForeign, extents_of}
 use Rattle.osm_rows.specs.declared.audit.counts.Counts.{Counts as Rows}
-use Rattle.osm_faults.specs.declared.fault.StoreFault.{StoreFault}
+use Rattle.osm_rows.specs.declared.fault.StoreFault.{StoreFault}
 use Rattle.osm_rows.specs.declared.keeper.Extent.{Extent}
 use Rattle.osm_rows.specs.declared.schema.layout.Layout.{Layout}
 use Rattle.osm_reading.specs.Bad.{IsBad}

@@ -4,7 +4,7 @@ use Rattle.std.specs.List.{All, Contains, count_by, sum_by}
 use Rattle.osm_value.specs.declared.element.Element.{Element}
 use Rattle.osm_value.specs.declared.element.Element.TheVariants.{Node, Way, Relation}
 use Rattle.osm_value.specs.Elements.{tags_of_element, info_of_element}
-use Rattle.osm_faults.specs.Faults as stores
+use Rattle.osm_rows.specs.Faults as stores
 use Rattle.osm_rows.specs.Held.{Blob}
 use Rattle.osm_rows.specs.Keeping.{IsForeign}
 use Rattle.osm_import.specs.Step.{HasCause}

@@ -10,10 +10,10 @@ ghost use Rattle.osm_rows.specs.Held.{HasFewTexts};
 ghost use Rattle.osm_rows.specs.Load.Loading.{AreBodiesOf};
 ghost use Rattle.osm_rows.specs.Rows.{Placed, body_row, element_code, HasBlock, IsStored};
 
+use crate::StoreFault;
 use crate::load::values::{bytes_at, kind_at, place_of, wide_at};
 use crate::schema::Layout;
 use osm_block::{BlockError, read_block};
-use osm_faults::StoreFault;
 use osm_value::Element;
 use sqlite::Row;
 use std::alloc::{AllocError, Global};

@@ -5,10 +5,10 @@ ghost use Rattle.osm_rows.specs.LayoutHolding.{IsKeptExtent};
 ghost use Rattle.osm_rows.specs.Keeping.{IsRange, AscendApart};
 ghost use Rattle.osm_rows.specs.Rows.{extent_columns};
 
+use crate::StoreFault;
 use crate::keeper::Extent;
 use crate::load::values::unread;
 use crate::schema::codes::blob_kind;
-use osm_faults::StoreFault;
 use pbf_frame::MAX_OFFSET;
 use sqlite::Row;
 use std::alloc::Global;

@@ -5,9 +5,9 @@ ghost use Rattle.osm_rows.specs.Load.Finding.{AreMatches};
 ghost use Rattle.osm_rows.specs.Load.TableAnswers.{AreRowsOf};
 ghost use Rattle.osm_rows.specs.Rows.{Placed};
 
+use crate::StoreFault;
 use crate::load::rows::ElementRows;
 use crate::load::tables::{PartRow, TableRows};
-use osm_faults::StoreFault;
 use osm_value::Element;
 use sqlite::Row;
 use std::alloc::{AllocError, Global};

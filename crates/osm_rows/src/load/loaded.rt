@@ -6,10 +6,10 @@ ghost use Rattle.osm_rows.specs.Load.Loading.{HasRowsOf, IsInPlace};
 ghost use Rattle.osm_rows.specs.Load.TableAnswers.{AreRowsOf};
 ghost use Rattle.osm_rows.specs.Rows.{placed};
 
+use crate::StoreFault;
 use crate::load::rows::ElementRows;
 use crate::load::tables::{PartRow, TableRows};
 use crate::load::values::are_numbered;
-use osm_faults::StoreFault;
 use osm_value::Element;
 use sqlite::Row;
 use std::alloc::{AllocError, Global};

@@ -6,14 +6,14 @@ ghost use Rattle.sqlite.specs.declared.types.Value.TheVariants.{Null, Int, Text 
 ghost use Rattle.sqlite.specs.Order.{column};
 ghost use Rattle.sqlite.specs.Value.{owned};
 ghost use Rattle.sqlite.specs.Values.{or_null};
-ghost use Rattle.osm_faults.specs.Faults.{NamesNoVersion};
+ghost use Rattle.osm_rows.specs.Faults.{NamesNoVersion};
 ghost use Rattle.osm_rows.specs.Load.Numbering.{AreNumbered};
 ghost use Rattle.osm_rows.specs.Load.Unread.{unread_fault};
 ghost use Rattle.osm_rows.specs.Rows.{element_code};
 ghost use Rattle.osm_rows.specs.TableRows.{flag};
 ghost use Rattle.osm_value.specs.Ranges.{IsText, IsTextOrNone, IsWide, passes, is_wide, is_version, is_uid};
 
-use osm_faults::StoreFault;
+use crate::StoreFault;
 use osm_value::{MemberKind, text_in_range, uid_in_range, version_in_range, wide_in_range};
 use sqlite::types::ValueRef;
 use sqlite::{Error as SqlError, ErrorCode, Row};

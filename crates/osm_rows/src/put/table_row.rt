@@ -5,8 +5,8 @@ ghost use Rattle.sqlite.specs.Order.{Row};
 ghost use Rattle.sqlite.specs.Values.{bound};
 ghost use Rattle.osm_rows.specs.Keeping.{IsForeign};
 
+use crate::StoreFault;
 use crate::schema::codes::element_code;
-use osm_faults::StoreFault;
 use osm_value::MemberKind;
 use sqlite::params;
 use sqlite::types::ValueRef;

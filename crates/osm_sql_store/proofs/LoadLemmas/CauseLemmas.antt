@@ -20,7 +20,7 @@ use Rattle.sqlite.specs.declared.error.Error.TheVariants.{SqliteFailure}
 use Rattle.sqlite.specs.declared.error.ErrorCode.TheVariants.{OperationInterrupted}
 use Rattle.sqlite_trees.specs.declared.error.StoreError.{StoreError}
 use Rattle.sqlite_trees.specs.declared.error.StoreError.TheVariants.{OutOfMemory, Io, Corrupt, Full, Broken, Unstorable}
-use Rattle.osm_faults.specs.Faults.{fault_over_unknown}
+use Rattle.osm_rows.specs.Faults.{fault_over_unknown}
 use Rattle.osm_rows.specs.Keeping.{IsForeign}
 use Rattle.osm_sql_store.specs.Load.Selects.{selects}
 use Rattle.osm_sql_store.proofs.LoadLemmas.SelectLemmas.{query_plain}

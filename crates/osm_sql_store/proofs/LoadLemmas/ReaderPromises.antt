@@ -5,7 +5,7 @@ use Rattle.std.proofs.lemmas.Result.{MatchResult-weaker}
 use Rattle.sqlite.specs.Store.{Ghosts}
 use Rattle.sqlite.specs.Held.{state}
 use Rattle.sqlite.specs.State.{HasCleanDisk}
-use Rattle.osm_faults.specs.declared.fault.StoreFault.{StoreFault}
+use Rattle.osm_rows.specs.declared.fault.StoreFault.{StoreFault}
 use Rattle.osm_rows.specs.declared.schema.layout.Layout.{Layout}
 use Rattle.osm_sql_store.specs.Load.Asking.{JustAsks}
 use Rattle.osm_rows.specs.Held.{HeldMap}

@@ -11,8 +11,8 @@ use Rattle.sqlite_trees.specs.Tree.{IsAscending}
 use Rattle.sqlite_trees.proofs.ListLemmas.{all_of, all_weaker, all_both, all-map, filter_same}
 use Rattle.osm_rows.specs.declared.keeper.Extent.{Extent}
 use Rattle.osm_rows.specs.Held.{HeldMap, IsApart}
-use Rattle.osm_faults.specs.declared.fault.StoreFault.{StoreFault}
-use Rattle.osm_faults.specs.declared.fault.StoreFault.TheVariants.{Memory}
+use Rattle.osm_rows.specs.declared.fault.StoreFault.{StoreFault}
+use Rattle.osm_rows.specs.declared.fault.StoreFault.TheVariants.{Memory}
 use Rattle.osm_rows.specs.Keeping.{IsForeign, extent_of, extents_of, touches}
 use Rattle.osm_sql_store.specs.Load.Starting.{IsStart}
 use Rattle.osm_sql_store.proofs.LoadLemmas.ReadLemmas.{ShowsOne, touches_from}

@@ -31,7 +31,7 @@ use Rattle.osm_sql_store.specs.Schema.Over.{IsWriting}
 use Rattle.osm_rows.specs.Put.Gains.{Gains}
 use Rattle.osm_sql_store.specs.Put.Steps.{AddsRows}
 use Rattle.osm_sql_store.specs.Put.Batches.{rows_of, statement_of}
-use Rattle.osm_faults.specs.declared.fault.StoreFault.{StoreFault}
+use Rattle.osm_rows.specs.declared.fault.StoreFault.{StoreFault}
 use Rattle.osm_sql_store.specs.declared.put.batch.Batch.{Batch}
 use Rattle.osm_sql_store.proofs.PutLemmas.Inserts.{inserts_all}
 use Rattle.osm_sql_store.proofs.SchemaLemmas.MakeSteps.{becomes}

@@ -7,7 +7,7 @@ use Rattle.sqlite.specs.Held.{state}
 use Rattle.sqlite.specs.State.{State, HasCleanDisk, Survives}
 use Rattle.pbf_frame.specs.declared.part.TheConstants.{MAX_OFFSET}
 use Rattle.osm_rows.specs.declared.keeper.Extent.{Extent}
-use Rattle.osm_faults.specs.declared.fault.StoreFault.{StoreFault}
+use Rattle.osm_rows.specs.declared.fault.StoreFault.{StoreFault}
 use Rattle.sqlite.specs.Tree.{Trees}
 use Rattle.osm_rows.specs.Held.{Blob, HeldMap, HaveFewTexts}
 use Rattle.osm_rows.specs.LayoutHolding.{IsBlob, MayLeave, LeavesAMap}

@@ -14,7 +14,7 @@ use Rattle.sqlite.specs.Steps.{FailsToCommit}
 use Rattle.osm_rows.specs.declared.keeper.Extent.{Extent}
 use Rattle.sqlite.specs.Table.{Table}
 use Rattle.std.specs.Prelude.{OnOk}
-use Rattle.osm_faults.specs.declared.fault.StoreFault.{StoreFault}
+use Rattle.osm_rows.specs.declared.fault.StoreFault.{StoreFault}
 use Rattle.std.specs.List.{AllByRecursion}
 use Rattle.sqlite.specs.declared.types.Value.TheVariants.{Int, Blob as Octets}
 use Rattle.osm_rows.specs.declared.schema.layout.Layout.{Layout}

@@ -5,8 +5,7 @@ ghost use Rattle.osm_rows.specs.Keeping.{IsForeign};
 ghost use Rattle.osm_rows.specs.Rows.{placed, body_columns, body_row};
 
 use crate::audit::same::has_values;
-use osm_faults::StoreFault;
-use osm_rows::element_code;
+use osm_rows::{StoreFault, element_code};
 use osm_value::{Element, MemberKind};
 use osm_write::encode_one;
 use pbf_frame::MAX_OFFSET;

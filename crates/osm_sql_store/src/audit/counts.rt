@@ -13,8 +13,7 @@ ghost use Rattle.osm_rows.specs.Schema.Layouts.{schema_of};
 
 use crate::audit::table::AuditedTable;
 use crate::load::answer;
-use osm_faults::StoreFault;
-use osm_rows::{Counts, Layout, number_at};
+use osm_rows::{Counts, Layout, StoreFault, number_at};
 use sqlite::{Alter, Connection, Row};
 
 /// The most rows that SQL counts.

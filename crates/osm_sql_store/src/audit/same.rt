@@ -6,8 +6,7 @@ ghost use Rattle.sqlite.specs.Value.{owned};
 ghost use Rattle.sqlite.specs.Values.{bound, bound_value};
 ghost use Rattle.osm_rows.specs.Keeping.{IsForeign};
 
-use osm_faults::StoreFault;
-use osm_rows::TableRow;
+use osm_rows::{StoreFault, TableRow};
 use sqlite::Row;
 use sqlite::types::ValueRef;
 use sqlite_value::order::is_same;

@@ -10,7 +10,7 @@ ghost use Rattle.osm_sql_store.specs.Load.Asking.{JustAsks, IsAnswered};
 ghost use Rattle.osm_rows.specs.Keeping.{IsForeign};
 ghost use Rattle.osm_sql_store.specs.Load.Selects.{selects};
 
-use osm_faults::StoreFault;
+use osm_rows::StoreFault;
 use sqlite::types::ValueRef;
 use sqlite::{Alter, Connection, Error, Row};
 

@@ -17,8 +17,9 @@ ghost use Rattle.osm_rows.specs.Rows.{is_of, placed_in};
 use crate::load::answer::{answer, integer, number};
 use crate::schema::sql::{FIND_BODIES, SELECT_BODIES};
 pub(crate) use flags::any_flag_in_bodies;
-use osm_faults::StoreFault;
-use osm_rows::{BodyRows, ElementRows, Found, Layout, Loaded, are_numbered, element_code};
+use osm_rows::{
+    BodyRows, ElementRows, Found, Layout, Loaded, StoreFault, are_numbered, element_code,
+};
 use osm_value::MemberKind;
 use pbf_frame::MAX_OFFSET;
 use sqlite::{Alter, Connection};

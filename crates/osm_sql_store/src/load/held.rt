@@ -15,8 +15,7 @@ ghost use Rattle.osm_rows.specs.Rows.{is_of, placed_in};
 
 use crate::load::bodies::{any_flag_in_bodies, find_bodies, load_bodies};
 use crate::load::tables::{any_flag_in_tables, find_tables, load_tables};
-use osm_faults::StoreFault;
-use osm_rows::{Found, Layout, Loaded};
+use osm_rows::{Found, Layout, Loaded, StoreFault};
 use osm_value::MemberKind;
 use sqlite::{Alter, Connection};
 use std::alloc::Global;

@@ -17,8 +17,7 @@ ghost use Rattle.osm_rows.specs.Load.Loading.{HasRowsOf, IsInPlace};
 ghost use Rattle.osm_rows.specs.Rows.{is_of, placed_in};
 
 pub(crate) use flags::any_flag_in_tables;
-use osm_faults::StoreFault;
-use osm_rows::{ElementRows, Found, Layout, Loaded, TableRows};
+use osm_rows::{ElementRows, Found, Layout, Loaded, StoreFault, TableRows};
 use osm_value::MemberKind;
 use pbf_frame::MAX_OFFSET;
 use rows::load_table_rows;

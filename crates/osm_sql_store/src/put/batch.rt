@@ -13,8 +13,7 @@ use crate::put::execute::execute;
 use crate::schema::sql::{
     INSERT_ELEMENT, INSERT_ELEMENTS, INSERT_LINK, INSERT_LINKS, INSERT_TAG, INSERT_TAGS,
 };
-use osm_faults::StoreFault;
-use osm_rows::{ElementRow, Layout, LinkRow, TableRow, TagRow};
+use osm_rows::{ElementRow, Layout, LinkRow, StoreFault, TableRow, TagRow};
 use sqlite::types::ValueRef;
 use sqlite::{Alter, Transaction};
 use std::alloc::Global;

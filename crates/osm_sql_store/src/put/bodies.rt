@@ -11,8 +11,7 @@ ghost use Rattle.osm_rows.specs.Rows.{placed, body_columns, body_row, HasBlock};
 
 use crate::put::execute::execute;
 use crate::schema::sql::INSERT_BODY;
-use osm_faults::StoreFault;
-use osm_rows::{Layout, element_code};
+use osm_rows::{Layout, StoreFault, element_code};
 use osm_value::{Element, MemberKind};
 use osm_write::encode_one;
 use pbf_frame::MAX_OFFSET;

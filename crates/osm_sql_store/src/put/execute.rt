@@ -6,7 +6,7 @@ ghost use Rattle.sqlite.specs.State.{HasCleanDisk, ExecutesInside};
 ghost use Rattle.sqlite.specs.Held.{state};
 ghost use Rattle.osm_sql_store.specs.Inside.{WorksInside};
 
-use osm_faults::StoreFault;
+use osm_rows::StoreFault;
 use sqlite::types::ValueRef;
 use sqlite::{Alter, Transaction};
 

@@ -12,8 +12,9 @@ ghost use Rattle.osm_sql_store.specs.Schema.Over.{IsWriting};
 ghost use Rattle.osm_sql_store.specs.Put.Steps.{AddsElements};
 
 use crate::put::batch::add_rows;
-use osm_faults::StoreFault;
-use osm_rows::{ElementRow, Layout, LinkRow, TagRow, element_rows, link_rows, tag_rows};
+use osm_rows::{
+    ElementRow, Layout, LinkRow, StoreFault, TagRow, element_rows, link_rows, tag_rows,
+};
 use osm_value::Element;
 use osm_value::laws::elements_in_range;
 use pbf_frame::MAX_OFFSET;

@@ -5,7 +5,7 @@ ghost use Rattle.std.specs.FinMap.{empty};
 ghost use Rattle.sqlite.specs.State.{HasCleanDisk};
 ghost use Rattle.sqlite.specs.Held.{state};
 ghost use Rattle.osm_sql_store.specs.Load.Asking.{JustAsks, NamesVersion};
-ghost use Rattle.osm_faults.specs.Faults.{NamesNoVersion};
+ghost use Rattle.osm_rows.specs.Faults.{NamesNoVersion};
 ghost use Rattle.osm_rows.specs.Held.{HeldMap};
 ghost use Rattle.osm_rows.specs.LayoutHolding.{Holds, TablesHold};
 ghost use Rattle.osm_rows.specs.Keeping.{IsForeign};
@@ -17,8 +17,7 @@ use crate::schema::create::create_tables;
 use crate::schema::sql::BODY_VERSION;
 use crate::schema::tables::has_tables;
 use crate::schema::version::version;
-use osm_faults::{StoreFault, fault_over_unknown};
-use osm_rows::{Layout, TABLE_VERSION};
+use osm_rows::{Layout, StoreFault, TABLE_VERSION, fault_over_unknown};
 use sqlite::{Alter, Connection};
 use sqlite_schema::schema::Schema;
 

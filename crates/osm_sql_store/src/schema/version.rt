@@ -6,7 +6,7 @@ ghost use Rattle.sqlite.specs.Order.{Row, column};
 ghost use Rattle.sqlite.specs.State.{HasCleanDisk};
 ghost use Rattle.sqlite.specs.Held.{state};
 ghost use Rattle.osm_sql_store.specs.Load.Asking.{JustAsks, NamesVersion};
-ghost use Rattle.osm_faults.specs.Faults.{NamesNoVersion};
+ghost use Rattle.osm_rows.specs.Faults.{NamesNoVersion};
 ghost use Rattle.osm_rows.specs.Held.{HeldMap};
 ghost use Rattle.osm_rows.specs.LayoutHolding.{Holds};
 ghost use Rattle.osm_rows.specs.Keeping.{IsForeign};
@@ -14,8 +14,7 @@ ghost use Rattle.osm_rows.specs.Schema.Layouts.{version_of};
 
 use crate::load::ask;
 use crate::schema::sql::SELECT_VERSION;
-use osm_faults::{StoreFault, fault_over_unknown};
-use osm_rows::{Layout, unread};
+use osm_rows::{Layout, StoreFault, fault_over_unknown, unread};
 use sqlite::{Alter, Connection, Row};
 
 /// The one version that the rows of `meta` name.

@@ -14,11 +14,11 @@ ghost use Rattle.osm_rows.specs.Load.TableAnswers.{AreRowsOf};
 ghost use Rattle.osm_rows.specs.TableRows.{Part, element_row, tag_row, tags_at, link_row, links_at};
 ghost use Rattle.osm_rows.specs.Rows.{Placed};
 
+use crate::StoreFault;
 use crate::load::tables::TableRows;
 use crate::load::tables::part_row::{PartRow, are_parts_numbered};
 use crate::load::tables::parts::{info_of, member_of, tag_of};
 use crate::load::values::{is_null_at, kind_at, place_of, wide_at};
-use osm_faults::StoreFault;
 use osm_value::{Element, Member, MemberKind, Node, Relation, Way};
 use sqlite::Row;
 use std::alloc::{AllocError, Global};

@@ -13,8 +13,7 @@ ghost use Rattle.osm_rows.specs.Keeping.{IsForeign, extents_of};
 
 use crate::load::bodies::load_bodies;
 use crate::load::extents::all_extents;
-use osm_faults::StoreFault;
-use osm_rows::{Extent, Layout};
+use osm_rows::{Extent, Layout, StoreFault};
 use osm_value::Element;
 use sqlite::{Alter, Connection};
 use std::alloc::Global;

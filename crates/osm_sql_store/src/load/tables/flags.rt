@@ -11,8 +11,7 @@ ghost use Rattle.osm_rows.specs.Keeping.{IsForeign};
 
 use crate::load::answer::answer;
 use crate::schema::sql::SELECT_FLAG;
-use osm_faults::StoreFault;
-use osm_rows::Layout;
+use osm_rows::{Layout, StoreFault};
 use sqlite::{Alter, Connection};
 
 /// Whether any held element has a flag. The query ends at the first that it meets.

@@ -12,8 +12,7 @@ ghost use Rattle.osm_rows.specs.Rows.{is_in, placed_in};
 
 use crate::load::answer::{answer, number};
 use crate::schema::sql::{SELECT_ELEMENTS, SELECT_LINKS, SELECT_TAGS};
-use osm_faults::StoreFault;
-use osm_rows::{Layout, PartRow, TableRows};
+use osm_rows::{Layout, PartRow, StoreFault, TableRows};
 use pbf_frame::MAX_OFFSET;
 use sqlite::{Alter, Connection};
 use std::alloc::Global;

@@ -4,7 +4,7 @@ use Rattle.std.specs.Prelude.{filter}
 use Rattle.osm_value.specs.Sink.{Wrote}
 use Rattle.osm_rows.specs.Load.Finding.{AreMatches}
 use Rattle.osm_rows.specs.Rows.{is_of, placed_in}
-use Rattle.osm_faults.specs.declared.fault.StoreFault.TheVariants.{Memory}
+use Rattle.osm_rows.specs.declared.fault.StoreFault.TheVariants.{Memory}
 use Rattle.osm_value.proofs.SinkLemmas.{started}
 use Rattle.pbfrow_commands.proofs.FindLemmas.{find-cause}
 use Rattle.pbfrow_commands.proofs.StatusLemmas.{tells-front, tells-whole}

@@ -1,6 +1,6 @@
 use Rattle.std.proofs.Common.{◌≡◌, pos, rules, subst}
 use Rattle.sqlite.specs.Held.{state}
-use Rattle.osm_faults.specs.Faults.{NamesNoVersion}
+use Rattle.osm_rows.specs.Faults.{NamesNoVersion}
 use Rattle.osm_sql_store.specs.Load.Asking.{NamesVersion}
 use Rattle.osm_rows.specs.Schema.Layouts.{version_of}
 use Rattle.osm_sql_store.proofs.MapLemmas.AfterCalls.{asks_holds}

@@ -1,8 +1,8 @@
 //! Why a call of a store fails.
 
 ghost use Rattle.std.specs.Prelude.{◌≡◌};
-ghost use Rattle.osm_faults.specs.declared.fault.StoreFault.TheVariants.{Memory};
-ghost use Rattle.osm_faults.specs.Faults.{fault_of, fault_of_code, fault_over_unknown, fault_of_unknown_code, number_of, name_of, NamesNoVersion};
+ghost use Rattle.osm_rows.specs.declared.fault.StoreFault.TheVariants.{Memory};
+ghost use Rattle.osm_rows.specs.Faults.{fault_of, fault_of_code, fault_over_unknown, fault_of_unknown_code, number_of, name_of, NamesNoVersion};
 
 use sqlite::{Error as SqlError, ErrorCode};
 use std::alloc::{AllocError, AllocFailed};

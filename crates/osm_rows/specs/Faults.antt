@@ -4,8 +4,8 @@ use Rattle.sqlite.specs.declared.error.Error.{Error}
 use Rattle.sqlite.specs.declared.error.Error.TheVariants.{SqliteFailure}
 use Rattle.sqlite.specs.declared.error.ErrorCode.{ErrorCode}
 use Rattle.sqlite.specs.declared.error.ErrorCode.TheVariants as code
-use Rattle.osm_faults.specs.declared.fault.StoreFault.{StoreFault}
-use Rattle.osm_faults.specs.declared.fault.StoreFault.TheVariants.{Memory, Full, Interrupted, Disk, NotThisStore}
+use Rattle.osm_rows.specs.declared.fault.StoreFault.{StoreFault}
+use Rattle.osm_rows.specs.declared.fault.StoreFault.TheVariants.{Memory, Full, Interrupted, Disk, NotThisStore}
 
 abbrev pub fault_of_code : ErrorCode → StoreFault
 fault_of_code code.OutOfMemory = Memory
