@@ -92,9 +92,9 @@ STAGES = [  # title, the crate that does it, and the parts, each with what stand
     ("a frame", "pbf_frame", [("length", "4 bytes"), ("BlobHeader", "type, size"), ("Blob", "stored raw")]),
     ("a block", "osm_block", [("strings", ""), ("nodes", ""), ("ways", ""), ("relations", "")]),
     ("elements", "osm_value", [("n 14690", "lat, lon"), ("w 1367", "nodes"), ("r 9", "members"), ("tags", "key=value")]),
-    ("rows", "osm_store", [("blob", "off, fin, digest"), ("element", "id, lat, lon"), ("tag", "key, val"), ("link", "ref, role")]),
+    ("rows", "osm_rows", [("blob", "off, fin, digest"), ("element", "id, lat, lon"), ("tag", "key, val"), ("link", "ref, role")]),
 ]
-BACK = [("a new file", ""), ("frames", "pbf_frame"), ("blocks", "osm_write"), ("elements", "osm_import"), ("held blobs", "osm_store")]
+BACK = [("a new file", ""), ("frames", "pbf_frame"), ("blocks", "osm_write"), ("elements", "osm_import"), ("held blobs", "osm_rows")]
 WAYS_IN = ["cut", "unpack", "decode", "store"]
 WAYS_OUT = ["join", "frame", "encode", "load"]
 LEFT, CARD, BETWEEN = 20, 164, 56  # one column: a card, and the room for the arrow behind it
@@ -161,21 +161,19 @@ def draw_data():
 SAYS = {
     "pbf_wire": "numbers and fields",
     "osm_value": "elements and their lines",
-    "pbf_ranges": "ranges of a file",
     "pbf_frame": "frames and raw blobs",
     "osm_block": "reading blocks",
     "osm_write": "writing blocks",
     "osm_columns": "elements in columns",
     "pbfrow_c": "the library for C",
-    "osm_faults": "why a store fails",
     "osm_reading": "frames read, good or bad",
     "pbfrow_reading": "commands on a file alone",
-    "osm_store": "blobs in a database",
+    "osm_rows": "the rows of a map",
+    "osm_sql_store": "blobs in a database, by SQL",
     "osm_added_indexes": "indexes of one's own",
     "osm_tree_writes": "blobs put below SQL",
     "osm_tree_audits": "rows of trees, told",
     "osm_trees": "blobs below SQL",
-    "osm_checked": "a database looked at",
     "osm_index_orders": "orders of any index",
     "osm_openings": "files opened",
     "osm_databases": "which store it is",
@@ -183,10 +181,8 @@ SAYS = {
     "pbfrow_files": "files, read or written",
     "osm_import": "imports, gaps, exports",
     "osm_parts": "parts of one file",
-    "osm_verify": "a database against a file",
-    "osm_part_audits": "databases against a file",
-    "osm_vectors": "tests of reading and writing",
-    "column_vectors": "tests of columns",
+    "osm_verify": "databases against a file",
+    "osm_vectors": "tests of reading and columns",
     "store_vectors": "what tests of stores share",
     "memory_vectors": "tests of stores in memory",
     "import_vectors": "tests of the importer",
@@ -195,8 +191,7 @@ SAYS = {
     "pbfrow_words": "the command line",
     "pbfrow_counts": "counts of elements",
     "pbfrow_commands": "what each command does",
-    "pbfrow_meters": "progress, exit statuses",
-    "pbfrow_cli": "how a program begins",
+    "pbfrow_terminal": "how a program begins",
     "pbfrow_answers": "what questions call",
     "pbfrow_databases": "commands on databases",
     "pbfrow": "the program",

@@ -10,7 +10,7 @@ use Rattle.sqlite_schema.specs.declared.schema.Index.{Index}
 use Rattle.sqlite_schema.specs.declared.schema.Table.{Table}
 use Rattle.sqlite_resolve.specs.Lowering.{Checked}
 use Rattle.sqlite_resolve.specs.Compile.{index_defined_by}
-use Rattle.osm_store.specs.Schema.Tables.{element, tag, link}
+use Rattle.osm_rows.specs.Schema.Tables.{element, tag, link}
 
 -- the name of a table of a store, in any case
 abbrev pub is_of_a_store : List ℕ → Bool

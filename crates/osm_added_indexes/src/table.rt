@@ -5,7 +5,7 @@ ghost use Rattle.sqlite_schema.specs.declared.schema.Table.{Table as Defined};
 ghost use Rattle.sqlite_resolve.specs.Compile.{table_defined_by};
 ghost use Rattle.osm_added_indexes.specs.Added.{table_named};
 
-use osm_store::{CREATE_ELEMENT, CREATE_LINK, CREATE_TAG};
+use osm_rows::{CREATE_ELEMENT, CREATE_LINK, CREATE_TAG};
 use sqlite_resolve::define_table;
 use sqlite_schema::schema::Table;
 use sqlite_trees::sound::same_name;

@@ -6,7 +6,7 @@ use Rattle.sqlite_trees.specs.Objects.{catalog_tree}
 use Rattle.sqlite_trees.specs.Tree.{Trees}
 use Rattle.sqlite_trees.specs.View.{View, IsClean}
 use Rattle.sqlite_exec.specs.Calls.{OnlyReads}
-use Rattle.osm_store.specs.declared.schema.layout.Layout.TheVariants.{Tables}
+use Rattle.osm_rows.specs.declared.schema.layout.Layout.TheVariants.{Tables}
 use Rattle.osm_tree_writes.specs.Appending.{IsStoreAt, TakeBlobs}
 use Rattle.osm_tree_writes.specs.Beside.{ListsAlone}
 use Rattle.osm_trees.specs.Below.{HoldsBelow, ListsAlways}

@@ -1,7 +1,7 @@
 -- Which fault it is that a database's files can't be opened, or that something stands in the way of its store.
 use Rattle.std.specs.Prelude.{pos, None, Some}
-use Rattle.osm_faults.specs.declared.fault.StoreFault.{StoreFault}
-use Rattle.osm_faults.specs.declared.fault.StoreFault.TheVariants as fault
+use Rattle.osm_rows.specs.declared.fault.StoreFault.{StoreFault}
+use Rattle.osm_rows.specs.declared.fault.StoreFault.TheVariants as fault
 use Rattle.osm_openings.specs.declared.obstacles.Obstacle.{Obstacle}
 use Rattle.osm_openings.specs.declared.obstacles.Obstacle.TheVariants as obstacle
 use Rattle.pbfrow_files.specs.declared.fault.OpenFault.{OpenFault}

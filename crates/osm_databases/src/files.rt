@@ -5,7 +5,7 @@ ghost use Rattle.std.specs.FinMap.{empty};
 ghost use Rattle.sqlite_store.specs.FileStore.{view};
 ghost use Rattle.sqlite_trees.specs.View.{IsClean};
 ghost use Rattle.sqlite_wal.specs.Files.{image_at, seen_image};
-ghost use Rattle.osm_store.specs.declared.schema.layout.Layout.TheVariants.{Tables};
+ghost use Rattle.osm_rows.specs.declared.schema.layout.Layout.TheVariants.{Tables};
 ghost use Rattle.osm_trees.specs.Below.{HoldsBelow};
 ghost use Rattle.osm_openings.specs.Opened.{IsOpened};
 ghost use Rattle.osm_openings.specs.Presumed.{ArePresumedTables};
@@ -18,7 +18,7 @@ use crate::trees::{
     trees_in,
 };
 use osm_openings::Obstruction;
-use osm_store::StoreFault;
+use osm_rows::StoreFault;
 use osm_trees::TreeStore;
 use pbfrow_files::{
     OpenFault, ReadFile, ReadFrom, WriteFile, WriteFrom, open_to_read, open_to_write,

@@ -4,7 +4,7 @@ ghost use Rattle.std.specs.Prelude.{◌≡◌, MatchResult};
 ghost use Rattle.osm_databases.specs.Reasons.{fault_of_file, fault_of_obstacle};
 
 use osm_openings::{Obstacle, Obstruction};
-use osm_store::{CREATE_ELEMENT_INDEX, StoreFault};
+use osm_rows::{CREATE_ELEMENT_INDEX, StoreFault};
 use osm_tree_audits::StoreIndex;
 use pbfrow_files::OpenFault;
 use sqlite::Error as SqlError;

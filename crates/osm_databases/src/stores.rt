@@ -4,8 +4,8 @@ ghost use Rattle.std.specs.Prelude.{◌≡◌, ◌≢◌, false, take, IfOk, IfS
 ghost use Rattle.std.specs.FinMap.{empty};
 ghost use Rattle.sqlite.specs.Held.{state};
 ghost use Rattle.sqlite_trees.specs.View.{IsClean};
-ghost use Rattle.osm_store.specs.declared.schema.layout.Layout.TheVariants.{Tables};
-ghost use Rattle.osm_store.specs.Schema.Bodies.{no_schema};
+ghost use Rattle.osm_rows.specs.declared.schema.layout.Layout.TheVariants.{Tables};
+ghost use Rattle.osm_sql_store.specs.Schema.Stages.{no_schema};
 ghost use Rattle.sqlite_exec.specs.Calls.{OnlyReads};
 ghost use Rattle.sqlite_trees.specs.Objects.{catalog_tree};
 ghost use Rattle.osm_tree_writes.specs.Appending.{IsStoreAt, TakeBlobs};
@@ -18,7 +18,8 @@ ghost use Rattle.osm_databases.specs.Found.{ListOnlyAStore};
 
 use crate::reason::{Reason, Refusal};
 use osm_added_indexes::plain_indexes;
-use osm_store::{BodyStore, StoreFault, TableStore};
+use osm_rows::StoreFault;
+use osm_sql_store::{BodyStore, TableStore};
 use osm_tree_audits::{Look, Looked, faulty_added_index, look_at_indexes};
 use osm_tree_writes::takes_blobs;
 use osm_trees::{CheckedStore, TreeStore};

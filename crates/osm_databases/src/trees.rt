@@ -13,7 +13,7 @@ ghost use Rattle.osm_databases.specs.Checked.{IsOfVersion};
 
 use crate::reason::{Reason, Refusal};
 use osm_openings::{Obstruction, find_obstacle, open_checked_tables, open_tables};
-use osm_store::StoreFault;
+use osm_rows::StoreFault;
 use pbfrow_files::OpenFault;
 use sqlite::{Connection, Error as SqlError, ErrorCode};
 use sqlite_disk::{Disk, Files};

@@ -6,12 +6,12 @@ use Rattle.std.specs.Ordering.{nat_cmp}
 use Rattle.std.specs.Prelude.{IfErr}
 use Rattle.std.proofs.lemmas.Bool.Decides.{eqb_tells}
 use Rattle.std.proofs.lemmas.List.{take_all, take_more, length-map}
-use Rattle.osm_store.specs.Held.{Blob, HeldMap, IsFree, IsApart}
-use Rattle.osm_store.specs.HeldLaws.{get-insert_here, get-insert_other, get-insert_cases, IsFree-unheld}
-use Rattle.osm_store.specs.Keeping.{extents_of, extent_of}
-use Rattle.osm_store.specs.declared.keeper.Extent.{Extent}
+use Rattle.osm_rows.specs.Held.{Blob, HeldMap, IsFree, IsApart}
+use Rattle.osm_rows.specs.HeldLaws.{get-insert_here, get-insert_other, get-insert_cases, IsFree-unheld}
+use Rattle.osm_rows.specs.Keeping.{extents_of, extent_of}
+use Rattle.osm_rows.specs.declared.keeper.Extent.{Extent}
 use Rattle.osm_value.specs.declared.element.Element.{Element}
-use Rattle.osm_faults.specs.declared.fault.StoreFault.{StoreFault}
+use Rattle.osm_rows.specs.declared.fault.StoreFault.{StoreFault}
 use Rattle.osm_import.specs.Step.{HasCause}
 use Rattle.osm_import.specs.declared.answer.Conflict.TheVariants.{Differs, Overlap}
 use Rattle.osm_import.specs.declared.copy.CopyFault.{CopyFault}

@@ -7,10 +7,10 @@ use Rattle.osm_value.specs.declared.element.Element.{Element}
 use Rattle.osm_reading.specs.Good.{IsGood, HasElements}
 use Rattle.pbf_frame.specs.declared.kind.Kind.{Kind}
 use Rattle.pbf_frame.specs.declared.kind.Kind.TheVariants.{OsmHeader, OsmData, Other}
-use Rattle.osm_store.specs.Held.{Blob, HeldMap, IsFree, IsApart, HaveFewTexts}
-use Rattle.osm_store.specs.HeldLaws.{IsFree-unheld}
-use Rattle.osm_store.specs.Keeping.{IsAddable, touches, extents_of, extent_of}
-use Rattle.osm_store.specs.declared.keeper.Extent.{Extent}
+use Rattle.osm_rows.specs.Held.{Blob, HeldMap, IsFree, IsApart, HaveFewTexts}
+use Rattle.osm_rows.specs.HeldLaws.{IsFree-unheld}
+use Rattle.osm_rows.specs.Keeping.{IsAddable, touches, extents_of, extent_of}
+use Rattle.osm_rows.specs.declared.keeper.Extent.{Extent}
 use Rattle.osm_import.specs.Step.{IsEntry, IsHeldAlready, IsHeldOtherwise, IsOverlapping, IsStoring}
 use Rattle.osm_reading.proofs.GoodLaws.{frame-filled}
 use Rattle.osm_import.proofs.FewTexts.{block_uses_few_texts}

@@ -1,6 +1,6 @@
 -- From the call that delivers to the events of a history.
 use Rattle.std.proofs.Common.{◌≡◌, ℕ, List, sym, subst}
-use Rattle.osm_store.specs.Held.{HeldMap}
+use Rattle.osm_rows.specs.Held.{HeldMap}
 use Rattle.osm_import.specs.Step.{IsStep, Delivers, CrashLeaves}
 use Rattle.osm_import.specs.Histories.{LeavesEvents}
 use Rattle.osm_import.specs.declared.answer.Answer.{Answer}

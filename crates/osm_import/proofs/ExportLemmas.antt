@@ -10,9 +10,9 @@ use Rattle.std.proofs.KnownBytes.{Appends-trans, Appends-nil}
 use Rattle.osm_value.specs.declared.element.Element.{Element}
 use Rattle.osm_import.proofs.WritingLemmas.{lines_of-append, front-of-piece}
 use Rattle.osm_reading.proofs.GoodLaws.{frame-filled}
-use Rattle.osm_store.specs.Held.{Blob, HeldMap, IsApart}
-use Rattle.osm_store.specs.Keeping.{extents_of, extent_of}
-use Rattle.osm_store.specs.declared.keeper.Extent.{Extent}
+use Rattle.osm_rows.specs.Held.{Blob, HeldMap, IsApart}
+use Rattle.osm_rows.specs.Keeping.{extents_of, extent_of}
+use Rattle.osm_rows.specs.declared.keeper.Extent.{Extent}
 use Rattle.osm_import.specs.Gaps.{AreGaps, Tiles, ranges_between}
 use Rattle.osm_import.specs.Files.{AreFrames, StandsAt, IsFile, IsHeldOfFile, joined}
 use Rattle.osm_import.specs.Step.{IsEntry}

@@ -17,7 +17,7 @@ use Rattle.osm_value.specs.declared.element.Element.TheVariants as elements
 use Rattle.osm_block.specs.Message.{Context, Message, Plain, Dense, Way, Relation, context, messages}
 use Rattle.osm_block.specs.Block.{Block, GroupOf, Joins, AllAreWire, MessageOf, TagsAt, text_at, texts_at, all_there, values_for}
 use Rattle.osm_write.specs.Canon.{texts_of, tag_texts, first_uses}
-use Rattle.osm_store.specs.Held.{HaveFewTexts}
+use Rattle.osm_rows.specs.Held.{HaveFewTexts}
 
 -- ---- first uses are apart, and are among what is used
 

@@ -1,6 +1,6 @@
 -- The frames of one file don't meet, and a frame is fixed by its offset.
 use Rattle.std.proofs.Common.{◌≡◌, ℕ, ◌+◌, ◌<◌, ◌≤◌, List, [], ◌∷◌, length, sym, ◌∙◌, ap, inl, inr, arith}
-use Rattle.osm_store.specs.Held.{Blob}
+use Rattle.osm_rows.specs.Held.{Blob}
 use Rattle.osm_import.specs.Files.{AreFrames, StandsAt}
 use Rattle.osm_import.specs.Step.{IsEntry}
 use Rattle.osm_reading.proofs.GoodLaws.{good-same, frame-filled}

@@ -2,7 +2,7 @@
 use Rattle.std.proofs.Common.{◌≡◌, ◌⊎◌, ℕ, List, [], ◌∷◌, Some, None, sym, ◌∙◌, ap, subst, inl, inr}
 use Rattle.std.specs.Ordering.{nat_cmp}
 use Rattle.std.specs.FinMap.{get, empty, get-empty}
-use Rattle.osm_store.specs.Held.{Blob, HeldMap}
+use Rattle.osm_rows.specs.Held.{Blob, HeldMap}
 use Rattle.osm_import.specs.Deliveries.{DeliveryValue}
 use Rattle.osm_import.specs.Files.{IsFrameAt, IsHeldOfFile}
 use Rattle.osm_import.specs.Runs.{IsGoodIn}

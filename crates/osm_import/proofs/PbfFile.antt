@@ -22,9 +22,9 @@ use Rattle.osm_write.specs.Cutter.{StepOk}
 use Rattle.osm_write.specs.Header.{header_block}
 use Rattle.osm_write.proofs.Bounds.{block_is_read_back}
 use Rattle.osm_write.proofs.HeaderRead.{header_reads}
-use Rattle.osm_store.specs.Flags.{has_flags}
-use Rattle.osm_store.specs.Held.{Blob, HeldMap, IsApart}
-use Rattle.osm_store.specs.Keeping.{extents_of}
+use Rattle.osm_rows.specs.Flags.{has_flags}
+use Rattle.osm_rows.specs.Held.{Blob, HeldMap, IsApart}
+use Rattle.osm_rows.specs.Keeping.{extents_of}
 use Rattle.osm_reading.specs.Good.{IsGood, HasElements}
 use Rattle.osm_import.specs.Gaps.{Tiles}
 use Rattle.osm_import.specs.Files.{AreFrames, IsFile, IsHeldOfFile, joined}

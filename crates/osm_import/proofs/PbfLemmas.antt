@@ -7,7 +7,7 @@ use Rattle.osm_value.specs.declared.element.Element.{Element}
 use Rattle.osm_value.specs.Sink.{AppendsFront}
 use Rattle.osm_write.specs.Cutter.{StepOk}
 use Rattle.osm_write.specs.Header.{header_block, plain_header, plain_header_is, historic_header, historic_header_is}
-use Rattle.osm_store.specs.Held.{Blob, HeldMap}
+use Rattle.osm_rows.specs.Held.{Blob, HeldMap}
 use Rattle.osm_reading.specs.Framings.{Known}
 use Rattle.osm_import.specs.Exports.{WritesBlob, IsUnbegun}
 use Rattle.osm_import.specs.Gaps.{Tiles}

@@ -1,6 +1,6 @@
 -- A delivery that is repeated.
 use Rattle.std.proofs.Common.{◌≡◌, ℕ, List, refl, inl, inr, sym, subst}
-use Rattle.osm_store.specs.Held.{HeldMap}
+use Rattle.osm_rows.specs.Held.{HeldMap}
 use Rattle.osm_import.specs.Deliveries.{DeliveryValue}
 use Rattle.osm_import.specs.Runs.{IsRun, IsStored, RepeatsChangeNothing}
 use Rattle.osm_import.specs.Step.{IsStep, IsHeldAlready}

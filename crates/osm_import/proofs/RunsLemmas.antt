@@ -3,8 +3,8 @@ use Rattle.std.proofs.Common.{◌≡◌, ◌≢◌, ◌⊎◌, ℕ, ◌+◌, ◌
 use Rattle.std.specs.FinMap.{get}
 use Rattle.std.proofs.lemmas.Bool.Decides.{leb_tells}
 use Rattle.sha2.specs.Sha256.{sha256}
-use Rattle.osm_store.specs.Held.{Blob, HeldMap}
-use Rattle.osm_store.specs.HeldLaws.{get-insert_here, get-insert_other, get-insert_cases}
+use Rattle.osm_rows.specs.Held.{Blob, HeldMap}
+use Rattle.osm_rows.specs.HeldLaws.{get-insert_here, get-insert_other, get-insert_cases}
 use Rattle.osm_import.specs.Deliveries.{DeliveryValue}
 use Rattle.osm_import.specs.Files.{AreFrames, AreOfFile, IsHeldOfFile, IsFrameAt}
 use Rattle.osm_import.specs.Runs.{IsRun, IsStored, IsRefused, IsFault, IsStoredIn, IsGoodIn, IsUnion, AreStoredOnce, IsNone, IsImport, AreOwn, LeavesAfter}

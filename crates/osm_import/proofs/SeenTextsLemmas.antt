@@ -12,7 +12,7 @@ use Rattle.osm_value.specs.declared.element.Element.TheVariants.{Node, Way, Rela
 use Rattle.osm_value.specs.Elements.{tags_of_element}
 use Rattle.osm_value.specs.Value.{Text, MemberValue, RelationValue}
 use Rattle.osm_write.specs.Canon.{first_uses, tag_texts, texts_of}
-use Rattle.osm_store.specs.Held.{HasFewTexts}
+use Rattle.osm_rows.specs.Held.{HasFewTexts}
 use Rattle.osm_import.specs.SeenTexts.{has_text, AddsTexts}
 use Rattle.osm_import.proofs.FewTexts.{same_text, bytes_flip, texts_equivalence, first_distinct}
 

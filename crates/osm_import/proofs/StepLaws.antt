@@ -7,8 +7,8 @@ use Rattle.std.specs.FinMap.{get, insert, entries, get-entries, entries_sorted}
 use Rattle.sha2.specs.Sha256.{sha256}
 use Rattle.osm_value.specs.declared.element.Element.{Element}
 use Rattle.pbf_frame.specs.declared.kind.Kind.{Kind}
-use Rattle.osm_store.specs.Held.{Blob, HeldMap}
-use Rattle.osm_store.specs.Keeping.{touches, extents_of}
+use Rattle.osm_rows.specs.Held.{Blob, HeldMap}
+use Rattle.osm_rows.specs.Keeping.{touches, extents_of}
 use Rattle.osm_reading.specs.Good.{IsGood}
 use Rattle.osm_reading.specs.Bad.{IsBad}
 use Rattle.osm_import.specs.Step.{IsStep, IsEntry, IsHeldAlready, IsHeldOtherwise, IsOverlapping, IsStoring}

@@ -9,7 +9,7 @@ use Rattle.osm_reading.specs.Good.{IsFrame}
 use Rattle.osm_reading.specs.Framings.{Known}
 use Rattle.osm_reading.proofs.GoodLaws.{frame-filled}
 use Rattle.osm_import.specs.declared.stream.fault.ImportStop.{ImportStop}
-use Rattle.osm_store.specs.Held.{HeldMap}
+use Rattle.osm_rows.specs.Held.{HeldMap}
 use Rattle.osm_import.specs.Deliveries.{DeliveryValue}
 use Rattle.osm_import.specs.Files.{AreFrames, AreOfFile, StandsAt, IsFrameAt, joined}
 use Rattle.osm_import.specs.FileHistories.{AreEventsOf, events_of, StandIn}

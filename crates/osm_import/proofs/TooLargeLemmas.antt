@@ -3,7 +3,7 @@ use Rattle.std.proofs.Common.{◌≡◌, ◌⊎◌, ℕ, zero, suc, ◌/◌, Boo
 use Rattle.std.specs.FinMap.{entries}
 use Rattle.osm_value.specs.declared.element.Element.{Element}
 use Rattle.osm_write.specs.Cutter.{is_too_large, Halved, Start, Half, first_count, StepOk, ComesToOne}
-use Rattle.osm_store.specs.Held.{Blob, HeldMap}
+use Rattle.osm_rows.specs.Held.{Blob, HeldMap}
 use Rattle.osm_reading.specs.Framings.{Known}
 use Rattle.osm_import.specs.Pbf.{Cuts, AreFramesOf, IsPbfExport}
 use Rattle.osm_import.specs.TooLarge.{IsTooLargeExactly, FirstIsTooLarge}

@@ -5,10 +5,10 @@ use Rattle.std.specs.FinMap.{get, entries, get-entries, entries_sorted, is_sorte
 use Rattle.std.specs.Ordering.{nat_cmp}
 use Rattle.std.proofs.lemmas.List.{take_all, take_more, take-append-drop, length-map}
 use Rattle.osm_value.specs.declared.element.Element.{Element}
-use Rattle.osm_store.specs.Held.{Blob, HeldMap}
-use Rattle.osm_store.specs.Keeping.{extents_of, extent_of, IsForeign}
-use Rattle.osm_store.specs.declared.keeper.Extent.{Extent}
-use Rattle.osm_faults.specs.declared.fault.StoreFault.{StoreFault}
+use Rattle.osm_rows.specs.Held.{Blob, HeldMap}
+use Rattle.osm_rows.specs.Keeping.{extents_of, extent_of, IsForeign}
+use Rattle.osm_rows.specs.declared.keeper.Extent.{Extent}
+use Rattle.osm_rows.specs.declared.fault.StoreFault.{StoreFault}
 use Rattle.osm_reading.specs.Framings.{Known}
 use Rattle.osm_import.specs.ExportCauses.{ExportHasCause, ExportIsOwn, ExportTells, WriteHasCause}
 use Rattle.osm_import.specs.Walks.{Writing, elements_at, WritesOne, WritesInTurn, StopsAt, WritesAll, WritesComplete, CompleteInTurn, StopsComplete}

@@ -1,6 +1,6 @@
 -- The numbers and names of what stops a copy.
 use Rattle.std.specs.Prelude.{ℕ, List, codes}
-use Rattle.osm_faults.specs.Faults as stores
+use Rattle.osm_rows.specs.Faults as stores
 use Rattle.osm_import.specs.Faults.{conflict_number_of, conflict_name_of}
 use Rattle.osm_import.specs.declared.copy.CopyFault.{CopyFault}
 use Rattle.osm_import.specs.declared.copy.CopyFault.TheVariants.{Refused, Spoiled, Store}

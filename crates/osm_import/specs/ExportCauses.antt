@@ -1,7 +1,7 @@
 -- Why an export fails.
 use Rattle.std.specs.Prelude.{◌≡◌, ℕ, Bool, IsTrue, Result, Ok, Err}
-use Rattle.osm_store.specs.Keeping.{IsForeign}
-use Rattle.osm_faults.specs.declared.fault.StoreFault.TheVariants as store
+use Rattle.osm_rows.specs.Keeping.{IsForeign}
+use Rattle.osm_rows.specs.declared.fault.StoreFault.TheVariants as store
 use Rattle.osm_import.specs.Step.{HasCause}
 use Rattle.osm_import.specs.declared.export.fault.ExportFault.{ExportFault}
 use Rattle.osm_import.specs.declared.export.fault.ExportFault.TheVariants.{Incomplete, PastEnd, WriteFailed, BlockTooLarge, Miscounted, Store}

@@ -1,6 +1,6 @@
 -- The numbers and names of what ends an export early.
 use Rattle.std.specs.Prelude.{ℕ, List, codes}
-use Rattle.osm_faults.specs.Faults as stores
+use Rattle.osm_rows.specs.Faults as stores
 use Rattle.osm_import.specs.declared.export.fault.ExportFault.{ExportFault}
 use Rattle.osm_import.specs.declared.export.fault.ExportFault.TheVariants.{Incomplete, PastEnd, WriteFailed, BlockTooLarge, Miscounted, Store}
 

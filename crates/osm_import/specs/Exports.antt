@@ -7,9 +7,9 @@ use Rattle.osm_value.specs.Line.{line}
 use Rattle.osm_value.specs.Sink.{AppendsFront}
 use Rattle.pbf_frame.specs.declared.kind.Kind.{Kind}
 use Rattle.osm_reading.specs.Good.{IsGood}
-use Rattle.osm_store.specs.Held.{Blob, HeldMap}
-use Rattle.osm_store.specs.Keeping.{extents_of}
-use Rattle.osm_store.specs.declared.keeper.Extent.{Extent}
+use Rattle.osm_rows.specs.Held.{Blob, HeldMap}
+use Rattle.osm_rows.specs.Keeping.{extents_of}
+use Rattle.osm_rows.specs.declared.keeper.Extent.{Extent}
 use Rattle.osm_import.specs.Gaps.{AreGaps, Tiles, ranges_between}
 use Rattle.osm_import.specs.declared.export.fault.ExportFault.{ExportFault}
 use Rattle.osm_import.specs.declared.export.fault.ExportFault.TheVariants.{Incomplete, PastEnd, WriteFailed, BlockTooLarge, Miscounted, Store}

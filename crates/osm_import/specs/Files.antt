@@ -2,7 +2,7 @@
 use Rattle.std.specs.Prelude.{◌≡◌, ◌≢◌, ◌⊎◌, ℕ, ◌+◌, List, [], ◌∷◌, ◌++◌, length, Some}
 use Rattle.std.specs.FinMap.{get}
 use Rattle.osm_reading.specs.Good.{IsFrame}
-use Rattle.osm_store.specs.Held.{Blob, HeldMap}
+use Rattle.osm_rows.specs.Held.{Blob, HeldMap}
 use Rattle.osm_import.specs.Deliveries.{DeliveryValue}
 use Rattle.osm_import.specs.Step.{IsEntry}
 

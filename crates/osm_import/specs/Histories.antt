@@ -1,7 +1,7 @@
 -- Deliveries that crashes and store faults break off, with the store opened again after each.
 use Rattle.std.specs.Prelude.{◌≡◌, ◌⊎◌, ◌↔◌, ℕ, List, [], ◌∷◌, Some}
 use Rattle.std.specs.FinMap.{get, empty}
-use Rattle.osm_store.specs.Held.{Blob, HeldMap}
+use Rattle.osm_rows.specs.Held.{Blob, HeldMap}
 use Rattle.osm_import.specs.Deliveries.{DeliveryValue}
 use Rattle.osm_import.specs.Files.{AreFrames, AreOfFile, IsFrameAt}
 use Rattle.osm_import.specs.Runs.{IsRun, IsStored, IsFault, IsNone, IsGoodIn}

@@ -1,6 +1,6 @@
 -- The numbers and names of what stops an import.
 use Rattle.std.specs.Prelude.{ℕ, List, codes}
-use Rattle.osm_faults.specs.Faults as stores
+use Rattle.osm_rows.specs.Faults as stores
 use Rattle.osm_reading.specs.StopFaults.{stop_number_of, stop_name_of}
 use Rattle.osm_import.specs.declared.stream.fault.ImportFault.{ImportFault}
 use Rattle.osm_import.specs.declared.stream.fault.ImportFault.TheVariants.{Stream, WriteFailed, Store, BlobLimit}

@@ -8,8 +8,8 @@ use Rattle.osm_value.specs.declared.element.Element.{Element}
 use Rattle.osm_value.specs.Sink.{AppendsFront}
 use Rattle.osm_write.specs.Cutter.{StepOk, ComesToOne}
 use Rattle.osm_write.specs.Header.{header_block}
-use Rattle.osm_store.specs.Flags.{has_flags}
-use Rattle.osm_store.specs.Held.{Blob, HeldMap}
+use Rattle.osm_rows.specs.Flags.{has_flags}
+use Rattle.osm_rows.specs.Held.{Blob, HeldMap}
 use Rattle.osm_reading.specs.Framings.{Known}
 use Rattle.osm_import.specs.Exports.{AreElements, IsGuarded, IsRefusal}
 use Rattle.osm_import.specs.Files.{IsFile}

@@ -1,7 +1,7 @@
 -- Any list of deliveries, and what the store holds after it.
 use Rattle.std.specs.Prelude.{◌≡◌, ◌⊎◌, ◌↔◌, ◌≤◌, ℕ, List, [], ◌∷◌, Some}
 use Rattle.std.specs.FinMap.{get}
-use Rattle.osm_store.specs.Held.{Blob, HeldMap}
+use Rattle.osm_rows.specs.Held.{Blob, HeldMap}
 use Rattle.osm_import.specs.Deliveries.{DeliveryValue}
 use Rattle.osm_import.specs.Files.{IsHeldOfFile}
 use Rattle.osm_import.specs.Step.{IsStep, IsEntry, IsOwn, CrashLeaves, FaultHasCause}

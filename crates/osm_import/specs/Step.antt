@@ -4,10 +4,10 @@ use Rattle.std.specs.FinMap.{get, insert}
 use Rattle.sha2.specs.Sha256.{sha256}
 use Rattle.osm_reading.specs.Good.{IsGood}
 use Rattle.osm_reading.specs.Bad.{IsBad}
-use Rattle.osm_store.specs.Held.{Blob, HeldMap, IsFree}
-use Rattle.osm_store.specs.Keeping.{IsForeign}
-use Rattle.osm_faults.specs.declared.fault.StoreFault.{StoreFault}
-use Rattle.osm_faults.specs.declared.fault.StoreFault.TheVariants as store
+use Rattle.osm_rows.specs.Held.{Blob, HeldMap, IsFree}
+use Rattle.osm_rows.specs.Keeping.{IsForeign}
+use Rattle.osm_rows.specs.declared.fault.StoreFault.{StoreFault}
+use Rattle.osm_rows.specs.declared.fault.StoreFault.TheVariants as store
 use Rattle.osm_import.specs.declared.answer.Conflict.TheVariants.{Differs, Overlap}
 use Rattle.osm_import.specs.declared.answer.Answer.{Answer}
 use Rattle.osm_import.specs.declared.answer.Answer.TheVariants.{Stored, AlreadyHeld, Bad, Refused, Fault}

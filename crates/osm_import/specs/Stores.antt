@@ -2,11 +2,11 @@
 use Rattle.std.specs.Prelude.{◌≡◌, ℕ, ◌≤◌, false, List, [], ◌∷◌, length, Some, Result, Ok, Err, OnOk, OnErr}
 use Rattle.std.specs.FinMap.{get}
 use Rattle.osm_value.specs.declared.element.Element.{Element}
-use Rattle.osm_store.specs.Held.{Blob, HeldMap, IsFree}
-use Rattle.osm_store.specs.Calls.{OfHeld}
-use Rattle.osm_store.specs.Keeping.{KeepsList, extent_of, with_blob}
-use Rattle.osm_store.specs.declared.keeper.Extent.{Extent}
-use Rattle.osm_store.specs.declared.keeper.Reader.{Ghosts}
+use Rattle.osm_rows.specs.Held.{Blob, HeldMap, IsFree}
+use Rattle.osm_rows.specs.Calls.{OfHeld}
+use Rattle.osm_rows.specs.Keeping.{KeepsList, extent_of, with_blob}
+use Rattle.osm_rows.specs.declared.keeper.Extent.{Extent}
+use Rattle.osm_rows.specs.declared.keeper.Reader.{Ghosts}
 use Rattle.osm_import.specs.Copies.{BlobCopied, CopiesBlob, CrashLeavesBlob, BlobHasCause, BlobTells, IsOwnBlob, ComeTo, is_added}
 use Rattle.osm_import.specs.Deliveries.{DeliveryValue}
 use Rattle.osm_import.specs.Step.{Delivers, CrashLeaves, FaultHasCause, IsOwn}

@@ -4,7 +4,7 @@ use Rattle.std.specs.List.{count_by}
 use Rattle.std.specs.Io.KnownBytes.{Appends, Consumes, IsAtEnd, prepend_known}
 use Rattle.pbf_frame.specs.Framer.{FaultStands, IsUnfinished}
 use Rattle.osm_value.specs.Sink.{AppendsFront}
-use Rattle.osm_store.specs.Held.{HeldMap}
+use Rattle.osm_rows.specs.Held.{HeldMap}
 use Rattle.osm_import.specs.Files.{AreFrames, joined, IsFile, IsHeldOfFile}
 use Rattle.osm_import.specs.Gaps.{Tiles}
 use Rattle.osm_import.specs.Deliveries.{DeliveryValue}

@@ -5,7 +5,7 @@ use Rattle.osm_value.specs.declared.element.Element.{Element}
 use Rattle.osm_write.specs.declared.block.TheConstants.{MAX_BLOCK_LEN}
 use Rattle.osm_write.specs.Canon.{canon}
 use Rattle.osm_write.specs.Cutter.{ComesToOne}
-use Rattle.osm_store.specs.Held.{Blob, HeldMap}
+use Rattle.osm_rows.specs.Held.{Blob, HeldMap}
 use Rattle.osm_import.specs.Pbf.{Cuts}
 use Rattle.osm_import.specs.Walks.{elements_at}
 use Rattle.osm_import.specs.declared.export.fault.ExportFault.{ExportFault}

@@ -4,7 +4,7 @@ ghost use Rattle.std.specs.Prelude.{◌≡◌};
 ghost use Rattle.osm_import.specs.Faults.{conflict_number_of, conflict_name_of};
 
 use osm_reading::Fault;
-use osm_store::StoreFault;
+use osm_rows::StoreFault;
 use thiserror::Error;
 
 /// Why a good blob is refused.

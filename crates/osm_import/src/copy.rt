@@ -2,11 +2,11 @@
 
 ghost use Rattle.std.specs.Prelude.{◌≡◌, ◌⊎◌, ◌≤◌, false, List, Some, All, IfOk, IfErr};
 ghost use Rattle.std.specs.FinMap.{get};
-ghost use Rattle.osm_store.specs.Calls.{OfHeld};
-ghost use Rattle.osm_store.specs.Held.{Blob, HeldMap};
-ghost use Rattle.osm_store.specs.Keeping.{IsRange, KeepsList, extent_of, extents_of};
+ghost use Rattle.osm_rows.specs.Calls.{OfHeld};
+ghost use Rattle.osm_rows.specs.Held.{Blob, HeldMap};
+ghost use Rattle.osm_rows.specs.Keeping.{IsRange, KeepsList, extent_of, extents_of};
 ghost use Rattle.osm_import.specs.Copies.{BlobCopied, CopiesBlob, Copies, CrashLeavesBlob, CrashLeavesSome, BlobHasCause, CopyHasCause, BlobTells, CopyTells, IsOwnBlob, IsOwnCopy, ComeTo, is_added};
-ghost use Rattle.osm_faults.specs.declared.fault.StoreFault.TheVariants.{Memory};
+ghost use Rattle.osm_rows.specs.declared.fault.StoreFault.TheVariants.{Memory};
 ghost use Rattle.osm_import.specs.declared.copy.CopyFault.TheVariants.{Store};
 ghost use Rattle.osm_import.specs.CopyFaults.{copy_number_of, copy_name_of};
 ghost use Rattle.osm_import.specs.Stores.{AddsComplete, CopiesEach, CopiesInTurn, KeepsHeld, Rereads};
@@ -14,7 +14,7 @@ ghost use Rattle.osm_import.specs.Stores.{AddsComplete, CopiesEach, CopiesInTurn
 use crate::answer::Conflict;
 use crate::delivery::extent_at;
 use crate::few_texts::have_few_texts;
-use osm_store::{Extent, Keeper, Reader, StoreFault};
+use osm_rows::{Extent, Keeper, Reader, StoreFault};
 use std::alloc::{AllocError, Global};
 use thiserror::Error;
 

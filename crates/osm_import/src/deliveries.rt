@@ -1,15 +1,15 @@
 //! Any list of deliveries.
 
 ghost use Rattle.std.specs.Prelude.{◌≡◌, ◌⊎◌, ℕ, List, length, IfOk, OnErr, vec_len};
-ghost use Rattle.osm_store.specs.Held.{HeldMap};
-ghost use Rattle.osm_store.specs.Calls.{OfHeld};
+ghost use Rattle.osm_rows.specs.Held.{HeldMap};
+ghost use Rattle.osm_rows.specs.Calls.{OfHeld};
 ghost use Rattle.osm_import.specs.Files.{AreFrames, AreOfFile, IsHeldOfFile};
 ghost use Rattle.osm_import.specs.Runs.{Runs, Imports, HaveCauses, AreOwn, IsFirstFaultOwn, LeavesAfterAll, IsNone, IsStored, IsFault};
 ghost use Rattle.osm_import.specs.Stores.{TakesEach};
 
 use crate::answer::Answer;
 use crate::delivery::deliver;
-use osm_store::Keeper;
+use osm_rows::Keeper;
 use std::alloc::{AllocError, Global};
 use std::marker::Model;
 

@@ -1,8 +1,8 @@
 //! One delivery.
 
 ghost use Rattle.std.specs.Prelude.{◌≡◌, ◌==◌, ◌≤◌, find};
-ghost use Rattle.osm_store.specs.Calls.{OfHeld};
-ghost use Rattle.osm_store.specs.Keeping.{KeepsList};
+ghost use Rattle.osm_rows.specs.Calls.{OfHeld};
+ghost use Rattle.osm_rows.specs.Keeping.{KeepsList};
 ghost use Rattle.osm_reading.specs.Good.{IsGood};
 ghost use Rattle.osm_import.specs.Step.{Delivers, CrashLeaves, FaultHasCause, IsOwn};
 ghost use Rattle.osm_import.specs.Runs.{IsStored, StaysShut};
@@ -10,7 +10,7 @@ ghost use Rattle.osm_import.specs.Stores.{TakesOne};
 
 use crate::answer::{Answer, Conflict};
 use osm_reading::{ExamineFault, Good, examine};
-use osm_store::{Extent, Keeper, StoreFault};
+use osm_rows::{Extent, Keeper, StoreFault};
 use sha2::{Digest, Sha256};
 use std::alloc::Global;
 

@@ -2,7 +2,7 @@
 
 ghost use Rattle.std.specs.Prelude.{◌≡◌, ◌<◌, ◌-◌, ◌^◌, ◌↔◌, IsTrue, OnOk, IfOk, map, length, option_to_list};
 ghost use Rattle.osm_write.specs.Canon.{first_uses, tag_texts, texts_of};
-ghost use Rattle.osm_store.specs.Held.{HasFewTexts, HaveFewTexts};
+ghost use Rattle.osm_rows.specs.Held.{HasFewTexts, HaveFewTexts};
 ghost use Rattle.osm_import.specs.SeenTexts.{AddsTexts};
 
 use osm_value::{Element, Info, Member};

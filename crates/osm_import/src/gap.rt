@@ -1,13 +1,13 @@
 //! What no held extent covers.
 
 ghost use Rattle.std.specs.Prelude.{◌≡◌, IfOk, IfErr, OnOk};
-ghost use Rattle.osm_store.specs.Calls.{OfHeld};
-ghost use Rattle.osm_store.specs.Keeping.{IsForeign};
+ghost use Rattle.osm_rows.specs.Calls.{OfHeld};
+ghost use Rattle.osm_rows.specs.Keeping.{IsForeign};
 ghost use Rattle.osm_import.specs.Gaps.{AreGaps, gap_before, ranges_between};
 ghost use Rattle.osm_import.specs.Step.{HasCause};
 ghost use Rattle.osm_import.specs.Stores.{Rereads};
 
-use osm_store::{Extent, Reader, StoreFault};
+use osm_rows::{Extent, Reader, StoreFault};
 use std::alloc::{AllocError, Global};
 
 /// The bytes from `end` to `next`, within the size, if there are any.

@@ -6,7 +6,7 @@ ghost use Rattle.pbf_frame.specs.declared.fault.FrameFault.{FrameFault};
 ghost use Rattle.pbf_frame.specs.declared.kind.Kind.{Kind};
 ghost use Rattle.pbf_frame.specs.Framer.{Framing, FaultStands, IsUnfinished};
 ghost use Rattle.osm_write.specs.Cutter.{ComesToOne};
-ghost use Rattle.osm_store.specs.Held.{HeldMap};
+ghost use Rattle.osm_rows.specs.Held.{HeldMap};
 ghost use Rattle.osm_import.specs.Step.{IsStep};
 ghost use Rattle.osm_import.specs.Runs.{IsFault, RepeatsChangeNothing};
 ghost use Rattle.osm_import.specs.declared.answer.Answer.{Answer};

@@ -10,7 +10,6 @@ mod export;
 mod few_texts;
 mod gap;
 pub mod laws;
-mod migration;
 mod stream;
 
 pub use answer::{Answer, Conflict};
@@ -22,7 +21,6 @@ pub use export::{
     write_blobs, write_header,
 };
 pub use gap::{gaps, gaps_between};
-pub use migration::{MigrateFault, migrate};
 pub use osm_reading::{
     ExamineFault, Fault, FrameReader, Good, Inlet, Source, SourceFailed, Stop, StreamFault,
     examine, examine_frame, put_fault_at, put_plain_fault,

@@ -38,8 +38,8 @@ use Rattle.sqlite_value.specs.declared.keys.Order.{Order}
 use Rattle.sqlite_store.specs.Roots.{has_index_root}
 use Rattle.osm_openings.specs.Presumed.{NamesSize, ReadsAs, root_order, told_roots}
 use Rattle.osm_openings.specs.Opened.{IsOpened}
-use Rattle.osm_store.specs.declared.schema.layout.Layout.TheVariants.{Tables}
-use Rattle.osm_store.specs.Rows.{version_row}
+use Rattle.osm_rows.specs.declared.schema.layout.Layout.TheVariants.{Tables}
+use Rattle.osm_rows.specs.Rows.{version_row}
 use Rattle.osm_tree_writes.specs.Tables.{table_listings}
 use Rattle.sqlite_exec.specs.Calls.{OnlyReads}
 use Rattle.sqlite_trees.specs.Tree.{Trees}

@@ -6,8 +6,8 @@ ghost use Rattle.sqlite_trees.specs.View.{IsClean, IsQuiet};
 ghost use Rattle.sqlite_exec.specs.Calls.{OnlyReads};
 ghost use Rattle.sqlite_store.specs.FileStore.{view, is_shielded};
 ghost use Rattle.sqlite_wal.specs.Files.{seen_image};
-ghost use Rattle.osm_store.specs.declared.schema.layout.Layout.{Layout};
-ghost use Rattle.osm_store.specs.Rows.{version_row};
+ghost use Rattle.osm_rows.specs.declared.schema.layout.Layout.{Layout};
+ghost use Rattle.osm_rows.specs.Rows.{version_row};
 ghost use Rattle.osm_openings.specs.Asked.{ListsAsAsked};
 ghost use Rattle.osm_openings.specs.Catalog.{listings};
 ghost use Rattle.osm_openings.specs.Opened.{IsOpened};
@@ -16,7 +16,7 @@ ghost use Rattle.osm_tree_writes.specs.Tables.{table_listing, index_listing, tab
 
 use crate::opening::{open_checked, open_listed};
 use crate::version::has_only;
-use osm_store::{
+use osm_rows::{
     CREATE_BLOB, CREATE_ELEMENT, CREATE_ELEMENT_INDEX, CREATE_LINK, CREATE_META, CREATE_TAG,
     TABLE_VERSION,
 };

@@ -4,8 +4,8 @@ use Rattle.std.specs.Ordering.{nat_cmp}
 use Rattle.std.specs.FinMap.{get, entries, find, get-entries}
 use Rattle.std.proofs.lemmas.List.{take-append-le, take_all}
 use Rattle.osm_value.specs.declared.element.Element.{Element}
-use Rattle.osm_store.specs.Held.{Blob, HeldMap}
-use Rattle.osm_faults.specs.declared.fault.StoreFault.{StoreFault}
+use Rattle.osm_rows.specs.Held.{Blob, HeldMap}
+use Rattle.osm_rows.specs.declared.fault.StoreFault.{StoreFault}
 use Rattle.osm_reading.specs.Framings.{Known}
 use Rattle.osm_import.specs.ExportCauses.{ExportHasCause}
 use Rattle.osm_import.specs.Walks.{Writing, elements_at, WritesOne, WritesInTurn, StopsAt, Walks}

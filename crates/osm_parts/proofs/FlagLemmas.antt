@@ -4,9 +4,9 @@ use Rattle.std.specs.List.{list_any}
 use Rattle.std.specs.Ordering.{nat_cmp}
 use Rattle.std.specs.FinMap.{get, entries, find, is_sorted, get-entries, entries_sorted}
 use Rattle.std.proofs.lemmas.Bool.Decides.{eqb_tells}
-use Rattle.osm_store.specs.Flags.{has_flag, has_flags}
-use Rattle.osm_store.specs.Held.{Blob, HeldMap}
-use Rattle.osm_store.proofs.LoadLemmas.FlagLaws.{blob_has_flag, flags_by_blob}
+use Rattle.osm_rows.specs.Flags.{has_flag, has_flags}
+use Rattle.osm_rows.specs.Held.{Blob, HeldMap}
+use Rattle.osm_rows.proofs.LoadLemmas.FlagLaws.{blob_has_flag, flags_by_blob}
 use Rattle.osm_import.proofs.Touching.{find-head, find-tail, sorted-tail, find-cons}
 use Rattle.osm_import.proofs.Delivering.{true-of}
 use Rattle.osm_parts.specs.Parts.{IsInPart, AreParts}

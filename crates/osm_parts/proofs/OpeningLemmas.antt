@@ -1,9 +1,9 @@
 -- A store that is opened, read and closed.
 use Rattle.std.proofs.Common.{◌≡◌, ℕ, ◌≤◌, List, slice_get, Some, Result, Ok, Err, sym, ◌∙◌, subst, inl, inr, arith}
 use Rattle.std.specs.Prelude.{OnOk, IfErr, IsErrAnd}
-use Rattle.osm_store.specs.Held.{HeldMap}
-use Rattle.osm_faults.specs.declared.fault.StoreFault.{StoreFault}
-use Rattle.osm_store.specs.declared.keeper.Reader.{Ghosts}
+use Rattle.osm_rows.specs.Held.{HeldMap}
+use Rattle.osm_rows.specs.declared.fault.StoreFault.{StoreFault}
+use Rattle.osm_rows.specs.declared.keeper.Reader.{Ghosts}
 use Rattle.osm_import.specs.Step.{HasCause}
 use Rattle.osm_import.specs.Stores.{Rereads}
 use Rattle.osm_parts.specs.Opening.{IsLent, OnlyOpens, AddsUp}

@@ -6,8 +6,8 @@ use Rattle.std.specs.FinMap.{get, entries, find, is_sorted, get-entries, entries
 use Rattle.std.specs.FinMap.Entries.{same_entries, below_all}
 use Rattle.std.proofs.lemmas.Bool.Decides.{eqb_tells}
 use Rattle.std.proofs.lemmas.List.{map-append}
-use Rattle.osm_store.specs.Held.{Blob, HeldMap, IsApart}
-use Rattle.osm_store.specs.Keeping.{extents_of, extent_of}
+use Rattle.osm_rows.specs.Held.{Blob, HeldMap, IsApart}
+use Rattle.osm_rows.specs.Keeping.{extents_of, extent_of}
 use Rattle.osm_import.specs.Exports.{lines_of, blob_lines, map_lines}
 use Rattle.osm_import.specs.Gaps.{AreGaps, ranges_between}
 use Rattle.osm_import.specs.Pbf.{data_frames, AreFramesOf}

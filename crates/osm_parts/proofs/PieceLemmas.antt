@@ -9,10 +9,10 @@ use Rattle.std.proofs.lemmas.List.{take_more}
 use Rattle.std.proofs.lemmas.List.Elements.{Contains-append_left, Contains-append_right, Contains-append_cases, Contains-push, Contains-push_cases}
 use Rattle.std.proofs.lemmas.List.Sorted.{Contains-permutation, IsPermutation-sym}
 use Rattle.pbf_frame.specs.declared.kind.Kind.TheVariants.{OsmHeader}
-use Rattle.osm_store.specs.Held.{Blob, HeldMap, IsApart}
-use Rattle.osm_store.specs.Keeping.{extents_of, extent_of, IsForeign}
-use Rattle.osm_faults.specs.declared.fault.StoreFault.{StoreFault}
-use Rattle.osm_store.specs.declared.keeper.Extent.{Extent}
+use Rattle.osm_rows.specs.Held.{Blob, HeldMap, IsApart}
+use Rattle.osm_rows.specs.Keeping.{extents_of, extent_of, IsForeign}
+use Rattle.osm_rows.specs.declared.fault.StoreFault.{StoreFault}
+use Rattle.osm_rows.specs.declared.keeper.Extent.{Extent}
 use Rattle.osm_import.specs.declared.answer.Conflict.TheVariants.{Differs, Overlap}
 use Rattle.osm_import.proofs.Touching.{find-head, find-tail, sorted-tail, find-cons}
 use Rattle.osm_import.proofs.Delivering.{true-of}

@@ -1,9 +1,9 @@
 -- From the runs of stores to the map that holds what they hold.
 use Rattle.std.proofs.Common.{◌≡◌, ℕ, zero, suc, ◌+◌, ◌<◌, Bool, List, [], ◌∷◌, ◌++◌, length, take, get_or, Some, refl, sym, ◌∙◌, ap, inl, inr, arith, append_assoc, append-nil, add-one}
 use Rattle.std.specs.FinMap.{get}
-use Rattle.osm_store.specs.Held.{Blob, HeldMap, IsApart}
-use Rattle.osm_store.specs.Keeping.{extents_of}
-use Rattle.osm_store.specs.declared.keeper.Extent.{Extent}
+use Rattle.osm_rows.specs.Held.{Blob, HeldMap, IsApart}
+use Rattle.osm_rows.specs.Keeping.{extents_of}
+use Rattle.osm_rows.specs.declared.keeper.Extent.{Extent}
 use Rattle.osm_import.proofs.MergeLemmas.{one_map}
 use Rattle.osm_parts.specs.Parts.{IsInPart, AreParts, AreApart, extents_in}
 use Rattle.osm_parts.specs.Reading.{AreEach, AreRead, joined_extents}

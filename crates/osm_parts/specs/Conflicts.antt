@@ -1,7 +1,7 @@
 -- Blobs of several maps that are in each other's way.
 use Rattle.std.specs.Prelude.{◌≡◌, ℕ, ◌<◌, List}
-use Rattle.osm_store.specs.Held.{Blob, HeldMap}
-use Rattle.osm_store.specs.Keeping.{extent_of}
+use Rattle.osm_rows.specs.Held.{Blob, HeldMap}
+use Rattle.osm_rows.specs.Keeping.{extent_of}
 use Rattle.osm_parts.specs.Parts.{IsInPart}
 
 -- two of the maps hold blobs at the offset whose extents differ

@@ -1,7 +1,7 @@
 -- Parts that don't follow one another.
 use Rattle.std.specs.Prelude.{◌≡◌, ◌≢◌, ℕ, ◌<◌, ◌≤◌, List, Some, slice_get, IsPermutation}
 use Rattle.std.specs.FinMap.{get}
-use Rattle.osm_store.specs.Held.{Blob, HeldMap}
+use Rattle.osm_rows.specs.Held.{Blob, HeldMap}
 use Rattle.osm_parts.specs.Parts.{FollowFrom, AreParts}
 
 -- it has a blob that begins at the offset or before, and one that ends behind it

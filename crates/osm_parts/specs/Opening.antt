@@ -1,6 +1,6 @@
 -- What is opened and closed again.
 use Rattle.std.specs.Prelude.{◌≡◌, ◌⊎◌, ℕ, ◌+◌, ◌-◌, ◌^◌, ◌≤◌, List, Some, Result, OnOk, slice_get}
-use Rattle.osm_store.specs.Held.{HeldMap}
+use Rattle.osm_rows.specs.Held.{HeldMap}
 
 -- the store of one of the maps, that at this place, is given out
 pub record IsLent (lends : List HeldMap → HeldMap → Type 0) (holds : HeldMap → Type 0) (maps : List HeldMap) (place : ℕ) : Type 0 where

@@ -1,8 +1,8 @@
 -- The numbers, the names and the causes of what keeps several stores from being read as one map.
 use Rattle.std.specs.Prelude.{ℕ, List, codes}
-use Rattle.osm_faults.specs.Faults as stores
-use Rattle.osm_store.specs.Held.{HeldMap}
-use Rattle.osm_store.specs.Keeping.{IsForeign}
+use Rattle.osm_rows.specs.Faults as stores
+use Rattle.osm_rows.specs.Held.{HeldMap}
+use Rattle.osm_rows.specs.Keeping.{IsForeign}
 use Rattle.osm_import.specs.Faults.{conflict_number_of, conflict_name_of}
 use Rattle.osm_import.specs.Step.{HasCause}
 use Rattle.osm_import.specs.declared.answer.Conflict.TheVariants.{Differs, Overlap}

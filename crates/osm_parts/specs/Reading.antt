@@ -1,10 +1,10 @@
 -- Stores that were read as one map, run by run.
 use Rattle.std.specs.Prelude.{◌≡◌, ℕ, ◌+◌, Bool, ◌&&◌, List, [], ◌∷◌, ◌++◌, Some, slice_get}
 use Rattle.std.specs.FinMap.{get}
-use Rattle.osm_store.specs.Flags.{has_flags}
-use Rattle.osm_store.specs.Held.{Blob, HeldMap, IsApart}
-use Rattle.osm_store.specs.Keeping.{extents_of}
-use Rattle.osm_store.specs.declared.keeper.Extent.{Extent}
+use Rattle.osm_rows.specs.Flags.{has_flags}
+use Rattle.osm_rows.specs.Held.{Blob, HeldMap, IsApart}
+use Rattle.osm_rows.specs.Keeping.{extents_of}
+use Rattle.osm_rows.specs.declared.keeper.Extent.{Extent}
 use Rattle.osm_parts.specs.Parts.{FollowFrom}
 use Rattle.osm_import.specs.Walks.{IsWithin}
 use Rattle.osm_parts.specs.Unions.{AreCovered}

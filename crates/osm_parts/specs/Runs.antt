@@ -1,6 +1,6 @@
 -- Rows of successive blobs of one store.
 use Rattle.std.specs.Prelude.{◌≡◌, ◌≢◌, ◌⊎◌, ℕ, ◌+◌, ◌*◌, ◌<◌, ◌≤◌, List, [], ◌∷◌, ◌++◌, map, length, Some, slice_get}
-use Rattle.osm_store.specs.declared.keeper.Extent.{Extent}
+use Rattle.osm_rows.specs.declared.keeper.Extent.{Extent}
 use Rattle.osm_parts.specs.declared.pieces.Piece.{Piece}
 use Rattle.osm_parts.specs.declared.runs.Part.{Part}
 

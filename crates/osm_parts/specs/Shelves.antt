@@ -1,6 +1,6 @@
 -- Stores in slots, of which one may be given out.
 use Rattle.std.specs.Prelude.{◌≡◌, ◌≢◌, ℕ, List, Option, Some, None, length, slice_get}
-use Rattle.osm_store.specs.Held.{HeldMap}
+use Rattle.osm_rows.specs.Held.{HeldMap}
 
 -- there is a store in each slot, which holds the map of that place
 pub record HoldsEach {K : Type 0} (holds : K → HeldMap → Type 0) (slots : List (Option K)) (maps : List HeldMap) : Type 0 where

@@ -2,9 +2,9 @@
 use Rattle.std.specs.Prelude.{◌≡◌, ℕ, Bool, true, List, Some}
 use Rattle.std.specs.FinMap.{get}
 use Rattle.std.specs.List.{list_any}
-use Rattle.osm_store.specs.Flags.{has_flags}
-use Rattle.osm_store.specs.Held.{Blob, HeldMap}
-use Rattle.osm_store.specs.Keeping.{extent_of}
+use Rattle.osm_rows.specs.Flags.{has_flags}
+use Rattle.osm_rows.specs.Held.{Blob, HeldMap}
+use Rattle.osm_rows.specs.Keeping.{extent_of}
 use Rattle.osm_parts.specs.Parts.{IsInPart, AreParts}
 
 -- each blob of the maps is also in this list of maps, at the same offset and with the same extent: so with the same SHA-256

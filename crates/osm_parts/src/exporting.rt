@@ -3,8 +3,8 @@
 ghost use Rattle.std.specs.Prelude.{◌≡◌, ◌≤◌, Bool, true, false, List, OnOk, IfErr};
 ghost use Rattle.std.specs.FinMap.{entries};
 ghost use Rattle.std.specs.List.{list_any};
-ghost use Rattle.osm_store.specs.Held.{HeldMap};
-ghost use Rattle.osm_store.specs.Keeping.{extents_of};
+ghost use Rattle.osm_rows.specs.Held.{HeldMap};
+ghost use Rattle.osm_rows.specs.Keeping.{extents_of};
 ghost use Rattle.osm_import.specs.ExportCauses.{ExportHasCause, ExportIsOwn, WriteHasCause};
 ghost use Rattle.osm_import.specs.Exports.{IsExport, IsUnbegun, size_of};
 ghost use Rattle.osm_import.specs.Gaps.{Tiles};
@@ -19,7 +19,7 @@ use crate::openings::Openings;
 use crate::reading::extents_of_parts;
 use crate::runs::Part;
 use osm_import::{BlobStep, Blocks, ExportFault, Lines, refused, write_blobs, write_header};
-use osm_store::Reader;
+use osm_rows::Reader;
 use osm_value::Sink;
 use std::alloc::Global;
 

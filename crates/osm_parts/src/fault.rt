@@ -1,12 +1,12 @@
 //! Why several stores aren't read as one map.
 
 ghost use Rattle.std.specs.Prelude.{◌≡◌};
-ghost use Rattle.osm_faults.specs.declared.fault.StoreFault.TheVariants.{Memory};
+ghost use Rattle.osm_rows.specs.declared.fault.StoreFault.TheVariants.{Memory};
 ghost use Rattle.osm_parts.specs.declared.fault.PartsFault.TheVariants.{Store};
 ghost use Rattle.osm_parts.specs.PartsFaults.{parts_number_of, parts_name_of};
 
 use osm_import::Conflict;
-use osm_store::StoreFault;
+use osm_rows::StoreFault;
 use std::alloc::{AllocError, AllocFailed};
 use thiserror::Error;
 

@@ -1,11 +1,11 @@
 //! What opens stores, one after the other.
 
 ghost use Rattle.std.specs.Prelude.{◌≡◌, ℕ, List, IfOk, IfErr, OnErr};
-ghost use Rattle.osm_store.specs.Held.{HeldMap};
-ghost use Rattle.osm_store.specs.Keeping.{IsForeign, failures_after};
+ghost use Rattle.osm_rows.specs.Held.{HeldMap};
+ghost use Rattle.osm_rows.specs.Keeping.{IsForeign, failures_after};
 ghost use Rattle.osm_parts.specs.Opening.{IsLent, KeepsMaps, AddsUp};
 
-use osm_store::{Reader, StoreFault};
+use osm_rows::{Reader, StoreFault};
 
 /// What opens stores by their places in a list, counted from 0, and closes them. A store that is given out is closed
 /// before the next is opened.

@@ -6,7 +6,7 @@ ghost use Rattle.osm_parts.specs.Pieces.{offset_of, pieces_of, AreOnce, IsNext, 
 
 use crate::fault::PartsFault;
 use osm_import::Conflict;
-use osm_store::Extent;
+use osm_rows::Extent;
 use std::alloc::{AllocError, Global};
 
 /// A blob of one of the stores.

@@ -1,10 +1,10 @@
 //! What several stores hold together, read of one after the other.
 
 ghost use Rattle.std.specs.Prelude.{◌≡◌, ◌≤◌, ℕ, Bool, ◌&&◌, List, Some, IfOk, IfErr, length, slice_get};
-ghost use Rattle.osm_store.specs.Flags.{has_flags};
-ghost use Rattle.osm_store.specs.Held.{HeldMap, IsApart};
-ghost use Rattle.osm_store.specs.Calls.{OfHeld};
-ghost use Rattle.osm_store.specs.Keeping.{IsForeign, extents_of};
+ghost use Rattle.osm_rows.specs.Flags.{has_flags};
+ghost use Rattle.osm_rows.specs.Held.{HeldMap, IsApart};
+ghost use Rattle.osm_rows.specs.Calls.{OfHeld};
+ghost use Rattle.osm_rows.specs.Keeping.{IsForeign, extents_of};
 ghost use Rattle.osm_import.specs.Gaps.{AreGaps};
 ghost use Rattle.osm_import.specs.Step.{HasCause};
 ghost use Rattle.osm_import.specs.Stores.{Rereads};
@@ -20,7 +20,7 @@ use crate::openings::Openings;
 use crate::pieces::{Piece, add_pieces, by_offset, each_once};
 use crate::runs::{Part, cut_into_runs, first_return};
 use osm_import::gaps_between;
-use osm_store::{Extent, Reader, StoreFault};
+use osm_rows::{Extent, Reader, StoreFault};
 use std::alloc::{AllocError, Global};
 
 /// Whether one of its elements has a flag of visibility, if that is asked.

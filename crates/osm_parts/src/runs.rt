@@ -4,7 +4,7 @@ ghost use Rattle.std.specs.Prelude.{◌≡◌, ◌+◌, ◌<◌, ◌↔◌, leng
 ghost use Rattle.osm_parts.specs.Runs.{first_offset, AreCut, IsPut, HasPlace, ReturnsAt, IsBetween, NoneReturns};
 
 use crate::pieces::Piece;
-use osm_store::Extent;
+use osm_rows::Extent;
 use std::alloc::{AllocError, Global};
 
 /// A run: successive blobs of one store, behind which, if more follow, the next blob is of another.

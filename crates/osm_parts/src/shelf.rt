@@ -1,11 +1,11 @@
 //! Stores that are there already, and are given out one at a time.
 
 ghost use Rattle.std.specs.Prelude.{◌≡◌, ◌↔◌, ◌++◌, ◌∷◌, [], false, Some, None, List, IfOk, IfSome, IsNone, IsTrue, set, slice_get};
-ghost use Rattle.osm_store.specs.Held.{HeldMap};
+ghost use Rattle.osm_rows.specs.Held.{HeldMap};
 ghost use Rattle.osm_parts.specs.Shelves.{HoldsEach, LendsOne, AllAreIn};
 
 use crate::openings::Openings;
-use osm_store::{Reader, StoreFault};
+use osm_rows::{Reader, StoreFault};
 use std::alloc::{AllocError, Global};
 
 /// Stores by their places, counted from 0, of which one at a time is given out. One of which a call has failed isn't given

@@ -10,10 +10,10 @@ use Rattle.sqlite_trees.specs.Objects.{catalog_tree}
 use Rattle.sqlite_trees.specs.Tree.{Trees}
 use Rattle.sqlite_store.specs.declared.store.FileStore.{FileStore}
 use Rattle.sqlite_store.specs.FileStore.{view, recovers}
-use Rattle.osm_store.specs.declared.schema.layout.Layout.TheVariants.{Tables}
-use Rattle.osm_store.specs.LayoutHolding.{TablesHold, Holds}
-use Rattle.osm_store.specs.StoreLaws.{IsSettled, leaves_held, leaves_held_alone}
-use Rattle.osm_store.proofs.MapLemmas.OneMore.{nothing_kept}
+use Rattle.osm_rows.specs.declared.schema.layout.Layout.TheVariants.{Tables}
+use Rattle.osm_rows.specs.LayoutHolding.{TablesHold, Holds}
+use Rattle.osm_rows.specs.StoreLaws.{IsSettled, leaves_held, leaves_held_alone}
+use Rattle.osm_rows.proofs.MapLemmas.OneMore.{nothing_kept}
 use Rattle.osm_tree_writes.proofs.Obeying.{trees_of}
 use Rattle.osm_trees.specs.Below.{HoldsBelow}
 use Rattle.osm_import.specs.Files.{AreFrames}

@@ -14,9 +14,9 @@ use Rattle.sqlite_store.specs.Db.{IsFile}
 use Rattle.sqlite_store.specs.Listing.{listed_from, file_trees}
 use Rattle.sqlite_store.specs.declared.store.FileStore.{FileStore}
 use Rattle.sqlite_store.specs.FileStore.{state, view, schema_in, reading, recovers}
-use Rattle.osm_store.specs.declared.schema.layout.Layout.TheVariants.{Tables}
-use Rattle.osm_store.specs.Held.{HeldMap}
-use Rattle.osm_store.specs.LayoutHolding.{IsKept}
+use Rattle.osm_rows.specs.declared.schema.layout.Layout.TheVariants.{Tables}
+use Rattle.osm_rows.specs.Held.{HeldMap}
+use Rattle.osm_rows.specs.LayoutHolding.{IsKept}
 use Rattle.osm_tree_writes.specs.Beside.{HasAStore}
 use Rattle.osm_tree_writes.specs.Putting.{TreesHold}
 use Rattle.osm_tree_writes.specs.Tables.{table_listings}

@@ -7,8 +7,8 @@ use Rattle.sqlite_trees.specs.Objects.{catalog_tree}
 use Rattle.sqlite_store.specs.declared.store.FileStore.{FileStore}
 use Rattle.sqlite_store.specs.FileStore.{view, recovers}
 use Rattle.sqlite_store.specs.Laws.{settled_at, shut_is_broken}
-use Rattle.osm_store.specs.declared.schema.layout.Layout.TheVariants.{Tables}
-use Rattle.osm_store.specs.Held.{HeldMap}
+use Rattle.osm_rows.specs.declared.schema.layout.Layout.TheVariants.{Tables}
+use Rattle.osm_rows.specs.Held.{HeldMap}
 use Rattle.osm_trees.specs.Below.{HoldsBelow, ListsAlways}
 use Rattle.osm_trees.specs.Reading.{lists_always}
 use Rattle.osm_openings.specs.Asked.{IsFoundAgain}

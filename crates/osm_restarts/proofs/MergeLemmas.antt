@@ -6,8 +6,8 @@ use Rattle.sqlite_disk.specs.declared.Disk.{Ghosts}
 use Rattle.sqlite_wal.proofs.LogLemmas.{SeenMayStay}
 use Rattle.sqlite_store.specs.declared.store.FileStore.{FileStore}
 use Rattle.sqlite_store.specs.FileStore.{view}
-use Rattle.osm_store.specs.declared.schema.layout.Layout.TheVariants.{Tables}
-use Rattle.osm_store.specs.Held.{Blob, HeldMap}
+use Rattle.osm_rows.specs.declared.schema.layout.Layout.TheVariants.{Tables}
+use Rattle.osm_rows.specs.Held.{Blob, HeldMap}
 use Rattle.osm_trees.specs.Below.{HoldsBelow}
 use Rattle.osm_import.specs.Copies.{IsMerged, IsUnited, IsUnitedBelow}
 use Rattle.osm_import.specs.Merges.{AreUnited, IsFrontUnited, IsUnionRefused}

@@ -7,10 +7,10 @@ use Rattle.sqlite_schema.specs.declared.schema.Constraint.TheVariants.{Datatype,
 use Rattle.sqlite_schema.specs.Rules.{Obeys, Keeps}
 use Rattle.sqlite_trees.specs.Tree.{Trees}
 use Rattle.sqlite_trees.specs.Objects.{catalog_tree}
-use Rattle.osm_store.specs.declared.schema.layout.Layout.TheVariants.{Tables}
-use Rattle.osm_store.specs.Held.{HeldMap}
-use Rattle.osm_store.specs.LayoutHolding.{HasRows}
-use Rattle.osm_store.specs.Schema.Tables.{table_schema}
+use Rattle.osm_rows.specs.declared.schema.layout.Layout.TheVariants.{Tables}
+use Rattle.osm_rows.specs.Held.{HeldMap}
+use Rattle.osm_rows.specs.LayoutHolding.{HasRows}
+use Rattle.osm_rows.specs.Schema.Tables.{table_schema}
 use Rattle.osm_tree_writes.specs.Beside.{HasAStore}
 use Rattle.osm_tree_writes.specs.Putting.{TreesHold}
 

@@ -15,12 +15,12 @@ use Rattle.sqlite_trees.specs.Listing.{same_code}
 use Rattle.sqlite_trees.specs.Sound.{begins, same_name, is_word, is_virtual, head_at, may_follow, are_in_order}
 use Rattle.sqlite_schema.specs.declared.schema.Table.{Table as SqlTable}
 use Rattle.sqlite_schema.specs.declared.schema.Index.{Index as SqlIndex}
-use Rattle.osm_store.specs.Schema.Bodies.{meta, blob}
+use Rattle.osm_rows.specs.Schema.Bodies.{meta, blob}
 use Rattle.sqlite_catalog.specs.Listing.{Describes, is_table_row, is_view_row, is_index_row, IsTableRow, IsIndexRow, IsViewRow, AreListed}
 use Rattle.sqlite_store.specs.declared.catalog.Wanted.{Wanted}
 use Rattle.sqlite_store.specs.Catalog.{fits_shape, wanted_of}
 use Rattle.sqlite_store.specs.Listing.{listed_from}
-use Rattle.osm_store.specs.Schema.Tables.{element, tag, link, element_key, tag_key, link_key, element_by_id, table_schema}
+use Rattle.osm_rows.specs.Schema.Tables.{element, tag, link, element_key, tag_key, link_key, element_by_id, table_schema}
 use Rattle.osm_openings.specs.Catalog.{listings}
 use Rattle.osm_tree_writes.specs.Beside.{ListsAlone}
 use Rattle.osm_tree_writes.specs.Tables.{table_listings}

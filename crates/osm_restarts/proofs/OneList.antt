@@ -20,10 +20,10 @@ use Rattle.sqlite_store.specs.Db.{IsFile}
 use Rattle.sqlite_store.specs.Listed.{is_listed}
 use Rattle.sqlite_store.specs.Listing.{listed_from, file_trees}
 use Rattle.sqlite_store.proofs.ListingLemmas.{listing_shaped}
-use Rattle.osm_store.specs.declared.schema.layout.Layout.TheVariants.{Tables}
-use Rattle.osm_store.specs.Schema.Bodies.{meta, blob}
-use Rattle.osm_store.specs.Schema.Tables.{element, tag, link, element_key, tag_key, link_key, element_by_id, table_schema}
-use Rattle.osm_store.specs.declared.schema.sql.TheConstants.{CREATE_META, CREATE_BLOB, CREATE_ELEMENT, CREATE_TAG, CREATE_LINK, CREATE_ELEMENT_INDEX}
+use Rattle.osm_rows.specs.declared.schema.layout.Layout.TheVariants.{Tables}
+use Rattle.osm_rows.specs.Schema.Bodies.{meta, blob}
+use Rattle.osm_rows.specs.Schema.Tables.{element, tag, link, element_key, tag_key, link_key, element_by_id, table_schema}
+use Rattle.osm_rows.specs.declared.schema.sql.TheConstants.{CREATE_META, CREATE_BLOB, CREATE_ELEMENT, CREATE_TAG, CREATE_LINK, CREATE_ELEMENT_INDEX}
 use Rattle.osm_tree_writes.specs.Beside.{HasAStore}
 use Rattle.osm_tree_writes.specs.Tables.{table_listing, index_listing, table_listings}
 use Rattle.osm_restarts.proofs.Entries.{IsWords}

@@ -8,8 +8,8 @@ use Rattle.sqlite_trees.specs.View.{View, IsClean}
 use Rattle.sqlite_store.specs.declared.store.FileStore.{FileStore}
 use Rattle.sqlite_store.specs.FileStore.{state, view, recovers}
 use Rattle.sqlite_wal.specs.Recovery.{Image}
-use Rattle.osm_store.specs.declared.schema.layout.Layout.TheVariants.{Tables}
-use Rattle.osm_store.specs.Held.{HeldMap}
+use Rattle.osm_rows.specs.declared.schema.layout.Layout.TheVariants.{Tables}
+use Rattle.osm_rows.specs.Held.{HeldMap}
 use Rattle.osm_tree_writes.specs.Tables.{table_listings}
 use Rattle.osm_trees.specs.Below.{HoldsBelow, LeavesAMap, MayLeave, ListsAlways}
 use Rattle.osm_openings.specs.Asked.{IsFoundAgain}

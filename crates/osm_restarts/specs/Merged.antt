@@ -5,8 +5,8 @@ use Rattle.sqlite_trees.specs.Tree.{Trees}
 use Rattle.sqlite_store.specs.declared.store.FileStore.{FileStore}
 use Rattle.sqlite_store.specs.FileStore.{view, recovers}
 use Rattle.sqlite_wal.specs.Recovery.{Image}
-use Rattle.osm_store.specs.declared.schema.layout.Layout.TheVariants.{Tables}
-use Rattle.osm_store.specs.Held.{HeldMap}
+use Rattle.osm_rows.specs.declared.schema.layout.Layout.TheVariants.{Tables}
+use Rattle.osm_rows.specs.Held.{HeldMap}
 use Rattle.osm_trees.specs.Below.{HoldsBelow, LeavesAMap, MayLeave}
 use Rattle.osm_import.specs.Merges.{AreUnited, IsFrontUnited, IsUnionRefused}
 use Rattle.osm_import.specs.declared.answer.Conflict.{Conflict}

@@ -6,14 +6,14 @@ ghost use Rattle.sqlite_trees.specs.Objects.{catalog_tree};
 ghost use Rattle.sqlite_trees.specs.View.{IsClean};
 ghost use Rattle.sqlite_store.specs.FileStore.{state, view, recovers};
 ghost use Rattle.sqlite_wal.specs.Recovery.{Image};
-ghost use Rattle.osm_store.specs.Rows.{placed};
+ghost use Rattle.osm_rows.specs.Rows.{placed};
 ghost use Rattle.osm_openings.specs.Asked.{ListsAsAsked};
 ghost use Rattle.osm_openings.specs.Presumed.{ArePresumedTables};
 ghost use Rattle.osm_tree_writes.specs.Putting.{PutsBelow};
 ghost use Rattle.osm_restarts.specs.Beside.{StandsBeside};
 
 use crate::premise::what_is_left_may_be_opened;
-use osm_store::{Extent, StoreFault};
+use osm_rows::{Extent, StoreFault};
 use osm_tree_writes::put_blob;
 use osm_value::Element;
 use sqlite_disk::Disk;

@@ -10,7 +10,8 @@ ghost use Rattle.sqlite_wal.specs.Recovery.{Image};
 ghost use Rattle.osm_import.specs.Files.{AreFrames};
 ghost use Rattle.osm_restarts.specs.Left.{GoesOn, IsOpenedOver, MayBeOpened, MayCrashTo};
 
-use osm_store::{StoreFault, TableStore};
+use osm_rows::StoreFault;
+use osm_sql_store::TableStore;
 use sqlite::Connection;
 use sqlite_disk::Disk;
 use sqlite_store::FileStore;

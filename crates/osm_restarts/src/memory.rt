@@ -1,12 +1,12 @@
 //! That deliveries to trees in memory need nothing of the store but the map that it holds.
 
 ghost use Rattle.std.specs.Prelude.{◌≡◌, ℕ, List, IfOk, OnErr};
-ghost use Rattle.osm_store.specs.Held.{HeldMap};
+ghost use Rattle.osm_rows.specs.Held.{HeldMap};
 ghost use Rattle.osm_import.specs.Files.{AreFrames, AreOfFile, IsHeldOfFile};
 ghost use Rattle.osm_import.specs.Runs.{Runs, Imports, IsNone, IsStored};
 
 use osm_import::{Answer, Delivery, deliver_all};
-use osm_store::Reader;
+use osm_rows::Reader;
 use osm_trees::TreeStore;
 use osm_trees::laws::memory_goes_on;
 use sqlite::MemStore;

@@ -2,14 +2,14 @@
 
 ghost use Rattle.std.specs.Prelude.{◌≡◌, ℕ, List, take};
 ghost use Rattle.sqlite_trees.specs.Objects.{catalog_tree};
-ghost use Rattle.osm_store.specs.Held.{HeldMap};
+ghost use Rattle.osm_rows.specs.Held.{HeldMap};
 ghost use Rattle.osm_tree_audits.specs.Looks.{IsLook};
 ghost use Rattle.osm_trees.specs.Below.{IsChecked};
 ghost use Rattle.osm_tree_writes.specs.Tables.{table_listings};
 ghost use Rattle.osm_import.specs.Merges.{IsImported, placed_from};
 ghost use Rattle.osm_verify.specs.Audits.{KeepsImport};
 
-use osm_store::{Audited, Reader};
+use osm_rows::{Audited, Reader};
 use osm_trees::{CheckedStore, TreeStore};
 use sqlite_trees::store::Store;
 

@@ -19,13 +19,13 @@ use Rattle.sqlite_exec.specs.Plan.{resolved}
 use Rattle.osm_value.specs.declared.element.Element.{Element}
 use Rattle.osm_value.specs.Elements.{tags_of_element}
 use Rattle.pbf_frame.specs.declared.kind.Kind.TheVariants.{Other}
-use Rattle.osm_store.specs.Audit.{is_at}
-use Rattle.osm_store.specs.Rows.{Placed, IsBefore, placed}
-use Rattle.osm_store.specs.TableRows.{element_row, element_rows, tags_at, tag_row, tag_rows, links_of, links_at, link_row, link_rows}
-use Rattle.osm_store.proofs.AuditLemmas.HeldRows.{filter_same}
-use Rattle.osm_store.proofs.LoadLemmas.ReadLemmas.{ascending_among}
-use Rattle.osm_store.proofs.MapLemmas.PartLaws.{all_parts_rise}
-use Rattle.osm_store.proofs.MapLemmas.PlacedLaws.{Entry, here, by_position}
+use Rattle.osm_rows.specs.Audit.{is_at}
+use Rattle.osm_rows.specs.Rows.{Placed, IsBefore, placed}
+use Rattle.osm_rows.specs.TableRows.{element_row, element_rows, tags_at, tag_row, tag_rows, links_of, links_at, link_row, link_rows}
+use Rattle.osm_rows.proofs.AuditLemmas.HeldRows.{filter_same}
+use Rattle.osm_rows.proofs.LoadLemmas.ShownRows.{ascending_among}
+use Rattle.osm_rows.proofs.MapLemmas.PartLaws.{all_parts_rise}
+use Rattle.osm_rows.proofs.MapLemmas.PlacedLaws.{Entry, here, by_position}
 use Rattle.osm_tree_writes.specs.Putting.{IsIndexedStore}
 use Rattle.osm_tree_audits.specs.Finding.{Finds, starts}
 use Rattle.osm_tree_audits.specs.Auditing.{KeepsAt}

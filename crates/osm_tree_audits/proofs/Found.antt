@@ -20,7 +20,7 @@ use Rattle.sqlite_sql.specs.Catalog.{entry_of, IsIndexOf}
 use Rattle.sqlite_exec.specs.Plan.{resolved}
 use Rattle.sqlite_exec.proofs.ScanLemmas.{resolves}
 use Rattle.sqlite_exec.proofs.PartitionLemmas.{sorted_from_ascending}
-use Rattle.osm_store.proofs.ListLemmas.SortedLists.{sorted_is}
+use Rattle.osm_rows.proofs.ListLemmas.SortedLists.{sorted_is}
 use Rattle.osm_tree_audits.specs.Finding.{starts}
 
 -- ---- the rows that entries lead to

@@ -5,9 +5,9 @@ use Rattle.std.proofs.lemmas.List.{map-append, append_cancel_left}
 use Rattle.std.proofs.lemmas.List.Concat.{flat_map-append}
 use Rattle.sqlite_value.specs.Order.{Row}
 use Rattle.osm_value.specs.declared.element.Element.{Element}
-use Rattle.osm_store.specs.Rows.{Placed, placed}
-use Rattle.osm_store.specs.TableRows.{element_row, tag_row, link_row, tags_at, links_at}
-use Rattle.osm_store.proofs.PutLemmas.Placing.{placed-append}
+use Rattle.osm_rows.specs.Rows.{Placed, placed}
+use Rattle.osm_rows.specs.TableRows.{element_row, tag_row, link_row, tags_at, links_at}
+use Rattle.osm_rows.proofs.PutLemmas.Placing.{placed-append}
 use Rattle.osm_tree_audits.specs.declared.tables.ElementTable.{ElementTable}
 use Rattle.osm_tree_audits.specs.declared.tables.ElementTable.TheVariants.{Elements, Tags, Links}
 use Rattle.osm_tree_audits.specs.ElementTables.{rows_in}

@@ -5,10 +5,10 @@ use Rattle.sqlite_value.specs.declared.value.Value.TheVariants.{Int}
 use Rattle.sqlite_value.specs.Order.{Row, column, value_cmp, row_cmp}
 use Rattle.sqlite_value.specs.Keys.{plain, entry_cmp}
 use Rattle.sqlite_value.proofs.KeyLemmas.{entry_cmp-plain}
-use Rattle.osm_store.specs.Rows.{Placed, IsBefore}
-use Rattle.osm_store.specs.TableRows.{Part}
-use Rattle.osm_store.proofs.ListLemmas.NumberOrder.{numbers_below, numbers_tied}
-use Rattle.osm_store.proofs.MapLemmas.PartLaws.{IsPartBefore}
+use Rattle.osm_rows.specs.Rows.{Placed, IsBefore}
+use Rattle.osm_rows.specs.TableRows.{Part}
+use Rattle.osm_rows.proofs.ListLemmas.NumberOrder.{numbers_below, numbers_tied}
+use Rattle.osm_rows.proofs.MapLemmas.PartLaws.{IsPartBefore}
 
 pub same_all : {A : Type 0} (xs : List A) → map (λ (x : A). x) xs ≡ xs
 same_all [] = refl

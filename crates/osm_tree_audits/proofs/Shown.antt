@@ -4,14 +4,14 @@ use Rattle.std.proofs.lemmas.List.Sorted.{IsPermutation-map, IsPermutation-refl}
 use Rattle.sqlite_value.specs.Order.{Row, column}
 use Rattle.sqlite_trees.specs.Tree.{Trees, has_rowid}
 use Rattle.sqlite_trees.proofs.ListLemmas.{filter-map}
-use Rattle.osm_store.specs.Audit.{is_at, seen, HasAt, ShowsBlob}
-use Rattle.osm_store.specs.declared.keeper.Extent.{Extent}
-use Rattle.osm_store.specs.declared.schema.layout.Layout.TheVariants.{Tables}
-use Rattle.osm_store.specs.Held.{Blob}
-use Rattle.osm_store.specs.Keeping.{extent_of}
-use Rattle.osm_store.specs.Rows.{placed, extent_row, extent_columns}
-use Rattle.osm_store.specs.TableRows.{element_row, tags_at, tag_row, links_at, link_row}
-use Rattle.osm_store.proofs.AuditLemmas.HeldRows.{filter_same}
+use Rattle.osm_rows.specs.Audit.{is_at, seen, HasAt, ShowsBlob}
+use Rattle.osm_rows.specs.declared.keeper.Extent.{Extent}
+use Rattle.osm_rows.specs.declared.schema.layout.Layout.TheVariants.{Tables}
+use Rattle.osm_rows.specs.Held.{Blob}
+use Rattle.osm_rows.specs.Keeping.{extent_of}
+use Rattle.osm_rows.specs.Rows.{placed, extent_row, extent_columns}
+use Rattle.osm_rows.specs.TableRows.{element_row, tags_at, tag_row, links_at, link_row}
+use Rattle.osm_rows.proofs.AuditLemmas.HeldRows.{filter_same}
 use Rattle.osm_tree_audits.specs.Auditing.{KeepsAt, KeepsBlob}
 use Rattle.osm_tree_audits.proofs.AtOffset.{equal_is}
 

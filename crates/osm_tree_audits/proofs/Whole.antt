@@ -18,19 +18,19 @@ use Rattle.sqlite_trees.proofs.ListLemmas.{all_weaker, all-map, all-flat_map, as
 use Rattle.sqlite_exec.proofs.PartitionLemmas.{sorted_from_ascending}
 use Rattle.osm_value.specs.declared.element.Element.{Element}
 use Rattle.osm_value.specs.Elements.{tags_of_element}
-use Rattle.osm_store.specs.Audit.{is_at, HasAt, HasCount, ShowsCounts, capped, counts_of, elements_held}
-use Rattle.osm_store.specs.declared.schema.layout.Layout.TheVariants.{Tables}
-use Rattle.osm_store.specs.Held.{HeldMap}
-use Rattle.osm_store.specs.Keeping.{extent_of, extents_of}
-use Rattle.osm_store.specs.LayoutHolding.{HasRows, HoldElements}
-use Rattle.osm_store.specs.Rows.{Placed, placed_in, extent_row}
-use Rattle.osm_store.specs.TableRows.{Part, parts, element_row, tag_row, link_row, links_of}
-use Rattle.osm_store.proofs.AuditLemmas.AllRows.{covers, elements_in, elements_of, count_elements, count_parts}
-use Rattle.osm_store.proofs.ListLemmas.NumberOrder.{numbers_below}
-use Rattle.osm_store.proofs.ListLemmas.SortedLists.{sorted_is}
-use Rattle.osm_store.proofs.MapLemmas.PartLaws.{parts_own}
-use Rattle.osm_store.proofs.MapLemmas.PlacedLaws.{Entry, entries_rise, within, here}
-use Rattle.osm_store.proofs.AuditLemmas.HeldRows.{filter_same}
+use Rattle.osm_rows.specs.Audit.{is_at, HasAt, HasCount, ShowsCounts, capped, counts_of, elements_held}
+use Rattle.osm_rows.specs.declared.schema.layout.Layout.TheVariants.{Tables}
+use Rattle.osm_rows.specs.Held.{HeldMap}
+use Rattle.osm_rows.specs.Keeping.{extent_of, extents_of}
+use Rattle.osm_rows.specs.LayoutHolding.{HasRows, HoldElements}
+use Rattle.osm_rows.specs.Rows.{Placed, placed_in, extent_row}
+use Rattle.osm_rows.specs.TableRows.{Part, parts, element_row, tag_row, link_row, links_of}
+use Rattle.osm_rows.proofs.AuditLemmas.AllRows.{covers, elements_in, elements_of, count_elements, count_parts}
+use Rattle.osm_rows.proofs.ListLemmas.NumberOrder.{numbers_below}
+use Rattle.osm_rows.proofs.ListLemmas.SortedLists.{sorted_is}
+use Rattle.osm_rows.proofs.MapLemmas.PartLaws.{parts_own}
+use Rattle.osm_rows.proofs.MapLemmas.PlacedLaws.{Entry, entries_rise, within, here}
+use Rattle.osm_rows.proofs.AuditLemmas.HeldRows.{filter_same}
 use Rattle.osm_tree_audits.specs.Auditing.{KeepsAt, KeepsBlob}
 use Rattle.osm_tree_audits.proofs.AtOffset.{equal_is}
 

@@ -4,10 +4,10 @@ use Rattle.std.specs.List.Sorted.{IsPermutation}
 use Rattle.sqlite_value.specs.Order.{Row}
 use Rattle.sqlite_trees.specs.Tree.{Trees, has_rowid}
 use Rattle.osm_value.specs.declared.element.Element.{Element}
-use Rattle.osm_store.specs.Audit.{is_at}
-use Rattle.osm_store.specs.declared.keeper.Extent.{Extent}
-use Rattle.osm_store.specs.Rows.{placed, extent_row}
-use Rattle.osm_store.specs.TableRows.{element_rows, tag_rows, link_rows}
+use Rattle.osm_rows.specs.Audit.{is_at}
+use Rattle.osm_rows.specs.declared.keeper.Extent.{Extent}
+use Rattle.osm_rows.specs.Rows.{placed, extent_row}
+use Rattle.osm_rows.specs.TableRows.{element_rows, tag_rows, link_rows}
 
 -- the rows of the table at this offset, without their rowids, are these, in any order
 abbrev pub KeepsAt : ℕ → List Row → List Row → Type 0

@@ -1,8 +1,8 @@
 -- The tables that have rows for the elements of a blob: those of elements, of tags and of links.
 use Rattle.std.specs.Prelude.{ℕ, List, [], ◌∷◌}
 use Rattle.sqlite_value.specs.Order.{Row}
-use Rattle.osm_store.specs.Rows.{Placed}
-use Rattle.osm_store.specs.TableRows.{element_rows, tag_rows, link_rows}
+use Rattle.osm_rows.specs.Rows.{Placed}
+use Rattle.osm_rows.specs.TableRows.{element_rows, tag_rows, link_rows}
 use Rattle.osm_tree_audits.specs.declared.tables.ElementTable.{ElementTable}
 use Rattle.osm_tree_audits.specs.declared.tables.ElementTable.TheVariants.{Elements, Tags, Links}
 

@@ -2,12 +2,12 @@
 
 ghost use Rattle.std.specs.Prelude.{◌≡◌, ◌<◌, false, length, slice_get, Some, IfSome, IfOk, IfErr, OnOk, MatchOption};
 ghost use Rattle.sqlite_trees.specs.View.{IsClean};
-ghost use Rattle.osm_store.specs.Keeping.{IsForeign};
+ghost use Rattle.osm_rows.specs.Keeping.{IsForeign};
 ghost use Rattle.osm_tree_audits.specs.Looking.{Looks};
 ghost use Rattle.osm_tree_audits.specs.Indexes.{AreWhole, IsWholeAdded};
 
 use crate::indexes::is_indexed;
-use osm_store::StoreFault;
+use osm_rows::StoreFault;
 use sqlite_schema::schema::Index;
 use sqlite_trees::store::Store;
 use std::alloc::Global;

@@ -2,14 +2,14 @@
 
 ghost use Rattle.std.specs.Prelude.{◌≡◌, ◌↔◌, false, length, IsTrue, IfOk, IfErr, OnOk};
 ghost use Rattle.sqlite_trees.specs.View.{IsClean};
-ghost use Rattle.osm_store.specs.Audit.{HasCount, ShowsCounts};
-ghost use Rattle.osm_store.specs.declared.schema.layout.Layout.TheVariants.{Tables};
-ghost use Rattle.osm_store.specs.Keeping.{IsForeign};
+ghost use Rattle.osm_rows.specs.Audit.{HasCount, ShowsCounts};
+ghost use Rattle.osm_rows.specs.declared.schema.layout.Layout.TheVariants.{Tables};
+ghost use Rattle.osm_rows.specs.Keeping.{IsForeign};
 ghost use Rattle.osm_tree_audits.specs.Looking.{Looks};
 ghost use Rattle.osm_tree_audits.specs.Looks.{IsCount, IsLook};
 
 use crate::look::Look;
-use osm_store::{Counts, StoreFault};
+use osm_rows::{Counts, StoreFault};
 use osm_tree_writes::fault_of;
 use osm_tree_writes::trees::BLOBS;
 use sqlite_trees::store::{Direction, Store};

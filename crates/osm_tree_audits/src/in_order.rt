@@ -4,7 +4,7 @@
 ghost use Rattle.std.specs.Prelude.{◌≡◌, false, length, IsSome, IsTrue, IfOk, IfErr, OnOk};
 ghost use Rattle.sqlite_trees.specs.View.{IsClean, StayLive};
 ghost use Rattle.sqlite_exec.specs.Loops.{left_of};
-ghost use Rattle.osm_store.specs.Keeping.{IsForeign};
+ghost use Rattle.osm_rows.specs.Keeping.{IsForeign};
 ghost use Rattle.osm_tree_audits.specs.Looking.{Looks};
 ghost use Rattle.osm_tree_audits.specs.declared.tables.ElementTable.{ElementTable as AnyTable};
 ghost use Rattle.osm_tree_audits.specs.ElementTables.{index_of, key_of, table_of};
@@ -12,7 +12,7 @@ ghost use Rattle.osm_tree_audits.specs.Looks.{IsInOrder};
 ghost use Rattle.osm_tree_audits.specs.Walking.{AreInOrder, IsAtNamed, Leads, all_reached, reached_alone};
 
 use crate::tables::ElementTable;
-use osm_store::StoreFault;
+use osm_rows::StoreFault;
 use osm_tree_writes::fault_of;
 use sqlite_trees::store::{Direction, Shape, Store};
 use sqlite_value::keys::Order;

@@ -2,12 +2,12 @@
 
 ghost use Rattle.std.specs.Prelude.{◌≡◌, false, drop, IfOk, IfErr, OnOk};
 ghost use Rattle.sqlite_trees.specs.View.{IsClean};
-ghost use Rattle.osm_store.specs.Keeping.{IsForeign};
+ghost use Rattle.osm_rows.specs.Keeping.{IsForeign};
 ghost use Rattle.osm_tree_audits.specs.Looking.{Looks};
 ghost use Rattle.osm_tree_audits.specs.Finding.{Finds};
 
 use crate::walk::{begin_walk, next_row};
-use osm_store::StoreFault;
+use osm_rows::StoreFault;
 use sqlite_exec::work::FromRow;
 use sqlite_trees::store::{Shape, Store};
 use sqlite_value::keys::Order;

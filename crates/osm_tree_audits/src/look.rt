@@ -3,14 +3,14 @@
 
 ghost use Rattle.std.specs.Prelude.{◌≡◌, false, IfOk, IfErr, OnOk};
 ghost use Rattle.sqlite_trees.specs.View.{IsClean};
-ghost use Rattle.osm_store.specs.Keeping.{IsForeign};
+ghost use Rattle.osm_rows.specs.Keeping.{IsForeign};
 ghost use Rattle.osm_tree_writes.specs.Putting.{IsIndexedStore};
 ghost use Rattle.osm_tree_audits.specs.Looking.{Looks};
 ghost use Rattle.osm_tree_audits.specs.Indexes.{IsWhole};
 ghost use Rattle.osm_tree_audits.specs.Looks.{IsLook, MatchLooked};
 
 use crate::indexes::{StoreIndex, counts_in_step, look_at, look_on};
-use osm_store::StoreFault;
+use osm_rows::StoreFault;
 use osm_tree_writes::trees::{
     ELEMENT_BY_ID, ELEMENT_KEY, ELEMENTS, LINK_KEY, LINKS, TAG_KEY, TAGS,
 };

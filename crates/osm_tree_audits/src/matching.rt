@@ -6,14 +6,14 @@ ghost use Rattle.sqlite.specs.Value.{owned};
 ghost use Rattle.sqlite.specs.Values.{bound, bound_value};
 ghost use Rattle.sqlite_value.specs.Order.{column};
 ghost use Rattle.sqlite_trees.specs.View.{IsClean};
-ghost use Rattle.osm_store.specs.Keeping.{IsForeign};
+ghost use Rattle.osm_rows.specs.Keeping.{IsForeign};
 ghost use Rattle.osm_tree_audits.specs.Looking.{Looks};
 ghost use Rattle.osm_tree_audits.specs.Walking.{Begins, IsWalkBy, reached_by};
 
 use crate::tables::ElementTable;
 use crate::values::is_integer;
 use crate::ways::{Way, next_by};
-use osm_store::{StoreFault, TableRow};
+use osm_rows::{StoreFault, TableRow};
 use sqlite_trees::store::Store;
 use sqlite_value::order::is_same;
 use sqlite_value::row::Row;

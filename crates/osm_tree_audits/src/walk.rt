@@ -6,11 +6,11 @@ ghost use Rattle.sqlite_value.specs.Order.{column};
 ghost use Rattle.sqlite_trees.specs.Tree.{from_key, rowid};
 ghost use Rattle.sqlite_trees.specs.View.{IsClean, StayLive};
 ghost use Rattle.sqlite_exec.specs.Loops.{left_of};
-ghost use Rattle.osm_store.specs.Keeping.{IsForeign};
+ghost use Rattle.osm_rows.specs.Keeping.{IsForeign};
 ghost use Rattle.osm_tree_audits.specs.Looking.{Looks};
 ghost use Rattle.osm_tree_audits.specs.Walking.{AreAmong, IsWalk, Leads, reached};
 
-use osm_store::StoreFault;
+use osm_rows::StoreFault;
 use osm_tree_writes::fault_of;
 use sqlite_trees::store::{Direction, Shape, Store};
 use sqlite_value::keys::Order;

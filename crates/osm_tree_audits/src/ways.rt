@@ -2,7 +2,7 @@
 
 ghost use Rattle.std.specs.Prelude.{◌≡◌, false, length, IsSome, IsTrue, IfOk, IfErr, OnOk};
 ghost use Rattle.sqlite_trees.specs.View.{IsClean, StayLive};
-ghost use Rattle.osm_store.specs.Keeping.{IsForeign};
+ghost use Rattle.osm_rows.specs.Keeping.{IsForeign};
 ghost use Rattle.osm_tree_audits.specs.Looking.{Looks};
 ghost use Rattle.osm_tree_audits.specs.ElementTables.{index_of, table_of};
 ghost use Rattle.osm_tree_audits.specs.Looks.{IsInOrder};
@@ -11,7 +11,7 @@ ghost use Rattle.osm_tree_audits.specs.Walking.{IsWalkBy, Leads, all_reached, re
 use crate::in_order::{begin_in_order, next_in_order};
 use crate::tables::ElementTable;
 use crate::walk::{begin_walk, next_row};
-use osm_store::StoreFault;
+use osm_rows::StoreFault;
 use sqlite_trees::store::{Shape, Store};
 use sqlite_value::keys::Order;
 use sqlite_value::row::Row;

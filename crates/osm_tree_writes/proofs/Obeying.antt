@@ -19,21 +19,21 @@ use Rattle.sqlite_catalog.specs.Listing.{Lists}
 use Rattle.pbf_frame.specs.declared.part.TheConstants.{MAX_OFFSET}
 use Rattle.osm_value.specs.Value.{Text, MemberValue}
 use Rattle.osm_value.specs.Elements.{info_of_element}
-use Rattle.osm_store.specs.declared.keeper.Extent.{Extent}
-use Rattle.osm_store.specs.declared.schema.layout.Layout.{Layout}
-use Rattle.osm_store.specs.declared.schema.layout.Layout.TheVariants.{Bodies, Tables}
-use Rattle.osm_store.specs.Schema.Layouts.{schema_of}
+use Rattle.osm_rows.specs.declared.keeper.Extent.{Extent}
+use Rattle.osm_rows.specs.declared.schema.layout.Layout.{Layout}
+use Rattle.osm_rows.specs.declared.schema.layout.Layout.TheVariants.{Bodies, Tables}
+use Rattle.osm_rows.specs.Schema.Layouts.{schema_of}
 use Rattle.sqlite_trees.specs.Objects.{catalog_tree}
-use Rattle.osm_store.specs.Held.{Blob, HeldMap}
-use Rattle.osm_store.specs.Keeping.{IsAddable, extent_of, extents_of, with_blob}
-use Rattle.osm_store.specs.LayoutHolding.{IsBlob, IsKept, HasRows, HoldElements, TablesHold}
-use Rattle.osm_store.specs.Rows.{Placed, extent_row, placed, placed_in, version_row}
-use Rattle.osm_store.specs.Schema.Bodies.{meta, blob as blobs}
-use Rattle.osm_store.specs.Schema.Tables.{element, tag, link, table_schema}
-use Rattle.osm_store.specs.TableRows.{Part, element_row, element_rows, flag, lat_of, lon_of, link_row, link_rows, links_at, tag_row, tag_rows, tags_at}
-use Rattle.osm_store.proofs.MapLemmas.OneMap.{element_before, rises, tags_rise, links_rise, one_map_of}
-use Rattle.osm_store.proofs.MapLemmas.OneMore.{unheld, inserted, more_elements, put_entry}
-use Rattle.osm_store.proofs.MapLemmas.PlacedLaws.{IsBefore, placed_in_rise}
+use Rattle.osm_rows.specs.Held.{Blob, HeldMap}
+use Rattle.osm_rows.specs.Keeping.{IsAddable, extent_of, extents_of, with_blob}
+use Rattle.osm_rows.specs.LayoutHolding.{IsBlob, IsKept, HasRows, HoldElements, TablesHold}
+use Rattle.osm_rows.specs.Rows.{Placed, extent_row, placed, placed_in, version_row}
+use Rattle.osm_rows.specs.Schema.Bodies.{meta, blob as blobs}
+use Rattle.osm_rows.specs.Schema.Tables.{element, tag, link, table_schema}
+use Rattle.osm_rows.specs.TableRows.{Part, element_row, element_rows, flag, lat_of, lon_of, link_row, link_rows, links_at, tag_row, tag_rows, tags_at}
+use Rattle.osm_rows.proofs.MapLemmas.OneMap.{element_before, rises, tags_rise, links_rise, one_map_of}
+use Rattle.osm_rows.proofs.MapLemmas.OneMore.{unheld, inserted, more_elements, put_entry}
+use Rattle.osm_rows.proofs.MapLemmas.PlacedLaws.{IsBefore, placed_in_rise}
 use Rattle.osm_tree_writes.specs.Beside.{HasAStore}
 use Rattle.osm_tree_writes.specs.Putting.{AreTables, IsIndexedStore, PutsBelow, TreesHold}
 use Rattle.osm_tree_writes.proofs.RowKeys.{no_clashes}

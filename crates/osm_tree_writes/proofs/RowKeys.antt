@@ -20,9 +20,9 @@ use Rattle.sqlite_schema.specs.Rules.{equal, differ, agree, clashes}
 use Rattle.sqlite_trees.specs.Tree.{IsAscending, rowid}
 use Rattle.sqlite_trees.specs.View.{is_int}
 use Rattle.sqlite_trees.proofs.ListLemmas.{all_weaker, all_both, ascending_weaker, ascending_from_map}
-use Rattle.osm_store.specs.LayoutHolding.{HasRows}
-use Rattle.osm_store.proofs.ListLemmas.CompareLemmas as compare
-use Rattle.osm_store.proofs.MapLemmas.OneMap.{Precedes}
+use Rattle.osm_rows.specs.LayoutHolding.{HasRows}
+use Rattle.osm_rows.proofs.ListLemmas.CompareLemmas as compare
+use Rattle.osm_rows.proofs.MapLemmas.OneMap.{Precedes}
 
 first_false : (a b : Bool) → a ≡ false → (a && b) ≡ false
 first_false a b unlike = ap (λ t. t && b) unlike

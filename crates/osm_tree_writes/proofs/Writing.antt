@@ -15,11 +15,11 @@ use Rattle.sqlite_exec.specs.Calls.{OnlyReads}
 use Rattle.sqlite_sql.specs.Catalog.{IsIndexOf}
 use Rattle.sqlite_schema.specs.declared.schema.Index.{Index as AddedIndex}
 use Rattle.sqlite_trees.proofs.ListLemmas.{all_weaker}
-use Rattle.osm_store.specs.declared.keeper.Extent.{Extent}
-use Rattle.osm_store.specs.Rows.{Placed, extent_row}
-use Rattle.osm_store.specs.TableRows.{Part, element_row, tag_row, link_row, tags_at, links_at, element_rows, tag_rows, link_rows}
-use Rattle.osm_store.specs.Put.Steps.{Gains}
-use Rattle.osm_store.proofs.PutLemmas.RowSteps.{gains_then}
+use Rattle.osm_rows.specs.declared.keeper.Extent.{Extent}
+use Rattle.osm_rows.specs.Rows.{Placed, extent_row}
+use Rattle.osm_rows.specs.TableRows.{Part, element_row, tag_row, link_row, tags_at, links_at, element_rows, tag_rows, link_rows}
+use Rattle.osm_rows.specs.Put.Gains.{Gains}
+use Rattle.osm_rows.proofs.PutLemmas.Gaining.{gains_then}
 use Rattle.osm_tree_writes.specs.declared.layout.TheConstants.{ELEMENTS, TAGS, LINKS}
 use Rattle.osm_tree_writes.specs.Appending.{IsStoreAt, AreBehind, AreIndexesAt, IsApartOf, IsBehind, IsNoIndex, KeepIndexed, RiseFrom, Appends}
 use Rattle.osm_tree_writes.proofs.AppendLemmas.{with_same, with_other, kept_more}

@@ -2,9 +2,9 @@
 use Rattle.std.specs.Prelude.{◌≡◌, ◌⊎◌, List, take}
 use Rattle.sqlite_value.specs.Order.{Row}
 use Rattle.sqlite_catalog.specs.Listing.{Lists}
-use Rattle.osm_store.specs.declared.schema.layout.Layout.{Layout}
-use Rattle.osm_store.specs.declared.schema.layout.Layout.TheVariants.{Bodies, Tables}
-use Rattle.osm_store.specs.Schema.Layouts.{schema_of}
+use Rattle.osm_rows.specs.declared.schema.layout.Layout.{Layout}
+use Rattle.osm_rows.specs.declared.schema.layout.Layout.TheVariants.{Bodies, Tables}
+use Rattle.osm_rows.specs.Schema.Layouts.{schema_of}
 use Rattle.osm_tree_writes.specs.Tables.{table_listings}
 
 -- the list has the trees of a store that keeps elements in tables, and nothing else

@@ -2,8 +2,8 @@
 use Rattle.std.specs.Prelude.{ℕ, Result, OnErr, IfErr}
 use Rattle.sqlite_trees.specs.Tree.{Trees}
 use Rattle.sqlite_trees.specs.View.{View, IsClean, IsQuiet, KeepsSchema, KeepsCommitted}
-use Rattle.osm_faults.specs.declared.fault.StoreFault.{StoreFault}
-use Rattle.osm_store.specs.Keeping.{IsForeign}
+use Rattle.osm_rows.specs.declared.fault.StoreFault.{StoreFault}
+use Rattle.osm_rows.specs.Keeping.{IsForeign}
 
 -- A failure keeps what the last commit left, the trees have the shapes that they had, a fault isn't that of another store's
 -- tables, and none of the disk's is forgotten.

@@ -8,16 +8,16 @@ use Rattle.sqlite_trees.specs.View.{View, IsShaped}
 use Rattle.sqlite_sql.specs.Catalog.{IsIndexOf}
 use Rattle.sqlite_schema.specs.declared.schema.Index.{Index}
 use Rattle.sqlite_schema.specs.Rules.{Obeys}
-use Rattle.osm_store.specs.declared.keeper.Extent.{Extent}
-use Rattle.osm_store.specs.declared.schema.layout.Layout.{Layout}
-use Rattle.osm_store.specs.declared.schema.layout.Layout.TheVariants.{Tables}
-use Rattle.osm_store.specs.Schema.Layouts.{schema_of}
-use Rattle.osm_store.specs.Schema.Tables.{table_schema}
-use Rattle.osm_store.specs.Held.{HeldMap}
-use Rattle.osm_store.specs.Keeping.{extents_of}
-use Rattle.osm_store.specs.LayoutHolding.{HoldElements}
-use Rattle.osm_store.specs.Rows.{Placed, extent_row, placed_in, version_row}
-use Rattle.osm_store.specs.Put.Steps.{GainsElements}
+use Rattle.osm_rows.specs.declared.keeper.Extent.{Extent}
+use Rattle.osm_rows.specs.declared.schema.layout.Layout.{Layout}
+use Rattle.osm_rows.specs.declared.schema.layout.Layout.TheVariants.{Tables}
+use Rattle.osm_rows.specs.Schema.Layouts.{schema_of}
+use Rattle.osm_rows.specs.Schema.Tables.{table_schema}
+use Rattle.osm_rows.specs.Held.{HeldMap}
+use Rattle.osm_rows.specs.Keeping.{extents_of}
+use Rattle.osm_rows.specs.LayoutHolding.{HoldElements}
+use Rattle.osm_rows.specs.Rows.{Placed, extent_row, placed_in, version_row}
+use Rattle.osm_rows.specs.Put.Gains.{GainsElements}
 use Rattle.osm_added_indexes.specs.Added.{plain_indexes}
 use Rattle.osm_tree_writes.specs.Appending.{IsNoIndex, KeepIndexed}
 use Rattle.osm_tree_writes.specs.Beside.{HasAStore}

@@ -14,7 +14,7 @@ ghost use Rattle.osm_tree_writes.specs.Harmless.{IsHarmless};
 use crate::fault::fault_of;
 use crate::layout::{IndexTree, TableTree};
 use crate::rowid::next_rowid;
-use osm_store::{StoreFault, TableRow};
+use osm_rows::{StoreFault, TableRow};
 use sqlite_schema::schema::Index;
 use sqlite_trees::store::{Shape, Store};
 use sqlite_value::row::Row;

@@ -1,10 +1,10 @@
 //! What a failure of the trees means for the store.
 
 ghost use Rattle.std.specs.Prelude.{◌≡◌};
-ghost use Rattle.osm_store.specs.Keeping.{IsForeign};
+ghost use Rattle.osm_rows.specs.Keeping.{IsForeign};
 ghost use Rattle.osm_tree_writes.specs.Faults.{fault_of};
 
-use osm_store::StoreFault;
+use osm_rows::StoreFault;
 use sqlite_trees::error::StoreError;
 
 /// What a failure of the trees means for the store: memory was refused, there was no room, or the disk failed.

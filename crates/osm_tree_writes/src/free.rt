@@ -8,7 +8,7 @@ ghost use Rattle.osm_tree_writes.specs.Harmless.{IsHarmless};
 
 use crate::fault::fault_of;
 use crate::layout::{ELEMENTS, IndexTree, LINKS, TAGS};
-use osm_store::StoreFault;
+use osm_rows::StoreFault;
 use pbf_frame::MAX_OFFSET;
 use sqlite_trees::store::{Direction, Store};
 use sqlite_value::keys::Order;

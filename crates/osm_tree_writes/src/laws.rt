@@ -4,12 +4,12 @@ ghost use Rattle.std.specs.Prelude.{◌≡◌, ◌<◌, ◌≤◌, [], ◌∷◌
 ghost use Rattle.sqlite_trees.specs.Tree.{Trees};
 ghost use Rattle.sqlite_schema.specs.Rules.{Obeys};
 ghost use Rattle.pbf_frame.specs.declared.part.TheConstants.{MAX_OFFSET};
-ghost use Rattle.osm_store.specs.declared.schema.layout.Layout.TheVariants.{Tables};
-ghost use Rattle.osm_store.specs.Schema.Tables.{table_schema};
-ghost use Rattle.osm_store.specs.Held.{Blob, HeldMap};
-ghost use Rattle.osm_store.specs.Keeping.{IsAddable, extent_of, extents_of, with_blob};
-ghost use Rattle.osm_store.specs.LayoutHolding.{IsBlob, IsKept, HoldElements};
-ghost use Rattle.osm_store.specs.Rows.{extent_row, placed, placed_in, version_row};
+ghost use Rattle.osm_rows.specs.declared.schema.layout.Layout.TheVariants.{Tables};
+ghost use Rattle.osm_rows.specs.Schema.Tables.{table_schema};
+ghost use Rattle.osm_rows.specs.Held.{Blob, HeldMap};
+ghost use Rattle.osm_rows.specs.Keeping.{IsAddable, extent_of, extents_of, with_blob};
+ghost use Rattle.osm_rows.specs.LayoutHolding.{IsBlob, IsKept, HoldElements};
+ghost use Rattle.osm_rows.specs.Rows.{extent_row, placed, placed_in, version_row};
 ghost use Rattle.osm_tree_writes.specs.Putting.{AreTables, IsIndexedStore, PutsBelow, TreesHold};
 
 /// Trees that have the rows of a map, and in each index an entry for each row, obey the schema of a store: each value has its

@@ -7,7 +7,7 @@ ghost use Rattle.osm_tree_writes.specs.Appending.{IsAfter};
 ghost use Rattle.osm_tree_writes.specs.Harmless.{IsHarmless};
 
 use crate::fault::fault_of;
-use osm_store::StoreFault;
+use osm_rows::StoreFault;
 use sqlite_exec::write::last;
 use sqlite_trees::store::{Shape, Store};
 use sqlite_value::row::Row;

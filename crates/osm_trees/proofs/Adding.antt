@@ -9,13 +9,13 @@ use Rattle.sqlite_trees.specs.View.{doubt, IsClean}
 use Rattle.sqlite_trees.specs.Objects.{catalog_tree}
 use Rattle.pbf_frame.specs.declared.part.TheConstants.{MAX_OFFSET}
 use Rattle.osm_value.specs.Elements.{IsElement}
-use Rattle.osm_faults.specs.declared.fault.StoreFault.{StoreFault}
-use Rattle.osm_store.specs.declared.schema.layout.Layout.TheVariants.{Tables}
-use Rattle.osm_store.specs.Held.{Blob, HeldMap}
-use Rattle.osm_store.specs.Keeping.{IsAddable, IsForeign, extent_of, failures_after, with_blob}
-use Rattle.osm_store.specs.LayoutHolding.{IsBlob, IsKept}
-use Rattle.osm_store.specs.Rows.{placed}
-use Rattle.osm_store.proofs.MapLemmas.OneMore.{kept_more}
+use Rattle.osm_rows.specs.declared.fault.StoreFault.{StoreFault}
+use Rattle.osm_rows.specs.declared.schema.layout.Layout.TheVariants.{Tables}
+use Rattle.osm_rows.specs.Held.{Blob, HeldMap}
+use Rattle.osm_rows.specs.Keeping.{IsAddable, IsForeign, extent_of, failures_after, with_blob}
+use Rattle.osm_rows.specs.LayoutHolding.{IsBlob, IsKept}
+use Rattle.osm_rows.specs.Rows.{placed}
+use Rattle.osm_rows.proofs.MapLemmas.OneMore.{kept_more}
 use Rattle.osm_tree_writes.specs.Putting.{PutsBelow, TreesHold}
 use Rattle.osm_tree_writes.proofs.Obeying.{hold_with, one_map_below}
 use Rattle.osm_trees.specs.Below.{HoldsBelow, IsUsable, MayLeave, LeavesAMap, ListsAlways}

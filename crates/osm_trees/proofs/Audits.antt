@@ -11,20 +11,20 @@ use Rattle.sqlite_trees.specs.View.{View}
 use Rattle.sqlite_trees.proofs.ListLemmas.{filter-map}
 use Rattle.osm_value.specs.declared.element.Element.{Element}
 use Rattle.osm_value.specs.Elements.{tags_of_element}
-use Rattle.osm_store.specs.declared.audit.counts.Counts.{Counts}
-use Rattle.osm_faults.specs.declared.fault.StoreFault.{StoreFault}
-use Rattle.osm_store.specs.declared.keeper.Extent.{Extent}
-use Rattle.osm_store.specs.declared.schema.layout.Layout.TheVariants.{Tables}
-use Rattle.osm_store.specs.Audit.{AreCountable, IsPlain, ShowsCounts, counts_of, elements_held}
-use Rattle.osm_store.specs.Held.{Blob, HeldMap}
-use Rattle.osm_store.specs.Keeping.{extent_of, extents_of}
-use Rattle.osm_store.specs.Rows.{Placed, placed_in, extent_row}
-use Rattle.osm_store.specs.Schema.Tables.{table_schema}
-use Rattle.osm_store.specs.TableRows.{element_row, tags_at, tag_row, links_at, links_of, link_row}
-use Rattle.osm_store.proofs.AuditLemmas.HeldRows.{filter_same, shown_at, entry_at, extents_at, HasRowsOf, shown_held, held_counted}
-use Rattle.osm_store.proofs.ListLemmas.CompareLemmas.{same_number}
-use Rattle.osm_store.proofs.MapLemmas.HeldLemmas.{placed_at}
-use Rattle.osm_store.proofs.MapLemmas.TableHeld.{parts_of_blob}
+use Rattle.osm_rows.specs.declared.audit.counts.Counts.{Counts}
+use Rattle.osm_rows.specs.declared.fault.StoreFault.{StoreFault}
+use Rattle.osm_rows.specs.declared.keeper.Extent.{Extent}
+use Rattle.osm_rows.specs.declared.schema.layout.Layout.TheVariants.{Tables}
+use Rattle.osm_rows.specs.Audit.{AreCountable, IsPlain, ShowsCounts, counts_of, elements_held}
+use Rattle.osm_rows.specs.Held.{Blob, HeldMap}
+use Rattle.osm_rows.specs.Keeping.{extent_of, extents_of}
+use Rattle.osm_rows.specs.Rows.{Placed, placed_in, extent_row}
+use Rattle.osm_rows.specs.Schema.Tables.{table_schema}
+use Rattle.osm_rows.specs.TableRows.{element_row, tags_at, tag_row, links_at, links_of, link_row}
+use Rattle.osm_rows.proofs.AuditLemmas.HeldRows.{filter_same, shown_at, entry_at, extents_at, HasRowsOf, shown_held, held_counted}
+use Rattle.osm_rows.proofs.ListLemmas.CompareLemmas.{same_number}
+use Rattle.osm_rows.proofs.MapLemmas.HeldLemmas.{placed_at}
+use Rattle.osm_rows.proofs.MapLemmas.TableHeld.{parts_of_blob}
 use Rattle.osm_tree_writes.specs.Putting.{IsIndexedStore, TreesHold}
 use Rattle.osm_tree_audits.specs.Auditing.{KeepsBlob}
 use Rattle.osm_tree_audits.specs.Looks.{IsLook}

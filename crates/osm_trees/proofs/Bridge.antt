@@ -3,9 +3,9 @@ use Rattle.std.proofs.Common.{◌≡◌, false, ap}
 use Rattle.sqlite_trees.specs.declared.store.Store.{Ghosts}
 use Rattle.sqlite.specs.Effect.{Database}
 use Rattle.sqlite.specs.Held.{Held, state}
-use Rattle.osm_store.specs.declared.schema.layout.Layout.{Layout}
-use Rattle.osm_store.specs.Held.{HeldMap}
-use Rattle.osm_store.specs.LayoutHolding.{Holds}
+use Rattle.osm_rows.specs.declared.schema.layout.Layout.{Layout}
+use Rattle.osm_rows.specs.Held.{HeldMap}
+use Rattle.osm_rows.specs.LayoutHolding.{Holds}
 use Rattle.osm_tree_writes.proofs.Obeying.{one_map_below, trees_of}
 use Rattle.osm_trees.specs.Below.{HoldsBelow}
 

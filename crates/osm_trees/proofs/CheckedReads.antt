@@ -1,7 +1,7 @@
 -- A read of the trees is one of a store of them whose indexes were looked at.
 use Rattle.std.proofs.Common.{◌≡◌, false, IsTrue, Result, Ok, Err, refl, subst}
 use Rattle.sqlite_trees.specs.declared.store.Store.{Ghosts}
-use Rattle.osm_faults.specs.declared.fault.StoreFault.{StoreFault}
+use Rattle.osm_rows.specs.declared.fault.StoreFault.{StoreFault}
 use Rattle.osm_tree_audits.specs.declared.look.Look.{Look}
 use Rattle.osm_trees.specs.Reading.{JustReads, Reading, open_of}
 use Rattle.osm_trees.specs.Checking.{Checking, JustReadsChecked, same_look}

@@ -14,10 +14,10 @@ use Rattle.sqlite_value.proofs.OrderLemmas.{value_cmp-Int}
 use Rattle.sqlite_trees.specs.Tree.{IsAscending, IsTable, up_to_key}
 use Rattle.sqlite_trees.proofs.ListLemmas.{all_of, all_weaker, all-permutation, ascending-append, ascending-filter, filter-map, filter_all, filter_none, filter_same}
 use Rattle.sqlite_trees.proofs.TreeLemmas.{prefix_cmp-one, sorted_table, up_to_key-filter}
-use Rattle.osm_store.specs.declared.keeper.Extent.{Extent}
-use Rattle.osm_store.specs.Keeping.{AscendApart, IsRange, touches}
-use Rattle.osm_store.specs.LayoutHolding.{IsKeptExtent}
-use Rattle.osm_store.specs.Rows.{extent_row}
+use Rattle.osm_rows.specs.declared.keeper.Extent.{Extent}
+use Rattle.osm_rows.specs.Keeping.{AscendApart, IsRange, touches}
+use Rattle.osm_rows.specs.LayoutHolding.{IsKeptExtent}
+use Rattle.osm_rows.specs.Rows.{extent_row}
 
 -- ---- lists in reverse
 

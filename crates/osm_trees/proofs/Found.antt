@@ -9,7 +9,7 @@ use Rattle.sqlite_trees.specs.View.{IsShaped}
 use Rattle.sqlite_trees.proofs.ListLemmas.{IsPermutation-filter, ascending-filter, ascending_weaker}
 use Rattle.sqlite_sql.specs.Catalog.{IsIndexOf}
 use Rattle.sqlite_exec.specs.Plan.{resolved}
-use Rattle.osm_store.specs.LayoutHolding.{HasRows}
+use Rattle.osm_rows.specs.LayoutHolding.{HasRows}
 use Rattle.osm_tree_audits.specs.Finding.{starts}
 use Rattle.osm_tree_audits.proofs.Found.{begins, filter_mapped}
 use Rattle.osm_tree_audits.proofs.Found as index

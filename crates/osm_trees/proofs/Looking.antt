@@ -2,8 +2,8 @@
 use Rattle.std.proofs.Common.{◌≡◌, false, sym, ap, subst, ◌∙◌}
 use Rattle.sqlite_trees.specs.View.{View, IsClean}
 use Rattle.sqlite_exec.specs.Calls.{OnlyReads}
-use Rattle.osm_store.specs.declared.schema.layout.Layout.{Layout}
-use Rattle.osm_store.specs.Held.{HeldMap}
+use Rattle.osm_rows.specs.declared.schema.layout.Layout.{Layout}
+use Rattle.osm_rows.specs.Held.{HeldMap}
 use Rattle.osm_tree_writes.specs.Putting.{TreesHold}
 use Rattle.osm_trees.specs.Below.{HoldsBelow}
 

@@ -4,8 +4,8 @@ use Rattle.sqlite_trees.specs.declared.store.Store.{Ghosts}
 use Rattle.sqlite_trees.specs.Tree.{Trees}
 use Rattle.sqlite_trees.specs.View.{View, IsClean, IsRolledBack}
 use Rattle.sqlite_exec.specs.Calls.{OnlyReads}
-use Rattle.osm_store.specs.declared.schema.layout.Layout.{Layout}
-use Rattle.osm_store.specs.Held.{HeldMap}
+use Rattle.osm_rows.specs.declared.schema.layout.Layout.{Layout}
+use Rattle.osm_rows.specs.Held.{HeldMap}
 use Rattle.osm_tree_writes.specs.Putting.{TreesHold}
 use Rattle.osm_tree_audits.specs.Looking.{Looks}
 use Rattle.osm_trees.specs.Below.{HoldsBelow, Mends, SameTrees}

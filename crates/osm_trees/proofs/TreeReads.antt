@@ -14,20 +14,20 @@ use Rattle.sqlite_trees.specs.View.{is_int}
 use Rattle.sqlite_trees.proofs.ListLemmas.{all-filter, ascending-filter, ascending-map, ascending_weaker}
 use Rattle.osm_value.specs.declared.element.MemberKind.{MemberKind}
 use Rattle.osm_value.specs.Elements.{tags_of_element, kind_of_element, id_of_element, info_of_element}
-use Rattle.osm_store.specs.declared.load.tables.rows.TableRows.{TableRows}
-use Rattle.osm_store.specs.declared.schema.layout.Layout.TheVariants.{Tables}
-use Rattle.osm_store.specs.Flags.{has_flag, has_flags}
-use Rattle.osm_store.specs.Held.{HeldMap}
-use Rattle.osm_store.specs.LayoutHolding.{IsKept}
-use Rattle.osm_store.specs.Load.TableAnswers.{AreRowsOf}
-use Rattle.osm_store.specs.Load.TableParts.{is_part_at, IsAlone}
-use Rattle.osm_store.specs.Rows.{Placed, IsBefore, element_code, is_in, is_of, placed_in}
-use Rattle.osm_store.specs.TableRows.{flag, element_row, element_rows, tags_at, tag_row, tag_rows, links_of, links_at, link_row, link_rows}
-use Rattle.osm_store.proofs.ListLemmas.SortedLists.{sorted_is}
-use Rattle.osm_store.proofs.MapLemmas.PlacedLaws.{placed_in_rise}
-use Rattle.osm_store.proofs.MapLemmas.PartLaws.{IsPartBefore, all_parts_rise}
-use Rattle.osm_store.proofs.MapLemmas.TableHeld.{parts_of_blob}
-use Rattle.osm_store.proofs.MapLemmas.StoredElements.{all_stored}
+use Rattle.osm_rows.specs.declared.load.tables.rows.TableRows.{TableRows}
+use Rattle.osm_rows.specs.declared.schema.layout.Layout.TheVariants.{Tables}
+use Rattle.osm_rows.specs.Flags.{has_flag, has_flags}
+use Rattle.osm_rows.specs.Held.{HeldMap}
+use Rattle.osm_rows.specs.LayoutHolding.{IsKept}
+use Rattle.osm_rows.specs.Load.TableAnswers.{AreRowsOf}
+use Rattle.osm_rows.specs.Load.TableParts.{is_part_at, IsAlone}
+use Rattle.osm_rows.specs.Rows.{Placed, IsBefore, element_code, is_in, is_of, placed_in}
+use Rattle.osm_rows.specs.TableRows.{flag, element_row, element_rows, tags_at, tag_row, tag_rows, links_of, links_at, link_row, link_rows}
+use Rattle.osm_rows.proofs.ListLemmas.SortedLists.{sorted_is}
+use Rattle.osm_rows.proofs.MapLemmas.PlacedLaws.{placed_in_rise}
+use Rattle.osm_rows.proofs.MapLemmas.PartLaws.{IsPartBefore, all_parts_rise}
+use Rattle.osm_rows.proofs.MapLemmas.TableHeld.{parts_of_blob}
+use Rattle.osm_rows.proofs.MapLemmas.StoredElements.{all_stored}
 use Rattle.osm_tree_writes.specs.Putting.{TreesHold}
 use Rattle.osm_tree_audits.specs.Finding.{Finds}
 use Rattle.osm_tree_audits.proofs.Orders.{same_all, by_place, by_part, elements_rise, parts_rise}

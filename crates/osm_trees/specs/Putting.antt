@@ -4,10 +4,10 @@ use Rattle.sqlite_trees.specs.declared.store.Store.{Ghosts}
 use Rattle.sqlite_trees.specs.Tree.{Trees}
 use Rattle.sqlite_trees.specs.Objects.{catalog_tree}
 use Rattle.sqlite_trees.specs.View.{IsClean}
-use Rattle.osm_faults.specs.declared.fault.StoreFault.{StoreFault}
-use Rattle.osm_store.specs.declared.schema.layout.Layout.TheVariants.{Tables}
-use Rattle.osm_store.specs.Held.{Blob}
-use Rattle.osm_store.specs.Keeping.{Adds}
+use Rattle.osm_rows.specs.declared.fault.StoreFault.{StoreFault}
+use Rattle.osm_rows.specs.declared.schema.layout.Layout.TheVariants.{Tables}
+use Rattle.osm_rows.specs.Held.{Blob}
+use Rattle.osm_rows.specs.Keeping.{Adds}
 use Rattle.osm_added_indexes.specs.Added.{plain_indexes}
 use Rattle.osm_tree_writes.specs.Appending.{KeepIndexed}
 use Rattle.osm_trees.specs.Below.{HoldsBelow, IsUsable, MayLeave, LeavesAMap, SameTrees, ListsAlways}

@@ -6,11 +6,11 @@ use Rattle.sqlite_trees.specs.declared.store.Store.{Ghosts}
 use Rattle.sqlite_trees.specs.Objects.{catalog_tree}
 use Rattle.sqlite_trees.specs.Tree.{Trees}
 use Rattle.sqlite_trees.specs.View.{View, IsClean}
-use Rattle.osm_faults.specs.declared.fault.StoreFault.{StoreFault}
-use Rattle.osm_store.specs.declared.schema.layout.Layout.TheVariants.{Tables}
-use Rattle.osm_store.specs.Held.{HeldMap}
-use Rattle.osm_store.specs.Keeping.{OnlyReads}
-use Rattle.osm_store.specs.LayoutHolding.{IsKept}
+use Rattle.osm_rows.specs.declared.fault.StoreFault.{StoreFault}
+use Rattle.osm_rows.specs.declared.schema.layout.Layout.TheVariants.{Tables}
+use Rattle.osm_rows.specs.Held.{HeldMap}
+use Rattle.osm_rows.specs.Keeping.{OnlyReads}
+use Rattle.osm_rows.specs.LayoutHolding.{IsKept}
 use Rattle.osm_tree_writes.specs.Putting.{IsIndexedStore, TreesHold}
 use Rattle.osm_trees.specs.Below.{HoldsBelow, IsUsable, MayLeave, LeavesAMap, ListsAlways, SameTrees, IsIndexed}
 

@@ -3,7 +3,7 @@
 ghost use Rattle.std.specs.Prelude.{◌≡◌};
 
 use crate::TreeStore;
-use osm_store::{Audited, Counts, Extent, Found, Loaded, Reader, StoreFault};
+use osm_rows::{Audited, Counts, Extent, Found, Loaded, Reader, StoreFault};
 use osm_tree_audits::Look;
 use osm_value::{Element, MemberKind};
 use pbf_frame::Kind;
@@ -53,8 +53,8 @@ impl<S: Store> CheckedStore<S> {
 
 impl<S: Store> Reader for CheckedStore<S> {
     ghost use Rattle.sqlite_trees.specs.View.{IsClean};
-    ghost use Rattle.osm_store.specs.declared.schema.layout.Layout.TheVariants.{Tables};
-    ghost use Rattle.osm_store.specs.StoreLaws.{few_texts_of, open_or_shut};
+    ghost use Rattle.osm_rows.specs.declared.schema.layout.Layout.TheVariants.{Tables};
+    ghost use Rattle.osm_rows.specs.StoreLaws.{few_texts_of, open_or_shut};
     ghost use Rattle.osm_trees.specs.Below.{IsUsable, MayLeave, LeavesAMap, ListsAlways};
     ghost use Rattle.osm_trees.specs.Reading.{leaves_held_alone, leaves_held};
     ghost use Rattle.osm_trees.specs.Checking.{HoldsChecked, SameChecked, same_seen_next, same_seen_self};
@@ -121,8 +121,8 @@ impl<S: Store> Reader for CheckedStore<S> {
 
 /// Rows are found by the indexes, which are whole, or by their order alone where they were seen to stand in that of a key.
 impl<S: Store> Audited for CheckedStore<S> {
-    ghost use Rattle.osm_store.specs.declared.schema.layout.Layout.TheVariants.{Tables};
-    ghost use Rattle.osm_store.specs.Keeping.{extent_of};
+    ghost use Rattle.osm_rows.specs.declared.schema.layout.Layout.TheVariants.{Tables};
+    ghost use Rattle.osm_rows.specs.Keeping.{extent_of};
     ghost use Rattle.osm_tree_audits.specs.Auditing.{KeepsBlob};
     ghost use Rattle.osm_tree_audits.proofs.Shown.{blob_shown};
     ghost use Rattle.osm_trees.specs.Checking.{HasWholeIndexes, whole_after};

@@ -4,17 +4,17 @@ ghost use Rattle.std.specs.Prelude.{◌≡◌, ◌<◌, ◌≤◌, ◌-◌, pos,
 ghost use Rattle.sqlite_value.specs.declared.value.Value.TheVariants.{Int};
 ghost use Rattle.sqlite_trees.specs.View.{IsClean, IsQuiet};
 ghost use Rattle.sqlite_exec.specs.Calls.{OnlyReads};
-ghost use Rattle.osm_store.specs.declared.keeper.Extent.{Extent as Held};
-ghost use Rattle.osm_store.specs.declared.schema.layout.Layout.{Layout};
-ghost use Rattle.osm_store.specs.Held.{HeldMap};
-ghost use Rattle.osm_store.specs.Keeping.{IsForeign, IsRange, AscendApart, extents_of, touches};
-ghost use Rattle.osm_store.specs.LayoutHolding.{IsKeptExtent};
-ghost use Rattle.osm_store.specs.Rows.{extent_row};
+ghost use Rattle.osm_rows.specs.declared.keeper.Extent.{Extent as Held};
+ghost use Rattle.osm_rows.specs.declared.schema.layout.Layout.{Layout};
+ghost use Rattle.osm_rows.specs.Held.{HeldMap};
+ghost use Rattle.osm_rows.specs.Keeping.{IsForeign, IsRange, AscendApart, extents_of, touches};
+ghost use Rattle.osm_rows.specs.LayoutHolding.{IsKeptExtent};
+ghost use Rattle.osm_rows.specs.Rows.{extent_row};
 ghost use Rattle.osm_tree_audits.specs.Looking.{Looks};
 ghost use Rattle.osm_trees.specs.Below.{HoldsBelow};
 
 use crate::row::extent_of;
-use osm_store::{Extent, StoreFault, are_apart};
+use osm_rows::{Extent, StoreFault, are_apart};
 use osm_tree_writes::fault_of;
 use osm_tree_writes::trees::BLOBS;
 use pbf_frame::MAX_OFFSET;

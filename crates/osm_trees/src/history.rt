@@ -4,14 +4,14 @@ ghost use Rattle.std.specs.Prelude.{◌≡◌, false, IfOk, IfErr, OnOk, MatchRe
 ghost use Rattle.std.specs.List.{list_any};
 ghost use Rattle.sqlite_trees.specs.View.{IsClean, IsQuiet};
 ghost use Rattle.sqlite_exec.specs.Calls.{OnlyReads};
-ghost use Rattle.osm_store.specs.declared.schema.layout.Layout.TheVariants.{Tables};
-ghost use Rattle.osm_store.specs.Flags.{has_flags};
-ghost use Rattle.osm_store.specs.Held.{HeldMap};
-ghost use Rattle.osm_store.specs.Keeping.{IsForeign};
+ghost use Rattle.osm_rows.specs.declared.schema.layout.Layout.TheVariants.{Tables};
+ghost use Rattle.osm_rows.specs.Flags.{has_flags};
+ghost use Rattle.osm_rows.specs.Held.{HeldMap};
+ghost use Rattle.osm_rows.specs.Keeping.{IsForeign};
 ghost use Rattle.osm_tree_audits.specs.Looking.{Looks};
 ghost use Rattle.osm_trees.specs.Below.{HoldsBelow, is_flagged};
 
-use osm_store::StoreFault;
+use osm_rows::StoreFault;
 use osm_tree_writes::fault_of;
 use osm_tree_writes::trees::ELEMENTS;
 use sqlite_trees::store::{Direction, Store};

@@ -5,16 +5,16 @@ ghost use Rattle.sqlite_trees.specs.Objects.{catalog_tree};
 ghost use Rattle.sqlite_catalog.specs.Listing.{Lists};
 ghost use Rattle.sqlite.specs.Held.{state};
 ghost use Rattle.sqlite.specs.State.{HasCleanDisk, IsLive, Opens};
-ghost use Rattle.osm_store.specs.declared.schema.layout.Layout.{Layout};
-ghost use Rattle.osm_store.specs.declared.schema.layout.Layout.TheVariants.{Tables};
-ghost use Rattle.osm_store.specs.Schema.Tables.{table_schema};
-ghost use Rattle.osm_store.specs.Held.{HeldMap};
-ghost use Rattle.osm_store.specs.LayoutHolding.{Holds};
+ghost use Rattle.osm_rows.specs.declared.schema.layout.Layout.{Layout};
+ghost use Rattle.osm_rows.specs.declared.schema.layout.Layout.TheVariants.{Tables};
+ghost use Rattle.osm_rows.specs.Schema.Tables.{table_schema};
+ghost use Rattle.osm_rows.specs.Held.{HeldMap};
+ghost use Rattle.osm_rows.specs.LayoutHolding.{Holds};
 ghost use Rattle.osm_trees.specs.Below.{HoldsBelow};
 
 use crate::tree_store::TreeStore;
-use osm_store::Reader;
-use osm_store::laws::holds_again;
+use osm_rows::Reader;
+use osm_rows::laws::holds_again;
 use sqlite::{Alter, Connection, MemStore};
 use sqlite_trees::store::Store;
 

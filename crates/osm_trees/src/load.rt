@@ -3,18 +3,18 @@
 ghost use Rattle.std.specs.Prelude.{◌≡◌, Some, false, filter, IfOk, MatchResult};
 ghost use Rattle.std.specs.FinMap as map;
 ghost use Rattle.sqlite_trees.specs.View.{IsClean};
-ghost use Rattle.osm_store.specs.declared.schema.layout.Layout.TheVariants.{Tables};
-ghost use Rattle.osm_store.specs.Held.{Blob, HeldMap};
-ghost use Rattle.osm_store.specs.Keeping.{IsForeign};
-ghost use Rattle.osm_store.specs.Load.Finding.{AreMatches};
-ghost use Rattle.osm_store.specs.Load.Loading.{HasRowsOf, IsInPlace};
-ghost use Rattle.osm_store.specs.Rows.{is_of, placed_in};
+ghost use Rattle.osm_rows.specs.declared.schema.layout.Layout.TheVariants.{Tables};
+ghost use Rattle.osm_rows.specs.Held.{Blob, HeldMap};
+ghost use Rattle.osm_rows.specs.Keeping.{IsForeign};
+ghost use Rattle.osm_rows.specs.Load.Finding.{AreMatches};
+ghost use Rattle.osm_rows.specs.Load.Loading.{HasRowsOf, IsInPlace};
+ghost use Rattle.osm_rows.specs.Rows.{is_of, placed_in};
 ghost use Rattle.osm_tree_audits.specs.Looking.{Looks};
 ghost use Rattle.osm_trees.specs.Below.{HoldsBelow};
 
 use crate::parts::blob_rows;
 use crate::search::found_rows;
-use osm_store::{Found, Loaded, StoreFault};
+use osm_rows::{Found, Loaded, StoreFault};
 use osm_value::MemberKind;
 use pbf_frame::MAX_OFFSET;
 use sqlite_trees::store::Store;

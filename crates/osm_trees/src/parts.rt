@@ -4,18 +4,18 @@ ghost use Rattle.std.specs.Prelude.{◌≡◌, ◌<◌, ◌^◌, [], ◌∷◌, 
 ghost use Rattle.sqlite_value.specs.declared.value.Value.TheVariants.{Int};
 ghost use Rattle.sqlite_value.specs.Order.{column};
 ghost use Rattle.sqlite_trees.specs.View.{IsClean};
-ghost use Rattle.osm_store.specs.declared.schema.layout.Layout.TheVariants.{Tables};
-ghost use Rattle.osm_store.specs.Held.{HeldMap};
-ghost use Rattle.osm_store.specs.Keeping.{IsForeign};
-ghost use Rattle.osm_store.specs.Load.TableAnswers.{AreRowsOf};
-ghost use Rattle.osm_store.specs.Load.TableParts.{IsAlone};
-ghost use Rattle.osm_store.specs.Rows.{Placed, is_in, placed_in};
-ghost use Rattle.osm_store.specs.TableRows.{element_row, tags_at, tag_row, links_at, link_row};
+ghost use Rattle.osm_rows.specs.declared.schema.layout.Layout.TheVariants.{Tables};
+ghost use Rattle.osm_rows.specs.Held.{HeldMap};
+ghost use Rattle.osm_rows.specs.Keeping.{IsForeign};
+ghost use Rattle.osm_rows.specs.Load.TableAnswers.{AreRowsOf};
+ghost use Rattle.osm_rows.specs.Load.TableParts.{IsAlone};
+ghost use Rattle.osm_rows.specs.Rows.{Placed, is_in, placed_in};
+ghost use Rattle.osm_rows.specs.TableRows.{element_row, tags_at, tag_row, links_at, link_row};
 ghost use Rattle.osm_tree_audits.specs.Finding.{Finds};
 ghost use Rattle.osm_tree_audits.specs.Looking.{Looks};
 ghost use Rattle.osm_trees.specs.Below.{HoldsBelow};
 
-use osm_store::{PartRow, StoreFault};
+use osm_rows::{PartRow, StoreFault};
 use osm_tree_audits::rows_with;
 use osm_tree_writes::trees::{ELEMENT_KEY, ELEMENTS, LINK_KEY, LINKS, TAG_KEY, TAGS};
 use sqlite::Row;

@@ -4,12 +4,12 @@ ghost use Rattle.std.specs.Prelude.{◌≡◌, ℕ, List, pos, length, IfSome, S
 ghost use Rattle.sqlite_value.specs.declared.value.Value.TheVariants.{Int, Blob as Octets};
 ghost use Rattle.sqlite_value.specs.Order.{column};
 ghost use Rattle.pbf_frame.specs.declared.kind.Kind.{Kind as BlobKind};
-ghost use Rattle.osm_store.specs.declared.keeper.Extent.{Extent as Held};
-ghost use Rattle.osm_store.specs.Keeping.{IsRange};
-ghost use Rattle.osm_store.specs.LayoutHolding.{IsKeptExtent};
-ghost use Rattle.osm_store.specs.Rows.{blob_code, extent_row};
+ghost use Rattle.osm_rows.specs.declared.keeper.Extent.{Extent as Held};
+ghost use Rattle.osm_rows.specs.Keeping.{IsRange};
+ghost use Rattle.osm_rows.specs.LayoutHolding.{IsKeptExtent};
+ghost use Rattle.osm_rows.specs.Rows.{blob_code, extent_row};
 
-use osm_store::Extent;
+use osm_rows::Extent;
 use pbf_frame::{Kind, MAX_OFFSET};
 use sqlite_value::row::Row;
 use sqlite_value::value::ValueRef;

@@ -1,12 +1,12 @@
 //! A store of blobs in the layout of tables, over trees.
 
 ghost use Rattle.std.specs.Prelude.{◌≡◌};
-ghost use Rattle.osm_store.specs.Keeping.{failures_after};
+ghost use Rattle.osm_rows.specs.Keeping.{failures_after};
 
 use crate::extents::{all_extents, touched_extents};
 use crate::history::any_flag;
 use crate::load::{find_elements, load_blob};
-use osm_store::{Counts, Extent, Found, Keeper, Loaded, Reader, StoreFault};
+use osm_rows::{Counts, Extent, Found, Keeper, Loaded, Reader, StoreFault};
 use osm_tree_audits::{Look, has_row_counts, has_rows_of};
 use osm_tree_writes::put_blob;
 use osm_value::{Element, MemberKind};
@@ -103,8 +103,8 @@ fn failures_after<T>(answer: &Result<T, StoreFault>, failures: u64) -> u64
 
 impl<S: Store> Reader for TreeStore<S> {
     ghost use Rattle.sqlite_trees.specs.View.{IsClean};
-    ghost use Rattle.osm_store.specs.declared.schema.layout.Layout.TheVariants.{Tables};
-    ghost use Rattle.osm_store.specs.StoreLaws.{few_texts_of, open_or_shut};
+    ghost use Rattle.osm_rows.specs.declared.schema.layout.Layout.TheVariants.{Tables};
+    ghost use Rattle.osm_rows.specs.StoreLaws.{few_texts_of, open_or_shut};
     ghost use Rattle.osm_trees.specs.Below.{HoldsBelow, IsUsable, MayLeave, LeavesAMap, SameTrees, ListsAlways};
     ghost use Rattle.osm_trees.specs.Reading.{leaves_held_alone, leaves_held, same_self, same_next};
 
@@ -220,8 +220,8 @@ impl<S: Store> TreeStore<S> {
     ghost use Rattle.std.specs.Prelude.{◌≤◌, ◌<◌, ◌^◌, ◌↔◌, IsTrue, IfOk};
     ghost use Rattle.pbf_frame.specs.declared.part.TheConstants.{MAX_OFFSET};
     ghost use Rattle.sqlite_trees.specs.View.{IsClean};
-    ghost use Rattle.osm_store.specs.declared.schema.layout.Layout.TheVariants.{Tables};
-    ghost use Rattle.osm_store.specs.Audit.{ShowsCounts};
+    ghost use Rattle.osm_rows.specs.declared.schema.layout.Layout.TheVariants.{Tables};
+    ghost use Rattle.osm_rows.specs.Audit.{ShowsCounts};
     ghost use Rattle.osm_tree_audits.specs.Auditing.{KeepsBlob};
     ghost use Rattle.osm_tree_audits.specs.Looks.{IsLook};
     ghost use Rattle.osm_trees.specs.Below.{IsIndexed, IsUsable};

@@ -10,10 +10,10 @@ use Rattle.std.proofs.lemmas.Bool.Decides.{eqb_tells, nat_tests}
 use Rattle.sqlite.specs.Tree.{Trees}
 use Rattle.osm_value.specs.declared.element.Element.{Element}
 use Rattle.osm_value.specs.Elements.{IsElement}
-use Rattle.osm_store.specs.declared.schema.layout.Layout.{Layout}
-use Rattle.osm_store.specs.Audit.{IsPlain, ShowsBlob, ShowsCounts, counts_of, elements_held}
-use Rattle.osm_store.specs.Held.{Blob, HeldMap, HaveFewTexts}
-use Rattle.osm_store.proofs.AuditLemmas.AllRows.{shows_map}
+use Rattle.osm_rows.specs.declared.schema.layout.Layout.{Layout}
+use Rattle.osm_rows.specs.Audit.{IsPlain, ShowsBlob, ShowsCounts, counts_of, elements_held}
+use Rattle.osm_rows.specs.Held.{Blob, HeldMap, HaveFewTexts}
+use Rattle.osm_rows.proofs.AuditLemmas.AllRows.{shows_map}
 use Rattle.osm_import.specs.Merges.{IsImported, placed_from}
 use Rattle.osm_import.specs.Runs.{IsGoodIn}
 use Rattle.osm_import.specs.Step.{IsEntry}

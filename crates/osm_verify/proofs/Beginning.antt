@@ -6,9 +6,9 @@ use Rattle.std.specs.FinMap as finite
 use Rattle.std.specs.FinMap.{get, entries, get-entries, entries_sorted}
 use Rattle.std.specs.FinMap.Entries.{is_sorted}
 use Rattle.std.proofs.lemmas.Bool.Decides.{eqb_tells, nat_tests}
-use Rattle.osm_store.specs.Held.{Blob, HeldMap, IsApart}
-use Rattle.osm_store.specs.Keeping.{touches, extent_of, extents_of}
-use Rattle.osm_store.specs.declared.keeper.Extent.{Extent}
+use Rattle.osm_rows.specs.Held.{Blob, HeldMap, IsApart}
+use Rattle.osm_rows.specs.Keeping.{touches, extent_of, extents_of}
+use Rattle.osm_rows.specs.declared.keeper.Extent.{Extent}
 use Rattle.osm_import.proofs.Touching.{find-cons, find-tail, find-head, sorted-tail}
 use Rattle.osm_import.proofs.Delivering.{true-of}
 use Rattle.osm_verify.specs.Agreements.{begins}

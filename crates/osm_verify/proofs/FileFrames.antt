@@ -8,9 +8,9 @@ use Rattle.std.proofs.lemmas.List.{take_at}
 use Rattle.pbf_frame.specs.Frame.{Found, frame_at, found_at}
 use Rattle.pbf_frame.specs.declared.fault.FrameFault.{FrameFault}
 use Rattle.pbf_frame.proofs.FrameLaws.{frame_again}
-use Rattle.osm_store.specs.Held.{Blob, HeldMap}
-use Rattle.osm_store.specs.Keeping.{extent_of}
-use Rattle.osm_store.specs.declared.keeper.Extent.{Extent}
+use Rattle.osm_rows.specs.Held.{Blob, HeldMap}
+use Rattle.osm_rows.specs.Keeping.{extent_of}
+use Rattle.osm_rows.specs.declared.keeper.Extent.{Extent}
 use Rattle.osm_import.specs.Files.{StandsAt}
 use Rattle.osm_import.specs.Gaps.{AreGaps}
 use Rattle.osm_reading.specs.Good.{IsFrame}

@@ -6,9 +6,9 @@ use Rattle.std.specs.FinMap.{get, entries, find, is_sorted, get-entries, entries
 use Rattle.std.proofs.lemmas.Bool.Decides.{eqb_tells, leb_tells, nat_tests}
 use Rattle.std.proofs.lemmas.List.{length-drop, drop_at, drop-drop, drop_all}
 use Rattle.pbf_frame.specs.declared.part.TheConstants.{MAX_OFFSET}
-use Rattle.osm_store.specs.Held.{Blob, HeldMap, IsApart}
-use Rattle.osm_store.specs.Keeping.{extent_of, extents_of}
-use Rattle.osm_store.specs.declared.keeper.Extent.{Extent}
+use Rattle.osm_rows.specs.Held.{Blob, HeldMap, IsApart}
+use Rattle.osm_rows.specs.Keeping.{extent_of, extents_of}
+use Rattle.osm_rows.specs.declared.keeper.Extent.{Extent}
 use Rattle.osm_import.specs.Files.{AreFrames, IsFile, StandsAt, joined}
 use Rattle.osm_import.specs.Gaps.{AreGaps, IsCovered}
 use Rattle.osm_reading.specs.Good.{IsFrame}

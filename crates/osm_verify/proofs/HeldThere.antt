@@ -5,9 +5,9 @@ use Rattle.std.specs.FinMap.{get, entries, get-entries}
 use Rattle.sha2.specs.Sha256.{sha256}
 use Rattle.osm_value.specs.declared.element.Element.{Element}
 use Rattle.pbf_frame.specs.declared.kind.Kind.{Kind}
-use Rattle.osm_store.specs.Held.{Blob, HeldMap, IsApart}
-use Rattle.osm_store.specs.Keeping.{extent_of}
-use Rattle.osm_store.specs.declared.keeper.Extent.{Extent}
+use Rattle.osm_rows.specs.Held.{Blob, HeldMap, IsApart}
+use Rattle.osm_rows.specs.Keeping.{extent_of}
+use Rattle.osm_rows.specs.declared.keeper.Extent.{Extent}
 use Rattle.osm_reading.specs.Good.{IsGood}
 use Rattle.osm_import.proofs.Touching.{extent_found, find_touching}
 use Rattle.osm_import.proofs.Delivering.{AreTouching, entry_at, entry_at-is, good-filled, unheld-at}

@@ -6,10 +6,10 @@ use Rattle.std.specs.Ordering.{nat_cmp}
 use Rattle.std.specs.FinMap.{get, entries, find, is_sorted, get-entries, entries_sorted}
 use Rattle.std.proofs.lemmas.List.{take_at, take_all, take_more, length-map}
 use Rattle.osm_value.specs.declared.element.Element.{Element}
-use Rattle.osm_store.specs.Audit.{elements_held}
-use Rattle.osm_store.specs.Held.{Blob, HeldMap}
-use Rattle.osm_store.specs.Keeping.{extent_of, extents_of}
-use Rattle.osm_store.specs.declared.keeper.Extent.{Extent}
+use Rattle.osm_rows.specs.Audit.{elements_held}
+use Rattle.osm_rows.specs.Held.{Blob, HeldMap}
+use Rattle.osm_rows.specs.Keeping.{extent_of, extents_of}
+use Rattle.osm_rows.specs.declared.keeper.Extent.{Extent}
 use Rattle.osm_reading.specs.Bad.{IsBad, IsFinding}
 use Rattle.osm_reading.specs.declared.examination.ExamineFault.{ExamineFault}
 use Rattle.osm_reading.specs.declared.examination.ExamineFault.TheVariants as examined

@@ -12,9 +12,9 @@ use lib.ListN.{length-replicate}
 use Rattle.pbf_frame.specs.declared.part.TheConstants.{MAX_OFFSET}
 use Rattle.osm_value.specs.declared.element.Element.{Element}
 use Rattle.osm_value.specs.declared.element.Element.TheVariants.{Node}
-use Rattle.osm_store.specs.Held.{Blob, HeldMap, IsApart}
-use Rattle.osm_store.specs.Keeping.{AscendApart, IsRange, extent_of, extents_of}
-use Rattle.osm_store.specs.declared.keeper.Extent.{Extent}
+use Rattle.osm_rows.specs.Held.{Blob, HeldMap, IsApart}
+use Rattle.osm_rows.specs.Keeping.{AscendApart, IsRange, extent_of, extents_of}
+use Rattle.osm_rows.specs.declared.keeper.Extent.{Extent}
 use Rattle.osm_import.proofs.Touching.{find-cons, find-head}
 use Rattle.osm_parts.proofs.PartsLemmas.{Rise, rise-later, rise-sorted}
 use Rattle.osm_verify.specs.Showing.{IsAmong}

@@ -4,9 +4,9 @@ use Rattle.std.specs.Prelude.{IfOk, IfSome}
 use Rattle.std.specs.FinMap.{get, entries, get-entries}
 use Rattle.std.proofs.lemmas.List.{length-map}
 use Rattle.osm_value.specs.declared.element.Element.{Element}
-use Rattle.osm_store.specs.Held.{Blob, HeldMap}
-use Rattle.osm_store.specs.declared.keeper.Extent.{Extent}
-use Rattle.osm_store.specs.declared.schema.layout.Layout.{Layout}
+use Rattle.osm_rows.specs.Held.{Blob, HeldMap}
+use Rattle.osm_rows.specs.declared.keeper.Extent.{Extent}
+use Rattle.osm_rows.specs.declared.schema.layout.Layout.{Layout}
 use Rattle.sqlite.specs.Tree.{Trees}
 use Rattle.osm_import.specs.Gaps.{AreGaps}
 use Rattle.osm_reading.specs.Framings.{Known}

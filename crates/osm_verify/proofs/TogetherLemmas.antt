@@ -1,8 +1,8 @@
 -- One store more.
 use Rattle.std.proofs.Common.{◌≡◌, ℕ, zero, suc, ◌+◌, ◌≤◌, Bool, false, List, [], ◌∷◌, ◌++◌, length, take, Some, None, slice_get, Result, Ok, Err, refl, sym, ◌∙◌, ap, subst, arith, append_assoc, append-nil, add-one}
 use Rattle.std.specs.Prelude.{IfErr, IfOk, IfSome}
-use Rattle.osm_store.specs.Held.{HeldMap, IsApart}
-use Rattle.osm_store.specs.Keeping.{extents_of}
+use Rattle.osm_rows.specs.Held.{HeldMap, IsApart}
+use Rattle.osm_rows.specs.Keeping.{extents_of}
 use Rattle.osm_reading.specs.Framings.{Known}
 use Rattle.osm_parts.specs.Reading.{AreStores, IsReadOf}
 use Rattle.osm_parts.specs.declared.runs.Part.{Part}

@@ -4,10 +4,10 @@ pub use Rattle.sqlite.specs.Tree.{Trees}
 use Rattle.std.specs.List.{AllByRecursion}
 use Rattle.std.specs.FinMap.{entries}
 use Rattle.osm_value.specs.declared.element.Element.{Element}
-use Rattle.osm_store.specs.declared.audit.counts.Counts.{Counts}
-use Rattle.osm_store.specs.declared.schema.layout.Layout.{Layout}
-use Rattle.osm_store.specs.Audit.{ShowsBlob, ShowsCounts, ShowsMap, counts_of, elements_held}
-use Rattle.osm_store.specs.Held.{Blob, HeldMap}
+use Rattle.osm_rows.specs.declared.audit.counts.Counts.{Counts}
+use Rattle.osm_rows.specs.declared.schema.layout.Layout.{Layout}
+use Rattle.osm_rows.specs.Audit.{ShowsBlob, ShowsCounts, ShowsMap, counts_of, elements_held}
+use Rattle.osm_rows.specs.Held.{Blob, HeldMap}
 use Rattle.osm_import.specs.Merges.{IsImported, placed_from}
 use Rattle.osm_import.specs.Step.{IsEntry}
 

@@ -1,7 +1,7 @@
 -- The causes of what keeps stores from being compared with a file.
 use Rattle.std.specs.Prelude.{ℕ, List}
-use Rattle.osm_store.specs.Held.{HeldMap}
-use Rattle.osm_store.specs.Keeping.{IsForeign}
+use Rattle.osm_rows.specs.Held.{HeldMap}
+use Rattle.osm_rows.specs.Keeping.{IsForeign}
 use Rattle.osm_parts.specs.PartsFaults.{IsOfMaps, PartsFaultHasCause}
 use Rattle.osm_parts.specs.declared.fault.PartsFault.TheVariants.{Interleaved, Refused, Store}
 use Rattle.osm_verify.specs.declared.fault.AuditFault.{AuditFault}

@@ -3,11 +3,11 @@ use Rattle.std.specs.Prelude.{◌≡◌, ℕ, ◌+◌, List, [], ◌∷◌, leng
 use Rattle.std.specs.List.{cons_option}
 use Rattle.sqlite.specs.Tree.{Trees}
 use Rattle.osm_value.specs.declared.element.Element.{Element}
-use Rattle.osm_store.specs.Audit.{AreCountable, ShowsCounts, counts_of}
-use Rattle.osm_store.specs.Held.{Blob, HeldMap}
-use Rattle.osm_store.specs.Keeping.{AscendApart}
-use Rattle.osm_store.specs.declared.keeper.Extent.{Extent}
-use Rattle.osm_store.specs.declared.schema.layout.Layout.{Layout}
+use Rattle.osm_rows.specs.Audit.{AreCountable, ShowsCounts, counts_of}
+use Rattle.osm_rows.specs.Held.{Blob, HeldMap}
+use Rattle.osm_rows.specs.Keeping.{AscendApart}
+use Rattle.osm_rows.specs.declared.keeper.Extent.{Extent}
+use Rattle.osm_rows.specs.declared.schema.layout.Layout.{Layout}
 use Rattle.osm_reading.specs.Framings.{Known}
 use Rattle.osm_import.specs.Step.{IsEntry}
 use Rattle.osm_verify.specs.Agreements.{IsSame}

@@ -1,8 +1,8 @@
 -- What it comes to that every frame of a file is held alike and nothing else is held.
 use Rattle.std.specs.Prelude.{◌≡◌, ℕ, ◌+◌, List, [], ◌∷◌, length, filter}
 use Rattle.pbf_frame.specs.declared.part.TheConstants.{MAX_OFFSET}
-use Rattle.osm_store.specs.Held.{HeldMap, IsApart}
-use Rattle.osm_store.specs.Keeping.{extents_of}
+use Rattle.osm_rows.specs.Held.{HeldMap, IsApart}
+use Rattle.osm_rows.specs.Keeping.{extents_of}
 use Rattle.osm_import.specs.Merges.{IsImported, placed_from}
 use Rattle.osm_verify.specs.declared.comparing.Depth.{Depth}
 use Rattle.osm_verify.specs.declared.comparing.Depth.TheVariants.{Extents, Elements}

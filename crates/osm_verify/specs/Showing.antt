@@ -1,7 +1,7 @@
 -- Stores whose tables have the rows of a file's frames among them, whatever rows these were.
 use Rattle.std.specs.Prelude.{◌≡◌, ◌⊎◌, ℕ, ◌+◌, false, All, List, [], ◌∷◌, length}
-use Rattle.osm_store.specs.Keeping.{IsRange}
-use Rattle.osm_store.specs.declared.keeper.Extent.{Extent}
+use Rattle.osm_rows.specs.Keeping.{IsRange}
+use Rattle.osm_rows.specs.declared.keeper.Extent.{Extent}
 use Rattle.osm_import.specs.Files.{IsFile, IsFrameAt}
 use Rattle.osm_parts.specs.declared.runs.Part.{Part}
 

@@ -1,8 +1,8 @@
 -- Stores that together hold a file.
 use Rattle.std.specs.Prelude.{◌≡◌, ℕ, ◌<◌, List, [], ◌∷◌, ◌++◌, length, Some, IfSome}
 use Rattle.std.specs.FinMap.{get}
-use Rattle.osm_store.specs.Held.{Blob, HeldMap, IsApart}
-use Rattle.osm_store.specs.Keeping.{extents_of}
+use Rattle.osm_rows.specs.Held.{Blob, HeldMap, IsApart}
+use Rattle.osm_rows.specs.Keeping.{extents_of}
 use Rattle.osm_reading.specs.Framings.{Known}
 use Rattle.osm_import.specs.Files.{IsFile, IsFrameAt}
 use Rattle.osm_import.specs.Gaps.{AreGaps}

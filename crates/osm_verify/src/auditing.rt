@@ -1,9 +1,9 @@
 //! One frame of a file and the rows that a store's tables have at its offset, whatever rows these are.
 
 ghost use Rattle.std.specs.Prelude.{◌≡◌, ◌↔◌, ◌≤◌, IsTrue, IfOk, IfErr};
-ghost use Rattle.osm_store.specs.Audit.{AreCountable, ShowsCounts, counts_of, elements_held};
-ghost use Rattle.osm_store.specs.Calls.{KeepsTables, OfHeld};
-ghost use Rattle.osm_store.specs.Keeping.{IsForeign};
+ghost use Rattle.osm_rows.specs.Audit.{AreCountable, ShowsCounts, counts_of, elements_held};
+ghost use Rattle.osm_rows.specs.Calls.{KeepsTables, OfHeld};
+ghost use Rattle.osm_rows.specs.Keeping.{IsForeign};
 ghost use Rattle.osm_reading.specs.Good.{IsGood};
 ghost use Rattle.osm_import.specs.Step.{HasCause};
 ghost use Rattle.osm_import.specs.Stores.{Rereads};
@@ -12,7 +12,7 @@ ghost use Rattle.osm_verify.specs.Audits.{IsEntryOf, IsShown};
 ghost use Rattle.osm_verify.specs.declared.comparing.Depth.TheVariants.{Elements};
 
 use osm_import::Good;
-use osm_store::{Audited, Counts, StoreFault};
+use osm_rows::{Audited, Counts, StoreFault};
 use osm_value::laws::elements_in_range;
 use sha2::{Digest, Sha256};
 use std::alloc::Global;

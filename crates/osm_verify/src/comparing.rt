@@ -2,8 +2,8 @@
 
 ghost use Rattle.std.specs.Prelude.{◌≡◌, ◌==◌, ◌≤◌, length, find, filter, nat_le, IfOk, IfErr};
 ghost use Rattle.sha2.specs.Sha256.{sha256};
-ghost use Rattle.osm_store.specs.Calls.{KeepsTables, OfHeld};
-ghost use Rattle.osm_store.specs.Keeping.{IsForeign, extents_of};
+ghost use Rattle.osm_rows.specs.Calls.{KeepsTables, OfHeld};
+ghost use Rattle.osm_rows.specs.Keeping.{IsForeign, extents_of};
 ghost use Rattle.osm_reading.specs.Good.{IsGood};
 ghost use Rattle.osm_import.specs.Step.{HasCause};
 ghost use Rattle.osm_import.specs.Stores.{Rereads};
@@ -12,7 +12,7 @@ ghost use Rattle.osm_verify.specs.Audits.{IsEntryOf};
 
 use crate::auditing::has_frame;
 use osm_import::Good;
-use osm_store::{Audited, Extent, Reader, StoreFault};
+use osm_rows::{Audited, Extent, Reader, StoreFault};
 use pbf_frame::MAX_OFFSET;
 use sha2::{Digest, Sha256};
 use std::alloc::{AllocError, Global};

@@ -1,12 +1,12 @@
 //! Why stores can't be compared with a file.
 
 ghost use Rattle.std.specs.Prelude.{◌≡◌};
-ghost use Rattle.osm_faults.specs.declared.fault.StoreFault.TheVariants.{Memory};
+ghost use Rattle.osm_rows.specs.declared.fault.StoreFault.TheVariants.{Memory};
 ghost use Rattle.osm_parts.specs.declared.fault.PartsFault.TheVariants.{Store};
 ghost use Rattle.osm_verify.specs.declared.fault.AuditFault.TheVariants.{Parts};
 
 use osm_parts::PartsFault;
-use osm_store::StoreFault;
+use osm_rows::StoreFault;
 use std::alloc::{AllocError, AllocFailed};
 use thiserror::Error;
 

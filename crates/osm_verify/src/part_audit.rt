@@ -3,9 +3,9 @@
 ghost use Rattle.std.specs.Prelude.{◌≡◌, ◌+◌, ◌++◌, ◌≤◌, ℕ, [], All, List, length, IfOk, IfErr, IfSome, IsNone, OnOk};
 ghost use Rattle.std.specs.List.{cons_option};
 ghost use Rattle.osm_value.specs.declared.element.Element.{Element as ElementValue};
-ghost use Rattle.osm_store.specs.Audit.{AreCountable, ShowsCounts, counts_of, elements_held};
-ghost use Rattle.osm_store.specs.Calls.{KeepsTables, OfHeld};
-ghost use Rattle.osm_store.specs.Keeping.{IsRange, extents_of};
+ghost use Rattle.osm_rows.specs.Audit.{AreCountable, ShowsCounts, counts_of, elements_held};
+ghost use Rattle.osm_rows.specs.Calls.{KeepsTables, OfHeld};
+ghost use Rattle.osm_rows.specs.Keeping.{IsRange, extents_of};
 ghost use Rattle.osm_import.specs.Stores.{Rereads};
 ghost use Rattle.osm_verify.specs.Agreements.{IsSame};
 ghost use Rattle.osm_verify.specs.Audits.{CountsMore, IsEntryOf};
@@ -17,7 +17,7 @@ use crate::fault::AuditFault;
 use crate::file_bytes::FileBytes;
 use crate::{Agreement, Depth, compare, has_rows};
 use osm_import::{ExamineFault, SourceFailed, examine};
-use osm_store::{Audited, Counts, Extent, StoreFault};
+use osm_rows::{Audited, Counts, Extent, StoreFault};
 use std::alloc::{AllocError, Global};
 
 /// How many bytes a frame has at most.

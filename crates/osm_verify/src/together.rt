@@ -1,8 +1,8 @@
 //! Several stores and the file of which they ought to hold all.
 
 ghost use Rattle.std.specs.Prelude.{◌≡◌, ◌↔◌, ◌≤◌, [], ℕ, Some, IsTrue, false, All, List, length, slice_get, IfOk, IfErr, IfSome};
-ghost use Rattle.osm_store.specs.Held.{HeldMap, IsApart};
-ghost use Rattle.osm_store.specs.Keeping.{IsRange, extents_of};
+ghost use Rattle.osm_rows.specs.Held.{HeldMap, IsApart};
+ghost use Rattle.osm_rows.specs.Keeping.{IsRange, extents_of};
 ghost use Rattle.osm_reading.specs.Framings.{Known};
 ghost use Rattle.osm_parts.specs.Opening.{OnlyOpens};
 ghost use Rattle.osm_parts.specs.Reading.{AreRead, AreStores};
@@ -18,7 +18,7 @@ use crate::file_bytes::FileBytes;
 use crate::part_audit::{Audit, Finding, audit_part};
 use osm_import::gaps_between;
 use osm_parts::{Openings, Part, extents_of_parts, parts_of};
-use osm_store::Audited;
+use osm_rows::Audited;
 use std::alloc::Global;
 
 /// What is found where stores are compared with a file.

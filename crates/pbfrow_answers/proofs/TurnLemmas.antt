@@ -1,7 +1,7 @@
 -- The map at the place of a name.
 use Rattle.std.proofs.Common.{◌≡◌, ℕ, zero, suc, List, [], ◌∷◌, length, Some, slice_get, Result, Ok, Err, refl, arith}
 use Rattle.std.specs.Prelude.{IfOk}
-use Rattle.osm_store.specs.Held.{HeldMap}
+use Rattle.osm_rows.specs.Held.{HeldMap}
 use Rattle.osm_parts.specs.Opening.{IsLent}
 use Rattle.pbfrow_answers.specs.Turns.{HoldInTurn}
 

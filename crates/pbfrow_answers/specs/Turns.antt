@@ -1,8 +1,8 @@
 -- Stores that are opened by names, one after the other.
 use Rattle.std.specs.Prelude.{◌≡◌, ℕ, Bool, true, false, List, Some, Result, Ok, Err, length, slice_get}
-use Rattle.osm_store.specs.Held.{HeldMap}
-use Rattle.osm_faults.specs.declared.fault.StoreFault.{StoreFault}
-use Rattle.osm_faults.specs.declared.fault.StoreFault.TheVariants.{NotThisStore}
+use Rattle.osm_rows.specs.Held.{HeldMap}
+use Rattle.osm_rows.specs.declared.fault.StoreFault.{StoreFault}
+use Rattle.osm_rows.specs.declared.fault.StoreFault.TheVariants.{NotThisStore}
 
 -- There are as many maps as names; and each store that lies at a name, if its disk returns what was written, holds the map at
 -- the place of the name.

@@ -4,7 +4,7 @@ ghost use Rattle.std.specs.Prelude.{◌≡◌};
 ghost use Rattle.osm_value.specs.Printing.{Prints};
 ghost use Rattle.pbfrow_commands.specs.CommandLines.{store_fault_line};
 
-use osm_store::{Reader, StoreFault};
+use osm_rows::{Reader, StoreFault};
 use osm_value::Sink;
 use pbfrow_commands::report::put_store_fault;
 use pbfrow_terminal::ending::FAULTY;

@@ -3,8 +3,8 @@
 ghost use Rattle.std.specs.Prelude.{◌≡◌, ◌≤◌, ℕ, Bool, List, Option, Some, IfSome};
 ghost use Rattle.osm_value.specs.Sink.{Wrote};
 ghost use Rattle.osm_value.specs.declared.form.Form.TheVariants as form;
-ghost use Rattle.osm_store.specs.Calls.{OfHeld};
-ghost use Rattle.osm_store.specs.Held.{HeldMap};
+ghost use Rattle.osm_rows.specs.Calls.{OfHeld};
+ghost use Rattle.osm_rows.specs.Held.{HeldMap};
 ghost use Rattle.osm_import.specs.Stores.{HoldsStill, Keeps};
 ghost use Rattle.osm_import.specs.declared.copy.CopyCounts.{CopyCounts as CopyCountsValue};
 ghost use Rattle.osm_parts.specs.Opening.{KeepsMaps};
@@ -19,7 +19,7 @@ ghost use Rattle.pbfrow_commands.specs.VerifyingParts.{VerifiesParts};
 
 use crate::questions::ask_in_turn;
 use crate::turns::Several;
-use osm_store::{Audited, Keeper, Reader};
+use osm_rows::{Audited, Keeper, Reader};
 use osm_value::Sink;
 use osm_verify::{Depth, FileBytes};
 use pbfrow_commands::merge::merge_all;

@@ -1,8 +1,8 @@
 //! What each question calls: of one store, and of several in turn.
 
 ghost use Rattle.std.specs.Prelude.{◌≡◌, ◌≤◌, ℕ, List, Option, Bool, Result, length};
-ghost use Rattle.osm_store.specs.Held.{HeldMap};
-ghost use Rattle.osm_store.specs.Keeping.{extents_of};
+ghost use Rattle.osm_rows.specs.Held.{HeldMap};
+ghost use Rattle.osm_rows.specs.Keeping.{extents_of};
 ghost use Rattle.osm_import.specs.ExportCauses.{ExportHasCause, ExportIsOwn};
 ghost use Rattle.osm_import.specs.Exports.{IsExport, size_of};
 ghost use Rattle.osm_reading.specs.Framings.{Known};
@@ -18,7 +18,7 @@ ghost use Rattle.pbfrow_commands.specs.Status.{TellsStatus};
 ghost use Rattle.pbfrow_answers.specs.Questions.{goes_by_blobs};
 
 use osm_parts::Openings;
-use osm_store::Reader;
+use osm_rows::Reader;
 use osm_value::Sink;
 use pbfrow_commands::counts::{status_parts_with_counts, status_with_counts};
 use pbfrow_commands::export::export;

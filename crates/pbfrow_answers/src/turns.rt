@@ -2,14 +2,14 @@
 
 ghost use Rattle.std.specs.Prelude.{◌≡◌, ◌||◌, false, ℕ, List, [], Some, IfOk, length, slice_get};
 ghost use Rattle.std.specs.List.{AllByRecursion};
-ghost use Rattle.osm_store.specs.Held.{HeldMap};
-ghost use Rattle.osm_store.specs.Keeping.{failures_after};
+ghost use Rattle.osm_rows.specs.Held.{HeldMap};
+ghost use Rattle.osm_rows.specs.Keeping.{failures_after};
 ghost use Rattle.pbfrow_answers.specs.Turns.{HoldInTurn, is_refused};
 
 use crate::ending::let_go;
 use crate::past::Past;
 use osm_parts::Openings;
-use osm_store::{Reader, StoreFault};
+use osm_rows::{Reader, StoreFault};
 
 /// What opens the store of a database by its name.
 pub trait OpensNamed<K: Reader> {

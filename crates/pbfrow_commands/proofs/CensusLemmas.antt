@@ -2,7 +2,7 @@
 use Rattle.std.proofs.Common.{◌≡◌, ℕ, Bool, List, ◌++◌, Option, refl, sym, ap, ◌∙◌, inr}
 use Rattle.std.specs.Prelude.{length, codes}
 use Rattle.osm_value.specs.Sink.{Wrote}
-use Rattle.osm_store.specs.Held.{HeldMap}
+use Rattle.osm_rows.specs.Held.{HeldMap}
 use Rattle.osm_reading.specs.Framings.{Known}
 use Rattle.osm_reading.specs.Lines.{fault_line}
 use Rattle.pbfrow_counts.specs.Counting.{CountHasCause, IsOfMap}

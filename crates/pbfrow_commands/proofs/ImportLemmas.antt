@@ -5,7 +5,7 @@ use Rattle.std.proofs.lemmas.List.{length-take, nil_from_length}
 use Rattle.std.proofs.lemmas.Bool.Decides.{nat_tests}
 use Rattle.std.proofs.KnownBytes.{Consumes-trans}
 use Rattle.std.specs.Io.KnownBytes.{Consumes}
-use Rattle.osm_store.specs.Held.{HeldMap}
+use Rattle.osm_rows.specs.Held.{HeldMap}
 use Rattle.osm_import.specs.Deliveries.{DeliveryValue}
 use Rattle.osm_reading.specs.Framings.{Known}
 use Rattle.osm_import.specs.Flows.{Input, Output}

@@ -2,7 +2,7 @@
 use Rattle.std.proofs.Common.{◌≡◌, ℕ, Bool, List, refl, sym, ◌∙◌, ap, inl}
 use Rattle.std.specs.Prelude.{codes}
 use Rattle.osm_value.specs.Sink.{Wrote}
-use Rattle.osm_store.specs.Held.{HeldMap}
+use Rattle.osm_rows.specs.Held.{HeldMap}
 use Rattle.osm_reading.specs.Framings.{Known}
 use Rattle.osm_import.specs.Faults.{conflict_number_of, conflict_name_of}
 use Rattle.osm_reading.specs.Lines.{fault_line}

@@ -3,10 +3,10 @@ use Rattle.std.proofs.Common.{◌≡◌, ℕ, List, ◌++◌, length, Bool, true
 use Rattle.std.proofs.lemmas.List.{length-map}
 use Rattle.osm_value.specs.Sink.{Wrote}
 use Rattle.osm_value.proofs.SinkLemmas.{Wrote-text, whole_text, front_text}
-use Rattle.osm_store.specs.Held.{HeldMap, IsApart}
+use Rattle.osm_rows.specs.Held.{HeldMap, IsApart}
 use Rattle.std.specs.FinMap.{entries}
-use Rattle.osm_store.specs.Keeping.{extent_of, extents_of}
-use Rattle.osm_store.specs.declared.keeper.Extent.{Extent}
+use Rattle.osm_rows.specs.Keeping.{extent_of, extents_of}
+use Rattle.osm_rows.specs.declared.keeper.Extent.{Extent}
 use Rattle.osm_reading.specs.Framings.{Known}
 use Rattle.osm_import.specs.Exports.{greatest_end, size_of}
 use Rattle.osm_import.specs.Gaps.{AreGaps, ranges_between}

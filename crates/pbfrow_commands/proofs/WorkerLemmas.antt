@@ -12,7 +12,7 @@ use Rattle.pbf_frame.specs.Frame.{Found, found_at, frame_at}
 use Rattle.pbf_frame.proofs.FrameLaws.{frame_again}
 use Rattle.pbf_frame.specs.Cutting.{Tile, last_end}
 use Rattle.pbf_frame.specs.declared.ranges.Range.{Range}
-use Rattle.osm_store.specs.Held.{Blob, HeldMap, IsApart}
+use Rattle.osm_rows.specs.Held.{Blob, HeldMap, IsApart}
 use Rattle.osm_import.specs.Copies.{IsUnited}
 use Rattle.osm_import.specs.Deliveries.{DeliveryValue}
 use Rattle.osm_reading.specs.Framings.{Known}

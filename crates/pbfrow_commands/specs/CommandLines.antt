@@ -3,9 +3,9 @@ use Rattle.std.specs.Prelude.{ℕ, List, ◌++◌, codes}
 use Rattle.std.specs.List.{flat_map}
 use Rattle.std.specs.Fmt.{decimal}
 use Rattle.osm_value.specs.Line.{line}
-use Rattle.osm_faults.specs.Faults.{number_of, name_of}
-use Rattle.osm_faults.specs.declared.fault.StoreFault.{StoreFault}
-use Rattle.osm_store.specs.Rows.{Placed}
+use Rattle.osm_rows.specs.Faults.{number_of, name_of}
+use Rattle.osm_rows.specs.declared.fault.StoreFault.{StoreFault}
+use Rattle.osm_rows.specs.Rows.{Placed}
 use Rattle.osm_reading.specs.Lines.{plain_fault_line, fault_line}
 use Rattle.osm_import.specs.ImportFaults.{import_number_of, import_name_of}
 use Rattle.osm_import.specs.declared.stream.fault.ImportFault.{ImportFault}

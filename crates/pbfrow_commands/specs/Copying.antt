@@ -1,10 +1,10 @@
 -- What the commands `migrate` and `merge` do: to the stores that they copy, to the other, and to their output.
 use Rattle.std.specs.Prelude.{◌≡◌, ℕ, ◌≤◌, ◌++◌, Bool, List, Result, Ok, Err, IfOk, codes, if◌then◌else◌}
 use Rattle.std.specs.Fmt.{decimal}
-use Rattle.osm_store.specs.Calls.{OfHeld}
-use Rattle.osm_store.specs.Held.{HeldMap}
-use Rattle.osm_store.specs.Keeping.{KeepsList}
-use Rattle.osm_store.specs.declared.keeper.Reader.{Ghosts}
+use Rattle.osm_rows.specs.Calls.{OfHeld}
+use Rattle.osm_rows.specs.Held.{HeldMap}
+use Rattle.osm_rows.specs.Keeping.{KeepsList}
+use Rattle.osm_rows.specs.declared.keeper.Reader.{Ghosts}
 use Rattle.osm_import.specs.Copies.{Copies, CopyHasCause, CopyTells, CrashLeavesSome, IsOwnCopy}
 use Rattle.osm_import.specs.Stores.{CopiesInTurn, KeepsHeld}
 use Rattle.osm_import.specs.CopyFaults.{copy_number_of, copy_name_of}

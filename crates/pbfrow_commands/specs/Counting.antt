@@ -1,8 +1,8 @@
 -- What the command `status --counts` writes.
 use Rattle.std.specs.Prelude.{◌⊎◌, ℕ, Bool, List, ◌++◌, Option}
 use Rattle.std.specs.FinMap.{entries}
-use Rattle.osm_store.specs.Held.{HeldMap}
-use Rattle.osm_store.specs.Keeping.{extents_of}
+use Rattle.osm_rows.specs.Held.{HeldMap}
+use Rattle.osm_rows.specs.Keeping.{extents_of}
 use Rattle.osm_reading.specs.Framings.{Known}
 use Rattle.osm_reading.specs.Lines.{fault_line}
 use Rattle.osm_import.specs.Exports.{size_of}

@@ -1,6 +1,6 @@
 -- What the command `find` tells.
 use Rattle.std.specs.Prelude.{ℕ, ◌⊎◌, Bool, List}
-use Rattle.osm_store.specs.Rows.{Placed}
+use Rattle.osm_rows.specs.Rows.{Placed}
 use Rattle.osm_reading.specs.Framings.{Known}
 use Rattle.pbfrow_commands.specs.CommandLines.{match_lines}
 use Rattle.pbfrow_commands.specs.Status.{Tells, TellsFault}

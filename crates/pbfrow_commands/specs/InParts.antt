@@ -1,8 +1,8 @@
 -- What the commands on several stores, which are read as one, write.
 use Rattle.std.specs.Prelude.{◌≡◌, ◌⊎◌, ℕ, Bool, List, Option, Result, codes}
 use Rattle.osm_value.specs.Sink.{Wrote}
-use Rattle.osm_store.specs.Held.{HeldMap}
-use Rattle.osm_store.specs.Keeping.{extents_of}
+use Rattle.osm_rows.specs.Held.{HeldMap}
+use Rattle.osm_rows.specs.Keeping.{extents_of}
 use Rattle.osm_import.specs.ExportCauses.{ExportHasCause, ExportIsOwn}
 use Rattle.osm_import.specs.Exports.{IsExport, size_of}
 use Rattle.osm_reading.specs.Framings.{Known}

@@ -2,10 +2,10 @@
 use Rattle.std.specs.Prelude.{◌≡◌, ◌⊎◌, ℕ, ◌+◌, Bool, List, [], ◌∷◌, ◌++◌, length, sum_by, Some, None, Result, Ok, Err, OnOk, if◌then◌else◌}
 use Rattle.std.specs.FinMap.{get, entries}
 use Rattle.std.specs.List.{flat_map}
-use Rattle.osm_store.specs.Calls.{OfHeld}
-use Rattle.osm_store.specs.Held.{Blob, HeldMap}
-use Rattle.osm_store.specs.Keeping.{IsForeign, KeepsList}
-use Rattle.osm_store.specs.declared.keeper.Reader.{Ghosts}
+use Rattle.osm_rows.specs.Calls.{OfHeld}
+use Rattle.osm_rows.specs.Held.{Blob, HeldMap}
+use Rattle.osm_rows.specs.Keeping.{IsForeign, KeepsList}
+use Rattle.osm_rows.specs.declared.keeper.Reader.{Ghosts}
 use Rattle.osm_import.specs.Copies.{Copies, Stops, IsUnited, held_among, FaultIsCaused, IsOwnFault}
 use Rattle.osm_import.specs.Merges.{AreUnited, IsFrontUnited}
 use Rattle.osm_import.specs.Step.{HasCause}

@@ -7,13 +7,13 @@ use Rattle.std.specs.Io.KnownBytes.{Consumes, IsAtEnd}
 use Rattle.pbf_frame.specs.declared.part.TheConstants.{MAX_OFFSET}
 use Rattle.osm_value.specs.Sink.{Wrote}
 use Rattle.osm_value.specs.declared.element.Element.{Element}
-use Rattle.osm_store.specs.Audit.{AreCountable, ShowsCounts, counts_of as counts_of_rows}
-use Rattle.osm_store.specs.Held.{Blob, HeldMap}
-use Rattle.osm_store.specs.Keeping.{IsForeign, extents_of}
-use Rattle.osm_store.specs.declared.audit.counts.Counts.{Counts as Rows}
-use Rattle.osm_faults.specs.declared.fault.StoreFault.{StoreFault}
-use Rattle.osm_store.specs.declared.keeper.Extent.{Extent}
-use Rattle.osm_store.specs.declared.schema.layout.Layout.{Layout}
+use Rattle.osm_rows.specs.Audit.{AreCountable, ShowsCounts, counts_of as counts_of_rows}
+use Rattle.osm_rows.specs.Held.{Blob, HeldMap}
+use Rattle.osm_rows.specs.Keeping.{IsForeign, extents_of}
+use Rattle.osm_rows.specs.declared.audit.counts.Counts.{Counts as Rows}
+use Rattle.osm_rows.specs.declared.fault.StoreFault.{StoreFault}
+use Rattle.osm_rows.specs.declared.keeper.Extent.{Extent}
+use Rattle.osm_rows.specs.declared.schema.layout.Layout.{Layout}
 use Rattle.osm_reading.specs.Bad.{IsBad}
 use Rattle.osm_reading.specs.Framings.{Known}
 use Rattle.osm_reading.specs.Faults.{number_of, name_of}

@@ -3,7 +3,7 @@ use Rattle.std.specs.Prelude.{◌≡◌, ◌↔◌, ◌⊎◌, ℕ, Bool, true, 
 use Rattle.std.specs.List.{count_by, flat_map}
 use Rattle.std.specs.Fmt.{decimal}
 use Rattle.osm_value.specs.Sink.{Wrote}
-use Rattle.osm_store.specs.Held.{HeldMap}
+use Rattle.osm_rows.specs.Held.{HeldMap}
 use Rattle.osm_reading.specs.Framings.{Known}
 use Rattle.osm_reading.specs.declared.stream.fault.Stop.TheVariants.{ReadFailed}
 use Rattle.osm_verify.specs.Faults.{AuditHasCause, IsOfParts}

@@ -2,7 +2,7 @@
 use Rattle.std.specs.Prelude.{◌≡◌, ℕ, ◌+◌, ◌-◌, List, [], ◌∷◌, length, take, drop, Some, All, Contains}
 use Rattle.std.specs.List.{AllZip}
 use Rattle.std.specs.FinMap.{get, empty}
-use Rattle.osm_store.specs.Held.{Blob, HeldMap}
+use Rattle.osm_rows.specs.Held.{Blob, HeldMap}
 use Rattle.osm_reading.specs.Framings.{Known}
 use Rattle.osm_import.specs.Files.{AreFrames, IsHeldOfFile, joined}
 use Rattle.osm_import.specs.Merges.{AreUnited, IsImported, placed_from}

@@ -3,8 +3,8 @@
 
 ghost use Rattle.std.specs.Prelude.{◌≡◌, ◌≤◌, ℕ, false, List, Option, IfOk, IfErr, length};
 ghost use Rattle.osm_value.specs.Printing.{Prints};
-ghost use Rattle.osm_store.specs.Held.{HeldMap};
-ghost use Rattle.osm_store.specs.Calls.{OfHeld};
+ghost use Rattle.osm_rows.specs.Held.{HeldMap};
+ghost use Rattle.osm_rows.specs.Calls.{OfHeld};
 ghost use Rattle.osm_import.specs.Stores.{Rereads, Stays};
 ghost use Rattle.osm_parts.specs.Opening.{KeepsMaps, OnlyOpens};
 ghost use Rattle.osm_parts.specs.Parts.{AreParts};
@@ -18,7 +18,7 @@ use crate::parts::put_parts_fault;
 use crate::report::put_store_fault;
 use crate::status::{Holdings, holdings_of, put_counts, put_gaps};
 use osm_parts::{Openings, Part, extents_of_parts, read_parts};
-use osm_store::Reader;
+use osm_rows::Reader;
 use osm_value::Sink;
 use pbfrow_counts::{CountFault, ElementCounts, count_blobs, count_parts, put_element_counts};
 use pbfrow_reading::report::put_fault_at;

@@ -1,8 +1,8 @@
 //! The command `export`: the elements of a store.
 
 ghost use Rattle.std.specs.Prelude.{◌≡◌, ◌≤◌, Err, Result};
-ghost use Rattle.osm_store.specs.Calls.{OfHeld};
-ghost use Rattle.osm_store.specs.Keeping.{extents_of};
+ghost use Rattle.osm_rows.specs.Calls.{OfHeld};
+ghost use Rattle.osm_rows.specs.Keeping.{extents_of};
 ghost use Rattle.osm_import.specs.ExportCauses.{ExportHasCause, ExportIsOwn};
 ghost use Rattle.osm_import.specs.Exports.{IsExport, size_of};
 ghost use Rattle.osm_reading.specs.Framings.{Known};
@@ -12,7 +12,7 @@ ghost use Rattle.osm_import.specs.Stores.{Stays};
 ghost use Rattle.pbfrow_commands.specs.Exporting.{EndsExport};
 
 use osm_import::{ExportFault, export_lines, export_pbf, put_fault_at, put_plain_fault};
-use osm_store::Reader;
+use osm_rows::Reader;
 use osm_value::{Form, Sink};
 use std::alloc::Global;
 

@@ -2,15 +2,15 @@
 
 ghost use Rattle.std.specs.Prelude.{◌≡◌, ◌≤◌, List, OnOk, OnErr, filter};
 ghost use Rattle.osm_value.specs.Printing.{Prints};
-ghost use Rattle.osm_store.specs.Load.Finding.{AreMatches};
-ghost use Rattle.osm_store.specs.Calls.{OfHeld};
-ghost use Rattle.osm_store.specs.Rows.{Placed, is_of, placed_in};
+ghost use Rattle.osm_rows.specs.Load.Finding.{AreMatches};
+ghost use Rattle.osm_rows.specs.Calls.{OfHeld};
+ghost use Rattle.osm_rows.specs.Rows.{Placed, is_of, placed_in};
 ghost use Rattle.osm_import.specs.Stores.{Stays};
 ghost use Rattle.pbfrow_commands.specs.CommandLines.{match_line, match_lines};
 ghost use Rattle.pbfrow_commands.specs.Finding.{TellsMatches};
 
 use crate::report::put_store_fault;
-use osm_store::{Found, Reader, StoreFault};
+use osm_rows::{Found, Reader, StoreFault};
 use osm_value::{Element, MemberKind, Sink, put, put_digits, write_line};
 use std::alloc::{AllocError, Global};
 

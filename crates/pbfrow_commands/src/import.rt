@@ -2,8 +2,8 @@
 
 ghost use Rattle.std.specs.Prelude.{◌≡◌, ◌≤◌, ◌<◌, ◌+◌, ◌-◌, List, ℕ, Some, Err, Result, OnOk, OnErr, IfOk, IfSome, take};
 ghost use Rattle.std.specs.FinMap.{empty};
-ghost use Rattle.osm_store.specs.Held.{HeldMap};
-ghost use Rattle.osm_store.specs.Calls.{OfHeld};
+ghost use Rattle.osm_rows.specs.Held.{HeldMap};
+ghost use Rattle.osm_rows.specs.Calls.{OfHeld};
 ghost use Rattle.osm_reading.specs.Framings.{Known};
 ghost use Rattle.osm_import.specs.Flows.{Input, input, output};
 ghost use Rattle.osm_import.specs.Stores.{Takes};
@@ -15,7 +15,7 @@ ghost use Rattle.pbfrow_commands.specs.Importing.{Skips, IsShort, Imports, Impor
 
 use crate::report::put_summary;
 use osm_import::{ImportFault, ImportStop, Inlet, Source, Stop, Summary, Teller, import_stream};
-use osm_store::Keeper;
+use osm_rows::Keeper;
 use osm_value::Sink;
 use pbf_frame::{FrameFault, MAX_OFFSET};
 use pbfrow_reading::report::put_fault_at;

@@ -3,9 +3,9 @@
 ghost use Rattle.std.specs.Prelude.{◌≡◌, ◌≤◌, [], ◌∷◌, ◌++◌, List, Ok, Some, Result, length, slice_get};
 ghost use Rattle.osm_value.specs.Sink.{Wrote};
 ghost use Rattle.osm_value.specs.Printing.{Prints};
-ghost use Rattle.osm_store.specs.Calls.{OfHeld};
-ghost use Rattle.osm_store.specs.Held.{HeldMap};
-ghost use Rattle.osm_store.specs.Keeping.{KeepsList};
+ghost use Rattle.osm_rows.specs.Calls.{OfHeld};
+ghost use Rattle.osm_rows.specs.Held.{HeldMap};
+ghost use Rattle.osm_rows.specs.Keeping.{KeepsList};
 ghost use Rattle.osm_import.specs.Merges.{IsFrontUnited};
 ghost use Rattle.osm_import.specs.Stores.{HoldsStill, Keeps, KeepsHeld, Rereads};
 ghost use Rattle.osm_import.specs.declared.copy.CopyCounts.{CopyCounts as CopyCountsValue};
@@ -18,7 +18,7 @@ use crate::migrate::{put_copied, put_outcome};
 use crate::report::put_store_fault;
 use osm_import::{CopyCounts, CopyStop, copy_held};
 use osm_parts::Openings;
-use osm_store::{Keeper, Reader, StoreFault};
+use osm_rows::{Keeper, Reader, StoreFault};
 use osm_value::{Sink, put};
 use std::alloc::Global;
 

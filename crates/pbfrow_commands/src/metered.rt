@@ -3,7 +3,7 @@
 ghost use Rattle.std.specs.Prelude.{None};
 
 use osm_import::{Answer, SourceFailed, Teller};
-use osm_store::{Extent, Found, Loaded, Reader, StoreFault};
+use osm_rows::{Extent, Found, Loaded, Reader, StoreFault};
 use osm_value::MemberKind;
 use osm_verify::FileBytes;
 use pbfrow_reading::watcher::Watcher;

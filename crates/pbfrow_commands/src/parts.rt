@@ -2,7 +2,7 @@
 
 ghost use Rattle.std.specs.Prelude.{◌≡◌, ◌≤◌, List, IfOk, IfErr, length};
 ghost use Rattle.osm_value.specs.Printing.{Prints};
-ghost use Rattle.osm_store.specs.Held.{HeldMap};
+ghost use Rattle.osm_rows.specs.Held.{HeldMap};
 ghost use Rattle.osm_parts.specs.Opening.{KeepsMaps, OnlyOpens};
 ghost use Rattle.osm_parts.specs.PartsFaults.{IsOfMaps, PartsFaultHasCause};
 ghost use Rattle.pbfrow_commands.specs.InParts.{parts_fault_line, TellsOfUnion, TellsParts, TellsLines, TellsPbf};
@@ -14,7 +14,7 @@ use crate::status::{Holdings, holdings_of, put_holdings};
 use osm_parts::{
     Openings, PartsFault, export_parts_as_lines, export_parts_as_pbf, extents_of_parts, read_parts,
 };
-use osm_store::Reader;
+use osm_rows::Reader;
 use osm_value::{Form, Sink};
 use pbfrow_reading::report::put_fault_at;
 use std::alloc::Global;

@@ -4,7 +4,7 @@ ghost use Rattle.osm_value.specs.Printing.{Prints};
 ghost use Rattle.pbfrow_commands.specs.CommandLines.{store_fault_line, summary_line};
 
 use osm_import::{Summary, put_plain_fault};
-use osm_store::StoreFault;
+use osm_rows::StoreFault;
 use osm_value::{Sink, put};
 use pbfrow_reading::check::put_total;
 

@@ -2,9 +2,9 @@
 
 ghost use Rattle.std.specs.Prelude.{◌≡◌, ◌≤◌, ℕ, Option, IfOk, IfErr};
 ghost use Rattle.osm_value.specs.Printing.{Prints};
-ghost use Rattle.osm_store.specs.Held.{HeldMap, IsApart};
-ghost use Rattle.osm_store.specs.Calls.{OfHeld};
-ghost use Rattle.osm_store.specs.Keeping.{IsForeign, extents_of};
+ghost use Rattle.osm_rows.specs.Held.{HeldMap, IsApart};
+ghost use Rattle.osm_rows.specs.Calls.{OfHeld};
+ghost use Rattle.osm_rows.specs.Keeping.{IsForeign, extents_of};
 ghost use Rattle.osm_import.specs.Step.{HasCause};
 ghost use Rattle.osm_import.specs.Stores.{Rereads, Stays};
 ghost use Rattle.pbfrow_commands.specs.CommandLines.{counts_line, gap_line, gap_lines};
@@ -12,7 +12,7 @@ ghost use Rattle.pbfrow_commands.specs.Status.{IsSurvey, Tells, TellsStatus, sta
 
 use crate::report::put_store_fault;
 use osm_import::{gaps_between, greatest_end};
-use osm_store::{Extent, Reader, StoreFault};
+use osm_rows::{Extent, Reader, StoreFault};
 use osm_value::{Sink, put, put_digits};
 use pbfrow_reading::check::put_total;
 use std::alloc::{AllocError, Global};

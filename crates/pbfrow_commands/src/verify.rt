@@ -5,9 +5,9 @@ ghost use Rattle.std.specs.Fmt.{decimal};
 ghost use Rattle.pbf_frame.specs.declared.part.TheConstants.{MAX_OFFSET as LAST};
 ghost use Rattle.osm_value.specs.Printing.{Prints};
 ghost use Rattle.osm_value.specs.declared.element.Element.{Element as ElementValue};
-ghost use Rattle.osm_store.specs.Audit.{counts_of as counts_of_rows, elements_held};
-ghost use Rattle.osm_store.specs.Calls.{KeepsTables, OfHeld};
-ghost use Rattle.osm_store.specs.Keeping.{IsForeign, extents_of};
+ghost use Rattle.osm_rows.specs.Audit.{counts_of as counts_of_rows, elements_held};
+ghost use Rattle.osm_rows.specs.Calls.{KeepsTables, OfHeld};
+ghost use Rattle.osm_rows.specs.Keeping.{IsForeign, extents_of};
 ghost use Rattle.osm_import.specs.Files.{IsFile};
 ghost use Rattle.osm_reading.specs.Good.{IsFrame};
 ghost use Rattle.osm_import.specs.Step.{HasCause};
@@ -21,7 +21,7 @@ ghost use Rattle.pbfrow_reading.specs.Walks.{IsPart, Part, status_of};
 use osm_import::{
     ExamineFault, Fault, FrameReader, Inlet, Stop, StreamFault, examine_frame, put_fault_at,
 };
-use osm_store::{Audited, Counts as Rows, Extent, Reader, StoreFault};
+use osm_rows::{Audited, Counts as Rows, Extent, Reader, StoreFault};
 use osm_value::{Outlet, Sink, put, put_digits};
 use osm_verify::{Agreement, Depth, compare, extents_beginning, has_rows};
 use pbf_frame::MAX_OFFSET;

@@ -3,7 +3,7 @@
 ghost use Rattle.std.specs.Prelude.{◌≡◌, ◌≤◌, ℕ, List, length, IfSome};
 ghost use Rattle.std.specs.List.{count_by};
 ghost use Rattle.osm_value.specs.Printing.{Prints};
-ghost use Rattle.osm_store.specs.Held.{HeldMap};
+ghost use Rattle.osm_rows.specs.Held.{HeldMap};
 ghost use Rattle.osm_parts.specs.Opening.{KeepsMaps};
 ghost use Rattle.osm_verify.specs.Judging.{ShowsPart};
 ghost use Rattle.osm_verify.specs.Showing.{ShowTogether};
@@ -15,7 +15,7 @@ use crate::status::put_gaps;
 use crate::verify::put_at;
 use osm_import::{Stop, StreamFault};
 use osm_parts::Openings;
-use osm_store::Audited;
+use osm_rows::Audited;
 use osm_value::{Sink, put};
 use osm_verify::{AuditFault, Depth, FileBytes, Finding, Verdict, audit_parts};
 use pbfrow_reading::check::put_total;

@@ -9,9 +9,9 @@ use Rattle.std.proofs.lemmas.List.Concat.{flat_map-append}
 use Rattle.std.proofs.lemmas.List.Sums.{sum_by_more}
 use Rattle.std.specs.Prelude.{IfErr}
 use Rattle.osm_value.specs.declared.element.Element.{Element}
-use Rattle.osm_store.specs.Held.{Blob, HeldMap}
-use Rattle.osm_store.specs.Keeping.{extents_of, extent_of}
-use Rattle.osm_store.specs.declared.keeper.Extent.{Extent}
+use Rattle.osm_rows.specs.Held.{Blob, HeldMap}
+use Rattle.osm_rows.specs.Keeping.{extents_of, extent_of}
+use Rattle.osm_rows.specs.declared.keeper.Extent.{Extent}
 use Rattle.osm_import.proofs.Touching.{find-tail, find-head, sorted-tail}
 use Rattle.osm_import.proofs.Delivering.{true-of}
 use Rattle.osm_parts.specs.Opening.{AddsUp}

@@ -4,9 +4,9 @@ use Rattle.std.specs.List.{All, Contains, count_by, sum_by}
 use Rattle.osm_value.specs.declared.element.Element.{Element}
 use Rattle.osm_value.specs.declared.element.Element.TheVariants.{Node, Way, Relation}
 use Rattle.osm_value.specs.Elements.{tags_of_element, info_of_element}
-use Rattle.osm_faults.specs.Faults as stores
-use Rattle.osm_store.specs.Held.{Blob}
-use Rattle.osm_store.specs.Keeping.{IsForeign}
+use Rattle.osm_rows.specs.Faults as stores
+use Rattle.osm_rows.specs.Held.{Blob}
+use Rattle.osm_rows.specs.Keeping.{IsForeign}
 use Rattle.osm_import.specs.Step.{HasCause}
 use Rattle.pbfrow_reading.specs.Checking.{capped, is_node, is_way, is_relation}
 use Rattle.pbfrow_counts.specs.declared.elements.ElementCounts.{ElementCounts}

@@ -3,16 +3,16 @@
 ghost use Rattle.std.specs.Prelude.{◌≡◌, ◌≤◌, Some, IfErr, OnOk};
 ghost use Rattle.std.specs.FinMap.{get, entries};
 ghost use Rattle.std.specs.List.{sum_by};
-ghost use Rattle.osm_store.specs.Held.{Blob, HeldMap};
-ghost use Rattle.osm_store.specs.Keeping.{extent_of, extents_of};
-ghost use Rattle.osm_store.specs.declared.keeper.Extent.{Extent as ExtentValue};
+ghost use Rattle.osm_rows.specs.Held.{Blob, HeldMap};
+ghost use Rattle.osm_rows.specs.Keeping.{extent_of, extents_of};
+ghost use Rattle.osm_rows.specs.declared.keeper.Extent.{Extent as ExtentValue};
 ghost use Rattle.osm_import.specs.Walks.{IsWithin};
 ghost use Rattle.osm_import.specs.Stores.{Rereads};
 ghost use Rattle.pbfrow_counts.specs.Counting.{CountHasCause, CountTells, CountsMore, CountsSoMany, IsOfMap, elements_of};
 
 use crate::elements::ElementCounts;
 use crate::fault::CountFault;
-use osm_store::{Extent, Reader};
+use osm_rows::{Extent, Reader};
 use std::alloc::Global;
 
 /// Counts the elements of the blob at an extent, unless the store has other than as many of it as the extent says.

@@ -1,11 +1,11 @@
 //! Why elements aren't counted.
 
 ghost use Rattle.std.specs.Prelude.{◌≡◌};
-ghost use Rattle.osm_faults.specs.declared.fault.StoreFault.TheVariants.{Memory};
+ghost use Rattle.osm_rows.specs.declared.fault.StoreFault.TheVariants.{Memory};
 ghost use Rattle.pbfrow_counts.specs.declared.fault.CountFault.TheVariants.{Store};
 ghost use Rattle.pbfrow_counts.specs.Counting.{count_number_of, count_name_of};
 
-use osm_store::StoreFault;
+use osm_rows::StoreFault;
 use std::alloc::AllocError;
 use thiserror::Error;
 

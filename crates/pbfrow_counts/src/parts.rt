@@ -2,7 +2,7 @@
 
 ghost use Rattle.std.specs.Prelude.{◌≤◌, Bool, List, IfErr, OnOk};
 ghost use Rattle.std.specs.FinMap.{entries};
-ghost use Rattle.osm_store.specs.Held.{HeldMap};
+ghost use Rattle.osm_rows.specs.Held.{HeldMap};
 ghost use Rattle.osm_parts.specs.Opening.{OnlyOpens};
 ghost use Rattle.osm_parts.specs.Parts.{AreParts};
 ghost use Rattle.osm_parts.specs.Reading.{AreRead, IsPart};
@@ -12,7 +12,7 @@ use crate::blobs::count_blobs;
 use crate::elements::ElementCounts;
 use crate::fault::CountFault;
 use osm_parts::{Openings, Part};
-use osm_store::Reader;
+use osm_rows::Reader;
 use std::alloc::Global;
 
 /// Counts the elements of the blobs of a part, whose store is opened and closed.

@@ -8,7 +8,7 @@ ghost use Rattle.osm_import.specs.declared.copy.CopyStop.{CopyStop as CopyStopVa
 ghost use Rattle.pbfrow_commands.specs.Copying.{CopiesStore, copy_status, outcome_line};
 
 use osm_databases::databases::{Databases, close, opened_or_made, source_of_blocks};
-use osm_store::{Keeper, Reader};
+use osm_rows::{Keeper, Reader};
 use osm_value::{Outlet, Sink};
 use pbfrow_answers::ending::refuse;
 use pbfrow_commands::metered::MeteredStore;

@@ -4,10 +4,10 @@ ghost use Rattle.std.specs.Prelude.{◌≡◌, ◌<◌, ◌≤◌, ◌-◌, ℕ,
 ghost use Rattle.std.specs.FinMap.{empty};
 ghost use Rattle.osm_value.specs.declared.element.MemberKind.{MemberKind as MemberKindValue};
 ghost use Rattle.osm_value.specs.declared.form.Form.TheVariants as form;
-ghost use Rattle.osm_store.specs.Calls.{OfHeld};
-ghost use Rattle.osm_store.specs.Held.{HeldMap};
-ghost use Rattle.osm_store.specs.Keeping.{extents_of};
-ghost use Rattle.osm_store.specs.Rows.{is_of, placed_in};
+ghost use Rattle.osm_rows.specs.Calls.{OfHeld};
+ghost use Rattle.osm_rows.specs.Held.{HeldMap};
+ghost use Rattle.osm_rows.specs.Keeping.{extents_of};
+ghost use Rattle.osm_rows.specs.Rows.{is_of, placed_in};
 ghost use Rattle.osm_reading.specs.Framings.{Known};
 ghost use Rattle.osm_import.specs.ExportCauses.{ExportHasCause, ExportIsOwn};
 ghost use Rattle.osm_import.specs.Exports.{IsExport, size_of};
@@ -24,7 +24,7 @@ ghost use Rattle.pbfrow_commands.specs.Status.{TellsStatus};
 
 use osm_databases::databases::{Databases, close, opened, opened_or_made};
 use osm_import::{Inlet, Stop, Teller, Told};
-use osm_store::{Keeper, Reader};
+use osm_rows::{Keeper, Reader};
 use osm_value::{MemberKind, Outlet, Sink};
 use pbf_frame::MAX_OFFSET;
 use pbfrow_answers::ending::refuse;

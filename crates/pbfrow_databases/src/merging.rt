@@ -1,13 +1,13 @@
 //! The command that copies several databases into one: `merge`.
 
 ghost use Rattle.std.specs.Prelude.{◌≤◌};
-ghost use Rattle.osm_store.specs.Calls.{OfHeld};
-ghost use Rattle.osm_store.specs.Held.{HeldMap};
+ghost use Rattle.osm_rows.specs.Calls.{OfHeld};
+ghost use Rattle.osm_rows.specs.Held.{HeldMap};
 ghost use Rattle.osm_import.specs.Stores.{HoldsStill, Keeps};
 ghost use Rattle.osm_databases.specs.Found.{AreFound};
 
 use osm_databases::databases::{Databases, close, opened, opened_or_made};
-use osm_store::{Keeper, StoreFault};
+use osm_rows::{Keeper, StoreFault};
 use osm_trees::TreeStore;
 use osm_value::Outlet;
 use pbfrow_answers::ending::refuse;

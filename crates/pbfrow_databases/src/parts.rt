@@ -4,7 +4,7 @@ ghost use Rattle.std.specs.Prelude.{◌≤◌};
 ghost use Rattle.osm_databases.specs.Found.{AreFound};
 
 use osm_databases::databases::{Databases, opened};
-use osm_store::StoreFault;
+use osm_rows::StoreFault;
 use osm_trees::TreeStore;
 use osm_value::Sink;
 use pbfrow_answers::named::ask_named;

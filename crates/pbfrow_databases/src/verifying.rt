@@ -1,7 +1,7 @@
 //! The command that compares a PBF file and a database, or several that hold parts of it: `verify`.
 
 ghost use Rattle.std.specs.Prelude.{◌≡◌, ◌≤◌, ℕ, List, IfSome};
-ghost use Rattle.osm_store.specs.Calls.{OfHeld};
+ghost use Rattle.osm_rows.specs.Calls.{OfHeld};
 ghost use Rattle.osm_import.specs.Files.{IsFile};
 ghost use Rattle.osm_import.specs.Stores.{Stays};
 ghost use Rattle.osm_verify.specs.Laws.{IsExact};
@@ -9,7 +9,7 @@ ghost use Rattle.osm_databases.specs.Found.{AreReadFrom};
 ghost use Rattle.pbfrow_commands.specs.Verifying.{ShowsFile, VerifiesInput};
 
 use osm_databases::databases::{CheckedDatabases, opened_checked};
-use osm_store::{Audited, StoreFault};
+use osm_rows::{Audited, StoreFault};
 use osm_tree_audits::{Stray, stray_row};
 use osm_trees::CheckedStore;
 use osm_value::Outlet;

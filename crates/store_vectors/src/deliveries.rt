@@ -3,7 +3,7 @@
 use crate::fixtures::Frame;
 use crate::memory::NewStore;
 use osm_import::{Answer, Delivery, ExportFault, deliver_all, export_lines, export_pbf};
-use osm_store::Reader;
+use osm_rows::Reader;
 use osm_value::{Form, Outlet, Sink};
 use std::alloc::{AllocError, Global};
 use std::test::Fail;

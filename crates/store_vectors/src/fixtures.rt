@@ -1,7 +1,7 @@
 //! What the tests share: frames and blocks as bytes, made by hand from fileformat.proto and osmformat.proto, the lines of
 //! their elements, and where blobs stand.
 
-use osm_store::Extent;
+use osm_rows::Extent;
 use osm_vectors::vectors::{
     EXTRA_FRAME, HEADER_FRAME, HEADER_FRAME_DIGEST, NO_ELEMENTS_BLOCK, TWO_NODES_BLOCK,
     TWO_NODES_FILE, TWO_NODES_FRAME, TWO_NODES_FRAME_DIGEST, WRITTEN_HEADER_FRAME,

@@ -1,8 +1,7 @@
 //! Stores in memory, of both layouts and below SQL, and the rows of their tables.
 
-use osm_store::{
-    Audited, BlobStore, Bodies, BodyStore, Keeper, StoreFault, StoreLayout, TableStore, Tables,
-};
+use osm_rows::{Audited, Bodies, Keeper, StoreFault, StoreLayout, Tables};
+use osm_sql_store::{BlobStore, BodyStore, TableStore};
 use osm_trees::TreeStore;
 use sqlite::{Alter, Connection, MemStore};
 use std::alloc::Global;

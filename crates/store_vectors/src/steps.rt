@@ -12,7 +12,7 @@ use osm_import::{
     Answer, ExportFault, ImportStop, Inlet, Summary, Told, deliver, deliver_all, gaps,
     import_stream,
 };
-use osm_store::{Extent, Keeper, Reader, StoreFault};
+use osm_rows::{Extent, Keeper, Reader, StoreFault};
 use osm_value::{Element, Form, MemberKind, Outlet, write_line};
 use std::alloc::Global;
 use std::io::Read;

@@ -4,7 +4,7 @@ use super::parts::{Range, Ranges, part_of};
 use super::stores::{Blocks, Columns, NewStore, import_two_nodes};
 use super::support::{Closed, TWO_NODES};
 use osm_import::Told;
-use osm_store::StoreFault;
+use osm_rows::StoreFault;
 use osm_value::{Form, Outlet, Sink};
 use osm_verify::Depth;
 use pbfrow_answers::ending::{let_go, refuse};

@@ -4,7 +4,7 @@ use super::stores::{
     Blocks, Columns, NewStore, expect_import, import_four_blobs, import_two_nodes,
 };
 use super::support::{Closed, TWO_NODES, WRITTEN_HEADER};
-use osm_store::Keeper;
+use osm_rows::Keeper;
 use osm_value::{Form, MemberKind, Outlet};
 use pbfrow_commands::export::export;
 use pbfrow_commands::find::find;

@@ -7,7 +7,7 @@ use super::parts::{Range, Ranges};
 use super::stores::{Blocks, Columns, NewStore, import_two_nodes};
 use super::support::{Closed, TWO_NODES};
 use osm_parts::read_parts;
-use osm_store::{Reader, StoreFault};
+use osm_rows::{Reader, StoreFault};
 use osm_value::{Element, Info, Member, MemberKind, Node, Outlet, Relation, Way};
 use pbfrow_commands::counts::{status_parts_with_counts, status_with_counts};
 use pbfrow_counts::{CountFault, ElementCounts, count_blobs, count_parts, put_element_counts};

@@ -3,7 +3,7 @@
 use super::stores::{Blocks, Columns, NewStore};
 use super::support::{Breaking, Dripping, TWO_NODES};
 use osm_import::Told;
-use osm_store::Keeper;
+use osm_rows::Keeper;
 use osm_value::Outlet;
 use pbfrow_commands::import::{Start, import_to, seek_start};
 use std::alloc::Global;

@@ -4,7 +4,7 @@ use super::stores::{Blocks, Columns, NewStore, expect_import, import_two_nodes};
 use super::support::{Closed, TWO_NODES};
 use osm_import::{Conflict, CopyCounts, CopyFault, CopyStop};
 use osm_parts::Shelf;
-use osm_store::{Keeper, Reader};
+use osm_rows::{Keeper, Reader};
 use osm_value::{Form, Outlet};
 use pbfrow_commands::export::export;
 use pbfrow_commands::merge::{end_merge, merge_all, merge_one};

@@ -2,7 +2,7 @@
 
 use super::stores::{Blocks, Columns, NewStore, expect_import, import_two_nodes};
 use super::support::{Closed, TWO_NODES};
-use osm_store::{Keeper, Reader};
+use osm_rows::{Keeper, Reader};
 use osm_value::{Form, Outlet};
 use pbfrow_commands::export::export;
 use pbfrow_commands::migrate::migrate;

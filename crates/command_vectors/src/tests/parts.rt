@@ -6,7 +6,7 @@ use super::stores::{Blocks, Columns, NewStore, four_blobs};
 use super::support::{Closed, TWO_NODES, WRITTEN_HEADER};
 use osm_import::{Inlet, Told};
 use osm_parts::Openings;
-use osm_store::{Reader, StoreFault};
+use osm_rows::{Reader, StoreFault};
 use osm_value::{Form, Outlet};
 use pbfrow_commands::import::{Start, import};
 use pbfrow_commands::parts::{export_parts, status_parts};

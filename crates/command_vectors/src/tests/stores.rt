@@ -2,7 +2,8 @@
 
 use super::support::{EXTRA, TWO_NODES};
 use osm_import::{Inlet, Told};
-use osm_store::{Audited, BlobStore, BodyStore, Keeper, StoreLayout, TableStore};
+use osm_rows::{Audited, Keeper, StoreLayout};
+use osm_sql_store::{BlobStore, BodyStore, TableStore};
 use osm_value::Outlet;
 use pbfrow_commands::import::{Start, import};
 use sqlite::{Connection, MemStore};

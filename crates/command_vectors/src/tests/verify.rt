@@ -2,7 +2,7 @@
 
 use super::stores::{Blocks, Columns, NewStore, import_four_blobs, import_two_nodes};
 use super::support::{Breaking, Closed, TWO_NODES, Unwatched};
-use osm_store::{Audited, Keeper};
+use osm_rows::{Audited, Keeper};
 use osm_value::Outlet;
 use osm_verify::Depth;
 use pbf_frame::Kind;

@@ -4,7 +4,7 @@
 ghost use Rattle.std.specs.FinMap.{empty};
 ghost use Rattle.sqlite_store.specs.FileStore.{view};
 ghost use Rattle.sqlite_trees.specs.View.{IsClean};
-ghost use Rattle.osm_store.specs.declared.schema.layout.Layout.TheVariants.{Tables};
+ghost use Rattle.osm_rows.specs.declared.schema.layout.Layout.TheVariants.{Tables};
 ghost use Rattle.osm_trees.specs.Below.{HoldsBelow};
 ghost use Rattle.osm_databases.specs.Checked.{IsOfVersion};
 
@@ -21,7 +21,8 @@ use osm_databases::trees::{
 };
 use osm_import::deliver_all;
 use osm_openings::{Obstacle, Obstruction};
-use osm_store::{Keeper, Reader, StoreFault, TableStore};
+use osm_rows::{Keeper, Reader, StoreFault};
+use osm_sql_store::TableStore;
 use osm_trees::TreeStore;
 use sqlite::{Alter, Connection, FileStore, MemStore};
 use std::alloc::Global;

@@ -4,7 +4,7 @@ use osm_databases::reason::{
     Reason, Refusal, fault_of_obstacle, tell, tell_of_obstruction, told, told_of,
 };
 use osm_openings::{Obstacle, Obstruction};
-use osm_store::StoreFault;
+use osm_rows::StoreFault;
 use pbfrow_files::OpenFault;
 use sqlite::{Error as SqlError, ErrorCode};
 use std::alloc::{AllocError, Global};

@@ -1,10 +1,8 @@
 //! Copies of the blobs of one store in memory into another, between both layouts.
 
 use super::deliveries::file_store;
-use osm_import::{
-    Answer, Conflict, CopyCounts, CopyFault, CopyStop, MigrateFault, copy_held, deliver, migrate,
-};
-use osm_store::{Reader, StoreFault};
+use osm_import::{Answer, Conflict, CopyCounts, CopyFault, CopyStop, copy_held, deliver};
+use osm_rows::{Reader, StoreFault};
 use std::alloc::Global;
 use std::process::Abort;
 use std::test::*;
@@ -207,16 +205,16 @@ fn migrates_an_older_store(rt: HostRuntime) -> Result<(), Fail> {
     let mut older: BodiesInMemory = file_store(alloc)?;
     let mut newer: TablesInMemory = NewStore::new_store(alloc)?;
     let (copied, held) = (2, 2);
-    assert!(rt; migrate(alloc, &mut older, &mut newer) == Ok(CopyCounts { copied, held: 0 }));
+    assert!(rt; copy_held(alloc, &mut older, &mut newer) == Ok(CopyCounts { copied, held: 0 }));
     assert!(rt; holds_the_file(alloc, &mut newer)?);
-    assert!(rt; migrate(alloc, &mut older, &mut newer) == Ok(CopyCounts { copied: 0, held }));
+    assert!(rt; copy_held(alloc, &mut older, &mut newer) == Ok(CopyCounts { copied: 0, held }));
     assert!(rt; holds_the_file(alloc, &mut older)?);
     let mut other: TablesInMemory = NewStore::new_store(alloc)?;
     assert!(rt; deliver(alloc, &mut other, 47, CHANGED) == Answer::Stored(2));
     let differs = CopyFault::Refused(Conflict::Differs);
     assert!(rt;
-        migrate(alloc, &mut older, &mut other)
-            == Err(MigrateFault {
+        copy_held(alloc, &mut older, &mut other)
+            == Err(CopyStop {
                 fault: differs,
                 off: 47
             })

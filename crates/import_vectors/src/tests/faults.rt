@@ -4,7 +4,7 @@ use osm_import::{
     Conflict, CopyFault, CopyStop, ExamineFault, Fault, ImportFault, ImportStop, Stop, examine,
 };
 use osm_parts::PartsFault;
-use osm_store::StoreFault;
+use osm_rows::StoreFault;
 use pbf_frame::FrameFault;
 use std::test::*;
 use store_vectors::fixtures::HEADER;

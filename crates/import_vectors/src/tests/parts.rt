@@ -5,7 +5,7 @@ use osm_parts::{
     Openings, Part, PartsFault, Shelf, export_parts_as_lines, export_parts_as_pbf,
     extents_of_parts, gaps_of_parts, read_parts,
 };
-use osm_store::{Extent, Reader, StoreFault};
+use osm_rows::{Extent, Reader, StoreFault};
 use osm_value::Outlet;
 use osm_vectors::FailingWriter;
 use std::alloc::Global;

@@ -1,7 +1,7 @@
 //! What can be asked of a store, with what it tells as bytes.
 
 use osm_import::{ExportFault, gaps};
-use osm_store::{Reader, StoreFault};
+use osm_rows::{Reader, StoreFault};
 use osm_value::{Form, MemberKind};
 use std::alloc::Global;
 use store_vectors::deliveries::exported;

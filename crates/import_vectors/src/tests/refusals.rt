@@ -2,7 +2,7 @@
 
 use super::questions::{Question, answer_to};
 use osm_import::{Answer, ExportFault, deliver};
-use osm_store::{Reader, StoreFault};
+use osm_rows::{Reader, StoreFault};
 use osm_vectors::vectors::TWO_NODES_FRAME;
 use std::alloc::Global;
 use std::process::Abort;

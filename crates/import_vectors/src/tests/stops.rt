@@ -9,7 +9,8 @@ mod reads;
 
 use super::questions::{Question, answer_to};
 use osm_import::{Answer, ExportFault, deliver_all};
-use osm_store::{BlobStore, Extent, Keeper, Reader, StoreFault, StoreLayout, TableStore};
+use osm_rows::{Extent, Keeper, Reader, StoreFault, StoreLayout};
+use osm_sql_store::{BlobStore, TableStore};
 use sqlite::{Alter, Connection, FileStore, Files};
 use sqlite_disk::{Crash, Disk, Fuse, Memory};
 use std::alloc::Global;

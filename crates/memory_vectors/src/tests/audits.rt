@@ -2,7 +2,8 @@
 //! connection have changed, by SQL and by its trees; which row belongs to no blob; and whether the indexes of trees are whole.
 
 use osm_block::read_block;
-use osm_store::{Audited, Counts, Extent, StoreFault, TableStore};
+use osm_rows::{Audited, Counts, Extent, StoreFault};
+use osm_sql_store::TableStore;
 use osm_tree_audits::{
     ElementTable, Look, Looked, StoreIndex, Stray, TableLook, look_at_indexes, stray_row,
 };

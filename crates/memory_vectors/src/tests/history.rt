@@ -3,7 +3,7 @@
 
 use super::tables::{expect_rows, filled};
 use osm_import::Answer;
-use osm_store::Extent;
+use osm_rows::Extent;
 use osm_value::MemberKind;
 use pbf_frame::Kind;
 use std::test::*;

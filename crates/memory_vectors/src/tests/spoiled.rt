@@ -1,7 +1,7 @@
 //! Rows that are those of no map, made by statements over a store's connection, and the reads that meet them.
 
 use osm_import::{CopyFault, CopyStop, ExportFault, copy_held};
-use osm_store::StoreFault;
+use osm_rows::StoreFault;
 use osm_value::{Form, MemberKind};
 use std::alloc::Global;
 use std::process::Abort;

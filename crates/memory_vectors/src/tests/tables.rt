@@ -2,7 +2,8 @@
 //! with tags, nodes and members.
 
 use osm_import::Answer;
-use osm_store::{BodyStore, StoreFault, TableStore};
+use osm_rows::StoreFault;
+use osm_sql_store::{BodyStore, TableStore};
 use osm_value::MemberKind;
 use sqlite::{Alter, Connection, MemStore};
 use std::alloc::Global;

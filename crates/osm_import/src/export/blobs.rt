@@ -2,9 +2,9 @@
 
 ghost use Rattle.std.specs.Prelude.{◌≡◌, ◌≤◌, false, Some, Err, IfOk, IfErr, OnOk};
 ghost use Rattle.std.specs.FinMap.{get, entries};
-ghost use Rattle.osm_store.specs.Held.{Blob, HeldMap};
-ghost use Rattle.osm_store.specs.Calls.{OfHeld};
-ghost use Rattle.osm_store.specs.Keeping.{extent_of, extents_of};
+ghost use Rattle.osm_rows.specs.Held.{Blob, HeldMap};
+ghost use Rattle.osm_rows.specs.Calls.{OfHeld};
+ghost use Rattle.osm_rows.specs.Keeping.{extent_of, extents_of};
 ghost use Rattle.osm_import.specs.Gaps.{Tiles};
 ghost use Rattle.osm_import.specs.Exports.{size_of, IsUnbegun};
 ghost use Rattle.osm_import.specs.ExportCauses.{ExportHasCause, ExportIsOwn, ExportTells, WriteHasCause};
@@ -13,7 +13,7 @@ ghost use Rattle.osm_import.specs.Stores.{Rereads};
 
 use super::ExportFault;
 use super::refusal::refused;
-use osm_store::{Extent, Reader};
+use osm_rows::{Extent, Reader};
 use osm_value::{Element, Sink};
 use std::alloc::Global;
 

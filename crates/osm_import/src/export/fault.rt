@@ -1,11 +1,11 @@
 //! Why an export ends early.
 
 ghost use Rattle.std.specs.Prelude.{◌≡◌};
-ghost use Rattle.osm_faults.specs.declared.fault.StoreFault.TheVariants.{Memory};
+ghost use Rattle.osm_rows.specs.declared.fault.StoreFault.TheVariants.{Memory};
 ghost use Rattle.osm_import.specs.declared.export.fault.ExportFault.TheVariants.{Store};
 ghost use Rattle.osm_import.specs.ExportFaults.{export_number_of, export_name_of};
 
-use osm_store::StoreFault;
+use osm_rows::StoreFault;
 use std::alloc::AllocError;
 use thiserror::Error;
 

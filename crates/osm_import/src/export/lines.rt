@@ -3,9 +3,9 @@
 ghost use Rattle.std.specs.Prelude.{ℕ, List, OnOk, OnErr, IsTrue, length};
 ghost use Rattle.std.specs.Io.KnownBytes.{Appends};
 ghost use Rattle.osm_value.specs.Sink.{AppendsFront};
-ghost use Rattle.osm_store.specs.Held.{HeldMap};
-ghost use Rattle.osm_store.specs.Calls.{OfHeld};
-ghost use Rattle.osm_store.specs.Keeping.{extents_of};
+ghost use Rattle.osm_rows.specs.Held.{HeldMap};
+ghost use Rattle.osm_rows.specs.Calls.{OfHeld};
+ghost use Rattle.osm_rows.specs.Keeping.{extents_of};
 ghost use Rattle.osm_import.specs.Gaps.{Tiles};
 ghost use Rattle.osm_import.specs.Files.{IsFile, IsHeldOfFile};
 ghost use Rattle.osm_import.specs.Exports.{lines_of, WritesLines, WritesFile, IsExport, IsAskedFor, size_of};
@@ -14,7 +14,7 @@ ghost use Rattle.osm_import.specs.Stores.{Rereads};
 
 use super::ExportFault;
 use super::blobs::{BlobStep, extents_to_export, write_blobs};
-use osm_store::Reader;
+use osm_rows::Reader;
 use osm_value::{Element, LineFault, Sink, write_line};
 use std::alloc::Global;
 

@@ -3,9 +3,9 @@
 ghost use Rattle.std.specs.Prelude.{◌≢◌, ◌≤◌, ℕ, List, length};
 ghost use Rattle.pbf_frame.specs.declared.kind.Kind.TheVariants.{Other};
 ghost use Rattle.pbf_frame.specs.Write.{frame_bytes, type_name_of};
-ghost use Rattle.osm_store.specs.Held.{HeldMap};
-ghost use Rattle.osm_store.specs.Calls.{OfHeld};
-ghost use Rattle.osm_store.specs.Keeping.{extents_of};
+ghost use Rattle.osm_rows.specs.Held.{HeldMap};
+ghost use Rattle.osm_rows.specs.Calls.{OfHeld};
+ghost use Rattle.osm_rows.specs.Keeping.{extents_of};
 ghost use Rattle.osm_import.specs.Gaps.{Tiles};
 ghost use Rattle.osm_import.specs.Files.{IsFile, IsHeldOfFile};
 ghost use Rattle.osm_import.specs.Exports.{WritesBlob, IsAskedFor, size_of};
@@ -15,7 +15,7 @@ ghost use Rattle.osm_import.specs.Stores.{Rereads};
 
 use super::ExportFault;
 use super::blobs::{BlobStep, extents_to_export, write_blobs};
-use osm_store::{Reader, StoreFault};
+use osm_rows::{Reader, StoreFault};
 use osm_value::{Element, Sink, put};
 use osm_write::{BlobCutter, WriteFault, encode_header};
 use pbf_frame::{Kind, MAX_RAW, write_frame};

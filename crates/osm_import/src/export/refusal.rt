@@ -6,7 +6,7 @@ ghost use Rattle.osm_import.specs.Exports.{greatest_end, size_of, IsRefusalOf, A
 
 use super::ExportFault;
 use crate::gap::gap_before;
-use osm_store::Extent;
+use osm_rows::Extent;
 
 fn first_gap(extents: &[Extent], size: u64) -> Option<(u64, u64)>
     ensures { result ≡ slice_get (ranges_between 0 size extents.now) 0 }

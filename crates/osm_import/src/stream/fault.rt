@@ -4,7 +4,7 @@ ghost use Rattle.std.specs.Prelude.{◌≡◌};
 ghost use Rattle.osm_import.specs.ImportFaults.{import_number_of, import_name_of};
 
 use osm_reading::Stop;
-use osm_store::StoreFault;
+use osm_rows::StoreFault;
 use thiserror::Error;
 
 /// Why an import stops.

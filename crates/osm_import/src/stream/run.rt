@@ -2,7 +2,7 @@
 
 ghost use Rattle.std.specs.Prelude.{◌≡◌, ◌≤◌, [], ℕ, List, Some, IfOk, IfErr};
 ghost use Rattle.std.specs.FinMap.{empty};
-ghost use Rattle.osm_store.specs.Held.{HeldMap};
+ghost use Rattle.osm_rows.specs.Held.{HeldMap};
 ghost use Rattle.osm_import.specs.Merges.{ImportsPart};
 ghost use Rattle.osm_import.specs.Flows.{input, input_behind, output};
 ghost use Rattle.osm_import.specs.Stores.{Takes, TakesOne};
@@ -16,7 +16,7 @@ use super::teller::Teller;
 use crate::answer::Answer;
 use crate::delivery::deliver;
 use osm_reading::{Piece, Source, Stop, has_more, read_frame};
-use osm_store::Keeper;
+use osm_rows::Keeper;
 use osm_value::Sink;
 use pbf_frame::{FrameFault, Framer, MAX_OFFSET};
 use std::alloc::Global;

@@ -1,7 +1,7 @@
 //! Deliveries in any order, again, and in the way of one another.
 
 use osm_import::{Answer, Conflict, Fault, examine};
-use osm_store::StoreFault;
+use osm_rows::StoreFault;
 use pbf_frame::Kind;
 use std::test::*;
 use store_vectors::fixtures::{

@@ -1,7 +1,7 @@
 //! Streams of frames.
 
 use osm_import::{ImportFault, ImportStop, Inlet, Stop, Summary, Told, gaps, import_stream};
-use osm_store::Extent;
+use osm_rows::Extent;
 use osm_value::Outlet;
 use osm_vectors::{FailingReader, FailingWriter};
 use pbf_frame::FrameFault;

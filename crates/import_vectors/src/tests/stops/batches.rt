@@ -4,7 +4,7 @@
 use super::below::rows_by_sql;
 use super::{Outcome, Reached, STOPS, Source, Stopped, Unsynced, below, imports, sum};
 use osm_import::{Answer, deliver_all};
-use osm_store::{Extent, Keeper, Tables};
+use osm_rows::{Extent, Keeper, Tables};
 use osm_value::{Element, Form, Info, Node};
 use osm_write::encode_block;
 use pbf_frame::{Kind, write_frame};

@@ -3,7 +3,7 @@
 
 use super::{Reached, Source, below, extents_of, has_rows_of, imports};
 use osm_import::{CopyCounts, CopyFault, CopyStop, copy_held};
-use osm_store::{Extent, Keeper, StoreFault, Tables};
+use osm_rows::{Extent, Keeper, StoreFault, Tables};
 use sqlite::{Alter, Connection};
 use std::alloc::Global;
 use std::test::*;

@@ -4,7 +4,7 @@ use super::{
     Outcome, Reached, STOPS, Source, Stopped, TaggedFile, Unsynced, Work, found_after, new_files,
     session,
 };
-use osm_store::{Bodies, Tables};
+use osm_rows::{Bodies, Tables};
 use std::alloc::Global;
 use std::process::Abort;
 use std::test::*;

@@ -5,7 +5,7 @@ use super::{
     Fused, Outcome, Reached, STOPS, Stopped, TaggedFile, Unsynced, Work, copies, found_after,
     new_files, session,
 };
-use osm_store::{Bodies, Tables};
+use osm_rows::{Bodies, Tables};
 use osm_trees::TreeStore;
 use sqlite::{Alter, Connection, Files};
 use sqlite_disk::Disk;

@@ -1,7 +1,7 @@
 use Rattle.std.proofs.Common.{◌≡◌, true, false, Some, ap, codes}
 use Rattle.sqlite_trees.specs.Sound.{same_name}
-use Rattle.osm_store.specs.Schema.Tables.{element, tag, link}
-use Rattle.osm_store.proofs.SchemaLemmas.TableTexts.{element_defined, tag_defined, link_defined}
+use Rattle.osm_rows.specs.Schema.Tables.{element, tag, link}
+use Rattle.osm_rows.proofs.SchemaLemmas.TablesDefined.{element_defined, tag_defined, link_defined}
 use Rattle.osm_added_indexes.proofs.table.table_named.Goals as goal
 
 pub returns-in_ok-defined : goal.returns-in_ok-defined

@@ -7,9 +7,9 @@ use Rattle.sqlite_trees.specs.Objects.{catalog_tree}
 use Rattle.sqlite_trees.specs.Tree.{Trees}
 use Rattle.sqlite_trees.specs.View.{IsClean}
 use Rattle.sqlite_catalog.specs.Listing.{Lists}
-use Rattle.osm_store.specs.Schema.Tables.{table_schema}
-use Rattle.osm_store.specs.declared.schema.layout.Layout.TheVariants.{Tables}
-use Rattle.osm_store.specs.LayoutHolding.{Holds}
+use Rattle.osm_rows.specs.Schema.Tables.{table_schema}
+use Rattle.osm_rows.specs.declared.schema.layout.Layout.TheVariants.{Tables}
+use Rattle.osm_rows.specs.LayoutHolding.{Holds}
 use Rattle.osm_tree_writes.specs.Putting.{TreesHold}
 use Rattle.osm_tree_writes.proofs.Obeying.{one_map_below, trees_of}
 use Rattle.osm_trees.specs.Below.{HoldsBelow}

@@ -3,8 +3,8 @@ use Rattle.std.specs.Prelude.{find}
 use Rattle.std.specs.FinMap.{insert}
 use Rattle.std.proofs.lemmas.Slice.Eq.{bytes_eq-Decides}
 use Rattle.std.proofs.lemmas.Bool.Decides.{not_from_Decides}
-use Rattle.osm_store.specs.Held.{Blob, IsFree}
-use Rattle.osm_store.specs.declared.keeper.Extent.{Extent}
+use Rattle.osm_rows.specs.Held.{Blob, IsFree}
+use Rattle.osm_rows.specs.declared.keeper.Extent.{Extent}
 use Rattle.osm_import.proofs.Delivering.{addable, found-at, unheld-at}
 use Rattle.osm_import.specs.Stores.{blob_of}
 use Rattle.osm_import.proofs.CopiesLemmas.{crash-keeps, keeps-free, keeps-same, kept-failed, kept-still, never-many}

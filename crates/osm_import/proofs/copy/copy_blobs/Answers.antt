@@ -1,5 +1,5 @@
 use Rattle.std.proofs.Common.{◌≡◌, ◌+◌, ◌∙◌, [], ◌∷◌, ◌++◌, take, Ok, Err, refl, sym, subst, ap, inr, arith, rules}
-use Rattle.osm_store.specs.Held.{HeldMap}
+use Rattle.osm_rows.specs.Held.{HeldMap}
 use Rattle.osm_import.specs.Copies.{IsMerged}
 use Rattle.osm_import.specs.Stores.{CopiesOne, Keeps}
 use Rattle.osm_import.proofs.CopiesLemmas.{copies-push, counted-push, copies-same, keeps-same, keeps-then}

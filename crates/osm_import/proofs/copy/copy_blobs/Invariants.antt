@@ -1,7 +1,7 @@
 use Rattle.std.proofs.Common.{◌≡◌, ◌≤◌, ◌+◌, List, take}
 use Rattle.std.specs.FinMap.{entries}
-use Rattle.osm_store.specs.Held.{HeldMap}
-use Rattle.osm_store.specs.Keeping.{KeepsList, extents_of}
+use Rattle.osm_rows.specs.Held.{HeldMap}
+use Rattle.osm_rows.specs.Keeping.{KeepsList, extents_of}
 use Rattle.osm_import.specs.Copies.{BlobCopied, IsMerged, AreCounted, held_among}
 use Rattle.osm_import.specs.Stores.{CopiesEach, HoldsStill}
 use Rattle.osm_import.proofs.CopyLemmas.{IsAt}

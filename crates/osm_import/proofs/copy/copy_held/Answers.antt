@@ -1,5 +1,5 @@
 use Rattle.std.proofs.Common.{◌<◌, ◌∙◌, [], arith, sym, subst, inl, refl}
-use Rattle.osm_store.specs.Held.{HeldMap}
+use Rattle.osm_rows.specs.Held.{HeldMap}
 use Rattle.osm_import.specs.Copies.{IsUnitedBelow}
 use Rattle.osm_import.proofs.CopiesLemmas.{kept-still}
 use Rattle.osm_import.proofs.CopyLemmas.{merged_none, reached_at}

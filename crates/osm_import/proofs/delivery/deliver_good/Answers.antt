@@ -2,9 +2,9 @@ use Rattle.std.proofs.Common.{◌≡◌, ◌==◌, ◌+◌, List, length, Some, 
 use Rattle.std.specs.Prelude.{find}
 use Rattle.std.proofs.lemmas.Slice.Eq.{bytes_eq-Decides}
 use Rattle.std.proofs.lemmas.Bool.Decides.{not_from_Decides}
-use Rattle.osm_store.specs.Held.{HaveFewTexts}
+use Rattle.osm_rows.specs.Held.{HaveFewTexts}
 use Rattle.osm_value.specs.declared.element.Element.{Element}
-use Rattle.osm_store.specs.declared.keeper.Extent.{Extent}
+use Rattle.osm_rows.specs.declared.keeper.Extent.{Extent}
 use Rattle.osm_import.proofs.Delivering.{addable, held_already, held_otherwise, overlapping, free-of, storing, few-texts}
 use Rattle.osm_import.proofs.delivery.deliver_good.Goals as goal
 

@@ -1,5 +1,5 @@
 use Rattle.std.proofs.Common.{List, ℕ, ◌∙◌, sym, ap, subst}
-use Rattle.osm_store.specs.declared.keeper.Extent.{Extent}
+use Rattle.osm_rows.specs.declared.keeper.Extent.{Extent}
 use Rattle.osm_import.specs.Gaps.{AreGaps, ranges_between}
 use Rattle.osm_import.proofs.GapsLemmas.{gaps-between}
 use Rattle.osm_import.proofs.gap.gaps.Goals as goal

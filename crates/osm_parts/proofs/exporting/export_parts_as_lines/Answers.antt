@@ -1,5 +1,5 @@
 use Rattle.std.proofs.Common.{false, Result, Err, sym, subst}
-use Rattle.osm_store.specs.Keeping.{extents_of}
+use Rattle.osm_rows.specs.Keeping.{extents_of}
 use Rattle.osm_import.specs.Exports.{size_of, IsExport, WritesLines}
 use Rattle.osm_import.specs.ExportCauses.{ExportHasCause, ExportIsOwn}
 use Rattle.osm_import.specs.declared.export.fault.ExportFault.{ExportFault}

@@ -1,7 +1,7 @@
 use Rattle.std.proofs.Common.{Bool, true, false, List, Result, Err, sym, subst}
 use Rattle.std.specs.Io.KnownBytes.{Appends}
 use Rattle.std.specs.List.{list_any}
-use Rattle.osm_store.specs.Keeping.{extents_of}
+use Rattle.osm_rows.specs.Keeping.{extents_of}
 use Rattle.osm_import.specs.Exports.{WritesBlob, size_of}
 use Rattle.osm_import.specs.ExportCauses.{ExportHasCause, ExportIsOwn}
 use Rattle.osm_import.specs.Pbf.{header_frame, IsHeadedExport, WritesBlocks}

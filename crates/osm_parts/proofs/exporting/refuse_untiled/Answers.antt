@@ -1,5 +1,5 @@
 use Rattle.std.proofs.Common.{◌∙◌}
-use Rattle.osm_store.specs.Keeping.{extents_of}
+use Rattle.osm_rows.specs.Keeping.{extents_of}
 use Rattle.osm_import.specs.Exports.{size_of}
 use Rattle.osm_import.proofs.ExportLemmas.{refusal-held, tiles-held, unbegun}
 use Rattle.osm_parts.proofs.ReadingLemmas.{read-apart}

@@ -1,6 +1,6 @@
 use Rattle.std.proofs.Common.{◌∙◌, ◌++◌, List, take, ap, sym}
 use Rattle.std.proofs.lemmas.List.{take_all}
-use Rattle.osm_store.specs.declared.keeper.Extent.{Extent}
+use Rattle.osm_rows.specs.declared.keeper.Extent.{Extent}
 use Rattle.osm_parts.specs.Reading.{joined_extents}
 use Rattle.osm_parts.proofs.ReadingLemmas.{joined-more, joined-whole}
 use Rattle.osm_parts.proofs.reading.extents_of_parts.Goals as goal

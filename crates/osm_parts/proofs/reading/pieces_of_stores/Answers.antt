@@ -1,5 +1,5 @@
 use Rattle.std.proofs.Common.{◌≡◌, ◌+◌, ◌++◌, ◌∙◌, List, length, sym, ap, subst, arith}
-use Rattle.osm_store.specs.declared.keeper.Extent.{Extent}
+use Rattle.osm_rows.specs.declared.keeper.Extent.{Extent}
 use Rattle.osm_parts.specs.Pieces.{AreGathered, pieces_of}
 use Rattle.osm_parts.specs.Reading.{IsReadOf}
 use Rattle.osm_parts.specs.declared.pieces.Piece.{Piece}

@@ -1,5 +1,5 @@
 use Rattle.std.proofs.Common.{Bool, List}
-use Rattle.osm_store.specs.Held.{HeldMap}
+use Rattle.osm_rows.specs.Held.{HeldMap}
 use Rattle.osm_parts.specs.Pieces.{AreGathered}
 use Rattle.osm_parts.specs.Reading.{AreStores}
 use Rattle.osm_parts.proofs.reading.pieces_of_stores.Given as goal

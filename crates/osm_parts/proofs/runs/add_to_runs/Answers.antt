@@ -1,5 +1,5 @@
 use Rattle.std.proofs.Common.{◌++◌, ◌∷◌, [], List, refl, inl, inr, ap, sym, ◌∙◌, append-nil}
-use Rattle.osm_store.specs.declared.keeper.Extent.{Extent}
+use Rattle.osm_rows.specs.declared.keeper.Extent.{Extent}
 use Rattle.osm_parts.specs.declared.runs.Part.{Part}
 use Rattle.osm_parts.proofs.runs.add_to_runs.Goals as goal
 use Rattle.osm_parts.proofs.runs.add_to_runs.Goals.{in-Some+else-last-piece+in_ok-push-3, in_default}

@@ -3,7 +3,7 @@ use Rattle.std.specs.Prelude.{MatchResult}
 use Rattle.sqlite_trees.specs.Objects.{catalog_tree}
 use Rattle.sqlite_trees.specs.View.{IsClean}
 use Rattle.sqlite_store.specs.FileStore.{view, recovers}
-use Rattle.osm_store.specs.Held.{HeldMap}
+use Rattle.osm_rows.specs.Held.{HeldMap}
 use Rattle.osm_trees.specs.Below.{MayLeave, LeavesAMap, ListsAlways}
 use Rattle.osm_import.specs.Copies.{CrashLeavesSome, IsUnited, IsUnitedBelow}
 use Rattle.osm_import.specs.declared.copy.CopyCounts.{CopyCounts}

@@ -4,7 +4,7 @@ use Rattle.std.proofs.lemmas.Result.{on_ok_weaker}
 use Rattle.sqlite_trees.specs.Tree.{IsIndexShape}
 use Rattle.sqlite_trees.specs.View.{View, IsClean}
 use Rattle.sqlite_exec.specs.Loops.{left_of}
-use Rattle.osm_store.proofs.AuditLemmas.Telling.{ok_told}
+use Rattle.osm_rows.proofs.AuditLemmas.Telling.{ok_told}
 use Rattle.osm_tree_audits.specs.Walking.{AreAmong}
 use Rattle.osm_tree_audits.proofs.indexes.has_entry.Goals as goal
 

@@ -6,7 +6,7 @@ use Rattle.sqlite_trees.specs.Tree.{order_of, from_key}
 use Rattle.sqlite_trees.specs.View.{IsClean, IsShaped}
 use Rattle.sqlite_exec.specs.Loops.{left_of}
 use Rattle.sqlite_exec.proofs.CheckLemmas as lemma
-use Rattle.osm_store.proofs.AuditLemmas.Telling.{ok_told}
+use Rattle.osm_rows.proofs.AuditLemmas.Telling.{ok_told}
 use Rattle.osm_tree_audits.specs.Walking.{IsNext}
 use Rattle.osm_tree_audits.proofs.Walks.{among_sought}
 use Rattle.osm_tree_audits.proofs.indexes.seek_is.Goals as goal

@@ -4,8 +4,8 @@ use Rattle.std.proofs.lemmas.Bool.Decides.{nat_tests}
 use Rattle.std.proofs.lemmas.List.{length-append}
 use Rattle.sqlite_trees.specs.View.{IsClean}
 use Rattle.sqlite_rules.proofs.ViewLemmas.{still_quiet}
-use Rattle.osm_store.specs.Rows.{placed}
-use Rattle.osm_store.proofs.AuditLemmas.Telling.{ok_told}
+use Rattle.osm_rows.specs.Rows.{placed}
+use Rattle.osm_rows.proofs.AuditLemmas.Telling.{ok_told}
 use Rattle.osm_tree_audits.specs.ElementTables.{rows_in}
 use Rattle.osm_tree_audits.specs.Walking.{reached_by}
 use Rattle.osm_tree_audits.proofs.InParts.{no_rows, more_found, not_found, all_found, all_done}

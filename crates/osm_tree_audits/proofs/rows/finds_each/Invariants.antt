@@ -2,7 +2,7 @@ use Rattle.std.proofs.Common.{◌≡◌, ◌++◌, false, List, length, IsSome}
 use Rattle.sqlite_trees.specs.View.{IsClean, IsQuiet}
 use Rattle.sqlite_exec.specs.Calls.{OnlyReads}
 use Rattle.osm_value.specs.declared.element.Element.{Element}
-use Rattle.osm_store.specs.Rows.{placed}
+use Rattle.osm_rows.specs.Rows.{placed}
 use Rattle.osm_tree_audits.specs.ElementTables.{rows_in}
 use Rattle.osm_tree_audits.specs.Walking.{IsWalkBy, reached_by}
 use Rattle.osm_tree_audits.proofs.rows.finds_each.Given as goal

@@ -1,6 +1,6 @@
 use Rattle.std.proofs.Common.{arith, ◌≡◌, ◌∙◌, ap}
 use Rattle.sqlite_trees.specs.View.{View, IsClean}
-use Rattle.osm_store.proofs.AuditLemmas.Telling.{ok_told}
+use Rattle.osm_rows.proofs.AuditLemmas.Telling.{ok_told}
 use Rattle.osm_tree_audits.proofs.rows.has_inner_rows.Goals as goal
 
 pub returns-clause-told : goal.returns-clause-told

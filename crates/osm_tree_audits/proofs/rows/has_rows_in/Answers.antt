@@ -3,7 +3,7 @@ use Rattle.sqlite_value.specs.declared.value.Value.TheVariants.{Int}
 use Rattle.sqlite_value.specs.Keys.{plain}
 use Rattle.sqlite_trees.specs.declared.store.Shape.TheVariants.{Table, Index}
 use Rattle.sqlite_trees.specs.View.{IsClean, IsShaped}
-use Rattle.osm_store.proofs.AuditLemmas.Telling.{iff_then, ok_told}
+use Rattle.osm_rows.proofs.AuditLemmas.Telling.{iff_then, ok_told}
 use Rattle.osm_tree_audits.specs.ElementTables.{index_of, table_of, width_of}
 use Rattle.osm_tree_audits.specs.Finding.{Finds}
 use Rattle.osm_tree_audits.specs.Walking.{all_reached, reached_by}

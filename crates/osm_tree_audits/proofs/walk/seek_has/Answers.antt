@@ -5,7 +5,7 @@ use Rattle.sqlite_trees.specs.Tree.{order_of, from_key, rowid}
 use Rattle.sqlite_trees.specs.View.{IsClean}
 use Rattle.sqlite_exec.specs.Loops.{left_of}
 use Rattle.sqlite_exec.proofs.CheckLemmas.{placed}
-use Rattle.osm_store.proofs.AuditLemmas.Telling.{ok_told}
+use Rattle.osm_rows.proofs.AuditLemmas.Telling.{ok_told}
 use Rattle.osm_tree_audits.proofs.Walks.{among_sought}
 use Rattle.osm_tree_audits.proofs.walk.seek_has.Goals as goal
 

@@ -3,8 +3,8 @@ use Rattle.std.proofs.lemmas.Bool.Decides.{nat_tests}
 use Rattle.std.proofs.lemmas.List.{length-append}
 use Rattle.sqlite_trees.specs.View.{IsClean}
 use Rattle.osm_value.specs.declared.element.Element.{Element}
-use Rattle.osm_store.specs.Rows.{placed}
-use Rattle.osm_store.proofs.PutLemmas.Placing.{placed-append}
+use Rattle.osm_rows.specs.Rows.{placed}
+use Rattle.osm_rows.proofs.PutLemmas.Placing.{placed-append}
 use Rattle.osm_tree_writes.specs.Putting.{WritesElements}
 use Rattle.osm_tree_writes.proofs.Writing.{written_more}
 use Rattle.osm_tree_writes.proofs.put.append_elements.Goals as goal

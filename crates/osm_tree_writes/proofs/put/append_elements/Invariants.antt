@@ -1,7 +1,7 @@
 use Rattle.std.proofs.Common.{◌≡◌, ◌++◌, List, length}
 use Rattle.sqlite_trees.specs.View.{IsClean, IsQuiet, KeepsSchema}
 use Rattle.osm_value.specs.declared.element.Element.{Element}
-use Rattle.osm_store.specs.Rows.{placed}
+use Rattle.osm_rows.specs.Rows.{placed}
 use Rattle.osm_tree_writes.specs.Putting.{WritesElements}
 use Rattle.osm_tree_writes.proofs.put.append_elements.Given as goal
 

@@ -1,7 +1,7 @@
 use Rattle.std.proofs.Common.{arith}
 use Rattle.std.proofs.lemmas.Result.{on_ok_weaker}
 use Rattle.sqlite_trees.specs.View.{IsClean}
-use Rattle.osm_store.specs.Rows.{placed}
+use Rattle.osm_rows.specs.Rows.{placed}
 use Rattle.osm_tree_writes.proofs.Writing.{appended, elements_apart, tags_apart, links_apart}
 use Rattle.osm_tree_writes.proofs.put.append_some.Goals as goal
 

@@ -2,7 +2,7 @@ use Rattle.std.proofs.Common.{◌≡◌, ◌∙◌, List, arith, sym, subst}
 use Rattle.std.proofs.lemmas.Result.{on_ok_weaker}
 use Rattle.sqlite_schema.specs.declared.schema.Index.{Index}
 use Rattle.sqlite_trees.specs.View.{IsClean}
-use Rattle.osm_store.specs.Rows.{placed}
+use Rattle.osm_rows.specs.Rows.{placed}
 use Rattle.osm_tree_writes.specs.Appending.{AreBehind, AreIndexesAt, IsStoreAt}
 use Rattle.osm_tree_writes.specs.Putting.{Writes, WritesElements}
 use Rattle.osm_tree_writes.proofs.Writing.{rise_behind, written, written_after}

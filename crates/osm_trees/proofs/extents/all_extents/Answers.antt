@@ -1,7 +1,7 @@
 use Rattle.std.proofs.Common.{true≢false, sym, subst, ◌∙◌}
 use Rattle.std.proofs.lemmas.Result.{err_from_is_err_and}
-use Rattle.osm_store.specs.Keeping.{AscendApart, extents_of}
-use Rattle.osm_store.proofs.LoadLemmas.ExtentLaws.{extents_kept, held_apart}
+use Rattle.osm_rows.specs.Keeping.{AscendApart, extents_of}
+use Rattle.osm_rows.proofs.LoadLemmas.ExtentLaws.{extents_kept, held_apart}
 use Rattle.osm_trees.proofs.extents.all_extents.Goals as goal
 
 pub returns-in_err-extents-clause-held : goal.returns-in_err-extents-clause-held

@@ -1,9 +1,9 @@
 use Rattle.std.proofs.Common.{rules, arith, ◌≡◌}
 use Rattle.std.proofs.lemmas.List.Elements.{All-push}
 use Rattle.sqlite_exec.proofs.CheckLemmas.{from_no_key, stepped, ended}
-use Rattle.osm_store.specs.Keeping.{IsRange}
-use Rattle.osm_store.specs.LayoutHolding.{IsKeptExtent}
-use Rattle.osm_store.specs.Rows.{extent_row}
+use Rattle.osm_rows.specs.Keeping.{IsRange}
+use Rattle.osm_rows.specs.LayoutHolding.{IsKeptExtent}
+use Rattle.osm_rows.specs.Rows.{extent_row}
 use Rattle.osm_trees.proofs.Rest.{first_rest, next_item, all_read}
 use Rattle.osm_trees.proofs.extents.read_extents.Goals as goal
 

@@ -3,10 +3,10 @@ use Rattle.std.proofs.lemmas.List.Elements.{All-push}
 use Rattle.sqlite_trees.specs.declared.store.Shape.TheVariants.{Table}
 use Rattle.sqlite_trees.specs.View.{IsShaped}
 use Rattle.sqlite_exec.proofs.CheckLemmas.{stepped, ended}
-use Rattle.osm_store.specs.declared.keeper.Extent.{Extent as Held}
-use Rattle.osm_store.specs.Keeping.{IsRange}
-use Rattle.osm_store.specs.LayoutHolding.{IsKeptExtent}
-use Rattle.osm_store.specs.Rows.{extent_row}
+use Rattle.osm_rows.specs.declared.keeper.Extent.{Extent as Held}
+use Rattle.osm_rows.specs.Keeping.{IsRange}
+use Rattle.osm_rows.specs.LayoutHolding.{IsKeptExtent}
+use Rattle.osm_rows.specs.Rows.{extent_row}
 use Rattle.osm_trees.proofs.Downward.{downward, downward_kept, rows_below, stopped, walked}
 use Rattle.osm_trees.proofs.Rest.{first_rest, next_item, all_read}
 use Rattle.osm_trees.proofs.extents.read_touched.Goals as goal

@@ -2,10 +2,10 @@ use Rattle.std.proofs.Common.{◌≡◌, ◌<◌, false, List, map, All, IsSome}
 use Rattle.sqlite_trees.specs.View.{IsClean, IsQuiet}
 use Rattle.sqlite_exec.specs.Calls.{OnlyReads}
 use Rattle.sqlite_exec.specs.Loops.{left_of}
-use Rattle.osm_store.specs.declared.keeper.Extent.{Extent as Held}
-use Rattle.osm_store.specs.Keeping.{IsRange, AscendApart}
-use Rattle.osm_store.specs.LayoutHolding.{IsKeptExtent}
-use Rattle.osm_store.specs.Rows.{extent_row}
+use Rattle.osm_rows.specs.declared.keeper.Extent.{Extent as Held}
+use Rattle.osm_rows.specs.Keeping.{IsRange, AscendApart}
+use Rattle.osm_rows.specs.LayoutHolding.{IsKeptExtent}
+use Rattle.osm_rows.specs.Rows.{extent_row}
 use Rattle.osm_trees.proofs.Downward.{downward}
 use Rattle.osm_trees.proofs.Rest.{IsRest}
 use Rattle.osm_trees.proofs.extents.read_touched.Given as goal

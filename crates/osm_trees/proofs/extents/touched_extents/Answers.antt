@@ -2,8 +2,8 @@ use Rattle.std.proofs.Common.{true≢false, sym, subst, ap, ◌∙◌}
 use Rattle.std.specs.Prelude.{reverse}
 use Rattle.std.proofs.lemmas.List.{reverse-reverse}
 use Rattle.std.proofs.lemmas.Result.{err_from_is_err_and}
-use Rattle.osm_store.specs.Keeping.{AscendApart, extents_of, touches}
-use Rattle.osm_store.proofs.LoadLemmas.ExtentLaws.{extents_kept, held_apart, some_apart}
+use Rattle.osm_rows.specs.Keeping.{AscendApart, extents_of, touches}
+use Rattle.osm_rows.proofs.LoadLemmas.ExtentLaws.{extents_kept, held_apart, some_apart}
 use Rattle.osm_trees.proofs.extents.touched_extents.Goals as goal
 
 pub returns-in_err-extents-clause-held : goal.returns-in_err-extents-clause-held

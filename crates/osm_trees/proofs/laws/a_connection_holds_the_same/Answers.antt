@@ -2,9 +2,9 @@ use Rattle.std.proofs.Common.{◌∙◌, subst, sym}
 use Rattle.sqlite_trees.specs.Objects.{catalog_tree}
 use Rattle.sqlite_catalog.specs.Listing.{Lists}
 use Rattle.sqlite.specs.Tree.{Trees}
-use Rattle.osm_store.specs.declared.schema.layout.Layout.TheVariants.{Tables}
-use Rattle.osm_store.specs.Schema.Tables.{table_schema}
-use Rattle.osm_store.specs.LayoutHolding.{TablesHold}
+use Rattle.osm_rows.specs.declared.schema.layout.Layout.TheVariants.{Tables}
+use Rattle.osm_rows.specs.Schema.Tables.{table_schema}
+use Rattle.osm_rows.specs.LayoutHolding.{TablesHold}
 use Rattle.osm_tree_writes.proofs.Obeying.{tables_of}
 use Rattle.osm_trees.proofs.laws.a_connection_holds_the_same.Goals as goal
 

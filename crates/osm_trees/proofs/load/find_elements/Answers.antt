@@ -2,8 +2,8 @@ use Rattle.std.proofs.Common.{subst, w64}
 use Rattle.std.specs.Prelude.{filter}
 use Rattle.std.proofs.lemmas.Int.{to_z-of_z}
 use Rattle.std.proofs.lemmas.Result.{MatchResult-weaker}
-use Rattle.osm_store.specs.Keeping.{IsForeign}
-use Rattle.osm_store.specs.Rows.{placed_in, is_of}
+use Rattle.osm_rows.specs.Keeping.{IsForeign}
+use Rattle.osm_rows.specs.Rows.{placed_in, is_of}
 use Rattle.osm_trees.proofs.load.find_elements.Goals as goal
 
 pub returns-clause-held : goal.returns-clause-held

@@ -2,11 +2,11 @@ use Rattle.std.proofs.Common.{◌≡◌, ◌<◌, ◌≤◌, ◌∙◌, [], map,
 use Rattle.std.proofs.lemmas.Result.{MatchResult-weaker}
 use Rattle.std.proofs.lemmas.List.Elements.{All-from_recursion}
 use Rattle.pbf_frame.specs.declared.part.TheConstants.{MAX_OFFSET}
-use Rattle.osm_store.specs.Keeping.{IsForeign}
-use Rattle.osm_store.specs.Load.Loading.{HasRowsOf}
-use Rattle.osm_store.specs.Load.TableAnswers.{AreRowsOf}
-use Rattle.osm_store.specs.Rows.{Placed}
-use Rattle.osm_store.proofs.MapLemmas.HeldLemmas.{placed_at, counted_at, elements_of}
+use Rattle.osm_rows.specs.Keeping.{IsForeign}
+use Rattle.osm_rows.specs.Load.Loading.{HasRowsOf}
+use Rattle.osm_rows.specs.Load.TableAnswers.{AreRowsOf}
+use Rattle.osm_rows.specs.Rows.{Placed}
+use Rattle.osm_rows.proofs.MapLemmas.HeldLemmas.{placed_at, counted_at, elements_of}
 use Rattle.osm_trees.proofs.load.load_blob.Goals as goal
 
 pub returns-then-off-ge-MAX_OFFSET-clause-held : goal.returns-then-off-ge-MAX_OFFSET-clause-held

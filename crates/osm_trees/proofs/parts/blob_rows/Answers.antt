@@ -1,7 +1,7 @@
 use Rattle.std.proofs.Common.{arith}
 use Rattle.sqlite_trees.specs.View.{IsClean}
-use Rattle.osm_store.specs.declared.schema.layout.Layout.TheVariants.{Tables}
-use Rattle.osm_store.specs.Rows.{is_in}
+use Rattle.osm_rows.specs.declared.schema.layout.Layout.TheVariants.{Tables}
+use Rattle.osm_rows.specs.Rows.{is_in}
 use Rattle.osm_tree_audits.proofs.Looking.{looks_then}
 use Rattle.osm_trees.proofs.Looking.{holds_after}
 use Rattle.osm_trees.proofs.TreeReads.{elements_at, tags_in, links_in, rows_of_some}

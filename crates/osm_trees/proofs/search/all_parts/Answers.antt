@@ -2,12 +2,12 @@ use Rattle.std.proofs.Common.{take}
 use Rattle.std.proofs.lemmas.List.Elements.{All-from_recursion}
 use Rattle.std.proofs.lemmas.Result.{err_from_is_err_and}
 use Rattle.sqlite_trees.specs.View.{IsClean}
-use Rattle.osm_store.specs.declared.schema.layout.Layout.TheVariants.{Tables}
-use Rattle.osm_store.specs.Load.TableParts.{IsAlone}
-use Rattle.osm_store.specs.TableRows.{element_row, tag_row, tags_at, link_row, links_at}
-use Rattle.osm_store.specs.Rows.{placed_in}
-use Rattle.osm_store.proofs.LoadLemmas.TableFinds.{several_more}
-use Rattle.osm_store.proofs.LoadLemmas.RowLoops.{row_at}
+use Rattle.osm_rows.specs.declared.schema.layout.Layout.TheVariants.{Tables}
+use Rattle.osm_rows.specs.Load.TableParts.{IsAlone}
+use Rattle.osm_rows.specs.TableRows.{element_row, tag_row, tags_at, link_row, links_at}
+use Rattle.osm_rows.specs.Rows.{placed_in}
+use Rattle.osm_rows.proofs.LoadLemmas.TableFinds.{several_more}
+use Rattle.osm_rows.proofs.LoadLemmas.RowLoops.{row_at}
 use Rattle.osm_tree_audits.proofs.Looking.{looks_then, clean_before}
 use Rattle.osm_trees.proofs.Looking.{holds_after}
 use Rattle.osm_trees.proofs.search.all_parts.Goals as goal

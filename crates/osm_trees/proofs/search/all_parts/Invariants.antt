@@ -1,11 +1,11 @@
 use Rattle.std.proofs.Common.{◌≡◌, List, take}
 use Rattle.std.specs.List.{AllByRecursion}
 use Rattle.sqlite_trees.specs.View.{IsClean}
-use Rattle.osm_store.specs.declared.schema.layout.Layout.TheVariants.{Tables}
-use Rattle.osm_store.specs.Load.TableParts.{IsAlone}
-use Rattle.osm_store.specs.TableRows.{element_rows, tag_rows, link_rows}
-use Rattle.osm_store.specs.Held.{HeldMap}
-use Rattle.osm_store.specs.Rows.{Placed, placed_in}
+use Rattle.osm_rows.specs.declared.schema.layout.Layout.TheVariants.{Tables}
+use Rattle.osm_rows.specs.Load.TableParts.{IsAlone}
+use Rattle.osm_rows.specs.TableRows.{element_rows, tag_rows, link_rows}
+use Rattle.osm_rows.specs.Held.{HeldMap}
+use Rattle.osm_rows.specs.Rows.{Placed, placed_in}
 use Rattle.osm_tree_audits.specs.Looking.{Looks}
 use Rattle.osm_trees.specs.Below.{HoldsBelow}
 use Rattle.osm_trees.proofs.search.all_parts.Given as goal

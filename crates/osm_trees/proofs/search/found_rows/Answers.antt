@@ -4,9 +4,9 @@ use Rattle.std.specs.Prelude.{filter}
 use Rattle.std.proofs.lemmas.Result.{err_from_is_err_and}
 use Rattle.sqlite_trees.specs.View.{IsClean}
 use Rattle.sqlite_trees.proofs.ListLemmas.{all-filter}
-use Rattle.osm_store.specs.declared.schema.layout.Layout.TheVariants.{Tables}
-use Rattle.osm_store.specs.Rows.{is_of, placed_in}
-use Rattle.osm_store.proofs.LoadLemmas.TableFinds.{all_alone}
+use Rattle.osm_rows.specs.declared.schema.layout.Layout.TheVariants.{Tables}
+use Rattle.osm_rows.specs.Rows.{is_of, placed_in}
+use Rattle.osm_rows.proofs.LoadLemmas.TableFinds.{all_alone}
 use Rattle.osm_tree_audits.proofs.Looking.{clean_before}
 use Rattle.osm_trees.proofs.Looking.{holds_after}
 use Rattle.osm_trees.proofs.TreeReads.{rows_of_some}

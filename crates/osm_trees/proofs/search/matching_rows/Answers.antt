@@ -1,7 +1,7 @@
 use Rattle.std.proofs.Common.{◌≡◌, ◌∙◌, ap, pos, [], ◌∷◌, w64}
 use Rattle.std.proofs.lemmas.Int.{to_z-of_z}
 use Rattle.sqlite_value.specs.declared.value.Value.TheVariants.{Int}
-use Rattle.osm_store.specs.Rows.{element_code, is_of}
+use Rattle.osm_rows.specs.Rows.{element_code, is_of}
 use Rattle.osm_trees.proofs.TreeReads.{of_kind_and_id, sorted_elements}
 use Rattle.osm_trees.proofs.search.matching_rows.Goals as goal
 

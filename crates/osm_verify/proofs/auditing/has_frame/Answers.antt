@@ -3,8 +3,8 @@ use Rattle.std.specs.List.{AllByRecursion}
 use Rattle.std.proofs.lemmas.Result.{IfOk-weaker}
 use Rattle.osm_value.specs.declared.element.Element.{Element}
 use Rattle.osm_value.specs.Elements.{IsElement}
-use Rattle.osm_store.specs.Audit.{ShowsBlob}
-use Rattle.osm_store.specs.Held.{Blob}
+use Rattle.osm_rows.specs.Audit.{ShowsBlob}
+use Rattle.osm_rows.specs.Held.{Blob}
 use Rattle.osm_reading.specs.Good.{IsGood}
 use Rattle.osm_import.specs.Step.{IsEntry}
 use Rattle.osm_import.proofs.Delivering.{few-texts}

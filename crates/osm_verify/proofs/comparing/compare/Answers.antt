@@ -1,7 +1,7 @@
 use Rattle.std.proofs.Common.{◌≡◌, ◌≢◌, ◌==◌, ◌∙◌, true, false, true≢false, Some, None, ap, subst, sym, rules}
 use Rattle.std.specs.Prelude.{find}
 use Rattle.sqlite.specs.Tree.{Trees}
-use Rattle.osm_store.specs.declared.keeper.Extent.{Extent}
+use Rattle.osm_rows.specs.declared.keeper.Extent.{Extent}
 use Rattle.osm_verify.specs.Agreements.{IsSame}
 use Rattle.osm_verify.specs.Audits.{IsEntryOf}
 use Rattle.osm_verify.specs.declared.comparing.Depth.{Depth}

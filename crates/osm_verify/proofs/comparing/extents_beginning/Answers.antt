@@ -1,6 +1,6 @@
 use Rattle.std.proofs.Common.{◌≡◌, ◌∙◌, ap, filter, rules}
 use Rattle.std.specs.Prelude.{nat_le}
-use Rattle.osm_store.specs.declared.keeper.Extent.{Extent}
+use Rattle.osm_rows.specs.declared.keeper.Extent.{Extent}
 use Rattle.osm_verify.proofs.Beginning.{beginning-are, none-in-empty}
 use Rattle.osm_verify.proofs.comparing.extents_beginning.Goals as goal
 

@@ -1,8 +1,8 @@
 use Rattle.std.specs.Prelude.{IsNone}
 use Rattle.std.proofs.Common.{◌≡◌, ◌∙◌, ◌++◌, ◌∷◌, ◌+◌, List, [], Option, get_or, take, refl, sym, ap, subst, arith}
 use Rattle.sqlite.specs.Tree.{Trees}
-use Rattle.osm_store.specs.Audit.{counts_of, elements_held}
-use Rattle.osm_store.specs.declared.keeper.Extent.{Extent}
+use Rattle.osm_rows.specs.Audit.{counts_of, elements_held}
+use Rattle.osm_rows.specs.declared.keeper.Extent.{Extent}
 use Rattle.osm_reading.specs.Framings.{Known}
 use Rattle.osm_verify.specs.Agreements.{IsSame}
 use Rattle.osm_verify.specs.Audits.{IsEntryOf}

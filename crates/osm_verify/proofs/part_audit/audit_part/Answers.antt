@@ -1,8 +1,8 @@
 use Rattle.std.proofs.Common.{◌∙◌, List, sym, subst, arith}
 use Rattle.sqlite.specs.Tree.{Trees}
-use Rattle.osm_store.specs.Audit.{AreCountable, ShowsCounts, counts_of}
-use Rattle.osm_store.specs.declared.audit.counts.Counts.{Counts}
-use Rattle.osm_store.specs.declared.keeper.Extent.{Extent}
+use Rattle.osm_rows.specs.Audit.{AreCountable, ShowsCounts, counts_of}
+use Rattle.osm_rows.specs.declared.audit.counts.Counts.{Counts}
+use Rattle.osm_rows.specs.declared.keeper.Extent.{Extent}
 use Rattle.osm_parts.proofs.OpeningLemmas.{if-err}
 use Rattle.osm_verify.specs.Faults.{AuditHasCause, IsOwn}
 use Rattle.osm_verify.specs.Judging.{AreEntriesIn, AreJudged}

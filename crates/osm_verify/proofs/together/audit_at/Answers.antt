@@ -1,6 +1,6 @@
 use Rattle.std.proofs.Common.{subst}
 use Rattle.std.proofs.lemmas.Result.{IfOk-weaker}
-use Rattle.osm_store.specs.Held.{HeldMap}
+use Rattle.osm_rows.specs.Held.{HeldMap}
 use Rattle.osm_parts.proofs.OpeningLemmas.{opened-closed, same-held}
 use Rattle.osm_verify.proofs.TogetherLemmas.{audit-closed, if-ok-all}
 use Rattle.osm_verify.proofs.together.audit_at.Goals as goal

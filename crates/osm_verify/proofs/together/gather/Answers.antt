@@ -1,12 +1,12 @@
 use Rattle.std.proofs.Common.{◌≡◌, ◌<◌, ◌+◌, ◌++◌, ◌∷◌, ◌∙◌, [], false, List, length, take, refl, sym, ap, subst, arith, length-append}
 use Rattle.std.proofs.lemmas.List.{take_all, length-take}
-use Rattle.osm_store.specs.Held.{HeldMap}
+use Rattle.osm_rows.specs.Held.{HeldMap}
 use Rattle.osm_reading.specs.Framings.{Known}
 use Rattle.osm_parts.specs.Reading.{AreStores, IsReadOf}
 use Rattle.osm_parts.specs.declared.runs.Part.{Part}
 use Rattle.osm_parts.proofs.PieceLemmas.{held-at}
-use Rattle.osm_store.specs.Keeping.{extents_of}
-use Rattle.osm_store.specs.declared.keeper.Extent.{Extent}
+use Rattle.osm_rows.specs.Keeping.{extents_of}
+use Rattle.osm_rows.specs.declared.keeper.Extent.{Extent}
 use Rattle.osm_parts.proofs.OpeningLemmas.{if-err}
 use Rattle.osm_verify.specs.Faults.{AuditHasCause, IsOwn}
 use Rattle.osm_verify.specs.Judging.{AreJudged, ShowsPart}

@@ -1,6 +1,6 @@
 use Rattle.std.proofs.Common.{[], false, List, inl, inr, sym, subst}
 use Rattle.osm_value.proofs.SinkLemmas.{started}
-use Rattle.osm_store.specs.Held.{HeldMap}
+use Rattle.osm_rows.specs.Held.{HeldMap}
 use Rattle.osm_parts.specs.Reading.{AreRead}
 use Rattle.osm_parts.specs.declared.runs.Part.{Part}
 use Rattle.osm_parts.proofs.ReadingLemmas.{whole-read}

@@ -2,9 +2,9 @@ use Rattle.std.proofs.Common.{[], inl, inr, refl, sym, subst, w64}
 use Rattle.std.proofs.lemmas.Int.{to_z-of_z}
 use Rattle.std.specs.Prelude.{filter}
 use Rattle.osm_value.specs.Sink.{Wrote}
-use Rattle.osm_store.specs.Load.Finding.{AreMatches}
-use Rattle.osm_store.specs.Rows.{is_of, placed_in}
-use Rattle.osm_faults.specs.declared.fault.StoreFault.TheVariants.{Memory}
+use Rattle.osm_rows.specs.Load.Finding.{AreMatches}
+use Rattle.osm_rows.specs.Rows.{is_of, placed_in}
+use Rattle.osm_rows.specs.declared.fault.StoreFault.TheVariants.{Memory}
 use Rattle.osm_value.proofs.SinkLemmas.{started}
 use Rattle.pbfrow_commands.proofs.FindLemmas.{find-cause}
 use Rattle.pbfrow_commands.proofs.StatusLemmas.{tells-front, tells-whole}

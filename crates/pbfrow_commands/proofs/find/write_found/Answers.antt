@@ -1,6 +1,6 @@
 use Rattle.std.proofs.Common.{◌++◌, List, ap, ◌∙◌}
 use Rattle.osm_value.proofs.SinkLemmas.{Wrote-text}
-use Rattle.osm_store.specs.Rows.{Placed}
+use Rattle.osm_rows.specs.Rows.{Placed}
 use Rattle.pbfrow_commands.specs.CommandLines.{match_lines}
 use Rattle.pbfrow_commands.proofs.find.write_found.Goals as goal
 

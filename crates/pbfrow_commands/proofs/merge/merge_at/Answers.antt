@@ -1,6 +1,6 @@
 use Rattle.std.proofs.Common.{◌∷◌, [], Result, sym, subst}
 use Rattle.osm_value.specs.Sink.{Writes}
-use Rattle.osm_store.specs.Held.{HeldMap}
+use Rattle.osm_rows.specs.Held.{HeldMap}
 use Rattle.osm_import.specs.Merges.{IsFrontUnited}
 use Rattle.osm_import.specs.Stores.{KeepsHeld}
 use Rattle.osm_import.specs.declared.copy.CopyCounts.{CopyCounts}

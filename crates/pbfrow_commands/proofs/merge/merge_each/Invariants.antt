@@ -1,8 +1,8 @@
 use Rattle.std.proofs.Common.{◌≡◌, ◌≤◌, List, length, take}
 use Rattle.std.specs.List.{flat_map}
 use Rattle.osm_value.specs.Sink.{Writes}
-use Rattle.osm_store.specs.Held.{HeldMap}
-use Rattle.osm_store.specs.Keeping.{KeepsList}
+use Rattle.osm_rows.specs.Held.{HeldMap}
+use Rattle.osm_rows.specs.Keeping.{KeepsList}
 use Rattle.osm_import.specs.Stores.{HoldsStill}
 use Rattle.osm_import.specs.declared.copy.CopyCounts.{CopyCounts}
 use Rattle.pbfrow_commands.specs.Copying.{copied_line}

@@ -1,6 +1,6 @@
 use Rattle.std.proofs.Common.{[], inl, inr}
 use Rattle.osm_value.proofs.SinkLemmas.{started}
-use Rattle.osm_store.specs.Held.{HeldMap}
+use Rattle.osm_rows.specs.Held.{HeldMap}
 use Rattle.pbfrow_commands.specs.Status.{TellsStatus}
 use Rattle.pbfrow_commands.proofs.PartsLines.{parts-fault}
 use Rattle.pbfrow_commands.proofs.parts.status_parts.Goals as goal

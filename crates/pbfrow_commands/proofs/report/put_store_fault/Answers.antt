@@ -1,6 +1,6 @@
 use Rattle.std.proofs.Common.{◌++◌, List, ℕ, subst}
 use Rattle.osm_value.specs.Sink.{Wrote}
-use Rattle.osm_faults.specs.Faults.{name_of}
+use Rattle.osm_rows.specs.Faults.{name_of}
 use Rattle.osm_reading.specs.Lines.{plain_fault_line}
 use Rattle.pbfrow_commands.proofs.report.put_store_fault.Goals as goal
 

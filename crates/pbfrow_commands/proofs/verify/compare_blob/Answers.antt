@@ -1,5 +1,5 @@
 use Rattle.std.proofs.Common.{◌++◌, ◌∙◌, List, refl, ap, append_assoc}
-use Rattle.osm_store.specs.declared.keeper.Extent.{Extent}
+use Rattle.osm_rows.specs.declared.keeper.Extent.{Extent}
 use Rattle.osm_value.proofs.SinkLemmas.{Wrote-text}
 use Rattle.pbfrow_commands.specs.Verifying.{Compared, comparison_line, extra_lines}
 use Rattle.pbfrow_reading.specs.Walks.{Part}

@@ -1,5 +1,5 @@
 use Rattle.std.proofs.Common.{◌≡◌, ◌≤◌, ◌-◌, List}
-use Rattle.osm_store.specs.Held.{HeldMap}
+use Rattle.osm_rows.specs.Held.{HeldMap}
 use Rattle.pbfrow_commands.specs.Verifying.{Compared, HasCompared, compared_lines, counts_of, rows_of}
 use Rattle.pbfrow_reading.specs.Walks.{Part}
 use Rattle.pbfrow_commands.proofs.VerifyLemmas.{Reads}

@@ -1,6 +1,6 @@
 use Rattle.std.proofs.Common.{◌++◌, ℕ, List, length, sym, subst}
-use Rattle.osm_faults.specs.Faults.{name_of}
-use Rattle.osm_store.specs.declared.keeper.Extent.{Extent}
+use Rattle.osm_rows.specs.Faults.{name_of}
+use Rattle.osm_rows.specs.declared.keeper.Extent.{Extent}
 use Rattle.osm_reading.specs.Lines.{fault_line}
 use Rattle.osm_value.specs.Sink.{Wrote}
 use Rattle.pbfrow_commands.specs.Verifying.{close_text, counts_line, counts_of, extra_lines, header_line}

@@ -1,5 +1,5 @@
 use Rattle.std.proofs.Common.{◌∙◌, subst}
-use Rattle.osm_store.specs.Held.{HeldMap}
+use Rattle.osm_rows.specs.Held.{HeldMap}
 use Rattle.osm_parts.proofs.OpeningLemmas.{same-held}
 use Rattle.pbfrow_counts.proofs.WalkLemmas.{cause-of-closed, err-map}
 use Rattle.pbfrow_counts.proofs.parts.count_part.Goals as goal

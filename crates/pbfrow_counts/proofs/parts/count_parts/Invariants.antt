@@ -1,5 +1,5 @@
 use Rattle.std.proofs.Common.{◌≤◌, Bool, List, take}
-use Rattle.osm_store.specs.Held.{HeldMap}
+use Rattle.osm_rows.specs.Held.{HeldMap}
 use Rattle.osm_parts.specs.Parts.{entries_in}
 use Rattle.osm_parts.specs.Reading.{AreEach}
 use Rattle.pbfrow_counts.specs.Counting.{CountsMore, elements_of}

@@ -1,5 +1,5 @@
 use Rattle.std.proofs.Common.{◌≡◌, ◌∙◌, true, false, sym}
-use Rattle.osm_store.specs.Keeping.{extents_of}
+use Rattle.osm_rows.specs.Keeping.{extents_of}
 use Rattle.osm_import.specs.Exports.{size_of}
 use Rattle.osm_import.proofs.ExportLemmas.{refusal-held, tiles-held, unbegun}
 use Rattle.osm_import.proofs.export.blobs.extents_to_export.Goals as goal

@@ -1,5 +1,5 @@
 use Rattle.std.proofs.Common.{◌∙◌, ℕ, Result, sym, subst}
-use Rattle.osm_store.specs.Keeping.{extents_of}
+use Rattle.osm_rows.specs.Keeping.{extents_of}
 use Rattle.osm_import.specs.Exports.{size_of, IsExport}
 use Rattle.osm_import.specs.ExportCauses.{ExportHasCause, ExportTells}
 use Rattle.osm_import.specs.declared.export.fault.ExportFault.{ExportFault}

@@ -1,8 +1,8 @@
 use Rattle.std.proofs.Common.{◌∙◌, ℕ, Bool, Result, Err, ap, sym, subst}
 use Rattle.std.proofs.lemmas.Result.{err_from_is_err_and}
 use Rattle.std.specs.Io.KnownBytes.{Appends}
-use Rattle.osm_store.specs.Flags.{has_flags}
-use Rattle.osm_store.specs.Keeping.{extents_of}
+use Rattle.osm_rows.specs.Flags.{has_flags}
+use Rattle.osm_rows.specs.Keeping.{extents_of}
 use Rattle.osm_import.specs.Exports.{WritesBlob, size_of}
 use Rattle.osm_import.specs.Pbf.{header_frame, IsPbfExport}
 use Rattle.osm_import.specs.ExportCauses.{ExportHasCause, ExportTells}

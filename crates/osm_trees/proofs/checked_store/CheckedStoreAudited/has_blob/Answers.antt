@@ -1,6 +1,6 @@
 use Rattle.std.proofs.Common.{sym, subst}
-use Rattle.osm_store.specs.Held.{Blob}
-use Rattle.osm_store.proofs.AuditLemmas.Telling.{iff_then, ok_told}
+use Rattle.osm_rows.specs.Held.{Blob}
+use Rattle.osm_rows.proofs.AuditLemmas.Telling.{iff_then, ok_told}
 use Rattle.osm_trees.proofs.Audits.{is_indexed, kept_is}
 use Rattle.osm_trees.specs.Checking.{Checking, HoldsChecked}
 use Rattle.osm_trees.proofs.CheckedReads.{checked_reads}

@@ -1,8 +1,8 @@
 use Rattle.std.proofs.Common.{sym, subst}
-use Rattle.osm_store.specs.Audit.{AreCountable, ShowsCounts}
-use Rattle.osm_store.specs.declared.audit.counts.Counts.{Counts}
-use Rattle.osm_store.specs.declared.schema.layout.Layout.TheVariants.{Tables}
-use Rattle.osm_store.proofs.AuditLemmas.Telling.{ok_told}
+use Rattle.osm_rows.specs.Audit.{AreCountable, ShowsCounts}
+use Rattle.osm_rows.specs.declared.audit.counts.Counts.{Counts}
+use Rattle.osm_rows.specs.declared.schema.layout.Layout.TheVariants.{Tables}
+use Rattle.osm_rows.proofs.AuditLemmas.Telling.{ok_told}
 use Rattle.osm_trees.proofs.Audits.{is_indexed, counted}
 use Rattle.osm_trees.specs.Checking.{Checking, HoldsChecked}
 use Rattle.osm_trees.proofs.CheckedReads.{checked_reads}

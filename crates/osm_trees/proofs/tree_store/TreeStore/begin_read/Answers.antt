@@ -1,5 +1,5 @@
 use Rattle.std.proofs.Common.{Err}
-use Rattle.osm_faults.specs.declared.fault.StoreFault.TheVariants.{Disk}
+use Rattle.osm_rows.specs.declared.fault.StoreFault.TheVariants.{Disk}
 use Rattle.osm_trees.proofs.Answers.{just_reads}
 use Rattle.osm_trees.proofs.Mending.{leaves_all}
 use Rattle.osm_trees.proofs.tree_store.TreeStore.begin_read.Goals as goal

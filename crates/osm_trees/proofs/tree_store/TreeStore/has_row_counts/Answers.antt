@@ -1,8 +1,8 @@
 use Rattle.std.proofs.Common.{◌∙◌, subst}
 use Rattle.std.proofs.lemmas.Result.{err_from_is_err_and}
 use Rattle.std.specs.Prelude.{◌↔◌, IfOk, IsTrue}
-use Rattle.osm_store.specs.Audit.{ShowsCounts}
-use Rattle.osm_store.specs.declared.schema.layout.Layout.TheVariants.{Tables}
+use Rattle.osm_rows.specs.Audit.{ShowsCounts}
+use Rattle.osm_rows.specs.declared.schema.layout.Layout.TheVariants.{Tables}
 use Rattle.osm_tree_audits.specs.Looks.{IsLook}
 use Rattle.osm_trees.specs.Below.{IsIndexed}
 use Rattle.osm_trees.specs.Reading.{Reading}

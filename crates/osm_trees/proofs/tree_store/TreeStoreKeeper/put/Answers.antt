@@ -1,6 +1,6 @@
 use Rattle.std.proofs.Common.{◌≡◌, inl, inr, length, rules, subst}
 use Rattle.std.proofs.lemmas.Result.{on_ok_weaker}
-use Rattle.osm_store.specs.Held.{Blob}
+use Rattle.osm_rows.specs.Held.{Blob}
 use Rattle.osm_trees.specs.Reading.{Reading}
 use Rattle.osm_trees.specs.Putting.{AddsBelow, KeepsAddedIndexes}
 use Rattle.osm_trees.proofs.Adding.{put_adds}

@@ -1,0 +1,6 @@
+pub mod SchemaLemmas
+pub mod PutLemmas
+pub mod LoadLemmas
+pub mod ListLemmas
+pub mod MapLemmas
+pub mod AuditLemmas

@@ -1,0 +1,2 @@
+-- What the statements mean that make the tables.
+pub mod TablesDefined

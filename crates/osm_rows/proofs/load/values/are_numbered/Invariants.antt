@@ -1,0 +1,8 @@
+use Rattle.std.proofs.Common.{◌≡◌, ◌<◌, ℕ, pos, []}
+use Rattle.std.specs.Prelude.{slice_index_or}
+use Rattle.sqlite.specs.declared.types.Value.TheVariants.{Int}
+use Rattle.sqlite.specs.Order.{column}
+use Rattle.osm_rows.proofs.load.values.are_numbered.Given as goal
+
+abbrev pub invariant-loop-number : goal.invariant-loop-number
+invariant-loop-number l = (k : ℕ) → k < l.number → column (slice_index_or l.rows k []) l.at ≡ Int (pos k)

@@ -1,0 +1,15 @@
+pub mod Held
+pub mod Keeping
+pub mod Calls
+pub mod HeldLaws
+pub mod Load
+pub mod Schema
+pub mod Put
+pub mod Rows
+pub mod TableRows
+pub mod RowExamples
+pub mod Flags
+pub mod LayoutHolding
+pub mod StoreLaws
+pub mod Audit
+pub mod Faults

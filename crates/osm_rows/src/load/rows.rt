@@ -1,0 +1,42 @@
+//! Rows of elements, as their store keeps elements.
+
+ghost use Rattle.std.specs.Prelude.{◌≡◌, List, map, IfOk};
+ghost use Rattle.osm_rows.specs.Load.Loading.{StandFor};
+ghost use Rattle.osm_rows.specs.Rows.{Placed};
+
+use crate::load::bodies::BodyRows;
+use crate::load::tables::TableRows;
+use osm_value::Element;
+use std::alloc::{AllocError, Global};
+
+/// Rows of elements, as their store keeps elements.
+#[derive(Debug, Drop)]
+pub enum ElementRows {
+    /// Each is a row with a block of its own.
+    Bodies(BodyRows),
+    /// Each is a row of numbers and texts, with rows of its tags and links.
+    Tables(TableRows),
+}
+
+impl ElementRows {
+    /// The elements, each after the offset of its blob and its position there. Their texts lie in the rows.
+    pub(crate) fn matches(&self, alloc: Global) -> Result<Vec<(u64, u64, Element<'_>)>, AllocError>
+        ensures { (placed : List Placed) → StandFor self.now placed → IfOk result (λ found. found.items ≡ placed) }
+    {
+        match self {
+            ElementRows::Bodies(bodies) => bodies.matches(alloc),
+            ElementRows::Tables(tables) => tables.matches(alloc),
+        }
+    }
+
+    /// The elements alone.
+    pub(crate) fn elements(&self, alloc: Global) -> Result<Vec<Element<'_>>, AllocError>
+        ensures { (placed : List Placed) → StandFor self.now placed → IfOk result (λ found. found.items ≡ map (λ p. p.2) placed) }
+    {
+        let mut elements = Vec::new(alloc);
+        for found in self.matches(alloc)? {
+            elements.push(found.2)?;
+        }
+        Ok(elements)
+    }
+}

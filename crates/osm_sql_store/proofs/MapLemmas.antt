@@ -1,0 +1,4 @@
+-- The map that a store holds, before and after its calls.
+pub mod EarlierLaws
+pub mod AfterCalls
+pub mod HeldTables

@@ -1,0 +1,7 @@
+use Rattle.sqlite.specs.Held.{state}
+use Rattle.osm_sql_store.proofs.PutLemmas.InsertSteps.{inserts_tag, ran_adds}
+use Rattle.osm_sql_store.proofs.put.batch.TagRowInsertedRow.insert.Goals as goal
+
+pub returns-clause-added : goal.returns-clause-added
+returns-clause-added g c clean over =
+    ran_adds (inserts_tag c.args.batch) c.statement.ensures _ (state g.S.Store c.args.transaction.now.conn.now) (state g.S.Store c.execute.new.transaction.conn.now) over c.execute.result (c.execute.ensures.ran clean over.inside)

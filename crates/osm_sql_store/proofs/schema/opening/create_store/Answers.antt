@@ -1,0 +1,20 @@
+use Rattle.std.proofs.Common.{sym, inl, inr}
+use Rattle.osm_rows.proofs.MapLemmas.OneMore.{nothing_kept}
+use Rattle.osm_sql_store.proofs.MapLemmas.AfterCalls.{hold_nothing, nothing_else}
+use Rattle.osm_sql_store.proofs.schema.opening.create_store.Goals as goal
+
+pub returns-in-Ok-clause-empty : goal.returns-in-Ok-clause-empty
+returns-in-Ok-clause-empty g c clean =
+    let committed = c.in-Ok.ensures.committed clean in
+    record {
+      clean = clean;
+      opened = committed.0;
+      settled = sym committed.1;
+      schema = c.in-Ok.ensures.schema clean;
+      kept = nothing_kept c.args.layout;
+      tables = hold_nothing c.args.layout _ (c.in-Ok.ensures.empty clean);
+      only = nothing_else c.args.layout _ (c.in-Ok.ensures.empty clean);
+    }
+
+pub returns-in-Err-clause-crash : goal.returns-in-Err-clause-crash
+returns-in-Err-clause-crash g c clean db left = elim (c.create_tables.ensures.crash.crash clean db left) [ inl before ↦ inl before | inr made ↦ inr (hold_nothing c.args.layout db made) ]

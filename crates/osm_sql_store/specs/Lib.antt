@@ -1,0 +1,8 @@
+pub mod Load
+pub mod Inside
+pub mod Schema
+pub mod Put
+pub mod EarlierRows
+pub mod Store
+pub mod AuditedTables
+pub mod CommitLaws

@@ -1,0 +1,4 @@
+-- What queries answer.
+pub mod Asking
+pub mod Selects
+pub mod Starting

@@ -1,0 +1,3 @@
+-- What the steps of a put write.
+pub mod Batches
+pub mod Steps

@@ -1,0 +1,31 @@
+-- The schema while a store is made.
+use Rattle.std.specs.Prelude.{[], ◌∷◌}
+use Rattle.sqlite.specs.Schema.{Schema}
+use Rattle.std.specs.Prelude.{[], ◌∷◌}
+use Rattle.osm_rows.specs.Schema.Bodies.{meta, blob}
+use Rattle.osm_rows.specs.Schema.Bodies.{blob, body, by_place, meta}
+use Rattle.osm_rows.specs.Schema.Tables.{element, element_key, link, link_key, tag, tag_key}
+
+-- a database without tables, indexes and views
+abbrev pub no_schema : Schema
+no_schema = record { tables = []; indexes = []; views = [] }
+
+-- with the tables that both layouts have
+abbrev pub one_table : Schema
+one_table = record { tables = meta ∷ []; indexes = []; views = [] }
+
+abbrev pub two_tables : Schema
+two_tables = record { tables = meta ∷ blob ∷ []; indexes = []; views = [] }
+
+abbrev pub three_tables : Schema
+three_tables = record { tables = meta ∷ blob ∷ body ∷ []; indexes = by_place ∷ []; views = [] }
+
+-- and then with those of the layout of tables
+abbrev pub with_element : Schema
+with_element = record { tables = meta ∷ blob ∷ element ∷ []; indexes = element_key ∷ []; views = [] }
+
+abbrev pub with_tag : Schema
+with_tag = record { tables = meta ∷ blob ∷ element ∷ tag ∷ []; indexes = element_key ∷ tag_key ∷ []; views = [] }
+
+abbrev pub with_link : Schema
+with_link = record { tables = meta ∷ blob ∷ element ∷ tag ∷ link ∷ []; indexes = element_key ∷ tag_key ∷ link_key ∷ []; views = [] }

@@ -1,0 +1,115 @@
+//! The rows of a blob, written in one transaction.
+
+ghost use Rattle.std.specs.Prelude.{◌≡◌, ◌<◌, ◌≤◌, ◌^◌, false, IsTrue, OnOk, OnErr, IfErr};
+ghost use Rattle.std.specs.List.{AllByRecursion};
+ghost use Rattle.sqlite.specs.State.{HasCleanDisk, Survives};
+ghost use Rattle.sqlite.specs.Held.{state};
+ghost use Rattle.osm_sql_store.specs.Inside.{WorksInside};
+ghost use Rattle.osm_rows.specs.Keeping.{IsForeign};
+ghost use Rattle.osm_rows.specs.Schema.Layouts.{schema_of};
+ghost use Rattle.osm_rows.specs.Rows.{placed, extent_row, CanStore};
+ghost use Rattle.osm_sql_store.specs.Schema.Over.{IsWriting};
+ghost use Rattle.osm_sql_store.specs.Put.Steps.{AddsElements, AddsExtent, Writes};
+ghost use Rattle.osm_rows.specs.Put.Gains.{Puts};
+
+use crate::put::bodies::add_bodies;
+use crate::put::execute::execute;
+use crate::put::tables::add_table_rows;
+use crate::schema::sql::INSERT_BLOB;
+use osm_rows::{Extent, Layout, StoreFault, blob_code};
+use osm_value::Element;
+use pbf_frame::MAX_OFFSET;
+use sqlite::{Alter, Connection, Transaction, params};
+use std::alloc::Global;
+
+fn add_extent<S: Alter>(
+    transaction: &mut Transaction<'_, S>,
+    extent: &Extent,
+) -> Result<(), StoreFault>
+    requires inside { IsTrue (state S.Store transaction.old.conn.now).in_transaction }
+    requires bounds { (extent.now.off ≤ MAX_OFFSET) × (extent.now.fin ≤ MAX_OFFSET) × (extent.now.n < 2 ^ 63) }
+    ensures step { WorksInside S.Store transaction.old.conn result transaction.new.conn }
+    ensures added { HasCleanDisk (state S.Store transaction.new.conn.now) → (layout : Layout) → IsWriting layout (state S.Store transaction.old.conn.now)
+        → OnOk result (AddsExtent layout (state S.Store transaction.old.conn.now) (state S.Store transaction.new.conn.now) (extent_row extent.now)) }
+    ensures opened { HasCleanDisk (state S.Store transaction.new.conn.now) → OnOk result (IsTrue (state S.Store transaction.old.conn.now).is_open) }
+{
+    let kind = blob_code(extent.kind);
+    execute(
+        transaction,
+        INSERT_BLOB,
+        params![
+            extent.off as i64,
+            extent.fin as i64,
+            extent.digest.as_slice(),
+            kind,
+            extent.n as i64,
+        ],
+    )
+}
+
+/// The elements of a blob, in the tables of the layout.
+fn write_elements<S: Alter>(
+    alloc: Global,
+    transaction: &mut Transaction<'_, S>,
+    layout: Layout,
+    off: u64,
+    elements: &[Element],
+) -> Result<(), StoreFault>
+    requires bounds { off ≤ MAX_OFFSET }
+    ensures step { WorksInside S.Store transaction.old.conn result transaction.new.conn }
+    ensures added { HasCleanDisk (state S.Store transaction.new.conn.now) → IsWriting layout (state S.Store transaction.old.conn.now)
+        → OnOk result (AddsElements layout (state S.Store transaction.old.conn.now) (state S.Store transaction.new.conn.now) (placed off 0 elements.now)) }
+    ensures can_store { OnOk result (AllByRecursion (CanStore layout) elements.now) }
+{
+    match layout {
+        Layout::Bodies => add_bodies(alloc, transaction, off, elements),
+        Layout::Tables => add_table_rows(alloc, transaction, off, elements),
+    }
+}
+
+fn write_rows<S: Alter>(
+    alloc: Global,
+    transaction: &mut Transaction<'_, S>,
+    layout: Layout,
+    extent: &Extent,
+    elements: &[Element],
+) -> Result<(), StoreFault>
+    requires inside { IsTrue (state S.Store transaction.old.conn.now).in_transaction }
+    requires bounds { (extent.now.off ≤ MAX_OFFSET) × (extent.now.fin ≤ MAX_OFFSET) × (extent.now.n < 2 ^ 63) }
+    ensures step { WorksInside S.Store transaction.old.conn result transaction.new.conn }
+    ensures written { HasCleanDisk (state S.Store transaction.new.conn.now)
+        → OnOk result (Writes layout (state S.Store transaction.old.conn.now) (state S.Store transaction.new.conn.now) extent.now (placed extent.now.off 0 elements.now)) }
+    ensures can_store { OnOk result (AllByRecursion (CanStore layout) elements.now) }
+{
+    add_extent(transaction, extent)?;
+    write_elements(alloc, transaction, layout, extent.off, elements)
+}
+
+/// One transaction adds the blob and its elements, or nothing.
+pub(crate) fn put_rows<S: Alter>(
+    alloc: Global,
+    connection: &mut Connection<S>,
+    layout: Layout,
+    extent: &Extent,
+    elements: &[Element],
+) -> Result<(), StoreFault>
+    requires autocommit { (state S.Store connection.old).in_transaction ≡ false }
+    requires bounds { (extent.now.off ≤ MAX_OFFSET) × (extent.now.fin ≤ MAX_OFFSET) × (extent.now.n < 2 ^ 63) }
+    ensures added { HasCleanDisk (state S.Store connection.new) → (state S.Store connection.old).now.schema ≡ schema_of layout
+        → OnOk result (((state S.Store connection.new).now.schema ≡ schema_of layout) × Puts layout (state S.Store connection.old).now.trees (state S.Store connection.new).now.trees extent.now (placed extent.now.off 0 elements.now)) }
+    ensures can_store { OnOk result (AllByRecursion (CanStore layout) elements.now) }
+    ensures committed { HasCleanDisk (state S.Store connection.new) → OnOk result (IsTrue (state S.Store connection.old).is_open × IsTrue (state S.Store connection.new).is_open × ((state S.Store connection.new).committed ≡ (state S.Store connection.new).now)) }
+    ensures autocommit { (state S.Store connection.new).in_transaction ≡ false }
+    ensures unchanged { HasCleanDisk (state S.Store connection.new) → IsTrue (state S.Store connection.new).is_open
+        → OnErr result (IsTrue (state S.Store connection.old).is_open × ((state S.Store connection.new).now ≡ (state S.Store connection.old).now) × ((state S.Store connection.new).committed ≡ (state S.Store connection.old).committed)) }
+    ensures ours { IfErr result (λ fault. ¬ (IsForeign fault)) }
+    ensures crash { Survives (state S.Store connection.old) (state S.Store connection.new) (λ trees. IsTrue (state S.Store connection.old).is_open
+        × AllByRecursion (CanStore layout) elements.now
+        × ((state S.Store connection.old).now.schema ≡ schema_of layout → Puts layout (state S.Store connection.old).now.trees trees extent.now (placed extent.now.off 0 elements.now))) }
+{
+    let _settled = connection.is_autocommit();
+    let mut transaction = connection.transaction();
+    write_rows(alloc, &mut transaction, layout, extent, elements)?;
+    transaction.commit()?;
+    Ok(())
+}

@@ -1,0 +1,9 @@
+//! The tables of a store: every statement on them, and how they are made and known again.
+
+mod create;
+mod opening;
+pub(crate) mod sql;
+mod tables;
+mod version;
+
+pub(crate) use opening::{adopt_store, create_store};

@@ -1,0 +1,148 @@
+//! The tables of a store that holds nothing.
+
+ghost use Rattle.std.specs.Prelude.{◌≡◌, false, IsTrue, OnOk, OnErr};
+ghost use Rattle.sqlite.specs.State.{HasCleanDisk, Survives};
+ghost use Rattle.sqlite.specs.Held.{state};
+ghost use Rattle.osm_sql_store.specs.Inside.{GoesOn};
+ghost use Rattle.osm_sql_store.specs.Schema.Stages.{no_schema, two_tables};
+ghost use Rattle.osm_rows.specs.Schema.Layouts.{schema_of};
+ghost use Rattle.osm_sql_store.specs.Schema.Versions.{version_text_of};
+ghost use Rattle.osm_sql_store.specs.Schema.Making.{text_of, before, Makes, MakesElements, WritesVersion, IsEmptyStore};
+ghost use Rattle.osm_sql_store.specs.Schema.Over.{IsOver, IsWriting};
+
+use crate::schema::sql::{
+    CREATE_BODY, CREATE_BODY_INDEX, INSERT_BODY_VERSION, INSERT_TABLE_VERSION,
+};
+use osm_rows::{
+    CREATE_BLOB, CREATE_ELEMENT, CREATE_ELEMENT_INDEX, CREATE_LINK, CREATE_META, CREATE_TAG, Layout,
+};
+use sqlite::{Alter, Connection, Error, Transaction};
+
+/// A statement that makes a table or an index of a store.
+#[derive(Clone, Copy)]
+pub(crate) enum Making {
+    Meta,
+    Blob,
+    Body,
+    BodyIndex,
+    Element,
+    Tag,
+    Link,
+    ElementIndex,
+}
+
+impl Making {
+    fn text(self) -> &'static str
+        ensures { result.now ≡ text_of self }
+    {
+        match self {
+            Making::Meta => CREATE_META,
+            Making::Blob => CREATE_BLOB,
+            Making::Body => CREATE_BODY,
+            Making::BodyIndex => CREATE_BODY_INDEX,
+            Making::Element => CREATE_ELEMENT,
+            Making::Tag => CREATE_TAG,
+            Making::Link => CREATE_LINK,
+            Making::ElementIndex => CREATE_ELEMENT_INDEX,
+        }
+    }
+}
+
+/// Runs one statement, over the tables that the ones before it made.
+fn make<S: Alter>(transaction: &mut Transaction<'_, S>, what: Making) -> Result<(), Error>
+    requires { HasCleanDisk (state S.Store transaction.old.conn.now) → IsOver (before what) (state S.Store transaction.old.conn.now) }
+    ensures goes_on { GoesOn S.Store transaction.old.conn transaction.new.conn }
+    ensures made { HasCleanDisk (state S.Store transaction.new.conn.now) → OnOk result (Makes what (state S.Store transaction.old.conn.now) (state S.Store transaction.new.conn.now)) }
+{
+    transaction.execute(what.text(), &[])?;
+    Ok(())
+}
+
+fn make_body_layout<S: Alter>(transaction: &mut Transaction<'_, S>) -> Result<(), Error>
+    requires { HasCleanDisk (state S.Store transaction.old.conn.now) → IsOver two_tables (state S.Store transaction.old.conn.now) }
+    ensures goes_on { GoesOn S.Store transaction.old.conn transaction.new.conn }
+    ensures made { HasCleanDisk (state S.Store transaction.new.conn.now) → OnOk result (MakesElements Layout.Bodies (state S.Store transaction.old.conn.now) (state S.Store transaction.new.conn.now)) }
+{
+    make(transaction, Making::Body)?;
+    make(transaction, Making::BodyIndex)
+}
+
+fn make_table_layout<S: Alter>(transaction: &mut Transaction<'_, S>) -> Result<(), Error>
+    requires { HasCleanDisk (state S.Store transaction.old.conn.now) → IsOver two_tables (state S.Store transaction.old.conn.now) }
+    ensures goes_on { GoesOn S.Store transaction.old.conn transaction.new.conn }
+    ensures made { HasCleanDisk (state S.Store transaction.new.conn.now) → OnOk result (MakesElements Layout.Tables (state S.Store transaction.old.conn.now) (state S.Store transaction.new.conn.now)) }
+{
+    make(transaction, Making::Element)?;
+    make(transaction, Making::Tag)?;
+    make(transaction, Making::Link)?;
+    make(transaction, Making::ElementIndex)
+}
+
+/// Makes the tables in which a layout keeps elements, and their index.
+fn make_layout<S: Alter>(transaction: &mut Transaction<'_, S>, layout: Layout) -> Result<(), Error>
+    requires { HasCleanDisk (state S.Store transaction.old.conn.now) → IsOver two_tables (state S.Store transaction.old.conn.now) }
+    ensures goes_on { GoesOn S.Store transaction.old.conn transaction.new.conn }
+    ensures made { HasCleanDisk (state S.Store transaction.new.conn.now) → OnOk result (MakesElements layout (state S.Store transaction.old.conn.now) (state S.Store transaction.new.conn.now)) }
+{
+    match layout {
+        Layout::Bodies => make_body_layout(transaction),
+        Layout::Tables => make_table_layout(transaction),
+    }
+}
+
+/// The statement that writes the version of a layout.
+fn version_text(layout: Layout) -> &'static str
+    ensures { result.now ≡ version_text_of layout }
+{
+    match layout {
+        Layout::Bodies => INSERT_BODY_VERSION,
+        Layout::Tables => INSERT_TABLE_VERSION,
+    }
+}
+
+fn write_version<S: Alter>(
+    transaction: &mut Transaction<'_, S>,
+    layout: Layout,
+) -> Result<(), Error>
+    requires { HasCleanDisk (state S.Store transaction.old.conn.now) → IsWriting layout (state S.Store transaction.old.conn.now) }
+    ensures goes_on { GoesOn S.Store transaction.old.conn transaction.new.conn }
+    ensures made { HasCleanDisk (state S.Store transaction.new.conn.now) → OnOk result (WritesVersion layout (state S.Store transaction.old.conn.now) (state S.Store transaction.new.conn.now)) }
+{
+    transaction.execute(version_text(layout), &[])?;
+    Ok(())
+}
+
+fn make_tables<S: Alter>(transaction: &mut Transaction<'_, S>, layout: Layout) -> Result<(), Error>
+    requires { HasCleanDisk (state S.Store transaction.old.conn.now) → IsOver no_schema (state S.Store transaction.old.conn.now) }
+    ensures goes_on { GoesOn S.Store transaction.old.conn transaction.new.conn }
+    ensures over { HasCleanDisk (state S.Store transaction.new.conn.now) → OnOk result (IsWriting layout (state S.Store transaction.new.conn.now)) }
+    ensures made { HasCleanDisk (state S.Store transaction.new.conn.now) → OnOk result (IsEmptyStore layout (state S.Store transaction.new.conn.now).now.trees) }
+{
+    make(transaction, Making::Meta)?;
+    make(transaction, Making::Blob)?;
+    make_layout(transaction, layout)?;
+    write_version(transaction, layout)
+}
+
+/// Makes the tables of a store that holds nothing, all in one transaction.
+pub(crate) fn create_tables<S: Alter>(
+    connection: &mut Connection<S>,
+    layout: Layout,
+) -> Result<(), Error>
+    requires bare { HasCleanDisk (state S.Store connection.old) → (state S.Store connection.old).now.schema ≡ no_schema }
+    requires autocommit { (state S.Store connection.old).in_transaction ≡ false }
+    ensures settled { HasCleanDisk (state S.Store connection.new) → OnOk result ((db : _) → (state S.Store connection.new).may_leave db → db ≡ (state S.Store connection.new).now.trees) }
+    ensures schema { HasCleanDisk (state S.Store connection.new) → OnOk result ((state S.Store connection.new).now.schema ≡ schema_of layout) }
+    ensures empty { HasCleanDisk (state S.Store connection.new) → OnOk result (IsEmptyStore layout (state S.Store connection.new).now.trees) }
+    ensures committed { HasCleanDisk (state S.Store connection.new) → OnOk result (IsTrue (state S.Store connection.new).is_open × ((state S.Store connection.new).committed ≡ (state S.Store connection.new).now)) }
+    ensures autocommit { (state S.Store connection.new).in_transaction ≡ false }
+    ensures unchanged { HasCleanDisk (state S.Store connection.new) → IsTrue (state S.Store connection.new).is_open
+        → OnErr result (((state S.Store connection.new).now ≡ (state S.Store connection.old).now) × ((state S.Store connection.new).committed ≡ (state S.Store connection.old).committed)) }
+    ensures crash { Survives (state S.Store connection.old) (state S.Store connection.new) (IsEmptyStore layout) }
+{
+    let _settled = connection.is_autocommit();
+    let mut transaction = connection.transaction();
+    make_tables(&mut transaction, layout)?;
+    transaction.commit()?;
+    Ok(())
+}

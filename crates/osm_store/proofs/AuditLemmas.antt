@@ -1,8 +1,0 @@
--- What the queries of an audit read, and what it comes to.
-pub mod Telling
-pub mod RowLists
-pub mod AtOffset
-pub mod BlobReads
-pub mod CountReads
-pub mod AllRows
-pub mod HeldRows

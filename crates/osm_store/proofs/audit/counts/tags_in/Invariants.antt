@@ -1,6 +1,0 @@
-use Rattle.std.proofs.Common.{◌≡◌, take}
-use Rattle.osm_store.specs.Audit.{capped, tags_in}
-use Rattle.osm_store.proofs.audit.counts.tags_in.Given as goal
-
-abbrev pub invariant-loop-element : goal.invariant-loop-element
-invariant-loop-element l = l.count ≡ capped (tags_in (take l.element-index l.elements))

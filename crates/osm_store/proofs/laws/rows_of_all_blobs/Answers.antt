@@ -1,5 +1,0 @@
-use Rattle.osm_store.proofs.AuditLemmas.AllRows.{shows_map}
-use Rattle.osm_store.proofs.laws.rows_of_all_blobs.Goals as goal
-
-pub returns : goal.returns
-returns c = shows_map

@@ -1,5 +1,0 @@
-use Rattle.osm_store.proofs.MapLemmas.OneMap.{one_map}
-use Rattle.osm_store.proofs.laws.rows_of_one_map.Goals as goal
-
-pub returns : goal.returns
-returns c = one_map

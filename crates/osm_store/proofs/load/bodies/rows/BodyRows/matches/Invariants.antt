@@ -1,7 +1,0 @@
-use Rattle.std.proofs.Common.{◌≡◌, List, take}
-use Rattle.osm_store.specs.Load.Loading.{AreBodiesOf}
-use Rattle.osm_store.specs.Rows.{Placed}
-use Rattle.osm_store.proofs.load.bodies.rows.BodyRows.matches.Given as goal
-
-abbrev pub invariant-loop-row : goal.invariant-loop-row
-invariant-loop-row l = record { rows : l.row-items ≡ l.self.rows.items; so_far : (matches : List Placed) → AreBodiesOf l.self matches → l.matches.items ≡ take l.row-index matches }

@@ -1,8 +1,0 @@
-use Rattle.std.proofs.Common.{◌≡◌, map, take}
-use Rattle.osm_store.specs.Rows.{placed}
-use Rattle.osm_store.specs.TableRows.{tag_rows}
-use Rattle.osm_store.specs.Put.WrittenRows.{tag_columns}
-use Rattle.osm_store.proofs.put.tables.tag_rows.Given as goal
-
-abbrev pub invariant-loop-index : goal.invariant-loop-index
-invariant-loop-index l = map tag_columns l.rows.items ≡ tag_rows (placed l.off l.first (take l.index l.elements))

@@ -1,4 +1,0 @@
--- What the steps of a put write.
-pub mod Batches
-pub mod WrittenRows
-pub mod Steps

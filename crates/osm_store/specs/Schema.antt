@@ -1,7 +1,0 @@
--- The tables of a store, in each layout.
-pub mod Bodies
-pub mod Tables
-pub mod Layouts
-pub mod Named
-pub mod Over
-pub mod Making
