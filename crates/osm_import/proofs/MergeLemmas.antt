@@ -20,7 +20,7 @@ use Rattle.osm_reading.specs.Framings.{Known}
 use Rattle.osm_import.specs.Flows.{Input, Output}
 use Rattle.osm_import.specs.Streams.{Reply, frames_of, answers_of, deliveries_at, Streams}
 use Rattle.osm_import.specs.declared.stream.summary.Summary.{Summary}
-use Rattle.osm_reading.specs.declared.stream.fault.StreamFault.{StreamFault}
+use Rattle.osm_import.specs.declared.stream.fault.ImportStop.{ImportStop}
 use Rattle.osm_import.specs.declared.answer.Conflict.TheVariants.{Differs, Overlap}
 use Rattle.osm_import.proofs.CopyLemmas.{merged_none}
 use Rattle.osm_import.proofs.FilesLemmas.{stands-apart, stands-same, entry-same}
@@ -265,7 +265,7 @@ delivered_at from [] = refl
 delivered_at from (r ∷ rs) = ap (λ ds. record { off = from; bytes = r.0 } ∷ ds) (delivered_at (from + length r.0) rs)
 
 pub stream_part : (from limit : ℕ) (piece : List ℕ) (input : Input) (output : Output) (Took : List DeliveryValue → List Answer → Type 0) (now : HeldMap → Type 0) → input.before ≡ Some piece
-    → ((ds : List DeliveryValue) (rs : List Answer) → Took ds rs → IsNone IsFault rs → Runs now empty ds rs) → (result : Result Summary StreamFault)
+    → ((ds : List DeliveryValue) (rs : List Answer) → Took ds rs → IsNone IsFault rs → Runs now empty ds rs) → (result : Result Summary ImportStop)
     → Streams from limit input output Took result → IfOk result (λ summary. ImportsPart now from piece)
 stream_part from limit piece input output Took now is runs (Err stop) end = tt
 stream_part from limit piece input output Took now is runs (Ok summary) end = (

@@ -19,7 +19,7 @@ use Rattle.osm_import.specs.Streams.{Reply, frames_of, answers_of, deliveries_at
 use Rattle.osm_import.specs.declared.answer.Answer.{Answer}
 use Rattle.osm_import.specs.declared.answer.Answer.TheVariants.{Stored, AlreadyHeld, Bad, Refused, Fault}
 use Rattle.osm_import.specs.declared.stream.summary.Summary.{Summary}
-use Rattle.osm_reading.specs.declared.stream.fault.StreamFault.{StreamFault}
+use Rattle.osm_import.specs.declared.stream.fault.ImportStop.{ImportStop}
 use Rattle.osm_import.proofs.FilesLemmas.{stands-same}
 use Rattle.osm_import.proofs.RunsLemmas.{run-keep, run-imports}
 
@@ -162,7 +162,7 @@ stream-tiles limit file input output Took summary start after is end of_file run
     )
 
 one-file : (limit : ℕ) (file : List ℕ) (input : Input) (output : Output) (Took : List DeliveryValue → List Answer → Type 0) (now : HeldMap → Type 0) (start : HeldMap) → input.before ≡ Some file
-    → ((ds : List DeliveryValue) (rs : List Answer) → Took ds rs → IsNone IsFault rs → Runs now start ds rs) → (result : Result Summary StreamFault)
+    → ((ds : List DeliveryValue) (rs : List Answer) → Took ds rs → IsNone IsFault rs → Runs now start ds rs) → (result : Result Summary ImportStop)
     → Streams 0 limit input output Took result → IfOk result (λ summary. ImportsFile now file start summary)
 one-file limit file input output Took now start is runs (Err stop) end = tt
 one-file limit file input output Took now start is runs (Ok summary) end =
@@ -174,7 +174,7 @@ one-file limit file input output Took now start is runs (Ok summary) end =
     )
 
 pub stream-one-file : (from limit : ℕ) (file : List ℕ) (input : Input) (output : Output) (Took : List DeliveryValue → List Answer → Type 0) (now : HeldMap → Type 0) (start : HeldMap) → input.before ≡ Some file → from ≡ 0
-    → ((ds : List DeliveryValue) (rs : List Answer) → Took ds rs → IsNone IsFault rs → Runs now start ds rs) → (result : Result Summary StreamFault)
+    → ((ds : List DeliveryValue) (rs : List Answer) → Took ds rs → IsNone IsFault rs → Runs now start ds rs) → (result : Result Summary ImportStop)
     → Streams from limit input output Took result → IfOk result (λ summary. ImportsFile now file start summary)
 stream-one-file from limit file input output Took now start is zero runs result streams =
     one-file limit file input output Took now start is runs result (subst (λ n. Streams n limit input output Took result) zero streams)

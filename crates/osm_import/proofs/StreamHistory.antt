@@ -8,7 +8,7 @@ use Rattle.pbf_frame.proofs.FrameLaws.{frame_again}
 use Rattle.osm_reading.specs.Good.{IsFrame}
 use Rattle.osm_reading.specs.Framings.{Known}
 use Rattle.osm_reading.proofs.GoodLaws.{frame-filled}
-use Rattle.osm_reading.specs.declared.stream.fault.StreamFault.{StreamFault}
+use Rattle.osm_import.specs.declared.stream.fault.ImportStop.{ImportStop}
 use Rattle.osm_rows.specs.Held.{HeldMap}
 use Rattle.osm_import.specs.Deliveries.{DeliveryValue}
 use Rattle.osm_import.specs.Files.{AreFrames, AreOfFile, StandsAt, IsFrameAt, joined}
@@ -105,7 +105,7 @@ front-read before None piece xs is read = absurd (subst (λ (o : Known). Consume
 front-read before (Some rest) piece xs is read = (rest, sym (subst (λ (o : Known). Consumes o (Some rest) xs) is read))
 
 -- said of the deliveries of any front of the known bytes, it is said of those of the stream
-pub stream-took : (from limit : ℕ) (input : Input) (output : Output) (P Q : List DeliveryValue → List Answer → Type 0) (result : Result Summary StreamFault) (piece : List ℕ)
+pub stream-took : (from limit : ℕ) (input : Input) (output : Output) (P Q : List DeliveryValue → List Answer → Type 0) (result : Result Summary ImportStop) (piece : List ℕ)
     → Streams from limit input output P result → input.before ≡ Some piece
     → ((rs : List Reply) (x : List ℕ) → AreFrames (frames_of rs) → joined (frames_of rs) ++ x ≡ piece → P (deliveries_at from rs) (answers_of rs) → Q (deliveries_at from rs) (answers_of rs))
     → Streams from limit input output Q result
@@ -146,7 +146,7 @@ stream-of_file frames from piece rs x whole stand read same =
     events-of_file frames (deliveries_at from rs) (answers_of rs) (of-file frames from rs (within frames from piece (frames_of rs) x whole read stand same))
 
 -- whatever the store took, one thing is so of it
-pub stream-all : (from limit : ℕ) (input : Input) (output : Output) (P : List DeliveryValue → List Answer → Type 0) (R : Type 0) (result : Result Summary StreamFault)
+pub stream-all : (from limit : ℕ) (input : Input) (output : Output) (P : List DeliveryValue → List Answer → Type 0) (R : Type 0) (result : Result Summary ImportStop)
     → Streams from limit input output P result → ((ds : List DeliveryValue) (rs : List Answer) → P ds rs → R) → R
 stream-all from limit input output P R (Ok summary) end gives = gives _ _ end.took
 stream-all from limit input output P R (Err stop) end gives = gives _ _ end.took

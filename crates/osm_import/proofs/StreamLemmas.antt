@@ -1,5 +1,5 @@
 -- From frame to frame of a stream.
-use Rattle.std.proofs.Common.{◌≡◌, ◌⊎◌, ℕ, ◌+◌, ◌<◌, ◌≤◌, ◌&&◌, eqb, cond, Bool, true, false, List, [], ◌∷◌, ◌++◌, length, Option, Some, None, Ok, Err, refl, sym, ap, subst, ◌∙◌, inl, inr, arith, append_assoc, append-nil, length-append}
+use Rattle.std.proofs.Common.{◌≡◌, ◌⊎◌, ℕ, ◌+◌, ◌<◌, ◌≤◌, ◌&&◌, eqb, cond, Bool, true, false, List, [], ◌∷◌, ◌++◌, length, Option, Some, None, Ok, Err, refl, sym, ap, subst, ◌∙◌, arith, append_assoc, append-nil, length-append}
 use Rattle.std.proofs.lemmas.Bool.Decides.{nat_tests}
 use Rattle.std.specs.Io.KnownBytes.{Appends, Consumes, IsAtEnd, prepend_known}
 use Rattle.std.proofs.KnownBytes.{Appends-trans, Consumes-trans, prepend_known-nil, Consumes-nil, Appends-nil}
@@ -7,7 +7,6 @@ use Rattle.pbf_frame.specs.declared.fault.FrameFault.{FrameFault}
 use Rattle.pbf_frame.specs.Framer.{Framing, FrameWaits, FaultStands, IsUnfinished, waiting}
 use Rattle.pbf_frame.proofs.WaitingLaws.{waiting_again}
 use Rattle.pbf_wire.proofs.Choices.{ok_is}
-use Rattle.osm_rows.specs.declared.fault.StoreFault.TheVariants.{Memory}
 use Rattle.osm_reading.specs.Good.{IsFrame}
 use Rattle.osm_import.specs.Files.{AreFrames, joined}
 use Rattle.osm_import.specs.Deliveries.{DeliveryValue}
@@ -21,8 +20,9 @@ use Rattle.osm_import.specs.declared.answer.Answer.{Answer}
 use Rattle.osm_import.specs.declared.answer.Answer.TheVariants as answers
 use Rattle.osm_import.specs.declared.stream.summary.Summary.{Summary}
 use Rattle.osm_import.specs.declared.stream.run.Delivered.{Delivered}
-use Rattle.osm_reading.specs.declared.stream.fault.Stop.{Stop}
-use Rattle.osm_reading.specs.declared.stream.fault.Stop.TheVariants.{Frame, NoHeaderFirst, WriteFailed, Store, ReadFailed, BlobLimit}
+use Rattle.osm_import.specs.declared.stream.fault.ImportFault.{ImportFault}
+use Rattle.osm_import.specs.declared.stream.fault.ImportFault.TheVariants.{Stream, WriteFailed, Store, BlobLimit}
+use Rattle.osm_reading.specs.declared.stream.fault.Stop.TheVariants.{Frame, NoHeaderFirst, ReadFailed, Memory}
 use Rattle.osm_import.proofs.RunsLemmas.{none-push}
 use Rattle.osm_reading.proofs.GoodLaws.{frame-filled}
 use Rattle.osm_import.proofs.WritingLemmas.{front-of-piece}
@@ -149,7 +149,7 @@ stream-ends from limit count f input piece output summary Took so_far end few = 
     all : rs ++ [] ≡ rs
     all = append-nil rs
 
-    by : (b : Bool) → (eqb from 0 && eqb summary.next 0) ≡ b → Streams from limit input output Took (cond b (Err (record { fault = NoHeaderFirst; at = 0 })) (Ok summary))
+    by : (b : Bool) → (eqb from 0 && eqb summary.next 0) ≡ b → Streams from limit input output Took (cond b (Err (record { fault = Stream NoHeaderFirst; at = 0 })) (Ok summary))
     by false e = record {
       replies = rs;
       frames = so_far.frames;
@@ -184,11 +184,11 @@ abbrev pub Stays : (List DeliveryValue → List Answer → Type 0) → Type 0 �
 Stays Then Same Now = (ds : List DeliveryValue) (rs : List Answer) → Same → Then ds rs → Now ds rs
 
 -- a stop at which no frame was being delivered
-pub stop-between : (from limit count : ℕ) (f : Framing) (input : Input) (piece : List ℕ) (mid : Known) (output : Output) (written_mid : Known) (summary : Summary) (Then Now : List DeliveryValue → List Answer → Type 0) (Same : Type 0) (stop : Stop) (got : List ℕ)
+pub stop-between : (from limit count : ℕ) (f : Framing) (input : Input) (piece : List ℕ) (mid : Known) (output : Output) (written_mid : Known) (summary : Summary) (Then Now : List DeliveryValue → List Answer → Type 0) (Same : Type 0) (fault : ImportFault) (got : List ℕ)
     → InStream output.tells from count f input.before mid output.before written_mid summary Then → Consumes mid (prepend_known piece input.after) got → Stays Then Same Now → Same → count ≤ limit
-    → ((rs : List Reply) → length rs ≡ count → f.offset ≡ end_at from rs → Appends output.before written_mid (lines_at output.tells from rs) → IsStop from limit input output rs [] (got ++ piece) stop)
-    → Stops from limit input output Now (record { fault = stop; at = summary.next })
-stop-between from limit count f input piece mid output written_mid summary Then Now Same stop got so_far read stays same few why =
+    → ((rs : List Reply) → length rs ≡ count → f.offset ≡ end_at from rs → Appends output.before written_mid (lines_at output.tells from rs) → IsStop from limit input output rs [] (got ++ piece) fault)
+    → Stops from limit input output Now (record { fault = fault; at = summary.next })
+stop-between from limit count f input piece mid output written_mid summary Then Now Same fault got so_far read stays same few why =
     let rs = so_far.replies in
     let all : rs ++ [] ≡ rs = append-nil rs in
     let both : Consumes input.before input.after ((joined (frames_of rs) ++ got) ++ piece) = unread input.before piece input.after (joined (frames_of rs) ++ got) (Consumes-trans input.before mid (prepend_known piece input.after) (joined (frames_of rs)) got so_far.read read) in
@@ -206,11 +206,11 @@ stop-between from limit count f input piece mid output written_mid summary Then 
     }
 
 -- a stop at a frame that was being delivered
-pub stop-at : (from limit count : ℕ) (f : Framing) (input : Input) (piece : List ℕ) (mid : Known) (output : Output) (written_mid : Known) (summary : Summary) (Then Now : List DeliveryValue → List Answer → Type 0) (One : ℕ → List ℕ → Answer → Type 0) (stop : Stop) (w : List ℕ) (a : Answer)
+pub stop-at : (from limit count : ℕ) (f : Framing) (input : Input) (piece : List ℕ) (mid : Known) (output : Output) (written_mid : Known) (summary : Summary) (Then Now : List DeliveryValue → List Answer → Type 0) (One : ℕ → List ℕ → Answer → Type 0) (fault : ImportFault) (w : List ℕ) (a : Answer)
     → InStream output.tells from count f input.before mid output.before written_mid summary Then → Consumes mid (prepend_known piece input.after) w → Grows Then One Now → IsFrame w → One f.offset w a → count < limit
-    → ((rs : List Reply) → f.offset ≡ end_at from rs → Appends output.before written_mid (lines_at output.tells from rs) → IsStop from limit input output rs ((w, a) ∷ []) piece stop)
-    → Stops from limit input output Now (record { fault = stop; at = summary.next })
-stop-at from limit count f input piece mid output written_mid summary Then Now One stop w a so_far read grows whole one few why =
+    → ((rs : List Reply) → f.offset ≡ end_at from rs → Appends output.before written_mid (lines_at output.tells from rs) → IsStop from limit input output rs ((w, a) ∷ []) piece fault)
+    → Stops from limit input output Now (record { fault = fault; at = summary.next })
+stop-at from limit count f input piece mid output written_mid summary Then Now One fault w a so_far read grows whole one few why =
     let rs = so_far.replies in
     let r : Reply = (w, a) in
     let all : joined (frames_of (rs ++ r ∷ [])) ≡ joined (frames_of rs) ++ w = ap joined (frames-push rs r) ∙ joined-push (frames_of rs) w in
@@ -228,34 +228,33 @@ stop-at from limit count f input piece mid output written_mid summary Then Now O
     }
 
 -- what the call for a frame stopped at, after the frames so far
-pub stream-stops : (from limit count : ℕ) (f : Framing) (input : Input) (piece : List ℕ) (mid : Known) (output : Output) (written_mid : Known) (summary : Summary) (Then Now : List DeliveryValue → List Answer → Type 0) (One : ℕ → List ℕ → Answer → Type 0) (Same : Type 0) (stop : Stop)
-    → InStream output.tells from count f input.before mid output.before written_mid summary Then → FrameStop f (record { before = mid; after = prepend_known piece input.after; has_failed = input.has_failed }) (record { tells = output.tells; before = written_mid; after = output.after; has_failed = output.has_failed }) Same One stop
-    → Stays Then Same Now → Grows Then One Now → count < limit → (stop ≡ ReadFailed → piece ≡ [])
-    → Stops from limit input output Now (record { fault = stop; at = summary.next })
-stream-stops from limit count f input piece mid output written_mid summary Then Now One Same (Frame fault) so_far h stays grows few spent =
+pub stream-stops : (from limit count : ℕ) (f : Framing) (input : Input) (piece : List ℕ) (mid : Known) (output : Output) (written_mid : Known) (summary : Summary) (Then Now : List DeliveryValue → List Answer → Type 0) (One : ℕ → List ℕ → Answer → Type 0) (Same : Type 0) (fault : ImportFault)
+    → InStream output.tells from count f input.before mid output.before written_mid summary Then → FrameStop f (record { before = mid; after = prepend_known piece input.after; has_failed = input.has_failed }) (record { tells = output.tells; before = written_mid; after = output.after; has_failed = output.has_failed }) Same One fault
+    → Stays Then Same Now → Grows Then One Now → count < limit → (fault ≡ Stream ReadFailed → piece ≡ [])
+    → Stops from limit input output Now (record { fault = fault; at = summary.next })
+stream-stops from limit count f input piece mid output written_mid summary Then Now One Same (Stream (Frame fault)) so_far h stays grows few spent =
     let it = h.2 in
-    stop-between from limit count f input piece mid output written_mid summary Then Now Same (Frame fault) it.0 so_far it.2 stays h.1 (omega arith)
+    stop-between from limit count f input piece mid output written_mid summary Then Now Same (Stream (Frame fault)) it.0 so_far it.2 stays h.1 (omega arith)
     (λ rs many here lines. (
       refl,
       subst (λ (o : Known). Appends output.before o (lines_at output.tells from rs)) (sym h.0) lines,
       (it.0, piece, it.1, refl, subst (λ n. FaultStands fault (record { offset = n; rest = it.0; lent = it.1 }) ⊎ (IsUnfinished fault (record { offset = n; rest = it.0; lent = it.1 }) × IsAtEnd (prepend_known piece input.after))) here it.3),
     ))
-stream-stops from limit count f input piece mid output written_mid summary Then Now One Same ReadFailed so_far h stays grows few spent =
-    stop-between from limit count f input piece mid output written_mid summary Then Now Same ReadFailed h.3.0 so_far h.3.1 stays h.1 (omega arith)
+stream-stops from limit count f input piece mid output written_mid summary Then Now One Same (Stream ReadFailed) so_far h stays grows few spent =
+    stop-between from limit count f input piece mid output written_mid summary Then Now Same (Stream ReadFailed) h.3.0 so_far h.3.1 stays h.1 (omega arith)
     (λ rs many here lines. (
       h.2,
       refl,
       subst (λ (o : Known). Appends output.before o (lines_at output.tells from rs)) (sym h.0) lines,
       subst (λ n. HasNoFrame n (h.3.0 ++ piece)) here (subst (λ (v : List ℕ). HasNoFrame f.offset v) (sym (ap (λ (v : List ℕ). h.3.0 ++ v) (spent refl) ∙ append-nil h.3.0)) h.3.2),
     ))
-stream-stops from limit count f input piece mid output written_mid summary Then Now One Same (Store fault) so_far h stays grows few spent = elim h.1 [
-  | inl own ↦
-      stop-between from limit count f input piece mid output written_mid summary Then Now Same (Store fault) own.2.0 so_far own.2.1 stays own.0 (omega arith)
-      (λ rs many here lines. (subst (λ (o : Known). Appends output.before o (lines_at output.tells from rs)) (sym h.0) lines, inl (refl, own.1)))
-  | inr one ↦
-      stop-at from limit count f input piece mid output written_mid summary Then Now One (Store fault) one.0 (answers.Fault fault) so_far one.2 grows one.1 one.3 few
-      (λ rs here lines. (subst (λ (o : Known). Appends output.before o (lines_at output.tells from rs)) (sym h.0) lines, inr refl))
-]
+stream-stops from limit count f input piece mid output written_mid summary Then Now One Same (Stream Memory) so_far h stays grows few spent =
+    stop-between from limit count f input piece mid output written_mid summary Then Now Same (Stream Memory) h.2.0 so_far h.2.1 stays h.1 (omega arith)
+    (λ rs many here lines. (refl, subst (λ (o : Known). Appends output.before o (lines_at output.tells from rs)) (sym h.0) lines))
+stream-stops from limit count f input piece mid output written_mid summary Then Now One Same (Store fault) so_far h stays grows few spent =
+    let one = h.1 in
+    stop-at from limit count f input piece mid output written_mid summary Then Now One (Store fault) one.0 (answers.Fault fault) so_far one.2 grows one.1 one.3 few
+    (λ rs here lines. (subst (λ (o : Known). Appends output.before o (lines_at output.tells from rs)) (sym h.0) lines, refl))
 stream-stops from limit count f input piece mid output written_mid summary Then Now One Same WriteFailed so_far h stays grows few spent =
     let it = h.1 in
     stop-at from limit count f input piece mid output written_mid summary Then Now One WriteFailed it.0 it.1 so_far it.3 grows it.2 it.4 few
@@ -266,7 +265,7 @@ stream-stops from limit count f input piece mid output written_mid summary Then 
       front-of-piece output.before written_mid output.after (lines_at output.tells from rs) (told_line output.tells f.offset it.1) [] (lines_at output.tells from (rs ++ (it.0, it.1) ∷ [])) lines
           (append-nil (lines_at output.tells from rs ++ told_line output.tells f.offset it.1) ∙ ap (λ n. lines_at output.tells from rs ++ told_line output.tells n it.1) here ∙ sym (lines-push output.tells from rs (it.0, it.1))) it.6,
     ))
-stream-stops from limit count f input piece mid output written_mid summary Then Now One Same NoHeaderFirst so_far h stays grows few spent = absurd h
+stream-stops from limit count f input piece mid output written_mid summary Then Now One Same (Stream NoHeaderFirst) so_far h stays grows few spent = absurd h
 stream-stops from limit count f input piece mid output written_mid summary Then Now One Same BlobLimit so_far h stays grows few spent = absurd h
 
 -- nothing was read yet
@@ -290,7 +289,7 @@ stream-begins tells from left written f summary Took here empty inside is took =
 
 -- no memory for a piece
 pub never-begun : (tells : Answer → Bool) (from limit : ℕ) (left written : Known) (source_failed sink_failed : Bool) (Took : List DeliveryValue → List Answer → Type 0) → Took [] []
-    → Stops from limit (record { before = left; after = left; has_failed = source_failed }) (record { tells = tells; before = written; after = written; has_failed = sink_failed }) Took (record { fault = Store Memory; at = from })
+    → Stops from limit (record { before = left; after = left; has_failed = source_failed }) (record { tells = tells; before = written; after = written; has_failed = sink_failed }) Took (record { fault = Stream Memory; at = from })
 never-begun tells from limit left written source_failed sink_failed Took took = record {
   replies = [];
   last = [];
@@ -301,7 +300,7 @@ never-begun tells from limit left written source_failed sink_failed Took took = 
   few = omega arith;
   stands = refl;
   read = Consumes-nil left;
-  why = (Appends-nil written, inl (refl, refl));
+  why = (refl, Appends-nil written);
 }
 
 -- a call that read no frame

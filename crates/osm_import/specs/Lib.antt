@@ -12,6 +12,7 @@ pub mod Lines
 pub mod Pbf
 pub mod Walks
 pub mod ExportFaults
+pub mod ImportFaults
 pub mod Flows
 pub mod Stores
 pub mod Streams

@@ -5,7 +5,6 @@ use Rattle.std.specs.Io.KnownBytes.{Appends, Consumes, IsAtEnd, prepend_known}
 use Rattle.pbf_frame.specs.Framer.{FaultStands, IsUnfinished}
 use Rattle.osm_value.specs.Sink.{AppendsFront}
 use Rattle.osm_rows.specs.Held.{HeldMap}
-use Rattle.osm_rows.specs.declared.fault.StoreFault.TheVariants.{Memory}
 use Rattle.osm_import.specs.Files.{AreFrames, joined, IsFile, IsHeldOfFile}
 use Rattle.osm_import.specs.Gaps.{Tiles}
 use Rattle.osm_import.specs.Deliveries.{DeliveryValue}
@@ -16,9 +15,10 @@ use Rattle.osm_reading.specs.Framings.{HasNoFrame}
 use Rattle.osm_import.specs.declared.answer.Answer.{Answer}
 use Rattle.osm_import.specs.declared.answer.Answer.TheVariants as answers
 use Rattle.osm_import.specs.declared.stream.summary.Summary.{Summary}
-use Rattle.osm_reading.specs.declared.stream.fault.Stop.{Stop}
-use Rattle.osm_reading.specs.declared.stream.fault.Stop.TheVariants.{Frame, NoHeaderFirst, WriteFailed, Store, ReadFailed, BlobLimit}
-use Rattle.osm_reading.specs.declared.stream.fault.StreamFault.{StreamFault}
+use Rattle.osm_import.specs.declared.stream.fault.ImportFault.{ImportFault}
+use Rattle.osm_import.specs.declared.stream.fault.ImportFault.TheVariants.{Stream, WriteFailed, Store, BlobLimit}
+use Rattle.osm_reading.specs.declared.stream.fault.Stop.TheVariants.{Frame, NoHeaderFirst, ReadFailed, Memory}
+use Rattle.osm_import.specs.declared.stream.fault.ImportStop.{ImportStop}
 
 -- ---- frames and their answers
 
@@ -78,8 +78,8 @@ pub record HasRoom (s : Summary) : Type 0 where
   pub refused : s.refused < 2 ^ 63
 
 -- what is said at the end of an input that stood at `from` at its start
-abbrev pub ended_at : ℕ → Summary → Result Summary StreamFault
-ended_at from summary = if from == 0 && summary.next == 0 then Err (record { fault = NoHeaderFirst; at = 0 }) else Ok summary
+abbrev pub ended_at : ℕ → Summary → Result Summary ImportStop
+ended_at from summary = if from == 0 && summary.next == 0 then Err (record { fault = Stream NoHeaderFirst; at = 0 }) else Ok summary
 
 -- ---- how the import of a stream ends
 
@@ -97,23 +97,25 @@ pub record EndsWell (from limit : ℕ) (input : Input) (output : Output) (Took :
   pub some : from ≡ 0 → replies ≢ []
 
 -- Why it stopped behind these answered frames, with this frame being delivered if there is one, and these bytes read behind it.
-abbrev pub IsStop : ℕ → ℕ → Input → Output → List Reply → List Reply → List ℕ → Stop → Type 0
-IsStop from limit input output replies last rest (Frame fault) =
+abbrev pub IsStop : ℕ → ℕ → Input → Output → List Reply → List Reply → List ℕ → ImportFault → Type 0
+IsStop from limit input output replies last rest (Stream (Frame fault)) =
     (last ≡ []) × Appends output.before output.after (lines_at output.tells from replies)
     × ((got more lent : List ℕ) × (rest ≡ got ++ more) × (FaultStands fault (record { offset = end_at from replies; rest = got; lent = lent })
     ⊎ (IsUnfinished fault (record { offset = end_at from replies; rest = got; lent = lent }) × IsAtEnd (prepend_known more input.after))))
-IsStop from limit input output replies last rest NoHeaderFirst =
+IsStop from limit input output replies last rest (Stream NoHeaderFirst) =
     (last ≡ []) × (from ≡ 0) × (replies ≡ []) × (rest ≡ []) × IsAtEnd input.after × Appends output.before output.after []
+IsStop from limit input output replies last rest (Stream ReadFailed) =
+    (input.has_failed ≡ true) × (last ≡ []) × Appends output.before output.after (lines_at output.tells from replies) × HasNoFrame (end_at from replies) rest
+IsStop from limit input output replies last rest (Stream Memory) =
+    (last ≡ []) × Appends output.before output.after (lines_at output.tells from replies)
 IsStop from limit input output replies last rest WriteFailed =
     (output.has_failed ≡ true) × (length last ≡ 1) × IsNone IsFault (answers_of last) × AppendsFront output.before output.after (lines_at output.tells from (replies ++ last))
 IsStop from limit input output replies last rest (Store fault) =
-    Appends output.before output.after (lines_at output.tells from replies) × (((last ≡ []) × (fault ≡ Memory)) ⊎ (answers_of last ≡ answers.Fault fault ∷ []))
-IsStop from limit input output replies last rest ReadFailed =
-    (input.has_failed ≡ true) × (last ≡ []) × Appends output.before output.after (lines_at output.tells from replies) × HasNoFrame (end_at from replies) rest
+    Appends output.before output.after (lines_at output.tells from replies) × (answers_of last ≡ answers.Fault fault ∷ [])
 IsStop from limit input output replies last rest BlobLimit =
     (last ≡ []) × (length replies ≡ limit) × (0 < length rest) × Appends output.before output.after (lines_at output.tells from replies)
 
-pub record Stops (from limit : ℕ) (input : Input) (output : Output) (Took : List DeliveryValue → List Answer → Type 0) (stop : StreamFault) : Type 0 where
+pub record Stops (from limit : ℕ) (input : Input) (output : Output) (Took : List DeliveryValue → List Answer → Type 0) (stop : ImportStop) : Type 0 where
   pub replies : List Reply
   pub last : List Reply
   pub rest : List ℕ
@@ -126,7 +128,7 @@ pub record Stops (from limit : ℕ) (input : Input) (output : Output) (Took : Li
   pub why : IsStop from limit input output replies last rest stop.fault
 
 -- An import of a stream has read its input to the end, or stopped for a cause, and took each frame before in turn.
-abbrev pub Streams : ℕ → ℕ → Input → Output → (List DeliveryValue → List Answer → Type 0) → Result Summary StreamFault → Type 0
+abbrev pub Streams : ℕ → ℕ → Input → Output → (List DeliveryValue → List Answer → Type 0) → Result Summary ImportStop → Type 0
 Streams from limit input output Took (Ok summary) = EndsWell from limit input output Took summary
 Streams from limit input output Took (Err stop) = Stops from limit input output Took stop
 

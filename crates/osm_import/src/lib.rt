@@ -25,4 +25,4 @@ pub use osm_reading::{
     ExamineFault, Fault, FrameReader, Good, Inlet, Source, SourceFailed, Stop, StreamFault,
     examine, examine_frame, put_fault_at, put_plain_fault,
 };
-pub use stream::{Summary, Teller, Told, import_stream};
+pub use stream::{ImportFault, ImportStop, Summary, Teller, Told, import_stream};

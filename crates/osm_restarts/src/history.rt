@@ -23,7 +23,7 @@ ghost use Rattle.osm_restarts.specs.Lives.{Restart, AreRestarts, events_in};
 
 use crate::premise::what_is_left_may_be_opened;
 use crate::restart::a_restart_holds_what_was_left;
-use osm_import::{Answer, Source, StreamFault, Summary, Teller, deliver, import_stream};
+use osm_import::{Answer, ImportStop, Source, Summary, Teller, deliver, import_stream};
 use osm_trees::TreeStore;
 use osm_value::Sink;
 use pbf_frame::MAX_OFFSET;
@@ -116,7 +116,7 @@ pub fn import_before_a_restart<D: Disk, E: Disk, R: Source, T: Teller, S: Sink>(
     teller: &T,
     out: &mut S,
     after: &FileStore<E>,
-) -> (FileStore<D>, Result<Summary, StreamFault>)
+) -> (FileStore<D>, Result<Summary, ImportStop>)
     requires { from ≤ MAX_OFFSET }
     ensures opens { (held : HeldMap) → HoldsBelow Tables (view keeper.store) held → IsFoundAgain ((view keeper.store).trees catalog_tree) → MayBeOpened result.0 }
     ensures list { (held : HeldMap) → HoldsBelow Tables (view keeper.store) held → IsClean (view result.0)

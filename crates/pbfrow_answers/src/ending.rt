@@ -2,11 +2,11 @@
 
 ghost use Rattle.std.specs.Prelude.{◌≡◌};
 ghost use Rattle.osm_value.specs.Printing.{Prints};
-ghost use Rattle.pbfrow_reading.specs.CommandLines.{store_fault_line};
+ghost use Rattle.pbfrow_commands.specs.CommandLines.{store_fault_line};
 
 use osm_rows::{Reader, StoreFault};
 use osm_value::Sink;
-use pbfrow_reading::report::put_store_fault;
+use pbfrow_commands::report::put_store_fault;
 use pbfrow_terminal::ending::FAULTY;
 
 /// Writes the line of a fault of a database, and answers the exit status.

@@ -12,12 +12,13 @@ use Rattle.osm_import.specs.Flows.{Input, Output}
 use Rattle.osm_import.specs.Streams.{Reply, EndsWell, Stops, IsStop, ImportsFile}
 use Rattle.osm_import.specs.declared.answer.Answer.{Answer}
 use Rattle.osm_import.specs.declared.stream.summary.Summary.{Summary}
-use Rattle.osm_reading.specs.declared.stream.fault.Stop.{Stop}
-use Rattle.osm_reading.specs.declared.stream.fault.Stop.TheVariants.{Frame, NoHeaderFirst, WriteFailed, Store, ReadFailed, BlobLimit}
-use Rattle.osm_reading.specs.declared.stream.fault.StreamFault.{StreamFault}
+use Rattle.osm_import.specs.declared.stream.fault.ImportFault.{ImportFault}
+use Rattle.osm_import.specs.declared.stream.fault.ImportFault.TheVariants.{Stream, WriteFailed, Store, BlobLimit}
+use Rattle.osm_import.specs.declared.stream.fault.ImportStop.{ImportStop}
+use Rattle.osm_reading.specs.declared.stream.fault.Stop.TheVariants.{Frame, NoHeaderFirst, ReadFailed, Memory}
 use Rattle.osm_value.specs.Sink.{Wrote}
 use Rattle.pbfrow_commands.specs.Importing.{Skips, Imports, HoldsFile, EndsStop, import_status}
-use Rattle.pbfrow_reading.specs.CommandLines.{stop_line}
+use Rattle.pbfrow_commands.specs.CommandLines.{import_stop_line}
 
 -- ---- skipping
 
@@ -47,16 +48,17 @@ skips-none file dropped old new is none h = skips-nothing file old new is (subst
 
 -- ---- the output goes on after a stop, but for a failed write
 
-stop-on : (from limit : ℕ) (input : Input) (output : Output) (failed : Bool) (replies last : List Reply) (rest : List ℕ) (fault : Stop) → (fault ≡ WriteFailed → failed ≡ output.has_failed)
+stop-on : (from limit : ℕ) (input : Input) (output : Output) (failed : Bool) (replies last : List Reply) (rest : List ℕ) (fault : ImportFault) → (fault ≡ WriteFailed → failed ≡ output.has_failed)
     → IsStop from limit input output replies last rest fault → IsStop from limit input (record output { has_failed = failed }) replies last rest fault
-stop-on from limit input output failed replies last rest (Frame fault) same why = why
-stop-on from limit input output failed replies last rest NoHeaderFirst same why = why
+stop-on from limit input output failed replies last rest (Stream (Frame fault)) same why = why
+stop-on from limit input output failed replies last rest (Stream NoHeaderFirst) same why = why
+stop-on from limit input output failed replies last rest (Stream ReadFailed) same why = why
+stop-on from limit input output failed replies last rest (Stream Memory) same why = why
 stop-on from limit input output failed replies last rest WriteFailed same why = (same refl ∙ why.0, why.1, why.2, why.3)
 stop-on from limit input output failed replies last rest (Store fault) same why = why
-stop-on from limit input output failed replies last rest ReadFailed same why = why
 stop-on from limit input output failed replies last rest BlobLimit same why = why
 
-stops-on : (from limit : ℕ) (input : Input) (output : Output) (failed : Bool) (Took : List DeliveryValue → List Answer → Type 0) (stop : StreamFault) → (stop.fault ≡ WriteFailed → failed ≡ output.has_failed)
+stops-on : (from limit : ℕ) (input : Input) (output : Output) (failed : Bool) (Took : List DeliveryValue → List Answer → Type 0) (stop : ImportStop) → (stop.fault ≡ WriteFailed → failed ≡ output.has_failed)
     → Stops from limit input output Took stop → Stops from limit input (record output { has_failed = failed }) Took stop
 stops-on from limit input output failed Took stop same h = record {
   replies = h.replies;
@@ -86,8 +88,8 @@ ends-on from limit input output failed Took summary h = record {
   some = h.some;
 }
 
-pub imports-last : (dropped from : ℕ) (input : Input) (output : Output) (failed : Bool) (Same : Type 0) (Took : List DeliveryValue → List Answer → Type 0) (outcome : Result Summary StreamFault)
-    → ((stop : StreamFault) → outcome ≡ Err stop → stop.fault ≡ WriteFailed → failed ≡ output.has_failed)
+pub imports-last : (dropped from : ℕ) (input : Input) (output : Output) (failed : Bool) (Same : Type 0) (Took : List DeliveryValue → List Answer → Type 0) (outcome : Result Summary ImportStop)
+    → ((stop : ImportStop) → outcome ≡ Err stop → stop.fault ≡ WriteFailed → failed ≡ output.has_failed)
     → Imports dropped from input output Same Took outcome → Imports dropped from input (record output { has_failed = failed }) Same Took outcome
 imports-last dropped from input output failed Same Took (Ok summary) same (inl h) = inl (h.0, h.1, ends-on from 4294967295 (record input { before = h.0 }) output failed Took summary h.2)
 imports-last dropped from input output failed Same Took (Err stop) same (inl h) = inl (h.0, h.1, stops-on from 4294967295 (record input { before = h.0 }) output failed Took stop (same stop refl) h.2)
@@ -113,20 +115,18 @@ pub none-refused : (summary : Summary) (failed : Bool) (status : ℕ) → status
 none-refused summary failed status is zero = is-none summary.refused (zero-second (summary.bad == 0) (summary.refused == 0) (not failed) status is zero)
 
 -- an import with the exit status 0 ended well, and no blob was bad
-pub ended-well : (outcome : Result Summary StreamFault) (failed : Bool) (status : ℕ) (P : Type 0) → status ≡ import_status outcome failed → status ≡ 0 → IfOk outcome (λ _. P) → P
+pub ended-well : (outcome : Result Summary ImportStop) (failed : Bool) (status : ℕ) (P : Type 0) → status ≡ import_status outcome failed → status ≡ 0 → IfOk outcome (λ _. P) → P
 ended-well (Ok summary) failed status P is zero h = h
 ended-well (Err stop) failed status P is zero h = absurd (omega arith)
 
-pub file-held : (holds : HeldMap → Type 0) (file : List ℕ) (start : HeldMap) (outcome : Result Summary StreamFault) (failed : Bool) (status : ℕ) → status ≡ import_status outcome failed → status ≡ 0
+pub file-held : (holds : HeldMap → Type 0) (file : List ℕ) (start : HeldMap) (outcome : Result Summary ImportStop) (failed : Bool) (status : ℕ) → status ≡ import_status outcome failed → status ≡ 0
     → IfOk outcome (λ summary. ImportsFile holds file start summary) → HoldsFile holds file start
 file-held holds file start (Ok summary) failed status is zero h = (h.0, h.1, λ of_file. h.2 of_file (none-bad summary failed status is zero))
 file-held holds file start (Err stop) failed status is zero h = absurd (omega arith)
 
 -- the stop's line went out
-pub ends-stop : (listed written : Known) (failed : Bool) (at : ℕ) (fault : Stop) → fault ≢ WriteFailed → Wrote listed (stop_line fault at) written failed → EndsStop listed written failed at fault
-ends-stop listed written failed at (Frame fault) other h = h
-ends-stop listed written failed at NoHeaderFirst other h = h
+pub ends-stop : (listed written : Known) (failed : Bool) (at : ℕ) (fault : ImportFault) → fault ≢ WriteFailed → Wrote listed (import_stop_line fault at) written failed → EndsStop listed written failed at fault
+ends-stop listed written failed at (Stream stop) other h = h
 ends-stop listed written failed at WriteFailed other h = absurd (other refl)
 ends-stop listed written failed at (Store fault) other h = h
-ends-stop listed written failed at ReadFailed other h = h
 ends-stop listed written failed at BlobLimit other h = h

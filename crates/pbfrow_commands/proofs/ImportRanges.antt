@@ -20,9 +20,9 @@ use Rattle.osm_import.specs.Streams.{Reply, frames_of, answers_of, deliveries_at
 use Rattle.osm_import.specs.declared.answer.Answer.{Answer}
 use Rattle.osm_import.specs.declared.answer.Answer.TheVariants.{Stored, AlreadyHeld, Bad, Refused, Fault}
 use Rattle.osm_import.specs.declared.stream.summary.Summary.{Summary}
-use Rattle.osm_reading.specs.declared.stream.fault.Stop.{Stop}
-use Rattle.osm_reading.specs.declared.stream.fault.Stop.TheVariants.{WriteFailed}
-use Rattle.osm_reading.specs.declared.stream.fault.StreamFault.{StreamFault}
+use Rattle.osm_import.specs.declared.stream.fault.ImportFault.{ImportFault}
+use Rattle.osm_import.specs.declared.stream.fault.ImportFault.TheVariants.{WriteFailed}
+use Rattle.osm_import.specs.declared.stream.fault.ImportStop.{ImportStop}
 use Rattle.osm_import.proofs.RunsLemmas.{run-back, run-keep}
 use Rattle.osm_import.proofs.StreamFiles.{AreKept, IsKept}
 use Rattle.pbfrow_commands.specs.Importing.{Skips, Imports, ImportsRange, AreHeld, IsOfFrames, HoldsRange, IsTold, ends_input, front_of, import_status}
@@ -134,17 +134,17 @@ range-ends store old new held is honest dropped from to bytes source output summ
       read = read.1;
     }
 
-abbrev well : Summary → Result Summary StreamFault
+abbrev well : Summary → Result Summary ImportStop
 well summary = Ok summary
 
-abbrev ill : StreamFault → Result Summary StreamFault
+abbrev ill : ImportStop → Result Summary ImportStop
 ill stop = Err stop
 
 told-well : (raw summary : Summary) → well summary ≡ well raw → raw ≡ summary
 told-well raw summary e = cc
 
 range-held : {S : Type 0} (store : Ghosts S) (old new : S) (held : HeldMap) → store.holds old held → store.is_honest new
-    → (dropped from to : ℕ) (bytes : Known) (source : Input) (output : Output) (Same : Type 0) (outcome : Result Summary StreamFault) (summary : Summary) → source.before ≡ front_of (dropped + (to - from)) bytes
+    → (dropped from to : ℕ) (bytes : Known) (source : Input) (output : Output) (Same : Type 0) (outcome : Result Summary ImportStop) (summary : Summary) → source.before ≡ front_of (dropped + (to - from)) bytes
     → Imports dropped from source output Same (Takes store old new) outcome → IsTold to outcome (Ok summary) → summary.bad ≡ 0 → summary.refused ≡ 0 → HoldsRange (store.holds new) held dropped from to bytes
 range-held store old new held is honest dropped from to bytes source output Same (Ok raw) summary here (inl h) (inl told) none free =
     let same = told-well raw summary told.1 in
@@ -160,7 +160,7 @@ pub range-imported : {S : Type 0} (store : Ghosts S) (old new : S) (held : HeldM
     → HoldsRange (store.holds new) held dropped from to bytes
 range-imported store old new held is honest dropped from to bytes output Same status it ended = of_told it.1 it.6 it.8
   where
-    of_told : (told : Result Summary StreamFault) → IsTold to it.0 told → status ≡ import_status told output.has_failed → HoldsRange (store.holds new) held dropped from to bytes
+    of_told : (told : Result Summary ImportStop) → IsTold to it.0 told → status ≡ import_status told output.has_failed → HoldsRange (store.holds new) held dropped from to bytes
     of_told (Ok summary) told exit =
         range-held store old new held is honest dropped from to bytes it.2 (record output { after = it.3 }) Same it.0 summary it.4 it.5 told
         (none-bad summary output.has_failed status exit ended) (none-refused summary output.has_failed status exit ended)
@@ -168,23 +168,23 @@ range-imported store old new held is honest dropped from to bytes output Same st
 
 -- ---- what is told
 
-pub told-part : (to : ℕ) (outcome told : Result Summary StreamFault) (P : Type 0) → IsTold to outcome told → IfOk outcome (λ _. P) → IfOk told (λ _. P)
+pub told-part : (to : ℕ) (outcome told : Result Summary ImportStop) (P : Type 0) → IsTold to outcome told → IfOk outcome (λ _. P) → IfOk told (λ _. P)
 told-part to (Ok raw) (Ok summary) P is h = h
 told-part to (Ok raw) (Err stop) P is h = tt
 told-part to (Err stop) (Err other) P is h = tt
 told-part to (Err stop) (Ok summary) P (inl is) h = (let wrong = is in absurd cc)
 told-part to (Err stop) (Ok summary) P (inr is) h = (let wrong = is.1.2 in absurd cc)
 
-no-end : (fault : Stop) → fault ≡ WriteFailed → ends_input fault ≡ true → ⊥
+no-end : (fault : ImportFault) → fault ≡ WriteFailed → ends_input fault ≡ true → ⊥
 no-end fault is ends = (let wrong : false ≡ true = sym (ap ends_input is) ∙ ends in absurd cc)
 
 -- the faults of two errors that are one
-one-fault : (stop other : StreamFault) → ill stop ≡ ill other → other.fault ≡ WriteFailed → stop.fault ≡ WriteFailed
+one-fault : (stop other : ImportStop) → ill stop ≡ ill other → other.fault ≡ WriteFailed → stop.fault ≡ WriteFailed
 one-fault stop other e written = cc
 
 -- the output goes on after what is told
-pub imports-on : (dropped from to : ℕ) (input : Input) (output : Output) (failed : Bool) (Same : Type 0) (Took : List DeliveryValue → List Answer → Type 0) (outcome told : Result Summary StreamFault)
-    → IsTold to outcome told → ((stop : StreamFault) → told ≡ Err stop → stop.fault ≡ WriteFailed → failed ≡ output.has_failed)
+pub imports-on : (dropped from to : ℕ) (input : Input) (output : Output) (failed : Bool) (Same : Type 0) (Took : List DeliveryValue → List Answer → Type 0) (outcome told : Result Summary ImportStop)
+    → IsTold to outcome told → ((stop : ImportStop) → told ≡ Err stop → stop.fault ≡ WriteFailed → failed ≡ output.has_failed)
     → Imports dropped from input output Same Took outcome → Imports dropped from input (record output { has_failed = failed }) Same Took outcome
 imports-on dropped from to input output failed Same Took (Ok raw) told is same h = imports-last dropped from input output failed Same Took (Ok raw) (λ stop e written. (let wrong = e in absurd cc)) h
 imports-on dropped from to input output failed Same Took (Err stop) told (inl is) same h = imports-last dropped from input output failed Same Took (Err stop) (λ other e written. same stop is (one-fault stop other e written)) h

@@ -29,7 +29,7 @@ use Rattle.osm_reading.specs.FrameReads.{Reading, GivesFrame, Halts}
 use Rattle.osm_import.specs.Step.{HasCause}
 use Rattle.osm_reading.specs.declared.fault.Fault.{Fault}
 use Rattle.osm_reading.specs.declared.stream.fault.Stop.{Stop}
-use Rattle.osm_reading.specs.declared.stream.fault.Stop.TheVariants.{Frame, NoHeaderFirst, WriteFailed, Store, ReadFailed, BlobLimit}
+use Rattle.osm_reading.specs.declared.stream.fault.Stop.TheVariants.{Frame, NoHeaderFirst, ReadFailed, Memory}
 use Rattle.osm_reading.specs.declared.stream.fault.StreamFault.{StreamFault}
 use Rattle.osm_verify.specs.Agreements.{begins}
 use Rattle.osm_verify.specs.Audits.{AreEntries, CountsMore, Trees}
@@ -45,7 +45,7 @@ use Rattle.pbfrow_reading.specs.CommandLines.{stop_line}
 use Rattle.pbfrow_reading.specs.Walks.{Part, IsPart, joined, lines_from, AreFound, status_of}
 use Rattle.pbfrow_commands.specs.Verifying.{Comparison, Compared, IsComparison, HasCompared, HasCountedRows, HasElements, HasOwnElements, HasSeen, HasSeenInput, ShowsFile, agree, rows_of, is_whole, first_extra, is_missing, is_other, counts_of, agreement_line, comparison_line, IsBroken, IsClosing, HasClosed, close_text, counts_behind, counts_line, header_line, extra_lines, compared_lines, is_agreed, ComparesBlobs, VerifiesInput}
 use Rattle.pbfrow_commands.specs.declared.verify.Close.{Close}
-use Rattle.pbfrow_commands.specs.declared.verify.Close.TheVariants.{Whole, Early, Unwritten}
+use Rattle.pbfrow_commands.specs.declared.verify.Close.TheVariants.{Whole, Early, Broken, Unwritten}
 use Rattle.pbfrow_commands.specs.declared.verify.Counts.{Counts}
 use Rattle.pbfrow_commands.proofs.CommandTexts.{four-counts}
 use Rattle.pbfrow_reading.proofs.Walking.{Going, found-push, joined-push, refused, tells-early, tells-nothing, lines-unwritten, status-zero}
@@ -94,10 +94,8 @@ whole-parts before blobs extras c is = joined-three before (header_line blobs) (
 no-counts : (blobs : List (Part Compared)) (stop : Stop) → ((fault : FrameFault) → stop ≢ Frame fault) → counts_behind blobs stop ≡ []
 no-counts blobs (Frame fault) other = absurd (other fault refl)
 no-counts blobs NoHeaderFirst other = refl
-no-counts blobs WriteFailed other = refl
-no-counts blobs (Store fault) other = refl
 no-counts blobs ReadFailed other = refl
-no-counts blobs BlobLimit other = refl
+no-counts blobs Memory other = refl
 
 pub frame-end : (before : List ℕ) (blobs : List (Part Compared)) (stop : StreamFault) (fault : FrameFault) (c : Counts) → stop.fault ≡ Frame fault → c ≡ counts_of blobs 0
     → (before ++ stop_line stop.fault stop.at) ++ counts_line c ≡ before ++ close_text (Early stop) blobs
@@ -115,21 +113,21 @@ other-end before blobs stop other =
 pub closes-nothing : (depth : Depth) (held : HeldMap) (left written : Known) (failed : Bool) (before after : ℕ) (stop : StreamFault) → stop ≡ refused 0 → ComparesBlobs depth held left written written failed before after [] (Early stop)
 closes-nothing depth held left written failed before after stop is =
     let told = tells-nothing (HasCompared depth held) compared_lines left written failed stop is in
-    record { found = tt; behind = told.walked.behind; read = told.walked.read; closed = inl told.walked.ended; lines = told.lines }
+    record { found = tt; behind = told.walked.behind; read = told.walked.read; closed = told.walked.ended; lines = told.lines }
 
 pub closes-early : (depth : Depth) (held : HeldMap) (left : Known) (was now : Reading) (old mid : Known) (failed : Bool) (before after : ℕ) (blobs : List (Part Compared)) (stop : StreamFault)
     → Going (HasCompared depth held) compared_lines left was old mid failed blobs → Halts was now stop → ComparesBlobs depth held left old mid failed before after blobs (Early stop)
 closes-early depth held left was now old mid failed before after blobs stop so_far halts =
     let told = tells-early (HasCompared depth held) compared_lines left was now old mid failed blobs stop so_far halts in
-    record { found = told.walked.found; behind = told.walked.behind; read = told.walked.read; closed = inl told.walked.ended; lines = told.lines }
+    record { found = told.walked.found; behind = told.walked.behind; read = told.walked.read; closed = told.walked.ended; lines = told.lines }
 
-pub closes-broken : (depth : Depth) (held : HeldMap) (left : Known) (now : Reading) (old mid : Known) (failed : Bool) (before after : ℕ) (blobs : List (Part Compared)) (stop : StreamFault) (at : ℕ)
-    → Going (HasCompared depth held) compared_lines left now old mid failed blobs → at ≡ now.offset → IsBroken at before after stop → ComparesBlobs depth held left old mid failed before after blobs (Early stop)
-closes-broken depth held left now old mid failed before after blobs stop at so_far here broken = record {
+pub closes-broken : (depth : Depth) (held : HeldMap) (left : Known) (now : Reading) (old mid : Known) (failed : Bool) (before after : ℕ) (blobs : List (Part Compared)) (fault : StoreFault) (at : ℕ)
+    → Going (HasCompared depth held) compared_lines left now old mid failed blobs → at ≡ now.offset → IsBroken before after fault → ComparesBlobs depth held left old mid failed before after blobs (Broken fault at)
+closes-broken depth held left now old mid failed before after blobs fault at so_far here broken = record {
   found = so_far.found;
   behind = now.left;
   read = so_far.read;
-  closed = inr (subst (λ n. IsBroken n before after stop) (here ∙ so_far.stands) broken);
+  closed = (here ∙ so_far.stands, broken);
   lines = so_far.lines;
 }
 
@@ -155,7 +153,8 @@ closes-whole depth held left now old mid failed before after blobs end close so_
 
     of-close : (close : Close) → IsClosing held end before after close → HasClosed held (length (joined blobs)) now.left failed before after close
     of-close (Whole extras) is = (ended, is ∙ ap (λ n. filter (begins n MAX_OFFSET) (extents_of held)) there)
-    of-close (Early stop) broken = inr (subst (λ n. IsBroken n before after stop) there broken)
+    of-close (Early stop) none = absurd none
+    of-close (Broken fault off) broken = (broken.0 ∙ there, broken.1)
     of-close Unwritten none = absurd none
 
 -- a fault's cause lasts
@@ -164,12 +163,10 @@ cause-later before mid now fault le (inl memory) = inl memory
 cause-later before mid now fault le (inr (inl less)) = inr (inl (omega arith))
 cause-later before mid now fault le (inr (inr full)) = inr (inr full)
 
-pub broken-later : (at before mid now : ℕ) (stop : StreamFault) → before ≤ mid → IsBroken at mid now stop → IsBroken at before now stop
-broken-later at before mid now stop le b = record { here = b.here; fault = b.fault; is = b.is; cause = cause-later before mid now b.fault le b.cause; own = b.own }
-
 pub closing-later : (held : HeldMap) (at before mid now : ℕ) (close : Close) → before ≤ mid → IsClosing held at mid now close → IsClosing held at before now close
 closing-later held at before mid now (Whole extras) le is = is
-closing-later held at before mid now (Early stop) le b = broken-later at before mid now stop le b
+closing-later held at before mid now (Early stop) le none = absurd none
+closing-later held at before mid now (Broken fault off) le b = (b.0, record { cause = cause-later before mid now fault le b.1.cause; own = b.1.own })
 closing-later held at before mid now Unwritten le none = absurd none
 
 -- ---- the whole
@@ -177,6 +174,7 @@ closing-later held at before mid now Unwritten le none = absurd none
 closed-on : (held : HeldMap) (at : ℕ) (left : Known) (was failed : Bool) (before now : ℕ) (close : Close) → (close ≡ Unwritten → failed ≡ was) → HasClosed held at left was before now close → HasClosed held at left failed before now close
 closed-on held at left was failed before now (Whole extras) same h = h
 closed-on held at left was failed before now (Early stop) same h = h
+closed-on held at left was failed before now (Broken fault off) same h = h
 closed-on held at left was failed before now Unwritten same h = same refl ∙ h
 
 pub verifies-input : (depth : Depth) (held : HeldMap) (left old mid written : Known) (was failed : Bool) (before now : ℕ) (blobs : List (Part Compared)) (close : Close) (status : ℕ)
@@ -297,6 +295,7 @@ exact-at-zero depth held left old written failed before now status apart h zero 
   where
     of-close : (close : Close) → h.close ≡ close → is_agreed close h.blobs ≡ true → IfSome left (λ bytes. (frames : List (List ℕ)) × IsFile bytes frames × IsExact depth held frames)
     of-close (Early stop) is agreed = absurd (false≢true agreed)
+    of-close (Broken fault at) is agreed = absurd (false≢true agreed)
     of-close Unwritten is agreed = absurd (false≢true agreed)
     of-close (Whole extras) is agreed =
         let closed : IsAtEnd h.behind × (extras.items ≡ filter (begins (length (joined h.blobs)) MAX_OFFSET) (extents_of held))
@@ -409,12 +408,14 @@ seen-whole before is_open has_tables P layout first last depth left now counts r
   },
 )
 seen-whole before is_open has_tables P layout first last depth left now counts rows blobs (Early stop) so_far ended trust there counted = tt
+seen-whole before is_open has_tables P layout first last depth left now counts rows blobs (Broken fault at) so_far ended trust there counted = tt
 seen-whole before is_open has_tables P layout first last depth left now counts rows blobs Unwritten so_far ended trust there counted = tt
 
 pub shown-at-zero : (P : ℕ → Blob → Type 0) (layout : Layout) (db : Trees) (shows : (off : ℕ) (blob : Blob) → P off blob → ShowsBlob layout db off blob) (left : Known) (c : Counts) (close : Close) (failed : Bool) (status : ℕ) → HasSeenInput P layout db Elements left c close → is_whole close ≡ true
     → ((blobs : List (Part Compared)) → c ≡ counts_of blobs 0 → status ≡ status_of (is_agreed close blobs) failed) → status ≡ 0
     → IfSome left (λ bytes. (frames : List (List ℕ)) × IsFile bytes frames × ShowsFile P layout db frames)
 shown-at-zero P layout db shows left c (Early stop) failed status seen whole line zero = absurd (false≢true whole)
+shown-at-zero P layout db shows left c (Broken fault at) failed status seen whole line zero = absurd (false≢true whole)
 shown-at-zero P layout db shows left c Unwritten failed status seen whole line zero = absurd (false≢true whole)
 shown-at-zero P layout db shows left c (Whole extras) failed status seen whole line zero =
     let blobs = seen.0 in

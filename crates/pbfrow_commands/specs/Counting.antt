@@ -7,7 +7,7 @@ use Rattle.osm_reading.specs.Framings.{Known}
 use Rattle.osm_reading.specs.Lines.{fault_line}
 use Rattle.osm_import.specs.Exports.{size_of}
 use Rattle.osm_import.specs.Gaps.{AreGaps}
-use Rattle.pbfrow_reading.specs.CommandLines.{store_fault_line}
+use Rattle.pbfrow_commands.specs.CommandLines.{store_fault_line}
 use Rattle.pbfrow_counts.specs.Counting.{AreCounts, count_number_of, count_name_of, elements_of}
 use Rattle.pbfrow_counts.specs.Lines.{element_counts_lines}
 use Rattle.pbfrow_counts.specs.declared.elements.ElementCounts.{ElementCounts}

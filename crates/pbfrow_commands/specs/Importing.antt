@@ -13,11 +13,11 @@ use Rattle.osm_import.specs.Step.{IsEntry, IsHeldAlready}
 use Rattle.osm_import.specs.Streams.{Streams, TilesFile}
 use Rattle.osm_import.specs.declared.answer.Answer.{Answer}
 use Rattle.osm_import.specs.declared.stream.summary.Summary.{Summary}
-use Rattle.osm_reading.specs.declared.stream.fault.Stop.{Stop}
-use Rattle.osm_reading.specs.declared.stream.fault.Stop.TheVariants.{Frame, NoHeaderFirst, WriteFailed, Store, ReadFailed, BlobLimit}
-use Rattle.osm_reading.specs.declared.stream.fault.StreamFault.{StreamFault}
-use Rattle.pbfrow_commands.specs.CommandLines.{summary_line}
-use Rattle.pbfrow_reading.specs.CommandLines.{stop_line}
+use Rattle.osm_import.specs.declared.stream.fault.ImportFault.{ImportFault}
+use Rattle.osm_import.specs.declared.stream.fault.ImportFault.TheVariants.{Stream, WriteFailed, Store, BlobLimit}
+use Rattle.osm_import.specs.declared.stream.fault.ImportStop.{ImportStop}
+use Rattle.osm_reading.specs.declared.stream.fault.Stop.TheVariants.{Frame, NoHeaderFirst, ReadFailed, Memory}
+use Rattle.pbfrow_commands.specs.CommandLines.{import_stop_line, summary_line}
 
 -- so many bytes were read
 pub record Skips (count : ℕ) (old new : Known) : Type 0 where
@@ -32,27 +32,25 @@ IsShort count old new source_failed = (source_failed ≡ true)
 
 -- Before the last line: so many bytes were dropped, and the stream behind them was imported, which stands at an offset; or
 -- they couldn't be read, which is told at the offset, and nothing else was done.
-abbrev pub Imports : ℕ → ℕ → Input → Output → Type 0 → (List DeliveryValue → List Answer → Type 0) → Result Summary StreamFault → Type 0
+abbrev pub Imports : ℕ → ℕ → Input → Output → Type 0 → (List DeliveryValue → List Answer → Type 0) → Result Summary ImportStop → Type 0
 Imports dropped at input output Same Took outcome =
     ((skipped : Known) × Skips dropped input.before skipped × Streams at 4294967295 (record input { before = skipped }) output Took outcome)
-    ⊎ (IsShort dropped input.before input.after input.has_failed × (outcome ≡ Err (record { fault = ReadFailed; at = at })) × (output.after ≡ output.before) × Same)
+    ⊎ (IsShort dropped input.before input.after input.has_failed × (outcome ≡ Err (record { fault = Stream ReadFailed; at = at })) × (output.after ≡ output.before) × Same)
 
 -- the line of the fault at which an import stopped; none where the output has failed
-abbrev pub EndsStop : Known → Known → Bool → ℕ → Stop → Type 0
+abbrev pub EndsStop : Known → Known → Bool → ℕ → ImportFault → Type 0
 EndsStop listed written sink_failed at WriteFailed = written ≡ listed
-EndsStop listed written sink_failed at (Frame fault) = Wrote listed (stop_line (Frame fault) at) written sink_failed
-EndsStop listed written sink_failed at NoHeaderFirst = Wrote listed (stop_line NoHeaderFirst at) written sink_failed
-EndsStop listed written sink_failed at (Store fault) = Wrote listed (stop_line (Store fault) at) written sink_failed
-EndsStop listed written sink_failed at ReadFailed = Wrote listed (stop_line ReadFailed at) written sink_failed
-EndsStop listed written sink_failed at BlobLimit = Wrote listed (stop_line BlobLimit at) written sink_failed
+EndsStop listed written sink_failed at (Stream stop) = Wrote listed (import_stop_line (Stream stop) at) written sink_failed
+EndsStop listed written sink_failed at (Store fault) = Wrote listed (import_stop_line (Store fault) at) written sink_failed
+EndsStop listed written sink_failed at BlobLimit = Wrote listed (import_stop_line BlobLimit at) written sink_failed
 
 -- the last line: the counts, or the line of that fault
-abbrev pub EndsLine : Known → Known → Bool → Result Summary StreamFault → Type 0
+abbrev pub EndsLine : Known → Known → Bool → Result Summary ImportStop → Type 0
 EndsLine listed written sink_failed (Ok summary) = Wrote listed (summary_line summary) written sink_failed
 EndsLine listed written sink_failed (Err stop) = EndsStop listed written sink_failed stop.at stop.fault
 
 -- 0 where every blob was stored or held and the output hasn't failed
-abbrev pub import_status : Result Summary StreamFault → Bool → ℕ
+abbrev pub import_status : Result Summary ImportStop → Bool → ℕ
 import_status (Ok summary) sink_failed = if (summary.bad == 0) && (summary.refused == 0) && not sink_failed then 0 else 1
 import_status (Err stop) sink_failed = 1
 
@@ -68,34 +66,35 @@ abbrev pub front_of : ℕ → Known → Known
 front_of count = option_map (take count)
 
 -- an import stops with this fault where its input ends too early
-abbrev pub ends_input : Stop → Bool
-ends_input (Frame fault) = is_cut fault
-ends_input NoHeaderFirst = true
+abbrev pub ends_input : ImportFault → Bool
+ends_input (Stream (Frame fault)) = is_cut fault
+ends_input (Stream NoHeaderFirst) = true
+ends_input (Stream ReadFailed) = false
+ends_input (Stream Memory) = false
 ends_input WriteFailed = false
 ends_input (Store fault) = false
-ends_input ReadFailed = false
 ends_input BlobLimit = false
 
 -- a read failed, at the offset `to` or before it
-abbrev pub EndsBefore : ℕ → Result Summary StreamFault → Type 0
-EndsBefore to told = (at : ℕ) × (at ≤ to) × (told ≡ Err (record { fault = ReadFailed; at = at }))
+abbrev pub EndsBefore : ℕ → Result Summary ImportStop → Type 0
+EndsBefore to told = (at : ℕ) × (at ≤ to) × (told ≡ Err (record { fault = Stream ReadFailed; at = at }))
 
 -- What is told of an import whose input has to reach the offset `to`: that it ended well only where its last frame ends
 -- there; and where it ended early that a read failed.
-abbrev pub IsTold : ℕ → Result Summary StreamFault → Result Summary StreamFault → Type 0
+abbrev pub IsTold : ℕ → Result Summary ImportStop → Result Summary ImportStop → Type 0
 IsTold to (Ok summary) told = ((summary.next ≡ to) × (told ≡ Ok summary)) ⊎ ((summary.next ≢ to) × EndsBefore to told)
 IsTold to (Err stop) told = (told ≡ Err stop) ⊎ ((ends_input stop.fault ≡ true) × EndsBefore to told)
 
 -- the import of the whole input, of which so many bytes are dropped and whose next byte stands at an offset, and the exit
 -- status; what is left of the input afterwards is said by nobody
 abbrev pub ImportsAll : ℕ → ℕ → Known → Output → Type 0 → (List DeliveryValue → List Answer → Type 0) → ℕ → Type 0
-ImportsAll dropped at bytes output Same Took status = (outcome : Result Summary StreamFault) × (source : Input) × (listed : Known)
+ImportsAll dropped at bytes output Same Took status = (outcome : Result Summary ImportStop) × (source : Input) × (listed : Known)
     × (source.before ≡ bytes) × Imports dropped at source (record output { after = listed }) Same Took outcome
     × EndsLine listed output.after output.has_failed outcome × (status ≡ import_status outcome output.has_failed)
 
 -- the import of what of the input stands before an offset, what is told of it, and the exit status
 abbrev pub ImportsRange : ℕ → ℕ → ℕ → Known → Output → Type 0 → (List DeliveryValue → List Answer → Type 0) → ℕ → Type 0
-ImportsRange dropped from to bytes output Same Took status = (outcome told : Result Summary StreamFault) × (source : Input) × (listed : Known)
+ImportsRange dropped from to bytes output Same Took status = (outcome told : Result Summary ImportStop) × (source : Input) × (listed : Known)
     × (source.before ≡ front_of (dropped + (to - from)) bytes) × Imports dropped from source (record output { after = listed }) Same Took outcome × IsTold to outcome told
     × EndsLine listed output.after output.has_failed told × (status ≡ import_status told output.has_failed)
 

@@ -14,7 +14,7 @@ use Rattle.osm_parts.specs.PartsFaults.{IsOfMaps, PartsFaultHasCause}
 use Rattle.osm_parts.specs.Unions.{IsUnionOf, IsHistoryOf}
 use Rattle.osm_parts.specs.declared.fault.PartsFault.{PartsFault}
 use Rattle.osm_parts.specs.declared.fault.PartsFault.TheVariants.{Interleaved, Refused, Store}
-use Rattle.pbfrow_reading.specs.CommandLines.{store_fault_line}
+use Rattle.pbfrow_commands.specs.CommandLines.{store_fault_line}
 use Rattle.pbfrow_commands.specs.Exporting.{EndsExport}
 
 -- the line of what keeps stores from being read as one

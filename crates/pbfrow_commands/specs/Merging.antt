@@ -14,7 +14,7 @@ use Rattle.osm_import.specs.declared.copy.CopyCounts.{CopyCounts}
 use Rattle.osm_import.specs.declared.copy.CopyStop.{CopyStop}
 use Rattle.osm_parts.specs.Parts.{IsInPart}
 use Rattle.pbfrow_reading.specs.Checking.{capped}
-use Rattle.pbfrow_reading.specs.CommandLines.{store_fault_line}
+use Rattle.pbfrow_commands.specs.CommandLines.{store_fault_line}
 use Rattle.pbfrow_commands.specs.Copying.{copied_line, outcome_line, total_line}
 use Rattle.pbfrow_commands.specs.declared.merge.MergeStop.{MergeStop}
 use Rattle.pbfrow_commands.specs.declared.merge.MergeStop.TheVariants.{Unopened, Stopped}

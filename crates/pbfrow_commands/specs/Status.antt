@@ -10,8 +10,7 @@ use Rattle.osm_reading.specs.Framings.{Known}
 use Rattle.osm_import.specs.Exports.{greatest_end, size_of}
 use Rattle.osm_import.specs.Gaps.{AreGaps}
 use Rattle.osm_import.specs.Step.{HasCause}
-use Rattle.pbfrow_commands.specs.CommandLines.{counts_line, gap_lines}
-use Rattle.pbfrow_reading.specs.CommandLines.{store_fault_line}
+use Rattle.pbfrow_commands.specs.CommandLines.{counts_line, gap_lines, store_fault_line}
 use Rattle.pbfrow_commands.specs.declared.status.Holdings.{Holdings}
 
 -- the text went out, and the exit status is 0; or a front of it, the output has failed, and it is 1

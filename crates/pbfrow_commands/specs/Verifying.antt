@@ -1,6 +1,6 @@
 -- What the command `verify` prints: a line for each bad blob and each that isn't held alike, one for each extra extent, one
 -- for what ended the frames early, and the counts.
-use Rattle.std.specs.Prelude.{◌≡◌, ◌⊎◌, ℕ, ◌+◌, ◌==◌, nat_lt, Bool, true, false, ◌&&◌, List, [], ◌∷◌, ◌++◌, length, map, filter, codes, Result, Ok, Err, is_err}
+use Rattle.std.specs.Prelude.{◌≡◌, ℕ, ◌+◌, ◌==◌, nat_lt, Bool, true, false, ◌&&◌, List, [], ◌∷◌, ◌++◌, length, map, filter, codes, Result, Ok, Err, is_err}
 use Rattle.std.specs.List.{count_by, flat_map, sum_by}
 use Rattle.std.specs.Fmt.{decimal}
 use Rattle.std.specs.Io.KnownBytes.{Consumes, IsAtEnd}
@@ -21,8 +21,7 @@ use Rattle.osm_reading.specs.Lines.{fault_line}
 use Rattle.osm_import.specs.Step.{HasCause}
 use Rattle.osm_reading.specs.declared.fault.Fault.{Fault}
 use Rattle.osm_reading.specs.declared.stream.fault.Stop.{Stop}
-use Rattle.osm_reading.specs.declared.stream.fault.Stop.TheVariants.{Frame, NoHeaderFirst, Store}
-use Rattle.osm_reading.specs.declared.stream.fault.StreamFault.{StreamFault}
+use Rattle.osm_reading.specs.declared.stream.fault.Stop.TheVariants.{Frame, NoHeaderFirst}
 use Rattle.osm_verify.specs.Agreements.{IsAgreement, begins}
 use Rattle.osm_verify.specs.Audits.{Trees, IsEntryOf, AreEntries, KeepsImport, ShowsImport}
 use Rattle.osm_verify.specs.declared.comparing.Depth.{Depth}
@@ -33,8 +32,9 @@ use Rattle.pbfrow_reading.specs.Checking.{capped}
 use Rattle.pbfrow_reading.specs.CommandLines.{stop_line}
 use Rattle.pbfrow_reading.specs.Walks.{Part, joined, lines_from, AreFound, HasEnded, status_of}
 use Rattle.pbfrow_reading.specs.declared.input.Ending.TheVariants as ending
+use Rattle.pbfrow_commands.specs.CommandLines.{broken_line}
 use Rattle.pbfrow_commands.specs.declared.verify.Close.{Close}
-use Rattle.pbfrow_commands.specs.declared.verify.Close.TheVariants.{Whole, Early, Unwritten}
+use Rattle.pbfrow_commands.specs.declared.verify.Close.TheVariants.{Whole, Early, Broken, Unwritten}
 use Rattle.pbfrow_commands.specs.declared.verify.Counts.{Counts}
 
 -- ---- one frame
@@ -138,26 +138,25 @@ rows_of blobs = counts_of_rows (map (λ (p : Part Compared). p.found.elements) b
 
 -- ---- the whole
 
--- the store answered a fault at this offset, and why
-pub record IsBroken (at before now : ℕ) (stop : StreamFault) : Type 0 where
-  pub here : stop.at ≡ at
-  pub fault : StoreFault
-  pub is : stop.fault ≡ Store fault
+-- why the store answered a fault
+pub record IsBroken (before now : ℕ) (fault : StoreFault) : Type 0 where
   pub cause : HasCause before now fault
   pub own : ¬ (IsForeign fault)
 
 -- the end of the input at this offset, with the extents that begin there or behind, or a fault of the store
 abbrev pub IsClosing : HeldMap → ℕ → ℕ → ℕ → Close → Type 0
 IsClosing held at before now (Whole extras) = extras.items ≡ filter (begins at MAX_OFFSET) (extents_of held)
-IsClosing held at before now (Early stop) = IsBroken at before now stop
+IsClosing held at before now (Early stop) = ⊥
+IsClosing held at before now (Broken fault off) = (off ≡ at) × IsBroken before now fault
 IsClosing held at before now Unwritten = ⊥
 
 -- How frames were compared behind which the next would stand at this offset, up to the end of the input, with the extents
--- that begin there or behind; or early, since the next frame can't be read or the store answered a fault at it or at the
--- end; or where the output has failed, and no more was read.
+-- that begin there or behind; or early, since the next frame can't be read; or since the store answered a fault at it or at
+-- the end; or where the output has failed, and no more was read.
 abbrev pub HasClosed : HeldMap → ℕ → Known → Bool → ℕ → ℕ → Close → Type 0
 HasClosed held at left sink_failed before now (Whole extras) = IsAtEnd left × (extras.items ≡ filter (begins at MAX_OFFSET) (extents_of held))
-HasClosed held at left sink_failed before now (Early stop) = HasEnded at left sink_failed (ending.Early stop) ⊎ IsBroken at before now stop
+HasClosed held at left sink_failed before now (Early stop) = HasEnded at left sink_failed (ending.Early stop)
+HasClosed held at left sink_failed before now (Broken fault off) = (off ≡ at) × IsBroken before now fault
 HasClosed held at left sink_failed before now Unwritten = sink_failed ≡ true
 
 -- the line of a file that has no blob and so no header
@@ -165,7 +164,7 @@ abbrev pub header_line : List (Part Compared) → List ℕ
 header_line [] = stop_line NoHeaderFirst 0
 header_line (p ∷ blobs) = []
 
--- the counts where a frame can't be read; none where a read failed, the store answered a fault or memory was refused
+-- the counts where a frame has a fault; none where a read failed or memory was refused
 abbrev pub counts_behind : List (Part Compared) → Stop → List ℕ
 counts_behind blobs (Frame fault) = counts_line (counts_of blobs 0)
 counts_behind blobs _ = []
@@ -173,16 +172,19 @@ counts_behind blobs _ = []
 abbrev pub close_text : Close → List (Part Compared) → List ℕ
 close_text (Whole extras) blobs = header_line blobs ++ extra_lines extras.items ++ counts_line (counts_of blobs (length extras.items))
 close_text (Early stop) blobs = stop_line stop.fault stop.at ++ counts_behind blobs stop.fault
+close_text (Broken fault at) blobs = broken_line fault at
 close_text Unwritten blobs = []
 
 abbrev pub is_whole : Close → Bool
 is_whole (Whole extras) = true
 is_whole (Early stop) = false
+is_whole (Broken fault at) = false
 is_whole Unwritten = false
 
 abbrev pub is_agreed : Close → List (Part Compared) → Bool
 is_agreed (Whole extras) blobs = agree (counts_of blobs (length extras.items))
 is_agreed (Early stop) blobs = false
+is_agreed (Broken fault at) blobs = false
 is_agreed Unwritten blobs = false
 
 -- The input begins with these frames, each compared with what is held, and they ended so; each has its lines.
@@ -212,6 +214,7 @@ abbrev pub HasCountedRows : Type 0 → Type 0 → Layout → Trees → Depth →
 HasCountedRows is_open has_tables layout db depth counts rows (Whole extras) =
     depth ≡ Elements → agree counts ≡ true → extras.items ≡ [] → AreCountable rows → is_open × (has_tables → ShowsCounts layout db rows)
 HasCountedRows is_open has_tables layout db depth counts rows (Early stop) = Unit {0}
+HasCountedRows is_open has_tables layout db depth counts rows (Broken fault at) = Unit {0}
 HasCountedRows is_open has_tables layout db depth counts rows Unwritten = Unit {0}
 
 -- The whole input is these frames, so counted, with these extents behind. Where by elements all was found alike and nothing
@@ -227,6 +230,7 @@ pub record HasSeenWhole (has_rows : ℕ → Blob → Type 0) (layout : Layout) (
 abbrev pub HasSeenInput : (ℕ → Blob → Type 0) → Layout → Trees → Depth → Known → Counts → Close → Type 0
 HasSeenInput has_rows layout db depth left counts (Whole extras) = (blobs : List (Part Compared)) × HasSeenWhole has_rows layout db depth left counts blobs extras.items
 HasSeenInput has_rows layout db depth left counts (Early stop) = Unit {0}
+HasSeenInput has_rows layout db depth left counts (Broken fault at) = Unit {0}
 HasSeenInput has_rows layout db depth left counts Unwritten = Unit {0}
 
 -- these are the elements of the frames; and where SQL can count their rows, the tables have the rows of what an import of the

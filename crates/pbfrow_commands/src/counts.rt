@@ -15,12 +15,13 @@ ghost use Rattle.pbfrow_commands.specs.InParts.{TellsParts};
 ghost use Rattle.pbfrow_commands.specs.Status.{Tells};
 
 use crate::parts::put_parts_fault;
+use crate::report::put_store_fault;
 use crate::status::{Holdings, holdings_of, put_counts, put_gaps};
 use osm_parts::{Openings, Part, extents_of_parts, read_parts};
 use osm_rows::Reader;
 use osm_value::Sink;
 use pbfrow_counts::{CountFault, ElementCounts, count_blobs, count_parts, put_element_counts};
-use pbfrow_reading::report::{put_fault_at, put_store_fault};
+use pbfrow_reading::report::put_fault_at;
 use std::alloc::Global;
 
 /// What is held, and the counts of its elements.

@@ -9,9 +9,9 @@ ghost use Rattle.osm_import.specs.Stores.{Stays};
 ghost use Rattle.pbfrow_commands.specs.CommandLines.{match_line, match_lines};
 ghost use Rattle.pbfrow_commands.specs.Finding.{TellsMatches};
 
+use crate::report::put_store_fault;
 use osm_rows::{Found, Reader, StoreFault};
 use osm_value::{Element, MemberKind, Sink, put, put_digits, write_line};
-use pbfrow_reading::report::put_store_fault;
 use std::alloc::{AllocError, Global};
 
 /// Writes `OFFSET POSITION LINE`.

@@ -10,11 +10,11 @@ ghost use Rattle.osm_import.specs.Stores.{Takes};
 ghost use Rattle.osm_import.specs.Merges.{ImportsPart};
 ghost use Rattle.osm_import.specs.Streams.{ImportsFile};
 ghost use Rattle.osm_import.specs.declared.stream.summary.Summary.{Summary as SummaryValue};
-ghost use Rattle.osm_reading.specs.declared.stream.fault.StreamFault.{StreamFault as StreamFaultValue};
+ghost use Rattle.osm_import.specs.declared.stream.fault.ImportStop.{ImportStop as ImportStopValue};
 ghost use Rattle.pbfrow_commands.specs.Importing.{Skips, IsShort, Imports, ImportsRange, EndsBefore, EndsLine, EndsStop, import_status, HoldsFile, HoldsRange, IsTold, ends_input, front_of};
 
 use crate::report::put_summary;
-use osm_import::{Inlet, Source, Stop, StreamFault, Summary, Teller, import_stream};
+use osm_import::{ImportFault, ImportStop, Inlet, Source, Stop, Summary, Teller, import_stream};
 use osm_rows::Keeper;
 use osm_value::Sink;
 use pbf_frame::{FrameFault, MAX_OFFSET};
@@ -69,7 +69,7 @@ fn import_from<R: Source, K: Keeper, T: Teller, S: Sink>(
     start: Start,
     teller: &T,
     out: &mut S,
-) -> Result<Summary, StreamFault>
+) -> Result<Summary, ImportStop>
     requires { start.at ≤ MAX_OFFSET }
     ensures imports { Imports start.dropped start.at (input R.Source reader.old reader.new) (output (T.tells teller.now) S.Sink out.old out.new) (store.new ≡ store.old) (Takes K.Reader store.old store.new) result }
     ensures one_file { (file : List ℕ) (held : HeldMap) → R.bytes_left reader.old ≡ Some file → start.dropped ≡ 0 → start.at ≡ 0 → K.holds store.old held → K.is_honest store.new
@@ -79,30 +79,30 @@ fn import_from<R: Source, K: Keeper, T: Teller, S: Sink>(
 {
     match skip(reader, start.dropped) {
         Ok(()) => import_stream(alloc, store, reader, start.at, MAX_BLOBS, teller, out),
-        Err(_) => Err(StreamFault {
-            fault: Stop::ReadFailed,
+        Err(_) => Err(ImportStop {
+            fault: ImportFault::Stream(Stop::ReadFailed),
             at: start.at,
         }),
     }
 }
 
 /// Writes the line of the fault at which an import stopped. If the output has failed, nothing is written.
-fn put_stop<S: Sink>(out: &mut S, stop: StreamFault)
+fn put_stop<S: Sink>(out: &mut S, stop: ImportStop)
     ensures line { EndsStop (S.written out.old) (S.written out.new) (S.has_failed out.new) stop.at stop.fault }
-    ensures kept { stop.fault ≡ Stop.WriteFailed → S.has_failed out.new ≡ S.has_failed out.old }
+    ensures kept { stop.fault ≡ ImportFault.WriteFailed → S.has_failed out.new ≡ S.has_failed out.old }
 {
     match stop.fault {
-        Stop::WriteFailed => {}
+        ImportFault::WriteFailed => {}
         fault => put_fault_at(out, fault.number(), fault.name(), stop.at),
     }
 }
 
 /// Writes the last line of an import: the counts where it reached the end of its input, or the line of the fault at which
 /// it stopped. Answers the exit status.
-fn finish<S: Sink>(out: &mut S, outcome: Result<Summary, StreamFault>) -> u8
+fn finish<S: Sink>(out: &mut S, outcome: Result<Summary, ImportStop>) -> u8
     ensures line { EndsLine (S.written out.old) (S.written out.new) (S.has_failed out.new) outcome }
     ensures status { result ≡ import_status outcome (S.has_failed out.new) }
-    ensures kept { (stop : StreamFaultValue) → outcome ≡ Err stop → stop.fault ≡ Stop.WriteFailed → S.has_failed out.new ≡ S.has_failed out.old }
+    ensures kept { (stop : ImportStopValue) → outcome ≡ Err stop → stop.fault ≡ ImportFault.WriteFailed → S.has_failed out.new ≡ S.has_failed out.old }
     ensures bound { result ≤ 1 }
 {
     match outcome {
@@ -138,7 +138,7 @@ pub fn import<R: Source, K: Keeper, T: Teller, S: Sink>(
     out: &mut S,
 ) -> u8
     requires { start.at ≤ MAX_OFFSET }
-    ensures imports { (outcome : Result SummaryValue StreamFaultValue) × (listed : Known) × Imports start.dropped start.at (input R.Source reader.old reader.new) (record (output (T.tells teller.now) S.Sink out.old out.new) { after = listed })
+    ensures imports { (outcome : Result SummaryValue ImportStopValue) × (listed : Known) × Imports start.dropped start.at (input R.Source reader.old reader.new) (record (output (T.tells teller.now) S.Sink out.old out.new) { after = listed })
         (store.new ≡ store.old) (Takes K.Reader store.old store.new) outcome
         × EndsLine listed (S.written out.new) (S.has_failed out.new) outcome × (result ≡ import_status outcome (S.has_failed out.new)) }
     ensures one_file { (file : List ℕ) (held : HeldMap) → R.bytes_left reader.old ≡ Some file → start.dropped ≡ 0 → start.at ≡ 0 → K.holds store.old held → K.is_honest store.new
@@ -171,12 +171,12 @@ pub fn seek_start<S: Seek>(input: &mut S, start: Start) -> Start
 }
 
 /// Whether an import stops with this fault where its input ends too early.
-fn ends_input(fault: Stop) -> bool
+fn ends_input(fault: ImportFault) -> bool
     ensures { result ≡ ends_input fault }
 {
     match fault {
-        Stop::NoHeaderFirst => true,
-        Stop::Frame(fault) => matches!(
+        ImportFault::Stream(Stop::NoHeaderFirst) => true,
+        ImportFault::Stream(Stop::Frame(fault)) => matches!(
             fault,
             FrameFault::LengthCut | FrameFault::HeaderCut | FrameFault::BlobCut
         ),
@@ -185,21 +185,21 @@ fn ends_input(fault: Stop) -> bool
 }
 
 /// What is told of an input that ended so many bytes before `to`: a read failed where it ended.
-fn ended_before(to: u64, lacking: u64) -> Result<Summary, StreamFault>
+fn ended_before(to: u64, lacking: u64) -> Result<Summary, ImportStop>
     ensures { EndsBefore to result }
 {
-    Err(StreamFault {
-        fault: Stop::ReadFailed,
+    Err(ImportStop {
+        fault: ImportFault::Stream(Stop::ReadFailed),
         at: to.saturating_sub(lacking),
     })
 }
 
 /// What is told of an import whose input has to reach as far as `to`, and lacked so many bytes of that.
 fn reached(
-    outcome: Result<Summary, StreamFault>,
+    outcome: Result<Summary, ImportStop>,
     to: u64,
     lacking: u64,
-) -> Result<Summary, StreamFault>
+) -> Result<Summary, ImportStop>
     ensures { IsTold to outcome result }
 {
     match outcome {
@@ -219,11 +219,11 @@ fn import_before<R: Read, K: Keeper, T: Teller, S: Sink>(
     to: u64,
     teller: &T,
     out: &mut S,
-) -> Result<Summary, StreamFault>
+) -> Result<Summary, ImportStop>
     requires drops { start.dropped ≤ start.at }
     requires begins { start.at < to }
     requires ends { to ≤ MAX_OFFSET }
-    ensures imports { (outcome : Result SummaryValue StreamFaultValue) × (source : Input) × (source.before ≡ front_of (start.dropped + (to - start.at)) (R.remaining reader.old))
+    ensures imports { (outcome : Result SummaryValue ImportStopValue) × (source : Input) × (source.before ≡ front_of (start.dropped + (to - start.at)) (R.remaining reader.old))
         × Imports start.dropped start.at source (output (T.tells teller.now) S.Sink out.old out.new) (store.new ≡ store.old) (Takes K.Reader store.old store.new) outcome × IsTold to outcome result }
     ensures part { (piece : List ℕ) → front_of (start.dropped + (to - start.at)) (R.remaining reader.old) ≡ Some piece → start.dropped ≡ 0 → K.holds store.old empty → K.is_honest store.new
         → IfOk result (λ _. ImportsPart (K.holds store.new) start.at piece) }

@@ -15,11 +15,11 @@ ghost use Rattle.pbfrow_commands.specs.Merging.{CopiesAt, IsMergeOf, IsOwnMerge,
 ghost use Rattle.pbfrow_commands.specs.declared.merge.MergeStop.{MergeStop as MergeStopValue};
 
 use crate::migrate::{put_copied, put_outcome};
+use crate::report::put_store_fault;
 use osm_import::{CopyCounts, CopyStop, copy_held};
 use osm_parts::Openings;
 use osm_rows::{Keeper, Reader, StoreFault};
 use osm_value::{Sink, put};
-use pbfrow_reading::report::put_store_fault;
 use std::alloc::Global;
 
 /// Why a merge ends before its last store.

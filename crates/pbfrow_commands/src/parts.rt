@@ -9,13 +9,14 @@ ghost use Rattle.pbfrow_commands.specs.InParts.{parts_fault_line, TellsOfUnion, 
 ghost use Rattle.pbfrow_commands.specs.Status.{IsSurvey, TellsStatus};
 
 use crate::export::finish;
+use crate::report::put_store_fault;
 use crate::status::{Holdings, holdings_of, put_holdings};
 use osm_parts::{
     Openings, PartsFault, export_parts_as_lines, export_parts_as_pbf, extents_of_parts, read_parts,
 };
 use osm_rows::Reader;
 use osm_value::{Form, Sink};
-use pbfrow_reading::report::{put_fault_at, put_store_fault};
+use pbfrow_reading::report::put_fault_at;
 use std::alloc::Global;
 
 /// Writes the line of what keeps stores from being read as one.

@@ -1,11 +1,19 @@
-//! The last line of an import.
+//! The line of a fault of the store, and the last line of an import.
 
 ghost use Rattle.osm_value.specs.Printing.{Prints};
-ghost use Rattle.pbfrow_commands.specs.CommandLines.{summary_line};
+ghost use Rattle.pbfrow_commands.specs.CommandLines.{store_fault_line, summary_line};
 
-use osm_import::Summary;
+use osm_import::{Summary, put_plain_fault};
+use osm_rows::StoreFault;
 use osm_value::{Sink, put};
 use pbfrow_reading::check::put_total;
+
+/// Writes the line of a fault of the store.
+pub fn put_store_fault<S: Sink>(out: &mut S, fault: StoreFault)
+    ensures { Prints S.Sink out.old out.new (store_fault_line fault) }
+{
+    put_plain_fault(out, fault.number(), fault.name());
+}
 
 /// Writes `blobs stored STORED held HELD bad BAD refused REFUSED`.
 pub(crate) fn put_summary<S: Sink>(out: &mut S, summary: &Summary)

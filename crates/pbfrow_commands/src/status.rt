@@ -10,11 +10,11 @@ ghost use Rattle.osm_import.specs.Stores.{Rereads, Stays};
 ghost use Rattle.pbfrow_commands.specs.CommandLines.{counts_line, gap_line, gap_lines};
 ghost use Rattle.pbfrow_commands.specs.Status.{IsSurvey, Tells, TellsStatus, status_text};
 
+use crate::report::put_store_fault;
 use osm_import::{gaps_between, greatest_end};
 use osm_rows::{Extent, Reader, StoreFault};
 use osm_value::{Sink, put, put_digits};
 use pbfrow_reading::check::put_total;
-use pbfrow_reading::report::put_store_fault;
 use std::alloc::{AllocError, Global};
 
 /// How many blobs a store holds, the greatest end of one, and the ranges that none covers.

@@ -26,7 +26,7 @@ use osm_value::{Outlet, Sink, put, put_digits};
 use osm_verify::{Agreement, Depth, compare, extents_beginning, has_rows};
 use pbf_frame::MAX_OFFSET;
 use pbfrow_reading::check::put_total;
-use pbfrow_reading::input::{flush_to_wait, frame_of, put_stop, status, store_stop};
+use pbfrow_reading::input::{flush_to_wait, frame_of, put_stop, status};
 use pbfrow_reading::watcher::Watcher;
 use std::alloc::Global;
 use std::io::{Read, Write};
@@ -45,19 +45,12 @@ struct Finding {
 enum Close {
     /// All of them; these held extents begin at the end of the input or behind.
     Whole(Vec<Extent>),
-    /// Up to a frame that can't be read, or at which the store answered a fault.
+    /// Up to a frame that can't be read.
     Early(StreamFault),
+    /// Up to this offset, that of a frame or the end of the input, at which the store answered this fault.
+    Broken(StoreFault, u64),
     /// The output has failed, so that no more was read.
     Unwritten,
-}
-
-impl Close {
-    /// The store answered a fault at this offset.
-    fn broken(fault: StoreFault, at: u64) -> Close
-        ensures { result ≡ Close.Early (record { fault = Stop.Store fault; at = at }) }
-    {
-        Close::Early(store_stop(fault, at))
-    }
 }
 
 /// How many whole frames an input has, how many of them are bad, missing or different, and how many extents are extra. A
@@ -179,7 +172,7 @@ fn compare_blobs<K: Audited, R: Read, P: Watcher, W: Write>(
                         end = next;
                         watcher.see_blob();
                     }
-                    Err(fault) => return Close::broken(fault, at),
+                    Err(fault) => return Close::Broken(fault, at),
                 }
             }
             Ok(None) => return close_whole(alloc, store, end, depth, counts, &rows),
@@ -208,15 +201,15 @@ fn close_whole<K: Audited>(
 {
     let extras = match extents_beginning(alloc, store, end, MAX_OFFSET) {
         Ok(extras) => extras,
-        Err(fault) => return Close::broken(fault, end),
+        Err(fault) => return Close::Broken(fault, end),
     };
     if !are_alike(depth, counts, &extras) {
         return Close::Whole(extras);
     }
     match has_rows(alloc, store, rows) {
         Ok(true) => Close::Whole(extras),
-        Ok(false) => Close::broken(StoreFault::NotThisStore(None), end),
-        Err(fault) => Close::broken(fault, end),
+        Ok(false) => Close::Broken(StoreFault::NotThisStore(None), end),
+        Err(fault) => Close::Broken(fault, end),
     }
 }
 
@@ -396,6 +389,10 @@ fn finish<S: Sink>(out: &mut S, counts: &mut Counts, close: &Close) -> u8
         Close::Whole(extras) => finish_whole(out, counts, extras),
         Close::Early(stop) => {
             finish_early(out, counts, *stop);
+            1
+        }
+        Close::Broken(fault, at) => {
+            put_fault_at(out, fault.number(), fault.name(), *at);
             1
         }
         Close::Unwritten => 1,

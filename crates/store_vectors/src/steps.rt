@@ -9,7 +9,7 @@ use crate::fixtures::{
 use crate::memory::{BodiesInMemory, NewStore, TablesInMemory, TreesInMemory};
 use osm_block::read_block;
 use osm_import::{
-    Answer, ExportFault, Inlet, StreamFault, Summary, Told, deliver, deliver_all, gaps,
+    Answer, ExportFault, ImportStop, Inlet, Summary, Told, deliver, deliver_all, gaps,
     import_stream,
 };
 use osm_rows::{Extent, Keeper, Reader, StoreFault};
@@ -32,7 +32,7 @@ pub enum Step {
     Put(Extent, &'static [u8], Result<(), StoreFault>),
     /// The bytes of the file of two frames between two places are imported from 0, so many blobs at most. Behind the
     /// outcome stand the lines that are written.
-    Import((usize, usize), u32, Result<Summary, StreamFault>, &'static [u8]),
+    Import((usize, usize), u32, Result<Summary, ImportStop>, &'static [u8]),
     /// So many calls have answered a fault.
     Failures(u64),
     /// These are all extents.
@@ -172,7 +172,7 @@ pub fn import<K: Keeper, R: Read + Drop>(
     store: &mut K,
     reader: R,
     max_blobs: u32,
-) -> (Result<Summary, StreamFault>, Vec<u8>) {
+) -> (Result<Summary, ImportStop>, Vec<u8>) {
     let mut source = Inlet::new(reader);
     let mut out = Outlet::new(Vec::new(alloc));
     let outcome = import_stream(
@@ -192,7 +192,7 @@ fn imports<K: Keeper>(
     store: &mut K,
     part: (usize, usize),
     max_blobs: u32,
-    wanted: Result<Summary, StreamFault>,
+    wanted: Result<Summary, ImportStop>,
     wanted_lines: &[u8],
 ) -> bool {
     let Some(bytes) = FILE_BYTES.get(part.0..part.1) else {

@@ -1,6 +1,8 @@
 //! The numbers, names and texts of faults, as the program prints them.
 
-use osm_import::{Conflict, CopyFault, CopyStop, ExamineFault, Fault, Stop, examine};
+use osm_import::{
+    Conflict, CopyFault, CopyStop, ExamineFault, Fault, ImportFault, ImportStop, Stop, examine,
+};
 use osm_parts::PartsFault;
 use osm_rows::StoreFault;
 use pbf_frame::FrameFault;
@@ -47,11 +49,22 @@ fn stops(rt: HostRuntime) {
     for (stop, number, name) in [
         (Stop::Frame(FrameFault::BlobCut), 18, "BlobCut"),
         (Stop::NoHeaderFirst, 61, "NoHeaderFirst"),
-        (Stop::WriteFailed, 24, "WriteFailed"),
         (Stop::ReadFailed, 68, "ReadFailed"),
-        (Stop::BlobLimit, 69, "BlobLimit"),
+        (Stop::Memory, 65, "Memory"),
     ] {
         assert!(rt; stop.number() == number && stop.name() == name, "{name}");
+    }
+}
+
+#[test]
+fn faults_of_imports(rt: HostRuntime) {
+    for (fault, number, name) in [
+        (ImportFault::Stream(Stop::Memory), 65, "Memory"),
+        (ImportFault::WriteFailed, 24, "WriteFailed"),
+        (ImportFault::Store(StoreFault::Full), 65, "Full"),
+        (ImportFault::BlobLimit, 69, "BlobLimit"),
+    ] {
+        assert!(rt; fault.number() == number && fault.name() == name, "{name}");
     }
 }
 
@@ -84,6 +97,12 @@ fn texts(rt: HostRuntime) -> Result<(), Fail> {
     let text = format!(in rt.alloc(); "{stop}")?;
     let expected = "another blob is held at this offset (at 47)";
     assert_eq!(rt; text.as_str(), expected);
+    let stop = ImportStop {
+        fault: ImportFault::Stream(Stop::Memory),
+        at: 47,
+    };
+    let text = format!(in rt.alloc(); "{stop}")?;
+    assert_eq!(rt; text.as_str(), "memory was refused (at 47)");
     let text = format!(in rt.alloc(); "{}", PartsFault::Interleaved(47))?;
     let expected = "the blob at 47 lies between those of another store";
     assert_eq!(rt; text.as_str(), expected);

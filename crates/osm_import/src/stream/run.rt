@@ -9,13 +9,14 @@ ghost use Rattle.osm_import.specs.Stores.{Takes, TakesOne};
 ghost use Rattle.osm_import.specs.Streams.{Streams, ended_at, ImportsFile};
 ghost use Rattle.osm_import.specs.StreamSteps.{FrameStep, Gave};
 
+use super::fault::{ImportFault, ImportStop};
 use super::line::write_answer;
 use super::summary::Summary;
 use super::teller::Teller;
 use crate::answer::Answer;
 use crate::delivery::deliver;
-use osm_reading::{Piece, Source, Stop, StreamFault, has_more, read_frame};
-use osm_rows::{Keeper, StoreFault};
+use osm_reading::{Piece, Source, Stop, has_more, read_frame};
+use osm_rows::Keeper;
 use osm_value::Sink;
 use pbf_frame::{FrameFault, Framer, MAX_OFFSET};
 use std::alloc::Global;
@@ -56,34 +57,37 @@ fn import_frame<K: Keeper, R: Source, T: Teller, S: Sink>(
     reader: &mut R,
     teller: &T,
     out: &mut S,
-) -> Result<Option<Delivered>, Stop>
+) -> Result<Option<Delivered>, ImportFault>
     requires { framer.old.rest ≡ [] }
     ensures step { FrameStep framer.old framer.new (input_behind R.Source piece.old piece.new reader.old reader.new) (output (T.tells teller.now) S.Sink out.old out.new)
         (keeper.new ≡ keeper.old) (TakesOne K.Reader keeper.old keeper.new) result }
-    ensures spent { IfErr result (λ stop. stop ≡ Stop.ReadFailed → piece.new ≡ []) }
+    ensures spent { IfErr result (λ fault. fault ≡ ImportFault.Stream Stop.ReadFailed → piece.new ≡ []) }
 {
-    read_frame(framer, piece, reader)?;
+    match read_frame(framer, piece, reader) {
+        Ok(()) => {}
+        Err(stop) => return Err(ImportFault::Stream(stop)),
+    }
     let blob = match deliver_waiting(alloc, keeper, framer) {
         Ok(Some(blob)) => blob,
         Ok(None) => return Ok(None),
-        Err(fault) => return Err(Stop::Frame(fault)),
+        Err(fault) => return Err(ImportFault::Stream(Stop::Frame(fault))),
     };
     if let Answer::Fault(fault) = blob.answer {
-        return Err(Stop::Store(fault));
+        return Err(ImportFault::Store(fault));
     }
     match write_answer(out, teller, blob.off, &blob.answer) {
         Ok(()) => Ok(Some(blob)),
-        Err(_) => Err(Stop::WriteFailed),
+        Err(_) => Err(ImportFault::WriteFailed),
     }
 }
 
 /// What is said at the end of an input that stood at `from` at its start.
-fn ended(from: u64, summary: Summary) -> Result<Summary, StreamFault>
+fn ended(from: u64, summary: Summary) -> Result<Summary, ImportStop>
     ensures { result ≡ ended_at from summary }
 {
     if from == 0 && summary.next == 0 {
-        return Err(StreamFault {
-            fault: Stop::NoHeaderFirst,
+        return Err(ImportStop {
+            fault: ImportFault::Stream(Stop::NoHeaderFirst),
             at: 0,
         });
     }
@@ -94,9 +98,10 @@ fn ended(from: u64, summary: Summary) -> Result<Summary, StreamFault>
 /// teller says so: `OFFSET stored COUNT`, `OFFSET held`, or `fault NUMBER NAME at OFFSET` for a blob that is bad or refused,
 /// and goes on. At `Ok` nothing is left in the reader. It stops, with the offset of the frame that was being read or delivered:
 ///
-/// - at a fault of a frame, and with `NoHeaderFirst` where the input is empty and `from` is 0;
-/// - with `Store` where a call of the store has failed or memory was refused, and with no line for that frame;
-/// - with `WriteFailed` where the output has failed, and with `ReadFailed` where the reader has;
+/// - with `Stream` where the frames end early: at a fault of one, with `NoHeaderFirst` where the input is empty and `from`
+///   is 0, with `ReadFailed` where the reader has failed, and with `Memory` where memory was refused to read;
+/// - with `Store` where a call of the store has failed or memory was refused in a delivery, and with no line for that frame;
+/// - with `WriteFailed` where the output has failed;
 /// - with `BlobLimit` where `max_blobs` frames were delivered and a further byte came.
 ///
 /// The blobs that were answered before a stop stay. Each frame that isn't answered `stored` leaves the tables, whatever rows
@@ -112,7 +117,7 @@ pub fn import_stream<K: Keeper, R: Source, T: Teller, S: Sink>(
     max_blobs: u32,
     teller: &T,
     out: &mut S,
-) -> Result<Summary, StreamFault>
+) -> Result<Summary, ImportStop>
     requires { from ≤ MAX_OFFSET }
     ensures streams { Streams from max_blobs (input R.Source reader.old reader.new) (output (T.tells teller.now) S.Sink out.old out.new) (Takes K.Reader keeper.old keeper.new) result }
     ensures one_file { (file : List ℕ) (held : HeldMap) → R.bytes_left reader.old ≡ Some file → from ≡ 0 → K.holds keeper.old held → K.is_honest keeper.new
@@ -130,8 +135,8 @@ pub fn import_stream<K: Keeper, R: Source, T: Teller, S: Sink>(
         next: from,
     };
     let Ok(mut piece) = Piece::new(alloc) else {
-        return Err(StreamFault {
-            fault: Stop::Store(StoreFault::Memory),
+        return Err(ImportStop {
+            fault: ImportFault::Stream(Stop::Memory),
             at: from,
         });
     };
@@ -141,7 +146,7 @@ pub fn import_stream<K: Keeper, R: Source, T: Teller, S: Sink>(
             Ok(Some(blob)) => summary.add(&blob.answer, blob.fin),
             Ok(None) => return ended(from, summary),
             Err(fault) => {
-                return Err(StreamFault {
+                return Err(ImportStop {
                     fault,
                     at: summary.next,
                 });
@@ -150,12 +155,12 @@ pub fn import_stream<K: Keeper, R: Source, T: Teller, S: Sink>(
     }
     match has_more(&mut piece, reader) {
         Ok(false) => ended(from, summary),
-        Ok(true) => Err(StreamFault {
-            fault: Stop::BlobLimit,
+        Ok(true) => Err(ImportStop {
+            fault: ImportFault::BlobLimit,
             at: summary.next,
         }),
-        Err(_) => Err(StreamFault {
-            fault: Stop::ReadFailed,
+        Err(_) => Err(ImportStop {
+            fault: ImportFault::Stream(Stop::ReadFailed),
             at: summary.next,
         }),
     }

@@ -1,6 +1,6 @@
 //! Streams of frames.
 
-use osm_import::{Inlet, Stop, StreamFault, Summary, Told, gaps, import_stream};
+use osm_import::{ImportFault, ImportStop, Inlet, Stop, Summary, Told, gaps, import_stream};
 use osm_rows::Extent;
 use osm_value::Outlet;
 use osm_vectors::{FailingReader, FailingWriter};
@@ -37,23 +37,23 @@ const ONE_BAD: Summary = Summary {
 };
 
 /// Stops at a frame.
-const LIMIT_AT_0: StreamFault = StreamFault {
-    fault: Stop::BlobLimit,
+const LIMIT_AT_0: ImportStop = ImportStop {
+    fault: ImportFault::BlobLimit,
     at: 0,
 };
 
-const LIMIT_AT_47: StreamFault = StreamFault {
-    fault: Stop::BlobLimit,
+const LIMIT_AT_47: ImportStop = ImportStop {
+    fault: ImportFault::BlobLimit,
     at: 47,
 };
 
-const CUT_AT_47: StreamFault = StreamFault {
-    fault: Stop::Frame(FrameFault::BlobCut),
+const CUT_AT_47: ImportStop = ImportStop {
+    fault: ImportFault::Stream(Stop::Frame(FrameFault::BlobCut)),
     at: 47,
 };
 
-const NO_HEADER: StreamFault = StreamFault {
-    fault: Stop::NoHeaderFirst,
+const NO_HEADER: ImportStop = ImportStop {
+    fault: ImportFault::Stream(Stop::NoHeaderFirst),
     at: 0,
 };
 
@@ -136,8 +136,8 @@ fn readers_that_fail_of<K: NewStore, R: Abort + Alloc<A = Global>>(rt: &R) -> Re
             left: count,
         };
         let (outcome, lines) = import(alloc, &mut store, reader, 9);
-        let stop = StreamFault {
-            fault: Stop::ReadFailed,
+        let stop = ImportStop {
+            fault: ImportFault::Stream(Stop::ReadFailed),
             at,
         };
         assert_eq!(rt; outcome, Err(stop), "after {count} bytes");
@@ -161,12 +161,12 @@ fn readers_that_fail(rt: HostRuntime) -> Result<(), Fail> {
 
 /// What an import of the file comes to over a writer with room for so many bytes, and what is held then: a line of 11
 /// bytes is written, then one of 12, and the blob whose line fails was stored before.
-fn wanted_with_room(room: usize) -> (Result<Summary, StreamFault>, &'static [Extent]) {
-    let fault = Stop::WriteFailed;
+fn wanted_with_room(room: usize) -> (Result<Summary, ImportStop>, &'static [Extent]) {
+    let fault = ImportFault::WriteFailed;
     match room {
-        0..=10 => (Err(StreamFault { fault, at: 0 }), &[HELD_HEADER]),
+        0..=10 => (Err(ImportStop { fault, at: 0 }), &[HELD_HEADER]),
         11..=22 => (
-            Err(StreamFault { fault, at: 47 }),
+            Err(ImportStop { fault, at: 47 }),
             &[HELD_HEADER, HELD_NODES],
         ),
         _ => (Ok(BOTH_STORED), &[HELD_HEADER, HELD_NODES]),

@@ -1,11 +1,8 @@
 use Rattle.std.proofs.Common.{◌≡◌, ◌≤◌, ◌∙◌, ◌++◌, [], ◌∷◌, Ok, None, refl, sym, subst, ap, arith, rules}
 use Rattle.osm_verify.specs.Audits.{Trees}
 use Rattle.osm_reading.specs.FrameReads.{GivesFrame, Halts, Reading, ReadsFrame}
-use Rattle.osm_reading.specs.declared.stream.fault.Stop.TheVariants.{Store}
-use Rattle.osm_reading.specs.declared.stream.fault.StreamFault.{StreamFault}
-use Rattle.pbfrow_commands.specs.Verifying.{HasCompared, HasSeen, HasSeenInput, ComparesBlobs, IsBroken, compared_lines}
-use Rattle.pbfrow_commands.specs.declared.verify.Close.{Close}
-use Rattle.pbfrow_commands.specs.declared.verify.Close.TheVariants.{Early}
+use Rattle.pbfrow_commands.specs.Verifying.{HasCompared, HasSeen, ComparesBlobs, IsBroken, compared_lines}
+use Rattle.pbfrow_commands.specs.declared.verify.Close.TheVariants.{Broken}
 use Rattle.pbfrow_commands.proofs.VerifyLemmas.{Reads, reads-none, reads-more, rows-held, rows-push, seen-whole, cause-later, closing-later, closes-nothing, closes-early, closes-broken, closes-unwritten, closes-whole}
 use Rattle.pbfrow_reading.proofs.Walking.{going-none, going-on, going-more}
 use Rattle.pbfrow_commands.proofs.verify.compare_blobs.Goals as goal
@@ -100,19 +97,15 @@ returns-in-Err-compare_blob-clause-told g c = λ held holds honest.
     let gives : GivesFrame c.flush_to_wait.new.frames c.next.follows.lender-at-none c.in-Ok-Some.at c.in-Ok-Some.bytes.now = rw (c.in-Ok-Some.is, c.in-Ok-Some.field-0-is) at c.next.follows.holds-at-none in
     let first = g.K.Reader.failures c.args.store.now in
     let last = g.K.Reader.failures c.compare_blob.new.store in
-    let stop : StreamFault = record { fault = Store c.in-Err-compare_blob.fault; at = c.in-Ok-Some.at } in
-    let broken : IsBroken c.in-Ok-Some.at first last stop = record {
-      here = refl;
-      fault = c.in-Err-compare_blob.fault;
-      is = refl;
-      cause = cause-later first _ last c.in-Err-compare_blob.fault c.loop-frames.invariant.counted failed.cause;
+    let fault = c.in-Err-compare_blob.fault in
+    let broken : IsBroken first last fault = record {
+      cause = cause-later first _ last fault c.loop-frames.invariant.counted failed.cause;
       own = failed.own held (c.loop-frames.invariant.kept earlier held holds) honest;
     } in
     let same = failed.err in (
       blobs,
-      subst (λ (close : Close). ComparesBlobs c.args.depth held (g.R.Read.remaining c.args.input.now) (g.W.Write.contents c.args.out.now.writer) (g.W.Write.contents c.compare_blob.new.out.writer) c.compare_blob.new.out.has_failed first last blobs close) (sym c.broken.ensures)
-          (subst (λ o. ComparesBlobs c.args.depth held (g.R.Read.remaining c.args.input.now) (g.W.Write.contents c.args.out.now.writer) (g.W.Write.contents o.writer) o.has_failed first last blobs (Early stop)) (sym same.0)
-          (closes-broken c.args.depth held _ _ _ _ _ first last blobs stop c.in-Ok-Some.at so_far gives.here broken)),
+      subst (λ o. ComparesBlobs c.args.depth held (g.R.Read.remaining c.args.input.now) (g.W.Write.contents c.args.out.now.writer) (g.W.Write.contents o.writer) o.has_failed first last blobs (Broken fault c.in-Ok-Some.at)) (sym same.0)
+          (closes-broken c.args.depth held _ _ _ _ _ first last blobs fault c.in-Ok-Some.at so_far gives.here broken),
       same.1 ∙ before.2,
     )
 
@@ -143,11 +136,6 @@ returns-in-Err-next-clause-told g c = λ held holds honest.
     (blobs, closes-early c.args.depth held _ _ _ _ _ _ _ _ blobs c.in-Err-next.stop so_far halts, before.2)
 
 -- ---- whatever rows the tables have
-
-pub returns-in-Err-compare_blob-clause-seen : goal.returns-in-Err-compare_blob-clause-seen
-returns-in-Err-compare_blob-clause-seen g c = λ honest tables.
-    let A = g.K.Audited in
-    subst (λ (close : Close). HasSeenInput (A.has_rows (A.trees c.args.store.now)) A.layout (A.trees c.args.store.now) c.args.depth (g.R.Read.remaining c.args.input.now) c.compare_blob.new.counts close) (sym c.broken.ensures) tt
 
 pub returns-in-Ok-None-clause-seen : goal.returns-in-Ok-None-clause-seen
 returns-in-Ok-None-clause-seen g c = λ honest tables.

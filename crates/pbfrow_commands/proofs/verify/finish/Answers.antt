@@ -1,5 +1,7 @@
-use Rattle.std.proofs.Common.{◌++◌, List, length, sym, subst}
+use Rattle.std.proofs.Common.{◌++◌, ℕ, List, length, sym, subst}
+use Rattle.osm_rows.specs.Faults.{name_of}
 use Rattle.osm_rows.specs.declared.keeper.Extent.{Extent}
+use Rattle.osm_reading.specs.Lines.{fault_line}
 use Rattle.osm_value.specs.Sink.{Wrote}
 use Rattle.pbfrow_commands.specs.Verifying.{close_text, counts_line, counts_of, extra_lines, header_line}
 use Rattle.pbfrow_commands.specs.declared.verify.Close.{Close}
@@ -16,3 +18,12 @@ pub returns-in-Early-clause-line : goal.returns-in-Early-clause-line
 returns-in-Early-clause-line g c = λ blobs is start before h.
     let out = c.finish_early.new.out in
     subst (λ (e : Close). Wrote start (before ++ close_text e blobs) (g.S.Sink.written out) (g.S.Sink.has_failed out)) (sym c.in-Early.is) (c.finish_early.ensures blobs is start before h)
+
+pub returns-in-Broken-clause-line : goal.returns-in-Broken-clause-line
+returns-in-Broken-clause-line g c = λ blobs is start before h.
+    let out = c.put_fault_at.new.out in
+    let fault = c.in-Broken.fault in
+    let at = c.in-Broken.at in
+    subst (λ (e : Close). Wrote start (before ++ close_text e blobs) (g.S.Sink.written out) (g.S.Sink.has_failed out)) (sym c.in-Broken.is)
+    (subst (λ n. Wrote start (before ++ fault_line n (name_of fault) at) (g.S.Sink.written out) (g.S.Sink.has_failed out)) c.number.ensures
+    (subst (λ (name : List ℕ). Wrote start (before ++ fault_line c.number.result name at) (g.S.Sink.written out) (g.S.Sink.has_failed out)) c.name.ensures (c.put_fault_at.ensures start before h)))

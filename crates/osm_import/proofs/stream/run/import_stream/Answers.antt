@@ -5,8 +5,9 @@ use Rattle.pbf_frame.specs.Framer.{Framing}
 use Rattle.osm_import.specs.Flows.{input, input_behind, output}
 use Rattle.osm_import.specs.Stores.{Takes, TakesOne}
 use Rattle.osm_import.specs.Streams.{Streams, summary_of, end_at}
-use Rattle.osm_reading.specs.declared.stream.fault.StreamFault.{StreamFault}
-use Rattle.osm_reading.specs.declared.stream.fault.Stop.TheVariants.{ReadFailed, BlobLimit}
+use Rattle.osm_import.specs.declared.stream.fault.ImportStop.{ImportStop}
+use Rattle.osm_import.specs.declared.stream.fault.ImportFault.TheVariants.{Stream, BlobLimit}
+use Rattle.osm_reading.specs.declared.stream.fault.Stop.TheVariants.{ReadFailed}
 use Rattle.osm_import.specs.declared.stream.summary.Summary.{Summary}
 use Rattle.osm_reading.proofs.Begun.{no-frame-in-nothing}
 use Rattle.osm_reading.proofs.Filling.{end-known}
@@ -46,7 +47,7 @@ returns-in-Ok-None-clause-streams g c =
     let source = input g.R.Source c.args.reader.now c.import_frame.new.reader in
     let sink = output (g.T.Teller.tells c.args.teller.now) g.S.Sink c.args.out.now c.import_frame.new.out in
     let within : c.loop-blobs._blobs < c.args.max_blobs = omega arith in
-    subst (λ (r : Result Summary StreamFault). Streams c.args.from c.args.max_blobs source sink (Takes g.K.Reader c.args.keeper.now c.import_frame.new.keeper) r) (sym c.ended.ensures)
+    subst (λ (r : Result Summary ImportStop). Streams c.args.from c.args.max_blobs source sink (Takes g.K.Reader c.args.keeper.now c.import_frame.new.keeper) r) (sym c.ended.ensures)
     (stream-ends c.args.from c.args.max_blobs c.loop-blobs._blobs c.loop-blobs.framer source c.import_frame.new.piece sink c.loop-blobs.summary (Takes g.K.Reader c.args.keeper.now c.import_frame.new.keeper)
     (stream-stays (g.T.Teller.tells c.args.teller.now) c.args.from c.loop-blobs._blobs c.loop-blobs.framer source.before (prepend_known c.loop-blobs.piece (g.R.Source.bytes_left c.loop-blobs.reader)) (prepend_known c.import_frame.new.piece source.after)
     sink.before (g.S.Sink.written c.loop-blobs.out) sink.after c.loop-blobs.summary (Takes g.K.Reader c.args.keeper.now c.loop-blobs.keeper) (Takes g.K.Reader c.args.keeper.now c.import_frame.new.keeper)
@@ -78,7 +79,7 @@ pub returns-in-Ok-false-clause-streams : goal.returns-in-Ok-false-clause-streams
 returns-in-Ok-false-clause-streams g c =
     let source = input g.R.Source c.args.reader.now c.has_more.new.reader in
     let sink = output (g.T.Teller.tells c.args.teller.now) g.S.Sink c.args.out.now c.loop-blobs.out in
-    subst (λ (r : Result Summary StreamFault). Streams c.args.from c.args.max_blobs source sink (Takes g.K.Reader c.args.keeper.now c.loop-blobs.keeper) r) (sym c.ended-in-Ok-false.ensures)
+    subst (λ (r : Result Summary ImportStop). Streams c.args.from c.args.max_blobs source sink (Takes g.K.Reader c.args.keeper.now c.loop-blobs.keeper) r) (sym c.ended-in-Ok-false.ensures)
     (stream-ends c.args.from c.args.max_blobs c.loop-blobs._blobs c.loop-blobs.framer source c.has_more.new.piece sink c.loop-blobs.summary (Takes g.K.Reader c.args.keeper.now c.loop-blobs.keeper)
     (stream-stays (g.T.Teller.tells c.args.teller.now) c.args.from c.loop-blobs._blobs c.loop-blobs.framer source.before (prepend_known c.loop-blobs.piece (g.R.Source.bytes_left c.loop-blobs.reader)) (prepend_known c.has_more.new.piece source.after)
     sink.before sink.after sink.after c.loop-blobs.summary (Takes g.K.Reader c.args.keeper.now c.loop-blobs.keeper) (Takes g.K.Reader c.args.keeper.now c.loop-blobs.keeper)
@@ -90,7 +91,7 @@ returns-clause-streams g c =
     stop-between c.args.from c.args.max_blobs c.loop-blobs._blobs c.loop-blobs.framer (input g.R.Source c.args.reader.now c.has_more.new.reader) c.has_more.new.piece
     (prepend_known c.loop-blobs.piece (g.R.Source.bytes_left c.loop-blobs.reader)) (output (g.T.Teller.tells c.args.teller.now) g.S.Sink c.args.out.now c.loop-blobs.out) (g.S.Sink.written c.loop-blobs.out) c.loop-blobs.summary
     (Takes g.K.Reader c.args.keeper.now c.loop-blobs.keeper) (Takes g.K.Reader c.args.keeper.now c.loop-blobs.keeper)
-    (Unit {0}) ReadFailed [] c.loop-blobs.invariant c.in-Err-has_more.ensures.kept (λ ds rs same took. took) tt (omega arith)
+    (Unit {0}) (Stream ReadFailed) [] c.loop-blobs.invariant c.in-Err-has_more.ensures.kept (λ ds rs same took. took) tt (omega arith)
     (λ rs many here lines. (c.in-Err-has_more.ensures.failed, refl, lines, no-frame-in-nothing (end_at c.args.from rs) c.has_more.new.piece c.in-Err-has_more.ensures.empty))
 
 pub returns-in-Ok-None-clause-one_file : goal.returns-in-Ok-None-clause-one_file
