@@ -29,6 +29,10 @@ if has sqlite3; then
   : > blank.db
   expect "an empty file as the older one" 1 "fault 66 NotThisStore${nl}" migrate blank.db none.db
   expect "one that isn't older" 1 "fault 66 NotThisStore${nl}" migrate new.db none.db
+  sqlite3 stranger.db "CREATE TABLE place (name TEXT); INSERT INTO place VALUES ('Vaduz')"
+  expect "one of another program" 1 "fault 66 NotThisStore${nl}" migrate stranger.db none.db
+  echo "This text is no database, and longer than 18 bytes." > text.db
+  expect "a text as the older one" 1 "fault 65 Disk${nl}" migrate text.db none.db
   [ ! -e none.db ] && pass "then no database is made" || fail "then no database is made"
   expect "a database in a folder that isn't there" 1 "fault 65 Disk${nl}" migrate old.db nowhere/new.db
   ended=$("$pbfrow" migrate old.db old.db 2>/dev/null; echo "status $?")
