@@ -13,6 +13,11 @@ head -c 83 "$two" > cut.osm.pbf
 expect "a last blob that is cut" 1 "0 OSMHeader 30${nl}fault 18 BlobCut at 47${nl}" list cut.osm.pbf
 printf '\0\1\0\0' > long-header.osm.pbf
 expect "a header length above 65535" 1 "fault 11 HeaderTooLong at 0${nl}" list long-header.osm.pbf
+expect "a header length of 65535" 1 "fault 12 HeaderCut at 0${nl}" list < <(printf '\0\0\xff\xff')
+expect "a header length that is cut" 1 "fault 10 LengthCut at 0${nl}" list < <(printf '\0\0\0')
+expect "an empty header" 1 "fault 14 NoType at 0${nl}" list < <(printf '\0\0\0\0')
+expect "a type with a space, a percent sign and a byte above 126" 0 "0 a%20%25~%7F 0${nl}" list < <(printf '\0\0\0\x09\x0a\x05a %%~\x7f\x18\0')
+expect "a type that isn't UTF-8" 0 "0 !%FF 0${nl}" list < <(printf '\0\0\0\x06\x0a\x02!\xff\x18\0')
 expect "a file that isn't there" 1 "fault 68 ReadFailed at 0${nl}" list nowhere.osm.pbf
 expect "a folder" 1 "fault 68 ReadFailed at 0${nl}" list .
 expect "no command" 2 ""

@@ -21,7 +21,14 @@ expect "an element that can't be read" 2 "" find words.db x2
 expect "a database to migrate, and none to fill" 2 "" migrate words.db
 expect "a database to merge into, and none to merge" 2 "" merge words.db
 expect "a file to verify, and no database" 2 "" verify "$two"
+expect "the same with an option" 2 "" verify "$two" --elements
 expect "a form that isn't there" 2 "" export words.db --form xml
+expect "a size, and no database" 2 "" status --size 85
+expect "an element in two databases" 2 "" find words.db other.db n2
+expect "two files to show" 2 "" show "$two" "$two"
+for element in "" n n- n+1 n4611686018427387904 r-4611686018427387904 N2; do
+  expect "what is no element: '$element'" 2 "" find words.db "$element"
+done
 expect "words of two commands" 2 "" status words.db --partial
 [ -e words.db ] && fail "words that can't be read touch no file" || pass "words that can't be read touch no file"
 expect "a word that isn't UTF-8" 2 "" list "$(printf 'x\xff')"

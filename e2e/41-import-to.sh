@@ -31,6 +31,8 @@ sound "which sqlite3 finds whole" whole.db
 rm -f part.db*
 expect "a range of a file" 0 "$second" import "$two" part.db --from 47 --to 84
 rm -f part.db*
+expect "a range whose end is named first" 0 "$second" import "$two" part.db --to 84 --from 47
+rm -f part.db*
 expect "a range of a pipe" 0 "$second" import /dev/stdin part.db --from 47 --to 84 < <(cat "$two")
 rm -f part.db*
 expect "a pipe that is a range" 0 "$second" import /dev/stdin part.db --at 47 --to 84 < <(tail -c 37 "$two")
@@ -39,6 +41,7 @@ expect "a file that is a range" 1 "fault 68 ReadFailed at 83${nl}" import cut.os
 expect "a pipe that is shorter" 1 "fault 68 ReadFailed at 83${nl}" import /dev/stdin part.db --at 47 --to 84 < <(tail -c 37 "$two" | head -c 36)
 expect "an empty pipe" 1 "fault 68 ReadFailed at 47${nl}" import /dev/stdin part.db --at 47 --to 84 < <(true)
 expect "no bytes" 1 "fault 68 ReadFailed at 47${nl}" import /dev/null part.db --at 47 --to 84
+expect "a range of one byte" 1 "fault 10 LengthCut at 47${nl}" import /dev/stdin part.db --at 47 --to 48 < <(tail -c 37 "$two")
 for options in "--from 47 --to 84" "--at 47 --to 84"; do
   expect "a file that isn't there, $options" 1 "fault 68 ReadFailed at 47${nl}" import nowhere.osm.pbf part.db $options
 done

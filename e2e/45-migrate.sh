@@ -21,10 +21,18 @@ if has sqlite3; then
   sqlite3 old.db .dump > after.sql
   same "the older one is as it was" old.sql after.sql
 
+  cp old.db empty-old.db
+  sqlite3 empty-old.db "DELETE FROM body; DELETE FROM blob"
+  expect "an older database that holds nothing" 0 "copied 0 held 0${nl}" migrate empty-old.db empty-new.db
+
   expect "an older database that isn't there" 1 "fault 66 NotThisStore${nl}" migrate nowhere.db none.db
   : > blank.db
   expect "an empty file as the older one" 1 "fault 66 NotThisStore${nl}" migrate blank.db none.db
   expect "one that isn't older" 1 "fault 66 NotThisStore${nl}" migrate new.db none.db
+  sqlite3 stranger.db "CREATE TABLE place (name TEXT); INSERT INTO place VALUES ('Vaduz')"
+  expect "one of another program" 1 "fault 66 NotThisStore${nl}" migrate stranger.db none.db
+  echo "This text is no database, and longer than 18 bytes." > text.db
+  expect "a text as the older one" 1 "fault 65 Disk${nl}" migrate text.db none.db
   [ ! -e none.db ] && pass "then no database is made" || fail "then no database is made"
   expect "a database in a folder that isn't there" 1 "fault 65 Disk${nl}" migrate old.db nowhere/new.db
   ended=$("$pbfrow" migrate old.db old.db 2>/dev/null; echo "status $?")
@@ -49,6 +57,7 @@ if has sqlite3; then
   { head -c 60 "$two"; tail -c 37 "$two"; } > shifted.osm.pbf
   "$pbfrow" import shifted.osm.pbf other.db --from 60 > got.txt
   expect "a blob across its place" 1 "fault 64 Overlap at 47${nl}" migrate old.db other.db
+  expect "which stays" 0 "gap 47 60${nl}blobs 2 end 97 gaps 1${nl}" status other.db
 
   if has python3; then
     country=$top/data/liechtenstein-raw.osm.pbf

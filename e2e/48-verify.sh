@@ -29,6 +29,13 @@ fi
 expect "verify of an empty input" 1 "fault 61 NoHeaderFirst at 0${nl}extra 0${nl}extra 47${nl}blobs 0 missing 0 differs 0 extra 2${nl}" verify /dev/null two.db
 cat header.osm.pbf header.osm.pbf > headers.osm.pbf
 expect "verify of a bad blob in the place of a good one" 1 "fault 62 HeaderNotFirst at 47${nl}extra 47${nl}blobs 2 missing 0 differs 0 extra 1${nl}" verify headers.osm.pbf two.db
+tail -c 37 "$two" >> headers.osm.pbf
+"$pbfrow" import /dev/null none.db > got.txt
+for depth in "" --elements; do
+  expect "verify${depth:+ $depth} of a good blob behind the bad one" 1 "fault 62 HeaderNotFirst at 47${nl}extra 47${nl}missing 94${nl}blobs 3 missing 1 differs 0 extra 1${nl}" verify headers.osm.pbf two.db $depth
+  expect "verify${depth:+ $depth} of a database that holds nothing" 1 "missing 0${nl}missing 47${nl}blobs 2 missing 2 differs 0 extra 0${nl}" verify "$two" none.db $depth
+  expect "verify${depth:+ $depth} of that and an empty input" 1 "fault 61 NoHeaderFirst at 0${nl}blobs 0 missing 0 differs 0 extra 0${nl}" verify /dev/null none.db $depth
+done
 "$pbfrow" import header.osm.pbf header.db > got.txt
 expect "verify of a blob that isn't held" 1 "missing 47${nl}blobs 2 missing 1 differs 0 extra 0${nl}" verify "$two" header.db
 # the blob of the nodes 13 bytes further, so that it begins inside a frame of the file
@@ -100,6 +107,11 @@ told() {
 }
 
 if has sqlite3; then
+  cp two.db inside.db
+  sqlite3 inside.db "DELETE FROM element; UPDATE blob SET off = 5, fin = 50, kind = 2, n = 0 WHERE off = 0; UPDATE blob SET off = 50, fin = 51, kind = 2, n = 0 WHERE off = 47"
+  for depth in "" --elements; do
+    expect "verify${depth:+ $depth} of blobs that begin inside both frames" 1 "missing 0${nl}extra 5${nl}missing 47${nl}extra 50${nl}blobs 2 missing 2 differs 0 extra 2${nl}" verify "$two" inside.db $depth
+  done
   # the header, 8,000 nodes and all relations
   { head -c 98 "$country"; tail -c +115674 "$country" | head -c 111478; tail -c 52279 "$country"; } > few.osm.pbf
   few="blobs 3 missing 0 differs 0 extra 0${nl}"

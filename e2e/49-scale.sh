@@ -23,6 +23,14 @@ expect "ranges, and not how many" 2 "" ranges "$two"
 "$pbfrow" ranges "$two" 2 > /dev/full
 [ $? = 1 ] && pass "ranges to a full disk end with 1" || fail "ranges to a full disk end with 1"
 
+# a header frame of 47 bytes, and six of 16
+{ head -c 47 "$two"; for _ in 1 2 3 4 5 6; do printf '\0\0\0\x09\x0a\x05Extra\x18\x03\xff\xff\xff'; done; } > seven.osm.pbf
+expect "one range of seven frames" 0 "0 143${nl}" ranges seven.osm.pbf 1
+expect "two ranges of seven frames" 0 "0 79${nl}79 143${nl}" ranges seven.osm.pbf 2
+expect "three ranges of seven frames" 0 "0 63${nl}63 111${nl}111 143${nl}" ranges seven.osm.pbf 3
+expect "four ranges of seven frames" 0 "0 47${nl}47 79${nl}79 111${nl}111 143${nl}" ranges seven.osm.pbf 4
+expect "as many as there are frames" 0 "0 47${nl}47 63${nl}63 79${nl}79 95${nl}95 111${nl}111 127${nl}127 143${nl}" ranges seven.osm.pbf 255
+
 # ranges_are_even N: N ranges of the extract follow one another, begin at frames, and without its last frame each is shorter
 # than the Nth part of the file; its frames are those that `list` has.
 ranges_are_even() {

@@ -213,6 +213,8 @@ if has sqlite3; then
   right "a table, indexes and a view of one's own" mine.db
   sqlite3 mine.db "DROP INDEX tag_by_key; CREATE INDEX link_by_ref ON link (ref)"
   right "an index dropped, and another made" mine.db
+  sqlite3 mine.db "DROP INDEX element_by_id; CREATE TABLE before (name TEXT); CREATE INDEX element_by_id ON element (kind, id)"
+  right "the index by kind and id behind a table of one's own" mine.db
   sqlite3 mine.db "VACUUM"
   right "the same after VACUUM" mine.db
   sqlite3 mine.db "PRAGMA journal_mode = DELETE" > got.txt
@@ -234,6 +236,8 @@ if has sqlite3; then
   [ ! -s stderr.txt ] && pass "and nothing is told" || fail "and nothing is told"
   if sqlite3 mine.db "CREATE VIRTUAL TABLE words USING fts5 (word)" 2> got.txt; then
     right "a virtual table" mine.db
+    printf '%b' 'CREATE VIRTUAL TABLE others USING fts5 (wor\xff)' | sqlite3 mine.db
+    right "a virtual table whose text isn't in UTF-8" mine.db
   fi
 
   # stopped NAME REASON: each command ends with the line of fault 65, tells this reason of mine.db, and writes nothing to it
@@ -277,6 +281,14 @@ if has sqlite3; then
     "$(of_name of_a)" 'DROP TRIGGER "of_a"'
   changed "a text that isn't in UTF-8" 'CREATE VIEW odd AS SELECT "\xff"' "$(of_text odd)" "DROP VIEW odd"
   changed "a name that isn't in UTF-8" 'CREATE TABLE "o\xffd" (a)' "$(of_text o�d)" 'DROP TABLE "o\xffd"'
+  rm -f mine.db*
+  cp sound.db mine.db
+  sqlite3 mine.db "DROP TABLE link; CREATE TABLE Link (off INTEGER PRIMARY KEY) STRICT"
+  for words in "status mine.db" "verify $two mine.db"; do
+    # shellcheck disable=SC2086
+    expect "another table with the name of one, in other letters: ${words%% *}" 1 "fault 65 Disk${nl}" $words
+    grep -qi "^pbfrow: mine.db: its table link isn't as pbfrow makes it" stderr.txt && pass "and it is named" || fail "and it is named"
+  done
   # what a copy mends
   copied="make a copy by sqlite3's .dump"
   sqlite3 sound.db .dump > dump.sql
@@ -307,10 +319,16 @@ END
   printf 'Some text, which is longer than the part of a header that names the size of a page.' > mine.db
   expect "a text: status" 1 "fault 65 Disk${nl}" status mine.db
   told "and why" "mine.db: not a database of SQLite"
+  for text in S 'SQLite format 3\0'; do
+    printf '%b' "$text" > mine.db
+    expect "a file of the text '$text': status" 1 "fault 65 Disk${nl}" status mine.db
+    told "and why" "mine.db: not a database of SQLite"
+  done
 
   rm -f other.db*
   sqlite3 other.db "CREATE TABLE place (name TEXT); INSERT INTO place VALUES ('Vaduz')"
   expect "a database of another program: status" 1 "fault 66 NotThisStore${nl}" status other.db
+  told "and why" "other.db: not a database of pbfrow"
   expect "a database of another program: find" 1 "fault 66 NotThisStore${nl}" find other.db n1
   sqlite3 other.db "SELECT name FROM place" > got.txt
   echo Vaduz > want.txt
@@ -318,11 +336,14 @@ END
   rm -f other.db*
   sqlite3 other.db "$(sqlite3 sound.db .schema | tr '\n' ' ')"
   expect "our tables without a version: status" 1 "fault 66 NotThisStore${nl}" status other.db
+  expect "our tables without a version: verify" 1 "fault 66 NotThisStore${nl}" verify "$two" other.db
   version=$(schema_version)
   sqlite3 other.db "INSERT INTO meta VALUES ($((version + 1)))"
   expect "our tables under another version: status" 1 "fault 66 NotThisStore${nl}" status other.db
+  expect "our tables under another version: verify" 1 "fault 66 NotThisStore${nl}" verify "$two" other.db
   sqlite3 other.db "INSERT INTO meta VALUES ($version)"
   expect "our tables under two versions: status" 1 "fault 66 NotThisStore${nl}" status other.db
+  expect "our tables under two versions: verify" 1 "fault 66 NotThisStore${nl}" verify "$two" other.db
   sqlite3 other.db "DELETE FROM meta WHERE version > $version"
   expect "our tables, made by sqlite3, with no blob: status" 0 "blobs 0 end 0 gaps 0${nl}" status other.db
   # a table that is gone, or has another name

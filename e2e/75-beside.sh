@@ -225,6 +225,10 @@ EOF
   expect "verify of a database whose index has an entry of no row" 1 "fault 65 Disk${nl}" verify "$country" damaged.db --elements
   echo "pbfrow: damaged.db: damaged: its index tag_by_key has not one entry for each row" > want.txt
   same "which is named" stderr.txt want.txt
+  # and one whose text tells of its columns in another order
+  cp indexed.db damaged.db
+  sqlite3 damaged.db "PRAGMA writable_schema = ON; UPDATE sqlite_schema SET sql = 'CREATE INDEX tag_by_key ON tag (val, key)' WHERE name = 'tag_by_key'"
+  expect "verify of a database whose index has another text" 1 "fault 65 Disk${nl}" verify "$country" damaged.db --elements
   # the indexes and views that come with the program
   "$pbfrow" import "$country" taken.db --from 1259691 > got.txt
   sqlite3 taken.db < "$top/examples/views.sql" > got.txt 2>&1

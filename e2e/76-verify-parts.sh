@@ -32,11 +32,21 @@ for depth in "" --elements; do
   "$pbfrow" import "$two" nodes.db --from 47 > got.txt
   expect "of two parts" 0 "blobs 2 gaps 0 differs 0 extra 0${nl}" verify "$two" nodes.db header.db $depth
   expect "of a file with another blob there" 1 "differs 47${nl}blobs 2 gaps 0 differs 1 extra 0${nl}" verify moved.osm.pbf nodes.db header.db $depth
+  # the length of the second header is one more, so that no frame reaches from 47 to 84
+  { head -c 50 "$two"; printf '\x0c'; tail -c 33 "$two"; } > longer-header.osm.pbf
+  expect "of a file with no frame there" 1 "extra 47${nl}blobs 2 gaps 0 differs 0 extra 1${nl}" verify longer-header.osm.pbf nodes.db header.db $depth
+  rm -f other.db none.db
+  "$pbfrow" import moved.osm.pbf other.db --from 47 > got.txt
+  "$pbfrow" import /dev/null none.db > got.txt
+  expect "of databases of two files" 1 "fault 63 Differs at 47${nl}" verify "$two" header.db nodes.db other.db $depth
+  expect "of a part and of one that holds nothing" 1 "gap 47 84${nl}blobs 1 gaps 1 differs 0 extra 0${nl}" verify "$two" none.db header.db $depth
 done
 
 # a file that is longer, shorter, or another one
 head -c 47 "$two" > front.osm.pbf
 expect "a file that ends before a blob" 1 "extra 47${nl}blobs 2 gaps 0 differs 0 extra 1${nl}" verify front.osm.pbf nodes.db header.db
+head -c 83 "$two" > cut.osm.pbf
+expect "a file that ends inside a blob" 1 "extra 47${nl}blobs 2 gaps 0 differs 0 extra 1${nl}" verify cut.osm.pbf nodes.db header.db
 cat "$two" <(tail -c 37 "$two") > longer.osm.pbf
 expect "a file that goes on" 1 "gap 84 121${nl}blobs 2 gaps 1 differs 0 extra 0${nl}" verify longer.osm.pbf nodes.db header.db
 expect "an empty file" 1 "extra 47${nl}extra 0${nl}blobs 2 gaps 0 differs 0 extra 2${nl}" verify /dev/null nodes.db header.db

@@ -16,4 +16,3 @@ mod stores;
 mod support;
 mod verify;
 mod verify_parts;
-mod words;

@@ -1,7 +1,7 @@
 mod blobs;
 mod blocks;
-mod changed;
 mod columns;
+mod cut;
 mod encoding;
 mod failing;
 mod first_faults;

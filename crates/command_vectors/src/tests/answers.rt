@@ -1,16 +1,14 @@
-//! Tests of what the commands have in common: questions, where an import begins, the progress line and the exit status.
+//! Tests of what the commands have in common: names without a database, the progress line and the exit status.
 
-use super::parts::{Range, Ranges, part_of};
-use super::stores::{Blocks, Columns, NewStore, import_two_nodes};
+use super::parts::part_of;
+use super::stores::{Columns, NewStore};
 use super::support::{Closed, TWO_NODES};
-use osm_import::Told;
-use osm_rows::StoreFault;
+use osm_store::StoreFault;
 use osm_value::{Form, Outlet, Sink};
-use osm_verify::Depth;
-use pbfrow_answers::ending::{let_go, refuse};
+use pbfrow_answers::ending::refuse;
 use pbfrow_answers::named::{ask_named, merge_named};
-use pbfrow_answers::questions::{ask_in_turn, ask_one, goes_by_blobs};
-use pbfrow_answers::starting::{depth_of, most_bytes, start_of, told_of};
+use pbfrow_answers::questions::goes_by_blobs;
+use pbfrow_answers::starting::{most_bytes, start_of};
 use pbfrow_answers::turns::{InTurn, OpensNamed};
 use pbfrow_terminal::ending::{FAULTY, end};
 use pbfrow_terminal::meter::Meter;
@@ -20,7 +18,6 @@ use pbfrow_words::{Question, Start};
 use std::alloc::Global;
 use std::fs::File;
 use std::io::BufWriter;
-use std::process::Abort;
 use std::test::*;
 
 const STATUS: Question = Question::Status { size: None };
@@ -33,23 +30,10 @@ const LINES: Question = Question::Export {
     form: Form::Lines,
 };
 
-/// What `status` and `export` write of the file of two nodes.
-const TOLD: [(Question, &[u8]); 3] = [
-    (STATUS, b"blobs 2 end 84 gaps 0\n"),
-    (
-        COUNTS,
-        b"blobs 2 end 84 gaps 0\nnodes 2 ways 0 relations 0\ntags 0 links 0\noldest - newest -\n",
-    ),
-    (LINES, b"n 1 1000 -100 [] {}\nn 2 900 -100 [] {}\n"),
-];
-
 /// What is written of a database that can't be opened.
 const DISK: &[u8] = b"fault 65 Disk\n";
 
-/// Stores of one of its two blobs each, the later one first.
-const PARTS: &[&[Range]] = &[&[(47, 84, 47)], &[(0, 47, 0)]];
-
-/// Opens a store of one of the two blobs by its name.
+/// Opens a store of one of the two blobs of a file by its name.
 #[derive(Drop)]
 struct ByName {
     alloc: Global,
@@ -78,41 +62,14 @@ fn answer_of<K: NewStore>(alloc: Global, names: &[&str], question: Question) -> 
     (status, out.into_inner())
 }
 
-fn expect_answers<K: NewStore, R: Abort + Alloc<A = Global>>(rt: &R) -> Result<(), Fail> {
-    let mut store = K::new_store(rt.alloc()).ok_or("a store")?;
-    import_two_nodes(rt, &mut store);
-    for (question, text) in TOLD {
-        let mut out = Outlet::new(Vec::new(rt.alloc()));
-        assert_eq!(rt; ask_one(rt.alloc(), &mut store, question, &mut out), 0);
-        assert!(rt; out.into_inner().as_slice() == text);
-        let mut parts = Ranges {
-            alloc: rt.alloc(),
-            file: TWO_NODES,
-            stores: PARTS,
-            failures: 0,
-        };
-        let mut out = Outlet::new(Vec::new(rt.alloc()));
-        let status = ask_in_turn::<K, _, _>(rt.alloc(), &mut parts, 2, question, &mut out);
-        assert_eq!(rt; status, 0);
-        assert!(rt; out.into_inner().as_slice() == text);
-        let (status, told) = answer_of::<K>(rt.alloc(), &["second", "first"], question);
-        assert_eq!(rt; status, 0);
-        assert!(rt; told.as_slice() == text);
-        let (status, told) = answer_of::<K>(rt.alloc(), &["second", "third"], question);
+/// A name without a database ends each question with the line of its fault.
+#[test]
+fn questions_of_a_name_without_a_database(rt: HostRuntime) {
+    for question in [STATUS, COUNTS, LINES] {
+        let (status, told) = answer_of::<Columns>(rt.alloc(), &["second", "third"], question);
         assert_eq!(rt; status, FAULTY);
         assert!(rt; told.as_slice() == DISK);
     }
-    assert_eq!(rt; let_go(store), 0);
-    Ok(())
-}
-
-#[test]
-fn questions_are_answered(rt: HostRuntime) -> Result<(), Fail> {
-    assert!(rt; goes_by_blobs(LINES));
-    assert!(rt; goes_by_blobs(COUNTS));
-    assert!(rt; !goes_by_blobs(STATUS));
-    expect_answers::<Blocks, _>(&rt)?;
-    expect_answers::<Columns, _>(&rt)
 }
 
 /// What a merge of the databases of these names writes, and the exit status.
@@ -135,27 +92,20 @@ fn databases_are_merged_by_their_names(rt: HostRuntime) -> Result<(), Fail> {
     assert_eq!(rt; status, 0);
     let text = b"copied 0 held 1\ncopied 1 held 0\nblobs copied 1 held 1\n";
     assert!(rt; told.as_slice() == text.as_slice());
-    for (question, text) in TOLD {
-        let mut out = Outlet::new(Vec::new(rt.alloc()));
-        assert_eq!(rt; ask_one(rt.alloc(), &mut into, question, &mut out), 0);
-        assert!(rt; out.into_inner().as_slice() == text);
-    }
     Ok(())
 }
 
+/// Which questions have a progress line, and how many bytes one of an import goes by.
 #[test]
-fn begins_and_ends_where_the_words_say(rt: HostRuntime) {
+fn what_progress_lines_go_by(rt: HostRuntime) {
+    assert!(rt; goes_by_blobs(LINES));
+    assert!(rt; goes_by_blobs(COUNTS));
+    assert!(rt; !goes_by_blobs(STATUS));
     let skipped = start_of(Start::Skip(1_000));
-    assert_eq!(rt; (skipped.dropped, skipped.at), (1_000, 1_000));
     assert_eq!(rt; most_bytes(skipped, None), u64::MAX);
     assert_eq!(rt; most_bytes(skipped, Some(1_500)), 1_500);
     let placed = start_of(Start::At(1_000));
-    assert_eq!(rt; (placed.dropped, placed.at), (0, 1_000));
     assert_eq!(rt; most_bytes(placed, Some(1_500)), 500);
-    assert_eq!(rt; depth_of(true), Depth::Elements);
-    assert_eq!(rt; depth_of(false), Depth::Extents);
-    assert_eq!(rt; told_of(true), Told::Faults);
-    assert_eq!(rt; told_of(false), Told::All);
 }
 
 #[test]

@@ -1,40 +1,15 @@
-//! Tests of `status --counts` and of what it counts.
+//! Tests of what `status --counts` counts, and of it where the output fails or a store can't be opened.
 
 ghost use Rattle.std.specs.Prelude.{◌≡◌, None};
 ghost use Rattle.osm_value.specs.Ranges.{IsInfo};
 
-use super::parts::{Range, Ranges};
-use super::stores::{Blocks, Columns, NewStore, import_two_nodes};
+use super::parts::Ranges;
+use super::stores::{Columns, NewStore, import_two_nodes};
 use super::support::{Closed, TWO_NODES};
-use osm_parts::read_parts;
-use osm_rows::{Reader, StoreFault};
 use osm_value::{Element, Info, Member, MemberKind, Node, Outlet, Relation, Way};
 use pbfrow_commands::counts::{status_parts_with_counts, status_with_counts};
-use pbfrow_counts::{CountFault, ElementCounts, count_blobs, count_parts, put_element_counts};
-use std::alloc::Global;
-use std::process::Abort;
+use pbfrow_counts::{ElementCounts, put_element_counts};
 use std::test::*;
-
-/// What is written of the file of two nodes, which have no tags and no times.
-const TWO: &[u8] =
-    b"blobs 2 end 84 gaps 0\nnodes 2 ways 0 relations 0\ntags 0 links 0\noldest - newest -\n";
-
-/// What is written of no blob.
-const NOTHING: &[u8] =
-    b"blobs 0 end 0 gaps 0\nnodes 0 ways 0 relations 0\ntags 0 links 0\noldest - newest -\n";
-
-/// Stores of one of the two blobs each, the later one first.
-const PARTS: &[&[Range]] = &[&[(47, 84, 47)], &[(0, 47, 0)]];
-
-const TWO_COUNTED: ElementCounts = ElementCounts {
-    nodes: 2,
-    ways: 0,
-    relations: 0,
-    tags: 0,
-    links: 0,
-    oldest: None,
-    newest: None,
-};
 
 fn at<'a>(time: Option<i64>) -> Info<'a>
     requires { IsInfo (record { version = None; time = time; changeset = None; uid = None; user = None; visible = None }) }
@@ -78,69 +53,28 @@ fn elements_are_counted(rt: HostRuntime) -> Result<(), Fail> {
     Ok(())
 }
 
-fn blobs_are_counted_of<K: NewStore, R: Abort + Alloc<A = Global>>(rt: &R) -> Result<(), Fail> {
+#[test]
+fn counts_that_cannot_be_written(rt: HostRuntime) -> Result<(), Fail> {
     let alloc = rt.alloc();
-    let mut store = K::new_store(alloc).ok_or("a store")?;
-    let mut out = Outlet::new(Vec::new(alloc));
-    assert_eq!(rt; status_with_counts(alloc, &mut store, None, &mut out), 0);
-    assert!(rt; out.into_inner().as_slice() == NOTHING);
-    import_two_nodes(rt, &mut store);
-    let mut out = Outlet::new(Vec::new(alloc));
-    assert_eq!(rt; status_with_counts(alloc, &mut store, None, &mut out), 0);
-    assert!(rt; out.into_inner().as_slice() == TWO);
+    let mut store = Columns::new_store(alloc).ok_or("a store")?;
+    import_two_nodes(&rt, &mut store);
     let mut closed = Outlet::new(Closed);
     assert_eq!(rt; status_with_counts(alloc, &mut store, None, &mut closed), 1);
-    let extents = store.extents(alloc).ok().ok_or("extents")?;
-    let mut counts = ElementCounts::none();
-    assert!(rt; count_blobs(alloc, &mut store, &extents, &mut counts).is_ok());
-    assert!(rt; counts == TWO_COUNTED);
     Ok(())
 }
 
+/// The counts of two stores and of a third one that isn't there end with the line of its fault.
 #[test]
-fn blobs_are_counted(rt: HostRuntime) -> Result<(), Fail> {
-    blobs_are_counted_of::<Blocks, _>(&rt)?;
-    blobs_are_counted_of::<Columns, _>(&rt)
-}
-
-fn parts_are_counted_of<K: NewStore, R: Abort + Alloc<A = Global>>(rt: &R) -> Result<(), Fail> {
+fn counts_of_a_part_that_cannot_be_opened(rt: HostRuntime) {
     let alloc = rt.alloc();
     let mut openings = Ranges {
         alloc,
         file: TWO_NODES,
-        stores: PARTS,
+        stores: &[&[(47, 84, 47)], &[(0, 47, 0)]],
         failures: 0,
     };
     let mut out = Outlet::new(Vec::new(alloc));
-    let status = status_parts_with_counts::<K, _, _>(alloc, &mut openings, 2, None, &mut out);
-    assert_eq!(rt; status, 0);
-    assert!(rt; out.into_inner().as_slice() == TWO);
-    let mut out = Outlet::new(Vec::new(alloc));
-    let status = status_parts_with_counts::<K, _, _>(alloc, &mut openings, 3, None, &mut out);
+    let status = status_parts_with_counts::<Columns, _, _>(alloc, &mut openings, 3, None, &mut out);
     assert_eq!(rt; status, 1);
     assert!(rt; out.into_inner().as_slice() == b"fault 65 Disk\n".as_slice());
-    let parts = read_parts::<K, _>(alloc, &mut openings, 2, false)
-        .ok()
-        .ok_or("parts")?;
-    let mut counts = ElementCounts::none();
-    assert!(rt; count_parts::<K, _>(alloc, &mut openings, &parts, &mut counts).is_ok());
-    assert!(rt; counts == TWO_COUNTED);
-    Ok(())
-}
-
-#[test]
-fn parts_are_counted(rt: HostRuntime) -> Result<(), Fail> {
-    parts_are_counted_of::<Blocks, _>(&rt)?;
-    parts_are_counted_of::<Columns, _>(&rt)
-}
-
-#[test]
-fn faults_of_counting_have_numbers(rt: HostRuntime) {
-    let miscounted = CountFault::Miscounted(47);
-    assert_eq!(rt;
-        (miscounted.number(), miscounted.name()),
-        (66, "NotThisStore")
-    );
-    let disk = CountFault::Store(StoreFault::Disk);
-    assert_eq!(rt; (disk.number(), disk.name()), (65, "Disk"));
 }

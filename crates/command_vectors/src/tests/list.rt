@@ -1,6 +1,6 @@
-//! Tests of `list`.
+//! Tests of `list` over input in pieces, and over readers and writers that fail.
 
-use super::support::{Breaking, Closed, Dripping, PLAIN_NODE, TWO_NODES};
+use super::support::{Breaking, Closed, Dripping, TWO_NODES};
 use osm_value::Outlet;
 use pbfrow_reading::list::list;
 use std::alloc::Global;
@@ -17,77 +17,6 @@ fn expect_list<R: Read>(
     let mut out = Outlet::new(Vec::new(rt.alloc()));
     assert_eq!(rt; list(rt.alloc(), input, &mut out), status);
     assert!(rt; out.into_inner().as_slice() == text);
-}
-
-#[test]
-fn lists_two_frames(rt: HostRuntime) {
-    expect_list(
-        &rt,
-        &mut Cursor::new(&TWO_NODES[..]),
-        0,
-        b"0 OSMHeader 30\n47 OSMData 22\n",
-    );
-    expect_list(&rt, &mut Cursor::new(&TWO_NODES[..0]), 0, b"");
-}
-
-#[test]
-fn lists_a_frame_with_a_plain_node(rt: HostRuntime) {
-    expect_list(
-        &rt,
-        &mut Cursor::new(&PLAIN_NODE[..]),
-        0,
-        b"0 OSMHeader 30\n47 OSMData 16\n",
-    );
-}
-
-#[test]
-fn stops_at_a_fault(rt: HostRuntime) {
-    expect_list(
-        &rt,
-        &mut Cursor::new(&TWO_NODES[..83]),
-        1,
-        b"0 OSMHeader 30\nfault 18 BlobCut at 47\n",
-    );
-    expect_list(
-        &rt,
-        &mut Cursor::new(&[0u8; 3][..]),
-        1,
-        b"fault 10 LengthCut at 0\n",
-    );
-    expect_list(
-        &rt,
-        &mut Cursor::new(&[0u8, 1, 0, 0][..]),
-        1,
-        b"fault 11 HeaderTooLong at 0\n",
-    );
-    expect_list(
-        &rt,
-        &mut Cursor::new(&[0u8, 0, 255, 255][..]),
-        1,
-        b"fault 12 HeaderCut at 0\n",
-    );
-    expect_list(
-        &rt,
-        &mut Cursor::new(&[0u8; 4][..]),
-        1,
-        b"fault 14 NoType at 0\n",
-    );
-}
-
-#[test]
-fn escapes_types(rt: HostRuntime) {
-    expect_list(
-        &rt,
-        &mut Cursor::new(&b"\x00\x00\x00\x09\x0A\x05a %~\x7F\x18\x00"[..]),
-        0,
-        b"0 a%20%25~%7F 0\n",
-    );
-    expect_list(
-        &rt,
-        &mut Cursor::new(&b"\x00\x00\x00\x06\x0A\x02!\xFF\x18\x00"[..]),
-        0,
-        b"0 !%FF 0\n",
-    );
 }
 
 #[test]

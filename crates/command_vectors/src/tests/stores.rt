@@ -19,9 +19,6 @@ pub type Columns = TableStore<MemStore>;
 /// A store in memory, which holds nothing at first.
 pub trait NewStore: Keeper + Audited + Drop {
     fn new_store(alloc: Global) -> Option<Self>;
-
-    /// The store, opened again after a statement has changed its rows.
-    fn changed(self, sql: &str) -> Option<Self>;
 }
 
 impl<L: StoreLayout> NewStore for BlobStore<MemStore, L> {
@@ -30,15 +27,6 @@ impl<L: StoreLayout> NewStore for BlobStore<MemStore, L> {
             return None;
         };
         BlobStore::create(connection).ok()
-    }
-
-    fn changed(self, sql: &str) -> Option<BlobStore<MemStore, L>> {
-        let mut connection = self.into_connection();
-        connection.execute(sql, &[]).ok()?;
-        if !connection.is_autocommit() {
-            return None;
-        }
-        BlobStore::adopt(connection).ok()
     }
 }
 
@@ -51,26 +39,13 @@ pub fn expect_import<K: Keeper, R: Read + Drop>(
     status: u8,
     text: &[u8],
 ) {
-    expect_telling(rt, store, input, from, Told::All, status, text);
-}
-
-/// Imports an input, of which these answers are told, and expects this exit status and exactly this text.
-pub fn expect_telling<K: Keeper, R: Read + Drop>(
-    rt: &(impl Abort + Alloc<A = Global>),
-    store: &mut K,
-    input: R,
-    from: u8,
-    told: Told,
-    status: u8,
-    text: &[u8],
-) {
     let mut out = Outlet::new(Vec::new(rt.alloc()));
     let start = Start {
         dropped: u64::from(from),
         at: u64::from(from),
     };
     let mut input = Inlet::new(input);
-    let ended = import(rt.alloc(), &mut input, store, start, &told, &mut out);
+    let ended = import(rt.alloc(), &mut input, store, start, &Told::All, &mut out);
     assert_eq!(rt; ended, status);
     assert!(rt; out.into_inner().as_slice() == text);
 }
@@ -95,21 +70,4 @@ pub fn four_blobs(alloc: Global) -> Result<Vec<u8>, AllocError> {
     bytes.extend_from_slice(EXTRA)?;
     bytes.extend_from_slice(&two_nodes[47..])?;
     Ok(bytes)
-}
-
-/// Imports the file of four blobs.
-pub fn import_four_blobs<K: Keeper>(
-    rt: &(impl Abort + Alloc<A = Global>),
-    store: &mut K,
-) -> Result<(), AllocError> {
-    let bytes = four_blobs(rt.alloc())?;
-    expect_import(
-        rt,
-        store,
-        Cursor::new(&bytes[..]),
-        0,
-        0,
-        b"0 stored 0\n47 stored 2\n84 stored 0\n100 stored 2\nblobs stored 4 held 0 bad 0 refused 0\n",
-    );
-    Ok(())
 }

@@ -1,8 +1,6 @@
 //! What the tests of several commands share.
 
-use pbf_frame::{Kind, write_frame};
 use pbfrow_reading::watcher::Watcher;
-use std::alloc::{AllocError, Global};
 use std::io;
 use std::io::{Read, Write};
 
@@ -10,26 +8,8 @@ use std::io::{Read, Write};
 pub const TWO_NODES: &[u8; 84] =
     b"\x00\x00\x00\x0D\x0A\x09OSMHeader\x18\x1E\x0A\x1C\x22\x0EOsmSchema-V0.6\x22\x0ADenseNodes\x00\x00\x00\x0B\x0A\x07OSMData\x18\x16\x0A\x14\x0A\x02\x0A\x00\x12\x0E\x12\x0C\x0A\x02\x02\x02\x42\x02\x14\x01\x4A\x02\x01\x00";
 
-/// A header frame of 47 bytes and a data frame of 31 with a plain node.
-pub const PLAIN_NODE: &[u8; 78] =
-    b"\x00\x00\x00\x0D\x0A\x09OSMHeader\x18\x1E\x0A\x1C\x22\x0EOsmSchema-V0.6\x22\x0ADenseNodes\x00\x00\x00\x0B\x0A\x07OSMData\x18\x10\x0A\x0E\x0A\x02\x0A\x00\x12\x08\x0A\x06\x08\x02\x40\x02\x48\x02";
-
-/// The header frame of 56 bytes that an export as PBF begins with.
-pub const WRITTEN_HEADER: &[u8; 56] =
-    b"\x00\x00\x00\x0D\x0A\x09OSMHeader\x18\x27\x0A\x25\x22\x0EOsmSchema-V0.6\x22\x0ADenseNodes\x82\x01\x06pbfrow";
-
 /// A frame of type Extra, of 16 bytes.
 pub const EXTRA: &[u8; 16] = b"\x00\x00\x00\x09\x0A\x05Extra\x18\x03\xFF\xFF\xFF";
-
-/// A file with a header frame of 47 bytes, and behind it the frame of this block.
-pub fn file_of(alloc: Global, block: &[u8]) -> Result<Vec<u8>, AllocError> {
-    let mut bytes = Vec::new(alloc);
-    bytes.extend_from_slice(&TWO_NODES[..47])?;
-    if block.len() <= 100 {
-        write_frame(Kind::OsmData, block, &mut bytes)?;
-    }
-    Ok(bytes)
-}
 
 /// A reader that gives some bytes and then fails.
 #[derive(Drop)]

@@ -1,18 +1,15 @@
-//! Tests of `verify` of several stores that hold parts of one file.
+//! Tests of `verify` of several stores that hold parts of one file, over a file, an output and a store that fail.
 
 ghost use Rattle.std.specs.Prelude.{None};
 
 use super::parts::{Range, Ranges};
-use super::stores::{Blocks, Columns, NewStore, four_blobs};
-use super::support::{Closed, Unwatched};
+use super::stores::{Columns, NewStore, four_blobs};
+use super::support::Closed;
 use osm_import::SourceFailed;
 use osm_value::Outlet;
 use osm_verify::{Depth, FileBytes, MemoryFile};
-use pbfrow_commands::metered::MeteredFile;
 use pbfrow_commands::verify_parts::verify_parts;
 use std::alloc::Global;
-use std::io::Cursor;
-use std::process::Abort;
 use std::test::*;
 
 /// What a verify of stores that hold these frames of the file of four blobs writes, and its exit status.
@@ -33,101 +30,6 @@ fn verdict_of<K: NewStore, F: FileBytes>(
     let count = stores.len() as u64;
     let status = verify_parts::<K, _, _, _>(alloc, &mut openings, count, file, depth, &mut out);
     Ok((status, out.into_inner()))
-}
-
-/// A byte of the file that is another one in the file that is compared, and what it is there.
-type Change = Option<(usize, u8)>;
-
-/// Stores, the change of the file, and what `verify` answers and writes, by extents and by elements.
-const VERDICTS: [(&[&[Range]], Change, u8, &[u8]); 9] = [
-    (
-        &[&[(84, 137, 84)], &[(0, 84, 0)]],
-        None,
-        0,
-        b"blobs 4 gaps 0 differs 0 extra 0\n",
-    ),
-    // a blob that both hold
-    (
-        &[&[(47, 137, 47)], &[(0, 84, 0)]],
-        None,
-        0,
-        b"blobs 4 gaps 0 differs 0 extra 0\n",
-    ),
-    (
-        &[&[(100, 137, 100)], &[(0, 47, 0)]],
-        None,
-        1,
-        b"gap 47 100\nblobs 2 gaps 1 differs 0 extra 0\n",
-    ),
-    (
-        &[&[], &[(0, 84, 0)]],
-        None,
-        1,
-        b"gap 84 137\nblobs 2 gaps 1 differs 0 extra 0\n",
-    ),
-    // the longitude of a node is another one
-    (
-        &[&[(84, 137, 84)], &[(0, 84, 0)]],
-        Some((83, 2)),
-        1,
-        b"differs 47\nblobs 4 gaps 0 differs 1 extra 0\n",
-    ),
-    // no frame of the file reaches from 47 to 84
-    (
-        &[&[(84, 137, 84)], &[(0, 84, 0)]],
-        Some((50, 12)),
-        1,
-        b"extra 47\nblobs 4 gaps 0 differs 0 extra 1\n",
-    ),
-    // behind the end of the file, and before that a gap
-    (
-        &[&[(0, 100, 0)], &[(47, 84, 137)]],
-        None,
-        1,
-        b"extra 137\ngap 100 137\nblobs 4 gaps 1 differs 0 extra 1\n",
-    ),
-    (
-        &[&[(0, 84, 0)], &[(84, 100, 47)]],
-        None,
-        1,
-        b"fault 63 Differs at 47\n",
-    ),
-    (
-        &[&[(47, 84, 83)], &[(0, 84, 0)]],
-        None,
-        1,
-        b"fault 64 Overlap at 83\n",
-    ),
-];
-
-fn verdicts_of<K: NewStore, R: Abort + Alloc<A = Global>>(
-    rt: &R,
-    depth: Depth,
-) -> Result<(), Fail> {
-    let alloc = rt.alloc();
-    for (stores, change, ended, text) in VERDICTS {
-        let mut bytes = four_blobs(alloc)?;
-        if let Some((at, byte)) = change {
-            *bytes.get_mut(at).ok_or("a byte")? = byte;
-        }
-        let mut file = MemoryFile { bytes: &bytes };
-        let (status, written) = verdict_of::<K, _>(alloc, stores, &mut file, depth)?;
-        assert_eq!(rt; status, ended);
-        assert!(rt; written.as_slice() == text);
-    }
-    Ok(())
-}
-
-#[test]
-fn verdicts_on_rows(rt: HostRuntime) -> Result<(), Fail> {
-    verdicts_of::<Columns, _>(&rt, Depth::Extents)?;
-    verdicts_of::<Columns, _>(&rt, Depth::Elements)
-}
-
-#[test]
-fn verdicts_on_blocks(rt: HostRuntime) -> Result<(), Fail> {
-    verdicts_of::<Blocks, _>(&rt, Depth::Extents)?;
-    verdicts_of::<Blocks, _>(&rt, Depth::Elements)
 }
 
 /// A file in two stores.
@@ -168,29 +70,6 @@ fn a_file_that_cannot_be_read(rt: HostRuntime) -> Result<(), Fail> {
         assert_eq!(rt; status, 1);
         assert!(rt; written.as_slice() == text);
     }
-    Ok(())
-}
-
-/// A file that can seek is read where the stores hold blobs; where it ends before one of them, that blob is none of its.
-#[test]
-fn a_file_that_can_seek(rt: HostRuntime) -> Result<(), Fail> {
-    let alloc = rt.alloc();
-    let bytes = four_blobs(alloc)?;
-    let mut file = MeteredFile {
-        file: Cursor::new(&bytes[..]),
-        watcher: &Unwatched,
-    };
-    let (status, written) = verdict_of::<Columns, _>(alloc, HALVES, &mut file, Depth::Elements)?;
-    assert_eq!(rt; status, 0);
-    assert!(rt; written.as_slice() == b"blobs 4 gaps 0 differs 0 extra 0\n".as_slice());
-    let front = bytes.get(..136).ok_or("the front of the file")?;
-    let mut short = MeteredFile {
-        file: Cursor::new(front),
-        watcher: &Unwatched,
-    };
-    let (status, written) = verdict_of::<Columns, _>(alloc, HALVES, &mut short, Depth::Extents)?;
-    assert_eq!(rt; status, 1);
-    assert!(rt; written.as_slice() == b"extra 100\nblobs 4 gaps 0 differs 0 extra 1\n".as_slice());
     Ok(())
 }
 

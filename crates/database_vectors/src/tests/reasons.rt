@@ -1,10 +1,8 @@
 //! Why a database isn't opened, in words.
 
-use osm_databases::reason::{
-    Reason, Refusal, fault_of_obstacle, tell, tell_of_obstruction, told, told_of,
-};
-use osm_openings::{Obstacle, Obstruction};
-use osm_rows::StoreFault;
+use osm_databases::reason::{Reason, Refusal};
+use osm_openings::Obstacle;
+use osm_store::StoreFault;
 use pbfrow_files::OpenFault;
 use sqlite::{Error as SqlError, ErrorCode};
 use std::alloc::{AllocError, Global};
@@ -113,64 +111,16 @@ fn each_reason_has_its_text(rt: HostRuntime) -> Result<(), Fail> {
         text(rt.alloc(), &added)?.as_str(),
         "damaged: its index tag_by_key has not one entry for each row"
     );
+    let virtual_table = Reason::Object(Obstacle::VirtualTable, format!(in rt.alloc(); "words")?);
+    assert_eq!(rt;
+        text(rt.alloc(), &virtual_table)?.as_str(),
+        "it has a virtual table, words: drop it with sqlite3 to go on"
+    );
     let failed = Reason::File(OpenFault::Io(io::Error::from_raw_os_error(5)));
     assert_eq!(rt;
         text(rt.alloc(), &failed)?.as_str(),
         "Input/output error (os error 5)"
     );
-    Ok(())
-}
-
-/// Each obstacle that is an object, its name, and what people are told.
-const OBJECTS: [(Obstacle, &str, &str); 7] = [
-    (
-        Obstacle::Trigger,
-        "told",
-        "it has a trigger on one of pbfrow's tables, told: drop it with sqlite3 to go on",
-    ),
-    (
-        Obstacle::VirtualTable,
-        "words",
-        "it has a virtual table, words: drop it with sqlite3 to go on",
-    ),
-    (
-        Obstacle::ChangedTable,
-        "element",
-        "its table element isn't as pbfrow makes it: take out what was added to it, by ALTER TABLE element DROP COLUMN .., or copy what it holds into a new database",
-    ),
-    (
-        Obstacle::ChangedIndex,
-        "element_by_id",
-        "its index element_by_id is missing, or isn't as pbfrow makes it: DROP INDEX IF EXISTS element_by_id; CREATE INDEX element_by_id ON element (kind, id)",
-    ),
-    (
-        Obstacle::TwoNames,
-        "tag",
-        "it has two objects named tag: DROP TRIGGER \"tag\", and make it again by another name",
-    ),
-    (
-        Obstacle::OtherText,
-        "node",
-        "its object node has a name or a text that isn't in UTF-8: drop it with sqlite3 to go on",
-    ),
-    (
-        Obstacle::UnkeptIndex,
-        "mine",
-        "its index mine is UNIQUE, of an expression, with WHERE, of a collation of your own, or on blob or meta, which pbfrow doesn't keep up to date: DROP INDEX \"mine\", and make it again behind the import",
-    ),
-];
-
-#[test]
-fn each_object_in_the_way_has_its_text(rt: HostRuntime) -> Result<(), Fail> {
-    for (obstacle, name, wanted) in OBJECTS {
-        let reason = Reason::Object(obstacle, format!(in rt.alloc(); "{name}")?);
-        assert_eq!(rt; text(rt.alloc(), &reason)?.as_str(), wanted);
-        assert_eq!(rt; fault_of_obstacle(obstacle), StoreFault::Disk);
-    }
-    let stranger = fault_of_obstacle(Obstacle::Stranger);
-    assert_eq!(rt; stranger, StoreFault::NotThisStore(None));
-    let first = fault_of_obstacle(Obstacle::FirstLayout);
-    assert_eq!(rt; first, StoreFault::NotThisStore(Some(1)));
     Ok(())
 }
 
@@ -205,20 +155,4 @@ fn each_refusal_has_its_fault(rt: HostRuntime) -> Result<(), Fail> {
         assert_eq!(rt; text(rt.alloc(), &refusal.reason)?.as_str(), wanted);
     }
     Ok(())
-}
-
-/// What is told stands on standard error, and the fault is passed on.
-#[test]
-fn told_faults(rt: HostRuntime) {
-    tell(&rt, "a.db", &Reason::Obstacle(Obstacle::Trigger));
-    let found = Obstruction {
-        obstacle: Obstacle::Damaged,
-        object: Vec::new(rt.alloc()),
-    };
-    assert_eq!(rt; tell_of_obstruction(&rt, "a.db", &found), StoreFault::Disk);
-    assert_eq!(rt; told(&rt, "a.db", Ok(5)), Ok(5));
-    let refused: Result<u8, Refusal> = Err(OpenFault::Busy.into());
-    assert_eq!(rt; told(&rt, "a.db", refused), Err(StoreFault::Disk));
-    let fault = StoreFault::NotThisStore(Some(1));
-    assert_eq!(rt; told_of(&rt, "a.db", fault), fault);
 }

@@ -73,18 +73,6 @@ fn write(bytes: &Bytes, at: usize, from: &[u8]) -> bool {
     }
 }
 
-/// Where these bytes first stand in a file.
-fn place_of(bytes: &Bytes, wanted: &[u8]) -> Option<usize> {
-    let bytes = bytes.try_borrow().ok()?;
-    let bytes = bytes.as_slice();
-    for at in 0..bytes.len() {
-        if bytes[at..].starts_with(wanted) {
-            return Some(at);
-        }
-    }
-    None
-}
-
 /// What a call is answered. One that fails is counted.
 fn answer(is_done: bool, faults: &mut u64) -> io::Result<()>
     ensures variant { is_ok result ≡ is_done }
@@ -225,14 +213,6 @@ impl Machine {
     /// Changes the bytes of the database file at an offset.
     pub(crate) fn overwrite(&self, at: usize, bytes: &[u8]) -> bool {
         write(&self.db, at, bytes)
-    }
-
-    /// Changes these bytes, where they first stand in the database file, to others.
-    pub(crate) fn replace(&self, from: &[u8], to: &[u8]) -> bool {
-        match place_of(&self.db, from) {
-            Some(at) => write(&self.db, at, to),
-            None => false,
-        }
     }
 
     /// Cuts the log to nothing.

@@ -2,7 +2,7 @@
 
 use super::deliveries::file_store;
 use osm_import::{Answer, Conflict, CopyCounts, CopyFault, CopyStop, copy_held, deliver};
-use osm_rows::{Reader, StoreFault};
+use osm_store::{Reader, StoreFault};
 use std::alloc::Global;
 use std::process::Abort;
 use std::test::*;
@@ -195,30 +195,5 @@ fn under_step_limits(rt: HostRuntime) -> Result<(), Fail> {
         under_step_limits_of::<BodiesInMemory, TablesInMemory, _>(&rt, limited)?;
         under_step_limits_of::<TablesInMemory, BodiesInMemory, _>(&rt, limited)?;
     }
-    Ok(())
-}
-
-/// The copy of a store of the first layout into one of the second, and again; and what is in its way.
-#[test]
-fn migrates_an_older_store(rt: HostRuntime) -> Result<(), Fail> {
-    let alloc = rt.alloc();
-    let mut older: BodiesInMemory = file_store(alloc)?;
-    let mut newer: TablesInMemory = NewStore::new_store(alloc)?;
-    let (copied, held) = (2, 2);
-    assert!(rt; copy_held(alloc, &mut older, &mut newer) == Ok(CopyCounts { copied, held: 0 }));
-    assert!(rt; holds_the_file(alloc, &mut newer)?);
-    assert!(rt; copy_held(alloc, &mut older, &mut newer) == Ok(CopyCounts { copied: 0, held }));
-    assert!(rt; holds_the_file(alloc, &mut older)?);
-    let mut other: TablesInMemory = NewStore::new_store(alloc)?;
-    assert!(rt; deliver(alloc, &mut other, 47, CHANGED) == Answer::Stored(2));
-    let differs = CopyFault::Refused(Conflict::Differs);
-    assert!(rt;
-        copy_held(alloc, &mut older, &mut other)
-            == Err(CopyStop {
-                fault: differs,
-                off: 47
-            })
-    );
-    assert!(rt; other.extents(alloc)?.len() == 2);
     Ok(())
 }

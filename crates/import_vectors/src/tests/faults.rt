@@ -10,19 +10,6 @@ use std::test::*;
 use store_vectors::fixtures::HEADER;
 
 #[test]
-fn refusals(rt: HostRuntime) {
-    for (conflict, number, name) in [
-        (Conflict::Differs, 63, "Differs"),
-        (Conflict::Overlap, 64, "Overlap"),
-    ] {
-        assert!(rt;
-            conflict.number() == number && conflict.name() == name,
-            "{name}"
-        );
-    }
-}
-
-#[test]
 fn faults_of_deliveries(rt: HostRuntime) {
     for (fault, number, name) in [
         (Fault::NoHeaderFirst, 61, "NoHeaderFirst"),

@@ -92,36 +92,6 @@ fn streams_that_end_early(rt: HostRuntime) -> Result<(), Fail> {
     over_all_stores(rt.alloc(), STEPS)
 }
 
-/// Of blobs that are stored or held nothing is written.
-fn quiet_streams_of<K: NewStore, R: Abort + Alloc<A = Global>>(rt: &R) -> Result<(), Fail> {
-    let alloc = rt.alloc();
-    let mut store = K::new_store(alloc)?;
-    for (bytes, wanted, lines) in [
-        (FILE_BYTES, BOTH_STORED, &b""[..]),
-        (FILE_BYTES, BOTH_HELD, &b""[..]),
-        (
-            FILE_BYTES.split_at(47).1,
-            ONE_BAD,
-            &b"fault 61 NoHeaderFirst at 0\n"[..],
-        ),
-    ] {
-        let mut source = Inlet::new(bytes);
-        let mut out = Outlet::new(Vec::new(alloc));
-        let told = Told::Faults;
-        let outcome = import_stream(alloc, &mut store, &mut source, 0, 9, &told, &mut out);
-        assert_eq!(rt; outcome, Ok(wanted));
-        assert!(rt; out.into_inner().as_slice() == lines);
-    }
-    Ok(())
-}
-
-#[test]
-fn quiet_streams(rt: HostRuntime) -> Result<(), Fail> {
-    quiet_streams_of::<BodiesInMemory, _>(&rt)?;
-    quiet_streams_of::<TablesInMemory, _>(&rt)?;
-    quiet_streams_of::<TreesInMemory, _>(&rt)
-}
-
 fn readers_that_fail_of<K: NewStore, R: Abort + Alloc<A = Global>>(rt: &R) -> Result<(), Fail> {
     let alloc = rt.alloc();
     for count in 0..85 {
