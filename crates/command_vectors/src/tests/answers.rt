@@ -3,7 +3,7 @@
 use super::parts::part_of;
 use super::stores::{Columns, NewStore};
 use super::support::{Closed, TWO_NODES};
-use osm_store::StoreFault;
+use osm_rows::StoreFault;
 use osm_value::{Form, Outlet, Sink};
 use pbfrow_answers::ending::refuse;
 use pbfrow_answers::named::{ask_named, merge_named};

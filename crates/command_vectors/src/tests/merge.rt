@@ -3,7 +3,7 @@
 use super::stores::{Columns, NewStore, expect_import, import_two_nodes};
 use super::support::{Closed, TWO_NODES};
 use osm_parts::Shelf;
-use osm_store::Keeper;
+use osm_rows::Keeper;
 use osm_value::{Form, Outlet};
 use pbfrow_commands::export::export;
 use pbfrow_commands::merge::merge_all;

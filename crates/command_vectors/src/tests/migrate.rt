@@ -2,7 +2,7 @@
 
 use super::stores::{Blocks, Columns, NewStore, import_two_nodes};
 use super::support::Closed;
-use osm_store::Keeper;
+use osm_rows::Keeper;
 use osm_value::Outlet;
 use pbfrow_commands::migrate::migrate;
 use pbfrow_commands::status::status;

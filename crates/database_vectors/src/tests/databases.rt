@@ -2,7 +2,7 @@
 
 use super::openings::{Held, held_by};
 use osm_databases::stores::{made, made_where_none};
-use osm_store::{Reader, StoreFault};
+use osm_rows::{Reader, StoreFault};
 use sqlite::{Alter, Connection, MemStore};
 use std::alloc::Global;
 use std::test::*;

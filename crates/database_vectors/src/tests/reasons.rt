@@ -2,7 +2,7 @@
 
 use osm_databases::reason::{Reason, Refusal};
 use osm_openings::Obstacle;
-use osm_store::StoreFault;
+use osm_rows::StoreFault;
 use pbfrow_files::OpenFault;
 use sqlite::{Error as SqlError, ErrorCode};
 use std::alloc::{AllocError, Global};
