@@ -13,6 +13,7 @@ ghost use Rattle.osm_rows.specs.Audit.{ShowsBlob, ShowsCounts, ShowsMap, counts_
 ghost use Rattle.osm_rows.specs.Held.{Blob, HeldMap};
 ghost use Rattle.osm_rows.specs.LayoutHolding.{Holds, IsKept, TablesHold};
 
+use crate::schema::Layout;
 use sqlite::{Alter, Connection};
 
 /// The rows of a map are those of no other map.

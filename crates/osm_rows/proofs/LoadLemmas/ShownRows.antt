@@ -10,11 +10,9 @@ use Rattle.osm_rows.specs.Schema.Layouts.{schema_of}
 use Rattle.osm_rows.specs.Schema.Bodies.{body_schema}
 use Rattle.osm_rows.specs.Rows.{Placed, body_row, extent_columns as shown_extent}
 use Rattle.osm_rows.proofs.MapLemmas.PlacedLaws.{IsBefore}
-use Rattle.std.proofs.Common.{◌≡◌, ℕ, List, [], ◌∷◌, map, IsPermutation}
 use Rattle.std.specs.Prelude.{flat_map}
 use Rattle.osm_rows.specs.Schema.Tables.{table_schema}
 use Rattle.osm_rows.specs.TableRows.{element_row, tags_at, tag_row, links_at, link_row}
-use Rattle.osm_rows.proofs.LoadLemmas.ShownRows.{columns_at}
 
 -- the values at these places of a stored row, of which the rowid is place 0
 abbrev pub columns_at : List ℕ → Row → Row

@@ -21,6 +21,7 @@ use std::alloc::{AllocError, Global};
 /// The rows of some elements, each with its place, its kind and id, and its block, by offset and position.
 #[derive(Debug, Drop)]
 pub struct BodyRows {
+    /// Those of `body`.
     pub rows: Vec<Row>,
 }
 
