@@ -9,13 +9,14 @@ pub mod laws;
 mod load;
 mod put;
 mod schema;
+pub mod unreadable;
 
 pub use audit::{Audited, Counts};
 pub use fault::{StoreFault, fault_over_unknown};
 pub use keeper::{Extent, Keeper, Reader};
 pub use load::{
     BodyRows, ElementRows, Found, Loaded, PartRow, TableRows, are_apart, are_numbered, number_at,
-    read_apart, unread,
+    read_apart,
 };
 pub use put::{ElementRow, LinkRow, TableRow, TagRow, element_rows, link_rows, tag_rows};
 pub use schema::codes::{blob_code, element_code};

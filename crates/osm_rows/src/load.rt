@@ -14,4 +14,4 @@ pub use found::Found;
 pub use loaded::Loaded;
 pub use rows::ElementRows;
 pub use tables::{PartRow, TableRows};
-pub use values::{are_numbered, number_at, unread};
+pub use values::{are_numbered, number_at};

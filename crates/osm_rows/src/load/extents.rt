@@ -7,8 +7,8 @@ ghost use Rattle.osm_rows.specs.Rows.{extent_columns};
 
 use crate::StoreFault;
 use crate::keeper::Extent;
-use crate::load::values::unread;
 use crate::schema::codes::blob_kind;
+use crate::unreadable::unread;
 use pbf_frame::MAX_OFFSET;
 use sqlite::Row;
 use std::alloc::Global;

@@ -6,28 +6,14 @@ ghost use Rattle.sqlite.specs.declared.types.Value.TheVariants.{Null, Int, Text 
 ghost use Rattle.sqlite.specs.Order.{column};
 ghost use Rattle.sqlite.specs.Value.{owned};
 ghost use Rattle.sqlite.specs.Values.{or_null};
-ghost use Rattle.osm_rows.specs.Faults.{NamesNoVersion};
 ghost use Rattle.osm_rows.specs.Load.Numbering.{AreNumbered};
-ghost use Rattle.osm_rows.specs.Load.Unread.{unread_fault};
 ghost use Rattle.osm_rows.specs.Rows.{element_code};
 ghost use Rattle.osm_rows.specs.TableRows.{flag};
 ghost use Rattle.osm_value.specs.Ranges.{IsText, IsTextOrNone, IsWide, passes, is_wide, is_version, is_uid};
 
-use crate::StoreFault;
 use osm_value::{MemberKind, text_in_range, uid_in_range, version_in_range, wide_in_range};
+use sqlite::Row;
 use sqlite::types::ValueRef;
-use sqlite::{Error as SqlError, ErrorCode, Row};
-
-/// What a column that doesn't read as wanted means: a row of no map, or that memory was refused.
-pub fn unread(error: SqlError) -> StoreFault
-    ensures exact { result ≡ unread_fault error }
-    ensures unnamed { NamesNoVersion result }
-{
-    match error {
-        SqlError::SqliteFailure(ErrorCode::OutOfMemory) => StoreFault::Memory,
-        _ => StoreFault::NotThisStore(None),
-    }
-}
 
 /// The number that a value is; None where it is none.
 pub(crate) fn number_of(value: ValueRef<'_>) -> Option<u64>

@@ -24,10 +24,9 @@ use Rattle.osm_sql_store.proofs.LoadLemmas.OneTable.{answer_is}
 use Rattle.osm_rows.proofs.ListLemmas.CompareLemmas.{same_number, same_int}
 use Rattle.osm_rows.proofs.ListLemmas.NumberOrder.{numbers_below, numbers_tied}
 use Rattle.osm_rows.proofs.MapLemmas.PartLaws.{IsPartBefore, all_parts_rise}
-use Rattle.osm_rows.proofs.LoadLemmas.ShownRows.{columns_at}
+use Rattle.osm_rows.proofs.LoadLemmas.ShownRows.{columns_at, HasTables, five_places, six_places, twelve_places}
 use Rattle.osm_sql_store.proofs.LoadLemmas.ReadLemmas.{and_true, alone, is, in_order}
 use Rattle.osm_sql_store.proofs.LoadLemmas.TableTexts.{element_shown, tag_shown, link_shown, by_place, by_part, at_off, at_place, of_kind_and_id, elements_are, tags_are, links_are, found_are, its_tags_are, its_links_are}
-use Rattle.osm_rows.proofs.LoadLemmas.ShownRows.{HasTables, five_places, six_places, twelve_places}
 
 -- a part of an element in the blob at this offset
 abbrev pub is_part_in : {A : Type 0} → ℕ → Part A → Bool

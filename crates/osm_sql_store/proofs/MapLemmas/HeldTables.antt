@@ -12,7 +12,6 @@ use Rattle.osm_rows.specs.Schema.Bodies.{body_schema}
 use Rattle.osm_rows.specs.LayoutHolding.{TablesHold}
 use Rattle.osm_rows.proofs.LoadLemmas.ShownRows.{columns_at, HasExtents, HasElements, HasTables}
 use Rattle.osm_sql_store.proofs.LoadLemmas.ReadLemmas.{HasVersion}
-use Rattle.std.proofs.Common.{◌≡◌, [], ◌∷◌, map, ap}
 use Rattle.osm_rows.specs.Schema.Tables.{table_schema}
 use Rattle.osm_rows.proofs.MapLemmas.HeldLemmas.{elements_among, extents_among}
 use Rattle.osm_rows.proofs.MapLemmas.TableHeld.{tables_among}

@@ -1,9 +1,7 @@
 -- The schema while a store is made.
 use Rattle.std.specs.Prelude.{[], ◌∷◌}
 use Rattle.sqlite.specs.Schema.{Schema}
-use Rattle.std.specs.Prelude.{[], ◌∷◌}
-use Rattle.osm_rows.specs.Schema.Bodies.{meta, blob}
-use Rattle.osm_rows.specs.Schema.Bodies.{blob, body, by_place, meta}
+use Rattle.osm_rows.specs.Schema.Bodies.{meta, blob, body, by_place}
 use Rattle.osm_rows.specs.Schema.Tables.{element, element_key, link, link_key, tag, tag_key}
 
 -- a database without tables, indexes and views

@@ -13,7 +13,8 @@ ghost use Rattle.osm_sql_store.specs.Load.Starting.{IsStart};
 
 use crate::load::answer::{answer, integer, number};
 use crate::schema::sql::{SELECT_EXTENTS, SELECT_LAST_START, SELECT_TOUCHING};
-use osm_rows::{Extent, Layout, StoreFault, read_apart, unread};
+use osm_rows::unreadable::unread;
+use osm_rows::{Extent, Layout, StoreFault, read_apart};
 use pbf_frame::MAX_OFFSET;
 use sqlite::{Alter, Connection, Row};
 use std::alloc::Global;

@@ -14,7 +14,8 @@ ghost use Rattle.osm_rows.specs.Schema.Layouts.{version_of};
 
 use crate::load::ask;
 use crate::schema::sql::SELECT_VERSION;
-use osm_rows::{Layout, StoreFault, fault_over_unknown, unread};
+use osm_rows::unreadable::unread;
+use osm_rows::{Layout, StoreFault, fault_over_unknown};
 use sqlite::{Alter, Connection, Row};
 
 /// The one version that the rows of `meta` name.
