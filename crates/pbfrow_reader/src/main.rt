@@ -1,5 +1,5 @@
 //! The program pbfrow_reader: lists, checks, shows and cuts OpenStreetMap PBF files. It has the commands of pbfrow that need no
-//! database, and stands on a third of the crates.
+//! database, and stands on a fifth of the crates.
 #![tactic(auto)]
 
 ghost use Rattle.std.specs.Prelude.{◌≡◌};
