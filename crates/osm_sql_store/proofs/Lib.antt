@@ -2,6 +2,5 @@ pub mod StepLemmas
 pub mod SchemaLemmas
 pub mod PutLemmas
 pub mod LoadLemmas
-pub mod ListLemmas
 pub mod MapLemmas
 pub mod AuditLemmas

@@ -16,6 +16,7 @@ use Rattle.osm_import.specs.declared.stream.summary.Summary.{Summary}
 use Rattle.osm_import.specs.declared.stream.fault.ImportFault.{ImportFault}
 use Rattle.osm_import.specs.declared.stream.fault.ImportFault.TheVariants.{Stream, WriteFailed, Store, BlobLimit}
 use Rattle.osm_import.specs.declared.stream.fault.ImportStop.{ImportStop}
+use Rattle.osm_reading.specs.declared.stream.fault.Stop.{Stop}
 use Rattle.osm_reading.specs.declared.stream.fault.Stop.TheVariants.{Frame, NoHeaderFirst, ReadFailed, Memory}
 use Rattle.pbfrow_commands.specs.CommandLines.{import_stop_line, summary_line}
 
@@ -65,12 +66,16 @@ HoldsFile holds file start = (frames : List (List ℕ)) × IsFile file frames ×
 abbrev pub front_of : ℕ → Known → Known
 front_of count = option_map (take count)
 
+-- frames end so where their input ends too early
+abbrev pub ends_frames : Stop → Bool
+ends_frames (Frame fault) = is_cut fault
+ends_frames NoHeaderFirst = true
+ends_frames ReadFailed = false
+ends_frames Memory = false
+
 -- an import stops with this fault where its input ends too early
 abbrev pub ends_input : ImportFault → Bool
-ends_input (Stream (Frame fault)) = is_cut fault
-ends_input (Stream NoHeaderFirst) = true
-ends_input (Stream ReadFailed) = false
-ends_input (Stream Memory) = false
+ends_input (Stream stop) = ends_frames stop
 ends_input WriteFailed = false
 ends_input (Store fault) = false
 ends_input BlobLimit = false

@@ -11,7 +11,7 @@ ghost use Rattle.osm_import.specs.Merges.{ImportsPart};
 ghost use Rattle.osm_import.specs.Streams.{ImportsFile};
 ghost use Rattle.osm_import.specs.declared.stream.summary.Summary.{Summary as SummaryValue};
 ghost use Rattle.osm_import.specs.declared.stream.fault.ImportStop.{ImportStop as ImportStopValue};
-ghost use Rattle.pbfrow_commands.specs.Importing.{Skips, IsShort, Imports, ImportsRange, EndsBefore, EndsLine, EndsStop, import_status, HoldsFile, HoldsRange, IsTold, ends_input, front_of};
+ghost use Rattle.pbfrow_commands.specs.Importing.{Skips, IsShort, Imports, ImportsRange, EndsBefore, EndsLine, EndsStop, import_status, HoldsFile, HoldsRange, IsTold, ends_frames, ends_input, front_of};
 
 use crate::report::put_summary;
 use osm_import::{ImportFault, ImportStop, Inlet, Source, Stop, Summary, Teller, import_stream};
@@ -170,16 +170,26 @@ pub fn seek_start<S: Seek>(input: &mut S, start: Start) -> Start
     start
 }
 
+/// Whether frames end so where their input ends too early.
+fn ends_frames(stop: Stop) -> bool
+    ensures { result ≡ ends_frames stop }
+{
+    match stop {
+        Stop::NoHeaderFirst => true,
+        Stop::Frame(fault) => matches!(
+            fault,
+            FrameFault::LengthCut | FrameFault::HeaderCut | FrameFault::BlobCut
+        ),
+        _ => false,
+    }
+}
+
 /// Whether an import stops with this fault where its input ends too early.
 fn ends_input(fault: ImportFault) -> bool
     ensures { result ≡ ends_input fault }
 {
     match fault {
-        ImportFault::Stream(Stop::NoHeaderFirst) => true,
-        ImportFault::Stream(Stop::Frame(fault)) => matches!(
-            fault,
-            FrameFault::LengthCut | FrameFault::HeaderCut | FrameFault::BlobCut
-        ),
+        ImportFault::Stream(stop) => ends_frames(stop),
         _ => false,
     }
 }
