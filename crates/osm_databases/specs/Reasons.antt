@@ -13,8 +13,10 @@ fault_of_file file.Missing = fault.NotThisStore None
 fault_of_file file.Memory = fault.Memory
 fault_of_file _ = fault.Disk
 
--- another program's database is no store, and one of the first layout is a store of version 1
+-- another program's database is no store, nor is one that wasn't made to its end; and one of the first layout is a store of
+-- version 1
 abbrev pub fault_of_obstacle : Obstacle → StoreFault
 fault_of_obstacle obstacle.Stranger = fault.NotThisStore None
+fault_of_obstacle obstacle.Unfinished = fault.NotThisStore None
 fault_of_obstacle obstacle.FirstLayout = fault.NotThisStore (Some (pos 1))
 fault_of_obstacle _ = fault.Disk

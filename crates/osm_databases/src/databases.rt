@@ -111,16 +111,17 @@ fn refuse_obstructed<D: Databases>(
     }
 }
 
-/// The same, but of one that has a store of blocks.
-fn refuse_all_but_blocks<D: Databases>(
+/// The same, unless what stands in the way is this obstacle.
+fn refuse_all_but<D: Databases>(
     rt: &HostRuntime,
     databases: &D,
     name: &str,
+    passed: Obstacle,
 ) -> Result<(), StoreFault> {
     let Some(found) = databases.obstruction(rt, name) else {
         return Ok(());
     };
-    if found.obstacle == Obstacle::FirstLayout {
+    if found.obstacle == passed {
         return Ok(());
     }
     Err(tell_of_obstruction(rt, name, &found))
@@ -149,7 +150,7 @@ fn blocks_of<D: Databases>(
 ) -> Result<BodyStore<D::Trees>, StoreFault>
     ensures { IfOk result (λ store. store.failures ≡ 0) }
 {
-    refuse_all_but_blocks(rt, databases, name)?;
+    refuse_all_but(rt, databases, name, Obstacle::FirstLayout)?;
     adopted_blocks(rt, databases, name)
 }
 
@@ -265,8 +266,8 @@ pub fn source_of_blocks<D: Databases>(
     blocks_of(rt, databases, name)
 }
 
-/// The store that is made in a database whose trees aren't opened, where it has no table of anybody's. If something stands in
-/// the way nothing is written.
+/// The store that is made in a database whose trees aren't opened, where it has no table of anybody's, or where the making of
+/// one was interrupted. If something stands in the way nothing is written.
 fn made_in<D: Databases>(
     rt: &HostRuntime,
     databases: &D,
@@ -275,7 +276,7 @@ fn made_in<D: Databases>(
     ensures failures { IfOk result (λ store. store.failures ≡ 0) }
     ensures made { IfOk result (λ store. AreMadeUnder D.Trees.Store (D.makes databases.now name.now) store.store) }
 {
-    refuse_obstructed(rt, databases, name)?;
+    refuse_all_but(rt, databases, name, Obstacle::Unfinished)?;
     databases.make(rt, name)
 }
 

@@ -158,7 +158,7 @@ pub fn fault_of_obstacle(obstacle: Obstacle) -> StoreFault
     ensures { result ≡ fault_of_obstacle obstacle }
 {
     match obstacle {
-        Obstacle::Stranger => StoreFault::NotThisStore(None),
+        Obstacle::Stranger | Obstacle::Unfinished => StoreFault::NotThisStore(None),
         Obstacle::FirstLayout => StoreFault::NotThisStore(Some(1)),
         _ => StoreFault::Disk,
     }

@@ -28,6 +28,9 @@ use thiserror::Error;
 pub enum Obstacle {
     #[error("not a database of SQLite")]
     NoDatabase,
+    /// What is left where the making of a database was interrupted: another one makes it anew.
+    #[error("a database that wasn't made to its end: run the import or merge again, or remove it")]
+    Unfinished,
     #[error("auto_vacuum is on: turn it off and run VACUUM, with sqlite3")]
     AutoVacuum,
     #[error("its texts are in UTF-16: make a copy by sqlite3's .dump")]
@@ -346,6 +349,22 @@ fn obstruction_among(alloc: Global, rows: &[Row]) -> Result<Option<Obstruction>,
     }
 }
 
+/// How many bytes the first page has of a database that is made.
+const MADE_PAGE: usize = 4_096;
+
+/// Whether a database file may be what an interrupted making of it leaves: one byte, or at most a page that begins with a zero.
+/// The library decides that exactly, from both files, before it makes a database there.
+fn may_be_unfinished<D: Disk>(db: &mut D) -> bool
+    requires { IsTrue (D.Disk.is_usable db.old) }
+    ensures usable { IsTrue (D.Disk.is_usable db.new) }
+{
+    match db.len() {
+        Ok(1) => true,
+        Ok(length) => length <= MADE_PAGE && header_bytes(db, 0)[0] == 0,
+        Err(_) => false,
+    }
+}
+
 /// What stands in the way of files whose pages have no size that is known, or end in sums. An empty file is no obstacle: a
 /// database can be made in it.
 fn obstacle_without_size<D: Disk>(alloc: Global, files: &mut Files<D>) -> Option<Obstacle>
@@ -354,6 +373,9 @@ fn obstacle_without_size<D: Disk>(alloc: Global, files: &mut Files<D>) -> Option
 {
     if let Ok(0) = files.db.len() {
         return None;
+    }
+    if may_be_unfinished(&mut files.db) {
+        return Some(Obstacle::Unfinished);
     }
     let Ok(Some(size)) = probe_page_size(files) else {
         return Some(Obstacle::NoDatabase);
