@@ -78,6 +78,51 @@ all_killed() {
 
 all_killed import 50 10
 
+# The making of a database is the first hundredths of a second of an import: one of a small file is killed at a hundred moments
+# from its start to its end, so that some leave a database that wasn't made to its end. The next run makes it anew.
+small=$top/data/two-nodes.osm.pbf
+"$pbfrow" import "$small" small.db > got.txt
+"$pbfrow" export small.db > small.txt
+started=$(date +%s%N)
+"$pbfrow" import "$small" timed.db > got.txt
+taken=$((($(date +%s%N) - started) / 1000))
+killed_early() {
+  local name=early-$1 wait_us=$2 pid left=made came=equal
+  "$pbfrow" import "$small" "$name.db" > "$name.txt" 2>/dev/null &
+  pid=$!
+  sleep "$(printf '%d.%06d' $((wait_us / 1000000)) $((wait_us % 1000000)))"
+  kill -9 "$pid" 2>/dev/null
+  wait "$pid" 2>/dev/null
+  if [ -s "$name.db" ] && [ "$(head -c 6 "$name.db" | tr '\0' .)" != SQLite ]; then left=unfinished; fi
+  "$pbfrow" import "$small" "$name.db" > "$name.txt" || came=different
+  "$pbfrow" export "$name.db" | cmp -s small.txt || came=different
+  if has sqlite3 && [ "$(sqlite3 "$name.db" "PRAGMA integrity_check" 2>&1)" != ok ]; then came=different; fi
+  echo "$left $came" > "$name.verdict"
+  rm -f "$name.db"* "$name.txt"
+}
+(
+  for number in $(seq 100); do
+    killed_early "$number" $((number * taken / 100)) 2>/dev/null &
+    while [ "$(jobs -rp | wc -l)" -ge "$workers" ]; do wait -n; done
+  done
+  wait
+)
+echo "  $(cat early-*.verdict | grep -c '^unfinished') of them left a database that wasn't made to its end"
+[ "$(cat early-*.verdict | grep -c ' equal$')" = 100 ] && pass "100 imports killed as they begin, each completed by a second run" \
+  || fail "100 imports killed as they begin, each completed by a second run ($(cat early-*.verdict | grep -c different) differ)"
+
+# What such a making leaves first is one byte. Nothing can be asked of it, and an import makes the database; a file that begins so
+# but isn't left by one stays as it is.
+printf '\0' > byte.db
+expect "status of a database that wasn't made to its end" 1 $'fault 66 NotThisStore\n' status byte.db
+"$pbfrow" import "$small" byte.db > got.txt
+"$pbfrow" export byte.db > got.txt
+same "an import makes it anew" small.txt got.txt
+head -c 100 /dev/zero > zeros.txt
+cp zeros.txt zeros.db
+expect "import into a hundred zeros" 1 $'fault 65 Disk\n' import "$small" zeros.db
+same "they stay" zeros.txt zeros.db
+
 "$pbfrow" ranges "$country" 3 > plan.txt
 while read -r from to; do
   tail -c +$((from + 1)) "$country" | head -c $((to - from)) | "$pbfrow" import /dev/stdin "part-$from.db" --at "$from" > got.txt
