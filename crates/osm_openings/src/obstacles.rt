@@ -352,16 +352,19 @@ fn obstruction_among(alloc: Global, rows: &[Row]) -> Result<Option<Obstruction>,
 /// How many bytes the first page has of a database that is made.
 const MADE_PAGE: usize = 4_096;
 
-/// Whether a database file may be what an interrupted making of it leaves: one byte, or at most a page that begins with a zero.
-/// The library decides that exactly, from both files, before it makes a database there.
+/// Whether a database file may be what an interrupted making of it leaves: at most a page, which begins with a zero. The library
+/// decides that exactly, from both files, before it makes a database there.
 fn may_be_unfinished<D: Disk>(db: &mut D) -> bool
     requires { IsTrue (D.Disk.is_usable db.old) }
     ensures usable { IsTrue (D.Disk.is_usable db.new) }
 {
+    let mut first = [1u8];
     match db.len() {
-        Ok(1) => true,
-        Ok(length) => length <= MADE_PAGE && header_bytes(db, 0)[0] == 0,
-        Err(_) => false,
+        Ok(length) if length <= MADE_PAGE => match db.read_at(0, &mut first) {
+            Ok(()) => first[0] == 0,
+            Err(_) => false,
+        },
+        _ => false,
     }
 }
 
