@@ -5,7 +5,7 @@ use Rattle.sqlite_trees.specs.Tree.{Trees}
 use Rattle.sqlite_trees.specs.View.{View}
 use Rattle.osm_rows.specs.declared.schema.layout.Layout.TheVariants.{Tables}
 use Rattle.osm_rows.specs.Rows.{version_row}
-use Rattle.osm_added_indexes.specs.Added.{AreKept, plain_indexes}
+use Rattle.osm_tree_writes.specs.Added.{AreKept, plain_indexes}
 use Rattle.osm_tree_writes.specs.Tables.{table_listings}
 use Rattle.osm_tree_audits.specs.Indexes.{AreWhole}
 use Rattle.osm_openings.specs.Asked.{ListsAsAsked}

@@ -17,11 +17,10 @@ ghost use Rattle.osm_databases.specs.Checked.{HasWholeAdded, IsOfVersion};
 ghost use Rattle.osm_databases.specs.Found.{ListOnlyAStore};
 
 use crate::reason::{Reason, Refusal};
-use osm_added_indexes::plain_indexes;
 use osm_rows::StoreFault;
 use osm_sql_store::{BodyStore, TableStore};
 use osm_tree_audits::{Look, Looked, faulty_added_index, look_at_indexes};
-use osm_tree_writes::takes_blobs;
+use osm_tree_writes::{plain_indexes, takes_blobs};
 use osm_trees::{CheckedStore, TreeStore};
 use sqlite::{Alter, Connection};
 use sqlite_schema::schema::Index;
@@ -73,7 +72,7 @@ pub fn made_where_none<S: Alter + Drop>(
 }
 
 /// The trees, if a put can keep all that the database has: each index that somebody has added to a table of the store is one
-/// of columns of the table of elements, of tags or of links (`osm_added_indexes::plain_index`), and no trigger is on one of
+/// of columns of the table of elements, of tags or of links (`osm_tree_writes::plain_index`), and no trigger is on one of
 /// these tables. Where there is another index they are dropped, and SQL writes it. All else is left as it is. A fault is
 /// `Memory`.
 pub fn taking_blobs<S: Alter + Drop>(alloc: Global, trees: S) -> Result<Option<S>, Refusal>

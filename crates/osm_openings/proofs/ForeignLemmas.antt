@@ -10,7 +10,7 @@ use Rattle.sqlite_trees.specs.Sound.{is_text_only}
 use Rattle.sqlite_schema.specs.declared.schema.Index.{Index as Added}
 use Rattle.sqlite_store.specs.declared.catalog.Wanted.{Wanted}
 use Rattle.sqlite_store.specs.Catalog.{is_present, same_value, describes, is_about}
-use Rattle.osm_added_indexes.specs.Added.{plain_index}
+use Rattle.osm_tree_writes.specs.Added.{plain_index}
 use Rattle.osm_openings.specs.Catalog.{numbered}
 use Rattle.osm_openings.specs.Presumed.{foreign_tree, foreign_trees, tree_shape}
 use Rattle.osm_openings.proofs.PlaceLemmas.{same_itself}

@@ -5,7 +5,7 @@ use Rattle.std.specs.Str.{is_utf8}
 use Rattle.sqlite_value.specs.Order.{Row, column, bytes}
 use Rattle.sqlite_trees.specs.Sound.{is_word, is_virtual, same_name}
 use Rattle.osm_rows.specs.declared.schema.sql.TheConstants.{CREATE_META, CREATE_BLOB, CREATE_ELEMENT, CREATE_TAG, CREATE_LINK, CREATE_ELEMENT_INDEX}
-use Rattle.osm_added_indexes.specs.Added.{is_of_a_store, is_added_index, binds_a_store, plain_index}
+use Rattle.osm_tree_writes.specs.Added.{is_of_a_store, is_added_index, binds_a_store, plain_index}
 use Rattle.osm_openings.specs.declared.obstacles.Obstacle.{Obstacle}
 use Rattle.osm_openings.specs.declared.obstacles.Obstruction.{Obstruction}
 use Rattle.osm_openings.specs.declared.obstacles.Obstacle.TheVariants.{Stranger, FirstLayout, Trigger, VirtualTable, ChangedTable, ChangedIndex, TwoNames, OtherText, UnkeptIndex}

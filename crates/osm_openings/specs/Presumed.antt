@@ -22,7 +22,7 @@ use Rattle.sqlite_store.specs.Listing.{file_trees}
 use Rattle.sqlite_store.specs.Roots.{has_index_root}
 use Rattle.sqlite_store.specs.Unopened.{state_of, image, wanted_by}
 use Rattle.sqlite_schema.specs.declared.schema.Index.{Index as Added}
-use Rattle.osm_added_indexes.specs.Added.{plain_index}
+use Rattle.osm_tree_writes.specs.Added.{plain_index}
 use Rattle.osm_index_orders.specs.Orders.{index_order}
 use Rattle.osm_openings.specs.Catalog.{numbered, others, listings, AreListed, StandApart, AreInOrder}
 use Rattle.osm_tree_writes.specs.Tables.{table_listings}

@@ -8,13 +8,13 @@ ghost use Rattle.sqlite_value.specs.Value.{owned};
 ghost use Rattle.sqlite_trees.specs.Sound.{same_name as spec_same_name};
 ghost use Rattle.sqlite_value.specs.Order.{column, bytes};
 ghost use Rattle.sqlite_store.specs.Catalog.{is_present, describes, text_or_null, wanted_of};
-ghost use Rattle.osm_added_indexes.specs.Added.{plain_index};
+ghost use Rattle.osm_tree_writes.specs.Added.{plain_index};
 ghost use Rattle.osm_index_orders.specs.Orders.{index_order};
 ghost use Rattle.osm_openings.specs.Catalog.{is_own, is_left_out, is_free, others, numbered, AreListed, StandApart, AreInOrder};
 ghost use Rattle.osm_openings.specs.Presumed.{foreign_shape, foreign_tree, told_roots, tree_shape, trees_of};
 
-use osm_added_indexes::plain_index;
 use osm_index_orders::index_order;
+use osm_tree_writes::plain_index;
 use sqlite_trees::schema::Object;
 use sqlite_trees::sound::{are_in_order, bytes_of, is_text_only, is_virtual, is_word, same_name};
 use sqlite_trees::store::Shape;

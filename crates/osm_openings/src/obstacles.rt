@@ -8,10 +8,10 @@ ghost use Rattle.osm_openings.specs.Obstacles as spec;
 
 use crate::catalog::is_left_out;
 use crate::opening::page_size;
-use osm_added_indexes::{binds_a_store, is_added_index, is_of_a_store, plain_index};
 use osm_rows::{
     CREATE_BLOB, CREATE_ELEMENT, CREATE_ELEMENT_INDEX, CREATE_LINK, CREATE_META, CREATE_TAG,
 };
+use osm_tree_writes::{binds_a_store, is_added_index, is_of_a_store, plain_index};
 use sqlite_disk::{Disk, Files};
 use sqlite_pager::{Options, Pager};
 use sqlite_store::{OpenError, Unopened};

@@ -8,3 +8,5 @@ pub mod FlagLemmas
 pub mod OpeningLemmas
 pub mod ExportingLemmas
 pub mod ShelfLemmas
+pub mod Emptiness
+pub mod TurnLemmas

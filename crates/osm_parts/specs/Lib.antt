@@ -8,3 +8,4 @@ pub mod Runs
 pub mod Reading
 pub mod PartsFaults
 pub mod Shelves
+pub mod Turns

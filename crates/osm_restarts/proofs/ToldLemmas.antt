@@ -25,7 +25,7 @@ use Rattle.sqlite_store.specs.Db.{IsKept, AreTrees, slot_shape, slot_root}
 use Rattle.sqlite_store.specs.Listing.{listed_from}
 use Rattle.sqlite_store.specs.Roots.{is_index_page}
 use Rattle.sqlite_store.proofs.RootLemmas.{table_root, index_root}
-use Rattle.osm_added_indexes.specs.Added.{plain_index}
+use Rattle.osm_tree_writes.specs.Added.{plain_index}
 use Rattle.osm_openings.specs.Asked.{entry_of, IsAsAsked, ListsAsAsked}
 use Rattle.osm_openings.specs.Catalog.{is_own, numbered, listings, AreListed}
 use Rattle.osm_index_orders.specs.Orders.{index_order}

@@ -1,3 +1,5 @@
+pub mod Listed
+pub mod Telling
 pub mod Places
 pub mod AppendLemmas
 pub mod RowKeys

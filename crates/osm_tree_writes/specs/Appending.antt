@@ -11,7 +11,7 @@ use Rattle.sqlite_trees.specs.Tree.{Trees, rowid, IsAscending, insert_entry, wit
 use Rattle.sqlite_trees.specs.View.{View}
 use Rattle.sqlite_sql.specs.Catalog.{entry_of, IsIndexOf}
 use Rattle.sqlite_schema.specs.declared.schema.Index.{Index as AddedIndex}
-use Rattle.osm_added_indexes.specs.Added.{AreKept, plain_indexes}
+use Rattle.osm_tree_writes.specs.Added.{AreKept, plain_indexes}
 use Rattle.osm_tree_writes.specs.declared.layout.IndexTree.{IndexTree}
 use Rattle.osm_tree_writes.specs.declared.layout.TableTree.{TableTree}
 use Rattle.osm_tree_writes.specs.declared.layout.TheConstants.{ELEMENTS, TAGS, LINKS}

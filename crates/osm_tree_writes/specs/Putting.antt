@@ -18,7 +18,7 @@ use Rattle.osm_rows.specs.Keeping.{extents_of}
 use Rattle.osm_rows.specs.LayoutHolding.{HoldElements}
 use Rattle.osm_rows.specs.Rows.{Placed, extent_row, placed_in, version_row}
 use Rattle.osm_rows.specs.Put.Gains.{GainsElements}
-use Rattle.osm_added_indexes.specs.Added.{plain_indexes}
+use Rattle.osm_tree_writes.specs.Added.{plain_indexes}
 use Rattle.osm_tree_writes.specs.Appending.{IsNoIndex, KeepIndexed}
 use Rattle.osm_tree_writes.specs.Beside.{HasAStore}
 

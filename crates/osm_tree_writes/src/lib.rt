@@ -1,6 +1,7 @@
 //! A blob put into the trees of a store that keeps elements in tables, with no word of SQL.
 #![tactic(auto)]
 
+mod added;
 mod append;
 mod fault;
 mod free;
@@ -10,5 +11,6 @@ mod put;
 mod rowid;
 pub mod trees;
 
+pub use added::{binds_a_store, is_added_index, is_of_a_store, plain_index, plain_indexes};
 pub use fault::fault_of;
 pub use put::{put_blob, takes_blobs};

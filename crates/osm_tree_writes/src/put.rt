@@ -9,17 +9,17 @@ ghost use Rattle.sqlite_trees.specs.View.{doubt, IsClean, SetsTree};
 ghost use Rattle.osm_value.specs.Elements.{IsElement};
 ghost use Rattle.osm_rows.specs.Keeping.{IsForeign};
 ghost use Rattle.osm_rows.specs.Rows.{placed, extent_row};
-ghost use Rattle.osm_added_indexes.specs.Added.{AreKept, plain_indexes};
+ghost use Rattle.osm_tree_writes.specs.Added.{AreKept, plain_indexes};
 ghost use Rattle.osm_tree_writes.specs.Appending.{AreBehind, AreIndexesAt, IsStoreAt, RiseFrom, TakeBlobs};
 ghost use Rattle.osm_tree_writes.specs.Harmless.{IsHarmless};
 ghost use Rattle.osm_tree_writes.specs.Putting.{PutsBelow, Writes, WritesElements};
 
+use crate::added::plain_indexes;
 use crate::append::{append_rows, put_table_row};
 use crate::fault::fault_of;
 use crate::free::are_places_free;
 use crate::layout::{ELEMENTS, LINKS, TAGS, has_more, has_table};
 use crate::trees::BLOBS;
-use osm_added_indexes::plain_indexes;
 use osm_rows::{Extent, StoreFault, blob_code, element_rows, link_rows, tag_rows};
 use osm_value::Element;
 use osm_value::laws::elements_in_range;
@@ -62,7 +62,7 @@ fn indexes_to_keep<S: Alter>(alloc: Global, store: &S) -> Result<Option<Vec<Inde
 }
 
 /// Whether a put can write to these trees: they have the tables of a store and their indexes, each index that somebody has
-/// added to these tables is one that a put keeps (`osm_added_indexes::plain_index`), and no trigger is on one of them. Views,
+/// added to these tables is one that a put keeps (`plain_index`), and no trigger is on one of them. Views,
 /// tables of other names with their indexes, and triggers on those may stand beside them.
 pub fn takes_blobs<S: Alter>(alloc: Global, store: &S) -> Result<bool, AllocError>
     ensures store { IfOk result (λ takes. IsTrue takes → IsStoreAt (S.Store.view store.now).shape) }

@@ -8,7 +8,7 @@ use Rattle.osm_rows.specs.declared.fault.StoreFault.{StoreFault}
 use Rattle.osm_rows.specs.declared.schema.layout.Layout.TheVariants.{Tables}
 use Rattle.osm_rows.specs.Held.{Blob}
 use Rattle.osm_rows.specs.Keeping.{Adds}
-use Rattle.osm_added_indexes.specs.Added.{plain_indexes}
+use Rattle.osm_tree_writes.specs.Added.{plain_indexes}
 use Rattle.osm_tree_writes.specs.Appending.{KeepIndexed}
 use Rattle.osm_trees.specs.Below.{HoldsBelow, IsUsable, MayLeave, LeavesAMap, SameTrees, ListsAlways}
 use Rattle.osm_trees.specs.Reading.{Reading}

@@ -1,5 +1,6 @@
-//! The line of a fault of the store, and the last line of an import.
+//! The line of a fault of the store, how a command ends with it, and the last line of an import.
 
+ghost use Rattle.std.specs.Prelude.{◌≡◌};
 ghost use Rattle.osm_value.specs.Printing.{Prints};
 ghost use Rattle.pbfrow_commands.specs.CommandLines.{store_fault_line, summary_line};
 
@@ -13,6 +14,15 @@ pub fn put_store_fault<S: Sink>(out: &mut S, fault: StoreFault)
     ensures { Prints S.Sink out.old out.new (store_fault_line fault) }
 {
     put_plain_fault(out, fault.number(), fault.name());
+}
+
+/// Writes the line of a fault of a database, and answers the exit status, 1.
+pub fn refuse_store<S: Sink>(out: &mut S, fault: StoreFault) -> u8
+    ensures line { Prints S.Sink out.old out.new (store_fault_line fault) }
+    ensures status { result ≡ 1 }
+{
+    put_store_fault(out, fault);
+    1
 }
 
 /// Writes `blobs stored STORED held HELD bad BAD refused REFUSED`.

@@ -7,9 +7,9 @@ use crate::copying::copy;
 use crate::database::{Part, Query, ask, fill};
 use crate::merging::merge;
 use crate::parts::ask_parts;
+use crate::starting::{depth_of, start_of, told_of};
 use crate::verifying::compare_all;
 use osm_databases::databases::{CheckedDatabases, Databases};
-use pbfrow_answers::starting::{depth_of, start_of, told_of};
 use pbfrow_terminal::reading::{cut_file, read_file};
 use pbfrow_words::Words;
 

@@ -10,9 +10,9 @@ ghost use Rattle.pbfrow_commands.specs.Copying.{CopiesStore, copy_status, outcom
 use osm_databases::databases::{Databases, close, opened_or_made, source_of_blocks};
 use osm_rows::{Keeper, Reader};
 use osm_value::{Outlet, Sink};
-use pbfrow_answers::ending::refuse;
 use pbfrow_commands::metered::MeteredStore;
 use pbfrow_commands::migrate::migrate;
+use pbfrow_commands::report::refuse_store;
 use pbfrow_reading::metered::MeteredOutput;
 use pbfrow_terminal::meter::Meter;
 use std::alloc::Global;
@@ -54,7 +54,7 @@ fn copy_into<D: Databases, F: Reader + Drop, W: Write>(
 {
     let mut store = match opened_or_made(rt, files, database) {
         Ok(store) => store,
-        Err(fault) => return refuse(out, fault),
+        Err(fault) => return refuse_store(out, fault),
     };
     let (_from, status) = copied(rt.alloc(), from, &mut store, meter, out);
     close(files, store);
@@ -80,7 +80,7 @@ pub(crate) fn copy<A: Databases, D: Databases>(
     });
     let status = match source_of_blocks(rt, asked, old) {
         Ok(store) => copy_into(rt, filled, store, new, &meter, &mut out),
-        Err(fault) => refuse(&mut out, fault),
+        Err(fault) => refuse_store(&mut out, fault),
     };
     meter.erase();
     status

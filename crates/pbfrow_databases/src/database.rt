@@ -22,17 +22,17 @@ ghost use Rattle.pbfrow_commands.specs.Finding.{TellsMatches};
 ghost use Rattle.pbfrow_commands.specs.Importing.{HoldsFile, HoldsRange, ImportsAll, ImportsRange};
 ghost use Rattle.pbfrow_commands.specs.Status.{TellsStatus};
 
+use crate::questions::{ask_one, goes_by_blobs};
+use crate::starting::most_bytes;
 use osm_databases::databases::{Databases, close, opened, opened_or_made};
 use osm_import::{Inlet, Stop, Teller, Told};
 use osm_rows::{Keeper, Reader};
 use osm_value::{MemberKind, Outlet, Sink};
 use pbf_frame::MAX_OFFSET;
-use pbfrow_answers::ending::refuse;
-use pbfrow_answers::questions::{ask_one, goes_by_blobs};
-use pbfrow_answers::starting::most_bytes;
 use pbfrow_commands::find::find;
 use pbfrow_commands::import::{Start, import, import_to, seek_start};
 use pbfrow_commands::metered::{MeteredStore, MeteredTeller};
+use pbfrow_commands::report::refuse_store;
 use pbfrow_reading::metered::{MeteredOutput, MeteredReader};
 use pbfrow_reading::report::{put_fault_at, refuse_memory};
 use pbfrow_terminal::ending::{FAULTY, end};
@@ -111,7 +111,7 @@ fn fill_from<D: Databases, R: Read + Drop, T: Teller, W: Write>(
 {
     let mut store = match opened_or_made(rt, files, database) {
         Ok(store) => store,
-        Err(fault) => return refuse(out, fault),
+        Err(fault) => return refuse_store(out, fault),
     };
     let status = imported(
         rt.alloc(),
@@ -220,7 +220,7 @@ pub(crate) fn ask<D: Databases>(rt: &HostRuntime, files: &D, database: &str, que
             };
             answer_query(rt.alloc(), &mut store, query, &mut out)
         }
-        Err(fault) => refuse(&mut out, fault),
+        Err(fault) => refuse_store(&mut out, fault),
     };
     end(&mut out, &meter, status)
 }

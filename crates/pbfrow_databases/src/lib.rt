@@ -6,5 +6,8 @@ pub mod commands;
 mod copying;
 mod database;
 mod merging;
+pub mod named;
 mod parts;
+pub mod questions;
+pub mod starting;
 mod verifying;

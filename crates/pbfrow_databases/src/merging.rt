@@ -6,14 +6,14 @@ ghost use Rattle.osm_rows.specs.Held.{HeldMap};
 ghost use Rattle.osm_import.specs.Stores.{HoldsStill, Keeps};
 ghost use Rattle.osm_databases.specs.Found.{AreFound};
 
+use crate::named::merge_named;
 use osm_databases::databases::{Databases, close, opened, opened_or_made};
+use osm_parts::{InTurn, OpensNamed};
 use osm_rows::{Keeper, StoreFault};
 use osm_trees::TreeStore;
 use osm_value::Outlet;
-use pbfrow_answers::ending::refuse;
-use pbfrow_answers::named::merge_named;
-use pbfrow_answers::turns::{InTurn, OpensNamed};
 use pbfrow_commands::metered::MeteredStore;
+use pbfrow_commands::report::refuse_store;
 use pbfrow_reading::metered::MeteredOutput;
 use pbfrow_terminal::meter::Meter;
 use std::io;
@@ -80,7 +80,7 @@ pub(crate) fn merge<A: Databases, D: Databases>(
     });
     let mut store = match opened_or_made(rt, filled, into) {
         Ok(store) => store,
-        Err(fault) => return refuse(&mut out, fault),
+        Err(fault) => return refuse_store(&mut out, fault),
     };
     let status = merge_from(rt, asked, from, &mut store, &meter, &mut out);
     close(filled, store);

@@ -3,13 +3,13 @@
 ghost use Rattle.std.specs.Prelude.{◌≤◌};
 ghost use Rattle.osm_databases.specs.Found.{AreFound};
 
+use crate::named::ask_named;
+use crate::questions::goes_by_blobs;
 use osm_databases::databases::{Databases, opened};
+use osm_parts::{InTurn, OpensNamed};
 use osm_rows::StoreFault;
 use osm_trees::TreeStore;
 use osm_value::Sink;
-use pbfrow_answers::named::ask_named;
-use pbfrow_answers::questions::goes_by_blobs;
-use pbfrow_answers::turns::{InTurn, OpensNamed};
 use pbfrow_commands::metered::MeteredStore;
 use pbfrow_terminal::ending::end;
 use pbfrow_terminal::meter::Meter;

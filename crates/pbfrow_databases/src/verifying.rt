@@ -8,16 +8,16 @@ ghost use Rattle.osm_verify.specs.Laws.{IsExact};
 ghost use Rattle.osm_databases.specs.Found.{AreReadFrom};
 ghost use Rattle.pbfrow_commands.specs.Verifying.{ShowsFile, VerifiesInput};
 
+use crate::named::verify_named;
 use osm_databases::databases::{CheckedDatabases, opened_checked};
+use osm_parts::{InTurn, OpensNamed};
 use osm_rows::{Audited, StoreFault};
 use osm_tree_audits::{Stray, stray_row};
 use osm_trees::CheckedStore;
 use osm_value::Outlet;
 use osm_verify::Depth;
-use pbfrow_answers::ending::refuse;
-use pbfrow_answers::named::verify_named;
-use pbfrow_answers::turns::{InTurn, OpensNamed};
 use pbfrow_commands::metered::MeteredFile;
+use pbfrow_commands::report::refuse_store;
 use pbfrow_commands::verify::verify;
 use pbfrow_reading::input::refuse_input;
 use pbfrow_reading::metered::MeteredReader;
@@ -83,7 +83,7 @@ fn compare_in<D: CheckedDatabases, R: Read + Drop, W: Write>(
 {
     let store = match opened_checked(rt, files, database) {
         Ok(store) => store,
-        Err(fault) => return refuse(out, fault),
+        Err(fault) => return refuse_store(out, fault),
     };
     let (store, status) = compared(rt.alloc(), store, reader, depth, meter, out);
     let mut trees = store.into_store();

@@ -3,13 +3,13 @@
 use super::parts::part_of;
 use super::stores::{Columns, NewStore};
 use super::support::{Closed, TWO_NODES};
+use osm_parts::{InTurn, OpensNamed};
 use osm_rows::StoreFault;
 use osm_value::{Form, Outlet, Sink};
-use pbfrow_answers::ending::refuse;
-use pbfrow_answers::named::{ask_named, merge_named};
-use pbfrow_answers::questions::goes_by_blobs;
-use pbfrow_answers::starting::{most_bytes, start_of};
-use pbfrow_answers::turns::{InTurn, OpensNamed};
+use pbfrow_commands::report::refuse_store;
+use pbfrow_databases::named::{ask_named, merge_named};
+use pbfrow_databases::questions::goes_by_blobs;
+use pbfrow_databases::starting::{most_bytes, start_of};
 use pbfrow_terminal::ending::{FAULTY, end};
 use pbfrow_terminal::meter::Meter;
 use pbfrow_terminal::output::standard_output;
@@ -150,7 +150,7 @@ fn the_status_is_that_of_the_command_and_its_output(rt: HostRuntime) -> Result<(
     meter.erase();
     let held = BufWriter::new(rt.alloc(), Vec::new(rt.alloc())).map_err(|_| "a buffer")?;
     let mut out = Outlet::new(held);
-    assert_eq!(rt; refuse(&mut out, StoreFault::Disk), FAULTY);
+    assert_eq!(rt; refuse_store(&mut out, StoreFault::Disk), FAULTY);
     assert_eq!(rt; end(&mut out, &meter, 0), 0);
     assert_eq!(rt; end(&mut out, &meter, FAULTY), FAULTY);
     let written = out.into_inner();
@@ -158,7 +158,7 @@ fn the_status_is_that_of_the_command_and_its_output(rt: HostRuntime) -> Result<(
     // what a buffer holds back can't be written
     let closed = BufWriter::new(rt.alloc(), Closed).map_err(|_| "a buffer")?;
     let mut out = Outlet::new(closed);
-    assert_eq!(rt; refuse(&mut out, StoreFault::Disk), FAULTY);
+    assert_eq!(rt; refuse_store(&mut out, StoreFault::Disk), FAULTY);
     assert_eq!(rt; end(&mut out, &meter, 0), FAULTY);
     let sound = match standard_output(&rt, &meter, None) {
         Ok(out) => !out.failed(),

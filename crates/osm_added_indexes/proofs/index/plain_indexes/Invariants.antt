@@ -1,9 +1,0 @@
-use Rattle.std.proofs.Common.{◌≡◌, ◌++◌, drop}
-use Rattle.std.specs.List.{list_any}
-use Rattle.osm_added_indexes.specs.Added.{is_refused, plain_indexes}
-use Rattle.osm_added_indexes.proofs.index.plain_indexes.Given as goal
-
-abbrev pub invariant-loop-row : goal.invariant-loop-row
-invariant-loop-row l =
-    (l.indexes.items ++ plain_indexes (drop l.row-index l.rows) ≡ plain_indexes l.rows)
-    × (list_any is_refused (drop l.row-index l.rows) ≡ list_any is_refused l.rows)

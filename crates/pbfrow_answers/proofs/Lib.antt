@@ -1,2 +1,0 @@
-pub mod Emptiness
-pub mod TurnLemmas

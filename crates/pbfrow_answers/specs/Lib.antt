@@ -1,3 +1,0 @@
-pub mod Questions
-pub mod Starting
-pub mod Turns
