@@ -1,6 +1,7 @@
 #!/usr/bin/env python3
-"""What a restart saves: interrupted.py PBFROW FILE [ROUNDS], in a folder with room for the databases, and with the program
-store_tables of bench/peers if it is compiled there. Each importer stores the file once, undisturbed; then a new import is killed
+"""What a restart saves: interrupted.py PBFROW FILE [ROUNDS [OSM2PGSQL..]], in a folder with room for the databases, and with the
+program store_tables of bench/peers if it is compiled there. OSM2PGSQL are the words of an import by osm2pgsql into a PostgreSQL
+that runs (bench/postgres.sh), if that is to be measured. Each importer stores the file once, undisturbed; then a new import is killed
 (`kill -9`) at half of that time and done again, as its manual says: pbfrow's by the same command, the others' from nothing, since
 they have no other way. All do so in turn, in five rounds unless ROUNDS says how many. Prints a table: the seconds of the
 undisturbed import, those of the import behind the kill, by how much that is less than the whole, and how many bytes the kill left
@@ -18,13 +19,15 @@ import time
 Importer = tuple[str, list[str], str, bool]
 
 
-def importers(pbfrow: str, file: str) -> list[Importer]:
-    return [
+def importers(pbfrow: str, file: str, osm2pgsql: list[str]) -> list[Importer]:
+    into_files = [
         ("`pbfrow import`", [pbfrow, "import", file, "kept.db"], "kept.db*", True),
         ("C++ over stock SQLite, WAL, FULL", ["./store_tables", file, "kept.db"], "kept.db*", False),
         ("`spatialite_osm_raw`", ["spatialite_osm_raw", "-o", file, "-d", "kept.db"], "kept.db*", False),
         ("`ogr2ogr -f SQLite`", ["ogr2ogr", "-f", "SQLite", "kept.db", file], "kept.db*", False),
     ]
+    # this one begins by removing the tables that it makes
+    return into_files + ([("`osm2pgsql`", osm2pgsql, "", False)] if osm2pgsql else [])
 
 
 def remove(made: str) -> None:
@@ -77,7 +80,7 @@ def main() -> None:
     pbfrow, file = sys.argv[1:3]
     rounds = int(sys.argv[3]) if len(sys.argv) > 3 else 5
     there = []
-    for importer in importers(pbfrow, file):
+    for importer in importers(pbfrow, file, sys.argv[4:]):
         if shutil.which(importer[1][0]):
             there.append(importer)
         else:
