@@ -1,12 +1,12 @@
-# make: proves and builds the program. make test: all that CI runs. make quick: what one runs while working.
-# make gate-time: what the last run of the gate here took, by crate, and what passes the budget. make e2e: the built program
-# on files. make edits: says which goal refuses each must-fail edit. make refused-growths: public calls with each growth of
-# memory refused in turn. make bench: measures the program, and draws the tables as bars (out/bars-*.svg). make install: the
-# built program, its manual page, documents and completions under PREFIX, and the library where that is built; make uninstall
-# takes them back. make library: proves and builds the library for C and C++, in out/library. make python: a wheel around that
-# library, in out/dist. make bench-python: measures it. make dist: packages of the built program, with the library where that is
-# built, in out/dist.
-.PHONY: all test gate gate-time quick e2e edits refused-growths bench built library python bench-python install install-library uninstall dist clean
+# make: proves and builds the program. make test: all that CI runs. make quick: what one runs while working. make gate-time:
+# what the last run of the gate here took, by crate, and what passes the budget. make e2e: the built program on files. make
+# edits: says which goal refuses each must-fail edit; make edits-sample: of a random tenth. make refused-growths: public calls
+# with each growth of memory refused in turn. make bench: measures the program, and draws the tables as bars (out/bars-*.svg).
+# make install: the built program, its manual page, documents and completions under PREFIX, and the library where that is built;
+# make uninstall takes them back. make library: proves and builds the library for C and C++, in out/library. make python: a
+# wheel around that library, in out/dist. make bench-python: measures it. make dist: packages of the built program, with the
+# library where that is built, in out/dist.
+.PHONY: all test gate gate-time quick e2e edits edits-sample refused-growths bench built library python bench-python install install-library uninstall dist clean
 
 PREFIX ?= /usr/local
 bindir ?= $(PREFIX)/bin
@@ -42,6 +42,9 @@ e2e: all
 
 edits:
 	edits/single
+
+edits-sample:
+	edits/single $$(edits/sample)
 
 refused-growths:
 	e2e/calls/run
