@@ -1,18 +1,26 @@
 #!/usr/bin/env python3
-"""threads_pbfrow.py FILE RUNS: how long it takes to decode a file that is in memory, by one, two and four threads of one process, and
-by so many processes, which share nothing: the best of so many runs, all of them in turn. Each block is dropped once it is decoded."""
+"""threads_pbfrow.py FILE RUNS: how long it takes to decode a file that is in memory, by one, two and four threads of one process, by
+so many processes, which share nothing, and as `blocks` decodes it ahead for a loop that has each block in turn: the best of so many
+runs, all of them in turn. Each thread or process has each second or fourth blob; each block is dropped once it is decoded."""
 import os
 import sys
 import time
-from concurrent.futures import ThreadPoolExecutor
+from threading import Thread
 
 import pbfrow
 
 
+def decode_all(file, blobs):
+    for blob in blobs:
+        file.decode(blob)
+
+
 def by_threads(file, blobs, count):
-    with ThreadPoolExecutor(count) as pool:
-        for _ in pool.map(lambda blob: len(file.decode(blob)), blobs):
-            pass
+    threads = [Thread(target=decode_all, args=(file, blobs[number::count])) for number in range(count)]
+    for thread in threads:
+        thread.start()
+    for thread in threads:
+        thread.join()
 
 
 def by_processes(file, blobs, count):
@@ -20,12 +28,19 @@ def by_processes(file, blobs, count):
     for number in range(count):
         child = os.fork()
         if child == 0:
-            for blob in blobs[number::count]:
-                file.decode(blob)
+            decode_all(file, blobs[number::count])
             os._exit(0)
         children.append(child)
     for child in children:
         os.waitpid(child, 0)
+
+
+def by_blocks(file, blobs, count):
+    for _ in file.blocks(count):
+        pass
+
+
+NAMES = {by_threads: "threads", by_processes: "processes", by_blocks: "blocks in turn, threads"}
 
 
 def took(call, *words):
@@ -36,7 +51,7 @@ def took(call, *words):
 
 def main():
     path, runs = sys.argv[1], int(sys.argv[2])
-    ways = [(call, count) for call in (by_threads, by_processes) for count in (1, 2, 4)]
+    ways = [(call, count) for call in NAMES for count in (1, 2, 4)]
     best = {}
     with pbfrow.open(path) as file:
         blobs = list(file.blobs())
@@ -47,8 +62,7 @@ def main():
     print(f"\ndecoding alone, {os.path.getsize(path)} bytes in memory, without the start of Python\n\n| By | wall s | processor s | times one |\n|---|---|---|---|")
     for call, count in ways:
         wall, used = best[call, count]
-        name = "threads" if call is by_threads else "processes"
-        print(f"| {name}: {count} | {wall:.3f} | {used:.3f} | {best[call, 1][0] / wall:.1f} |")
+        print(f"| {NAMES[call]}: {count} | {wall:.3f} | {used:.3f} | {best[call, 1][0] / wall:.1f} |")
 
 
 main()
