@@ -101,3 +101,8 @@ built() {
 there() {
   command -v "$1" >/dev/null || { echo "not measured: $1 isn't installed" >&2; return 1; }
 }
+
+# instructions_of COMMAND..: how many instructions it takes, by valgrind.
+instructions_of() {
+  valgrind --tool=callgrind --callgrind-out-file=/dev/null "$@" 2>&1 > got.txt < /dev/null | awk '/Collected/ { print $NF }'
+}
