@@ -1,5 +1,5 @@
 -- What `status --counts` tells.
-use Rattle.std.proofs.Common.{◌≡◌, ℕ, Bool, List, ◌++◌, Option, refl, sym, ap, ◌∙◌, inr}
+use Rattle.std.proofs.Common.{◌≡◌, ℕ, Bool, List, ◌++◌, Option, sym, ap, ◌∙◌}
 use Rattle.std.specs.Prelude.{length, codes}
 use Rattle.osm_value.specs.Sink.{Wrote}
 use Rattle.osm_rows.specs.Held.{HeldMap}
@@ -10,8 +10,9 @@ use Rattle.pbfrow_counts.specs.Lines.{element_counts_lines}
 use Rattle.pbfrow_counts.specs.declared.fault.CountFault.{CountFault}
 use Rattle.pbfrow_counts.specs.declared.fault.CountFault.TheVariants.{Miscounted, Store}
 use Rattle.pbfrow_commands.specs.CommandLines.{counts_line, gap_lines}
-use Rattle.pbfrow_commands.specs.Counting.{IsCensus, TellsCounts, census_text, count_fault_line}
-use Rattle.pbfrow_commands.specs.Status.{status_text}
+use Rattle.pbfrow_commands.specs.Counting.{IsCensus, census_text, count_fault_line}
+use Rattle.pbfrow_commands.specs.Status.{TellsFault, status_text}
+use Rattle.pbfrow_commands.specs.Telling.{Telling}
 use Rattle.pbfrow_commands.specs.declared.counts.Census.{Census}
 use Rattle.pbfrow_commands.proofs.StatusLemmas.{status-line}
 
@@ -27,7 +28,6 @@ census-line held size c gaps count start middle written before failed census are
     more (status_text held c.holdings.gaps.items) (status-line held size c.holdings gaps count start middle before census.survey are many wrote)
 
 -- the line of a fault over a held map, since the calls began
-pub count-fault : (held : HeldMap) (size : Option ℕ) (first now : ℕ) (old new : Known) (failed : Bool) (fault : CountFault) → IsOfMap fault → CountHasCause first now fault → Wrote old (count_fault_line fault) new failed
-    → TellsCounts held size first now old new failed 1
-count-fault held size first now old new failed (Store fault) own cause line = inr (record { fault = fault; cause = cause; own = own; line = line; one = refl })
-count-fault held size first now old new failed (Miscounted off) own cause line = absurd own
+pub count-fault : (t : Telling) (fault : CountFault) → IsOfMap fault → CountHasCause t.failures_before t.failures_now fault → Wrote t.before (count_fault_line fault) t.after t.has_failed → t.status ≡ 1 → TellsFault t
+count-fault t (Store fault) own cause line one = record { fault = fault; cause = cause; own = own; line = line; one = one }
+count-fault t (Miscounted off) own cause line one = absurd own

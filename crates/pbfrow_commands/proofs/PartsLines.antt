@@ -1,23 +1,16 @@
 -- What the commands on several stores tell.
-use Rattle.std.proofs.Common.{◌≡◌, ℕ, Bool, List, refl, sym, ◌∙◌, ap, inl}
+use Rattle.std.proofs.Common.{◌≡◌, ℕ, List, sym, ◌∙◌, ap}
 use Rattle.std.specs.Prelude.{codes}
-use Rattle.osm_value.specs.Sink.{Wrote}
 use Rattle.osm_rows.specs.Held.{HeldMap}
-use Rattle.osm_reading.specs.Framings.{Known}
 use Rattle.osm_import.specs.Faults.{conflict_number_of, conflict_name_of}
 use Rattle.osm_reading.specs.Lines.{fault_line}
 use Rattle.osm_import.specs.declared.answer.Conflict.{Conflict}
 use Rattle.osm_parts.specs.Opening.{KeepsMaps}
-use Rattle.osm_parts.specs.PartsFaults.{IsOfMaps, PartsFaultHasCause}
 use Rattle.osm_parts.specs.declared.fault.PartsFault.{PartsFault}
 use Rattle.osm_parts.specs.declared.fault.PartsFault.TheVariants.{Interleaved, Refused}
-use Rattle.pbfrow_commands.specs.InParts.{parts_fault_line, TellsParts}
+use Rattle.pbfrow_commands.specs.InParts.{parts_fault_line}
 
 -- ---- what keeps stores from being read as one
-
-pub parts-fault : (TellsWhole : HeldMap → Type 0) (maps : List HeldMap) (before now : ℕ) (old new : Known) (failed : Bool) (fault : PartsFault) → IsOfMaps maps fault → PartsFaultHasCause before now fault → Wrote old (parts_fault_line fault) new failed
-    → TellsParts TellsWhole maps before now old new failed 1
-parts-fault TellsWhole maps before now old new failed fault of_maps cause line = inl (record { fault = fault; of_maps = of_maps; cause = cause; line = line; one = refl })
 
 pub interleaved-line : (fault : PartsFault) (off n : ℕ) (name : List ℕ) → fault ≡ Interleaved off → n ≡ 71 → name ≡ codes "Interleaved" → fault_line n name off ≡ parts_fault_line fault
 interleaved-line fault off n name is number named =

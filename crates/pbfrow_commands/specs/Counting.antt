@@ -1,9 +1,8 @@
 -- What the command `status --counts` writes.
-use Rattle.std.specs.Prelude.{◌⊎◌, ℕ, Bool, List, ◌++◌, Option}
+use Rattle.std.specs.Prelude.{◌⊎◌, ℕ, List, ◌++◌, Option}
 use Rattle.std.specs.FinMap.{entries}
 use Rattle.osm_rows.specs.Held.{HeldMap}
 use Rattle.osm_rows.specs.Keeping.{extents_of}
-use Rattle.osm_reading.specs.Framings.{Known}
 use Rattle.osm_reading.specs.Lines.{fault_line}
 use Rattle.osm_import.specs.Exports.{size_of}
 use Rattle.osm_import.specs.Gaps.{AreGaps}
@@ -14,6 +13,7 @@ use Rattle.pbfrow_counts.specs.declared.elements.ElementCounts.{ElementCounts}
 use Rattle.pbfrow_counts.specs.declared.fault.CountFault.{CountFault}
 use Rattle.pbfrow_counts.specs.declared.fault.CountFault.TheVariants.{Miscounted, Store}
 use Rattle.pbfrow_commands.specs.Status.{IsSurvey, Tells, TellsFault, status_text}
+use Rattle.pbfrow_commands.specs.Telling.{Telling}
 use Rattle.pbfrow_commands.specs.declared.counts.Census.{Census}
 
 -- the line of why elements weren't counted, with the offset of a blob whose elements are others than its row counts
@@ -32,8 +32,8 @@ census_text held gaps counts = status_text held gaps ++ element_counts_lines cou
 
 -- what `status` writes of this map, and the counts of its elements, went out; or the line of a fault of the store, with its
 -- cause
-abbrev pub TellsCounts : HeldMap → Option ℕ → ℕ → ℕ → Known → Known → Bool → ℕ → Type 0
-TellsCounts held size failures_old failures_new old new failed status =
+abbrev pub TellsCounts : Option ℕ → HeldMap → Telling → Type 0
+TellsCounts size held t =
     ((gaps : List (ℕ × ℕ)) × (counts : ElementCounts) × AreGaps held (size_of size (extents_of held)) gaps
-    × AreCounts (elements_of (entries held)) counts × Tells (census_text held gaps counts) old new failed status)
-    ⊎ TellsFault failures_old failures_new old new failed status
+    × AreCounts (elements_of (entries held)) counts × Tells (census_text held gaps counts) t.before t.after t.has_failed t.status)
+    ⊎ TellsFault t

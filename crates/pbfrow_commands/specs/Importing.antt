@@ -90,12 +90,21 @@ abbrev pub IsTold : ℕ → Result Summary ImportStop → Result Summary ImportS
 IsTold to (Ok summary) told = ((summary.next ≡ to) × (told ≡ Ok summary)) ⊎ ((summary.next ≢ to) × EndsBefore to told)
 IsTold to (Err stop) told = (told ≡ Err stop) ⊎ ((ends_input stop.fault ≡ true) × EndsBefore to told)
 
--- the import of the whole input, of which so many bytes are dropped and whose next byte stands at an offset, and the exit
--- status; what is left of the input afterwards is said by nobody
-abbrev pub ImportsAll : ℕ → ℕ → Known → Output → Type 0 → (List DeliveryValue → List Answer → Type 0) → ℕ → Type 0
-ImportsAll dropped at bytes output Same Took status = (outcome : Result Summary ImportStop) × (source : Input) × (listed : Known)
-    × (source.before ≡ bytes) × Imports dropped at source (record output { after = listed }) Same Took outcome
+-- the import of an input, of which so many bytes are dropped and whose next byte stands at an offset, its last line and the
+-- exit status
+abbrev pub ImportsInput : ℕ → ℕ → Input → Output → Type 0 → (List DeliveryValue → List Answer → Type 0) → ℕ → Type 0
+ImportsInput dropped at input output Same Took status = (outcome : Result Summary ImportStop) × (listed : Known)
+    × Imports dropped at input (record output { after = listed }) Same Took outcome
     × EndsLine listed output.after output.has_failed outcome × (status ≡ import_status outcome output.has_failed)
+
+-- the same of an input that has these bytes; what is left of it afterwards is said by nobody
+abbrev pub ImportsAll : ℕ → ℕ → Known → Output → Type 0 → (List DeliveryValue → List Answer → Type 0) → ℕ → Type 0
+ImportsAll dropped at bytes output Same Took status = (source : Input) × (source.before ≡ bytes) × ImportsInput dropped at source output Same Took status
+
+-- the import of what of the input stands before an offset, and what is told of it
+abbrev pub ImportsFront : ℕ → ℕ → ℕ → Known → Output → Type 0 → (List DeliveryValue → List Answer → Type 0) → Result Summary ImportStop → Type 0
+ImportsFront dropped from to bytes output Same Took told = (outcome : Result Summary ImportStop) × (source : Input)
+    × (source.before ≡ front_of (dropped + (to - from)) bytes) × Imports dropped from source output Same Took outcome × IsTold to outcome told
 
 -- the import of what of the input stands before an offset, what is told of it, and the exit status
 abbrev pub ImportsRange : ℕ → ℕ → ℕ → Known → Output → Type 0 → (List DeliveryValue → List Answer → Type 0) → ℕ → Type 0

@@ -7,6 +7,7 @@ pub mod Importing
 pub mod InParts
 pub mod Merging
 pub mod Status
+pub mod Telling
 pub mod Workers
 pub mod Verifying
 pub mod VerifyingParts

@@ -1,7 +1,9 @@
 -- What the command `merge` does: to the store that it fills, from several others, and to its output.
-use Rattle.std.specs.Prelude.{◌≡◌, ◌⊎◌, ℕ, ◌+◌, Bool, List, [], ◌∷◌, ◌++◌, length, sum_by, Some, None, Result, Ok, Err, OnOk, if◌then◌else◌}
+use Rattle.std.specs.Prelude.{◌≡◌, ◌⊎◌, ℕ, ◌+◌, Bool, List, [], ◌∷◌, ◌++◌, length, slice_get, sum_by, Some, None, Result, Ok, Err, OnOk, if◌then◌else◌}
 use Rattle.std.specs.FinMap.{get, entries}
 use Rattle.std.specs.List.{flat_map}
+use Rattle.osm_value.specs.Sink.{Wrote}
+use Rattle.osm_value.specs.declared.sink.Sink.{Ghosts as SinkOf}
 use Rattle.osm_rows.specs.Calls.{OfHeld}
 use Rattle.osm_rows.specs.Held.{Blob, HeldMap}
 use Rattle.osm_rows.specs.Keeping.{IsForeign, KeepsList}
@@ -9,7 +11,7 @@ use Rattle.osm_rows.specs.declared.keeper.Reader.{Ghosts}
 use Rattle.osm_import.specs.Copies.{Copies, Stops, IsUnited, held_among, FaultIsCaused, IsOwnFault}
 use Rattle.osm_import.specs.Merges.{AreUnited, IsFrontUnited}
 use Rattle.osm_import.specs.Step.{HasCause}
-use Rattle.osm_import.specs.Stores.{KeepsHeld}
+use Rattle.osm_import.specs.Stores.{HoldsStill, Keeps, KeepsHeld}
 use Rattle.osm_import.specs.declared.copy.CopyCounts.{CopyCounts}
 use Rattle.osm_import.specs.declared.copy.CopyStop.{CopyStop}
 use Rattle.osm_parts.specs.Parts.{IsInPart}
@@ -112,6 +114,19 @@ IsOwnMerge (Ok total) = Unit {0}
 IsOwnMerge (Err (Unopened fault)) = ¬ (IsForeign fault)
 IsOwnMerge (Err (Stopped stop)) = IsOwnFault stop.fault
 
+-- What the copy of the store at a place came to, which was opened for it and closed again: what the filled one holds, and what a
+-- crash may leave of it. What was held stays, whatever the other holds and gives.
+pub record MergesAt {A B : Type 0} (holds : A → List HeldMap → Type 0) (is_honest : A → Type 0) (to : Ghosts B) (from_old from_new : A) (place : ℕ) (to_old to_new : B) (outcome : Result CopyCounts MergeStop) : Type 0 where
+  -- what it holds of the store's map, and of what it held
+  pub copies : (maps : List HeldMap) (source held : HeldMap) → holds from_old maps → is_honest from_new → slice_get maps place ≡ Some source → to.holds to_old held → to.is_honest to_new → CopiesAt (to.is_open to_new) (to.holds to_new) source held outcome
+  -- a crash leaves what was held with a front of the copy
+  pub crash : (maps : List HeldMap) (source held : HeldMap) → holds from_old maps → is_honest from_new → slice_get maps place ≡ Some source → to.holds to_old held → to.is_honest to_new → (left : HeldMap) → to.leaves to_new left → IsFrontUnited (source ∷ []) held left
+  pub kept : OfHeld to to_old to_new (λ held. KeepsHeld to to_new outcome held)
+  pub whole : OfHeld to to_old to_new (λ _. to.leaves_a_map to_new)
+  pub list : OfHeld to to_old to_new (λ _. KeepsList to.lists to_old to_new)
+  -- no fault says that the tables are another store's
+  pub own : (maps : List HeldMap) (source held : HeldMap) → holds from_old maps → is_honest from_new → slice_get maps place ≡ Some source → to.holds to_old held → to.is_honest to_new → IsOwnMerge outcome
+
 -- What a merge of so many stores came to: what the filled one holds, what a crash may leave of it, and why it ended early, if it
 -- did. A crash leaves what was held with a front of the merge, and after Ok with all of it. What was held stays, whatever the
 -- others hold and give.
@@ -124,3 +139,25 @@ pub record MergesStores {A B : Type 0} (holds : A → List HeldMap → Type 0) (
   pub list : OfHeld to to_old to_new (λ _. KeepsList to.lists to_old to_new)
   pub own : (maps : List HeldMap) (held : HeldMap) → holds from_old maps → is_honest from_new → length maps ≡ count → to.holds to_old held → to.is_honest to_new → IsOwnMerge outcome
   pub cause : MergeHasCause (failures from_old) (failures from_new) (to.failures to_old) (to.failures to_new) outcome
+
+-- What a store held stays whatever came to it, also after a crash. If it has given what was written by now, it had before, and if
+-- it can go on, it could before.
+pub record NeverLoses {S : Type 0} (store : Ghosts S) (old new : S) : Type 0 where
+  -- if it can go on, it holds a map that keeps what it held
+  pub still : OfHeld store old new (λ held. store.is_open new → HoldsStill store new held)
+  -- so does each map that a crash leaves
+  pub left : OfHeld store old new (λ held. (left : HeldMap) → store.leaves new left → Keeps held left)
+  pub honest : store.is_honest new → store.is_honest old
+  pub open_if : store.is_open new → store.is_open old
+
+-- What `merge` did with so many stores, and told: a line for each store that was copied, and behind them that of all together or
+-- that of the fault. The exit status is 0 where all were copied and the output hasn't failed.
+pub record HasMerged {A B C : Type 0} (holds : A → List HeldMap → Type 0) (is_honest : A → Type 0) (failures : A → ℕ) (to : Ghosts B) (sink : SinkOf C) (from_old from_new : A) (count : ℕ) (to_old to_new : B) (out_old out_new : C) (status : ℕ) : Type 0 where
+  -- what was counted of each store that was copied
+  pub counts : List CopyCounts
+  -- what was counted of all together, or where it ended
+  pub outcome : Result CopyCounts MergeStop
+  pub merges : MergesStores holds is_honest failures to from_old from_new count to_old to_new counts outcome
+  pub total : IsTotal counts outcome
+  pub text : Wrote (sink.written out_old) (merge_text counts outcome) (sink.written out_new) (sink.has_failed out_new)
+  pub status_is : status ≡ merge_status outcome (sink.has_failed out_new)

@@ -1,6 +1,6 @@
 -- What the command `verify` prints: a line for each bad blob and each that isn't held alike, one for each extra extent, one
 -- for what ended the frames early, and the counts.
-use Rattle.std.specs.Prelude.{◌≡◌, ℕ, ◌+◌, ◌==◌, nat_lt, Bool, true, false, ◌&&◌, List, [], ◌∷◌, ◌++◌, length, map, filter, codes, Result, Ok, Err, is_err}
+use Rattle.std.specs.Prelude.{◌≡◌, ℕ, ◌+◌, ◌≤◌, ◌==◌, nat_lt, Bool, true, false, ◌&&◌, List, [], ◌∷◌, ◌++◌, length, map, filter, codes, Result, Ok, Err, IfErr, is_err}
 use Rattle.std.specs.List.{count_by, flat_map, sum_by}
 use Rattle.std.specs.Fmt.{decimal}
 use Rattle.std.specs.Io.KnownBytes.{Consumes, IsAtEnd}
@@ -8,29 +8,32 @@ use Rattle.pbf_frame.specs.declared.part.TheConstants.{MAX_OFFSET}
 use Rattle.osm_value.specs.Sink.{Wrote}
 use Rattle.osm_value.specs.declared.element.Element.{Element}
 use Rattle.osm_rows.specs.Audit.{AreCountable, ShowsCounts, counts_of as counts_of_rows}
+use Rattle.osm_rows.specs.Calls.{KeepsTables, OfHeld}
 use Rattle.osm_rows.specs.Held.{Blob, HeldMap}
 use Rattle.osm_rows.specs.Keeping.{IsForeign, extents_of}
 use Rattle.osm_rows.specs.declared.audit.counts.Counts.{Counts as Rows}
 use Rattle.osm_rows.specs.declared.fault.StoreFault.{StoreFault}
 use Rattle.osm_rows.specs.declared.keeper.Extent.{Extent}
+use Rattle.osm_rows.specs.declared.keeper.Reader.{Ghosts as ReaderOf}
 use Rattle.osm_rows.specs.declared.schema.layout.Layout.{Layout}
 use Rattle.osm_reading.specs.Bad.{IsBad}
 use Rattle.osm_reading.specs.Framings.{Known}
 use Rattle.osm_reading.specs.Faults.{number_of, name_of}
 use Rattle.osm_reading.specs.Lines.{fault_line}
 use Rattle.osm_import.specs.Step.{HasCause}
+use Rattle.osm_import.specs.Stores.{Rereads}
 use Rattle.osm_reading.specs.declared.fault.Fault.{Fault}
 use Rattle.osm_reading.specs.declared.stream.fault.Stop.{Stop}
 use Rattle.osm_reading.specs.declared.stream.fault.Stop.TheVariants.{Frame, NoHeaderFirst}
 use Rattle.osm_verify.specs.Agreements.{IsAgreement, begins}
-use Rattle.osm_verify.specs.Audits.{Trees, IsEntryOf, AreEntries, KeepsImport, ShowsImport}
+use Rattle.osm_verify.specs.Audits.{Trees, IsEntryOf, AreEntries, CountsMore, KeepsImport, ShowsImport}
 use Rattle.osm_verify.specs.declared.comparing.Depth.{Depth}
 use Rattle.osm_verify.specs.declared.comparing.Depth.TheVariants.{Elements}
 use Rattle.osm_verify.specs.declared.comparing.Agreement.{Agreement}
 use Rattle.osm_verify.specs.declared.comparing.Agreement.TheVariants.{Same, Missing, Differs}
 use Rattle.pbfrow_reading.specs.Checking.{capped}
 use Rattle.pbfrow_reading.specs.CommandLines.{stop_line}
-use Rattle.pbfrow_reading.specs.Walks.{Part, joined, lines_from, AreFound, HasEnded, status_of}
+use Rattle.pbfrow_reading.specs.Walks.{IsPart, Part, joined, lines_from, AreFound, HasEnded, status_of}
 use Rattle.pbfrow_reading.specs.declared.input.Ending.TheVariants as ending
 use Rattle.pbfrow_commands.specs.CommandLines.{broken_line}
 use Rattle.pbfrow_commands.specs.declared.verify.Close.{Close}
@@ -81,6 +84,31 @@ IsSeen has_rows depth at w verdict elements = depth ≡ Elements → verdict ≡
 abbrev pub HasSeen : (ℕ → Blob → Type 0) → Depth → ℕ → Part Compared → Type 0
 HasSeen has_rows depth at p = IsSeen has_rows depth at p.bytes p.found.verdict p.found.elements
 
+-- A frame was judged over a call on a store: how what was held compares with it, or its fault; and by elements what is seen of
+-- the tables, whatever rows they had, if they were those of a store.
+pub record Judges {K : Type 0} (store : ReaderOf K) (old new : K) (has_tables : Type 0) (has_rows : ℕ → Blob → Type 0) (rows_old rows_new : Rows) (depth : Depth) (at : ℕ) (w : List ℕ) (verdict : Comparison) : Type 0 where
+  -- its elements, none where it is bad
+  pub elements : List Element
+  pub elements_are : HasElements at w verdict elements
+  -- their rows were counted
+  pub counted : CountsMore rows_old elements rows_new
+  pub compared : OfHeld store old new (λ held. IsComparison depth held at w verdict)
+  pub seen : store.is_honest new → store.is_open new → has_tables → IsSeen has_rows depth at w verdict elements
+
+-- So it was, and these are the held extents that begin in it and aren't its own.
+pub record Inspects {K : Type 0} (store : ReaderOf K) (old new : K) (has_tables : Type 0) (has_rows : ℕ → Blob → Type 0) (rows_old rows_new : Rows) (depth : Depth) (at : ℕ) (w : List ℕ) (verdict : Comparison) (extras : List Extent) : Type 0 where
+  pub judged : Judges store old new has_tables has_rows rows_old rows_new depth at w verdict
+  pub extras_are : OfHeld store old new (λ held. extras ≡ filter (begins (first_extra at verdict) (at + length w)) (extents_of held))
+
+-- Any number of reads of a store has kept what it holds and its tables. A fault has its cause, and isn't that the tables are
+-- another store's.
+pub record ReadsAgain {K T : Type 0} (store : ReaderOf K) (old : K) (result : Result T StoreFault) (new : K) : Type 0 where
+  pub same : KeepsTables store old new
+  pub rereads : Rereads store old result new
+  pub own : OfHeld store old new (λ _. IfErr result (λ fault. ¬ (IsForeign fault)))
+  pub cause : IfErr result (HasCause (store.failures old) (store.failures new))
+  pub counted : store.failures old ≤ store.failures new
+
 -- ---- its lines
 
 abbrev pub agreement_line : ℕ → Agreement → List ℕ
@@ -127,6 +155,13 @@ counts_of blobs behind = record {
 
 abbrev pub counts_line : Counts → List ℕ
 counts_line c = codes "blobs " ++ decimal c.blobs ++ codes " missing " ++ decimal c.missing ++ codes " differs " ++ decimal c.differs ++ codes " extra " ++ decimal c.extra ++ codes "\n"
+
+-- a frame of these bytes was counted, behind those that were before, and so were its rows
+pub record CountsFrame (bytes : List ℕ) (old new : Counts) (rows_old rows_new : Rows) (p : Part Compared) : Type 0 where
+  pub bytes_are : p.bytes ≡ bytes
+  pub is_part : IsPart p
+  pub counted : (blobs : List (Part Compared)) → old ≡ counts_of blobs 0 → new ≡ counts_of (blobs ++ p ∷ []) 0
+  pub rows : CountsMore rows_old p.found.elements rows_new
 
 -- there is a blob, and none is bad, missing or different, and no extent is extra
 abbrev pub agree : Counts → Bool
@@ -194,6 +229,11 @@ pub record ComparesBlobs (depth : Depth) (held : HeldMap) (left written_old writ
   pub read : Consumes left behind (joined blobs)
   pub closed : HasClosed held (length (joined blobs)) behind sink_failed before now close
   pub lines : Wrote written_old (lines_from compared_lines 0 blobs) written_new sink_failed
+
+-- so it begins with some frames, and these are their counts
+abbrev pub ComparesInput : Depth → HeldMap → Known → Known → Known → Bool → ℕ → ℕ → Counts → Close → Type 0
+ComparesInput depth held left written_old written_new sink_failed before now counts close =
+    (blobs : List (Part Compared)) × ComparesBlobs depth held left written_old written_new sink_failed before now blobs close × (counts ≡ counts_of blobs 0)
 
 -- What `verify` has told: the lines of the blobs, what ended them, the extents behind and the counts. The exit status is 0
 -- exactly where the whole input was compared, it agrees, and the output hasn't failed.

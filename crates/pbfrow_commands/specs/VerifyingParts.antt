@@ -1,12 +1,17 @@
 -- What the command `verify` writes of several stores that ought to hold a file together.
-use Rattle.std.specs.Prelude.{◌≡◌, ◌↔◌, ◌⊎◌, ℕ, Bool, true, false, List, ◌++◌, length, codes, IsTrue}
+use Rattle.std.specs.Prelude.{◌≡◌, ◌↔◌, ◌⊎◌, ℕ, Bool, true, false, List, ◌++◌, length, codes, IsTrue, Some}
 use Rattle.std.specs.List.{count_by, flat_map}
 use Rattle.std.specs.Fmt.{decimal}
 use Rattle.osm_value.specs.Sink.{Wrote}
-use Rattle.osm_rows.specs.Held.{HeldMap}
+use Rattle.osm_rows.specs.Held.{Blob, HeldMap}
+use Rattle.osm_rows.specs.declared.keeper.Extent.{Extent}
+use Rattle.osm_rows.specs.declared.keeper.Reader.{Ghosts as ReaderOf}
+use Rattle.osm_rows.specs.declared.schema.layout.Layout.{Layout}
 use Rattle.osm_reading.specs.Framings.{Known}
 use Rattle.osm_reading.specs.declared.stream.fault.Stop.TheVariants.{ReadFailed}
+use Rattle.osm_verify.specs.Audits.{Trees}
 use Rattle.osm_verify.specs.Faults.{AuditHasCause, IsOfParts}
+use Rattle.osm_verify.specs.Judging.{ShowsPart}
 use Rattle.osm_verify.specs.Together.{IsClean, IsVerdict}
 use Rattle.osm_verify.specs.declared.part_audit.Finding.{Finding}
 use Rattle.osm_verify.specs.declared.part_audit.Finding.TheVariants.{Differs, Extra}
@@ -17,6 +22,7 @@ use Rattle.osm_verify.specs.declared.comparing.Depth.{Depth}
 use Rattle.pbfrow_commands.specs.CommandLines.{gap_lines}
 use Rattle.pbfrow_reading.specs.CommandLines.{stop_line}
 use Rattle.pbfrow_commands.specs.InParts.{parts_fault_line}
+use Rattle.pbfrow_commands.specs.Telling.{Telling}
 use Rattle.pbfrow_reading.specs.Walks.{status_of}
 
 -- the line of a held blob that isn't one of the file
@@ -49,23 +55,30 @@ audit_fault_line (Unread off) = stop_line ReadFailed off
 audit_fault_line (Parts fault) = parts_fault_line fault
 
 -- the line of a fault that the maps bear out went out, with its cause, and the exit status is 1
-pub record TellsAuditFault (maps : List HeldMap) (failures_old failures_new : ℕ) (old new : Known) (failed : Bool) (status : ℕ) : Type 0 where
+pub record TellsAuditFault (maps : List HeldMap) (t : Telling) : Type 0 where
   pub fault : AuditFault
   pub of_maps : IsOfParts maps fault
-  pub cause : AuditHasCause failures_old failures_new fault
-  pub line : Wrote old (audit_fault_line fault) new failed
-  pub one : status ≡ 1
+  pub cause : AuditHasCause t.failures_before t.failures_now fault
+  pub line : Wrote t.before (audit_fault_line fault) t.after t.has_failed
+  pub one : t.status ≡ 1
 
 -- the verdict on the maps went out, and the exit status is 0 exactly where it is clean and the output hasn't failed
-pub record TellsVerdict (depth : Depth) (known : Known) (maps : List HeldMap) (old new : Known) (failed : Bool) (status : ℕ) : Type 0 where
+pub record TellsVerdict (depth : Depth) (known : Known) (maps : List HeldMap) (t : Telling) : Type 0 where
   pub verdict : Verdict
   pub is : IsVerdict depth known maps verdict
-  pub text : Wrote old (verdict_text verdict) new failed
+  pub text : Wrote t.before (verdict_text verdict) t.after t.has_failed
   pub agreed : Bool
   pub agrees : IsTrue agreed ↔ IsClean verdict
-  pub status_is : status ≡ status_of agreed failed
+  pub status_is : t.status ≡ status_of agreed t.has_failed
+
+-- The tables of each store that lies at a place are those of a store, if it has given what was written.
+abbrev pub HaveTables : {K : Type 0} → ReaderOf K → (K → Type 0) → (ℕ → K → Type 0) → Type 0
+HaveTables {K} store has_tables lies = (place : ℕ) (one : K) → lies place one → store.is_honest one → has_tables one
+
+-- the rows of a store are those of the frames of the file that these extents name, and no others, as `ShowsPart` says it
+abbrev pub ShowsExtents : {K : Type 0} → (Trees → ℕ → Blob → Type 0) → Layout → (K → Trees) → List ℕ → K → List Extent → Type 0
+ShowsExtents has_rows layout trees file one extents = ShowsPart (has_rows (trees one)) layout (trees one) (Some file) extents
 
 -- what `verify` of several stores has told: the verdict on their maps, or the line of a fault that the maps bear out
-abbrev pub VerifiesParts : Depth → Known → List HeldMap → ℕ → ℕ → Known → Known → Bool → ℕ → Type 0
-VerifiesParts depth known maps failures_old failures_new old new failed status =
-    TellsAuditFault maps failures_old failures_new old new failed status ⊎ TellsVerdict depth known maps old new failed status
+abbrev pub VerifiesParts : Depth → Known → List HeldMap → Telling → Type 0
+VerifiesParts depth known maps t = TellsAuditFault maps t ⊎ TellsVerdict depth known maps t

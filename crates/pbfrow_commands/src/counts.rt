@@ -13,6 +13,7 @@ ghost use Rattle.pbfrow_counts.specs.Counting.{CountHasCause, IsOfMap};
 ghost use Rattle.pbfrow_commands.specs.Counting.{IsCensus, TellsCounts, census_text, count_fault_line};
 ghost use Rattle.pbfrow_commands.specs.InParts.{TellsParts};
 ghost use Rattle.pbfrow_commands.specs.Status.{Tells};
+ghost use Rattle.pbfrow_commands.specs.Telling.{telling};
 
 use crate::parts::put_parts_fault;
 use crate::report::put_store_fault;
@@ -87,7 +88,7 @@ pub fn status_with_counts<K: Reader, S: Sink>(
     size: Option<u64>,
     out: &mut S,
 ) -> u8
-    ensures told { OfHeld K.Reader store.old store.new (λ held. TellsCounts held size (K.failures store.old) (K.failures store.new) (S.written out.old) (S.written out.new) (S.has_failed out.new) result) }
+    ensures told { OfHeld K.Reader store.old store.new (λ held. TellsCounts size held (telling K.failures S.Sink store.old store.new out.old out.new result)) }
     ensures stays { Stays K.Reader store.old store.new }
     ensures bound { result ≤ 1 }
 {
@@ -132,8 +133,7 @@ pub fn status_parts_with_counts<K: Reader + Drop, O: Openings<K>, S: Sink>(
     out: &mut S,
 ) -> u8
     ensures told { (maps : List HeldMap) → O.holds openings.old maps → O.is_honest openings.new → length maps ≡ count
-        → TellsParts (λ whole. TellsCounts whole size (O.failures openings.old) (O.failures openings.new) (S.written out.old) (S.written out.new) (S.has_failed out.new) result)
-        maps (O.failures openings.old) (O.failures openings.new) (S.written out.old) (S.written out.new) (S.has_failed out.new) result }
+        → TellsParts (TellsCounts size) maps (telling O.failures S.Sink openings.old openings.new out.old out.new result) }
     ensures keeps { KeepsMaps O.holds O.is_honest O.is_open openings.old openings.new }
     ensures bound { result ≤ 1 }
 {

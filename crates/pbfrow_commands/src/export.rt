@@ -1,15 +1,10 @@
 //! The command `export`: the elements of a store.
 
-ghost use Rattle.std.specs.Prelude.{◌≡◌, ◌≤◌, Err, Result};
+ghost use Rattle.std.specs.Prelude.{◌≡◌, ◌≤◌, Err};
 ghost use Rattle.osm_rows.specs.Calls.{OfHeld};
-ghost use Rattle.osm_rows.specs.Keeping.{extents_of};
-ghost use Rattle.osm_import.specs.ExportCauses.{ExportHasCause, ExportIsOwn};
-ghost use Rattle.osm_import.specs.Exports.{IsExport, size_of};
-ghost use Rattle.osm_reading.specs.Framings.{Known};
-ghost use Rattle.osm_import.specs.Pbf.{IsPbfExport};
-ghost use Rattle.osm_import.specs.declared.export.fault.ExportFault.{ExportFault as ExportFaultValue};
 ghost use Rattle.osm_import.specs.Stores.{Stays};
-ghost use Rattle.pbfrow_commands.specs.Exporting.{EndsExport};
+ghost use Rattle.pbfrow_commands.specs.Exporting.{EndsExport, TellsExport};
+ghost use Rattle.pbfrow_commands.specs.Telling.{telling};
 
 use osm_import::{ExportFault, export_lines, export_pbf, put_fault_at, put_plain_fault};
 use osm_rows::Reader;
@@ -54,14 +49,7 @@ pub fn export<K: Reader, S: Sink>(
     form: Form,
     out: &mut S,
 ) -> u8
-    ensures lines { OfHeld K.Reader store.old store.new (λ held. form ≡ Form.Lines
-        → (answer : Result (Unit {0}) ExportFaultValue) × (text : Known) × IsExport held (size_of size (extents_of held)) partial (S.written out.old) text answer
-        × ExportHasCause (K.failures store.old) (K.failures store.new) (S.has_failed out.new) answer × ExportIsOwn answer
-        × EndsExport text (S.written out.new) (S.has_failed out.new) result answer) }
-    ensures pbf { OfHeld K.Reader store.old store.new (λ held. form ≡ Form.Pbf
-        → (answer : Result (Unit {0}) ExportFaultValue) × (text : Known) × IsPbfExport held (size_of size (extents_of held)) partial (S.written out.old) text answer
-        × ExportHasCause (K.failures store.old) (K.failures store.new) (S.has_failed out.new) answer × ExportIsOwn answer
-        × EndsExport text (S.written out.new) (S.has_failed out.new) result answer) }
+    ensures told { OfHeld K.Reader store.old store.new (λ held. TellsExport form size partial held (telling K.failures S.Sink store.old store.new out.old out.new result)) }
     ensures stays { Stays K.Reader store.old store.new }
     ensures bound { result ≤ 1 }
 {

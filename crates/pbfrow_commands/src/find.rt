@@ -8,6 +8,7 @@ ghost use Rattle.osm_rows.specs.Rows.{Placed, is_of, placed_in};
 ghost use Rattle.osm_import.specs.Stores.{Stays};
 ghost use Rattle.pbfrow_commands.specs.CommandLines.{match_line, match_lines};
 ghost use Rattle.pbfrow_commands.specs.Finding.{TellsMatches};
+ghost use Rattle.pbfrow_commands.specs.Telling.{telling};
 
 use crate::report::put_store_fault;
 use osm_rows::{Found, Reader, StoreFault};
@@ -56,7 +57,7 @@ pub fn find<K: Reader, S: Sink>(
     id: i64,
     out: &mut S,
 ) -> u8
-    ensures told { OfHeld K.Reader store.old store.new (λ held. TellsMatches (filter (is_of kind id) (placed_in held)) (K.failures store.old) (K.failures store.new) (S.written out.old) (S.written out.new) (S.has_failed out.new) result) }
+    ensures told { OfHeld K.Reader store.old store.new (λ held. TellsMatches (filter (is_of kind id) (placed_in held)) (telling K.failures S.Sink store.old store.new out.old out.new result)) }
     ensures stays { Stays K.Reader store.old store.new }
     ensures bound { result ≤ 1 }
 {

@@ -1,17 +1,15 @@
 //! The command `import`: the blobs of a file go into a store.
 
-ghost use Rattle.std.specs.Prelude.{◌≡◌, ◌≤◌, ◌<◌, ◌+◌, ◌-◌, List, ℕ, Some, Err, Result, OnOk, OnErr, IfOk, IfSome, take};
+ghost use Rattle.std.specs.Prelude.{◌≡◌, ◌≤◌, ◌<◌, ◌+◌, ◌-◌, List, ℕ, Some, Err, OnOk, OnErr, IfOk, IfSome, take};
 ghost use Rattle.std.specs.FinMap.{empty};
 ghost use Rattle.osm_rows.specs.Held.{HeldMap};
 ghost use Rattle.osm_rows.specs.Calls.{OfHeld};
-ghost use Rattle.osm_reading.specs.Framings.{Known};
-ghost use Rattle.osm_import.specs.Flows.{Input, input, output};
+ghost use Rattle.osm_import.specs.Flows.{input, output};
 ghost use Rattle.osm_import.specs.Stores.{Takes};
 ghost use Rattle.osm_import.specs.Merges.{ImportsPart};
 ghost use Rattle.osm_import.specs.Streams.{ImportsFile};
-ghost use Rattle.osm_import.specs.declared.stream.summary.Summary.{Summary as SummaryValue};
 ghost use Rattle.osm_import.specs.declared.stream.fault.ImportStop.{ImportStop as ImportStopValue};
-ghost use Rattle.pbfrow_commands.specs.Importing.{Skips, IsShort, Imports, ImportsRange, EndsBefore, EndsLine, EndsStop, import_status, HoldsFile, HoldsRange, IsTold, ends_frames, ends_input, front_of};
+ghost use Rattle.pbfrow_commands.specs.Importing.{Skips, IsShort, Imports, ImportsFront, ImportsInput, ImportsRange, EndsBefore, EndsLine, EndsStop, import_status, HoldsFile, HoldsRange, IsTold, ends_frames, ends_input, front_of};
 
 use crate::report::put_summary;
 use osm_import::{ImportFault, ImportStop, Inlet, Source, Stop, Summary, Teller, import_stream};
@@ -138,9 +136,7 @@ pub fn import<R: Source, K: Keeper, T: Teller, S: Sink>(
     out: &mut S,
 ) -> u8
     requires { start.at ≤ MAX_OFFSET }
-    ensures imports { (outcome : Result SummaryValue ImportStopValue) × (listed : Known) × Imports start.dropped start.at (input R.Source reader.old reader.new) (record (output (T.tells teller.now) S.Sink out.old out.new) { after = listed })
-        (store.new ≡ store.old) (Takes K.Reader store.old store.new) outcome
-        × EndsLine listed (S.written out.new) (S.has_failed out.new) outcome × (result ≡ import_status outcome (S.has_failed out.new)) }
+    ensures imports { ImportsInput start.dropped start.at (input R.Source reader.old reader.new) (output (T.tells teller.now) S.Sink out.old out.new) (store.new ≡ store.old) (Takes K.Reader store.old store.new) result }
     ensures one_file { (file : List ℕ) (held : HeldMap) → R.bytes_left reader.old ≡ Some file → start.dropped ≡ 0 → start.at ≡ 0 → K.holds store.old held → K.is_honest store.new
         → result ≡ 0 → HoldsFile (K.holds store.new) file held }
     ensures part { (piece : List ℕ) → R.bytes_left reader.old ≡ Some piece → start.dropped ≡ 0 → K.holds store.old empty → K.is_honest store.new
@@ -233,8 +229,7 @@ fn import_before<R: Read, K: Keeper, T: Teller, S: Sink>(
     requires drops { start.dropped ≤ start.at }
     requires begins { start.at < to }
     requires ends { to ≤ MAX_OFFSET }
-    ensures imports { (outcome : Result SummaryValue ImportStopValue) × (source : Input) × (source.before ≡ front_of (start.dropped + (to - start.at)) (R.remaining reader.old))
-        × Imports start.dropped start.at source (output (T.tells teller.now) S.Sink out.old out.new) (store.new ≡ store.old) (Takes K.Reader store.old store.new) outcome × IsTold to outcome result }
+    ensures imports { ImportsFront start.dropped start.at to (R.remaining reader.old) (output (T.tells teller.now) S.Sink out.old out.new) (store.new ≡ store.old) (Takes K.Reader store.old store.new) result }
     ensures part { (piece : List ℕ) → front_of (start.dropped + (to - start.at)) (R.remaining reader.old) ≡ Some piece → start.dropped ≡ 0 → K.holds store.old empty → K.is_honest store.new
         → IfOk result (λ _. ImportsPart (K.holds store.new) start.at piece) }
 {

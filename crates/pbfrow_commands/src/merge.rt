@@ -1,18 +1,13 @@
 //! The command `merge`: what several stores hold is copied into one, store after store.
 
-ghost use Rattle.std.specs.Prelude.{◌≡◌, ◌≤◌, [], ◌∷◌, ◌++◌, List, Ok, Some, Result, length, slice_get};
-ghost use Rattle.osm_value.specs.Sink.{Wrote};
+ghost use Rattle.std.specs.Prelude.{◌≡◌, ◌≤◌, [], ◌∷◌, ◌++◌, List, Ok, length};
 ghost use Rattle.osm_value.specs.Printing.{Prints};
-ghost use Rattle.osm_rows.specs.Calls.{OfHeld};
 ghost use Rattle.osm_rows.specs.Held.{HeldMap};
-ghost use Rattle.osm_rows.specs.Keeping.{KeepsList};
-ghost use Rattle.osm_import.specs.Merges.{IsFrontUnited};
-ghost use Rattle.osm_import.specs.Stores.{HoldsStill, Keeps, KeepsHeld, Rereads};
+ghost use Rattle.osm_import.specs.Stores.{Rereads};
 ghost use Rattle.osm_import.specs.declared.copy.CopyCounts.{CopyCounts as CopyCountsValue};
 ghost use Rattle.osm_parts.specs.Opening.{KeepsMaps, OnlyOpens};
 ghost use Rattle.pbfrow_commands.specs.Copying.{CopiesStore, outcome_line, total_line, copy_status};
-ghost use Rattle.pbfrow_commands.specs.Merging.{CopiesAt, IsMergeOf, IsOwnMerge, IsTotal, MergeHasCause, MergesStores, TakesOf, merge_status, merge_text, merged_of, store_line, store_lines, total_of};
-ghost use Rattle.pbfrow_commands.specs.declared.merge.MergeStop.{MergeStop as MergeStopValue};
+ghost use Rattle.pbfrow_commands.specs.Merging.{HasMerged, IsMergeOf, IsTotal, MergeHasCause, MergesAt, MergesStores, NeverLoses, TakesOf, merged_of, store_line, store_lines, total_of};
 
 use crate::migrate::{put_copied, put_outcome};
 use crate::report::put_store_fault;
@@ -83,15 +78,7 @@ fn merge_at<F: Reader + Drop, O: Openings<F>, T: Keeper, S: Sink>(
     into: &mut T,
     out: &mut S,
 ) -> Result<CopyCounts, MergeStop>
-    ensures copies { (maps : List HeldMap) (source held : HeldMap) → O.holds openings.old maps → O.is_honest openings.new → slice_get maps place ≡ Some source → T.holds into.old held → T.is_honest into.new
-        → CopiesAt (T.is_open into.new) (T.holds into.new) source held result }
-    ensures crash { (maps : List HeldMap) (source held : HeldMap) → O.holds openings.old maps → O.is_honest openings.new → slice_get maps place ≡ Some source → T.holds into.old held → T.is_honest into.new
-        → (left : HeldMap) → T.leaves into.new left → IsFrontUnited (source ∷ []) held left }
-    ensures kept { OfHeld T.Reader into.old into.new (λ held. KeepsHeld T.Reader into.new result held) }
-    ensures whole { OfHeld T.Reader into.old into.new (λ _. T.leaves_a_map into.new) }
-    ensures list { OfHeld T.Reader into.old into.new (λ _. KeepsList T.lists into.old into.new) }
-    ensures own { (maps : List HeldMap) (source held : HeldMap) → O.holds openings.old maps → O.is_honest openings.new → slice_get maps place ≡ Some source → T.holds into.old held → T.is_honest into.new
-        → IsOwnMerge result }
+    ensures merges { MergesAt O.holds O.is_honest T.Reader openings.old openings.new place into.old into.new result }
     ensures line { Prints S.Sink out.old out.new (store_line result) }
     ensures opens { OnlyOpens O.holds O.is_honest O.is_open openings.old result openings.new }
     ensures cause { MergeHasCause (O.failures openings.old) (O.failures openings.new) (T.failures into.old) (T.failures into.new) result }
@@ -167,18 +154,13 @@ pub fn merge_all<F: Reader + Drop, O: Openings<F>, T: Keeper, S: Sink>(
         → T.is_open into.new → (after : HeldMap) × TakesOf maps held after × T.holds into.new after }
 
     // What it held stays whatever these stores hold and give, also after a crash.
-    ensures stays { OfHeld T.Reader into.old into.new (λ held. T.is_open into.new → HoldsStill T.Reader into.new held) }
-    ensures left { OfHeld T.Reader into.old into.new (λ held. (left : HeldMap) → T.leaves into.new left → Keeps held left) }
+    ensures stays { NeverLoses T.Reader into.old into.new }
 
     // What it came to, and each line.
-    ensures merges { (counts : List CopyCountsValue) × (outcome : Result CopyCountsValue MergeStopValue)
-        × MergesStores O.holds O.is_honest O.failures T.Reader openings.old openings.new count into.old into.new counts outcome × IsTotal counts outcome
-        × Wrote (S.written out.old) (merge_text counts outcome) (S.written out.new) (S.has_failed out.new) × (result ≡ merge_status outcome (S.has_failed out.new)) }
+    ensures merges { HasMerged O.holds O.is_honest O.failures T.Reader S.Sink openings.old openings.new count into.old into.new out.old out.new result }
 
     // What the stores hold stays.
     ensures keeps { KeepsMaps O.holds O.is_honest O.is_open openings.old openings.new }
-    ensures honest { T.is_honest into.new → T.is_honest into.old }
-    ensures open_if { T.is_open into.new → T.is_open into.old }
     ensures bound { result ≤ 1 }
 {
     match merge_each(alloc, openings, count, into, out) {

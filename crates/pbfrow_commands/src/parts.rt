@@ -5,8 +5,9 @@ ghost use Rattle.osm_value.specs.Printing.{Prints};
 ghost use Rattle.osm_rows.specs.Held.{HeldMap};
 ghost use Rattle.osm_parts.specs.Opening.{KeepsMaps, OnlyOpens};
 ghost use Rattle.osm_parts.specs.PartsFaults.{IsOfMaps, PartsFaultHasCause};
-ghost use Rattle.pbfrow_commands.specs.InParts.{parts_fault_line, TellsOfUnion, TellsParts, TellsLines, TellsPbf};
+ghost use Rattle.pbfrow_commands.specs.InParts.{parts_fault_line, TellsOfUnion, TellsParts, TellsUnionExport};
 ghost use Rattle.pbfrow_commands.specs.Status.{IsSurvey, TellsStatus};
+ghost use Rattle.pbfrow_commands.specs.Telling.{telling};
 
 use crate::export::finish;
 use crate::report::put_store_fault;
@@ -61,8 +62,7 @@ pub fn status_parts<K: Reader + Drop, O: Openings<K>, S: Sink>(
     out: &mut S,
 ) -> u8
     ensures told { (maps : List HeldMap) → O.holds openings.old maps → O.is_honest openings.new → length maps ≡ count
-        → TellsParts (λ whole. TellsStatus whole size (O.failures openings.old) (O.failures openings.new) (S.written out.old) (S.written out.new) (S.has_failed out.new) result)
-        maps (O.failures openings.old) (O.failures openings.new) (S.written out.old) (S.written out.new) (S.has_failed out.new) result }
+        → TellsParts (TellsStatus size) maps (telling O.failures S.Sink openings.old openings.new out.old out.new result) }
     ensures keeps { KeepsMaps O.holds O.is_honest O.is_open openings.old openings.new }
     ensures bound { result ≤ 1 }
 {
@@ -88,12 +88,8 @@ pub fn export_parts<K: Reader + Drop, O: Openings<K>, S: Sink>(
     form: Form,
     out: &mut S,
 ) -> u8
-    ensures lines { (maps : List HeldMap) → O.holds openings.old maps → O.is_honest openings.new → length maps ≡ count → form ≡ Form.Lines
-        → TellsParts (TellsLines size partial (O.failures openings.old) (O.failures openings.new) (S.written out.old) (S.written out.new) (S.has_failed out.new) result)
-        maps (O.failures openings.old) (O.failures openings.new) (S.written out.old) (S.written out.new) (S.has_failed out.new) result }
-    ensures pbf { (maps : List HeldMap) → O.holds openings.old maps → O.is_honest openings.new → length maps ≡ count → form ≡ Form.Pbf
-        → TellsParts (TellsPbf maps size partial (O.failures openings.old) (O.failures openings.new) (S.written out.old) (S.written out.new) (S.has_failed out.new) result)
-        maps (O.failures openings.old) (O.failures openings.new) (S.written out.old) (S.written out.new) (S.has_failed out.new) result }
+    ensures told { (maps : List HeldMap) → O.holds openings.old maps → O.is_honest openings.new → length maps ≡ count
+        → TellsParts (TellsUnionExport form size partial maps) maps (telling O.failures S.Sink openings.old openings.new out.old out.new result) }
     ensures keeps { KeepsMaps O.holds O.is_honest O.is_open openings.old openings.new }
     ensures bound { result ≤ 1 }
 {

@@ -9,6 +9,7 @@ ghost use Rattle.osm_import.specs.Step.{HasCause};
 ghost use Rattle.osm_import.specs.Stores.{Rereads, Stays};
 ghost use Rattle.pbfrow_commands.specs.CommandLines.{counts_line, gap_line, gap_lines};
 ghost use Rattle.pbfrow_commands.specs.Status.{IsSurvey, Tells, TellsStatus, status_text};
+ghost use Rattle.pbfrow_commands.specs.Telling.{telling};
 
 use crate::report::put_store_fault;
 use osm_import::{gaps_between, greatest_end};
@@ -113,7 +114,7 @@ pub fn status<K: Reader, S: Sink>(
     size: Option<u64>,
     out: &mut S,
 ) -> u8
-    ensures told { OfHeld K.Reader store.old store.new (λ held. TellsStatus held size (K.failures store.old) (K.failures store.new) (S.written out.old) (S.written out.new) (S.has_failed out.new) result) }
+    ensures told { OfHeld K.Reader store.old store.new (λ held. TellsStatus size held (telling K.failures S.Sink store.old store.new out.old out.new result)) }
     ensures stays { Stays K.Reader store.old store.new }
     ensures bound { result ≤ 1 }
 {

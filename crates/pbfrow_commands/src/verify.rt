@@ -4,7 +4,6 @@ ghost use Rattle.std.specs.Prelude.{◌≡◌, ◌↔◌, ◌+◌, ◌<◌, ◌�
 ghost use Rattle.std.specs.Fmt.{decimal};
 ghost use Rattle.pbf_frame.specs.declared.part.TheConstants.{MAX_OFFSET as LAST};
 ghost use Rattle.osm_value.specs.Printing.{Prints};
-ghost use Rattle.osm_value.specs.declared.element.Element.{Element as ElementValue};
 ghost use Rattle.osm_rows.specs.Audit.{counts_of as counts_of_rows, elements_held};
 ghost use Rattle.osm_rows.specs.Calls.{KeepsTables, OfHeld};
 ghost use Rattle.osm_rows.specs.Keeping.{IsForeign, extents_of};
@@ -13,10 +12,9 @@ ghost use Rattle.osm_reading.specs.Good.{IsFrame};
 ghost use Rattle.osm_import.specs.Step.{HasCause};
 ghost use Rattle.osm_import.specs.Stores.{Rereads, Stays};
 ghost use Rattle.osm_verify.specs.Agreements.{begins};
-ghost use Rattle.osm_verify.specs.Audits.{CountsMore};
 ghost use Rattle.osm_verify.specs.Laws.{IsExact};
-ghost use Rattle.pbfrow_commands.specs.Verifying.{Compared, HasCompared, HasCountedRows, HasElements, HasOwnElements, HasSeen, HasSeenInput, IsClosing, IsComparison, IsCompared, IsSeen, ComparesBlobs, ShowsFile, VerifiesInput, agree, agreement_line, close_text, compared_lines, comparison_line, counts_line, counts_of, extra_lines, first_extra, header_line, is_agreed, is_whole};
-ghost use Rattle.pbfrow_reading.specs.Walks.{IsPart, Part, status_of};
+ghost use Rattle.pbfrow_commands.specs.Verifying.{Compared, ComparesInput, CountsFrame, HasCompared, HasCountedRows, HasOwnElements, HasSeen, HasSeenInput, Inspects, IsClosing, Judges, ReadsAgain, ShowsFile, VerifiesInput, agree, agreement_line, close_text, compared_lines, comparison_line, counts_line, counts_of, extra_lines, first_extra, header_line, is_agreed, is_whole};
+ghost use Rattle.pbfrow_reading.specs.Walks.{Part, status_of};
 
 use osm_import::{
     ExamineFault, Fault, FrameReader, Inlet, Stop, StreamFault, examine_frame, put_fault_at,
@@ -150,8 +148,7 @@ fn compare_blobs<K: Audited, R: Read, P: Watcher, W: Write>(
     out: &mut Outlet<W>,
 ) -> Close
     requires { counts.old ≡ counts_of [] 0 }
-    ensures told { OfHeld K.Reader store.old store.new (λ held. (blobs : List (Part Compared)) × ComparesBlobs depth held (R.remaining input.old) (W.contents out.old.writer) (W.contents out.new.writer) out.new.has_failed (K.failures store.old) (K.failures store.new) blobs result
-        × (counts.new ≡ counts_of blobs 0)) }
+    ensures told { OfHeld K.Reader store.old store.new (λ held. ComparesInput depth held (R.remaining input.old) (W.contents out.old.writer) (W.contents out.new.writer) out.new.has_failed (K.failures store.old) (K.failures store.new) counts.new result) }
     ensures seen { K.is_honest store.new → K.has_tables store.old → HasSeenInput (K.has_rows (K.trees store.old)) K.layout (K.trees store.old) depth (R.remaining input.old) counts.new result }
     ensures stays { Stays K.Reader store.old store.new }
 {
@@ -234,21 +231,13 @@ fn compare_blob<K: Audited, S: Sink>(
 ) -> Result<u64, StoreFault>
     requires frame { IsFrame bytes.now }
     requires limit { at + length bytes.now ≤ LAST }
-    ensures told { OfHeld K.Reader store.old store.new (λ held. OnOk result ((p : Part Compared) × (p.bytes ≡ bytes.now) × IsPart p × HasCompared depth held at p
-        × Prints S.Sink out.old out.new (compared_lines at p)
-        × ((blobs : List (Part Compared)) → counts.old ≡ counts_of blobs 0 → counts.new ≡ counts_of (blobs ++ p ∷ []) 0)
-        × CountsMore rows.old p.found.elements rows.new)) }
-    ensures seen { OnOk result ((p : Part Compared) × (p.bytes ≡ bytes.now) × IsPart p × HasOwnElements at p
-        × ((blobs : List (Part Compared)) → counts.old ≡ counts_of blobs 0 → counts.new ≡ counts_of (blobs ++ p ∷ []) 0)
-        × CountsMore rows.old p.found.elements rows.new
+    ensures told { OfHeld K.Reader store.old store.new (λ held. OnOk result ((p : Part Compared) × CountsFrame bytes.now counts.old counts.new rows.old rows.new p × HasCompared depth held at p
+        × Prints S.Sink out.old out.new (compared_lines at p))) }
+    ensures seen { OnOk result ((p : Part Compared) × CountsFrame bytes.now counts.old counts.new rows.old rows.new p × HasOwnElements at p
         × (K.is_honest store.new → K.is_open store.new → K.has_tables store.old → HasSeen (K.has_rows (K.trees store.old)) depth at p)) }
-    ensures same { KeepsTables K.Reader store.old store.new }
     ensures end { IfOk result (λ end. end ≡ at + length bytes.now) }
     ensures err { OnErr result ((out.new ≡ out.old) × (counts.new ≡ counts.old)) }
-    ensures rereads { Rereads K.Reader store.old result store.new }
-    ensures own { OfHeld K.Reader store.old store.new (λ _. IfErr result (λ fault. ¬ (IsForeign fault))) }
-    ensures cause { IfErr result (HasCause (K.failures store.old) (K.failures store.new)) }
-    ensures counted { K.failures store.old ≤ K.failures store.new }
+    ensures reads { ReadsAgain K.Reader store.old result store.new }
 {
     let finding = match inspect(alloc, store, at, bytes, depth, rows) {
         Ok(finding) => finding,
@@ -271,9 +260,7 @@ fn inspect<K: Audited>(
 ) -> Result<Finding, StoreFault>
     requires frame { IsFrame bytes.now }
     requires limit { at + length bytes.now ≤ LAST }
-    ensures found { IfOk result (λ finding. (elements : List ElementValue) × HasElements at bytes.now finding.verdict elements × CountsMore rows.old elements rows.new
-        × (OfHeld K.Reader store.old store.new (λ held. IsCompared depth held at bytes.now (record { verdict = finding.verdict; extras = finding.extras.items; elements = elements })))
-        × (K.is_honest store.new → K.is_open store.new → K.has_tables store.old → IsSeen (K.has_rows (K.trees store.old)) depth at bytes.now finding.verdict elements)) }
+    ensures found { IfOk result (λ finding. Inspects K.Reader store.old store.new (K.has_tables store.old) (K.has_rows (K.trees store.old)) rows.old rows.new depth at bytes.now finding.verdict finding.extras.items) }
     ensures same { KeepsTables K.Reader store.old store.new }
     ensures rereads { Rereads K.Reader store.old result store.new }
     ensures own { OfHeld K.Reader store.old store.new (λ _. IfErr result (λ fault. ¬ (IsForeign fault))) }
@@ -312,9 +299,7 @@ fn judge<K: Audited>(
     rows: &mut Rows,
 ) -> Result<Result<Agreement, Fault>, StoreFault>
     requires { IsFrame bytes.now }
-    ensures judged { IfOk result (λ verdict. (elements : List ElementValue) × HasElements at bytes.now verdict elements × CountsMore rows.old elements rows.new
-        × (OfHeld K.Reader store.old store.new (λ held. IsComparison depth held at bytes.now verdict))
-        × (K.is_honest store.new → K.is_open store.new → K.has_tables store.old → IsSeen (K.has_rows (K.trees store.old)) depth at bytes.now verdict elements)) }
+    ensures judged { IfOk result (Judges K.Reader store.old store.new (K.has_tables store.old) (K.has_rows (K.trees store.old)) rows.old rows.new depth at bytes.now) }
     ensures same { KeepsTables K.Reader store.old store.new }
     ensures rereads { Rereads K.Reader store.old result store.new }
     ensures own { OfHeld K.Reader store.old store.new (λ _. IfErr result (λ fault. ¬ (IsForeign fault))) }

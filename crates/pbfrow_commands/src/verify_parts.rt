@@ -1,14 +1,14 @@
 //! The command `verify` on several stores that hold parts of one file.
 
-ghost use Rattle.std.specs.Prelude.{◌≡◌, ◌≤◌, ℕ, List, length, IfSome};
+ghost use Rattle.std.specs.Prelude.{◌≡◌, ◌≤◌, List, length, IfSome};
 ghost use Rattle.std.specs.List.{count_by};
 ghost use Rattle.osm_value.specs.Printing.{Prints};
 ghost use Rattle.osm_rows.specs.Held.{HeldMap};
 ghost use Rattle.osm_parts.specs.Opening.{KeepsMaps};
-ghost use Rattle.osm_verify.specs.Judging.{ShowsPart};
 ghost use Rattle.osm_verify.specs.Showing.{ShowTogether};
 ghost use Rattle.osm_verify.specs.Together.{HoldFile};
-ghost use Rattle.pbfrow_commands.specs.VerifyingParts.{VerifiesParts, audit_fault_line, finding_line, finding_lines, is_other, verdict_line, verdict_text};
+ghost use Rattle.pbfrow_commands.specs.Telling.{telling};
+ghost use Rattle.pbfrow_commands.specs.VerifyingParts.{HaveTables, ShowsExtents, VerifiesParts, audit_fault_line, finding_line, finding_lines, is_other, verdict_line, verdict_text};
 
 use crate::parts::put_parts_fault;
 use crate::status::put_gaps;
@@ -120,14 +120,14 @@ pub fn verify_parts<K: Audited + Drop, O: Openings<K>, F: FileBytes, S: Sink>(
     out: &mut S,
 ) -> u8
     ensures told { (maps : List HeldMap) → O.holds openings.old maps → O.is_honest openings.new → length maps ≡ count
-        → VerifiesParts depth (F.bytes file.old) maps (O.failures openings.old) (O.failures openings.new) (S.written out.old) (S.written out.new) (S.has_failed out.new) result }
+        → VerifiesParts depth (F.bytes file.old) maps (telling O.failures S.Sink openings.old openings.new out.old out.new result) }
     // At 0 the file is a row of good frames, the blobs of each store are some of theirs, and together they are all.
     ensures exact { (maps : List HeldMap) → O.holds openings.old maps → O.is_honest openings.new → length maps ≡ count → result ≡ 0
         → IfSome (F.bytes file.old) (λ bytes. HoldFile depth bytes maps) }
     // At 0 by elements, whatever rows the tables have had: those of each store are the rows of the frames of the file that its
     // extents name, and no others, and each frame of the file is named. That leaves out more rows than SQL can count.
-    ensures shown { O.is_honest openings.new → depth ≡ Depth.Elements → ((place : ℕ) (store : K) → O.lies openings.old place store → K.is_honest store → K.has_tables store) → result ≡ 0
-        → IfSome (F.bytes file.old) (λ bytes. ShowTogether (O.lies openings.old) (λ store extents. ShowsPart (K.has_rows (K.trees store)) K.layout (K.trees store) (Some bytes) extents) count bytes) }
+    ensures shown { O.is_honest openings.new → depth ≡ Depth.Elements → HaveTables K.Reader K.has_tables (O.lies openings.old) → result ≡ 0
+        → IfSome (F.bytes file.old) (λ bytes. ShowTogether (O.lies openings.old) (ShowsExtents K.has_rows K.layout K.trees bytes) count bytes) }
     ensures keeps { KeepsMaps O.holds O.is_honest O.is_open openings.old openings.new }
     ensures bound { result ≤ 1 }
 {

@@ -1,26 +1,16 @@
 //! The commands on one database: they open it and write the answer to standard output.
 
-ghost use Rattle.std.specs.Prelude.{◌≡◌, ◌<◌, ◌≤◌, ◌-◌, ℕ, ℤ, Bool, List, Option, Result, IfSome, filter, take};
+ghost use Rattle.std.specs.Prelude.{◌≡◌, ◌<◌, ◌≤◌, ℕ, List, IfSome};
 ghost use Rattle.std.specs.FinMap.{empty};
-ghost use Rattle.osm_value.specs.declared.element.MemberKind.{MemberKind as MemberKindValue};
-ghost use Rattle.osm_value.specs.declared.form.Form.TheVariants as form;
 ghost use Rattle.osm_rows.specs.Calls.{OfHeld};
 ghost use Rattle.osm_rows.specs.Held.{HeldMap};
-ghost use Rattle.osm_rows.specs.Keeping.{extents_of};
-ghost use Rattle.osm_rows.specs.Rows.{is_of, placed_in};
-ghost use Rattle.osm_reading.specs.Framings.{Known};
-ghost use Rattle.osm_import.specs.ExportCauses.{ExportHasCause, ExportIsOwn};
-ghost use Rattle.osm_import.specs.Exports.{IsExport, size_of};
 ghost use Rattle.osm_import.specs.Flows.{output};
 ghost use Rattle.osm_import.specs.Merges.{ImportsPart};
-ghost use Rattle.osm_import.specs.Pbf.{IsPbfExport};
 ghost use Rattle.osm_import.specs.Stores.{Stays, Takes};
-ghost use Rattle.osm_import.specs.declared.export.fault.ExportFault.{ExportFault as ExportFaultValue};
-ghost use Rattle.pbfrow_commands.specs.Counting.{TellsCounts};
-ghost use Rattle.pbfrow_commands.specs.Exporting.{EndsExport};
-ghost use Rattle.pbfrow_commands.specs.Finding.{TellsMatches};
-ghost use Rattle.pbfrow_commands.specs.Importing.{HoldsFile, HoldsRange, ImportsAll, ImportsRange};
-ghost use Rattle.pbfrow_commands.specs.Status.{TellsStatus};
+ghost use Rattle.pbfrow_commands.specs.Importing.{HoldsFile, HoldsRange};
+ghost use Rattle.pbfrow_commands.specs.Telling.{telling};
+ghost use Rattle.pbfrow_databases.specs.Questions.{AnswersQuery};
+ghost use Rattle.pbfrow_databases.specs.Starting.{ImportsUpTo, imported_of};
 
 use crate::questions::{ask_one, goes_by_blobs};
 use crate::starting::most_bytes;
@@ -75,17 +65,14 @@ fn imported<R: Read + Drop, K: Keeper, T: Teller, S: Sink>(
     requires begins { start.at ≤ MAX_OFFSET }
     requires drops { start.dropped ≤ start.at }
     requires ends { IfSome to (λ n. (start.at < n) × (n ≤ MAX_OFFSET)) }
+    ensures imports { ImportsUpTo start.dropped start.at to (R.remaining reader) (output (T.tells teller.now) S.Sink out.old out.new) (store.new ≡ store.old) (Takes K.Reader store.old store.new) result }
+    ensures part { (bytes : List ℕ) → R.remaining reader ≡ Some bytes → start.dropped ≡ 0 → K.holds store.old empty → K.is_honest store.new
+        → result ≡ 0 → ImportsPart (K.holds store.new) start.at (imported_of start.at to bytes) }
     // all of it
-    ensures all { to ≡ None → ImportsAll start.dropped start.at (R.remaining reader) (output (T.tells teller.now) S.Sink out.old out.new) (store.new ≡ store.old) (Takes K.Reader store.old store.new) result }
     ensures one_file { (file : List ℕ) (held : HeldMap) → to ≡ None → R.remaining reader ≡ Some file → start.dropped ≡ 0 → start.at ≡ 0 → K.holds store.old held → K.is_honest store.new
         → result ≡ 0 → HoldsFile (K.holds store.new) file held }
-    ensures part { (piece : List ℕ) → to ≡ None → R.remaining reader ≡ Some piece → start.dropped ≡ 0 → K.holds store.old empty → K.is_honest store.new
-        → result ≡ 0 → ImportsPart (K.holds store.new) start.at piece }
     // what stands before an offset
-    ensures range { (end : ℕ) → to ≡ Some end → ImportsRange start.dropped start.at end (R.remaining reader) (output (T.tells teller.now) S.Sink out.old out.new) (store.new ≡ store.old) (Takes K.Reader store.old store.new) result }
     ensures whole { (end : ℕ) → to ≡ Some end → OfHeld K.Reader store.old store.new (λ held. result ≡ 0 → HoldsRange (K.holds store.new) held start.dropped start.at end (R.remaining reader)) }
-    ensures range_part { (end : ℕ) (bytes : List ℕ) → to ≡ Some end → R.remaining reader ≡ Some bytes → start.dropped ≡ 0 → K.holds store.old empty → K.is_honest store.new
-        → result ≡ 0 → ImportsPart (K.holds store.new) start.at (take (end - start.at) bytes) }
     ensures bound { result ≤ 1 }
 {
     match to {
@@ -176,20 +163,7 @@ pub(crate) fn fill<D: Databases>(
 /// Asks a store, and answers the exit status: as `ask_one` does what several can be asked as well, and `find` the other. What
 /// it holds stays.
 fn answer_query<K: Reader, S: Sink>(alloc: Global, store: &mut K, query: Query, out: &mut S) -> u8
-    ensures status { (size : Option ℕ) (held : HeldMap) → query ≡ Query.Whole (Question.Status size) → K.holds store.old held → K.is_honest store.new
-        → TellsStatus held size (K.failures store.old) (K.failures store.new) (S.written out.old) (S.written out.new) (S.has_failed out.new) result }
-    ensures counts { (size : Option ℕ) (held : HeldMap) → query ≡ Query.Whole (Question.Counts size) → K.holds store.old held → K.is_honest store.new
-        → TellsCounts held size (K.failures store.old) (K.failures store.new) (S.written out.old) (S.written out.new) (S.has_failed out.new) result }
-    ensures lines { (size : Option ℕ) (partial : Bool) (held : HeldMap) → query ≡ Query.Whole (Question.Export size partial form.Lines) → K.holds store.old held → K.is_honest store.new
-        → (answer : Result (Unit {0}) ExportFaultValue) × (text : Known) × IsExport held (size_of size (extents_of held)) partial (S.written out.old) text answer
-        × ExportHasCause (K.failures store.old) (K.failures store.new) (S.has_failed out.new) answer × ExportIsOwn answer
-        × EndsExport text (S.written out.new) (S.has_failed out.new) result answer }
-    ensures pbf { (size : Option ℕ) (partial : Bool) (held : HeldMap) → query ≡ Query.Whole (Question.Export size partial form.Pbf) → K.holds store.old held → K.is_honest store.new
-        → (answer : Result (Unit {0}) ExportFaultValue) × (text : Known) × IsPbfExport held (size_of size (extents_of held)) partial (S.written out.old) text answer
-        × ExportHasCause (K.failures store.old) (K.failures store.new) (S.has_failed out.new) answer × ExportIsOwn answer
-        × EndsExport text (S.written out.new) (S.has_failed out.new) result answer }
-    ensures found { (kind : MemberKindValue) (id : ℤ) (held : HeldMap) → query ≡ Query.Element kind id → K.holds store.old held → K.is_honest store.new
-        → TellsMatches (filter (is_of kind id) (placed_in held)) (K.failures store.old) (K.failures store.new) (S.written out.old) (S.written out.new) (S.has_failed out.new) result }
+    ensures told { OfHeld K.Reader store.old store.new (λ held. AnswersQuery query held (telling K.failures S.Sink store.old store.new out.old out.new result)) }
     ensures stays { Stays K.Reader store.old store.new }
     ensures bound { result ≤ 1 }
 {

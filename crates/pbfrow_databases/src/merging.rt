@@ -1,10 +1,8 @@
 //! The command that copies several databases into one: `merge`.
 
 ghost use Rattle.std.specs.Prelude.{◌≤◌};
-ghost use Rattle.osm_rows.specs.Calls.{OfHeld};
-ghost use Rattle.osm_rows.specs.Held.{HeldMap};
-ghost use Rattle.osm_import.specs.Stores.{HoldsStill, Keeps};
 ghost use Rattle.osm_databases.specs.Found.{AreFound};
+ghost use Rattle.pbfrow_commands.specs.Merging.{NeverLoses};
 
 use crate::named::merge_named;
 use osm_databases::databases::{Databases, close, opened, opened_or_made};
@@ -52,10 +50,7 @@ fn merge_from<D: Databases, T: Keeper, W: Write>(
     meter: &Meter,
     out: &mut Outlet<W>,
 ) -> u8
-    ensures stays { OfHeld T.Reader into.old into.new (λ held. T.is_open into.new → HoldsStill T.Reader into.new held) }
-    ensures left { OfHeld T.Reader into.old into.new (λ held. (left : HeldMap) → T.leaves into.new left → Keeps held left) }
-    ensures honest { T.is_honest into.new → T.is_honest into.old }
-    ensures open_if { T.is_open into.new → T.is_open into.old }
+    ensures stays { NeverLoses T.Reader into.old into.new }
     ensures bound { result ≤ 1 }
 {
     let mut sources = InTurn::<MeteredSource<D>, _>::new(Sources { rt, files, meter }, names);

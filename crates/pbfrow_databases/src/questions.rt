@@ -1,21 +1,12 @@
 //! What each question calls: of one store, and of several in turn.
 
-ghost use Rattle.std.specs.Prelude.{◌≡◌, ◌≤◌, ℕ, List, Option, Bool, Result, length};
+ghost use Rattle.std.specs.Prelude.{◌≡◌, ◌≤◌, List, length};
+ghost use Rattle.osm_rows.specs.Calls.{OfHeld};
 ghost use Rattle.osm_rows.specs.Held.{HeldMap};
-ghost use Rattle.osm_rows.specs.Keeping.{extents_of};
-ghost use Rattle.osm_import.specs.ExportCauses.{ExportHasCause, ExportIsOwn};
-ghost use Rattle.osm_import.specs.Exports.{IsExport, size_of};
-ghost use Rattle.osm_reading.specs.Framings.{Known};
-ghost use Rattle.osm_import.specs.Pbf.{IsPbfExport};
 ghost use Rattle.osm_import.specs.Stores.{Stays};
-ghost use Rattle.osm_import.specs.declared.export.fault.ExportFault.{ExportFault as ExportFaultValue};
 ghost use Rattle.osm_parts.specs.Opening.{KeepsMaps};
-ghost use Rattle.osm_value.specs.declared.form.Form.TheVariants as form;
-ghost use Rattle.pbfrow_commands.specs.Counting.{TellsCounts};
-ghost use Rattle.pbfrow_commands.specs.Exporting.{EndsExport};
-ghost use Rattle.pbfrow_commands.specs.InParts.{TellsParts, TellsLines, TellsPbf};
-ghost use Rattle.pbfrow_commands.specs.Status.{TellsStatus};
-ghost use Rattle.pbfrow_databases.specs.Questions.{goes_by_blobs};
+ghost use Rattle.pbfrow_commands.specs.Telling.{telling};
+ghost use Rattle.pbfrow_databases.specs.Questions.{Answers, AnswersTogether, goes_by_blobs};
 
 use osm_parts::Openings;
 use osm_rows::Reader;
@@ -41,18 +32,7 @@ pub fn ask_one<K: Reader, S: Sink>(
     question: Question,
     out: &mut S,
 ) -> u8
-    ensures status { (size : Option ℕ) (held : HeldMap) → question ≡ Question.Status size → K.holds store.old held → K.is_honest store.new
-        → TellsStatus held size (K.failures store.old) (K.failures store.new) (S.written out.old) (S.written out.new) (S.has_failed out.new) result }
-    ensures counts { (size : Option ℕ) (held : HeldMap) → question ≡ Question.Counts size → K.holds store.old held → K.is_honest store.new
-        → TellsCounts held size (K.failures store.old) (K.failures store.new) (S.written out.old) (S.written out.new) (S.has_failed out.new) result }
-    ensures lines { (size : Option ℕ) (partial : Bool) (held : HeldMap) → question ≡ Question.Export size partial form.Lines → K.holds store.old held → K.is_honest store.new
-        → (answer : Result (Unit {0}) ExportFaultValue) × (text : Known) × IsExport held (size_of size (extents_of held)) partial (S.written out.old) text answer
-        × ExportHasCause (K.failures store.old) (K.failures store.new) (S.has_failed out.new) answer × ExportIsOwn answer
-        × EndsExport text (S.written out.new) (S.has_failed out.new) result answer }
-    ensures pbf { (size : Option ℕ) (partial : Bool) (held : HeldMap) → question ≡ Question.Export size partial form.Pbf → K.holds store.old held → K.is_honest store.new
-        → (answer : Result (Unit {0}) ExportFaultValue) × (text : Known) × IsPbfExport held (size_of size (extents_of held)) partial (S.written out.old) text answer
-        × ExportHasCause (K.failures store.old) (K.failures store.new) (S.has_failed out.new) answer × ExportIsOwn answer
-        × EndsExport text (S.written out.new) (S.has_failed out.new) result answer }
+    ensures told { OfHeld K.Reader store.old store.new (λ held. Answers question held (telling K.failures S.Sink store.old store.new out.old out.new result)) }
     ensures stays { Stays K.Reader store.old store.new }
     ensures bound { result ≤ 1 }
 {
@@ -75,18 +55,8 @@ pub fn ask_in_turn<K: Reader + Drop, O: Openings<K>, S: Sink>(
     question: Question,
     out: &mut S,
 ) -> u8
-    ensures status { (size : Option ℕ) (maps : List HeldMap) → question ≡ Question.Status size → O.holds openings.old maps → O.is_honest openings.new → length maps ≡ count
-        → TellsParts (λ whole. TellsStatus whole size (O.failures openings.old) (O.failures openings.new) (S.written out.old) (S.written out.new) (S.has_failed out.new) result)
-        maps (O.failures openings.old) (O.failures openings.new) (S.written out.old) (S.written out.new) (S.has_failed out.new) result }
-    ensures counts { (size : Option ℕ) (maps : List HeldMap) → question ≡ Question.Counts size → O.holds openings.old maps → O.is_honest openings.new → length maps ≡ count
-        → TellsParts (λ whole. TellsCounts whole size (O.failures openings.old) (O.failures openings.new) (S.written out.old) (S.written out.new) (S.has_failed out.new) result)
-        maps (O.failures openings.old) (O.failures openings.new) (S.written out.old) (S.written out.new) (S.has_failed out.new) result }
-    ensures lines { (size : Option ℕ) (partial : Bool) (maps : List HeldMap) → question ≡ Question.Export size partial form.Lines → O.holds openings.old maps → O.is_honest openings.new → length maps ≡ count
-        → TellsParts (TellsLines size partial (O.failures openings.old) (O.failures openings.new) (S.written out.old) (S.written out.new) (S.has_failed out.new) result)
-        maps (O.failures openings.old) (O.failures openings.new) (S.written out.old) (S.written out.new) (S.has_failed out.new) result }
-    ensures pbf { (size : Option ℕ) (partial : Bool) (maps : List HeldMap) → question ≡ Question.Export size partial form.Pbf → O.holds openings.old maps → O.is_honest openings.new → length maps ≡ count
-        → TellsParts (TellsPbf maps size partial (O.failures openings.old) (O.failures openings.new) (S.written out.old) (S.written out.new) (S.has_failed out.new) result)
-        maps (O.failures openings.old) (O.failures openings.new) (S.written out.old) (S.written out.new) (S.has_failed out.new) result }
+    ensures told { (maps : List HeldMap) → O.holds openings.old maps → O.is_honest openings.new → length maps ≡ count
+        → AnswersTogether question maps (telling O.failures S.Sink openings.old openings.new out.old out.new result) }
     ensures keeps { KeepsMaps O.holds O.is_honest O.is_open openings.old openings.new }
     ensures bound { result ≤ 1 }
 {

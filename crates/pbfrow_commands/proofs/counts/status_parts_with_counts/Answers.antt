@@ -1,22 +1,15 @@
-use Rattle.std.proofs.Common.{[], false, List, inl, inr, sym, subst}
+use Rattle.std.proofs.Common.{[], false, List, inl, inr, refl, sym, subst}
 use Rattle.osm_value.proofs.SinkLemmas.{started}
-use Rattle.osm_rows.specs.Held.{HeldMap}
 use Rattle.osm_parts.specs.Reading.{AreRead}
 use Rattle.osm_parts.specs.declared.runs.Part.{Part}
 use Rattle.osm_parts.proofs.ReadingLemmas.{whole-read}
 use Rattle.pbfrow_counts.proofs.WalkLemmas.{cause-of-later}
-use Rattle.pbfrow_commands.specs.Counting.{TellsCounts}
 use Rattle.pbfrow_commands.proofs.CensusLemmas.{count-fault}
-use Rattle.pbfrow_commands.proofs.PartsLines.{parts-fault}
 use Rattle.pbfrow_commands.proofs.counts.status_parts_with_counts.Goals as goal
 
 pub returns-in-Err-clause-told : goal.returns-in-Err-clause-told
 returns-in-Err-clause-told g c = λ maps holds honest all.
-    let old = g.S.Sink.written c.args.out.now in
-    let new = g.S.Sink.written c.put_parts_fault.new.out in
-    let failed = g.S.Sink.has_failed c.put_parts_fault.new.out in
-    parts-fault (λ (whole : HeldMap). TellsCounts whole c.args.size _ _ old new failed 1) maps _ _ old new failed c.in-Err.fault
-    (c.in-Err.ensures.fault maps holds honest all) c.in-Err.ensures.cause (c.put_parts_fault.ensures _ [] (started _ _))
+    inl (record { fault = c.in-Err.fault; of_maps = c.in-Err.ensures.fault maps holds honest all; cause = c.in-Err.ensures.cause; line = c.put_parts_fault.ensures _ [] (started _ _); one = refl })
 
 pub returns-in-Ok-take_census_of_parts-clause-told : goal.returns-in-Ok-take_census_of_parts-clause-told
 returns-in-Ok-take_census_of_parts-clause-told g c = λ maps holds honest all.
@@ -38,6 +31,5 @@ returns-clause-told g c = λ maps holds honest all.
     inr (
       it.0,
       it.2,
-      count-fault it.0 c.args.size _ _ _ _ _ made.fault (made.ensures.own maps still honest lent) (cause-of-later _ _ _ made.fault c.in-Ok.ensures.counted made.ensures.cause)
-          (c.put_count_fault.ensures _ [] (started _ _)),
+      inr (count-fault _ made.fault (made.ensures.own maps still honest lent) (cause-of-later _ _ _ made.fault c.in-Ok.ensures.counted made.ensures.cause) (c.put_count_fault.ensures _ [] (started _ _)) refl),
     )

@@ -20,7 +20,7 @@ pub returns-in-Ok-clause-merges : goal.returns-in-Ok-clause-merges
 returns-in-Ok-clause-merges g c =
     let made = c.in-Ok.ensures.merges in
     let old = g.S.Sink.written c.args.out.now in
-    (made.0, Ok c.in-Ok.total, made.1, made.2, c.end_merge.ensures.line old _ (made.3 old [] (started _ _)), c.end_merge.ensures.status)
+    record { counts = made.0; outcome = Ok c.in-Ok.total; merges = made.1; total = made.2; text = c.end_merge.ensures.line old _ (made.3 old [] (started _ _)); status_is = c.end_merge.ensures.status }
 
 pub returns-in-Err-clause-union : goal.returns-in-Err-clause-union
 returns-in-Err-clause-union g c = λ maps held holds honest all into_holds into_honest zero. absurd (omega (arith, zero))
@@ -35,16 +35,20 @@ pub returns-in-Err-clause-merges : goal.returns-in-Err-clause-merges
 returns-in-Err-clause-merges g c =
     let made = c.in-Err.ensures.merges in
     let old = g.S.Sink.written c.args.out.now in
-    (made.0, Err c.in-Err.field-0, made.1, tt, made.3 old [] (started _ _), refl)
+    record { counts = made.0; outcome = Err c.in-Err.field-0; merges = made.1; total = tt; text = made.3 old [] (started _ _); status_is = refl }
 
 pub returns-in-Ok-clause-stays : goal.returns-in-Ok-clause-stays
-returns-in-Ok-clause-stays g c = λ held into_holds into_honest. held-still g.T.Reader c.merge_each.new.into (Ok c.in-Ok.total) held (c.in-Ok.ensures.merges.1.kept held into_holds into_honest)
-
-pub returns-in-Ok-clause-left : goal.returns-in-Ok-clause-left
-returns-in-Ok-clause-left g c = λ held into_holds into_honest. (c.in-Ok.ensures.merges.1.kept held into_holds into_honest).crash
+returns-in-Ok-clause-stays g c = record {
+  still = λ held into_holds into_honest. held-still g.T.Reader c.merge_each.new.into (Ok c.in-Ok.total) held (c.in-Ok.ensures.merges.1.kept held into_holds into_honest);
+  left = λ held into_holds into_honest. (c.in-Ok.ensures.merges.1.kept held into_holds into_honest).crash;
+  honest = c.in-Ok.ensures.honest;
+  open_if = c.in-Ok.ensures.open_if;
+}
 
 pub returns-in-Err-clause-stays : goal.returns-in-Err-clause-stays
-returns-in-Err-clause-stays g c = λ held into_holds into_honest. held-still g.T.Reader c.merge_each.new.into (Err c.in-Err.field-0) held (c.in-Err.ensures.merges.1.kept held into_holds into_honest)
-
-pub returns-in-Err-clause-left : goal.returns-in-Err-clause-left
-returns-in-Err-clause-left g c = λ held into_holds into_honest. (c.in-Err.ensures.merges.1.kept held into_holds into_honest).crash
+returns-in-Err-clause-stays g c = record {
+  still = λ held into_holds into_honest. held-still g.T.Reader c.merge_each.new.into (Err c.in-Err.field-0) held (c.in-Err.ensures.merges.1.kept held into_holds into_honest);
+  left = λ held into_holds into_honest. (c.in-Err.ensures.merges.1.kept held into_holds into_honest).crash;
+  honest = c.in-Err.ensures.honest;
+  open_if = c.in-Err.ensures.open_if;
+}

@@ -13,66 +13,50 @@ use Rattle.pbfrow_commands.specs.declared.merge.MergeStop.{MergeStop}
 use Rattle.pbfrow_commands.proofs.MergingLemmas.{copies-at, crash-front, own-merged, cause-merged, kept-merged, line-merged, opens-merged}
 use Rattle.pbfrow_commands.proofs.merge.merge_at.Goals as goal
 
-pub returns-in-Err-clause-copies : goal.returns-in-Err-clause-copies
-returns-in-Err-clause-copies g c = λ maps source held holds honest at into_holds into_honest. into_holds
-
-pub returns-in-Err-clause-crash : goal.returns-in-Err-clause-crash
-returns-in-Err-clause-crash g c = λ maps source held holds honest at into_holds into_honest left may.
-    subst (λ (h : HeldMap). IsFrontUnited (source ∷ []) held h) (sym (g.met.T.Reader.settled _ held left into_holds may)) (front_begun (source ∷ []) held)
-
-pub returns-in-Err-clause-kept : goal.returns-in-Err-clause-kept
-returns-in-Err-clause-kept g c = λ held into_holds into_honest. kept-still g.T.Reader c.args.into.now _ held into_holds (λ left may. g.met.T.Reader.settled _ held left into_holds may)
-
-pub returns-in-Err-clause-whole : goal.returns-in-Err-clause-whole
-returns-in-Err-clause-whole g c = λ held into_holds into_honest. g.met.T.Reader.leaves_held _ held into_holds
-
-pub returns-in-Err-clause-list : goal.returns-in-Err-clause-list
-returns-in-Err-clause-list g c = λ held into_holds into_honest rows lists. lists
-
-pub returns-in-Err-clause-own : goal.returns-in-Err-clause-own
-returns-in-Err-clause-own g c = λ maps source held holds honest at into_holds into_honest. c.in-Err.ensures.own maps holds honest
+pub returns-in-Err-clause-merges : goal.returns-in-Err-clause-merges
+returns-in-Err-clause-merges g c = record {
+  copies = λ maps source held holds honest at into_holds into_honest. into_holds;
+  crash = λ maps source held holds honest at into_holds into_honest left may.
+      subst (λ (h : HeldMap). IsFrontUnited (source ∷ []) held h) (sym (g.met.T.Reader.settled _ held left into_holds may)) (front_begun (source ∷ []) held);
+  kept = λ held into_holds into_honest. kept-still g.T.Reader c.args.into.now _ held into_holds (λ left may. g.met.T.Reader.settled _ held left into_holds may);
+  whole = λ held into_holds into_honest. g.met.T.Reader.leaves_held _ held into_holds;
+  list = λ held into_holds into_honest rows lists. lists;
+  own = λ maps source held holds honest at into_holds into_honest. c.in-Err.ensures.own maps holds honest;
+}
 
 pub returns-in-Err-clause-opens : goal.returns-in-Err-clause-opens
 returns-in-Err-clause-opens g c = record { keeps = c.in-Err.ensures.refused; ok = tt }
 
-pub returns-clause-copies : goal.returns-clause-copies
-returns-clause-copies g c = λ maps source held holds honest at into_holds into_honest.
-    let both = c.close.ensures.honest honest in
-    let made = c.merge_one-outcome.ensures in
-    let it = c.in-Ok.ensures.lent maps holds both.0 (made.source.stays.honest both.1) in
-    let from_holds = subst (λ (m : HeldMap). g.F.Reader.holds c.in-Ok.store m) (same-held maps c.args.place it.held source it.at at) it.store in
-    let T = g.T.Reader in
-    let into = c.merge_one-outcome.new.into in
-    subst (λ (r : Result CopyCounts MergeStop). CopiesAt (T.is_open into) (T.holds into) source held r) (sym c.merged.ensures)
-    (copies-at (T.is_open into) (T.holds into) source held c.merge_one-outcome.result (made.copies.copies source held from_holds both.1 into_holds into_honest))
-
-pub returns-clause-crash : goal.returns-clause-crash
-returns-clause-crash g c = λ maps source held holds honest at into_holds into_honest left may.
-    let both = c.close.ensures.honest honest in
-    let made = c.merge_one-outcome.ensures in
-    let it = c.in-Ok.ensures.lent maps holds both.0 (made.source.stays.honest both.1) in
-    let from_holds = subst (λ (m : HeldMap). g.F.Reader.holds c.in-Ok.store m) (same-held maps c.args.place it.held source it.at at) it.store in
-    crash-front (g.T.Reader.leaves c.merge_one-outcome.new.into) source held left c.merge_one-outcome.result (made.copies.crash source held from_holds both.1 into_holds into_honest) may
-
-pub returns-clause-kept : goal.returns-clause-kept
-returns-clause-kept g c = λ held into_holds into_honest.
-    let into = c.merge_one-outcome.new.into in
-    subst (λ (r : Result CopyCounts MergeStop). KeepsHeld g.T.Reader into r held) (sym c.merged.ensures)
-    (kept-merged g.T.Reader into c.merge_one-outcome.result held (c.merge_one-outcome.ensures.copies.kept held into_holds into_honest))
-
-pub returns-clause-whole : goal.returns-clause-whole
-returns-clause-whole g c = c.merge_one-outcome.ensures.copies.whole
-
-pub returns-clause-list : goal.returns-clause-list
-returns-clause-list g c = c.merge_one-outcome.ensures.copies.list
-
-pub returns-clause-own : goal.returns-clause-own
-returns-clause-own g c = λ maps source held holds honest at into_holds into_honest.
-    let both = c.close.ensures.honest honest in
-    let made = c.merge_one-outcome.ensures in
-    let it = c.in-Ok.ensures.lent maps holds both.0 (made.source.stays.honest both.1) in
-    let from_holds = subst (λ (m : HeldMap). g.F.Reader.holds c.in-Ok.store m) (same-held maps c.args.place it.held source it.at at) it.store in
-    subst (λ (r : Result CopyCounts MergeStop). IsOwnMerge r) (sym c.merged.ensures) (own-merged c.merge_one-outcome.result (made.copies.own source held from_holds both.1 into_holds into_honest))
+pub returns-clause-merges : goal.returns-clause-merges
+returns-clause-merges g c = record {
+  copies = λ maps source held holds honest at into_holds into_honest.
+      let both = c.close.ensures.honest honest in
+      let made = c.merge_one-outcome.ensures in
+      let it = c.in-Ok.ensures.lent maps holds both.0 (made.source.stays.honest both.1) in
+      let from_holds = subst (λ (m : HeldMap). g.F.Reader.holds c.in-Ok.store m) (same-held maps c.args.place it.held source it.at at) it.store in
+      let T = g.T.Reader in
+      let into = c.merge_one-outcome.new.into in
+      subst (λ (r : Result CopyCounts MergeStop). CopiesAt (T.is_open into) (T.holds into) source held r) (sym c.merged.ensures)
+      (copies-at (T.is_open into) (T.holds into) source held c.merge_one-outcome.result (made.copies.copies source held from_holds both.1 into_holds into_honest));
+  crash = λ maps source held holds honest at into_holds into_honest left may.
+      let both = c.close.ensures.honest honest in
+      let made = c.merge_one-outcome.ensures in
+      let it = c.in-Ok.ensures.lent maps holds both.0 (made.source.stays.honest both.1) in
+      let from_holds = subst (λ (m : HeldMap). g.F.Reader.holds c.in-Ok.store m) (same-held maps c.args.place it.held source it.at at) it.store in
+      crash-front (g.T.Reader.leaves c.merge_one-outcome.new.into) source held left c.merge_one-outcome.result (made.copies.crash source held from_holds both.1 into_holds into_honest) may;
+  kept = λ held into_holds into_honest.
+      let into = c.merge_one-outcome.new.into in
+      subst (λ (r : Result CopyCounts MergeStop). KeepsHeld g.T.Reader into r held) (sym c.merged.ensures)
+      (kept-merged g.T.Reader into c.merge_one-outcome.result held (c.merge_one-outcome.ensures.copies.kept held into_holds into_honest));
+  whole = c.merge_one-outcome.ensures.copies.whole;
+  list = c.merge_one-outcome.ensures.copies.list;
+  own = λ maps source held holds honest at into_holds into_honest.
+      let both = c.close.ensures.honest honest in
+      let made = c.merge_one-outcome.ensures in
+      let it = c.in-Ok.ensures.lent maps holds both.0 (made.source.stays.honest both.1) in
+      let from_holds = subst (λ (m : HeldMap). g.F.Reader.holds c.in-Ok.store m) (same-held maps c.args.place it.held source it.at at) it.store in
+      subst (λ (r : Result CopyCounts MergeStop). IsOwnMerge r) (sym c.merged.ensures) (own-merged c.merge_one-outcome.result (made.copies.own source held from_holds both.1 into_holds into_honest));
+}
 
 pub returns-clause-opens : goal.returns-clause-opens
 returns-clause-opens g c =

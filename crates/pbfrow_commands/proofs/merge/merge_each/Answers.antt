@@ -47,11 +47,11 @@ loop-place-preserved g c =
       counted = omega (arith, inv.counted, made.counted.1);
       kept = λ held into_holds into_honest.
           let before = inv.kept held into_holds (made.honest into_honest) in
-          let step = (made.kept before.0 before.2 into_honest).ok in
+          let step = (made.merges.kept before.0 before.2 into_honest).ok in
           (step.0, keeps-then held before.0 step.0 before.1 step.1, step.2);
       list = λ held into_holds into_honest rows lists.
           let before = inv.kept held into_holds (made.honest into_honest) in
-          made.list before.0 before.2 into_honest rows (inv.list held into_holds (made.honest into_honest) rows lists);
+          made.merges.list before.0 before.2 into_honest rows (inv.list held into_holds (made.honest into_honest) rows lists);
       honest = λ h. inv.honest (made.honest h);
       open_if = λ o. inv.open_if (made.open_if o);
       copied = (
@@ -63,7 +63,7 @@ loop-place-preserved g c =
             let before = inv.copied.3 maps held holds earlier all into_holds (made.honest into_honest) in
             let low : c.loop-place.place < length maps = omega (arith, all, c.loop-place-test.true) in
             let at = held-at maps c.loop-place.place low in
-            let step = made.copies maps at.0 before.0 (inv.from_kept earlier maps holds) honest at.1 before.2 into_honest in (
+            let step = made.merges.copies maps at.0 before.0 (inv.from_kept earlier maps holds) honest at.1 before.2 into_honest in (
               step.0,
               subst (λ (l : List HeldMap). AreCopied l (so_far ++ more ∷ []) held step.0) (sym (take-next maps c.loop-place.place at.0 at.1))
                   (copied-more (take c.loop-place.place maps) so_far at.0 held before.0 step.0 more before.1 step.1 step.3 step.4),
@@ -130,32 +130,32 @@ returns-in_err-counts-clause-merges g c =
             let low : c.loop-place.place < length maps = omega (arith, all, c.loop-place-test.true) in
             let at = held-at maps c.loop-place.place low in
             let rest = parted maps c.loop-place.place at.0 at.1 in
-            (take c.loop-place.place maps, at.0, rest.0, rest.1, before.0, before.1, made.copies maps at.0 before.0 (inv.from_kept earlier maps holds) honest at.1 before.2 into_honest);
+            (take c.loop-place.place maps, at.0, rest.0, rest.1, before.0, before.1, made.merges.copies maps at.0 before.0 (inv.from_kept earlier maps holds) honest at.1 before.2 into_honest);
         crash = λ maps held holds honest all into_holds into_honest left may.
             let earlier = made.opens.keeps.honest honest in
             let before = inv.copied.3 maps held holds earlier all into_holds (made.honest into_honest) in
             let low : c.loop-place.place < length maps = omega (arith, all, c.loop-place-test.true) in
             let at = held-at maps c.loop-place.place low in
-            left-front maps c.loop-place.place at.0 held before.0 left counts at.1 before.1 (made.crash maps at.0 before.0 (inv.from_kept earlier maps holds) honest at.1 before.2 into_honest left may);
+            left-front maps c.loop-place.place at.0 held before.0 left counts at.1 before.1 (made.merges.crash maps at.0 before.0 (inv.from_kept earlier maps holds) honest at.1 before.2 into_honest left may);
         all = λ maps held holds honest all into_holds into_honest. tt;
         kept = λ held into_holds into_honest.
             let before = inv.kept held into_holds (made.honest into_honest) in
-            let kept = made.kept before.0 before.2 into_honest in
+            let kept = made.merges.kept before.0 before.2 into_honest in
             record {
               ok = tt;
               err = λ up. (let now = kept.err up in (now.0, keeps-then held before.0 now.0 before.1 now.1, now.2));
               crash = λ left may. keeps-then held before.0 left before.1 (kept.crash left may);
             };
-        whole = λ held into_holds into_honest. (let before = inv.kept held into_holds (made.honest into_honest) in made.whole before.0 before.2 into_honest);
+        whole = λ held into_holds into_honest. (let before = inv.kept held into_holds (made.honest into_honest) in made.merges.whole before.0 before.2 into_honest);
         list = λ held into_holds into_honest rows lists.
             let before = inv.kept held into_holds (made.honest into_honest) in
-            made.list before.0 before.2 into_honest rows (inv.list held into_holds (made.honest into_honest) rows lists);
+            made.merges.list before.0 before.2 into_honest rows (inv.list held into_holds (made.honest into_honest) rows lists);
         own = λ maps held holds honest all into_holds into_honest.
             let earlier = made.opens.keeps.honest honest in
             let before = inv.copied.3 maps held holds earlier all into_holds (made.honest into_honest) in
             let low : c.loop-place.place < length maps = omega (arith, all, c.loop-place-test.true) in
             let at = held-at maps c.loop-place.place low in
-            made.own maps at.0 before.0 (inv.from_kept earlier maps holds) honest at.1 before.2 into_honest;
+            made.merges.own maps at.0 before.0 (inv.from_kept earlier maps holds) honest at.1 before.2 into_honest;
         cause = merge-cause-later _ _ _ _ _ _ (Err stop) inv.from_counted inv.counted made.cause;
       },
       tt,

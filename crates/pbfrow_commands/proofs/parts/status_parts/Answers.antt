@@ -1,8 +1,5 @@
-use Rattle.std.proofs.Common.{[], inl, inr}
+use Rattle.std.proofs.Common.{[], inl, inr, refl}
 use Rattle.osm_value.proofs.SinkLemmas.{started}
-use Rattle.osm_rows.specs.Held.{HeldMap}
-use Rattle.pbfrow_commands.specs.Status.{TellsStatus}
-use Rattle.pbfrow_commands.proofs.PartsLines.{parts-fault}
 use Rattle.pbfrow_commands.proofs.parts.status_parts.Goals as goal
 
 pub returns-in-Ok-clause-told : goal.returns-in-Ok-clause-told
@@ -12,8 +9,4 @@ returns-in-Ok-clause-told g c = λ maps holds honest all.
 
 pub returns-in-Err-clause-told : goal.returns-in-Err-clause-told
 returns-in-Err-clause-told g c = λ maps holds honest all.
-    let old = g.S.Sink.written c.args.out.now in
-    let new = g.S.Sink.written c.put_parts_fault.new.out in
-    let failed = g.S.Sink.has_failed c.put_parts_fault.new.out in
-    parts-fault (λ (whole : HeldMap). TellsStatus whole c.args.size _ _ old new failed 1) maps _ _ old new failed c.in-Err.fault
-    (c.in-Err.ensures.fault maps holds honest all) c.in-Err.ensures.cause (c.put_parts_fault.ensures _ [] (started _ _))
+    inl (record { fault = c.in-Err.fault; of_maps = c.in-Err.ensures.fault maps holds honest all; cause = c.in-Err.ensures.cause; line = c.put_parts_fault.ensures _ [] (started _ _); one = refl })

@@ -40,15 +40,15 @@ loop-frames-preserved g c =
     let gives : GivesFrame c.flush_to_wait.new.frames c.next.follows.lender-at-none c.in-Ok-Some.at c.in-Ok-Some.bytes.now = rw (c.in-Ok-Some.is, c.in-Ok-Some.field-0-is) at c.next.follows.holds-at-none in
     let inv = c.loop-frames.invariant in
     let ok = c.in-Ok-compare_blob.ensures in
-    let stays = ok.rereads.stays in
+    let stays = ok.reads.rereads.stays in
     let end : c.in-Ok-compare_blob.next ≡ c.next.follows.lender-at-none.offset = ok.end ∙ sym gives.next in
     record {
       honest = λ h. inv.honest (stays.honest h);
       open_if = λ o. inv.open_if (stays.open_if o);
-      kept = λ h held holds. ok.rereads.ok h held (inv.kept (stays.honest h) held holds);
+      kept = λ h held holds. ok.reads.rereads.ok h held (inv.kept (stays.honest h) held holds);
       crash = λ h held leaves. inv.crash (stays.honest h) held (stays.crash h held leaves);
       whole = λ h was. stays.whole h (inv.whole (stays.honest h) was);
-      counted = omega (arith, inv.counted, ok.counted);
+      counted = omega (arith, inv.counted, ok.reads.counted);
       end = end;
       limit = subst (λ n. n ≤ 4611686018427387904) (sym end) gives.limit;
       going = λ held holds honest.
@@ -60,11 +60,11 @@ loop-frames-preserved g c =
           let p = told.0 in (
             blobs ++ p ∷ [],
             going-more (HasCompared c.args.depth held) compared_lines _ _ _ c.in-Ok-Some.at c.in-Ok-Some.bytes.now _ _ (g.W.Write.contents c.compare_blob.new.out.writer) _ c.compare_blob.new.out.has_failed blobs p
-                so_far gives told.1 told.2 told.3 told.4,
-            told.5 blobs before.2,
-            rows-push blobs p _ _ told.6 before.3,
+                so_far gives told.1.bytes_are told.1.is_part told.2 told.3,
+            told.1.counted blobs before.2,
+            rows-push blobs p _ _ told.1.rows before.3,
           );
-      same = λ honest up. g.met.K.Reader.same_tables_then _ _ _ (inv.same (stays.honest honest) (stays.open_if up)) (ok.same honest up);
+      same = λ honest up. g.met.K.Reader.same_tables_then _ _ _ (inv.same (stays.honest honest) (stays.open_if up)) (ok.reads.same honest up);
       reads =
           let K = g.K.Reader in
           let A = g.K.Audited in
@@ -79,17 +79,17 @@ loop-frames-preserved g c =
           let p = told.0 in (
             blobs ++ p ∷ [],
             reads-more _ (K.is_honest c.compare_blob.new.store × K.is_open c.compare_blob.new.store × A.has_tables first) (A.has_rows db) c.args.depth _ _ _ c.in-Ok-Some.at c.in-Ok-Some.bytes.now _ _ _ _ blobs p
-                (λ trust. (stays.honest trust.0, stays.open_if trust.1, trust.2)) so_far gives told.1 told.2 told.3 told.4 told.5
+                (λ trust. (stays.honest trust.0, stays.open_if trust.1, trust.2)) so_far gives told.1.bytes_are told.1.is_part told.2 told.1.counted told.1.rows
                 (λ trust.
                 let same = inv.same (stays.honest trust.0) (stays.open_if trust.1) in
-                subst (λ (db : Trees). HasSeen (A.has_rows db) c.args.depth c.in-Ok-Some.at p) (g.met.K.Audited.same_trees _ _ same) (told.6 trust.0 trust.1 (g.met.K.Audited.same_has_tables _ _ same trust.2))),
+                subst (λ (db : Trees). HasSeen (A.has_rows db) c.args.depth c.in-Ok-Some.at p) (g.met.K.Audited.same_trees _ _ same) (told.3 trust.0 trust.1 (g.met.K.Audited.same_has_tables _ _ same trust.2))),
           );
     }
 
 pub returns-in-Err-compare_blob-clause-told : goal.returns-in-Err-compare_blob-clause-told
 returns-in-Err-compare_blob-clause-told g c = λ held holds honest.
     let failed = c.in-Err-compare_blob.ensures in
-    let earlier = failed.rereads.stays.honest honest in
+    let earlier = failed.reads.rereads.stays.honest honest in
     let fine = c.in-Ok-flush_to_wait.ensures in
     let before = c.loop-frames.invariant.going held holds earlier in
     let blobs = before.0 in
@@ -99,8 +99,8 @@ returns-in-Err-compare_blob-clause-told g c = λ held holds honest.
     let last = g.K.Reader.failures c.compare_blob.new.store in
     let fault = c.in-Err-compare_blob.fault in
     let broken : IsBroken first last fault = record {
-      cause = cause-later first _ last fault c.loop-frames.invariant.counted failed.cause;
-      own = failed.own held (c.loop-frames.invariant.kept earlier held holds) honest;
+      cause = cause-later first _ last fault c.loop-frames.invariant.counted failed.reads.cause;
+      own = failed.reads.own held (c.loop-frames.invariant.kept earlier held holds) honest;
     } in
     let same = failed.err in (
       blobs,

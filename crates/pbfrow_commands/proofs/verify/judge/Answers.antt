@@ -12,10 +12,11 @@ returns-in-Ok-compare-clause-judged g c =
     let kind = c.in-Ok.good.kind in
     let elements = c.in-Ok.good.elements.items in
     let good = c.in-Ok.ensures.good bytes c.frame_of.ensures.whole in
-    let entry : IsEntryOf (λ entry. Unit {0}) at bytes elements = record { entry = entry_at at bytes kind elements; is_entry = entry_at-is at bytes kind elements good; elements_are = refl; so = tt } in (
-      elements,
-      entry,
-      subst (λ (es : List Element). CountsMore c.args.rows.now es c.add.new.self) c.deref.ensures.value c.add.ensures,
-      c.in-Ok-compare.ensures.compared,
-      (λ honest up tables deep same. (let is : c.in-Ok-compare.agreement ≡ Same = cc in c.in-Ok-compare.ensures.rows honest up tables deep is)),
-    )
+    let entry : IsEntryOf (λ entry. Unit {0}) at bytes elements = record { entry = entry_at at bytes kind elements; is_entry = entry_at-is at bytes kind elements good; elements_are = refl; so = tt } in
+    record {
+      elements = elements;
+      elements_are = entry;
+      counted = subst (λ (es : List Element). CountsMore c.args.rows.now es c.add.new.self) c.deref.ensures.value c.add.ensures;
+      compared = c.in-Ok-compare.ensures.compared;
+      seen = λ honest up tables deep same. (let is : c.in-Ok-compare.agreement ≡ Same = cc in c.in-Ok-compare.ensures.rows honest up tables deep is);
+    }
