@@ -234,7 +234,8 @@ repository/pbfrow --is-current && grep -q '^pbfrow: sources have changed meanwhi
   pass "a source that changes during the build is built again" || { fail "a source that changes during the build is built again"; sed 's/^/    /' said.txt steps.txt; }
 
 echo "// more" >> repository/crates/left/src/lib.rt
-flock repository/crates/low sleep 1 &
+# held until the build says that it waits, or for ten seconds
+flock repository/crates/low bash -c 'for _ in {1..100}; do sleep 0.1; grep -q "waiting for a command" said.txt && break; done' &
 until ! flock -n repository/crates/low true; do sleep 0.05; done
 builds "while a command of rt works in a crate the build waits" 0
 grep -q '^pbfrow: waiting for a command of rt that works in .*/crates/low$' said.txt && pass "and says so" || fail "and says so"
