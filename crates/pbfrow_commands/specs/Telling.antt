@@ -1,9 +1,9 @@
--- What a command has told, and why it may have failed.
+-- What commands have told.
 use Rattle.std.specs.Prelude.{ℕ, Bool}
 use Rattle.osm_value.specs.declared.sink.Sink.{Ghosts as SinkOf}
 use Rattle.osm_reading.specs.Framings.{Known}
 
--- a command over a call: the failures of its stores, its output and its exit status
+-- what a command told over a call: how often its stores failed, what it wrote, and the exit status
 pub record Telling : Type 0 where
   -- how many calls of the stores, or openings of them, had failed before
   pub failures_before : ℕ
@@ -18,7 +18,7 @@ pub record Telling : Type 0 where
   -- the exit status
   pub status : ℕ
 
--- a command over a call on a store, or on what opens several, whose failures are counted so, and a sink
+-- what a command told over a call, of a store or of what opens several, whose failures are counted so, and of a sink
 abbrev pub telling : {K S : Type 0} → (K → ℕ) → SinkOf S → K → K → S → S → ℕ → Telling
 telling failures sink store_old store_new out_old out_new status = record {
   failures_before = failures store_old;

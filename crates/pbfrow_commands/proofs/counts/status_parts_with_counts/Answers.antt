@@ -4,6 +4,7 @@ use Rattle.osm_parts.specs.Reading.{AreRead}
 use Rattle.osm_parts.specs.declared.runs.Part.{Part}
 use Rattle.osm_parts.proofs.ReadingLemmas.{whole-read}
 use Rattle.pbfrow_counts.proofs.WalkLemmas.{cause-of-later}
+use Rattle.pbfrow_commands.specs.Telling.{telling}
 use Rattle.pbfrow_commands.proofs.CensusLemmas.{count-fault}
 use Rattle.pbfrow_commands.proofs.counts.status_parts_with_counts.Goals as goal
 
@@ -31,5 +32,5 @@ returns-clause-told g c = λ maps holds honest all.
     inr (
       it.0,
       it.2,
-      inr (count-fault _ made.fault (made.ensures.own maps still honest lent) (cause-of-later _ _ _ made.fault c.in-Ok.ensures.counted made.ensures.cause) (c.put_count_fault.ensures _ [] (started _ _)) refl),
+      inr (count-fault (telling g.O.Openings.failures g.S.Sink c.args.openings.now c.take_census_of_parts.new.openings c.args.out.now c.put_count_fault.new.out 1) made.fault (made.ensures.own maps still honest lent) (cause-of-later _ _ _ made.fault c.in-Ok.ensures.counted made.ensures.cause) (c.put_count_fault.ensures _ [] (started _ _)) refl),
     )

@@ -19,7 +19,7 @@ returns-in-Err-write_found-clause-told g c = λ held holds clean.
     let before = g.S.Sink.written c.args.out.now in
     let nothing : Wrote before [] (g.S.Sink.written c.write_found.new.out) (g.S.Sink.has_failed c.write_found.new.out) =
     subst (λ o. Wrote before [] (g.S.Sink.written o) (g.S.Sink.has_failed o)) (sym c.in-Err-write_found.ensures.none) (started _ _) in
-    inr (record { fault = Memory; cause = inl refl; own = λ foreign. absurd foreign; line = c.put_store_fault-in-Err-write_found.ensures before [] nothing; one = refl })
+    inr (record { fault = Memory; cause = inl refl; own = λ foreign. absurd foreign; line = c.put_store_fault-in-Err-write_found.ensures before [] nothing; one = refl {a = 1} })
 
 pub returns-then-failed-clause-told : goal.returns-then-failed-clause-told
 returns-then-failed-clause-told g c = λ held holds clean.
