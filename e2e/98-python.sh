@@ -84,10 +84,10 @@ else
   skip "mypy finds its types right" "mypy isn't installed"
 fi
 
-shown "the extract" "$country" blocks ahead map whole kinds
+shown "the extract" "$country" blocks ahead map whole growing together kinds
 shown "two nodes" "$two" blocks whole
 "$python" "$top/e2e/python_files.py" .
-shown "kinds that stand mixed" mixed.osm.pbf blocks ahead whole kinds
+shown "kinds that stand mixed" mixed.osm.pbf blocks ahead whole together kinds
 
 # the files of 47-history.sh: what it writes by printf, and, where osmium is there, its lines
 eval "$(sed -n '/^printf /p; /^{$/,/^}/p; /^} > flagged/q' "$top/e2e/47-history.sh")"

@@ -2,7 +2,8 @@
 """python_lines.py FILE WAY: the elements of a file as the lines of `pbfrow show`, made from the arrays of the package pbfrow.
 
 WAY says how they are read: `blocks`, one block at a time; `ahead`, by four threads; `map`, by a pool of the caller; `whole`, all
-of the file at once; `kinds`, the nodes of the whole file, then its ways, then its relations; `zlib`, blocks that zlib inflates.
+of the file at once; `growing`, the same where at first there is room for nothing; `together`, by three threads, whose blocks are put
+together; `kinds`, the nodes of the whole file, then its ways, then its relations; `zlib`, blocks that zlib inflates.
 """
 import sys
 import zlib
@@ -68,9 +69,11 @@ def blocks(file, way):
 def main():
     path, way = sys.argv[1:]
     sys.stdout.reconfigure(newline="\n", encoding="utf-8")
-    if way in ("whole", "kinds"):
-        block = pbfrow.read(path, threads=3)
-        all_of = [block.elements] if way == "whole" else [block.nodes, block.ways, block.relations]
+    if way in ("whole", "growing", "together", "kinds"):
+        if way == "growing":
+            pbfrow._read._MOST_AT_FIRST = 0
+        block = pbfrow.read(path, threads=3 if way == "together" else 1)
+        all_of = [block.nodes, block.ways, block.relations] if way == "kinds" else [block.elements]
         for elements in all_of:
             sys.stdout.writelines(line + "\n" for line in lines(elements))
         return

@@ -117,7 +117,7 @@ class File:
         A fault is raised when it is its turn, and next() goes on behind the bad blob; behind the fault of a frame is nothing
         more. Where `on_fault` is a function, it is told each fault, and the next block comes.
         """
-        return _BlocksAhead(self, threads) if threads > 1 else _Blocks(self)
+        return _BlocksAhead(self, threads) if threads > 1 else _Blocks(self, self.decode)
 
     def blobs(self) -> Iterator[Blob]:
         """Where the blobs with elements are, one after the other, for `decode`. They cost little: nothing is decoded but the
@@ -167,6 +167,10 @@ class File:
         return Tables(self, "members", Members)
 
     # ---- what the iterators share
+
+    def _each(self, decode: Callable[[int, int], tuple[int, Any]]) -> Iterator[Any]:
+        """What this function makes of the payload of each blob with elements, one after the other, as `blocks` gives blocks."""
+        return _Blocks(self, lambda blob: self._with_payload(blob, decode))
 
     def _opened(self) -> NDArray[np.uint8]:
         if self._bytes is None:
@@ -293,16 +297,16 @@ class _Blobs(Iterator[Blob]):
         raise StopIteration
 
 
-class _Blocks(Iterator[Block]):
-    """The blocks, each decoded when it is asked for; it goes on behind a fault."""
+class _Blocks(Iterator[Any]):
+    """What a function makes of the blobs, each when it is asked for; it goes on behind a fault."""
 
-    def __init__(self, file: File) -> None:
-        self._file, self._walk = file, _Walk(file)
+    def __init__(self, file: File, decode: Callable[[Blob], Any]) -> None:
+        self._file, self._decode, self._walk = file, decode, _Walk(file)
 
-    def __next__(self) -> Block:
+    def __next__(self) -> Any:
         return self._next_of(self._walk)
 
-    def _next_of(self, steps: Iterator[Any]) -> Block:
+    def _next_of(self, steps: Iterator[Any]) -> Any:
         for end, has in steps:
             block = None
             try:
@@ -315,23 +319,23 @@ class _Blocks(Iterator[Block]):
                 return block
         raise StopIteration
 
-    def _made(self, has: Blob | Fault | None) -> Block | None:
+    def _made(self, has: Blob | Fault | None) -> Any:
         if isinstance(has, Fault):
             raise has
-        return self._file.decode(has) if has else None
+        return self._decode(has) if has else None
 
 
 class _BlocksAhead(_Blocks):
     """The same, decoded by threads ahead of the one that asks for them."""
 
     def __init__(self, file: File, threads: int) -> None:
-        super().__init__(file)
+        super().__init__(file, file.decode)
         self._started = _started(file, self._walk, threads)
 
-    def __next__(self) -> Block:
+    def __next__(self) -> Any:
         return self._next_of(self._started)
 
-    def _made(self, has: Any) -> Block | None:
+    def _made(self, has: Any) -> Any:
         return has.result() if hasattr(has, "result") else super()._made(has)
 
 

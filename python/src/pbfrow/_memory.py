@@ -7,6 +7,7 @@ each 4 KiB of it, and those of several threads wait for one another in the kerne
 from __future__ import annotations
 
 import ctypes
+import threading
 from collections import deque
 from typing import TYPE_CHECKING, Any, Dict
 
@@ -58,19 +59,20 @@ class Room:
 
 
 class Lease:
-    """Memory on loan: numpy arrays that look at it hold this object, and when the last one is gone it goes back to its pool."""
+    """Memory on loan: numpy arrays that look at it hold this object, and when the last one is gone it is free again."""
 
-    def __init__(self, pool: Pool, memory: NDArray[np.uint8], size: int) -> None:
-        self._pool, self._memory = pool, memory
+    def __init__(self, free: deque[NDArray[np.uint8]], memory: NDArray[np.uint8], size: int) -> None:
+        self._free, self._memory = free, memory
         address = -(-memory.ctypes.data // _ALIGNED) * _ALIGNED
         self.__array_interface__ = {"version": 3, "typestr": "|u1", "shape": (size,), "data": (address, False)}
 
     def __del__(self) -> None:
-        self._pool.give_back(self._memory)
+        self._free.append(self._memory)
 
 
-class Pool:
-    """Memory for blocks that was used before, for the threads of one file together."""
+class Pool(threading.local):
+    """Memory for blocks that was used before. Each thread has its own, whichever thread lets go of it: it is in the cache of the
+    processor that the thread runs on."""
 
     def __init__(self, most: int) -> None:
         self._free: deque[NDArray[np.uint8]] = deque(maxlen=most)
@@ -83,10 +85,7 @@ class Pool:
             memory = None
         if memory is None or len(memory) < size + _ALIGNED:
             memory = np.empty(size + _ALIGNED, np.uint8)
-        return np.asarray(Lease(self, memory, size))
-
-    def give_back(self, memory: NDArray[np.uint8]) -> None:
-        self._free.append(memory)
+        return np.asarray(Lease(self._free, memory, size))
 
 
 class Columns(Dict[str, "NDArray[Any]"]):
@@ -110,7 +109,7 @@ class Columns(Dict[str, "NDArray[Any]"]):
 class Decoder:
     """Decodes payloads of blocks, each into memory of its own, for several threads at a time."""
 
-    def __init__(self, most_spare: int = 16) -> None:
+    def __init__(self, most_spare: int = 8) -> None:
         self._pool = Pool(most_spare)
         self._room: Room | None = None
 
