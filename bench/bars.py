@@ -1,9 +1,9 @@
 #!/usr/bin/env python3
 """Draws the tables of a text as bars: bars.py TEXT FOLDER.
 
-Each Markdown table of the text that has a column `wall s`, or else `processor s`, becomes a picture FOLDER/bars-NUMBER.svg,
-numbered from 1 in the order of the text, with a bar for each row; pbfrow's own are filled. The documents show those of
-docs/BENCHMARKS.md, so run it after a change of its figures: bench/bars.py docs/BENCHMARKS.md docs/pictures
+Each Markdown table of the text that has a column `wall s`, or else `processor s`, or else `of the undisturbed`, becomes a picture
+FOLDER/bars-NUMBER.svg, numbered from 1 in the order of the text, with a bar for each row; pbfrow's own are filled. The documents
+show those of docs/BENCHMARKS.md, so run it after a change of its figures: bench/bars.py docs/BENCHMARKS.md docs/pictures
 """
 import sys
 from pathlib import Path
@@ -11,7 +11,12 @@ from pathlib import Path
 sys.path.insert(0, str(Path(__file__).resolve().parent.parent / "docs" / "pictures"))
 from draw import Picture  # noqa: E402
 
-MEASURES = ("wall s", "processor s")
+# what is drawn, by the head of its column
+TITLES = {
+    "wall s": "wall time in seconds",
+    "processor s": "processor time in seconds",
+    "of the undisturbed": "time of an import behind a kill at its half, divided by that of an undisturbed one",
+}
 NAMES, BARS, ROW, TOP, LEFT = 330, 420, 26, 44, 16
 
 
@@ -27,7 +32,7 @@ def tables(lines):
             rows.append(cells(line))
             continue
         if rows:
-            measure = next((it for it in MEASURES if it in rows[0]), None)
+            measure = next((it for it in TITLES if it in rows[0]), None)
             if measure:
                 at = rows[0].index(measure)
                 # a median has the least and the greatest behind it, in brackets
@@ -38,7 +43,7 @@ def tables(lines):
 
 
 def draw(measure, rows, path):
-    title = f"{measure.removesuffix(' s')} time in seconds"
+    title = TITLES[measure]
     said = "; ".join(f"{name}: {seconds:.2f}" for name, seconds in rows)
     picture = Picture(LEFT + NAMES + BARS + 70, TOP + len(rows) * ROW + 12, title, said)
     picture.text("dim", LEFT, 26, f"{title}; shorter is better", 12)

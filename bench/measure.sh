@@ -55,7 +55,8 @@ measure() {
 }
 
 # in_turn ROUNDS FILE SCRIPT NAME..: measures a shell script with each name as its only word, all of them in turn, round after
-# round: a machine that is slower for a minute is so for all, so that how they compare is told better than by `measure`.
+# round: a machine that is slower for a minute is so for all, so that how they compare is told better than by `measure`. A row has
+# the medians, with the least and the greatest.
 in_turn() {
   local rounds=$1 file=$2 script=$3 at
   shift 3
@@ -63,8 +64,31 @@ in_turn() {
   for _ in $(seq "$rounds"); do
     for at in $(seq $#); do skipped "${!at}" || took "$file" sh -c "$script" sh "${!at}" >> "turn-$at.txt"; done
   done
-  for at in $(seq $#); do skipped "${!at}" || row "${!at}" "$file" < "turn-$at.txt"; done
+  for at in $(seq $#); do skipped "${!at}" || spread "${!at}" "$file" < "turn-$at.txt"; done
   rm -f turn-*.txt
+}
+
+# both ROUND FILE: runs the commands in `one` and `other` at the same time, each with a processor to itself, and notes what they took
+# in one.txt and other.txt. In each second round they change places. What a host takes meanwhile, it takes of both. It needs two
+# processors.
+both() {
+  local processors=($(($(nproc) / 2 - 1)) $(($(nproc) - 1))) turn=$(($1 % 2))
+  took "$2" taskset -c "${processors[turn]}" "${one[@]}" >> one.txt &
+  took "$2" taskset -c "${processors[1 - turn]}" "${other[@]}" >> other.txt
+  wait
+}
+
+# median: of the numbers that are given line by line the median, the least and the greatest.
+median() {
+  sort -n | awk '{ all[NR] = $1 } END { if (NR) printf "%.3f %.3f %.3f", (all[int((NR + 1) / 2)] + all[int(NR / 2) + 1]) / 2, all[1], all[NR] }'
+}
+
+# ratio OVER UNDER [DIGITS]: the processor times of one file of `took` divided by those of the other, round by round, as the median,
+# the least and the greatest, in cells of a table.
+ratio() {
+  local middle least greatest digits=${3:-2}
+  read -r middle least greatest < <(paste "$1" "$2" | awk '$6 + $7 > 0 { print ($2 + $3) / ($6 + $7) }' | median)
+  printf "%.${digits}f | %.${digits}f | %.${digits}f" "$middle" "$least" "$greatest"
 }
 
 # mean NAME FILE COMMAND..: the mean processor time of fifteen runs with the file as standard input. One of a fifth of a second

@@ -1,12 +1,16 @@
 #!/usr/bin/env python3
 """threads_pbfrow.py FILE RUNS: how long it takes to decode a file that is in memory, by one, two and four threads of one process, by
 so many processes, which share nothing, and as `blocks` decodes it ahead for a loop that has each block in turn: the best of so many
-runs, all of them in turn. Each thread or process has each second or fourth blob; each block is dropped once it is decoded."""
+runs, all of them in turn. Each thread or process has each second or fourth blob; each block is dropped once it is decoded.
+
+Beside them stands what four processors of this machine can do at all: processes that share work that needs no memory, and such
+that copy memory from one place to another."""
 import os
 import sys
 import time
 from threading import Thread
 
+import numpy as np
 import pbfrow
 
 
@@ -23,16 +27,34 @@ def by_threads(file, blobs, count):
         thread.join()
 
 
-def by_processes(file, blobs, count):
+def in_processes(count, work):
+    """Does a share of work, which is a function of its number, in each of so many processes."""
     children = []
     for number in range(count):
         child = os.fork()
         if child == 0:
-            decode_all(file, blobs[number::count])
+            work(number)
             os._exit(0)
         children.append(child)
     for child in children:
         os.waitpid(child, 0)
+
+
+def by_processes(file, blobs, count):
+    in_processes(count, lambda number: decode_all(file, blobs[number::count]))
+
+
+def by_counting(_file, _blobs, count):
+    in_processes(count, lambda _: sum(range(ADDED // count)))
+
+
+def by_copying(_file, _blobs, count):
+    def copy(_):
+        source, target = np.zeros(COPIED, np.uint8), np.zeros(COPIED, np.uint8)
+        for _ in range(COPIES // count):
+            target[:] = source
+
+    in_processes(count, copy)
 
 
 def by_blocks(file, blobs, count):
@@ -40,7 +62,15 @@ def by_blocks(file, blobs, count):
         pass
 
 
-NAMES = {by_threads: "threads", by_processes: "processes", by_blocks: "blocks in turn, threads"}
+NAMES = {
+    by_threads: "threads",
+    by_processes: "processes",
+    by_blocks: "blocks in turn, threads",
+    by_counting: "processes that only add numbers up",
+    by_copying: "processes that only copy memory",
+}
+# how many numbers are added up, and how often so many bytes are copied, by all processes together: each takes about as long as decoding
+ADDED, COPIED, COPIES = 80_000_000, 1 << 24, 512
 
 
 def took(call, *words):
