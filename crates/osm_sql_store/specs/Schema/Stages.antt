@@ -1,7 +1,7 @@
 -- The schema while a store is made.
 use Rattle.std.specs.Prelude.{[], ◌∷◌}
 use Rattle.sqlite.specs.Schema.{Schema}
-use Rattle.osm_rows.specs.Schema.Bodies.{meta, blob, body, by_place}
+use Rattle.osm_rows.specs.Schema.Bodies.{meta, blob}
 use Rattle.osm_rows.specs.Schema.Tables.{element, element_key, link, link_key, tag, tag_key}
 
 -- a database without tables, indexes and views
@@ -14,9 +14,6 @@ one_table = record { tables = meta ∷ []; indexes = []; views = [] }
 
 abbrev pub two_tables : Schema
 two_tables = record { tables = meta ∷ blob ∷ []; indexes = []; views = [] }
-
-abbrev pub three_tables : Schema
-three_tables = record { tables = meta ∷ blob ∷ body ∷ []; indexes = by_place ∷ []; views = [] }
 
 -- and then with those of the layout of tables
 abbrev pub with_element : Schema
