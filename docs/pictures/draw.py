@@ -170,6 +170,7 @@ SAYS = {
     "pbfrow_reading": "commands on a file alone",
     "osm_rows": "the rows of a map",
     "osm_sql_store": "blobs in a database, by SQL",
+    "osm_old_store": "the first layout, by SQL",
     "osm_tree_writes": "blobs put below SQL",
     "osm_tree_audits": "rows of trees, told",
     "osm_trees": "blobs below SQL",

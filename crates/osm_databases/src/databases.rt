@@ -18,9 +18,9 @@ ghost use Rattle.osm_databases.specs.Found.{AreFound, AreReadFrom, AreFoundOrMad
 
 use crate::reason::{Reason, tell, tell_of_obstruction, told, told_of};
 use crate::stores::{BLOCKS, checked, made_where_none, taking_blobs};
+use osm_old_store::BodyStore;
 use osm_openings::{Obstacle, Obstruction, find_unkept};
 use osm_rows::{StoreFault, TABLE_VERSION};
-use osm_sql_store::BodyStore;
 use osm_trees::{CheckedStore, TreeStore};
 use sqlite::{Alter, Connection};
 

@@ -17,8 +17,9 @@ ghost use Rattle.osm_databases.specs.Checked.{HasWholeAdded, IsOfVersion};
 ghost use Rattle.osm_databases.specs.Found.{ListOnlyAStore};
 
 use crate::reason::{Reason, Refusal};
+use osm_old_store::BodyStore;
 use osm_rows::StoreFault;
-use osm_sql_store::{BodyStore, TableStore};
+use osm_sql_store::TableStore;
 use osm_tree_audits::{Look, Looked, faulty_added_index, look_at_indexes};
 use osm_tree_writes::{plain_indexes, takes_blobs};
 use osm_trees::{CheckedStore, TreeStore};

@@ -11,8 +11,9 @@ ghost use Rattle.osm_import.specs.Copies.{Copies, CrashLeavesSome, CopyHasCause,
 ghost use Rattle.osm_import.specs.Stores.{KeepsHeld};
 
 use osm_import::{CopyCounts, CopyStop, copy_held};
+use osm_old_store::BodyStore;
 use osm_rows::Reader;
-use osm_sql_store::{BodyStore, TableStore};
+use osm_sql_store::TableStore;
 use sqlite::Alter;
 use std::alloc::Global;
 

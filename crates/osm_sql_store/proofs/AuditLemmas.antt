@@ -1,5 +1,4 @@
 -- What the queries of an audit read, and what it comes to.
-pub mod RowLists
 pub mod AtOffset
 pub mod BlobReads
 pub mod CountReads

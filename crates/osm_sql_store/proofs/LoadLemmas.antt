@@ -1,6 +1,6 @@
 -- What the queries read.
 pub mod OneTable
-pub mod BodyTexts
+pub mod SharedTexts
 pub mod SelectLemmas
 pub mod AnswerLemmas
 pub mod CauseLemmas
@@ -9,5 +9,4 @@ pub mod TableTexts
 pub mod TableReads
 pub mod FlagReads
 pub mod ReaderPromises
-pub mod NoQuery
 pub mod Starts

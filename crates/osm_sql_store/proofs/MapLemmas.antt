@@ -1,4 +1,3 @@
 -- The map that a store holds, before and after its calls.
-pub mod EarlierLaws
 pub mod AfterCalls
 pub mod HeldTables

@@ -1,5 +1,5 @@
 -- What the statements mean that make the tables.
-pub mod BodyTexts
+pub mod SharedTexts
 pub mod TableTexts
 pub mod StatementParts
 pub mod Makes

@@ -1,4 +1,4 @@
-//! A store of blobs over a connection, in either layout.
+//! A store of blobs over a connection, in any layout.
 
 ghost use Rattle.std.specs.Prelude.{◌≡◌, ◌≢◌, ◌⊎◌, ℤ, pos, Some, None, false, IsTrue, IfOk, IfErr, MatchResult};
 ghost use Rattle.std.specs.FinMap.{empty};
@@ -15,12 +15,11 @@ ghost use Rattle.osm_sql_store.specs.Schema.Named.{HasTables};
 
 use crate::audit::{has_counts_of, has_rows_of};
 use crate::failures::failures_after;
-use crate::load::{all_extents, any_flag_held, find_held, load_held, touched_extents};
+use crate::layout::SqlLayout;
+use crate::load::{all_extents, touched_extents};
 use crate::put::put_rows;
 use crate::schema::{adopt_store, create_store};
-use osm_rows::{
-    Audited, Bodies, Counts, Extent, Found, Keeper, Loaded, Reader, StoreFault, StoreLayout, Tables,
-};
+use osm_rows::{Audited, Counts, Extent, Found, Keeper, Loaded, Reader, StoreFault, Tables};
 use osm_value::{Element, MemberKind};
 use pbf_frame::Kind;
 use sqlite::{Alter, Connection};
@@ -28,19 +27,16 @@ use std::alloc::Global;
 use std::marker::{Model, PhantomData};
 
 /// A store of blobs in the tables of a connection.
-pub struct BlobStore<S: Alter, L: StoreLayout> {
+pub struct BlobStore<S: Alter, L: SqlLayout> {
     connection: Connection<S>,
     failures: u64,
     layout: PhantomData<L>,
 }
 
-/// A store that keeps each element as a row with a block of its own.
-pub type BodyStore<S> = BlobStore<S, Bodies>;
-
 /// A store that users can query: a row for each element, and one for each of its tags and links.
 pub type TableStore<S> = BlobStore<S, Tables>;
 
-impl<S: Alter, L: StoreLayout> Model for BlobStore<S, L> {
+impl<S: Alter, L: SqlLayout> Model for BlobStore<S, L> {
     ghost use Rattle.std.specs.Prelude.{◌≡◌, false};
     ghost use Rattle.osm_sql_store.specs.Store.{Store, store_code};
 
@@ -53,7 +49,7 @@ impl<S: Alter, L: StoreLayout> Model for BlobStore<S, L> {
     ghost invariant = { λ s. s.connection.in_transaction ≡ false };
 }
 
-impl<S: Alter + Drop, L: StoreLayout> Drop for BlobStore<S, L> {
+impl<S: Alter + Drop, L: SqlLayout> Drop for BlobStore<S, L> {
     fn drop(self) {
         let BlobStore {
             connection: _,
@@ -63,7 +59,7 @@ impl<S: Alter + Drop, L: StoreLayout> Drop for BlobStore<S, L> {
     }
 }
 
-impl<S: Alter, L: StoreLayout> BlobStore<S, L> {
+impl<S: Alter, L: SqlLayout> BlobStore<S, L> {
     /// Makes the tables of a store in a database that has none, in one transaction.
     ///
     /// A fault hands the connection back. It is `NotThisStore(None)` where the database has tables, or for a
@@ -80,7 +76,7 @@ impl<S: Alter, L: StoreLayout> BlobStore<S, L> {
         // a crash leaves what it could leave before, or the store that holds nothing
         ensures crash { IfErr result (λ e. HasCleanDisk (state S.Store e.1) → (db : _) → (state S.Store e.1).may_leave db → (state S.Store connection).may_leave db ⊎ TablesHold L.LAYOUT empty db) }
     {
-        match create_store(connection, L::LAYOUT) {
+        match create_store::<L, S>(connection) {
             Ok(connection) => Ok(BlobStore {
                 connection,
                 failures: 0,
@@ -105,7 +101,7 @@ impl<S: Alter, L: StoreLayout> BlobStore<S, L> {
         ensures other { IfErr result (λ e. (found : ℤ) → e.0 ≡ StoreFault.NotThisStore (Some found) → (found ≢ pos (version_of L.LAYOUT)) × (HasCleanDisk (state S.Store e.1) → NamesVersion (state S.Store connection) (state S.Store e.1) found)) }
         ensures autocommit { IfErr result (λ e. (state S.Store e.1).in_transaction ≡ false) }
     {
-        match adopt_store(connection, L::LAYOUT) {
+        match adopt_store::<L, S>(connection) {
             Ok(connection) => Ok(BlobStore {
                 connection,
                 failures: 0,
@@ -135,7 +131,7 @@ impl<S: Alter, L: StoreLayout> BlobStore<S, L> {
     }
 }
 
-impl<S: Alter, L: StoreLayout> Reader for BlobStore<S, L> {
+impl<S: Alter, L: SqlLayout> Reader for BlobStore<S, L> {
     ghost use Rattle.sqlite.specs.State.{HasCleanDisk};
     ghost use Rattle.sqlite.specs.Held.{state};
     ghost use Rattle.std.specs.Prelude.{IsTrue, refl};
@@ -177,19 +173,19 @@ impl<S: Alter, L: StoreLayout> Reader for BlobStore<S, L> {
     }
 
     fn load(&mut self, alloc: Global, off: u64) -> Result<Loaded, StoreFault> {
-        let answer = load_held(alloc, &mut self.connection, L::LAYOUT, off);
+        let answer = L::load_held(alloc, &mut self.connection, off);
         self.failures = failures_after(&answer, self.failures);
         answer
     }
 
     fn find(&mut self, alloc: Global, kind: MemberKind, id: i64) -> Result<Found, StoreFault> {
-        let answer = find_held(alloc, &mut self.connection, L::LAYOUT, kind, id);
+        let answer = L::find_held(alloc, &mut self.connection, kind, id);
         self.failures = failures_after(&answer, self.failures);
         answer
     }
 
     fn history(&mut self, alloc: Global) -> Result<bool, StoreFault> {
-        let answer = any_flag_held(alloc, &mut self.connection, L::LAYOUT);
+        let answer = L::any_flag_held(alloc, &mut self.connection);
         self.failures = failures_after(&answer, self.failures);
         answer
     }
@@ -213,7 +209,7 @@ impl<S: Alter, L: StoreLayout> Reader for BlobStore<S, L> {
     ghost has_few_texts = { λ store held holds. few_texts_of L.LAYOUT held holds.kept };
 }
 
-impl<S: Alter, L: StoreLayout> Keeper for BlobStore<S, L> {
+impl<S: Alter, L: SqlLayout> Keeper for BlobStore<S, L> {
     fn put(
         &mut self,
         alloc: Global,
@@ -230,13 +226,13 @@ impl<S: Alter, L: StoreLayout> Keeper for BlobStore<S, L> {
             kind,
             n: elements.len() as u64,
         };
-        let answer = put_rows(alloc, &mut self.connection, L::LAYOUT, &extent, elements);
+        let answer = put_rows::<L, S>(alloc, &mut self.connection, &extent, elements);
         self.failures = failures_after(&answer, self.failures);
         answer
     }
 }
 
-impl<S: Alter, L: StoreLayout> Audited for BlobStore<S, L> {
+impl<S: Alter, L: SqlLayout> Audited for BlobStore<S, L> {
     ghost use Rattle.std.specs.Prelude.{◌≡◌};
     ghost use Rattle.sqlite.specs.Held.{state};
     ghost use Rattle.osm_rows.specs.Audit.{ShowsBlob};
@@ -267,13 +263,13 @@ impl<S: Alter, L: StoreLayout> Audited for BlobStore<S, L> {
             kind,
             n: elements.len() as u64,
         };
-        let answer = has_rows_of(alloc, &mut self.connection, L::LAYOUT, &wanted, elements);
+        let answer = has_rows_of::<L, S>(alloc, &mut self.connection, &wanted, elements);
         self.failures = failures_after(&answer, self.failures);
         answer
     }
 
     fn has_counts(&mut self, _alloc: Global, counts: &Counts) -> Result<bool, StoreFault> {
-        let answer = has_counts_of(&mut self.connection, L::LAYOUT, counts);
+        let answer = has_counts_of::<L, S>(&mut self.connection, counts);
         self.failures = failures_after(&answer, self.failures);
         answer
     }

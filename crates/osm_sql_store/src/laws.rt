@@ -1,28 +1,20 @@
-//! What holds of stores over a connection, and of the rows of an earlier version.
+//! What holds of stores over a connection.
 
 ghost use Rattle.std.specs.Prelude.{◌≡◌, false, IsTrue, MatchResult};
 ghost use Rattle.sqlite.specs.Held.{state};
 ghost use Rattle.sqlite.specs.State.{HasCleanDisk, IsLive, Opens};
 ghost use Rattle.sqlite.specs.Steps.{over_memory};
-ghost use Rattle.sqlite.specs.Tree.{Trees};
-ghost use Rattle.osm_sql_store.specs.EarlierRows as earlier;
 ghost use Rattle.osm_rows.specs.Held.{HeldMap};
 ghost use Rattle.osm_rows.specs.Keeping.{IsForeign};
-ghost use Rattle.osm_rows.specs.LayoutHolding.{Holds, IsKept, LeavesAMap, MayLeave, TablesHold};
+ghost use Rattle.osm_rows.specs.LayoutHolding.{Holds, LeavesAMap, MayLeave};
 
 use crate::blob_store::BlobStore;
-use osm_rows::{Layout, StoreFault, StoreLayout};
+use crate::layout::SqlLayout;
+use osm_rows::StoreFault;
 use sqlite::{Alter, Connection, MemStore};
 
-/// What was stored before flags of visibility were read and written holds the same map: in either layout the rows that the
-/// map stood for then are those that it stands for now.
-pub fn earlier_rows_hold_the_same()
-    ensures kept { (layout : Layout) (held : HeldMap) → earlier.IsKept layout held → IsKept layout held }
-    ensures same { (layout : Layout) (held : HeldMap) (db : Trees) → earlier.IsKept layout held → earlier.TablesHold layout held db → TablesHold layout held db }
-{}
-
 /// A connection that was opened over what a crash left of a store holds a map that the crash could leave.
-pub fn holds_what_was_left<S: Alter, L: StoreLayout>(
+pub fn holds_what_was_left<S: Alter, L: SqlLayout>(
     before: &BlobStore<S, L>,
     connection: &Connection<S>,
 )
@@ -36,7 +28,7 @@ pub fn holds_what_was_left<S: Alter, L: StoreLayout>(
 
 /// A store that is adopted over what a crash left of another holds a map that the crash could leave, and it isn't refused
 /// as another store.
-pub fn adopted_over_what_was_left<S: Alter, L: StoreLayout>(
+pub fn adopted_over_what_was_left<S: Alter, L: SqlLayout>(
     before: &BlobStore<S, L>,
     connection: Connection<S>,
 ) -> Result<BlobStore<S, L>, (StoreFault, Connection<S>)>
@@ -52,7 +44,7 @@ pub fn adopted_over_what_was_left<S: Alter, L: StoreLayout>(
 }
 
 /// A store in memory stays usable: its disk returns what was written, and it is still open after any answer.
-pub fn memory_goes_on<L: StoreLayout>(store: &BlobStore<MemStore, L>)
+pub fn memory_goes_on<L: SqlLayout>(store: &BlobStore<MemStore, L>)
     ensures { HasCleanDisk (state over_memory store.now.connection) × IsTrue (state over_memory store.now.connection).is_open }
 {
     let _asked = store;

@@ -1,12 +1,12 @@
 //! What is read of the held blobs: their extents, the elements of one, those of one kind and id, and whether any element
 //! has a flag.
 
-mod answer;
-mod bodies;
+mod asking;
 mod extents;
-mod held;
 mod tables;
 
-pub(crate) use answer::{answer, ask, number};
-pub(crate) use extents::{all_extents, touched_extents};
-pub(crate) use held::{any_flag_held, find_held, load_held};
+pub(crate) use asking::ask;
+pub use asking::{answer, integer, number};
+pub use extents::all_extents;
+pub(crate) use extents::touched_extents;
+pub(crate) use tables::{any_flag_in_tables, find_tables, load_tables};

@@ -6,4 +6,7 @@ pub(crate) mod sql;
 mod tables;
 mod version;
 
+pub(crate) use create::make_table_layout;
 pub(crate) use opening::{adopt_store, create_store};
+pub(crate) use tables::has_tables;
+pub use tables::{has_shared_tables, has_table};

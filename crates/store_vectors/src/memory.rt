@@ -1,7 +1,8 @@
 //! Stores in memory, of both layouts and below SQL, and the rows of their tables.
 
-use osm_rows::{Audited, Bodies, Keeper, StoreFault, StoreLayout, Tables};
-use osm_sql_store::{BlobStore, BodyStore, TableStore};
+use osm_old_store::{Bodies, BodyStore};
+use osm_rows::{Audited, Keeper, StoreFault, Tables};
+use osm_sql_store::{BlobStore, SqlLayout, TableStore};
 use osm_trees::TreeStore;
 use sqlite::{Alter, Connection, MemStore};
 use std::alloc::Global;
@@ -19,7 +20,7 @@ pub type TreesInMemory = TreeStore<MemStore>;
 pub type CountedRows = (&'static str, i64);
 
 /// A layout whose rows are known.
-pub trait KnownLayout: StoreLayout {
+pub trait KnownLayout: SqlLayout {
     /// The queries for the numbers of rows that elements have, by tables.
     const COUNTS: &'static [&'static str];
 

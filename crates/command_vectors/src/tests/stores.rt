@@ -2,8 +2,9 @@
 
 use super::support::{EXTRA, TWO_NODES};
 use osm_import::{Inlet, Told};
-use osm_rows::{Audited, Keeper, StoreLayout};
-use osm_sql_store::{BlobStore, BodyStore, TableStore};
+use osm_old_store::BodyStore;
+use osm_rows::{Audited, Keeper};
+use osm_sql_store::{BlobStore, SqlLayout, TableStore};
 use osm_value::Outlet;
 use pbfrow_commands::import::{Start, import};
 use sqlite::{Connection, MemStore};
@@ -21,7 +22,7 @@ pub trait NewStore: Keeper + Audited + Drop {
     fn new_store(alloc: Global) -> Option<Self>;
 }
 
-impl<L: StoreLayout> NewStore for BlobStore<MemStore, L> {
+impl<L: SqlLayout> NewStore for BlobStore<MemStore, L> {
     fn new_store(alloc: Global) -> Option<BlobStore<MemStore, L>> {
         let Ok(connection) = Connection::open_in_memory(alloc) else {
             return None;

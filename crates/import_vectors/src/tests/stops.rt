@@ -9,8 +9,8 @@ mod reads;
 
 use super::questions::{Question, answer_to};
 use osm_import::{Answer, ExportFault, deliver_all};
-use osm_rows::{Extent, Keeper, Reader, StoreFault, StoreLayout};
-use osm_sql_store::{BlobStore, TableStore};
+use osm_rows::{Extent, Keeper, Reader, StoreFault};
+use osm_sql_store::{BlobStore, SqlLayout, TableStore};
 use sqlite::{Alter, Connection, FileStore, Files};
 use sqlite_disk::{Crash, Disk, Fuse, Memory};
 use std::alloc::Global;
@@ -194,7 +194,7 @@ fn answered(answers: &[Answer]) -> Option<Reached> {
 }
 
 /// Fills a new store. How far that came, and the database.
-fn filled<S: Alter + Drop, L: StoreLayout, F: Source>(
+fn filled<S: Alter + Drop, L: SqlLayout, F: Source>(
     alloc: Global,
     database: Connection<S>,
     source: &mut F,
@@ -237,7 +237,7 @@ fn shown<S: Alter + Drop, L: KnownLayout>(
 }
 
 /// The store in a database; or the database, and why it isn't opened as a store.
-fn adopted<S: Alter + Drop, L: StoreLayout>(
+fn adopted<S: Alter + Drop, L: SqlLayout>(
     database: Connection<S>,
 ) -> Option<Result<BlobStore<S, L>, (StoreFault, Connection<S>)>> {
     if !database.is_autocommit() {
@@ -276,7 +276,7 @@ fn is_front(bytes: &[u8], pieces: &[&[u8]]) -> bool {
 }
 
 /// Opens a store, if there is one. How far that came, and the database.
-fn entered<S: Alter + Drop, L: StoreLayout>(
+fn entered<S: Alter + Drop, L: SqlLayout>(
     database: Connection<S>,
 ) -> Option<(Option<Reached>, Connection<S>)> {
     match adopted::<S, L>(database)? {
@@ -288,7 +288,7 @@ fn entered<S: Alter + Drop, L: StoreLayout>(
 }
 
 /// Opens a store and asks it. How far that came, and the database.
-fn asked<S: Alter + Drop, L: StoreLayout>(
+fn asked<S: Alter + Drop, L: SqlLayout>(
     alloc: Global,
     database: Connection<S>,
     question: Question,

@@ -1,8 +1,8 @@
 //! The rows of stores of bodies in memory, by values from outside, and which databases are stores of this kind.
 
 use super::tables::expect_rows;
+use osm_old_store::BodyStore;
 use osm_rows::StoreFault;
-use osm_sql_store::BodyStore;
 use sqlite::{Connection, MemStore};
 use std::alloc::Global;
 use std::process::Abort;

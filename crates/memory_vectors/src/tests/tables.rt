@@ -2,8 +2,9 @@
 //! with tags, nodes and members.
 
 use osm_import::Answer;
+use osm_old_store::BodyStore;
 use osm_rows::StoreFault;
-use osm_sql_store::{BodyStore, TableStore};
+use osm_sql_store::TableStore;
 use osm_value::MemberKind;
 use sqlite::{Alter, Connection, MemStore};
 use std::alloc::Global;

@@ -23,17 +23,16 @@ use Rattle.osm_sql_store.specs.Load.Selects.{selects}
 use Rattle.osm_rows.specs.declared.keeper.Extent.{Extent}
 use Rattle.osm_rows.specs.declared.schema.layout.Layout.{Layout}
 use Rattle.osm_rows.specs.declared.schema.layout.Layout.TheVariants.{Bodies, Tables}
-use Rattle.osm_sql_store.specs.declared.schema.sql.TheConstants.{SELECT_EXTENT, SELECT_BODIES, SELECT_ELEMENTS, SELECT_TAGS, SELECT_LINKS}
+use Rattle.osm_sql_store.specs.declared.schema.sql.TheConstants.{SELECT_EXTENT, SELECT_ELEMENTS, SELECT_TAGS, SELECT_LINKS}
 use Rattle.osm_sql_store.specs.Load.Asking.{IsAnswered}
-use Rattle.osm_rows.specs.Rows.{Placed, IsBefore, placed, body_row, extent_columns as shown_extent}
-use Rattle.osm_rows.specs.Schema.Bodies.{body_schema}
+use Rattle.osm_rows.specs.Rows.{Placed, IsBefore, placed, extent_columns as shown_extent}
 use Rattle.osm_rows.specs.Schema.Layouts.{schema_of}
 use Rattle.osm_rows.specs.Schema.Tables.{table_schema}
 use Rattle.osm_rows.specs.TableRows.{element_row, tag_row, tags_at, link_row, links_at, links_of}
 use Rattle.osm_sql_store.proofs.AuditLemmas.AtOffset.{exactly}
-use Rattle.osm_sql_store.proofs.LoadLemmas.BodyTexts.{compares, extent_columns, extent_names, body_shown, body_order, rows_are}
+use Rattle.osm_sql_store.proofs.LoadLemmas.SharedTexts.{compares, extent_columns, extent_names}
 use Rattle.osm_sql_store.proofs.LoadLemmas.OneTable.{select}
-use Rattle.osm_sql_store.proofs.LoadLemmas.ReadLemmas.{alone, extent_output, in_order, body_output}
+use Rattle.osm_sql_store.proofs.LoadLemmas.ReadLemmas.{alone, extent_output, in_order}
 use Rattle.osm_rows.proofs.LoadLemmas.ShownRows.{ascending_among, twelve_places, five_places, six_places}
 use Rattle.osm_sql_store.proofs.LoadLemmas.TableReads.{parts_in_order, element_output, tag_output, link_output}
 use Rattle.osm_sql_store.proofs.LoadLemmas.TableTexts.{element_shown, tag_shown, link_shown, by_place, by_part, at_off, elements_are, tags_are, links_are}
@@ -43,7 +42,7 @@ use Rattle.pbf_frame.specs.declared.kind.Kind.TheVariants.{Other}
 
 -- the elements of one blob ascend
 
-placed_ascend : (off : ℕ) (es : List Element) → IsAscending IsBefore (placed off 0 es)
+pub placed_ascend : (off : ℕ) (es : List Element) → IsAscending IsBefore (placed off 0 es)
 placed_ascend off es =
     let entry : Entry = (off, record { fin = 0; digest = []; kind = Other; elements = es }) in
     ascending_among (λ (p : Placed). p.0 ≡ off) (λ (a b : Placed). a.1 < b.1) IsBefore (λ a b at too low. inr (at ∙ sym too, low)) (placed off 0 es) (here entry) (by_position entry)
@@ -58,7 +57,6 @@ extent_is Tables = (refl, refl, (refl, refl))
 pub selects_rows : (table : AuditedTable) → selects (select_statement table) ≡ true
 unfolding everything
 selects_rows table.Blobs = refl
-selects_rows table.Bodies = refl
 selects_rows table.Elements = refl
 selects_rows table.Tags = refl
 selects_rows table.Links = refl
@@ -71,11 +69,6 @@ rows_told table.Blobs old new rows extent es (layout, schema) answered =
     let read = reads_as SELECT_EXTENT.now params old new (schema_of layout) schema _ (extent_is layout).0 (extent_is layout).2 (extent_is layout).1 rows answered.shown in
     exactly 1 (compares Eq (col 1 0) (col 0 0) ∷ []) extent_columns (col 1 0 ∷ []) (overlay old.now.trees []) params rows (0 ∷ 2 ∷ 3 ∷ 4 ∷ 5 ∷ [])
     (is_at extent.off) (λ r. alone _) extent_output (λ r. refl) (λ r. refl) (read.answer Null) shown_extent (extent ∷ []) (tt, tt) (λ x. refl)
-rows_told table.Bodies old new rows extent es schema answered =
-    let params = Int (pos extent.off) ∷ [] in
-    let read = reads_as SELECT_BODIES.now params old new body_schema schema _ rows_are.0 rows_are.2 rows_are.1 rows answered.shown in
-    exactly 2 (compares Eq (col 1 1) (col 0 0) ∷ []) body_shown body_order (overlay old.now.trees []) params rows (1 ∷ 2 ∷ 3 ∷ 4 ∷ 5 ∷ [])
-    (is_at extent.off) (λ r. alone _) body_output (λ r. refl) (λ r. refl) (read.answer Null) body_row (placed extent.off 0 es) (ascending_weaker _ _ in_order (placed extent.off 0 es) (placed_ascend extent.off es)) (λ x. refl)
 rows_told table.Elements old new rows extent es schema answered =
     let params = Int (pos extent.off) ∷ [] in
     let read = reads_as SELECT_ELEMENTS.now params old new table_schema schema _ elements_are.0 elements_are.2 elements_are.1 rows answered.shown in

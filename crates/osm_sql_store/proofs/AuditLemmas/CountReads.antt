@@ -22,7 +22,7 @@ use Rattle.sqlite_sql.specs.Query.{matches_as}
 use Rattle.sqlite_trees.proofs.ListLemmas.{all-permutation}
 use Rattle.sqlite_tied.specs.Compute.{everything}
 use Rattle.osm_sql_store.specs.declared.audit.table.AuditedTable.{AuditedTable}
-use Rattle.osm_sql_store.specs.declared.audit.table.AuditedTable.TheVariants.{Blobs, Bodies, Elements, Tags, Links}
+use Rattle.osm_sql_store.specs.declared.audit.table.AuditedTable.TheVariants.{Blobs, Elements, Tags, Links}
 use Rattle.osm_rows.specs.declared.schema.layout.Layout.TheVariants as layout
 use Rattle.osm_sql_store.specs.AuditedTables.{HasTable, tree_of, count_statement}
 use Rattle.osm_sql_store.specs.Load.Asking.{IsAnswered}
@@ -32,7 +32,7 @@ abbrev counting : Grouping
 counting = record { keys = []; collations = []; aggregates = record { op = CountRows; distinct = false; collation = Binary; argument = lit Null } ∷ []; having = [] }
 
 -- `SELECT count(*) FROM tree`
-abbrev counts : ℕ → Query
+abbrev pub counts : ℕ → Query
 counts tree = record {
   from = inner tree end;
   filter = [];
@@ -54,7 +54,6 @@ count_is : (table : AuditedTable) (schema : Schema) → HasTable table schema �
 unfolding understood everything
 count_is Blobs schema (layout.Bodies, is) = subst (IsCount Blobs) (sym is) (refl, refl, (refl, refl))
 count_is Blobs schema (layout.Tables, is) = subst (IsCount Blobs) (sym is) (refl, refl, (refl, refl))
-count_is Bodies schema is = subst (IsCount Bodies) (sym is) (refl, refl, (refl, refl))
 count_is Elements schema is = subst (IsCount Elements) (sym is) (refl, refl, (refl, refl))
 count_is Tags schema is = subst (IsCount Tags) (sym is) (refl, refl, (refl, refl))
 count_is Links schema is = subst (IsCount Links) (sym is) (refl, refl, (refl, refl))
@@ -62,7 +61,6 @@ count_is Links schema is = subst (IsCount Links) (sym is) (refl, refl, (refl, re
 pub count_selects : (table : AuditedTable) → selects (count_statement table) ≡ true
 unfolding everything
 count_selects Blobs = refl
-count_selects Bodies = refl
 count_selects Elements = refl
 count_selects Tags = refl
 count_selects Links = refl
@@ -72,7 +70,7 @@ matches_length : (env : Env) (table : List Row) → length (flat_map (λ r. (env
 matches_length env [] = refl
 matches_length env (r ∷ table) = ap suc (matches_length env table)
 
-abbrev counted : ℕ → Row
+abbrev pub counted : ℕ → Row
 counted n = Int (pos (min n 9223372036854775807)) ∷ []
 
 -- one group has one row, which has the count
@@ -94,7 +92,7 @@ every [] = refl
 every (env ∷ envs) = ap (λ l. env ∷ l) (every envs)
 
 -- what `SELECT count(*)` shows, up to 2^63 - 1
-counts_shown : (tree : ℕ) (trees : Trees) (rows : List Row) → IsAnswer (counts tree) trees [] rows → rows ≡ counted (length (trees tree)) ∷ []
+pub counts_shown : (tree : ℕ) (trees : Trees) (rows : List Row) → IsAnswer (counts tree) trees [] rows → rows ≡ counted (length (trees tree)) ∷ []
 counts_shown tree trees rows a =
     let all : List Env = matches_as Null trees [] (inner tree end) ([] ∷ []) in
     let many : length all ≡ length (trees tree) = matches_length ([] ∷ []) (trees tree) in
@@ -121,7 +119,6 @@ counts_shown tree trees rows a =
 -- the query sees the table itself
 itself : (table : AuditedTable) (trees : Trees) → overlay trees [] (tree_of table) ≡ trees (tree_of table)
 itself Blobs trees = refl
-itself Bodies trees = refl
 itself Elements trees = refl
 itself Tags trees = refl
 itself Links trees = refl

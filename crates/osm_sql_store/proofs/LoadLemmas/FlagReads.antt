@@ -25,7 +25,7 @@ use Rattle.osm_rows.specs.Rows.{Placed}
 use Rattle.osm_rows.specs.Schema.Tables.{table_schema}
 use Rattle.osm_rows.specs.TableRows.{flag, element_row}
 use Rattle.osm_rows.proofs.ListLemmas.CompareLemmas.{at_least}
-use Rattle.osm_sql_store.proofs.LoadLemmas.BodyTexts.{compares}
+use Rattle.osm_sql_store.proofs.LoadLemmas.SharedTexts.{compares}
 use Rattle.osm_sql_store.proofs.LoadLemmas.OneTable.{select_some, orders}
 use Rattle.osm_rows.proofs.LoadLemmas.ShownRows.{columns_at, HasTables, twelve_places}
 use Rattle.osm_sql_store.proofs.LoadLemmas.ReadLemmas.{is}

@@ -1,5 +1,5 @@
 -- What each query of a store reads.
-use Rattle.std.proofs.Common.{◌≡◌, inl, inr, ℕ, ℤ, pos, ◌<◌, Bool, true, false, ◌&&◌, nat_lt, nat_le, ◌==◌, List, [], ◌∷◌, length, map, take, refl, sym, ap, ap₂, subst, ◌∙◌, ◌≤◌, arith, Less, Equal, IsPermutation}
+use Rattle.std.proofs.Common.{◌≡◌, inl, inr, ℕ, ℤ, pos, ◌<◌, Bool, true, false, ◌&&◌, nat_lt, nat_le, List, [], ◌∷◌, length, map, take, refl, sym, ap, ap₂, subst, ◌∙◌, ◌≤◌, arith, Less, Equal, IsPermutation}
 use Rattle.std.specs.Prelude.{filter}
 use Rattle.std.specs.Ordering.{ordering_then}
 use Rattle.sqlite.specs.declared.types.Value.{Value}
@@ -16,7 +16,7 @@ use Rattle.sqlite.specs.Listing.{understood}
 use Rattle.sqlite.specs.State.{State, Shown, FailsToQuery}
 use Rattle.sqlite.proofs.Callers.{reads_as}
 use Rattle.sqlite_sql.specs.declared.ops.CompareOp.{CompareOp}
-use Rattle.sqlite_sql.specs.declared.ops.CompareOp.TheVariants.{Eq, Lt, Le, Gt, Ge}
+use Rattle.sqlite_sql.specs.declared.ops.CompareOp.TheVariants.{Lt, Le, Gt, Ge}
 use Rattle.sqlite_sql.specs.declared.ops.BinaryOp.TheVariants.{Compare}
 use Rattle.sqlite_value.specs.Order.{value_cmp}
 use Rattle.sqlite_trees.proofs.ListLemmas.{all_both, all-filter, all-map, all-permutation, ascending_weaker, ascending-filter}
@@ -25,24 +25,21 @@ use Rattle.sqlite_typing.specs.Types.{accepts_program}
 use Rattle.std.specs.List.{AllByRecursion}
 use Rattle.std.proofs.lemmas.List.Elements.{filter_passes, recursion_from_All}
 use Rattle.std.proofs.lemmas.Bool.Decides.{nat_tests}
-use Rattle.osm_value.specs.declared.element.MemberKind.{MemberKind}
 use Rattle.osm_rows.specs.declared.keeper.Extent.{Extent}
 use Rattle.osm_rows.specs.declared.schema.layout.Layout.{Layout}
 use Rattle.osm_rows.specs.declared.schema.layout.Layout.TheVariants.{Bodies, Tables}
 use Rattle.osm_rows.specs.Schema.Layouts.{schema_of}
 use Rattle.osm_rows.specs.Keeping.{touches}
-use Rattle.osm_sql_store.specs.declared.schema.sql.TheConstants.{SELECT_VERSION, SELECT_EXTENTS, SELECT_LAST_START, SELECT_TOUCHING, SELECT_BODIES, FIND_BODIES}
-use Rattle.osm_rows.specs.Schema.Bodies.{body_schema}
-use Rattle.osm_value.specs.Elements.{kind_of_element, id_of_element}
-use Rattle.osm_rows.specs.Rows.{Placed, body_row, extent_columns as shown_extent, element_code, is_in, is_of}
+use Rattle.osm_sql_store.specs.declared.schema.sql.TheConstants.{SELECT_VERSION, SELECT_EXTENTS, SELECT_LAST_START, SELECT_TOUCHING}
+use Rattle.osm_rows.specs.Rows.{Placed, extent_columns as shown_extent}
 use Rattle.osm_sql_store.specs.Load.Selects.{selects}
 use Rattle.osm_sql_store.proofs.LoadLemmas.CauseLemmas.{IsCause, takes, query_causes}
 use Rattle.osm_sql_store.proofs.LoadLemmas.OneTable.{select, orders, answer_is}
-use Rattle.osm_rows.proofs.ListLemmas.CompareLemmas.{lower, higher, at_most, at_least, same_number, same_int}
+use Rattle.osm_rows.proofs.ListLemmas.CompareLemmas.{lower, higher, at_most, at_least}
 use Rattle.osm_rows.proofs.ListLemmas.NumberOrder.{numbers_below, numbers_tied}
 use Rattle.osm_rows.proofs.MapLemmas.PlacedLaws.{IsBefore}
-use Rattle.osm_sql_store.proofs.LoadLemmas.BodyTexts.{compares, version_is, extents_is, extent_columns, touching_is, latest_first, last_start_is, body_shown, body_order, rows_are, element_is}
-use Rattle.osm_rows.proofs.LoadLemmas.ShownRows.{HasElements, HasExtents, columns_at}
+use Rattle.osm_sql_store.proofs.LoadLemmas.SharedTexts.{compares, version_is, extents_is, extent_columns, touching_is, latest_first, last_start_is}
+use Rattle.osm_rows.proofs.LoadLemmas.ShownRows.{HasExtents, columns_at}
 
 -- the table `meta` has one row, which names the version
 pub record HasVersion (layout : Layout) (db : Database) (version : ℤ) : Type 0 where
@@ -123,35 +120,11 @@ module _ (layout : Layout) (old new : State) (rows : List Row) (held : List Exte
       (touches_from start from to) (λ x. rw (at_least x.off start, lower x.off to, higher x.fin from) (ap (λ b. nat_le start x.off && b) (and_true (nat_lt x.off to) (nat_lt from x.fin))))
       (ascending-filter _ (touches_from start from to) held (ascending_weaker _ _ by_offset held h.ascending)) (read.answer Null)
 
--- the keys of a query on `body` that is sorted by offset and position
+-- the keys of a query on elements that is sorted by offset and position
 pub in_order : (x y : Placed) → IsBefore x y → ordering_then (value_cmp (Int (pos x.0)) (Int (pos y.0))) (ordering_then (value_cmp (Int (pos x.1)) (Int (pos y.1))) Equal) ≡ Less
 in_order x y (inl low) = ap (λ o. ordering_then o (ordering_then (value_cmp (Int (pos x.1)) (Int (pos y.1))) Equal)) (numbers_below x.0 y.0 low)
 in_order x y (inr h) =
     ap₂ (λ o p. ordering_then o (ordering_then p Equal)) (numbers_tied x.0 y.0 h.0) (numbers_below x.1 y.1 h.1)
-
-abbrev pub body_output : Row → Output
-body_output v = (column v 0 ∷ column v 1 ∷ [], column v 0 ∷ column v 1 ∷ column v 2 ∷ column v 3 ∷ column v 4 ∷ [])
-
-module _ (old new : State) (rows : List Row) (held : List Placed) (h : HasElements old.now held) where
-  pub element_read : (kind : MemberKind) (id : ℤ) → Shown FIND_BODIES.now (Int (pos (element_code kind)) ∷ Int id ∷ []) old new rows → rows ≡ map body_row (filter (is_of kind id) held)
-  element_read kind id shown =
-      let params = Int (pos (element_code kind)) ∷ Int id ∷ [] in
-      let read = reads_as FIND_BODIES.now params old new body_schema h.schema _ element_is.0 element_is.2 element_is.1 rows shown in
-      answer_is 2 (compares Eq (col 1 3) (col 0 0) ∷ compares Eq (col 1 4) (col 0 1) ∷ []) body_shown body_order (overlay old.now.trees []) params rows
-      (columns_at (1 ∷ 2 ∷ 3 ∷ 4 ∷ 5 ∷ [])) body_row held h.rows
-      (λ v. is Eq (column v 2) (Int (pos (element_code kind))) && (is Eq (column v 3) (Int id) && true)) (λ r. refl) body_output (λ r. refl)
-      (is_of kind id) (λ x. rw (same_number (element_code (kind_of_element x.2)) (element_code kind), same_int (id_of_element x.2) id) (and_true (element_code (kind_of_element x.2) == element_code kind) _))
-      (ascending-filter _ (is_of kind id) held (ascending_weaker _ _ in_order held h.ascending)) (read.answer Null)
-
-  pub rows_read : (off : ℕ) → Shown SELECT_BODIES.now (Int (pos off) ∷ []) old new rows → rows ≡ map body_row (filter (is_in off) held)
-  rows_read off shown =
-      let params = Int (pos off) ∷ [] in
-      let read = reads_as SELECT_BODIES.now params old new body_schema h.schema _ rows_are.0 rows_are.2 rows_are.1 rows shown in
-      answer_is 2 (compares Eq (col 1 1) (col 0 0) ∷ []) body_shown body_order (overlay old.now.trees []) params rows
-      (columns_at (1 ∷ 2 ∷ 3 ∷ 4 ∷ 5 ∷ [])) body_row held h.rows
-      (λ v. is Eq (column v 0) (Int (pos off)) && true) (λ r. refl) body_output (λ r. refl)
-      (is_in off) (λ x. rw (same_number x.0 off) (alone (x.0 == off)))
-      (ascending-filter _ (is_in off) held (ascending_weaker _ _ in_order held h.ascending)) (read.answer Null)
 
 abbrev version_output : Row → Output
 version_output v = ([], column v 0 ∷ [])

@@ -9,7 +9,7 @@ use Rattle.sqlite.proofs.Callers.{IsPlain, command_of}
 use Rattle.osm_sql_store.specs.declared.schema.sql.TheConstants.{SELECT_ELEMENTS, SELECT_TAGS, SELECT_LINKS, FIND_ELEMENTS, SELECT_ITS_TAGS, SELECT_ITS_LINKS}
 use Rattle.osm_rows.specs.Schema.Tables.{table_schema}
 use Rattle.osm_sql_store.proofs.LoadLemmas.OneTable.{select}
-use Rattle.osm_sql_store.proofs.LoadLemmas.BodyTexts.{compares}
+use Rattle.osm_sql_store.proofs.LoadLemmas.SharedTexts.{compares}
 
 abbrev pub element_shown : List Term
 element_shown = col 1 1 ∷ col 1 2 ∷ col 1 3 ∷ col 1 4 ∷ col 1 5 ∷ col 1 6 ∷ col 1 7 ∷ col 1 8 ∷ col 1 9 ∷ col 1 10 ∷ col 1 11 ∷ col 1 12 ∷ []

@@ -21,7 +21,7 @@ use Rattle.osm_rows.specs.declared.schema.layout.Layout.{Layout}
 use Rattle.osm_rows.specs.Schema.Bodies.{meta, blob}
 use Rattle.osm_rows.specs.Schema.Layouts.{schema_of, version_of}
 use Rattle.osm_rows.specs.Rows.{version_row}
-use Rattle.osm_sql_store.proofs.SchemaLemmas.BodyTexts.{blob_terms}
+use Rattle.osm_sql_store.proofs.SchemaLemmas.SharedTexts.{blob_terms}
 use Rattle.osm_sql_store.proofs.PutLemmas.Inserts.{edit_for, version_terms_of}
 
 either : (b : Bool) (x : Value) → cond b x x ≡ x

@@ -29,12 +29,12 @@ use Rattle.sqlite.specs.Term.{lit}
 use Rattle.sqlite.specs.declared.types.Value.TheVariants.{Null, Int}
 use Rattle.osm_rows.specs.declared.schema.layout.Layout.{Layout}
 use Rattle.osm_rows.specs.declared.schema.layout.Layout.TheVariants.{Bodies, Tables}
-use Rattle.osm_sql_store.specs.declared.schema.sql.TheConstants.{INSERT_BODY, INSERT_BLOB, INSERT_BODY_VERSION, INSERT_TABLE_VERSION}
-use Rattle.osm_rows.specs.Schema.Bodies.{meta, blob, body, body_schema}
+use Rattle.osm_sql_store.specs.declared.schema.sql.TheConstants.{INSERT_BLOB, INSERT_BODY_VERSION, INSERT_TABLE_VERSION}
+use Rattle.osm_rows.specs.Schema.Bodies.{meta, blob, body_schema}
 use Rattle.osm_rows.specs.Schema.Tables.{table_schema}
 use Rattle.osm_rows.specs.Schema.Layouts.{schema_of, version_of}
 use Rattle.osm_sql_store.specs.Schema.Versions.{version_text_of}
-use Rattle.osm_sql_store.proofs.SchemaLemmas.BodyTexts.{body_terms, body_text, blob_terms, blob_text, version_terms, version_text}
+use Rattle.osm_sql_store.proofs.SchemaLemmas.SharedTexts.{blob_terms, blob_text, version_terms, version_text}
 use Rattle.osm_sql_store.proofs.SchemaLemmas.TableTexts.{table_blob_text, table_version_terms, table_version_text}
 
 abbrev pub edit_for : Trees → Table → Row → List Term → Edit
@@ -81,17 +81,13 @@ module _ (schema : Schema) (sql : List ℕ) (at : ℕ) (table : Table) (terms : 
       (it.2, subst (Applies schema Enforced old.now.trees wanted) (sym it.3.1) applied, subst (λ s. IsSound s new.now.trees) it.2 w.sound)
 
 -- one row
-inserts : (schema : Schema) (sql : List ℕ) (at : ℕ) (table : Table) (terms : List Term) (params : Row) → InsertsValues schema sql at terms (length terms)
+pub inserts : (schema : Schema) (sql : List ℕ) (at : ℕ) (table : Table) (terms : List Term) (params : Row) → InsertsValues schema sql at terms (length terms)
     → slice_get schema.tables at ≡ Some table → table.is_counted ≡ false
     → value_rows (stamped table params) (length terms) (length terms / length terms) terms ≡ eval_all terms (params ∷ []) ∷ []
     → ((db : Trees) (news : List Row) → works schema Enforced 0 table.tree (taken_by db (record { table = table; gone = []; news = news })) news ≡ [])
     → (old new : State) (count : ℕ) → old.now.schema ≡ schema → Executes sql params old new (Ok count)
     → (new.now.schema ≡ schema) × Applies schema Enforced old.now.trees (edit_for old.now.trees table params terms) new.now.trees × IsSound schema new.now.trees
 inserts schema sql at table terms params = inserts_all schema sql at table terms (length terms) params (eval_all terms (params ∷ []) ∷ [])
-
-pub inserts_body : (params : Row) (old new : State) (count : ℕ) → old.now.schema ≡ body_schema → Executes INSERT_BODY.now params old new (Ok count)
-    → (new.now.schema ≡ body_schema) × Applies body_schema Enforced old.now.trees (edit_for old.now.trees body params body_terms) new.now.trees × IsSound body_schema new.now.trees
-inserts_body params = inserts body_schema INSERT_BODY.now 2 body body_terms params body_text refl refl (rw append-nil) (λ db news. refl)
 
 -- a row of `blob`, whatever the layout
 pub inserts_blob : (layout : Layout) (params : Row) (old new : State) (count : ℕ) → old.now.schema ≡ schema_of layout → Executes INSERT_BLOB.now params old new (Ok count)

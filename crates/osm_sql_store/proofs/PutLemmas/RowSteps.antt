@@ -16,21 +16,18 @@ use Rattle.sqlite.specs.Table.{Table}
 use Rattle.std.specs.Prelude.{OnOk}
 use Rattle.osm_rows.specs.declared.fault.StoreFault.{StoreFault}
 use Rattle.std.specs.List.{AllByRecursion}
-use Rattle.sqlite.specs.declared.types.Value.TheVariants.{Int, Blob as Octets}
 use Rattle.osm_rows.specs.declared.schema.layout.Layout.{Layout}
 use Rattle.osm_rows.specs.declared.schema.layout.Layout.TheVariants.{Bodies, Tables}
-use Rattle.osm_sql_store.specs.declared.schema.sql.TheConstants.{INSERT_BODY, INSERT_BLOB}
-use Rattle.osm_rows.specs.Schema.Bodies.{body_schema, body}
+use Rattle.osm_sql_store.specs.declared.schema.sql.TheConstants.{INSERT_BLOB}
 use Rattle.osm_rows.specs.Schema.Layouts.{schema_of}
 use Rattle.osm_rows.specs.Rows.{Placed, body_row, extent_row}
 use Rattle.osm_rows.specs.TableRows.{element_rows, tag_rows, link_rows}
 use Rattle.osm_sql_store.specs.Schema.Over.{IsWriting}
 use Rattle.osm_rows.specs.Put.Gains.{Gains, GainsElements, Puts}
 use Rattle.osm_sql_store.specs.Put.Steps.{KeepsOthers, AddsRow, AddsRows, AddsElements, AddsExtent, Writes}
-use Rattle.osm_sql_store.proofs.SchemaLemmas.BodyTexts.{body_terms}
-use Rattle.osm_sql_store.proofs.PutLemmas.Inserts.{inserts_body, inserts_blob}
+use Rattle.osm_sql_store.proofs.PutLemmas.Inserts.{inserts_blob}
 use Rattle.osm_sql_store.proofs.SchemaLemmas.MakeSteps.{becomes}
-use Rattle.osm_sql_store.proofs.PutLemmas.Adds.{cast_null, cast_int, row_added, blob_values, new_blob, blob_added}
+use Rattle.osm_sql_store.proofs.PutLemmas.Adds.{blob_values, new_blob, blob_added}
 use Rattle.osm_rows.proofs.PutLemmas.Gaining.{gains_nothing, gains_then}
 
 -- whether or not a transaction is open
@@ -82,22 +79,7 @@ rows_more layout tree old mid new rows more before h = record {
   rows = gains_then (old.now.trees tree) (mid.now.trees tree) (new.now.trees tree) rows more before.rows h.rows;
 }
 
--- ---- what each statement adds
-
-abbrev pub five : ℤ → ℤ → ℤ → ℤ → List ℕ → Row
-five off place kind id content = Int off ∷ Int place ∷ Int kind ∷ Int id ∷ Octets content ∷ []
-
-pub adds_body : (old new : State) (off place kind id : ℤ) (content : List ℕ) (count : ℕ) → IsWriting Bodies old → ExecutesInside 0 INSERT_BODY.now (five off place kind id content) old new (Ok count)
-    → AddsRow Bodies 2 old new (five off place kind id content)
-adds_body old new off place kind id content count over h =
-    let row = five off place kind id content in
-    let it = inserts_body row old new count over.schema_is h.0 in
-    record {
-      becomes = becomes old new body_schema it.0 it.2 h.1;
-      shown = h.1;
-      others = it.1.tables;
-      rows = row_added body_schema body old.now.trees new.now.trees row row body_terms it.1 (rw (cast_null, cast_int off, cast_int place, cast_int kind, cast_int id) refl);
-    }
+-- ---- what the statement on `blob` adds
 
 pub adds_extent : (layout : Layout) (old new : State) (off fin : ℤ) (digest : List ℕ) (kind n : ℤ) (count : ℕ) → IsWriting layout old → ExecutesInside 0 INSERT_BLOB.now (blob_values off fin digest kind n) old new (Ok count)
     → AddsExtent layout old new (new_blob off fin digest kind n)

@@ -8,7 +8,7 @@ use Rattle.osm_sql_store.specs.declared.schema.sql.TheConstants.{INSERT_BLOB, IN
 use Rattle.osm_rows.specs.declared.schema.sql.TheConstants.{CREATE_ELEMENT, CREATE_TAG, CREATE_LINK, CREATE_ELEMENT_INDEX}
 use Rattle.osm_sql_store.specs.Schema.Stages.{two_tables, with_element, with_tag, with_link}
 use Rattle.osm_rows.specs.Schema.Tables.{element, tag, link, element_by_id, table_schema}
-use Rattle.osm_sql_store.proofs.SchemaLemmas.BodyTexts.{blob_terms}
+use Rattle.osm_sql_store.proofs.SchemaLemmas.SharedTexts.{blob_terms}
 use Rattle.osm_sql_store.proofs.SchemaLemmas.StatementParts.{InsertsValues}
 use Rattle.osm_sql_store.proofs.SchemaLemmas.Makes.{CreatesTable, CreatesIndex}
 use Rattle.osm_rows.proofs.SchemaLemmas.TablesDefined.{element_defined, link_defined, tag_defined}

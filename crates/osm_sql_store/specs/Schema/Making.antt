@@ -12,9 +12,8 @@ use Rattle.osm_sql_store.specs.declared.schema.create.Making.TheVariants as maki
 use Rattle.osm_rows.specs.declared.schema.layout.Layout.{Layout}
 use Rattle.osm_rows.specs.declared.schema.layout.Layout.TheVariants.{Bodies, Tables}
 use Rattle.osm_rows.specs.declared.schema.sql.TheConstants.{CREATE_META, CREATE_BLOB, CREATE_ELEMENT, CREATE_TAG, CREATE_LINK, CREATE_ELEMENT_INDEX}
-use Rattle.osm_sql_store.specs.declared.schema.sql.TheConstants.{CREATE_BODY, CREATE_BODY_INDEX}
-use Rattle.osm_rows.specs.Schema.Bodies.{meta, blob, body, body_schema}
-use Rattle.osm_sql_store.specs.Schema.Stages.{no_schema, one_table, two_tables, three_tables, with_element, with_tag, with_link}
+use Rattle.osm_rows.specs.Schema.Bodies.{meta, blob}
+use Rattle.osm_sql_store.specs.Schema.Stages.{no_schema, one_table, two_tables, with_element, with_tag, with_link}
 use Rattle.osm_rows.specs.Schema.Tables.{element, tag, link, table_schema}
 use Rattle.osm_rows.specs.Schema.Layouts.{schema_of}
 use Rattle.osm_sql_store.specs.Schema.Over.{Becomes}
@@ -24,8 +23,6 @@ use Rattle.osm_rows.specs.Rows.{version_row}
 abbrev pub text_of : Making → List ℕ
 text_of making.Meta = CREATE_META.now
 text_of making.Blob = CREATE_BLOB.now
-text_of making.Body = CREATE_BODY.now
-text_of making.BodyIndex = CREATE_BODY_INDEX.now
 text_of making.Element = CREATE_ELEMENT.now
 text_of making.Tag = CREATE_TAG.now
 text_of making.Link = CREATE_LINK.now
@@ -35,8 +32,6 @@ text_of making.ElementIndex = CREATE_ELEMENT_INDEX.now
 abbrev pub before : Making → Schema
 before making.Meta = no_schema
 before making.Blob = one_table
-before making.Body = two_tables
-before making.BodyIndex = three_tables
 before making.Element = two_tables
 before making.Tag = with_element
 before making.Link = with_tag
@@ -46,8 +41,6 @@ before making.ElementIndex = with_link
 abbrev pub after : Making → Schema
 after making.Meta = one_table
 after making.Blob = two_tables
-after making.Body = three_tables
-after making.BodyIndex = body_schema
 after making.Element = with_element
 after making.Tag = with_tag
 after making.Link = with_link
@@ -57,18 +50,21 @@ after making.ElementIndex = table_schema
 abbrev pub made : Making → List Table
 made making.Meta = meta ∷ []
 made making.Blob = blob ∷ []
-made making.Body = body ∷ []
-made making.BodyIndex = []
 made making.Element = element ∷ []
 made making.Tag = tag ∷ []
 made making.Link = link ∷ []
 made making.ElementIndex = []
 
--- the statement is run: the new table has no rows, and those that were there are as they were
-pub record Makes (what : Making) (old new : State) : Type 0 where
-  pub becomes : Becomes old new (after what)
-  pub others : KeepsRows (before what).tables old.now.trees new.now.trees
-  pub empty : AllByRecursion (λ (t : Table). new.now.trees t.tree ≡ []) (made what)
+-- over the schema `before` a statement is run that leaves the schema `after`: the new table has no rows, and those that were
+-- there are as they were
+pub record MakesOver (before after : Schema) (made : List Table) (old new : State) : Type 0 where
+  pub becomes : Becomes old new after
+  pub others : KeepsRows before.tables old.now.trees new.now.trees
+  pub empty : AllByRecursion (λ (t : Table). new.now.trees t.tree ≡ []) made
+
+-- the statement is run
+abbrev pub Makes : Making → State → State → Type 0
+Makes what = MakesOver (before what) (after what) (made what)
 
 -- the tables of elements have no rows
 abbrev pub HaveNoElements : Layout → Trees → Type 0

@@ -1,24 +1,22 @@
 -- The schema while a store is made.
 use Rattle.std.specs.Prelude.{[], ◌∷◌}
 use Rattle.sqlite.specs.Schema.{Schema}
-use Rattle.osm_rows.specs.Schema.Bodies.{meta, blob, body, by_place}
+use Rattle.osm_rows.specs.Schema.Bodies.{meta, blob}
 use Rattle.osm_rows.specs.Schema.Tables.{element, element_key, link, link_key, tag, tag_key}
 
 -- a database without tables, indexes and views
 abbrev pub no_schema : Schema
 no_schema = record { tables = []; indexes = []; views = [] }
 
--- with the tables that both layouts have
+-- with the first table that all layouts have, `meta`
 abbrev pub one_table : Schema
 one_table = record { tables = meta ∷ []; indexes = []; views = [] }
 
+-- with both tables that all layouts have, `meta` and `blob`
 abbrev pub two_tables : Schema
 two_tables = record { tables = meta ∷ blob ∷ []; indexes = []; views = [] }
 
-abbrev pub three_tables : Schema
-three_tables = record { tables = meta ∷ blob ∷ body ∷ []; indexes = by_place ∷ []; views = [] }
-
--- and then with those of the layout of tables
+-- and then with those of the layout of tables, one after the other
 abbrev pub with_element : Schema
 with_element = record { tables = meta ∷ blob ∷ element ∷ []; indexes = element_key ∷ []; views = [] }
 

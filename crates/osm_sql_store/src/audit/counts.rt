@@ -6,12 +6,14 @@ ghost use Rattle.sqlite.specs.State.{HasCleanDisk};
 ghost use Rattle.sqlite.specs.Held.{state};
 ghost use Rattle.osm_rows.specs.Audit.{HasCount, ShowsCounts};
 ghost use Rattle.osm_sql_store.specs.AuditedTables.{HasTable, tree_of};
+ghost use Rattle.osm_sql_store.specs.ElementCounts.{ShowsElementCounts};
 ghost use Rattle.osm_rows.specs.Keeping.{IsForeign};
 ghost use Rattle.osm_sql_store.specs.Load.Asking.{JustAsks};
 ghost use Rattle.osm_rows.specs.Schema.Tables.{table_schema};
 ghost use Rattle.osm_rows.specs.Schema.Layouts.{schema_of};
 
 use crate::audit::table::AuditedTable;
+use crate::layout::SqlLayout;
 use crate::load::answer;
 use osm_rows::{Counts, Layout, StoreFault, number_at};
 use sqlite::{Alter, Connection, Row};
@@ -30,7 +32,7 @@ fn number_in(rows: &[Row]) -> Option<u64>
 }
 
 /// Whether rows are the one that shows this count, which is less than SQL counts at most.
-fn is_count(rows: &[Row], expected: u64) -> bool
+pub fn is_count(rows: &[Row], expected: u64) -> bool
     ensures { (n : ℕ) → rows.now ≡ (Int (pos (min n 9223372036854775807)) ∷ []) ∷ [] → IsTrue result ↔ ((n ≡ expected) × (expected < 2 ^ 63 - 1)) }
 {
     match number_in(rows) {
@@ -56,13 +58,12 @@ fn has_count<S: Alter>(
 }
 
 /// Whether the tables of elements have so many rows, in the layout of tables.
-fn has_table_counts<S: Alter>(
+pub(crate) fn has_table_counts<S: Alter>(
     connection: &mut Connection<S>,
     counts: &Counts,
 ) -> Result<bool, StoreFault>
     ensures told { HasCleanDisk (state S.Store connection.new) → (state S.Store connection.old).now ≡ (state S.Store connection.old).committed → (state S.Store connection.old).now.schema ≡ table_schema
-        → IfOk result (λ told. IsTrue told ↔ (HasCount ((state S.Store connection.old).now.trees 2) counts.now.elements × HasCount ((state S.Store connection.old).now.trees 4) counts.now.tags
-        × HasCount ((state S.Store connection.old).now.trees 6) counts.now.links)) }
+        → IfOk result (λ told. IsTrue told ↔ ShowsElementCounts Layout.Tables (state S.Store connection.old).now.trees counts.now) }
     ensures opened { HasCleanDisk (state S.Store connection.new) → IfOk result (λ _. IsTrue (state S.Store connection.new).is_open) }
     ensures ours { IfErr result (λ fault. ¬ (IsForeign fault)) }
     ensures asks { JustAsks (state S.Store connection.old) (state S.Store connection.new) }
@@ -77,14 +78,13 @@ fn has_table_counts<S: Alter>(
 }
 
 /// Whether the tables have so many rows.
-pub(crate) fn has_counts_of<S: Alter>(
+pub(crate) fn has_counts_of<L: SqlLayout, S: Alter>(
     connection: &mut Connection<S>,
-    layout: Layout,
     counts: &Counts,
 ) -> Result<bool, StoreFault>
     requires { (state S.Store connection.old).in_transaction ≡ false }
-    ensures told { HasCleanDisk (state S.Store connection.new) → (state S.Store connection.old).committed.schema ≡ schema_of layout
-        → IfOk result (λ told. IsTrue told ↔ ShowsCounts layout (state S.Store connection.old).committed.trees counts.now) }
+    ensures told { HasCleanDisk (state S.Store connection.new) → (state S.Store connection.old).committed.schema ≡ schema_of L.LAYOUT
+        → IfOk result (λ told. IsTrue told ↔ ShowsCounts L.LAYOUT (state S.Store connection.old).committed.trees counts.now) }
     ensures opened { HasCleanDisk (state S.Store connection.new) → IfOk result (λ _. IsTrue (state S.Store connection.new).is_open) }
     ensures ours { IfErr result (λ fault. ¬ (IsForeign fault)) }
     ensures asks { JustAsks (state S.Store connection.old) (state S.Store connection.new) }
@@ -93,8 +93,5 @@ pub(crate) fn has_counts_of<S: Alter>(
     if !has_count(connection, AuditedTable::Blobs, counts.blobs)? {
         return Ok(false);
     }
-    match layout {
-        Layout::Bodies => has_count(connection, AuditedTable::Bodies, counts.elements),
-        Layout::Tables => has_table_counts(connection, counts),
-    }
+    L::has_element_counts(connection, counts)
 }

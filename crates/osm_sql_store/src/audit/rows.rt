@@ -11,10 +11,10 @@ ghost use Rattle.osm_rows.specs.Rows.{extent_columns, placed};
 ghost use Rattle.osm_rows.specs.Schema.Layouts.{schema_of};
 ghost use Rattle.osm_rows.specs.Schema.Tables.{table_schema};
 
-use crate::audit::bodies::are_bodies;
 use crate::audit::extent::are_extent;
 use crate::audit::same::have_columns;
 use crate::audit::table::AuditedTable;
+use crate::layout::SqlLayout;
 use crate::load::{answer, number};
 use osm_rows::{Extent, Layout, StoreFault, element_rows, link_rows, tag_rows};
 use osm_value::Element;
@@ -36,7 +36,6 @@ fn are_rows_of(
 {
     match table {
         AuditedTable::Blobs => Ok(are_extent(rows, extent)),
-        AuditedTable::Bodies => are_bodies(alloc, rows, extent.off, elements),
         AuditedTable::Elements => {
             let expected = element_rows(alloc, extent.off, 0, elements)?;
             have_columns(alloc, rows, &expected)
@@ -72,7 +71,7 @@ fn shows_rows<S: Alter>(
 }
 
 /// Whether the rows of a blob's elements are at its offset, and no others, in the layout of tables.
-fn shows_tables<S: Alter>(
+pub(crate) fn shows_tables<S: Alter>(
     alloc: Global,
     connection: &mut Connection<S>,
     extent: &Extent,
@@ -95,18 +94,17 @@ fn shows_tables<S: Alter>(
 }
 
 /// Whether the rows of a blob are at its offset, and no others.
-pub(crate) fn has_rows_of<S: Alter>(
+pub(crate) fn has_rows_of<L: SqlLayout, S: Alter>(
     alloc: Global,
     connection: &mut Connection<S>,
-    layout: Layout,
     extent: &Extent,
     elements: &[Element],
 ) -> Result<bool, StoreFault>
     requires autocommit { (state S.Store connection.old).in_transaction ≡ false }
     requires bounds { (extent.now.off ≤ MAX_OFFSET) × (extent.now.fin ≤ MAX_OFFSET) × (extent.now.n < 2 ^ 63) }
-    ensures told { HasCleanDisk (state S.Store connection.new) → (state S.Store connection.old).committed.schema ≡ schema_of layout
+    ensures told { HasCleanDisk (state S.Store connection.new) → (state S.Store connection.old).committed.schema ≡ schema_of L.LAYOUT
         → IfOk result (λ told. IsTrue told ↔ (HasAt extent.now.off (extent_columns extent.now ∷ []) (seen_extents (state S.Store connection.old).committed.trees)
-        × ShowElementsAt layout extent.now.off (placed extent.now.off 0 elements.now) (state S.Store connection.old).committed.trees)) }
+        × ShowElementsAt L.LAYOUT extent.now.off (placed extent.now.off 0 elements.now) (state S.Store connection.old).committed.trees)) }
     ensures opened { HasCleanDisk (state S.Store connection.new) → IfOk result (λ _. IsTrue (state S.Store connection.new).is_open) }
     ensures ours { IfErr result (λ fault. ¬ (IsForeign fault)) }
     ensures asks { JustAsks (state S.Store connection.old) (state S.Store connection.new) }
@@ -115,8 +113,5 @@ pub(crate) fn has_rows_of<S: Alter>(
     if !shows_rows(alloc, connection, AuditedTable::Blobs, extent, elements)? {
         return Ok(false);
     }
-    match layout {
-        Layout::Bodies => shows_rows(alloc, connection, AuditedTable::Bodies, extent, elements),
-        Layout::Tables => shows_tables(alloc, connection, extent, elements),
-    }
+    L::shows_elements(alloc, connection, extent, elements)
 }

@@ -43,7 +43,7 @@ fn has_value(row: &Row, at: usize, value: ValueRef<'_>) -> bool
 }
 
 /// Whether a row has exactly these values.
-pub(crate) fn has_values(row: &Row, values: &[ValueRef<'_>]) -> bool
+pub fn has_values(row: &Row, values: &[ValueRef<'_>]) -> bool
     ensures { IsTrue result ↔ (row.now ≡ bound values.now) }
 {
     if row.column_count() != values.len() {

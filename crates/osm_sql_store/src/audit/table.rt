@@ -4,15 +4,14 @@ ghost use Rattle.std.specs.Prelude.{◌≡◌};
 ghost use Rattle.osm_sql_store.specs.AuditedTables.{count_statement, select_statement};
 
 use crate::schema::sql::{
-    COUNT_BLOBS, COUNT_BODIES, COUNT_ELEMENTS, COUNT_LINKS, COUNT_TAGS, SELECT_BODIES,
-    SELECT_ELEMENTS, SELECT_EXTENT, SELECT_LINKS, SELECT_TAGS,
+    COUNT_BLOBS, COUNT_ELEMENTS, COUNT_LINKS, COUNT_TAGS, SELECT_ELEMENTS, SELECT_EXTENT,
+    SELECT_LINKS, SELECT_TAGS,
 };
 
-/// A table of a store, in one of the layouts or in both.
+/// The table of blobs, which both layouts have, or one of the layout of tables.
 #[derive(Clone, Copy)]
 pub(crate) enum AuditedTable {
     Blobs,
-    Bodies,
     Elements,
     Tags,
     Links,
@@ -25,7 +24,6 @@ impl AuditedTable {
     {
         match self {
             AuditedTable::Blobs => COUNT_BLOBS,
-            AuditedTable::Bodies => COUNT_BODIES,
             AuditedTable::Elements => COUNT_ELEMENTS,
             AuditedTable::Tags => COUNT_TAGS,
             AuditedTable::Links => COUNT_LINKS,
@@ -38,7 +36,6 @@ impl AuditedTable {
     {
         match self {
             AuditedTable::Blobs => SELECT_EXTENT,
-            AuditedTable::Bodies => SELECT_BODIES,
             AuditedTable::Elements => SELECT_ELEMENTS,
             AuditedTable::Tags => SELECT_TAGS,
             AuditedTable::Links => SELECT_LINKS,

@@ -11,7 +11,7 @@ ghost use Rattle.osm_rows.specs.LayoutHolding.{Holds};
 ghost use Rattle.osm_rows.specs.Keeping.{IsForeign, IsRange, AscendApart, extents_of, touches};
 ghost use Rattle.osm_sql_store.specs.Load.Starting.{IsStart};
 
-use crate::load::answer::{answer, integer, number};
+use crate::load::asking::{answer, integer, number};
 use crate::schema::sql::{SELECT_EXTENTS, SELECT_LAST_START, SELECT_TOUCHING};
 use osm_rows::unreadable::unread;
 use osm_rows::{Extent, Layout, StoreFault, read_apart};
@@ -20,7 +20,7 @@ use sqlite::{Alter, Connection, Row};
 use std::alloc::Global;
 
 /// All extents, ascending by their offsets.
-pub(crate) fn all_extents<S: Alter>(
+pub fn all_extents<S: Alter>(
     alloc: Global,
     connection: &mut Connection<S>,
 ) -> Result<Vec<Extent>, StoreFault>

@@ -9,7 +9,7 @@ ghost use Rattle.osm_sql_store.specs.Schema.Over.{IsWriting};
 ghost use Rattle.osm_sql_store.specs.Put.Steps.{AddsRows};
 ghost use Rattle.osm_sql_store.specs.Put.Batches.{rows_of, statement_of};
 
-use crate::put::execute::execute;
+use crate::put::statement::execute;
 use crate::schema::sql::{
     INSERT_ELEMENT, INSERT_ELEMENTS, INSERT_LINK, INSERT_LINKS, INSERT_TAG, INSERT_TAGS,
 };

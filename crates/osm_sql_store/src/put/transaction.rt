@@ -9,12 +9,11 @@ ghost use Rattle.osm_rows.specs.Keeping.{IsForeign};
 ghost use Rattle.osm_rows.specs.Schema.Layouts.{schema_of};
 ghost use Rattle.osm_rows.specs.Rows.{placed, extent_row, CanStore};
 ghost use Rattle.osm_sql_store.specs.Schema.Over.{IsWriting};
-ghost use Rattle.osm_sql_store.specs.Put.Steps.{AddsElements, AddsExtent, Writes};
+ghost use Rattle.osm_sql_store.specs.Put.Steps.{AddsExtent, Writes};
 ghost use Rattle.osm_rows.specs.Put.Gains.{Puts};
 
-use crate::put::bodies::add_bodies;
-use crate::put::execute::execute;
-use crate::put::tables::add_table_rows;
+use crate::layout::SqlLayout;
+use crate::put::statement::execute;
 use crate::schema::sql::INSERT_BLOB;
 use osm_rows::{Extent, Layout, StoreFault, blob_code};
 use osm_value::Element;
@@ -47,30 +46,9 @@ fn add_extent<S: Alter>(
     )
 }
 
-/// The elements of a blob, in the tables of the layout.
-fn write_elements<S: Alter>(
+fn write_rows<L: SqlLayout, S: Alter>(
     alloc: Global,
     transaction: &mut Transaction<'_, S>,
-    layout: Layout,
-    off: u64,
-    elements: &[Element],
-) -> Result<(), StoreFault>
-    requires bounds { off ≤ MAX_OFFSET }
-    ensures step { WorksInside S.Store transaction.old.conn result transaction.new.conn }
-    ensures added { HasCleanDisk (state S.Store transaction.new.conn.now) → IsWriting layout (state S.Store transaction.old.conn.now)
-        → OnOk result (AddsElements layout (state S.Store transaction.old.conn.now) (state S.Store transaction.new.conn.now) (placed off 0 elements.now)) }
-    ensures can_store { OnOk result (AllByRecursion (CanStore layout) elements.now) }
-{
-    match layout {
-        Layout::Bodies => add_bodies(alloc, transaction, off, elements),
-        Layout::Tables => add_table_rows(alloc, transaction, off, elements),
-    }
-}
-
-fn write_rows<S: Alter>(
-    alloc: Global,
-    transaction: &mut Transaction<'_, S>,
-    layout: Layout,
     extent: &Extent,
     elements: &[Element],
 ) -> Result<(), StoreFault>
@@ -78,38 +56,37 @@ fn write_rows<S: Alter>(
     requires bounds { (extent.now.off ≤ MAX_OFFSET) × (extent.now.fin ≤ MAX_OFFSET) × (extent.now.n < 2 ^ 63) }
     ensures step { WorksInside S.Store transaction.old.conn result transaction.new.conn }
     ensures written { HasCleanDisk (state S.Store transaction.new.conn.now)
-        → OnOk result (Writes layout (state S.Store transaction.old.conn.now) (state S.Store transaction.new.conn.now) extent.now (placed extent.now.off 0 elements.now)) }
-    ensures can_store { OnOk result (AllByRecursion (CanStore layout) elements.now) }
+        → OnOk result (Writes L.LAYOUT (state S.Store transaction.old.conn.now) (state S.Store transaction.new.conn.now) extent.now (placed extent.now.off 0 elements.now)) }
+    ensures can_store { OnOk result (AllByRecursion (CanStore L.LAYOUT) elements.now) }
 {
     add_extent(transaction, extent)?;
-    write_elements(alloc, transaction, layout, extent.off, elements)
+    L::write_elements(alloc, transaction, extent.off, elements)
 }
 
 /// One transaction adds the blob and its elements, or nothing.
-pub(crate) fn put_rows<S: Alter>(
+pub(crate) fn put_rows<L: SqlLayout, S: Alter>(
     alloc: Global,
     connection: &mut Connection<S>,
-    layout: Layout,
     extent: &Extent,
     elements: &[Element],
 ) -> Result<(), StoreFault>
     requires autocommit { (state S.Store connection.old).in_transaction ≡ false }
     requires bounds { (extent.now.off ≤ MAX_OFFSET) × (extent.now.fin ≤ MAX_OFFSET) × (extent.now.n < 2 ^ 63) }
-    ensures added { HasCleanDisk (state S.Store connection.new) → (state S.Store connection.old).now.schema ≡ schema_of layout
-        → OnOk result (((state S.Store connection.new).now.schema ≡ schema_of layout) × Puts layout (state S.Store connection.old).now.trees (state S.Store connection.new).now.trees extent.now (placed extent.now.off 0 elements.now)) }
-    ensures can_store { OnOk result (AllByRecursion (CanStore layout) elements.now) }
+    ensures added { HasCleanDisk (state S.Store connection.new) → (state S.Store connection.old).now.schema ≡ schema_of L.LAYOUT
+        → OnOk result (((state S.Store connection.new).now.schema ≡ schema_of L.LAYOUT) × Puts L.LAYOUT (state S.Store connection.old).now.trees (state S.Store connection.new).now.trees extent.now (placed extent.now.off 0 elements.now)) }
+    ensures can_store { OnOk result (AllByRecursion (CanStore L.LAYOUT) elements.now) }
     ensures committed { HasCleanDisk (state S.Store connection.new) → OnOk result (IsTrue (state S.Store connection.old).is_open × IsTrue (state S.Store connection.new).is_open × ((state S.Store connection.new).committed ≡ (state S.Store connection.new).now)) }
     ensures autocommit { (state S.Store connection.new).in_transaction ≡ false }
     ensures unchanged { HasCleanDisk (state S.Store connection.new) → IsTrue (state S.Store connection.new).is_open
         → OnErr result (IsTrue (state S.Store connection.old).is_open × ((state S.Store connection.new).now ≡ (state S.Store connection.old).now) × ((state S.Store connection.new).committed ≡ (state S.Store connection.old).committed)) }
     ensures ours { IfErr result (λ fault. ¬ (IsForeign fault)) }
     ensures crash { Survives (state S.Store connection.old) (state S.Store connection.new) (λ trees. IsTrue (state S.Store connection.old).is_open
-        × AllByRecursion (CanStore layout) elements.now
-        × ((state S.Store connection.old).now.schema ≡ schema_of layout → Puts layout (state S.Store connection.old).now.trees trees extent.now (placed extent.now.off 0 elements.now))) }
+        × AllByRecursion (CanStore L.LAYOUT) elements.now
+        × ((state S.Store connection.old).now.schema ≡ schema_of L.LAYOUT → Puts L.LAYOUT (state S.Store connection.old).now.trees trees extent.now (placed extent.now.off 0 elements.now))) }
 {
     let _settled = connection.is_autocommit();
     let mut transaction = connection.transaction();
-    write_rows(alloc, &mut transaction, layout, extent, elements)?;
+    write_rows::<L, S>(alloc, &mut transaction, extent, elements)?;
     transaction.commit()?;
     Ok(())
 }

@@ -10,9 +10,8 @@ ghost use Rattle.osm_sql_store.specs.Schema.Versions.{version_text_of};
 ghost use Rattle.osm_sql_store.specs.Schema.Making.{text_of, before, Makes, MakesElements, WritesVersion, IsEmptyStore};
 ghost use Rattle.osm_sql_store.specs.Schema.Over.{IsOver, IsWriting};
 
-use crate::schema::sql::{
-    CREATE_BODY, CREATE_BODY_INDEX, INSERT_BODY_VERSION, INSERT_TABLE_VERSION,
-};
+use crate::layout::SqlLayout;
+use crate::schema::sql::{INSERT_BODY_VERSION, INSERT_TABLE_VERSION};
 use osm_rows::{
     CREATE_BLOB, CREATE_ELEMENT, CREATE_ELEMENT_INDEX, CREATE_LINK, CREATE_META, CREATE_TAG, Layout,
 };
@@ -23,8 +22,6 @@ use sqlite::{Alter, Connection, Error, Transaction};
 pub(crate) enum Making {
     Meta,
     Blob,
-    Body,
-    BodyIndex,
     Element,
     Tag,
     Link,
@@ -38,8 +35,6 @@ impl Making {
         match self {
             Making::Meta => CREATE_META,
             Making::Blob => CREATE_BLOB,
-            Making::Body => CREATE_BODY,
-            Making::BodyIndex => CREATE_BODY_INDEX,
             Making::Element => CREATE_ELEMENT,
             Making::Tag => CREATE_TAG,
             Making::Link => CREATE_LINK,
@@ -58,16 +53,8 @@ fn make<S: Alter>(transaction: &mut Transaction<'_, S>, what: Making) -> Result<
     Ok(())
 }
 
-fn make_body_layout<S: Alter>(transaction: &mut Transaction<'_, S>) -> Result<(), Error>
-    requires { HasCleanDisk (state S.Store transaction.old.conn.now) → IsOver two_tables (state S.Store transaction.old.conn.now) }
-    ensures goes_on { GoesOn S.Store transaction.old.conn transaction.new.conn }
-    ensures made { HasCleanDisk (state S.Store transaction.new.conn.now) → OnOk result (MakesElements Layout.Bodies (state S.Store transaction.old.conn.now) (state S.Store transaction.new.conn.now)) }
-{
-    make(transaction, Making::Body)?;
-    make(transaction, Making::BodyIndex)
-}
-
-fn make_table_layout<S: Alter>(transaction: &mut Transaction<'_, S>) -> Result<(), Error>
+/// Makes the tables of elements of the layout of tables, and their index.
+pub(crate) fn make_table_layout<S: Alter>(transaction: &mut Transaction<'_, S>) -> Result<(), Error>
     requires { HasCleanDisk (state S.Store transaction.old.conn.now) → IsOver two_tables (state S.Store transaction.old.conn.now) }
     ensures goes_on { GoesOn S.Store transaction.old.conn transaction.new.conn }
     ensures made { HasCleanDisk (state S.Store transaction.new.conn.now) → OnOk result (MakesElements Layout.Tables (state S.Store transaction.old.conn.now) (state S.Store transaction.new.conn.now)) }
@@ -76,18 +63,6 @@ fn make_table_layout<S: Alter>(transaction: &mut Transaction<'_, S>) -> Result<(
     make(transaction, Making::Tag)?;
     make(transaction, Making::Link)?;
     make(transaction, Making::ElementIndex)
-}
-
-/// Makes the tables in which a layout keeps elements, and their index.
-fn make_layout<S: Alter>(transaction: &mut Transaction<'_, S>, layout: Layout) -> Result<(), Error>
-    requires { HasCleanDisk (state S.Store transaction.old.conn.now) → IsOver two_tables (state S.Store transaction.old.conn.now) }
-    ensures goes_on { GoesOn S.Store transaction.old.conn transaction.new.conn }
-    ensures made { HasCleanDisk (state S.Store transaction.new.conn.now) → OnOk result (MakesElements layout (state S.Store transaction.old.conn.now) (state S.Store transaction.new.conn.now)) }
-{
-    match layout {
-        Layout::Bodies => make_body_layout(transaction),
-        Layout::Tables => make_table_layout(transaction),
-    }
 }
 
 /// The statement that writes the version of a layout.
@@ -100,49 +75,45 @@ fn version_text(layout: Layout) -> &'static str
     }
 }
 
-fn write_version<S: Alter>(
-    transaction: &mut Transaction<'_, S>,
-    layout: Layout,
-) -> Result<(), Error>
-    requires { HasCleanDisk (state S.Store transaction.old.conn.now) → IsWriting layout (state S.Store transaction.old.conn.now) }
+fn write_version<L: SqlLayout, S: Alter>(transaction: &mut Transaction<'_, S>) -> Result<(), Error>
+    requires { HasCleanDisk (state S.Store transaction.old.conn.now) → IsWriting L.LAYOUT (state S.Store transaction.old.conn.now) }
     ensures goes_on { GoesOn S.Store transaction.old.conn transaction.new.conn }
-    ensures made { HasCleanDisk (state S.Store transaction.new.conn.now) → OnOk result (WritesVersion layout (state S.Store transaction.old.conn.now) (state S.Store transaction.new.conn.now)) }
+    ensures made { HasCleanDisk (state S.Store transaction.new.conn.now) → OnOk result (WritesVersion L.LAYOUT (state S.Store transaction.old.conn.now) (state S.Store transaction.new.conn.now)) }
 {
-    transaction.execute(version_text(layout), &[])?;
+    transaction.execute(version_text(L::LAYOUT), &[])?;
     Ok(())
 }
 
-fn make_tables<S: Alter>(transaction: &mut Transaction<'_, S>, layout: Layout) -> Result<(), Error>
+fn make_tables<L: SqlLayout, S: Alter>(transaction: &mut Transaction<'_, S>) -> Result<(), Error>
     requires { HasCleanDisk (state S.Store transaction.old.conn.now) → IsOver no_schema (state S.Store transaction.old.conn.now) }
     ensures goes_on { GoesOn S.Store transaction.old.conn transaction.new.conn }
-    ensures over { HasCleanDisk (state S.Store transaction.new.conn.now) → OnOk result (IsWriting layout (state S.Store transaction.new.conn.now)) }
-    ensures made { HasCleanDisk (state S.Store transaction.new.conn.now) → OnOk result (IsEmptyStore layout (state S.Store transaction.new.conn.now).now.trees) }
+    ensures over { HasCleanDisk (state S.Store transaction.new.conn.now) → OnOk result (IsWriting L.LAYOUT (state S.Store transaction.new.conn.now)) }
+    ensures made { HasCleanDisk (state S.Store transaction.new.conn.now) → OnOk result (IsEmptyStore L.LAYOUT (state S.Store transaction.new.conn.now).now.trees) }
 {
     make(transaction, Making::Meta)?;
     make(transaction, Making::Blob)?;
-    make_layout(transaction, layout)?;
-    write_version(transaction, layout)
+    L::make_layout(transaction)?;
+    write_version::<L, S>(transaction)
 }
 
 /// Makes the tables of a store that holds nothing, all in one transaction.
-pub(crate) fn create_tables<S: Alter>(
+pub(crate) fn create_tables<L: SqlLayout, S: Alter>(
     connection: &mut Connection<S>,
-    layout: Layout,
 ) -> Result<(), Error>
     requires bare { HasCleanDisk (state S.Store connection.old) → (state S.Store connection.old).now.schema ≡ no_schema }
     requires autocommit { (state S.Store connection.old).in_transaction ≡ false }
     ensures settled { HasCleanDisk (state S.Store connection.new) → OnOk result ((db : _) → (state S.Store connection.new).may_leave db → db ≡ (state S.Store connection.new).now.trees) }
-    ensures schema { HasCleanDisk (state S.Store connection.new) → OnOk result ((state S.Store connection.new).now.schema ≡ schema_of layout) }
-    ensures empty { HasCleanDisk (state S.Store connection.new) → OnOk result (IsEmptyStore layout (state S.Store connection.new).now.trees) }
+    ensures schema { HasCleanDisk (state S.Store connection.new) → OnOk result ((state S.Store connection.new).now.schema ≡ schema_of L.LAYOUT) }
+    ensures empty { HasCleanDisk (state S.Store connection.new) → OnOk result (IsEmptyStore L.LAYOUT (state S.Store connection.new).now.trees) }
     ensures committed { HasCleanDisk (state S.Store connection.new) → OnOk result (IsTrue (state S.Store connection.new).is_open × ((state S.Store connection.new).committed ≡ (state S.Store connection.new).now)) }
     ensures autocommit { (state S.Store connection.new).in_transaction ≡ false }
     ensures unchanged { HasCleanDisk (state S.Store connection.new) → IsTrue (state S.Store connection.new).is_open
         → OnErr result (((state S.Store connection.new).now ≡ (state S.Store connection.old).now) × ((state S.Store connection.new).committed ≡ (state S.Store connection.old).committed)) }
-    ensures crash { Survives (state S.Store connection.old) (state S.Store connection.new) (IsEmptyStore layout) }
+    ensures crash { Survives (state S.Store connection.old) (state S.Store connection.new) (IsEmptyStore L.LAYOUT) }
 {
     let _settled = connection.is_autocommit();
     let mut transaction = connection.transaction();
-    make_tables(&mut transaction, layout)?;
+    make_tables::<L, S>(&mut transaction)?;
     transaction.commit()?;
     Ok(())
 }

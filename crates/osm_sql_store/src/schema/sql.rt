@@ -1,13 +1,6 @@
 //! The other statements of the store, as text. Each stands here alone: definitions cite these constants, and proofs say what
 //! they do to the tables.
 
-/// In the layout of bodies, a row for each element: where it stands, what it is, and its block.
-pub(crate) const CREATE_BODY: &str =
-    "CREATE TABLE body (off INTEGER NOT NULL, pos INTEGER NOT NULL, kind INTEGER NOT NULL, id INTEGER NOT NULL, data BLOB NOT NULL, PRIMARY KEY (off, pos)) STRICT";
-
-/// Finds elements by kind and id.
-pub(crate) const CREATE_BODY_INDEX: &str = "CREATE INDEX body_element ON body (kind, id)";
-
 /// The version of the tables in the layout of bodies.
 pub(crate) const BODY_VERSION: i64 = 1;
 
@@ -20,10 +13,6 @@ pub(crate) const INSERT_TABLE_VERSION: &str = "INSERT INTO meta (version) VALUES
 /// Adds a blob.
 pub(crate) const INSERT_BLOB: &str =
     "INSERT INTO blob (off, fin, digest, kind, n) VALUES (?1, ?2, ?3, ?4, ?5)";
-
-/// Adds an element, in the layout of bodies.
-pub(crate) const INSERT_BODY: &str =
-    "INSERT INTO body (off, pos, kind, id, data) VALUES (?1, ?2, ?3, ?4, ?5)";
 
 /// Adds an element, in the layout of tables.
 pub(crate) const INSERT_ELEMENT: &str =
@@ -86,14 +75,6 @@ pub(crate) const SELECT_TOUCHING: &str =
     "SELECT off, fin, digest, kind, n FROM blob WHERE off >= ?1 AND off < ?2 AND fin > ?3 ORDER BY off";
 
 /// A blob's elements, in order.
-pub(crate) const SELECT_BODIES: &str =
-    "SELECT off, pos, kind, id, data FROM body WHERE off = ?1 ORDER BY off, pos";
-
-/// All held elements of one kind and id, in order.
-pub(crate) const FIND_BODIES: &str =
-    "SELECT off, pos, kind, id, data FROM body WHERE kind = ?1 AND id = ?2 ORDER BY off, pos";
-
-/// A blob's elements, in order.
 pub(crate) const SELECT_ELEMENTS: &str =
     "SELECT off, pos, kind, id, lat, lon, version, time, changeset, uid, user, visible FROM element WHERE off = ?1 ORDER BY off, pos";
 
@@ -123,9 +104,6 @@ pub(crate) const SELECT_ITS_LINKS: &str =
 
 /// How many blobs there are.
 pub(crate) const COUNT_BLOBS: &str = "SELECT count(*) FROM blob";
-
-/// How many elements there are, in the layout of bodies.
-pub(crate) const COUNT_BODIES: &str = "SELECT count(*) FROM body";
 
 /// How many elements there are, in the layout of tables.
 pub(crate) const COUNT_ELEMENTS: &str = "SELECT count(*) FROM element";

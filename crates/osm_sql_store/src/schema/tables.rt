@@ -21,7 +21,7 @@ fn has_columns(table: &Table, columns: &[&str]) -> bool
 }
 
 /// Whether a database has a table of this name with each of these columns.
-fn has_table(schema: &Schema, name: &str, columns: &[&str]) -> bool
+pub fn has_table(schema: &Schema, name: &str, columns: &[&str]) -> bool
     ensures { result ≡ list_any (λ t. same_name t.name name.now && list_all (λ c. is_some (column_named t c.now)) columns.now) schema.now.tables }
 {
     schema.tables.as_slice().iter().any(|table| table.is_named(name.as_bytes())
@@ -29,7 +29,7 @@ fn has_table(schema: &Schema, name: &str, columns: &[&str]) -> bool
 }
 
 /// Whether a database has the tables that both layouts have.
-fn has_shared_tables(schema: &Schema) -> bool
+pub fn has_shared_tables(schema: &Schema) -> bool
     ensures { result ≡ (has_table schema.now meta.name (names_of meta) && has_table schema.now blob.name (names_of blob)) }
 {
     has_table(schema, "meta", &["version"])
@@ -59,17 +59,11 @@ fn has_element_tables(schema: &Schema) -> bool
         && has_table(schema, "link", &["off", "pos", "k", "kind", "ref", "role"])
 }
 
-/// Whether a database has each table of a layout, with each of its columns, under these names in any case, as SQLite finds
-/// them.
-pub(crate) fn has_tables(schema: &Schema, layout: Layout) -> bool
-    ensures has { IsTrue result → HasTables layout schema.now }
-    ensures own { schema.now ≡ schema_of layout → IsTrue result }
+/// Whether a database has each table of the layout of tables, with each of its columns, under these names in any case, as
+/// SQLite finds them.
+pub(crate) fn has_tables(schema: &Schema) -> bool
+    ensures has { IsTrue result → HasTables Layout.Tables schema.now }
+    ensures own { schema.now ≡ schema_of Layout.Tables → IsTrue result }
 {
-    match layout {
-        Layout::Bodies => {
-            has_shared_tables(schema)
-                && has_table(schema, "body", &["off", "pos", "kind", "id", "data"])
-        }
-        Layout::Tables => has_shared_tables(schema) && has_element_tables(schema),
-    }
+    has_shared_tables(schema) && has_element_tables(schema)
 }

@@ -4,7 +4,8 @@ use super::{
     Outcome, Reached, STOPS, Source, Stopped, TaggedFile, Unsynced, Work, found_after, new_files,
     session,
 };
-use osm_rows::{Bodies, Tables};
+use osm_old_store::Bodies;
+use osm_rows::Tables;
 use std::alloc::Global;
 use std::process::Abort;
 use std::test::*;

@@ -4,7 +4,8 @@ use super::{
     Fused, Outcome, Reached, STOPS, Stopped, TaggedFile, Unsynced, Work, after_stop, copies,
     found_after, new_files, session,
 };
-use osm_rows::{Bodies, Tables};
+use osm_old_store::Bodies;
+use osm_rows::Tables;
 use sqlite::Files;
 use std::alloc::Global;
 use std::process::Abort;

@@ -5,7 +5,8 @@ use super::{
     Fused, Outcome, Reached, STOPS, Stopped, TaggedFile, Unsynced, Work, copies, found_after,
     new_files, session,
 };
-use osm_rows::{Bodies, Tables};
+use osm_old_store::Bodies;
+use osm_rows::Tables;
 use osm_trees::TreeStore;
 use sqlite::{Alter, Connection, Files};
 use sqlite_disk::Disk;

@@ -9,7 +9,7 @@ ghost use Rattle.osm_rows.specs.Held.{HeldMap};
 ghost use Rattle.osm_rows.specs.LayoutHolding.{Holds};
 ghost use Rattle.osm_rows.specs.Keeping.{IsForeign};
 
-use crate::load::answer::answer;
+use crate::load::asking::answer;
 use crate::schema::sql::SELECT_FLAG;
 use osm_rows::{Layout, StoreFault};
 use sqlite::{Alter, Connection};

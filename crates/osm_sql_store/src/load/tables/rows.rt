@@ -10,7 +10,7 @@ ghost use Rattle.osm_rows.specs.LayoutHolding.{Holds};
 ghost use Rattle.osm_rows.specs.Keeping.{IsForeign};
 ghost use Rattle.osm_rows.specs.Rows.{is_in, placed_in};
 
-use crate::load::answer::{answer, number};
+use crate::load::asking::{answer, number};
 use crate::schema::sql::{SELECT_ELEMENTS, SELECT_LINKS, SELECT_TAGS};
 use osm_rows::{Layout, PartRow, StoreFault, TableRows};
 use pbf_frame::MAX_OFFSET;

@@ -13,7 +13,7 @@ ghost use Rattle.osm_rows.specs.LayoutHolding.{Holds};
 ghost use Rattle.osm_rows.specs.Keeping.{IsForeign};
 ghost use Rattle.osm_rows.specs.Rows.{Placed, is_of, placed_in};
 
-use crate::load::answer::{answer, integer, number};
+use crate::load::asking::{answer, integer, number};
 use crate::schema::sql::{FIND_ELEMENTS, SELECT_ITS_LINKS, SELECT_ITS_TAGS};
 use osm_rows::unreadable::unread;
 use osm_rows::{Layout, PartRow, StoreFault, TableRows, element_code};

@@ -6,9 +6,6 @@ use Rattle.osm_sql_store.proofs.audit.rows.are_rows_of.Goals as goal
 pub returns-in-Blobs-clause-told : goal.returns-in-Blobs-clause-told
 returns-in-Blobs-clause-told c = rw c.in-Blobs.is c.are_extent.ensures
 
-pub returns-in-Bodies-clause-told : goal.returns-in-Bodies-clause-told
-returns-in-Bodies-clause-told c = rw c.in-Bodies.is c.are_bodies.ensures.told
-
 pub returns-in_ok-expected-in-Elements-clause-told : goal.returns-in_ok-expected-in-Elements-clause-told
 returns-in_ok-expected-in-Elements-clause-told c =
     rw c.in-Elements.is (ok_told c.have_columns.result (λ b told. meant _ _ _ (ap (map element_columns) c.deref.ensures.value ∙ c.in_ok-expected-in-Elements.ensures) told) c.have_columns.ensures.told)

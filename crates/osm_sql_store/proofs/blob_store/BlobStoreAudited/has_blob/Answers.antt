@@ -1,4 +1,4 @@
-use Rattle.std.proofs.Common.{◌≡◌, ℕ, [], ◌∷◌, sym, subst}
+use Rattle.std.proofs.Common.{◌≡◌, ℕ, [], ◌∷◌, refl, sym, subst}
 use Rattle.std.specs.Prelude.{◌↔◌, IfOk, IsTrue}
 use Rattle.sqlite.specs.Held.{state}
 use Rattle.osm_rows.specs.Audit.{HasAt, ShowElementsAt, ShowsBlob, seen_extents}
@@ -23,18 +23,16 @@ returns-clause-told g c clean schema =
     let blob : Blob = record { fin = c.args.fin; digest = c.args.digest.now; kind = c.args.kind; elements = c.args.elements.now } in
     let was = sym c.self.view_is in
     let inside = state g.S.Store c.self.inside.connection in
-    let here : inside.committed.schema ≡ schema_of c.LAYOUT.result =
-    subst (λ (l : Layout). inside.committed.schema ≡ schema_of l) (sym c.LAYOUT.ensures) (subst (λ (s : Store _). (state g.S.Store s.connection).committed.schema ≡ schema_of layout) was schema) in
+    let here : inside.committed.schema ≡ schema_of layout = subst (λ (s : Store _). (state g.S.Store s.connection).committed.schema ≡ schema_of layout) was schema in
     subst (λ (s : Store _). IfOk c.has_rows_of-answer.result (λ told. IsTrue told ↔ ShowsBlob layout (state g.S.Store s.connection).committed.trees c.args.off blob)) c.self.view_is
-    (subst (λ (l : Layout). IfOk c.has_rows_of-answer.result (λ told. IsTrue told ↔ ShowsBlob l inside.committed.trees c.args.off blob)) c.LAYOUT.ensures
-    (ok_told c.has_rows_of-answer.result (λ b told. iff_then told (whole c.LAYOUT.result inside.committed.trees c.args.off blob)) (c.has_rows_of-answer.ensures.told clean here)))
+    (ok_told c.has_rows_of-answer.result (λ b told. iff_then told (whole layout inside.committed.trees c.args.off blob)) (c.has_rows_of-answer.ensures.told clean here))
 
 pub returns-clause-opened : goal.returns-clause-opened
 returns-clause-opened g c clean = ok_told c.has_rows_of-answer.result (λ b up. (clean, up)) (c.has_rows_of-answer.ensures.opened clean)
 
 pub returns-clause-reads : goal.returns-clause-reads
 returns-clause-reads g c =
-    reads g.S.Store (record { connection = c.has_rows_of-answer.new.connection; failures = c.failures_after-self-inside.result }) c.LAYOUT.ensures c.self.view_is c.has_rows_of-answer.ensures.asks c.has_rows_of-answer.result c.failures_after-self-inside.ensures
+    reads g.S.Store (record { connection = c.has_rows_of-answer.new.connection; failures = c.failures_after-self-inside.result }) refl c.self.view_is c.has_rows_of-answer.ensures.asks c.has_rows_of-answer.result c.failures_after-self-inside.ensures
     (λ clean held holds. both_told _ _ c.has_rows_of-answer.result (c.has_rows_of-answer.ensures.opened clean) c.has_rows_of-answer.ensures.ours)
 
 pub returns-clause-held : goal.returns-clause-held

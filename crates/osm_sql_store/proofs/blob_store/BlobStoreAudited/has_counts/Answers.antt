@@ -1,9 +1,8 @@
-use Rattle.std.proofs.Common.{◌≡◌, sym, subst}
+use Rattle.std.proofs.Common.{◌≡◌, refl, sym, subst}
 use Rattle.std.specs.Prelude.{◌↔◌, IfOk, IsTrue}
 use Rattle.sqlite.specs.Held.{state}
 use Rattle.osm_rows.specs.Audit.{AreCountable, ShowsCounts}
 use Rattle.osm_rows.specs.declared.audit.counts.Counts.{Counts}
-use Rattle.osm_rows.specs.declared.schema.layout.Layout.{Layout}
 use Rattle.osm_rows.specs.Schema.Layouts.{schema_of}
 use Rattle.osm_sql_store.specs.Store.{Store}
 use Rattle.osm_rows.proofs.AuditLemmas.Telling.{ok_told, both_told}
@@ -15,17 +14,16 @@ pub returns-clause-told : goal.returns-clause-told
 returns-clause-told g c clean schema =
     let layout = g.L.StoreLayout.LAYOUT in
     let inside = state g.S.Store c.self.inside.connection in
-    let here : inside.committed.schema ≡ schema_of c.LAYOUT.result =
-    subst (λ (l : Layout). inside.committed.schema ≡ schema_of l) (sym c.LAYOUT.ensures) (subst (λ (s : Store _). (state g.S.Store s.connection).committed.schema ≡ schema_of layout) (sym c.self.view_is) schema) in
+    let here : inside.committed.schema ≡ schema_of layout = subst (λ (s : Store _). (state g.S.Store s.connection).committed.schema ≡ schema_of layout) (sym c.self.view_is) schema in
     subst (λ (s : Store _). IfOk c.has_counts_of-answer.result (λ told. IsTrue told ↔ ShowsCounts layout (state g.S.Store s.connection).committed.trees c.args.counts.now)) c.self.view_is
-    (subst (λ (l : Layout). IfOk c.has_counts_of-answer.result (λ told. IsTrue told ↔ ShowsCounts l inside.committed.trees c.args.counts.now)) c.LAYOUT.ensures (c.has_counts_of-answer.ensures.told clean here))
+    (c.has_counts_of-answer.ensures.told clean here)
 
 pub returns-clause-opened : goal.returns-clause-opened
 returns-clause-opened g c clean = ok_told c.has_counts_of-answer.result (λ b up. (clean, up)) (c.has_counts_of-answer.ensures.opened clean)
 
 pub returns-clause-reads : goal.returns-clause-reads
 returns-clause-reads g c =
-    reads g.S.Store (record { connection = c.has_counts_of-answer.new.connection; failures = c.failures_after-self-inside.result }) c.LAYOUT.ensures c.self.view_is c.has_counts_of-answer.ensures.asks c.has_counts_of-answer.result c.failures_after-self-inside.ensures
+    reads g.S.Store (record { connection = c.has_counts_of-answer.new.connection; failures = c.failures_after-self-inside.result }) refl c.self.view_is c.has_counts_of-answer.ensures.asks c.has_counts_of-answer.result c.failures_after-self-inside.ensures
     (λ clean held holds. both_told _ _ c.has_counts_of-answer.result (c.has_counts_of-answer.ensures.opened clean) c.has_counts_of-answer.ensures.ours)
 
 pub returns-clause-held : goal.returns-clause-held

@@ -11,11 +11,10 @@ returns g c =
     let new : Store _ = record { connection = c.put_rows-answer.new.connection; failures = c.failures_after-self-inside.result } in
     let wide : length c.args.digest.now ≡ 32 = search rules in
     let says = c.put_rows-answer.ensures in
-    let adds = put_adds c.LAYOUT.result g.S.Store inside new c.args.off blob c.requires.order c.requires.limit wide (λ db there left. g.met.S.Store.settled c.self.inside.connection.store db there left)
+    let adds = put_adds g.L.StoreLayout.LAYOUT g.S.Store inside new c.args.off blob c.requires.order c.requires.limit wide (λ db there left. g.met.S.Store.settled c.self.inside.connection.store db there left)
     c.put_rows-answer.result
     (record { added = says.added; can_store = says.can_store; committed = says.committed; unchanged = says.unchanged; ours = says.ours; crash = says.crash })
     c.failures_after-self-inside.ensures in
     record {
-      adds = subst (λ old. AddsBlob g.L.StoreLayout.LAYOUT g.S.Store c.args.off blob old c.put_rows-answer.result new) c.self.view_is
-          (subst (λ layout. AddsBlob layout g.S.Store c.args.off blob inside c.put_rows-answer.result new) c.LAYOUT.ensures adds);
+      adds = subst (λ old. AddsBlob g.L.StoreLayout.LAYOUT g.S.Store c.args.off blob old c.put_rows-answer.result new) c.self.view_is adds;
     }

@@ -13,8 +13,8 @@ returns-clause-written g c clean =
     let step = c.write_elements.ensures.step in
     let early = clean_at g.S.Store middle end step.goes_on clean in
     let begun = c.in_ok-add_extent.ensures.step.inside early c.requires.inside in
-    written c.args.layout old (state g.S.Store middle.now) (state g.S.Store end.now) c.args.extent.now (placed c.args.extent.now.off 0 c.args.elements.now) c.write_elements.result (c.in_ok-add_extent.ensures.opened early) c.requires.inside
-    (c.in_ok-add_extent.ensures.added early c.args.layout) (step.inside clean begun) (c.write_elements.ensures.added clean)
+    written g.L.StoreLayout.LAYOUT old (state g.S.Store middle.now) (state g.S.Store end.now) c.args.extent.now (placed c.args.extent.now.off 0 c.args.elements.now) c.write_elements.result (c.in_ok-add_extent.ensures.opened early) c.requires.inside
+    (c.in_ok-add_extent.ensures.added early g.L.StoreLayout.LAYOUT) (step.inside clean begun) (c.write_elements.ensures.added clean)
 
 pub returns-in_err-add_extent-clause-step : goal.returns-in_err-add_extent-clause-step
 returns-in_err-add_extent-clause-step g c = record { goes_on = c.add_extent.ensures.step.goes_on; inside = search rules; ours = search (rules, c.add_extent.ensures.step.ours) }

@@ -27,7 +27,7 @@ pub returns-clause-over : goal.returns-clause-over
 returns-clause-over g c clean =
     let three = state g.S.Store c.make_layout.new.transaction.conn.now in
     let new = state g.S.Store c.write_version.new.transaction.conn.now in
-    on_ok_weaker c.write_version.result (λ (w : WritesVersion c.args.layout three new). w.becomes.over) (c.write_version.ensures.made clean)
+    on_ok_weaker c.write_version.result (λ (w : WritesVersion g.L.StoreLayout.LAYOUT three new). w.becomes.over) (c.write_version.ensures.made clean)
 
 pub returns-clause-made : goal.returns-clause-made
 returns-clause-made g c clean_new =
@@ -39,5 +39,5 @@ returns-clause-made g c clean_new =
     let clean_three = clean_at g.S.Store three new c.write_version.ensures.goes_on clean_new in
     let clean_two = clean_at g.S.Store two three c.make_layout.ensures.goes_on clean_three in
     let clean_one = clean_at g.S.Store one two c.make-2.ensures.goes_on clean_two in
-    let all = makes_empty_store c.args.layout old (state g.S.Store one.now) (state g.S.Store two.now) (state g.S.Store three.now) (state g.S.Store new.now) (c.in_ok-make.ensures.made clean_one) (c.in_ok-make-2.ensures.made clean_two) (c.in_ok-make_layout.ensures.made clean_three) in
+    let all = makes_empty_store g.L.StoreLayout.LAYOUT old (state g.S.Store one.now) (state g.S.Store two.now) (state g.S.Store three.now) (state g.S.Store new.now) (c.in_ok-make.ensures.made clean_one) (c.in_ok-make-2.ensures.made clean_two) (c.in_ok-make_layout.ensures.made clean_three) in
     on_ok_weaker c.write_version.result all (c.write_version.ensures.made clean_new)

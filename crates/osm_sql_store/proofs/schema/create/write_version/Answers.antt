@@ -15,5 +15,5 @@ returns-in_err-execute-clause-goes_on g c =
 pub returns-clause-made : goal.returns-clause-made
 returns-clause-made g c clean =
     let over = c.requires (omega (arith, c.execute.ensures.survives.clean)) in
-    let ran = rw c.version_text.ensures at c.in_ok-execute.ensures.runs clean over.inside in
-    writes_version (state g.S.Store c.args.transaction.now.conn.now) (state g.S.Store c.execute.new.self.conn.now) c.in_ok-execute.field-0 c.args.layout over ran
+    let ran = rw (c.version_text.ensures, c.LAYOUT.ensures) at c.in_ok-execute.ensures.runs clean over.inside in
+    writes_version (state g.S.Store c.args.transaction.now.conn.now) (state g.S.Store c.execute.new.self.conn.now) c.in_ok-execute.field-0 g.L.StoreLayout.LAYOUT over ran

@@ -11,10 +11,10 @@ returns-in-Ok-clause-empty g c clean =
       opened = committed.0;
       settled = sym committed.1;
       schema = c.in-Ok.ensures.schema clean;
-      kept = nothing_kept c.args.layout;
-      tables = hold_nothing c.args.layout _ (c.in-Ok.ensures.empty clean);
-      only = nothing_else c.args.layout _ (c.in-Ok.ensures.empty clean);
+      kept = nothing_kept g.L.StoreLayout.LAYOUT;
+      tables = hold_nothing g.L.StoreLayout.LAYOUT _ (c.in-Ok.ensures.empty clean);
+      only = nothing_else g.L.StoreLayout.LAYOUT _ (c.in-Ok.ensures.empty clean);
     }
 
 pub returns-in-Err-clause-crash : goal.returns-in-Err-clause-crash
-returns-in-Err-clause-crash g c clean db left = elim (c.create_tables.ensures.crash.crash clean db left) [ inl before ↦ inl before | inr made ↦ inr (hold_nothing c.args.layout db made) ]
+returns-in-Err-clause-crash g c clean db left = elim (c.create_tables.ensures.crash.crash clean db left) [ inl before ↦ inl before | inr made ↦ inr (hold_nothing g.L.StoreLayout.LAYOUT db made) ]

@@ -1,0 +1,3 @@
+-- What the queries of an audit read, and a loop over rows.
+pub mod RowLists
+pub mod BodyAudits

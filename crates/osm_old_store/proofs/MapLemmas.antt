@@ -1,0 +1,2 @@
+-- The map that a store held in an earlier version.
+pub mod EarlierLaws

@@ -1,0 +1,2 @@
+-- What the statement of a put adds.
+pub mod BodySteps

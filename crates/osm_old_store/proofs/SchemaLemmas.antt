@@ -1,0 +1,3 @@
+-- What the statements mean that make the table of bodies.
+pub mod BodyTexts
+pub mod MakeBodies

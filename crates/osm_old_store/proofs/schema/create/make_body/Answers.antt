@@ -1,0 +1,19 @@
+use Rattle.std.proofs.Common.{arith}
+use Rattle.sqlite.specs.Held.{state}
+use Rattle.osm_sql_store.proofs.StepLemmas.{runs_on}
+use Rattle.osm_old_store.proofs.SchemaLemmas.MakeBodies.{makes_body}
+use Rattle.osm_old_store.proofs.schema.create.make_body.Goals as goal
+
+pub returns-clause-goes_on : goal.returns-clause-goes_on
+returns-clause-goes_on g c =
+    runs_on g.S.Store c.args.transaction.now.conn c.execute.new.self.conn _ _ _ _ c.execute.ensures.same_reference c.execute.ensures.ended c.execute.ensures.runs c.execute.ensures.survives
+
+pub returns-in_err-execute-clause-goes_on : goal.returns-in_err-execute-clause-goes_on
+returns-in_err-execute-clause-goes_on g c =
+    runs_on g.S.Store c.args.transaction.now.conn c.execute.new.self.conn _ _ _ _ c.execute.ensures.same_reference c.execute.ensures.ended c.execute.ensures.runs c.execute.ensures.survives
+
+pub returns-clause-made : goal.returns-clause-made
+returns-clause-made g c clean =
+    let over = c.requires (omega (arith, c.execute.ensures.survives.clean)) in
+    let ran = c.in_ok-execute.ensures.runs clean over.inside in
+    makes_body (state g.S.Store c.args.transaction.now.conn.now) (state g.S.Store c.execute.new.self.conn.now) c.in_ok-execute.field-0 over ran

@@ -1,0 +1,2 @@
+pub mod EarlierRows
+pub mod Stages
