@@ -1,15 +1,13 @@
 -- From what was skipped, streamed and told to what an import has done.
-use Rattle.std.proofs.Common.{◌≡◌, ◌≢◌, ℕ, ◌+◌, ◌≤◌, List, [], ◌++◌, length, take, Bool, true, false, ◌&&◌, ◌==◌, not, cond, Some, None, Result, Ok, Err, refl, sym, ap, subst, ◌∙◌, inl, inr, arith, length-append}
-use Rattle.std.specs.Prelude.{IfOk}
-use Rattle.std.proofs.lemmas.List.{length-take, nil_from_length}
+use Rattle.std.proofs.Common.{◌≡◌, ◌≢◌, ℕ, ◌+◌, ◌-◌, ◌≤◌, List, ◌++◌, length, take, drop, Bool, true, false, ◌&&◌, ◌==◌, not, cond, Option, Some, None, Result, Ok, Err, refl, sym, ap, subst, ◌∙◌, inl, inr, arith, length-append}
+use Rattle.std.proofs.lemmas.List.{length-take, drop_at, drop-take}
 use Rattle.std.proofs.lemmas.Bool.Decides.{nat_tests}
 use Rattle.std.proofs.KnownBytes.{Consumes-trans}
 use Rattle.std.specs.Io.KnownBytes.{Consumes}
-use Rattle.osm_rows.specs.Held.{HeldMap}
 use Rattle.osm_import.specs.Deliveries.{DeliveryValue}
 use Rattle.osm_reading.specs.Framings.{Known}
 use Rattle.osm_import.specs.Flows.{Input, Output}
-use Rattle.osm_import.specs.Streams.{Reply, EndsWell, Stops, IsStop, ImportsFile}
+use Rattle.osm_import.specs.Streams.{Reply, EndsWell, Stops, IsStop}
 use Rattle.osm_import.specs.declared.answer.Answer.{Answer}
 use Rattle.osm_import.specs.declared.stream.summary.Summary.{Summary}
 use Rattle.osm_import.specs.declared.stream.fault.ImportFault.{ImportFault}
@@ -17,7 +15,7 @@ use Rattle.osm_import.specs.declared.stream.fault.ImportFault.TheVariants.{Strea
 use Rattle.osm_import.specs.declared.stream.fault.ImportStop.{ImportStop}
 use Rattle.osm_reading.specs.declared.stream.fault.Stop.TheVariants.{Frame, NoHeaderFirst, ReadFailed, Memory}
 use Rattle.osm_value.specs.Sink.{Wrote}
-use Rattle.pbfrow_commands.specs.Importing.{Skips, Imports, HoldsFile, EndsStop, import_status}
+use Rattle.pbfrow_commands.specs.Importing.{Skips, Imports, EndsStop, front_of, import_status, imported_of}
 use Rattle.pbfrow_commands.specs.CommandLines.{import_stop_line}
 
 -- ---- skipping
@@ -35,16 +33,21 @@ skip-more count left n next old mid new buffer within most rest h read = record 
   read = Consumes-trans old mid new h.bytes (take n buffer) h.read read;
 }
 
--- no bytes were skipped
-pub skips-nothing : (file : List ℕ) (old new : Known) → old ≡ Some file → Skips 0 old new → new ≡ Some file
-skips-nothing file old None is h = absurd (subst (λ (k : Known). Consumes k None h.bytes) is h.read)
-skips-nothing file old (Some ys) is h =
-    let none : h.bytes ≡ [] = nil_from_length h.bytes h.all in
-    let whole : file ≡ h.bytes ++ ys = subst (λ (k : Known). Consumes k (Some ys) h.bytes) is h.read in
-    ap (λ (v : List ℕ). Some v) (sym (whole ∙ ap (λ (v : List ℕ). v ++ ys) none))
+-- of known bytes those behind the skipped are left
+skips-known : (dropped : ℕ) (bytes : List ℕ) (old new : Known) → old ≡ Some bytes → Skips dropped old new → new ≡ Some (drop dropped bytes)
+skips-known dropped bytes old None is h = absurd (subst (λ (k : Known). Consumes k None h.bytes) is h.read)
+skips-known dropped bytes old (Some ys) is h =
+    let whole : bytes ≡ h.bytes ++ ys = subst (λ (k : Known). Consumes k (Some ys) h.bytes) is h.read in
+    let rest : drop dropped bytes ≡ ys = ap (λ (v : List ℕ). drop dropped v) whole ∙ drop_at h.bytes ys dropped h.all in
+    ap (λ (v : List ℕ). Some v) (sym rest)
 
-pub skips-none : (file : List ℕ) (dropped : ℕ) (old new : Known) → old ≡ Some file → dropped ≡ 0 → Skips dropped old new → new ≡ Some file
-skips-none file dropped old new is none h = skips-nothing file old new is (subst (λ n. Skips n old new) none h)
+-- so what is imported of them is known
+pub imported-known : (dropped from : ℕ) (to : Option ℕ) (bytes : List ℕ) (left before skipped : Known) → left ≡ Some bytes → before ≡ front_of dropped from to left → Skips dropped before skipped
+    → skipped ≡ Some (imported_of dropped from to bytes)
+imported-known dropped from None bytes left before skipped is here skips = skips-known dropped bytes before skipped (here ∙ is) skips
+imported-known dropped from (Some to) bytes left before skipped is here skips =
+    let known : before ≡ Some (take (dropped + (to - from)) bytes) = here ∙ ap (λ (k : Known). front_of dropped from (Some to) k) is in
+    skips-known dropped (take (dropped + (to - from)) bytes) before skipped known skips ∙ ap (λ (v : List ℕ). Some v) (drop-take dropped (to - from) bytes)
 
 -- ---- the output goes on after a stop, but for a failed write
 
@@ -113,16 +116,6 @@ zero-second false false d n is zero = absurd (omega arith)
 
 pub none-refused : (summary : Summary) (failed : Bool) (status : ℕ) → status ≡ import_status (Ok summary) failed → status ≡ 0 → summary.refused ≡ 0
 none-refused summary failed status is zero = is-none summary.refused (zero-second (summary.bad == 0) (summary.refused == 0) (not failed) status is zero)
-
--- an import with the exit status 0 ended well, and no blob was bad
-pub ended-well : (outcome : Result Summary ImportStop) (failed : Bool) (status : ℕ) (P : Type 0) → status ≡ import_status outcome failed → status ≡ 0 → IfOk outcome (λ _. P) → P
-ended-well (Ok summary) failed status P is zero h = h
-ended-well (Err stop) failed status P is zero h = absurd (omega arith)
-
-pub file-held : (holds : HeldMap → Type 0) (file : List ℕ) (start : HeldMap) (outcome : Result Summary ImportStop) (failed : Bool) (status : ℕ) → status ≡ import_status outcome failed → status ≡ 0
-    → IfOk outcome (λ summary. ImportsFile holds file start summary) → HoldsFile holds file start
-file-held holds file start (Ok summary) failed status is zero h = (h.0, h.1, λ of_file. h.2 of_file (none-bad summary failed status is zero))
-file-held holds file start (Err stop) failed status is zero h = absurd (omega arith)
 
 -- the stop's line went out
 pub ends-stop : (listed written : Known) (failed : Bool) (at : ℕ) (fault : ImportFault) → fault ≢ WriteFailed → Wrote listed (import_stop_line fault at) written failed → EndsStop listed written failed at fault

@@ -1,5 +1,5 @@
 -- What the command `import` does: to its input, its output and the store.
-use Rattle.std.specs.Prelude.{◌≡◌, ◌≢◌, ◌⊎◌, ℕ, ◌+◌, ◌-◌, ◌<◌, ◌≤◌, ◌==◌, ◌&&◌, not, if◌then◌else◌, Bool, true, false, List, [], ◌∷◌, ◌++◌, length, take, option_map, Some, Result, Ok, Err}
+use Rattle.std.specs.Prelude.{◌≡◌, ◌≢◌, ◌⊎◌, ℕ, ◌+◌, ◌-◌, ◌<◌, ◌≤◌, ◌==◌, ◌&&◌, not, if◌then◌else◌, Bool, true, false, List, [], ◌∷◌, ◌++◌, length, take, drop, Option, option_map, Some, None, Result, Ok, Err}
 use Rattle.pbf_frame.specs.Parts.{is_cut}
 use Rattle.std.specs.Io.KnownBytes.{Consumes, IsAtEnd}
 use Rattle.osm_value.specs.Sink.{Wrote}
@@ -60,11 +60,18 @@ import_status (Err stop) sink_failed = 1
 abbrev pub HoldsFile : (HeldMap → Type 0) → List ℕ → HeldMap → Type 0
 HoldsFile holds file start = (frames : List (List ℕ)) × IsFile file frames × (IsHeldOfFile frames start → TilesFile holds file frames)
 
--- ---- an input that has to reach an offset
+-- ---- how much of an input is read
 
--- of known bytes the first so many
-abbrev pub front_of : ℕ → Known → Known
-front_of count = option_map (take count)
+-- Of known bytes those that an import reads, which drops so many first and whose next byte stands at the offset `at`: all, or
+-- as far as the offset `to`.
+abbrev pub front_of : ℕ → ℕ → Option ℕ → Known → Known
+front_of dropped at None bytes = bytes
+front_of dropped at (Some to) bytes = option_map (take (dropped + (to - at))) bytes
+
+-- and those that it imports: what it reads behind the dropped
+abbrev pub imported_of : ℕ → ℕ → Option ℕ → List ℕ → List ℕ
+imported_of dropped at None bytes = drop dropped bytes
+imported_of dropped at (Some to) bytes = take (to - at) (drop dropped bytes)
 
 -- frames end so where their input ends too early
 abbrev pub ends_frames : Stop → Bool
@@ -84,33 +91,32 @@ ends_input BlobLimit = false
 abbrev pub EndsBefore : ℕ → Result Summary ImportStop → Type 0
 EndsBefore to told = (at : ℕ) × (at ≤ to) × (told ≡ Err (record { fault = Stream ReadFailed; at = at }))
 
--- What is told of an import whose input has to reach the offset `to`: that it ended well only where its last frame ends
--- there; and where it ended early that a read failed.
-abbrev pub IsTold : ℕ → Result Summary ImportStop → Result Summary ImportStop → Type 0
-IsTold to (Ok summary) told = ((summary.next ≡ to) × (told ≡ Ok summary)) ⊎ ((summary.next ≢ to) × EndsBefore to told)
-IsTold to (Err stop) told = (told ≡ Err stop) ⊎ ((ends_input stop.fault ≡ true) × EndsBefore to told)
+-- What is told of an import: what it came to. Where its input has to reach the offset `to`: that it ended well only where its
+-- last frame ends there; and where it ended early that a read failed.
+abbrev pub IsTold : Option ℕ → Result Summary ImportStop → Result Summary ImportStop → Type 0
+IsTold None outcome told = told ≡ outcome
+IsTold (Some to) (Ok summary) told = ((summary.next ≡ to) × (told ≡ Ok summary)) ⊎ ((summary.next ≢ to) × EndsBefore to told)
+IsTold (Some to) (Err stop) told = (told ≡ Err stop) ⊎ ((ends_input stop.fault ≡ true) × EndsBefore to told)
 
--- the import of an input, of which so many bytes are dropped and whose next byte stands at an offset, its last line and the
--- exit status
-abbrev pub ImportsInput : ℕ → ℕ → Input → Output → Type 0 → (List DeliveryValue → List Answer → Type 0) → ℕ → Type 0
-ImportsInput dropped at input output Same Took status = (outcome : Result Summary ImportStop) × (listed : Known)
-    × Imports dropped at input (record output { after = listed }) Same Took outcome
-    × EndsLine listed output.after output.has_failed outcome × (status ≡ import_status outcome output.has_failed)
+-- The import of what is read of an input that has these bytes, and what is told of it. What is left of the input afterwards is
+-- said by nobody.
+pub record ImportsFront (dropped at : ℕ) (to : Option ℕ) (bytes : Known) (output : Output) (Same : Type 0) (Took : List DeliveryValue → List Answer → Type 0) (told : Result Summary ImportStop) : Type 0 where
+  pub source : Input
+  pub before_is : source.before ≡ front_of dropped at to bytes
+  pub outcome : Result Summary ImportStop
+  pub imports : Imports dropped at source output Same Took outcome
+  pub is_told : IsTold to outcome told
 
--- the same of an input that has these bytes; what is left of it afterwards is said by nobody
-abbrev pub ImportsAll : ℕ → ℕ → Known → Output → Type 0 → (List DeliveryValue → List Answer → Type 0) → ℕ → Type 0
-ImportsAll dropped at bytes output Same Took status = (source : Input) × (source.before ≡ bytes) × ImportsInput dropped at source output Same Took status
+-- The import of an input, all of it or what stands before the offset `to`: that, the last line, which comes behind what was
+-- listed, and the exit status.
+pub record ImportsUpTo (dropped at : ℕ) (to : Option ℕ) (bytes : Known) (output : Output) (Same : Type 0) (Took : List DeliveryValue → List Answer → Type 0) (status : ℕ) : Type 0 where
+  pub told : Result Summary ImportStop
+  pub listed : Known
+  pub front : ImportsFront dropped at to bytes (record output { after = listed }) Same Took told
+  pub line : EndsLine listed output.after output.has_failed told
+  pub status_is : status ≡ import_status told output.has_failed
 
--- the import of what of the input stands before an offset, and what is told of it
-abbrev pub ImportsFront : ℕ → ℕ → ℕ → Known → Output → Type 0 → (List DeliveryValue → List Answer → Type 0) → Result Summary ImportStop → Type 0
-ImportsFront dropped from to bytes output Same Took told = (outcome : Result Summary ImportStop) × (source : Input)
-    × (source.before ≡ front_of (dropped + (to - from)) bytes) × Imports dropped from source output Same Took outcome × IsTold to outcome told
-
--- the import of what of the input stands before an offset, what is told of it, and the exit status
-abbrev pub ImportsRange : ℕ → ℕ → ℕ → Known → Output → Type 0 → (List DeliveryValue → List Answer → Type 0) → ℕ → Type 0
-ImportsRange dropped from to bytes output Same Took status = (outcome told : Result Summary ImportStop) × (source : Input) × (listed : Known)
-    × (source.before ≡ front_of (dropped + (to - from)) bytes) × Imports dropped from source (record output { after = listed }) Same Took outcome × IsTold to outcome told
-    × EndsLine listed output.after output.has_failed told × (status ≡ import_status told output.has_failed)
+-- ---- what is held of a range
 
 -- each of these frames, one behind the other from this offset on, is held at its offset, by its digest
 abbrev pub AreHeld : HeldMap → ℕ → List (List ℕ) → Type 0

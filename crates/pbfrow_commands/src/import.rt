@@ -1,15 +1,13 @@
 //! The command `import`: the blobs of a file go into a store.
 
-ghost use Rattle.std.specs.Prelude.{◌≡◌, ◌≤◌, ◌<◌, ◌+◌, ◌-◌, List, ℕ, Some, Err, OnOk, OnErr, IfOk, IfSome, take};
+ghost use Rattle.std.specs.Prelude.{◌≡◌, ◌≤◌, ◌<◌, ◌+◌, List, ℕ, Some, Err, OnSome, OnOk, OnErr, IfSome};
 ghost use Rattle.std.specs.FinMap.{empty};
-ghost use Rattle.osm_rows.specs.Held.{HeldMap};
 ghost use Rattle.osm_rows.specs.Calls.{OfHeld};
 ghost use Rattle.osm_import.specs.Flows.{input, output};
 ghost use Rattle.osm_import.specs.Stores.{Takes};
 ghost use Rattle.osm_import.specs.Merges.{ImportsPart};
-ghost use Rattle.osm_import.specs.Streams.{ImportsFile};
 ghost use Rattle.osm_import.specs.declared.stream.fault.ImportStop.{ImportStop as ImportStopValue};
-ghost use Rattle.pbfrow_commands.specs.Importing.{Skips, IsShort, Imports, ImportsFront, ImportsInput, ImportsRange, EndsBefore, EndsLine, EndsStop, import_status, HoldsFile, HoldsRange, IsTold, ends_frames, ends_input, front_of};
+ghost use Rattle.pbfrow_commands.specs.Importing.{Skips, IsShort, Imports, ImportsFront, ImportsUpTo, EndsBefore, EndsLine, EndsStop, import_status, HoldsFile, HoldsRange, IsTold, ends_frames, ends_input, imported_of};
 
 use crate::report::put_summary;
 use osm_import::{ImportFault, ImportStop, Inlet, Source, Stop, Summary, Teller, import_stream};
@@ -69,11 +67,7 @@ fn import_from<R: Source, K: Keeper, T: Teller, S: Sink>(
     out: &mut S,
 ) -> Result<Summary, ImportStop>
     requires { start.at ≤ MAX_OFFSET }
-    ensures imports { Imports start.dropped start.at (input R.Source reader.old reader.new) (output (T.tells teller.now) S.Sink out.old out.new) (store.new ≡ store.old) (Takes K.Reader store.old store.new) result }
-    ensures one_file { (file : List ℕ) (held : HeldMap) → R.bytes_left reader.old ≡ Some file → start.dropped ≡ 0 → start.at ≡ 0 → K.holds store.old held → K.is_honest store.new
-        → IfOk result (λ summary. ImportsFile (K.holds store.new) file held summary) }
-    ensures part { (piece : List ℕ) → R.bytes_left reader.old ≡ Some piece → start.dropped ≡ 0 → K.holds store.old empty → K.is_honest store.new
-        → IfOk result (λ _. ImportsPart (K.holds store.new) start.at piece) }
+    ensures { Imports start.dropped start.at (input R.Source reader.old reader.new) (output (T.tells teller.now) S.Sink out.old out.new) (store.new ≡ store.old) (Takes K.Reader store.old store.new) result }
 {
     match skip(reader, start.dropped) {
         Ok(()) => import_stream(alloc, store, reader, start.at, MAX_BLOBS, teller, out),
@@ -82,88 +76,6 @@ fn import_from<R: Source, K: Keeper, T: Teller, S: Sink>(
             at: start.at,
         }),
     }
-}
-
-/// Writes the line of the fault at which an import stopped. If the output has failed, nothing is written.
-fn put_stop<S: Sink>(out: &mut S, stop: ImportStop)
-    ensures line { EndsStop (S.written out.old) (S.written out.new) (S.has_failed out.new) stop.at stop.fault }
-    ensures kept { stop.fault ≡ ImportFault.WriteFailed → S.has_failed out.new ≡ S.has_failed out.old }
-{
-    match stop.fault {
-        ImportFault::WriteFailed => {}
-        fault => put_fault_at(out, fault.number(), fault.name(), stop.at),
-    }
-}
-
-/// Writes the last line of an import: the counts where it reached the end of its input, or the line of the fault at which
-/// it stopped. Answers the exit status.
-fn finish<S: Sink>(out: &mut S, outcome: Result<Summary, ImportStop>) -> u8
-    ensures line { EndsLine (S.written out.old) (S.written out.new) (S.has_failed out.new) outcome }
-    ensures status { result ≡ import_status outcome (S.has_failed out.new) }
-    ensures kept { (stop : ImportStopValue) → outcome ≡ Err stop → stop.fault ≡ ImportFault.WriteFailed → S.has_failed out.new ≡ S.has_failed out.old }
-    ensures bound { result ≤ 1 }
-{
-    match outcome {
-        Ok(summary) => {
-            put_summary(out, &summary);
-            if summary.bad == 0 && summary.refused == 0 && !out.failed() {
-                0
-            } else {
-                1
-            }
-        }
-        Err(stop) => {
-            put_stop(out, stop);
-            1
-        }
-    }
-}
-
-/// Imports the blobs of a reader into a store. The first `dropped` bytes are read and dropped; what comes behind them
-/// stands at the offset `at` of the file, and a blob has to begin there. Writes a line for each blob that is told, and finally the
-/// counts or the line of the fault at which it stopped. Answers the exit status: 0 if all blobs are held, and 1 if a blob
-/// was bad or refused, the import stopped, or the output failed.
-///
-/// If it answers 0 at the offset 0 over a reader whose bytes are known, none of them dropped, these are a file; and if the
-/// store held nothing but blobs of that file, what it holds now tiles the file. At any offset, they are frames one behind
-/// the other; and if the store held nothing, what it holds now is what a run of these at their offsets leaves.
-pub fn import<R: Source, K: Keeper, T: Teller, S: Sink>(
-    alloc: Global,
-    reader: &mut R,
-    store: &mut K,
-    start: Start,
-    teller: &T,
-    out: &mut S,
-) -> u8
-    requires { start.at ≤ MAX_OFFSET }
-    ensures imports { ImportsInput start.dropped start.at (input R.Source reader.old reader.new) (output (T.tells teller.now) S.Sink out.old out.new) (store.new ≡ store.old) (Takes K.Reader store.old store.new) result }
-    ensures one_file { (file : List ℕ) (held : HeldMap) → R.bytes_left reader.old ≡ Some file → start.dropped ≡ 0 → start.at ≡ 0 → K.holds store.old held → K.is_honest store.new
-        → result ≡ 0 → HoldsFile (K.holds store.new) file held }
-    ensures part { (piece : List ℕ) → R.bytes_left reader.old ≡ Some piece → start.dropped ≡ 0 → K.holds store.old empty → K.is_honest store.new
-        → result ≡ 0 → ImportsPart (K.holds store.new) start.at piece }
-    ensures bound { result ≤ 1 }
-{
-    let outcome = import_from(alloc, reader, store, start, teller, out);
-    finish(out, outcome)
-}
-
-/// Moves an input that stands at its first byte, and can seek, to the last of the bytes that an import drops, so that those
-/// before it aren't read. That one is read: a seek also goes behind the end of a file. Answers what is left to drop, all
-/// of it where the input can't seek.
-pub fn seek_start<S: Seek>(input: &mut S, start: Start) -> Start
-    ensures at { result.at ≡ start.at }
-    ensures dropped { result.dropped ≤ start.dropped }
-    ensures stands { S.stream_position input.old ≡ Some 0 → IfSome (S.stream_position input.new) (λ place. place + result.dropped ≡ start.dropped) }
-{
-    if start.dropped > 1 {
-        if let Ok(_) = input.seek(SeekFrom::Start(start.dropped - 1)) {
-            return Start {
-                dropped: 1,
-                at: start.at,
-            };
-        }
-    }
-    start
 }
 
 /// Whether frames end so where their input ends too early.
@@ -206,7 +118,7 @@ fn reached(
     to: u64,
     lacking: u64,
 ) -> Result<Summary, ImportStop>
-    ensures { IsTold to outcome result }
+    ensures { IsTold (Some to) outcome result }
 {
     match outcome {
         Ok(summary) if summary.next == to => Ok(summary),
@@ -216,60 +128,123 @@ fn reached(
     }
 }
 
-/// Imports the blobs of a reader that stand before the offset `to` of the file, from which on nothing is read.
-fn import_before<R: Read, K: Keeper, T: Teller, S: Sink>(
+/// Imports what of a reader stands before the offset `to` of the file, from which on nothing is read, or all of it.
+fn import_front<R: Read + Drop, K: Keeper, T: Teller, S: Sink>(
     alloc: Global,
-    reader: &mut R,
+    reader: R,
     store: &mut K,
     start: Start,
-    to: u64,
+    to: Option<u64>,
     teller: &T,
     out: &mut S,
 ) -> Result<Summary, ImportStop>
-    requires drops { start.dropped ≤ start.at }
-    requires begins { start.at < to }
-    requires ends { to ≤ MAX_OFFSET }
-    ensures imports { ImportsFront start.dropped start.at to (R.remaining reader.old) (output (T.tells teller.now) S.Sink out.old out.new) (store.new ≡ store.old) (Takes K.Reader store.old store.new) result }
-    ensures part { (piece : List ℕ) → front_of (start.dropped + (to - start.at)) (R.remaining reader.old) ≡ Some piece → start.dropped ≡ 0 → K.holds store.old empty → K.is_honest store.new
-        → IfOk result (λ _. ImportsPart (K.holds store.new) start.at piece) }
+    requires begins { start.at ≤ MAX_OFFSET }
+    requires drops { OnSome to (start.dropped ≤ start.at) }
+    requires ends { IfSome to (λ end. (start.at < end) × (end ≤ MAX_OFFSET)) }
+    ensures { ImportsFront start.dropped start.at to (R.remaining reader) (output (T.tells teller.now) S.Sink out.old out.new) (store.new ≡ store.old) (Takes K.Reader store.old store.new) result }
 {
-    let mut front = reader.take(start.dropped + (to - start.at));
-    let outcome = import_from(
-        alloc,
-        &mut Inlet::new(&mut front),
-        store,
-        start,
-        teller,
-        out,
-    );
-    reached(outcome, to, front.limit())
+    match to {
+        None => import_from(alloc, &mut Inlet::new(reader), store, start, teller, out),
+        Some(to) => {
+            let mut front = reader.take(start.dropped + (to - start.at));
+            let mut input = Inlet::new(&mut front);
+            let outcome = import_from(alloc, &mut input, store, start, teller, out);
+            reached(outcome, to, front.limit())
+        }
+    }
 }
 
-/// Imports the blobs of a reader that has to end at the offset `to` of the file, or go on behind it, as `import` does one
-/// that ends anywhere. No byte at or behind `to` is read; a frame that reaches behind it is cut there, and nothing of it
-/// is stored. Where the reader ends before `to`, that is `ReadFailed` at the offset where it ended.
+/// Writes the line of the fault at which an import stopped. If the output has failed, nothing is written.
+fn put_stop<S: Sink>(out: &mut S, stop: ImportStop)
+    ensures line { EndsStop (S.written out.old) (S.written out.new) (S.has_failed out.new) stop.at stop.fault }
+    ensures kept { stop.fault ≡ ImportFault.WriteFailed → S.has_failed out.new ≡ S.has_failed out.old }
+{
+    match stop.fault {
+        ImportFault::WriteFailed => {}
+        fault => put_fault_at(out, fault.number(), fault.name(), stop.at),
+    }
+}
+
+/// Writes the last line of an import: the counts where it reached the end of its input, or the line of the fault at which
+/// it stopped. Answers the exit status.
+fn finish<S: Sink>(out: &mut S, outcome: Result<Summary, ImportStop>) -> u8
+    ensures line { EndsLine (S.written out.old) (S.written out.new) (S.has_failed out.new) outcome }
+    ensures status { result ≡ import_status outcome (S.has_failed out.new) }
+    ensures kept { (stop : ImportStopValue) → outcome ≡ Err stop → stop.fault ≡ ImportFault.WriteFailed → S.has_failed out.new ≡ S.has_failed out.old }
+    ensures bound { result ≤ 1 }
+{
+    match outcome {
+        Ok(summary) => {
+            put_summary(out, &summary);
+            if summary.bad == 0 && summary.refused == 0 && !out.failed() {
+                0
+            } else {
+                1
+            }
+        }
+        Err(stop) => {
+            put_stop(out, stop);
+            1
+        }
+    }
+}
+
+/// Imports the blobs of a reader into a store: all of them, or those that stand before the offset `to` of the file. The first
+/// `dropped` bytes are read and dropped; what comes behind them stands at the offset `at` of the file, and a blob has to begin
+/// there. Writes a line for each blob that is told, and finally the counts or the line of the fault at which it stopped.
+/// Answers the exit status: 0 if all blobs are held, and 1 if a blob was bad or refused, the import stopped, or the output
+/// failed.
 ///
-/// If it answers 0, every byte from the start to `to` is in a frame that is held: whole frames, each held at its offset,
-/// follow one another from the one to the other, and where the reader's bytes are known they are these frames. What was held
-/// before stays held, and beside it nothing is held but these frames.
-pub fn import_to<R: Read, K: Keeper, T: Teller, S: Sink>(
+/// No byte at or behind `to` is read. The reader has to end there, or go on behind it; where it ends before, that is
+/// `ReadFailed` at the offset where it ended. A frame that reaches behind `to` is cut there, and nothing of it is stored.
+///
+/// If it answers 0 and the reader's bytes are known, those that were imported are frames, one behind the other; and if the
+/// store held nothing, what it holds now is what a run of these at their offsets leaves. From the offset 0 they are a file;
+/// and if the store held nothing but blobs of that file, what it holds now tiles it.
+///
+/// If it answers 0 with `to`, every byte from the start to `to` is in a frame that is held: whole frames, each held at its
+/// offset, follow one another from the one to the other, and where the reader's bytes are known they are these frames. What
+/// was held before stays held, and beside it nothing is held but these frames.
+pub fn import<R: Read + Drop, K: Keeper, T: Teller, S: Sink>(
     alloc: Global,
-    reader: &mut R,
+    reader: R,
     store: &mut K,
     start: Start,
-    to: u64,
+    to: Option<u64>,
     teller: &T,
     out: &mut S,
 ) -> u8
-    requires drops { start.dropped ≤ start.at }
-    requires begins { start.at < to }
-    requires ends { to ≤ MAX_OFFSET }
-    ensures imports { ImportsRange start.dropped start.at to (R.remaining reader.old) (output (T.tells teller.now) S.Sink out.old out.new) (store.new ≡ store.old) (Takes K.Reader store.old store.new) result }
-    ensures whole { OfHeld K.Reader store.old store.new (λ held. result ≡ 0 → HoldsRange (K.holds store.new) held start.dropped start.at to (R.remaining reader.old)) }
-    ensures part { (bytes : List ℕ) → R.remaining reader.old ≡ Some bytes → start.dropped ≡ 0 → K.holds store.old empty → K.is_honest store.new
-        → result ≡ 0 → ImportsPart (K.holds store.new) start.at (take (to - start.at) bytes) }
+    requires begins { start.at ≤ MAX_OFFSET }
+    requires drops { OnSome to (start.dropped ≤ start.at) }
+    requires ends { IfSome to (λ end. (start.at < end) × (end ≤ MAX_OFFSET)) }
+    ensures imports { ImportsUpTo start.dropped start.at to (R.remaining reader) (output (T.tells teller.now) S.Sink out.old out.new) (store.new ≡ store.old) (Takes K.Reader store.old store.new) result }
+    ensures one_file { (bytes : List ℕ) → R.remaining reader ≡ Some bytes → start.at ≡ 0 → result ≡ 0
+        → OfHeld K.Reader store.old store.new (HoldsFile (K.holds store.new) (imported_of start.dropped start.at to bytes)) }
+    ensures part { (bytes : List ℕ) → R.remaining reader ≡ Some bytes → result ≡ 0 → K.holds store.old empty → K.is_honest store.new
+        → ImportsPart (K.holds store.new) start.at (imported_of start.dropped start.at to bytes) }
+    ensures whole { IfSome to (λ end. result ≡ 0
+        → OfHeld K.Reader store.old store.new (λ held. HoldsRange (K.holds store.new) held start.dropped start.at end (R.remaining reader))) }
     ensures bound { result ≤ 1 }
 {
-    let outcome = import_before(alloc, reader, store, start, to, teller, out);
-    finish(out, outcome)
+    let told = import_front(alloc, reader, store, start, to, teller, out);
+    finish(out, told)
+}
+
+/// Moves an input that stands at its first byte, and can seek, to the last of the bytes that an import drops, so that those
+/// before it aren't read. That one is read: a seek also goes behind the end of a file. Answers what is left to drop, all
+/// of it where the input can't seek.
+pub fn seek_start<S: Seek>(input: &mut S, start: Start) -> Start
+    ensures at { result.at ≡ start.at }
+    ensures dropped { result.dropped ≤ start.dropped }
+    ensures stands { S.stream_position input.old ≡ Some 0 → IfSome (S.stream_position input.new) (λ place. place + result.dropped ≡ start.dropped) }
+{
+    if start.dropped > 1 {
+        if let Ok(_) = input.seek(SeekFrom::Start(start.dropped - 1)) {
+            return Start {
+                dropped: 1,
+                at: start.at,
+            };
+        }
+    }
+    start
 }

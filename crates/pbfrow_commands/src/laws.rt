@@ -5,7 +5,7 @@ ghost use Rattle.pbfrow_commands.specs.Workers.{PlanTiles, FileGives, PieceGives
 /// Workers that ended with 0, each with its range of a plan, are one import of the file.
 ///
 /// A plan tiles the file: the ranges of `ranges` do, where it ends with 0 (clause `plan`), and of any other list it can be
-/// seen. What a worker promises is the clause `whole` of `import_to`; the map that it names is what the next worker of the same
+/// seen. What a worker promises is the clause `whole` of `import`; the map that it names is what the next worker of the same
 /// database finds. Its input gives its range if it is the file, from its first byte or from where `seek_start` leaves it
 /// (`file_given`), or the bytes of the range through a pipe, none of which is dropped (`piece_given`).
 ///

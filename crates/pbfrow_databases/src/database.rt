@@ -1,26 +1,20 @@
 //! The commands on one database: they open it and write the answer to standard output.
 
-ghost use Rattle.std.specs.Prelude.{◌≡◌, ◌<◌, ◌≤◌, ℕ, List, IfSome};
-ghost use Rattle.std.specs.FinMap.{empty};
+ghost use Rattle.std.specs.Prelude.{◌<◌, ◌≤◌, IfSome};
 ghost use Rattle.osm_rows.specs.Calls.{OfHeld};
-ghost use Rattle.osm_rows.specs.Held.{HeldMap};
-ghost use Rattle.osm_import.specs.Flows.{output};
-ghost use Rattle.osm_import.specs.Merges.{ImportsPart};
-ghost use Rattle.osm_import.specs.Stores.{Stays, Takes};
-ghost use Rattle.pbfrow_commands.specs.Importing.{HoldsFile, HoldsRange};
+ghost use Rattle.osm_import.specs.Stores.{Stays};
 ghost use Rattle.pbfrow_commands.specs.Telling.{telling};
 ghost use Rattle.pbfrow_databases.specs.Questions.{AnswersQuery};
-ghost use Rattle.pbfrow_databases.specs.Starting.{ImportsUpTo, imported_of};
 
 use crate::questions::{ask_one, goes_by_blobs};
 use crate::starting::most_bytes;
 use osm_databases::databases::{Databases, close, opened, opened_or_made};
-use osm_import::{Inlet, Stop, Teller, Told};
-use osm_rows::{Keeper, Reader};
+use osm_import::{Stop, Teller, Told};
+use osm_rows::Reader;
 use osm_value::{MemberKind, Outlet, Sink};
 use pbf_frame::MAX_OFFSET;
 use pbfrow_commands::find::find;
-use pbfrow_commands::import::{Start, import, import_to, seek_start};
+use pbfrow_commands::import::{Start, import, seek_start};
 use pbfrow_commands::metered::{MeteredStore, MeteredTeller};
 use pbfrow_commands::report::refuse_store;
 use pbfrow_reading::metered::{MeteredOutput, MeteredReader};
@@ -51,36 +45,6 @@ pub(crate) struct Part {
     pub to: Option<u64>,
 }
 
-/// Imports what a reader gives into a store, all of it or what stands before an offset, and answers the exit status: as
-/// `import` does the one, and `import_to` the other.
-fn imported<R: Read + Drop, K: Keeper, T: Teller, S: Sink>(
-    alloc: Global,
-    mut reader: R,
-    store: &mut K,
-    start: Start,
-    to: Option<u64>,
-    teller: &T,
-    out: &mut S,
-) -> u8
-    requires begins { start.at ≤ MAX_OFFSET }
-    requires drops { start.dropped ≤ start.at }
-    requires ends { IfSome to (λ n. (start.at < n) × (n ≤ MAX_OFFSET)) }
-    ensures imports { ImportsUpTo start.dropped start.at to (R.remaining reader) (output (T.tells teller.now) S.Sink out.old out.new) (store.new ≡ store.old) (Takes K.Reader store.old store.new) result }
-    ensures part { (bytes : List ℕ) → R.remaining reader ≡ Some bytes → start.dropped ≡ 0 → K.holds store.old empty → K.is_honest store.new
-        → result ≡ 0 → ImportsPart (K.holds store.new) start.at (imported_of start.at to bytes) }
-    // all of it
-    ensures one_file { (file : List ℕ) (held : HeldMap) → to ≡ None → R.remaining reader ≡ Some file → start.dropped ≡ 0 → start.at ≡ 0 → K.holds store.old held → K.is_honest store.new
-        → result ≡ 0 → HoldsFile (K.holds store.new) file held }
-    // what stands before an offset
-    ensures whole { (end : ℕ) → to ≡ Some end → OfHeld K.Reader store.old store.new (λ held. result ≡ 0 → HoldsRange (K.holds store.new) held start.dropped start.at end (R.remaining reader)) }
-    ensures bound { result ≤ 1 }
-{
-    match to {
-        None => import(alloc, &mut Inlet::new(reader), store, start, teller, out),
-        Some(to) => import_to(alloc, &mut reader, store, start, to, teller, out),
-    }
-}
-
 /// Imports what a reader gives into a database, and answers the exit status.
 fn fill_from<D: Databases, R: Read + Drop, T: Teller, W: Write>(
     rt: &HostRuntime,
@@ -100,7 +64,7 @@ fn fill_from<D: Databases, R: Read + Drop, T: Teller, W: Write>(
         Ok(store) => store,
         Err(fault) => return refuse_store(out, fault),
     };
-    let status = imported(
+    let status = import(
         rt.alloc(),
         reader,
         &mut store,

@@ -2,7 +2,7 @@
 
 use super::stores::{Blocks, Columns, NewStore, expect_import};
 use super::support::{Breaking, Closed, TWO_NODES};
-use osm_import::{Inlet, Told};
+use osm_import::Told;
 use osm_value::Outlet;
 use pbfrow_commands::import::{Start, import};
 use std::alloc::Global;
@@ -50,14 +50,14 @@ fn stops_where_a_write_fails_of<K: NewStore, R: Abort + Alloc<A = Global>>(
     rt: &R,
 ) -> Result<(), Fail> {
     let mut store = K::new_store(rt.alloc()).ok_or("a store")?;
-    let mut input = Inlet::new(Cursor::new(&TWO_NODES[..]));
     let mut out = Outlet::new(Closed);
     assert_eq!(rt;
         import(
             rt.alloc(),
-            &mut input,
+            Cursor::new(&TWO_NODES[..]),
             &mut store,
             START,
+            None,
             &Told::All,
             &mut out
         ),

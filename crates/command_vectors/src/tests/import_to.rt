@@ -5,7 +5,7 @@ use super::support::{Breaking, TWO_NODES};
 use osm_import::Told;
 use osm_rows::Keeper;
 use osm_value::Outlet;
-use pbfrow_commands::import::{Start, import_to, seek_start};
+use pbfrow_commands::import::{Start, import, seek_start};
 use std::alloc::Global;
 use std::io::Cursor;
 use std::process::Abort;
@@ -23,12 +23,12 @@ fn expect_import_to<K: Keeper>(
     let mut out = Outlet::new(Vec::new(rt.alloc()));
     let start = Start { dropped: 0, at: 0 };
     if start.at < u64::from(to) {
-        let ended = import_to(
+        let ended = import(
             rt.alloc(),
-            &mut Breaking { given },
+            Breaking { given },
             store,
             start,
-            u64::from(to),
+            Some(u64::from(to)),
             &Told::All,
             &mut out,
         );

@@ -2,7 +2,7 @@
 
 use super::stores::{Columns, NewStore, import_two_nodes};
 use super::support::TWO_NODES;
-use osm_import::{Inlet, Told};
+use osm_import::Told;
 use osm_value::{Form, Outlet};
 use pbfrow_commands::export::export;
 use pbfrow_commands::import::{Start, import};
@@ -82,8 +82,7 @@ fn expect_told<R: Abort + Alloc<A = Global>>(rt: &R, answers: Told, lines: &[u8]
     };
     let mut store = Columns::new_store(alloc).expect(rt, "a store");
     let start = Start { dropped: 0, at: 0 };
-    let mut input = Inlet::new(input);
-    let status = import(alloc, &mut input, &mut store, start, &teller, &mut out);
+    let status = import(alloc, input, &mut store, start, None, &teller, &mut out);
     let text = out.into_inner().writer;
     assert_eq!(rt; status, 0);
     assert!(rt; text.as_slice() == lines);

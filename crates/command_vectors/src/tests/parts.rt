@@ -5,7 +5,7 @@ ghost use Rattle.std.specs.Prelude.{◌≡◌, IfSome};
 
 use super::stores::{Columns, NewStore};
 use super::support::{Closed, TWO_NODES};
-use osm_import::{Inlet, Told};
+use osm_import::Told;
 use osm_parts::Openings;
 use osm_rows::{Reader, StoreFault};
 use osm_value::{Form, Outlet};
@@ -28,9 +28,9 @@ pub fn part_of<K: NewStore>(alloc: Global, file: &[u8], ranges: &[Range]) -> Opt
             dropped: u64::from(*from),
             at: u64::from(*at),
         };
-        let mut input = Inlet::new(Cursor::new(file.get(..*to as usize)?));
+        let input = Cursor::new(file.get(..*to as usize)?);
         let mut out = Outlet::new(Vec::new(alloc));
-        import(alloc, &mut input, &mut store, start, &Told::All, &mut out);
+        import(alloc, input, &mut store, start, None, &Told::All, &mut out);
     }
     if store.failures() == 0 {
         Some(store)

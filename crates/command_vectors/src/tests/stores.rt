@@ -1,7 +1,7 @@
 //! Stores in memory for the tests of commands.
 
 use super::support::{EXTRA, TWO_NODES};
-use osm_import::{Inlet, Told};
+use osm_import::Told;
 use osm_old_store::BodyStore;
 use osm_rows::{Audited, Keeper};
 use osm_sql_store::{BlobStore, SqlLayout, TableStore};
@@ -45,8 +45,7 @@ pub fn expect_import<K: Keeper, R: Read + Drop>(
         dropped: u64::from(from),
         at: u64::from(from),
     };
-    let mut input = Inlet::new(input);
-    let ended = import(rt.alloc(), &mut input, store, start, &Told::All, &mut out);
+    let ended = import(rt.alloc(), input, store, start, None, &Told::All, &mut out);
     assert_eq!(rt; ended, status);
     assert!(rt; out.into_inner().as_slice() == text);
 }
