@@ -1,4 +1,5 @@
 mod copies;
+mod damaged;
 mod deliveries;
 mod faults;
 mod parts;

@@ -1,5 +1,0 @@
-mod added_indexes;
-mod databases;
-mod openings;
-mod reasons;
-mod shared;
