@@ -24,4 +24,4 @@ pub use schema::sql::{
     CREATE_BLOB, CREATE_ELEMENT, CREATE_ELEMENT_INDEX, CREATE_LINK, CREATE_META, CREATE_TAG,
     TABLE_VERSION,
 };
-pub use schema::{Bodies, Layout, StoreLayout, Tables};
+pub use schema::{Layout, StoreLayout, Tables};

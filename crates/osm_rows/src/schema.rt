@@ -4,4 +4,4 @@ pub(crate) mod codes;
 mod layout;
 pub(crate) mod sql;
 
-pub use layout::{Bodies, Layout, StoreLayout, Tables};
+pub use layout::{Layout, StoreLayout, Tables};

@@ -1,5 +1,5 @@
 -- The tables of a store in the layout of bodies, as `sqlite` sees them, and those that both layouts share. The statements
--- that make them stand in `src/schema/sql.rt`, here and in `osm_sql_store`, and proofs say that they make these.
+-- that make them stand in `src/schema/sql.rt`, here and in `osm_old_store`, and proofs say that they make these.
 use Rattle.std.specs.Prelude.{ℕ, true, false, List, [], ◌∷◌, Option, Some, None, codes}
 use Rattle.sqlite.specs.Collation.TheVariants.{Binary}
 use Rattle.sqlite.specs.declared.types.Value.TheVariants.{Null}
@@ -35,9 +35,11 @@ plain_table name tree columns key primary uniques orders = record {
   is_counted = false;
 }
 
+-- its one row names the version
 abbrev pub meta : Table
 meta = plain_table (codes "meta") 0 (key_column (codes "version") ∷ []) (Some 0) (0 ∷ []) [] []
 
+-- a row for each held blob
 abbrev pub blob : Table
 blob = plain_table (codes "blob") 1
     (key_column (codes "off") ∷ full_column (codes "fin") Integer ∷ full_column (codes "digest") Blob ∷ full_column (codes "kind") Integer ∷ full_column (codes "n") Integer ∷ [])

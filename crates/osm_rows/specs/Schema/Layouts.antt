@@ -6,6 +6,7 @@ use Rattle.osm_rows.specs.declared.schema.layout.Layout.TheVariants.{Bodies, Tab
 use Rattle.osm_rows.specs.Schema.Bodies.{body_schema}
 use Rattle.osm_rows.specs.Schema.Tables.{table_schema, table_version}
 
+-- the tables of the layout and their indexes, as `sqlite` sees them
 abbrev pub schema_of : Layout → Schema
 schema_of Bodies = body_schema
 schema_of Tables = table_schema

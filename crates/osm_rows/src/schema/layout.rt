@@ -19,17 +19,6 @@ pub trait StoreLayout {
     const LAYOUT: Layout;
 }
 
-/// Each element is a row with a block of its own.
-pub struct Bodies;
-
-impl StoreLayout for Bodies {
-    ghost use Rattle.osm_rows.specs.declared.schema.layout.Layout.TheVariants as layouts;
-
-    ghost LAYOUT = { layouts.Bodies };
-
-    const LAYOUT: Layout = Layout::Bodies;
-}
-
 /// Each element is a row of numbers and texts, with further rows for its tags, and for its nodes or members.
 pub struct Tables;
 
