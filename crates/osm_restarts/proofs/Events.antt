@@ -16,9 +16,10 @@ use Rattle.osm_import.specs.FileHistories.{AreEventsOf}
 use Rattle.osm_import.specs.Files.{AreFrames, IsFrameAt}
 use Rattle.osm_import.specs.Histories.{Event, IsEvent, IsHistory, OfDeliveries}
 use Rattle.osm_import.proofs.HistoryLemmas.{history-of_file, histories-restart, nothing-held}
+use Rattle.osm_restarts.specs.Further.{IsFileHistory}
 use Rattle.osm_restarts.specs.Left.{CanCrash, GoesOn}
 use Rattle.osm_restarts.specs.Lives.{Restart, AreRestarts, events_in}
-use Rattle.osm_restarts.proofs.Held.{restart_holds}
+use Rattle.osm_restarts.proofs.Held.{reopened_holds}
 use Rattle.osm_restarts.proofs.ListLemmas.{lists_still, listed_opens}
 
 pub history_join : (first : HeldMap) (events more : List Event) (held last : HeldMap) → IsHistory first events held → IsHistory held more last → IsHistory first (events ++ more) last
@@ -53,10 +54,11 @@ module _ {D : Type 0} {g : Ghosts D} (stays : SeenMayStay g) (it : FileStore D g
   }
 
   -- after more events
-  pub goes_further : (frames : List (List ℕ)) (events more : List Event) (held left : HeldMap) → AreFrames frames → AreEventsOf frames events → AreEventsOf frames more
-      → IsHistory empty events held → IsHistory held more left → HoldsBelow Tables (view it) left → GoesOn frames (events ++ more) left it
-  goes_further frames events more held left whole delivered further walked history holds =
-      goes_on frames (events ++ more) left whole (deliveries_join (λ (d : DeliveryValue). IsFrameAt frames d.off d.bytes) events more delivered further) (history_join empty events more held left walked history) holds
+  pub goes_further : (frames : List (List ℕ)) (events more : List Event) (held left : HeldMap) → IsFileHistory frames events held → AreEventsOf frames more → IsHistory held more left
+      → HoldsBelow Tables (view it) left → GoesOn frames (events ++ more) left it
+  goes_further frames events more held left before further history holds =
+      goes_on frames (events ++ more) left before.whole (deliveries_join (λ (d : DeliveryValue). IsFrameAt frames d.off d.bytes) events more before.of_file further)
+      (history_join empty events more held left before.history history) holds
 
 -- one restart after the other
 pub life_goes_on : {D : Type 0} {g : Ghosts D} → SeenMayStay g → (frames : List (List ℕ)) → AreFrames frames → (restarts : List (Restart g)) (events : List Event) (held : HeldMap) (first last : FileStore D g)
@@ -69,8 +71,7 @@ life_goes_on {D} {g} stays frames whole [] events held first last delivered walk
 )
 life_goes_on stays frames whole (r ∷ restarts) events held first last delivered walked holds (one, others) =
     let left = one.after held holds in
-    let opened = one.opened in
-    let found = restart_holds r.before (view r.after) one.left.plain r.image one.left.left opened.reads opened.listed left.whole opened.clean opened.unbroken opened.settled in
+    let found = reopened_holds r.before r.after left.whole one.reopened in
     let all = deliveries_join (λ (d : DeliveryValue). IsFrameAt frames d.off d.bytes) events r.events delivered one.of_file in
     let history = history_join empty events r.events held found.0 walked (left.history found.0 found.1) in
     let rest = life_goes_on stays frames whole restarts (events ++ r.events) found.0 r.after last all history found.2 others in

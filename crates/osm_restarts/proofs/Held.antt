@@ -24,6 +24,7 @@ use Rattle.osm_tree_writes.proofs.Obeying.{one_map_below}
 use Rattle.osm_trees.specs.Below.{HoldsBelow, LeavesAMap, MayLeave}
 use Rattle.osm_openings.specs.Presumed.{ReadsAs}
 use Rattle.osm_openings.proofs.OpeningLemmas.{listed_in, same_pages}
+use Rattle.osm_restarts.specs.Left.{IsReopened}
 use Rattle.osm_restarts.proofs.NineTrees.{own_trees, hold_again}
 use Rattle.osm_restarts.proofs.NoStore.{no_store}
 use Rattle.osm_restarts.proofs.OneList.{one_store}
@@ -87,3 +88,10 @@ module _ {D : Type 0} {g : Ghosts D} (it : FileStore D g) (v : View) (plain : (v
   restart_holds leaves clean unbroken settled =
       let (held, kept, tables) = leaves left may_be_left in
       (held, record { kept = kept; trees = left; left = may_be_left; tables = tables }, holds_left clean unbroken settled held kept tables)
+
+-- a store that was opened over what a crash left of another
+pub reopened_holds : {D : Type 0} {g : Ghosts D} {E : Type 0} {h : Ghosts E} (before : FileStore D g) (after : FileStore E h) → LeavesAMap (recovers before) → IsReopened before after
+    → (held : HeldMap) × MayLeave (recovers before) held × HoldsBelow Tables (view after) held
+reopened_holds before after leaves again =
+    let opened = again.opened in
+    restart_holds before (view after) again.crashed.plain again.image again.crashed.left opened.reads opened.listed leaves opened.clean opened.unbroken opened.settled

@@ -21,4 +21,4 @@ lists_still stays it held holds = lists_always (view it) (recovers it) holds.unb
 
 -- and if an opening finds that again, what is left may be opened
 pub listed_opens : {D : Type 0} {g : Ghosts D} (it : FileStore D g) (rows : List Row) → ListsAlways (view it) (recovers it) rows → IsFoundAgain rows → MayBeOpened it
-listed_opens it rows lists found image crash = left_may_be_opened it crash.plain (λ db left. inl (subst IsFoundAgain (sym (lists.left db left)) found)) image crash.left
+listed_opens it rows lists found clean image crash = left_may_be_opened it crash.plain (λ db left. inl (subst IsFoundAgain (sym (lists.left db left)) found)) image crash.left

@@ -15,7 +15,7 @@ use Rattle.osm_import.specs.declared.answer.Conflict.{Conflict}
 use Rattle.osm_import.proofs.MergeLemmas.{front_begun, one_map, unions_are_taken_again}
 use Rattle.osm_restarts.specs.Merged.{MergeGoesOn, MergeRestart, AreMergeRestarts}
 use Rattle.osm_restarts.proofs.Events.{can_crash}
-use Rattle.osm_restarts.proofs.Held.{restart_holds}
+use Rattle.osm_restarts.proofs.Held.{reopened_holds}
 use Rattle.osm_restarts.proofs.Resumed.{held_or_free, merged_again, not_free, one_blob, refused_again, taken_there, united_again}
 
 -- ---- one source, of which all was taken that is taken again
@@ -142,8 +142,7 @@ merges_go_on {D} {g} stays sources [] held middle first last front holds same =
     (middle, merge_goes_on stays last sources held middle front (subst (λ (s : FileStore D g). HoldsBelow Tables (view s) middle) (sym same) holds))
 merges_go_on stays sources (r ∷ restarts) held middle first last front holds (one, others) =
     let left = one.merged middle holds in
-    let opened = one.opened in
-    let found = restart_holds r.before (view r.after) one.left.plain r.image one.left.left opened.reads opened.listed left.whole opened.clean opened.unbroken opened.settled in
+    let found = reopened_holds r.before r.after left.whole one.reopened in
     merges_go_on stays sources restarts held found.0 r.after last (fronts_further sources held middle found.0 front (left.front found.0 found.1)) found.2 others
 
 pub merges_begin : {D : Type 0} {g : Ghosts D} → SeenMayStay g → (sources : List HeldMap) (restarts : List (MergeRestart g)) (held : HeldMap) (first last : FileStore D g)

@@ -22,16 +22,19 @@ use Rattle.osm_import.specs.Histories.{Event, IsHistory, IsRestartable}
 abbrev pub ListsAStore : Trees → Type 0
 ListsAStore db = IsFoundAgain (db catalog_tree) ⊎ (db catalog_tree ≡ [])
 
--- A crash of the store now, over an honest disk, may leave these files. That no page ends in a sum is asked: the library says it of a
--- store that is opened, and of none behind a call.
+-- whatever a crash leaves lists no tree
+abbrev pub LeavesNoTree : (Trees → Type 0) → Type 0
+LeavesNoTree recovers = (db : Trees) → recovers db → db catalog_tree ≡ []
+
+-- A crash of the store now may leave these files. That no page ends in a sum is asked: the library says it of a store that is opened,
+-- and of none behind a call.
 pub record MayCrashTo {D : Type 0} {g : Ghosts D} (image : Image) (store : FileStore D g) : Type 0 where
-  pub honest : IsClean (view store)
   pub plain : (view store).has_sums ≡ false
   pub left : (state store).may_leave image
 
--- whatever a crash now leaves of the files, the opening that looks at no other page may presume of them what it presumes
+-- Over an honest disk, whatever files a crash leaves now, the opening that looks at no other page may presume of them what it presumes.
 abbrev pub MayBeOpened : {D : Type 0} {g : Ghosts D} → FileStore D g → Type 0
-MayBeOpened store = (image : Image) → MayCrashTo image store → ArePresumedTables image
+MayBeOpened store = IsClean (view store) → (image : Image) → MayCrashTo image store → ArePresumedTables image
 
 -- What either opening gives over these files: a store that can go on, with nothing written beyond the last commit, whose first
 -- trees are those of a store, and whose trees are what the files read as.
@@ -41,6 +44,12 @@ pub record IsOpenedOver (image : Image) (v : View) : Type 0 where
   pub settled : v.trees ≡ v.committed
   pub listed : take 9 (v.trees catalog_tree) ≡ table_listings
   pub reads : ReadsAs image v.trees
+
+-- The second store is what either opening gives over files that a crash of the first may leave.
+pub record IsReopened {D : Type 0} {g : Ghosts D} {E : Type 0} {h : Ghosts E} (before : FileStore D g) (after : FileStore E h) : Type 0 where
+  pub image : Image
+  pub crashed : MayCrashTo image before
+  pub opened : IsOpenedOver image (view after)
 
 -- whatever a crash leaves now is a map, and comes of these events over the map that was held
 pub record LeavesHistory (held : HeldMap) (events : List Event) (recovers : Trees → Type 0) : Type 0 where

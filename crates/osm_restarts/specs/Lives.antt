@@ -2,27 +2,22 @@
 use Rattle.std.specs.Prelude.{◌≡◌, ℕ, List, [], ◌∷◌, ◌++◌}
 use Rattle.sqlite_disk.specs.declared.Disk.{Ghosts}
 use Rattle.sqlite_store.specs.declared.store.FileStore.{FileStore}
-use Rattle.sqlite_store.specs.FileStore.{view}
-use Rattle.sqlite_wal.specs.Recovery.{Image}
 use Rattle.osm_import.specs.FileHistories.{AreEventsOf}
 use Rattle.osm_import.specs.Histories.{Event}
-use Rattle.osm_restarts.specs.Left.{CrashesAfter, IsOpenedOver, MayCrashTo}
+use Rattle.osm_restarts.specs.Left.{CrashesAfter, IsReopened}
 
--- from one opening to the next: the deliveries between, the store as it crashed, what the crash left of its files, and the store
--- that was opened over that
+-- from one opening to the next: the deliveries between, the store as it crashed, and the store that was opened over what was left
 pub record Restart {D : Type 0} (g : Ghosts D) : Type 0 where
   pub events : List Event
   pub before : FileStore D g
-  pub image : Image
   pub after : FileStore D g
 
--- The deliveries were of frames of the file, to the store that was opened first, which made it the one that crashed. The crash left
--- these files, and the next store was opened over them.
+-- The deliveries were of frames of the file, to the store that was opened first, which made it the one that crashed. The next store was
+-- opened over what the crash left.
 pub record IsRestart {D : Type 0} {g : Ghosts D} (frames : List (List ℕ)) (first : FileStore D g) (restart : Restart g) : Type 0 where
   pub of_file : AreEventsOf frames restart.events
   pub after : CrashesAfter restart.events first restart.before
-  pub left : MayCrashTo restart.image restart.before
-  pub opened : IsOpenedOver restart.image (view restart.after)
+  pub reopened : IsReopened restart.before restart.after
 
 -- one restart after the other, from the first store to the last
 abbrev pub AreRestarts : {D : Type 0} {g : Ghosts D} → List (List ℕ) → FileStore D g → List (Restart g) → FileStore D g → Type 0

@@ -4,13 +4,12 @@ use Rattle.sqlite_disk.specs.declared.Disk.{Ghosts}
 use Rattle.sqlite_trees.specs.Tree.{Trees}
 use Rattle.sqlite_store.specs.declared.store.FileStore.{FileStore}
 use Rattle.sqlite_store.specs.FileStore.{view, recovers}
-use Rattle.sqlite_wal.specs.Recovery.{Image}
 use Rattle.osm_rows.specs.declared.schema.layout.Layout.TheVariants.{Tables}
 use Rattle.osm_rows.specs.Held.{HeldMap}
 use Rattle.osm_trees.specs.Below.{HoldsBelow, LeavesAMap, MayLeave}
 use Rattle.osm_import.specs.Merges.{AreUnited, IsFrontUnited, IsUnionRefused}
 use Rattle.osm_import.specs.declared.answer.Conflict.{Conflict}
-use Rattle.osm_restarts.specs.Left.{CanCrash, IsOpenedOver, MayCrashTo}
+use Rattle.osm_restarts.specs.Left.{CanCrash, IsReopened}
 
 -- whatever a crash leaves now is a map, and it is the map that was held with a front of the sources
 pub record LeavesFront (sources : List HeldMap) (held : HeldMap) (recovers : Trees → Type 0) : Type 0 where
@@ -29,19 +28,16 @@ pub record MergeGoesOn {D : Type 0} {g : Ghosts D} (sources : List HeldMap) (hel
   pub further : (more : HeldMap) → IsFrontUnited sources left more → IsFrontUnited sources held more
   pub crash : CanCrash store
 
--- from one opening to the next: the store as it crashed in a merge, what the crash left of its files, and the store that was opened
--- over that
+-- from one opening to the next: the store as it crashed in a merge, and the store that was opened over what was left
 pub record MergeRestart {D : Type 0} (g : Ghosts D) : Type 0 where
   pub before : FileStore D g
-  pub image : Image
   pub after : FileStore D g
 
 -- The sources were merged into the store that was opened first, from the first of them on, which made it the one that crashed. The
--- crash left these files, and the next store was opened over them.
+-- next store was opened over what the crash left.
 pub record IsMergeRestart {D : Type 0} {g : Ghosts D} (sources : List HeldMap) (first : FileStore D g) (restart : MergeRestart g) : Type 0 where
   pub merged : (held : HeldMap) → HoldsBelow Tables (view first) held → LeavesFront sources held (recovers restart.before)
-  pub left : MayCrashTo restart.image restart.before
-  pub opened : IsOpenedOver restart.image (view restart.after)
+  pub reopened : IsReopened restart.before restart.after
 
 -- one restart after the other, from the first store to the last
 abbrev pub AreMergeRestarts : {D : Type 0} {g : Ghosts D} → List HeldMap → FileStore D g → List (MergeRestart g) → FileStore D g → Type 0

@@ -4,13 +4,12 @@ ghost use Rattle.std.specs.Prelude.{◌≡◌, ◌<◌, ◌≤◌, ◌^◌, fals
 ghost use Rattle.pbf_frame.specs.declared.part.TheConstants.{MAX_OFFSET};
 ghost use Rattle.sqlite_trees.specs.Objects.{catalog_tree};
 ghost use Rattle.sqlite_trees.specs.View.{IsClean};
-ghost use Rattle.sqlite_store.specs.FileStore.{state, view, recovers};
-ghost use Rattle.sqlite_wal.specs.Recovery.{Image};
+ghost use Rattle.sqlite_store.specs.FileStore.{view, recovers};
 ghost use Rattle.osm_rows.specs.Rows.{placed};
 ghost use Rattle.osm_openings.specs.Asked.{ListsAsAsked};
-ghost use Rattle.osm_openings.specs.Presumed.{ArePresumedTables};
 ghost use Rattle.osm_tree_writes.specs.Putting.{PutsBelow};
 ghost use Rattle.osm_restarts.specs.Beside.{StandsBeside};
+ghost use Rattle.osm_restarts.specs.Left.{MayBeOpened};
 
 use crate::premise::what_is_left_may_be_opened;
 use osm_rows::{Extent, StoreFault};
@@ -40,8 +39,7 @@ pub fn put_beside_others<D: Disk>(
     requires bounds { (extent.now.off ≤ MAX_OFFSET) × (extent.now.fin ≤ MAX_OFFSET) × (extent.now.n < 2 ^ 63) }
     ensures added { IsClean (view store.new) → OnOk result (PutsBelow (view store.old).trees (view store.new).trees extent.now (placed extent.now.off 0 elements.now)) }
     ensures stands { StandsBeside (view store.old) (recovers store.old) → IsClean (view store.new) → StandsBeside (view store.new) (recovers store.new) }
-    ensures opens { StandsBeside (view store.old) (recovers store.old) → IsClean (view store.new) → (view store.new).has_sums ≡ false
-        → (image : Image) → (state store.new).may_leave image → ArePresumedTables image }
+    ensures opens { StandsBeside (view store.old) (recovers store.old) → MayBeOpened store.new }
 {
     let answer = put_blob(alloc, store, extent, elements);
     what_is_left_may_be_opened(store);

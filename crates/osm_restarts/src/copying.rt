@@ -1,17 +1,14 @@
 //! That a copy goes on over what a crash left of it.
 
-ghost use Rattle.std.specs.Prelude.{MatchResult, ℕ};
 ghost use Rattle.sqlite_trees.specs.Objects.{catalog_tree};
 ghost use Rattle.sqlite_trees.specs.View.{IsClean};
 ghost use Rattle.sqlite_store.specs.FileStore.{view, recovers};
-ghost use Rattle.sqlite_wal.specs.Recovery.{Image};
 ghost use Rattle.osm_rows.specs.declared.schema.layout.Layout.TheVariants.{Tables};
 ghost use Rattle.osm_rows.specs.Held.{HeldMap};
 ghost use Rattle.osm_openings.specs.Asked.{IsFoundAgain};
 ghost use Rattle.osm_trees.specs.Below.{HoldsBelow, ListsAlways};
-ghost use Rattle.osm_import.specs.Copies.{IsUnited, IsUnitedBelow};
-ghost use Rattle.osm_restarts.specs.Copied.{CopyGoesOn};
-ghost use Rattle.osm_restarts.specs.Left.{IsOpenedOver, MayBeOpened, MayCrashTo};
+ghost use Rattle.osm_restarts.specs.Copied.{CopyGoesOn, IsCopied};
+ghost use Rattle.osm_restarts.specs.Left.{IsReopened, MayBeOpened};
 
 use crate::premise::what_is_left_may_be_opened;
 use crate::restart::a_restart_holds_what_was_left;
@@ -34,14 +31,12 @@ pub fn copy_before_a_restart<D: Disk, E: Disk, F: Reader>(
     mut to: TreeStore<FileStore<D>>,
     after: &FileStore<E>,
 ) -> (FileStore<D>, Result<CopyCounts, CopyStop>)
-    ensures opens { (source held : HeldMap) → F.holds from.old source → F.is_honest from.new → HoldsBelow Tables (view to.store) held
-        → IsFoundAgain ((view to.store).trees catalog_tree) → MayBeOpened result.0 }
+    ensures opens { (held : HeldMap) → HoldsBelow Tables (view to.store) held → IsFoundAgain ((view to.store).trees catalog_tree) → MayBeOpened result.0 }
     ensures list { (held : HeldMap) → HoldsBelow Tables (view to.store) held → IsClean (view result.0)
         → ListsAlways (view result.0) (recovers result.0) ((view to.store).trees catalog_tree) }
     ensures goes_on { (source held : HeldMap) → F.holds from.old source → F.is_honest from.new → HoldsBelow Tables (view to.store) held
-        → (image : Image) → MayCrashTo image result.0 → IsOpenedOver image (view after.now)
-        → (left : HeldMap) × CopyGoesOn source held left after.now
-        × MatchResult result.1 (λ _. IsUnited source held left) (λ _. (place : ℕ) × IsUnitedBelow place source held left) }
+        → IsClean (view result.0) → IsReopened result.0 after.now
+        → (left : HeldMap) × CopyGoesOn source held left after.now × IsCopied result.1 source held left }
 {
     let outcome = copy_held(alloc, from, &mut to);
     let store = to.into_store();

@@ -1,14 +1,11 @@
 //! That what a crash leaves of a store that is being made may be opened.
 
-ghost use Rattle.std.specs.Prelude.{◌≡◌, ℕ, false, List, [], MatchResult};
-ghost use Rattle.std.specs.FinMap.{empty};
+ghost use Rattle.std.specs.Prelude.{◌≡◌, ℕ, false, List, MatchResult};
 ghost use Rattle.sqlite.specs.Held.{state};
-ghost use Rattle.sqlite_trees.specs.Objects.{catalog_tree};
-ghost use Rattle.sqlite_trees.specs.Tree.{Trees};
-ghost use Rattle.sqlite_store.specs.FileStore.{view, recovers};
-ghost use Rattle.sqlite_wal.specs.Recovery.{Image};
+ghost use Rattle.sqlite_store.specs.FileStore.{recovers};
 ghost use Rattle.osm_import.specs.Files.{AreFrames};
-ghost use Rattle.osm_restarts.specs.Left.{GoesOn, IsOpenedOver, MayBeOpened, MayCrashTo};
+ghost use Rattle.osm_restarts.specs.Further.{BeginsAfter};
+ghost use Rattle.osm_restarts.specs.Left.{LeavesNoTree, MayBeOpened};
 
 use osm_rows::StoreFault;
 use osm_sql_store::TableStore;
@@ -29,11 +26,10 @@ pub fn create_before_a_restart<D: Disk, E: Disk>(
     after: &FileStore<E>,
 ) -> Made<D>
     requires { (state ⟦<FileStore<D> as Store>⟧ connection).in_transaction ≡ false }
-    ensures opens { ((db : Trees) → recovers connection.store db → db catalog_tree ≡ [])
+    ensures opens { LeavesNoTree (recovers connection.store)
         → MatchResult result (λ made. MayBeOpened made.connection.store) (λ refused. MayBeOpened refused.1.store) }
-    ensures begins { ((db : Trees) → recovers connection.store db → db catalog_tree ≡ [])
-        → (image : Image) → MatchResult result (λ made. MayCrashTo image made.connection.store) (λ refused. MayCrashTo image refused.1.store)
-        → IsOpenedOver image (view after.now) → (frames : List (List ℕ)) → AreFrames frames → GoesOn frames [] empty after.now }
+    ensures begins { LeavesNoTree (recovers connection.store) → (frames : List (List ℕ)) → AreFrames frames
+        → MatchResult result (λ made. BeginsAfter made.connection.store frames after.now) (λ refused. BeginsAfter refused.1.store frames after.now) }
 {
     let _after = after;
     match TableStore::create(connection) {

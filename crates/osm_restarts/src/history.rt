@@ -1,24 +1,22 @@
 //! That a history of deliveries goes on over what a crash left, crash after crash.
 
-ghost use Rattle.std.specs.Prelude.{◌≡◌, ◌≤◌, ℕ, false, List, Some, [], ◌∷◌, ◌++◌};
-ghost use Rattle.std.specs.FinMap.{empty};
+ghost use Rattle.std.specs.Prelude.{◌≤◌, ℕ, List, [], ◌∷◌, ◌++◌};
 ghost use Rattle.sqlite_trees.specs.Objects.{catalog_tree};
 ghost use Rattle.sqlite_trees.specs.View.{IsClean};
-ghost use Rattle.sqlite_store.specs.FileStore.{state, view, recovers};
-ghost use Rattle.sqlite_wal.specs.Recovery.{Image};
+ghost use Rattle.sqlite_store.specs.FileStore.{view, recovers};
 ghost use Rattle.osm_rows.specs.declared.schema.layout.Layout.TheVariants.{Tables};
 ghost use Rattle.osm_rows.specs.Held.{HeldMap};
 ghost use Rattle.osm_openings.specs.Asked.{IsFoundAgain};
-ghost use Rattle.osm_trees.specs.Below.{HoldsBelow, LeavesAMap, ListsAlways, MayLeave};
+ghost use Rattle.osm_trees.specs.Below.{HoldsBelow, ListsAlways};
 ghost use Rattle.osm_import.specs.declared.answer.Answer.{Answer as AnswerValue};
 ghost use Rattle.osm_import.specs.Deliveries.{DeliveryValue};
-ghost use Rattle.osm_import.specs.FileHistories.{AreEventsOf, StandIn, events_of};
-ghost use Rattle.osm_import.specs.Files.{AreFrames, IsFrameAt};
+ghost use Rattle.osm_import.specs.Files.{IsFrameAt};
 ghost use Rattle.osm_import.specs.Flows.{input, output};
-ghost use Rattle.osm_import.specs.Histories.{Event, answered, broken, IsHistory, LeavesEvents};
+ghost use Rattle.osm_import.specs.Histories.{Event, answered, broken};
 ghost use Rattle.osm_import.specs.Runs.{IsFault};
 ghost use Rattle.osm_import.specs.Streams.{Streams};
-ghost use Rattle.osm_restarts.specs.Left.{CrashesAfter, GoesOn, IsOpenedOver, LeavesHistory, MayBeOpened, MayCrashTo};
+ghost use Rattle.osm_restarts.specs.Further.{CrashesAfterStream, GoesFurther, GoesOnAfter, HoldsHistory, IsPartOf, LeavesDelivery, LeavesMore, StreamGoesOn};
+ghost use Rattle.osm_restarts.specs.Left.{CrashesAfter, GoesOn, MayBeOpened};
 ghost use Rattle.osm_restarts.specs.Lives.{Restart, AreRestarts, events_in};
 
 use crate::premise::what_is_left_may_be_opened;
@@ -37,20 +35,14 @@ use std::alloc::Global;
 /// and with one that was answered with no fault. `before` is the store as it was when it crashed, `after` the one that is
 /// opened; of a delivery the premise is what `deliver` promises.
 pub fn a_restart_goes_on<D: Disk, E: Disk>(before: &FileStore<D>, after: &FileStore<E>)
-    ensures events { (frames : List (List ℕ)) (events more : List Event) (held : HeldMap) → AreFrames frames → AreEventsOf frames events → AreEventsOf frames more → IsHistory empty events held
-        → LeavesHistory held more (recovers before.now)
-        → (view before.now).has_sums ≡ false → (image : Image) → (state before.now).may_leave image → IsOpenedOver image (view after.now)
-        → (left : HeldMap) × MayLeave (recovers before.now) left × GoesOn frames (events ++ more) left after.now }
-    ensures broken { (frames : List (List ℕ)) (events : List Event) (held : HeldMap) (delivery : DeliveryValue) (answer : AnswerValue) → AreFrames frames
-        → AreEventsOf frames events → IsFrameAt frames delivery.off delivery.bytes → IsHistory empty events held
-        → LeavesEvents (MayLeave (recovers before.now)) held delivery answer
-        → (view before.now).has_sums ≡ false → LeavesAMap (recovers before.now) → (image : Image) → (state before.now).may_leave image → IsOpenedOver image (view after.now)
-        → (left : HeldMap) × GoesOn frames (events ++ broken delivery ∷ []) left after.now }
-    ensures answered { (frames : List (List ℕ)) (events : List Event) (held : HeldMap) (delivery : DeliveryValue) (answer : AnswerValue) → AreFrames frames
-        → AreEventsOf frames events → IsFrameAt frames delivery.off delivery.bytes → IsHistory empty events held
-        → LeavesEvents (MayLeave (recovers before.now)) held delivery answer → ¬ (IsFault answer)
-        → (view before.now).has_sums ≡ false → LeavesAMap (recovers before.now) → (image : Image) → (state before.now).may_leave image → IsOpenedOver image (view after.now)
-        → (left : HeldMap) × GoesOn frames (events ++ answered delivery answer ∷ []) left after.now }
+    ensures events { (frames : List (List ℕ)) (events more : List Event) → LeavesMore frames events more (recovers before.now)
+        → GoesOnAfter before.now frames (events ++ more) after.now }
+    ensures broken { (frames : List (List ℕ)) (events : List Event) (delivery : DeliveryValue) (answer : AnswerValue)
+        → LeavesDelivery frames events delivery answer (recovers before.now)
+        → GoesOnAfter before.now frames (events ++ broken delivery ∷ []) after.now }
+    ensures answered { (frames : List (List ℕ)) (events : List Event) (delivery : DeliveryValue) (answer : AnswerValue)
+        → LeavesDelivery frames events delivery answer (recovers before.now) → ¬ (IsFault answer)
+        → GoesOnAfter before.now frames (events ++ answered delivery answer ∷ []) after.now }
 {
     a_restart_holds_what_was_left(before, after);
 }
@@ -60,8 +52,8 @@ pub fn a_restart_goes_on<D: Disk, E: Disk>(before: &FileStore<D>, after: &FileSt
 /// deliveries. So the whole list delivered once more without a fault gives all of the file, as one unbroken run does, and the
 /// next crash finds all that the first one found.
 pub fn a_life_is_one_history<D: Disk>(first: &FileStore<D>, last: &FileStore<D>)
-    ensures { (frames : List (List ℕ)) (events : List Event) (held : HeldMap) (restarts : List (Restart D.Disk)) → AreFrames frames → AreEventsOf frames events → IsHistory empty events held
-        → HoldsBelow Tables (view first.now) held → AreRestarts frames first.now restarts last.now
+    ensures { (frames : List (List ℕ)) (events : List Event) (restarts : List (Restart D.Disk))
+        → HoldsHistory frames events first.now → AreRestarts frames first.now restarts last.now
         → (left : HeldMap) × GoesOn frames (events ++ events_in restarts) left last.now }
 {
     let (_first, _last) = (first, last);
@@ -82,16 +74,13 @@ pub fn deliver_before_a_restart<D: Disk, E: Disk>(
     ensures opens { (held : HeldMap) → HoldsBelow Tables (view keeper.store) held → IsFoundAgain ((view keeper.store).trees catalog_tree) → MayBeOpened result.0 }
     ensures list { (held : HeldMap) → HoldsBelow Tables (view keeper.store) held → IsClean (view result.0)
         → ListsAlways (view result.0) (recovers result.0) ((view keeper.store).trees catalog_tree) }
-    ensures leaves { IsClean (view result.0) → CrashesAfter (broken (record { off = off; bytes = bytes.now }) ∷ []) keeper.store result.0
-        × (¬ (IsFault result.1) → CrashesAfter (answered (record { off = off; bytes = bytes.now }) result.1 ∷ []) keeper.store result.0) }
-    ensures goes_on { (frames : List (List ℕ)) (events : List Event) (held : HeldMap) → AreFrames frames
-        → AreEventsOf frames events → IsFrameAt frames off bytes.now → IsHistory empty events held
-        → HoldsBelow Tables (view keeper.store) held → (image : Image) → MayCrashTo image result.0 → IsOpenedOver image (view after.now)
-        → (left : HeldMap) × GoesOn frames (events ++ broken (record { off = off; bytes = bytes.now }) ∷ []) left after.now }
-    ensures answered { (frames : List (List ℕ)) (events : List Event) (held : HeldMap) → AreFrames frames
-        → AreEventsOf frames events → IsFrameAt frames off bytes.now → IsHistory empty events held
-        → HoldsBelow Tables (view keeper.store) held → ¬ (IsFault result.1) → (image : Image) → MayCrashTo image result.0 → IsOpenedOver image (view after.now)
-        → (left : HeldMap) × GoesOn frames (events ++ answered (record { off = off; bytes = bytes.now }) result.1 ∷ []) left after.now }
+    ensures leaves { IsClean (view result.0) → CrashesAfter (broken (record { off = off; bytes = bytes.now }) ∷ []) keeper.store result.0 }
+    ensures leaves_answered { IsClean (view result.0) → ¬ (IsFault result.1)
+        → CrashesAfter (answered (record { off = off; bytes = bytes.now }) result.1 ∷ []) keeper.store result.0 }
+    ensures goes_on { (frames : List (List ℕ)) → IsFrameAt frames off bytes.now → IsClean (view result.0)
+        → GoesFurther frames (broken (record { off = off; bytes = bytes.now }) ∷ []) keeper.store result.0 after.now }
+    ensures answered { (frames : List (List ℕ)) → IsFrameAt frames off bytes.now → IsClean (view result.0) → ¬ (IsFault result.1)
+        → GoesFurther frames (answered (record { off = off; bytes = bytes.now }) result.1 ∷ []) keeper.store result.0 after.now }
 {
     let answer = deliver(alloc, &mut keeper, off, bytes);
     let store = keeper.into_store();
@@ -121,13 +110,12 @@ pub fn import_before_a_restart<D: Disk, E: Disk, R: Source, T: Teller, S: Sink>(
     ensures opens { (held : HeldMap) → HoldsBelow Tables (view keeper.store) held → IsFoundAgain ((view keeper.store).trees catalog_tree) → MayBeOpened result.0 }
     ensures list { (held : HeldMap) → HoldsBelow Tables (view keeper.store) held → IsClean (view result.0)
         → ListsAlways (view result.0) (recovers result.0) ((view keeper.store).trees catalog_tree) }
-    ensures leaves { (frames : List (List ℕ)) (piece : List ℕ) → AreFrames frames → StandIn frames from piece → R.bytes_left reader.old ≡ Some piece → IsClean (view result.0)
+    ensures leaves { (frames : List (List ℕ)) → IsPartOf frames from (R.bytes_left reader.old) → IsClean (view result.0)
         → Streams from max_blobs (input R.Source reader.old reader.new) (output (T.tells teller.now) S.Sink out.old out.new)
-        (λ deliveries answers. AreEventsOf frames (events_of deliveries answers) × CrashesAfter (events_of deliveries answers) keeper.store result.0) result.1 }
-    ensures goes_on { (frames : List (List ℕ)) (piece : List ℕ) (events : List Event) (held : HeldMap) → AreFrames frames → StandIn frames from piece → R.bytes_left reader.old ≡ Some piece
-        → AreEventsOf frames events → IsHistory empty events held → HoldsBelow Tables (view keeper.store) held → (image : Image) → MayCrashTo image result.0 → IsOpenedOver image (view after.now)
+        (CrashesAfterStream frames keeper.store result.0) result.1 }
+    ensures goes_on { (frames : List (List ℕ)) → IsPartOf frames from (R.bytes_left reader.old) → IsClean (view result.0)
         → Streams from max_blobs (input R.Source reader.old reader.new) (output (T.tells teller.now) S.Sink out.old out.new)
-        (λ deliveries answers. (left : HeldMap) × GoesOn frames (events ++ events_of deliveries answers) left after.now) result.1 }
+        (StreamGoesOn frames keeper.store result.0 after.now) result.1 }
 {
     let outcome = import_stream(alloc, &mut keeper, reader, from, max_blobs, teller, out);
     let store = keeper.into_store();

@@ -2,8 +2,8 @@
 
 ghost use Rattle.std.specs.Prelude.{◌≡◌, ℕ, List, IfOk, OnErr};
 ghost use Rattle.osm_rows.specs.Held.{HeldMap};
-ghost use Rattle.osm_import.specs.Files.{AreFrames, AreOfFile, IsHeldOfFile};
 ghost use Rattle.osm_import.specs.Runs.{Runs, Imports, IsNone, IsStored};
+ghost use Rattle.osm_restarts.specs.Further.{AreOfOneFile};
 
 use osm_import::{Answer, Delivery, deliver_all};
 use osm_rows::Reader;
@@ -24,7 +24,7 @@ pub fn deliver_all_in_memory(
     ensures run { (held : HeldMap) → ⟦<TreeStore<MemStore> as Reader>⟧.holds keeper.old held
         → IfOk result (λ answers. Runs (⟦<TreeStore<MemStore> as Reader>⟧.holds keeper.new) held deliveries.now answers.items) }
     ensures one_file { (held : HeldMap) (frames : List (List ℕ)) → ⟦<TreeStore<MemStore> as Reader>⟧.holds keeper.old held
-        → AreFrames frames → AreOfFile frames deliveries.now → IsHeldOfFile frames held
+        → AreOfOneFile frames deliveries.now held
         → IfOk result (λ answers. Imports (⟦<TreeStore<MemStore> as Reader>⟧.holds keeper.new) frames held deliveries.now answers.items) }
     ensures same { IfOk result (λ answers. IsNone IsStored answers.items → ⟦<TreeStore<MemStore> as Reader>⟧.same_tables keeper.old keeper.new) }
     ensures err { OnErr result (keeper.new ≡ keeper.old) }

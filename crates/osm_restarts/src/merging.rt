@@ -3,12 +3,11 @@
 ghost use Rattle.std.specs.Prelude.{List};
 ghost use Rattle.sqlite_value.specs.Order.{Row};
 ghost use Rattle.sqlite_store.specs.FileStore.{view, recovers};
-ghost use Rattle.sqlite_wal.specs.Recovery.{Image};
 ghost use Rattle.osm_rows.specs.declared.schema.layout.Layout.TheVariants.{Tables};
 ghost use Rattle.osm_rows.specs.Held.{HeldMap};
 ghost use Rattle.osm_trees.specs.Below.{HoldsBelow, ListsAlways, MayLeave};
 ghost use Rattle.osm_openings.specs.Asked.{IsFoundAgain};
-ghost use Rattle.osm_restarts.specs.Left.{IsOpenedOver, MayBeOpened, MayCrashTo};
+ghost use Rattle.osm_restarts.specs.Left.{IsReopened, MayBeOpened};
 ghost use Rattle.osm_restarts.specs.Merged.{AreMergeRestarts, LeavesFront, MergeGoesOn, MergeRestart};
 
 use crate::premise::what_is_left_may_be_opened;
@@ -25,7 +24,7 @@ use sqlite_store::FileStore;
 /// looks at no other page.
 pub fn a_merge_goes_on<D: Disk, E: Disk>(before: &FileStore<D>, after: &FileStore<E>)
     ensures opens { (rows : List Row) → ListsAlways (view before.now) (recovers before.now) rows → IsFoundAgain rows → MayBeOpened before.now }
-    ensures goes_on { (sources : List HeldMap) (held : HeldMap) → LeavesFront sources held (recovers before.now) → (image : Image) → MayCrashTo image before.now → IsOpenedOver image (view after.now)
+    ensures goes_on { (sources : List HeldMap) (held : HeldMap) → LeavesFront sources held (recovers before.now) → IsReopened before.now after.now
         → (left : HeldMap) × MayLeave (recovers before.now) left × MergeGoesOn sources held left after.now }
 {
     what_is_left_may_be_opened(before);

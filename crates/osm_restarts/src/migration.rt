@@ -1,14 +1,9 @@
 //! The copy of a store of the first layout into one of the second.
 
-ghost use Rattle.std.specs.Prelude.{IsTrue, OnOk};
-ghost use Rattle.sqlite.specs.State.{HasCleanDisk};
-ghost use Rattle.sqlite.specs.Held.{state};
 ghost use Rattle.osm_rows.specs.Calls.{OfHeld};
-ghost use Rattle.osm_rows.specs.Held.{HeldMap};
-ghost use Rattle.osm_rows.specs.LayoutHolding.{Holds, MayLeave, LeavesAMap};
-ghost use Rattle.osm_rows.specs.declared.schema.layout.Layout.TheVariants.{Bodies, Tables};
 ghost use Rattle.osm_import.specs.Copies.{Copies, CrashLeavesSome, CopyHasCause, IsOwnCopy};
-ghost use Rattle.osm_import.specs.Stores.{KeepsHeld};
+ghost use Rattle.osm_import.specs.Stores.{KeepsHeld, Rereads};
+ghost use Rattle.osm_restarts.specs.TwoStores.{OfBoth};
 
 use osm_import::{CopyCounts, CopyStop, copy_held};
 use osm_old_store::BodyStore;
@@ -35,30 +30,22 @@ pub fn migrate<S: Alter + Drop, T: Alter + Drop>(
     old: &mut BodyStore<S>,
     new: &mut TableStore<T>,
 ) -> Result<CopyCounts, MigrateFault>
-    ensures copies { (source held : HeldMap) → Holds Bodies (state S.Store old.old.connection) source → HasCleanDisk (state S.Store old.new.connection)
-        → Holds Tables (state T.Store new.old.connection) held → HasCleanDisk (state T.Store new.new.connection)
-        → Copies (HasCleanDisk (state T.Store new.new.connection) × IsTrue (state T.Store new.new.connection).is_open) (Holds Tables (state T.Store new.new.connection)) source held result }
+    ensures copies { OfBoth ⟦<BodyStore<S> as Reader>⟧ ⟦<TableStore<T> as Reader>⟧ old.old old.new new.old new.new
+        (λ source held. Copies (⟦<TableStore<T> as Reader>⟧.is_open new.new) (⟦<TableStore<T> as Reader>⟧.holds new.new) source held result) }
 
     // What a crash may leave now.
-    ensures crash { (source held : HeldMap) → Holds Bodies (state S.Store old.old.connection) source → HasCleanDisk (state S.Store old.new.connection)
-        → Holds Tables (state T.Store new.old.connection) held → HasCleanDisk (state T.Store new.new.connection)
-        → CrashLeavesSome (MayLeave Tables (state T.Store new.new.connection)) source held result }
+    ensures crash { OfBoth ⟦<BodyStore<S> as Reader>⟧ ⟦<TableStore<T> as Reader>⟧ old.old old.new new.old new.new
+        (λ source held. CrashLeavesSome (⟦<TableStore<T> as Reader>⟧.leaves new.new) source held result) }
 
     // What the new store held stays, whatever the old one holds and gives.
     ensures kept { OfHeld ⟦<TableStore<T> as Reader>⟧ new.old new.new (λ held. KeepsHeld ⟦<TableStore<T> as Reader>⟧ new.new result held) }
-    ensures whole { (held : HeldMap) → Holds Tables (state T.Store new.old.connection) held → HasCleanDisk (state T.Store new.new.connection) → LeavesAMap Tables (state T.Store new.new.connection) }
+    ensures whole { OfHeld ⟦<TableStore<T> as Reader>⟧ new.old new.new (λ _. ⟦<TableStore<T> as Reader>⟧.leaves_a_map new.new) }
 
     // What the old store holds stays, at `Ok` whatever else is known of it, and a crash leaves what it could leave before.
-    ensures source { (source : HeldMap) → Holds Bodies (state S.Store old.old.connection) source → HasCleanDisk (state S.Store old.new.connection)
-        → IsTrue (state S.Store old.new.connection).is_open → Holds Bodies (state S.Store old.new.connection) source }
-    ensures source_ok { (source : HeldMap) → Holds Bodies (state S.Store old.old.connection) source → HasCleanDisk (state S.Store old.new.connection)
-        → OnOk result (Holds Bodies (state S.Store old.new.connection) source) }
-    ensures source_crash { (source : HeldMap) → MayLeave Bodies (state S.Store old.new.connection) source → HasCleanDisk (state S.Store old.new.connection)
-        → MayLeave Bodies (state S.Store old.old.connection) source }
+    ensures source { Rereads ⟦<BodyStore<S> as Reader>⟧ old.old result old.new }
 
     // Why a fault is answered.
-    ensures own { (source held : HeldMap) → Holds Bodies (state S.Store old.old.connection) source → HasCleanDisk (state S.Store old.new.connection)
-        → Holds Tables (state T.Store new.old.connection) held → HasCleanDisk (state T.Store new.new.connection) → IsOwnCopy result }
+    ensures own { OfBoth ⟦<BodyStore<S> as Reader>⟧ ⟦<TableStore<T> as Reader>⟧ old.old old.new new.old new.new (λ _ _. IsOwnCopy result) }
     ensures cause { CopyHasCause old.old.failures old.new.failures new.old.failures new.new.failures result }
 {
     copy_held(alloc, old, new)

@@ -1,11 +1,10 @@
 //! That what is left of a store meets the premise of its opening.
 
-ghost use Rattle.std.specs.Prelude.{◌≡◌, false};
 ghost use Rattle.sqlite_trees.specs.Tree.{Trees};
-ghost use Rattle.sqlite_store.specs.FileStore.{state, view, recovers};
+ghost use Rattle.sqlite_store.specs.FileStore.{recovers};
 ghost use Rattle.sqlite_wal.specs.Recovery.{Image};
 ghost use Rattle.osm_openings.specs.Presumed.{ArePresumedTables};
-ghost use Rattle.osm_restarts.specs.Left.{ListsAStore};
+ghost use Rattle.osm_restarts.specs.Left.{ListsAStore, MayCrashTo};
 
 use sqlite_disk::Disk;
 use sqlite_store::FileStore;
@@ -16,7 +15,7 @@ use sqlite_store::FileStore;
 /// with somebody's own tables, indexes, views and triggers. What a store lists it lists between any two calls and where one was
 /// broken off, since each call keeps it so (`ListsAlways`).
 pub fn what_is_left_may_be_opened<D: Disk>(store: &FileStore<D>)
-    ensures { (view store.now).has_sums ≡ false → ((db : Trees) → recovers store.now db → ListsAStore db) → (image : Image) → (state store.now).may_leave image → ArePresumedTables image }
+    ensures { ((db : Trees) → recovers store.now db → ListsAStore db) → (image : Image) → MayCrashTo image store.now → ArePresumedTables image }
 {
     let _store = store;
 }

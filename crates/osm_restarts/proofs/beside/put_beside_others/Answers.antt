@@ -14,6 +14,6 @@ returns-clause-stands g c stands clean =
     e.added e.committed e.unchanged e.clean e.crash) stands clean
 
 pub returns-clause-opens : goal.returns-clause-opens
-returns-clause-opens g c stands clean plain image may =
+returns-clause-opens g c stands clean image crashed =
     let now = returns-clause-stands g c stands clean in
-    c.what_is_left_may_be_opened.ensures plain (λ db left. inl (inr (now.left db left))) image may
+    c.what_is_left_may_be_opened.ensures (λ db left. inl (inr (now.left db left))) image crashed
