@@ -126,6 +126,10 @@ there() {
   command -v "$1" >/dev/null || { echo "not measured: $1 isn't installed" >&2; return 1; }
 }
 
+# PBFROW_INSTRUCTIONS=1 has instructions counted and nothing measured by the clock, PBFROW_INSTRUCTIONS=0 the other way round.
+counts_alone() { [ "${PBFROW_INSTRUCTIONS:-}" = 1 ]; }
+counts_none() { [ "${PBFROW_INSTRUCTIONS:-}" = 0 ] || ! there valgrind; }
+
 # instructions_of COMMAND..: how many instructions it takes, by valgrind.
 instructions_of() {
   valgrind --tool=callgrind --callgrind-out-file=/dev/null "$@" 2>&1 > got.txt < /dev/null | awk '/Collected/ { print $NF }'
