@@ -2,3 +2,4 @@
 pub mod Asking
 pub mod Selects
 pub mod Starting
+pub mod Telling

@@ -6,6 +6,7 @@ ghost use Rattle.sqlite.specs.Order.{Row};
 ghost use Rattle.sqlite.specs.State.{HasCleanDisk};
 ghost use Rattle.sqlite.specs.Held.{state};
 ghost use Rattle.osm_sql_store.specs.Load.Asking.{JustAsks};
+ghost use Rattle.osm_sql_store.specs.Load.Telling.{TellsOf};
 ghost use Rattle.osm_rows.specs.Held.{HeldMap};
 ghost use Rattle.osm_rows.specs.LayoutHolding.{Holds};
 ghost use Rattle.osm_rows.specs.Keeping.{IsForeign, IsRange, AscendApart, extents_of, touches};
@@ -48,8 +49,7 @@ fn first_offset(rows: &[Row]) -> Result<i64, StoreFault>
 /// The offset of the last blob that starts at `from` or before. Since extents don't meet, those before it end there.
 fn last_start<S: Alter>(connection: &mut Connection<S>, from: u64) -> Result<i64, StoreFault>
     requires { from ≤ MAX_OFFSET }
-    ensures held { HasCleanDisk (state S.Store connection.new) → (layout : Layout) (held : HeldMap) → Holds layout (state S.Store connection.old) held
-        → MatchResult result (λ start. IsStart from (extents_of held) start × IsTrue (state S.Store connection.new).is_open) (λ fault. ¬ (IsForeign fault)) }
+    ensures held { (layout : Layout) (held : HeldMap) → TellsOf layout held (state S.Store connection.old) result (state S.Store connection.new) (λ start. IsStart from (extents_of held) start) }
     ensures asks { JustAsks (state S.Store connection.old) (state S.Store connection.new) }
 {
     let rows = answer(connection, SELECT_LAST_START, &[number(from)])?;
@@ -65,8 +65,7 @@ pub(crate) fn touched_extents<S: Alter>(
     to: u64,
 ) -> Result<Vec<Extent>, StoreFault>
     requires { (from < to) × (to ≤ MAX_OFFSET) }
-    ensures held { HasCleanDisk (state S.Store connection.new) → (layout : Layout) (held : HeldMap) → Holds layout (state S.Store connection.old) held
-        → MatchResult result (λ extents. (extents.items ≡ filter (touches from to) (extents_of held)) × IsTrue (state S.Store connection.new).is_open) (λ fault. ¬ (IsForeign fault)) }
+    ensures held { (layout : Layout) (held : HeldMap) → TellsOf layout held (state S.Store connection.old) result (state S.Store connection.new) (λ extents. extents.items ≡ filter (touches from to) (extents_of held)) }
     ensures apart { IfOk result (λ extents. AscendApart extents.items) }
     ensures asks { JustAsks (state S.Store connection.old) (state S.Store connection.new) }
 {

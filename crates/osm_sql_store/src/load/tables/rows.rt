@@ -1,13 +1,11 @@
 //! The rows of one blob, in the layout of tables.
 
-ghost use Rattle.std.specs.Prelude.{◌<◌, filter, IsTrue, MatchResult};
-ghost use Rattle.sqlite.specs.State.{HasCleanDisk};
+ghost use Rattle.std.specs.Prelude.{◌<◌, filter};
 ghost use Rattle.sqlite.specs.Held.{state};
 ghost use Rattle.osm_sql_store.specs.Load.Asking.{JustAsks};
+ghost use Rattle.osm_sql_store.specs.Load.Telling.{TellsOf};
 ghost use Rattle.osm_rows.specs.Load.TableAnswers.{AreRowsOf};
 ghost use Rattle.osm_rows.specs.Held.{HeldMap};
-ghost use Rattle.osm_rows.specs.LayoutHolding.{Holds};
-ghost use Rattle.osm_rows.specs.Keeping.{IsForeign};
 ghost use Rattle.osm_rows.specs.Rows.{is_in, placed_in};
 
 use crate::load::asking::{answer, number};
@@ -24,8 +22,7 @@ pub(crate) fn load_table_rows<S: Alter>(
     off: u64,
 ) -> Result<TableRows, StoreFault>
     requires { off < MAX_OFFSET }
-    ensures held { HasCleanDisk (state S.Store connection.new) → (held : HeldMap) → Holds Layout.Tables (state S.Store connection.old) held
-        → MatchResult result (λ rows. AreRowsOf rows (filter (is_in off) (placed_in held)) × IsTrue (state S.Store connection.new).is_open) (λ fault. ¬ (IsForeign fault)) }
+    ensures held { (held : HeldMap) → TellsOf Layout.Tables held (state S.Store connection.old) result (state S.Store connection.new) (λ rows. AreRowsOf rows (filter (is_in off) (placed_in held))) }
     ensures asks { JustAsks (state S.Store connection.old) (state S.Store connection.new) }
 {
     let elements = answer(connection, SELECT_ELEMENTS, &[number(off)])?;

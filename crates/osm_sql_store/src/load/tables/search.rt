@@ -1,16 +1,14 @@
 //! The rows of the elements of one kind and id, in the layout of tables.
 
-ghost use Rattle.std.specs.Prelude.{◌≡◌, pos, List, filter, map, IsTrue, MatchResult};
+ghost use Rattle.std.specs.Prelude.{◌≡◌, pos, List, filter, map, MatchResult};
 ghost use Rattle.std.specs.List.{AllByRecursion};
-ghost use Rattle.sqlite.specs.State.{HasCleanDisk};
 ghost use Rattle.sqlite.specs.Held.{state};
 ghost use Rattle.osm_sql_store.specs.Load.Asking.{JustAsks};
+ghost use Rattle.osm_sql_store.specs.Load.Telling.{TellsOf};
 ghost use Rattle.osm_rows.specs.Load.TableParts.{IsAlone};
 ghost use Rattle.osm_rows.specs.Load.TableAnswers.{AreRowsOf};
 ghost use Rattle.osm_rows.specs.TableRows.{element_row, element_rows, tag_row, tag_rows, tags_at, link_row, link_rows, links_at};
 ghost use Rattle.osm_rows.specs.Held.{HeldMap};
-ghost use Rattle.osm_rows.specs.LayoutHolding.{Holds};
-ghost use Rattle.osm_rows.specs.Keeping.{IsForeign};
 ghost use Rattle.osm_rows.specs.Rows.{Placed, is_of, placed_in};
 
 use crate::load::asking::{answer, integer, number};
@@ -36,8 +34,8 @@ fn parts_of<S: Alter>(
     connection: &mut Connection<S>,
     row: &Row,
 ) -> Result<(Vec<PartRow>, Vec<PartRow>), StoreFault>
-    ensures held { HasCleanDisk (state S.Store connection.new) → (held : HeldMap) (p : Placed) → Holds Layout.Tables (state S.Store connection.old) held → row.now ≡ element_row p → IsAlone (placed_in held) p
-        → MatchResult result (λ parts. (parts.0.items ≡ map tag_row (tags_at p)) × (parts.1.items ≡ map link_row (links_at p)) × IsTrue (state S.Store connection.new).is_open) (λ fault. ¬ (IsForeign fault)) }
+    ensures held { (held : HeldMap) (p : Placed) → row.now ≡ element_row p → IsAlone (placed_in held) p
+        → TellsOf Layout.Tables held (state S.Store connection.old) result (state S.Store connection.new) (λ parts. (parts.0.items ≡ map tag_row (tags_at p)) × (parts.1.items ≡ map link_row (links_at p))) }
     ensures asks { JustAsks (state S.Store connection.old) (state S.Store connection.new) }
 {
     let place = place_of(row)?;
@@ -60,8 +58,8 @@ fn all_parts<S: Alter>(
     connection: &mut Connection<S>,
     elements: &[Row],
 ) -> Result<(Vec<PartRow>, Vec<PartRow>), StoreFault>
-    ensures held { HasCleanDisk (state S.Store connection.new) → (held : HeldMap) (found : List Placed) → Holds Layout.Tables (state S.Store connection.old) held → elements.now ≡ element_rows found → AllByRecursion (IsAlone (placed_in held)) found
-        → MatchResult result (λ parts. (parts.0.items ≡ tag_rows found) × (parts.1.items ≡ link_rows found) × IsTrue (state S.Store connection.new).is_open) (λ fault. ¬ (IsForeign fault)) }
+    ensures held { (held : HeldMap) (all : List Placed) → elements.now ≡ element_rows all → AllByRecursion (IsAlone (placed_in held)) all
+        → TellsOf Layout.Tables held (state S.Store connection.old) result (state S.Store connection.new) (λ parts. (parts.0.items ≡ tag_rows all) × (parts.1.items ≡ link_rows all)) }
     ensures asks { JustAsks (state S.Store connection.old) (state S.Store connection.new) }
 {
     let mut tags = Vec::new(alloc);
@@ -81,8 +79,7 @@ pub(crate) fn find_table_rows<S: Alter>(
     kind: MemberKind,
     id: i64,
 ) -> Result<TableRows, StoreFault>
-    ensures held { HasCleanDisk (state S.Store connection.new) → (held : HeldMap) → Holds Layout.Tables (state S.Store connection.old) held
-        → MatchResult result (λ rows. AreRowsOf rows (filter (is_of kind id) (placed_in held)) × IsTrue (state S.Store connection.new).is_open) (λ fault. ¬ (IsForeign fault)) }
+    ensures held { (held : HeldMap) → TellsOf Layout.Tables held (state S.Store connection.old) result (state S.Store connection.new) (λ rows. AreRowsOf rows (filter (is_of kind id) (placed_in held))) }
     ensures asks { JustAsks (state S.Store connection.old) (state S.Store connection.new) }
 {
     let code = u64::from(element_code(kind));

@@ -8,9 +8,9 @@ use Rattle.osm_sql_store.proofs.blob_store.BlobStoreReader.extents_touching.Goal
 pub returns-clause-reads : goal.returns-clause-reads
 returns-clause-reads g c =
     reads_held g.S.Store (record { connection = c.touched_extents-answer.new.connection; failures = c.failures_after-self-inside.result }) refl c.self.view_is c.touched_extents-answer.ensures.asks c.touched_extents-answer.result c.failures_after-self-inside.ensures
-    _ (λ clean. c.touched_extents-answer.ensures.held clean g.L.StoreLayout.LAYOUT)
+    _ (λ clean held holds. c.touched_extents-answer.ensures.held g.L.StoreLayout.LAYOUT held clean holds)
 
 pub returns-clause-touching : goal.returns-clause-touching
 returns-clause-touching g c held holds clean =
     let was = subst (λ (s : Store _). Holds g.L.StoreLayout.LAYOUT (state g.S.Store s.connection) held) (sym c.self.view_is) holds in
-    ok_of _ _ _ c.touched_extents-answer.result (c.touched_extents-answer.ensures.held clean g.L.StoreLayout.LAYOUT held was)
+    ok_of _ _ _ c.touched_extents-answer.result (c.touched_extents-answer.ensures.held g.L.StoreLayout.LAYOUT held clean was)

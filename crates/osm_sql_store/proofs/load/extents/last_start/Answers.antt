@@ -13,7 +13,7 @@ unfolding everything
 answer-requires g c = refl
 
 pub returns-clause-held : goal.returns-clause-held
-returns-clause-held g c clean layout held holds =
+returns-clause-held g c layout held clean holds =
     let old = state g.S.Store c.args.connection.now in
     let answered = c.in_ok-rows.ensures.rows clean in
     let shown = rw c.number.ensures at answered.shown in

@@ -26,12 +26,12 @@ returns-clause-asks g c =
     asks_then (state g.S.Store c.args.connection.now) (state g.S.Store c.last_start.new.connection) (state g.S.Store c.answer.new.connection) c.last_start.ensures.asks c.answer.ensures.asks
 
 pub returns-clause-held : goal.returns-clause-held
-returns-clause-held g c clean layout held holds =
+returns-clause-held g c layout held clean holds =
     let old = state g.S.Store c.args.connection.now in
     let middle = state g.S.Store c.last_start.new.connection in
     let new = state g.S.Store c.answer.new.connection in
     let clean_middle = clean_before middle new c.answer.ensures.asks clean in
-    let started = c.in_ok-start.ensures.held clean_middle layout held holds in
+    let started = c.in_ok-start.ensures.held layout held clean_middle holds in
     let still = asks_holds layout old middle c.last_start.ensures.asks held holds clean_middle started.1 in
     let answered = c.in_ok-rows.ensures.rows clean in
     let fits : SFits w64 c.in_ok-start.start = search rules in

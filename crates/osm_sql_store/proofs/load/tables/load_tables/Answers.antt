@@ -9,7 +9,7 @@ use Rattle.osm_rows.proofs.MapLemmas.HeldLemmas.{placed_at, counted_at, elements
 use Rattle.osm_sql_store.proofs.load.tables.load_tables.Goals as goal
 
 pub returns-then-off-ge-MAX_OFFSET-clause-held : goal.returns-then-off-ge-MAX_OFFSET-clause-held
-returns-then-off-ge-MAX_OFFSET-clause-held g c clean held holds = (
+returns-then-off-ge-MAX_OFFSET-clause-held g c held clean holds = (
   λ blob is.
       let below : c.args.off < blob.fin = holds.kept.apart.filled c.args.off blob is in
       let limit : blob.fin ≤ MAX_OFFSET = holds.kept.apart.limit c.args.off blob is in
@@ -18,9 +18,9 @@ returns-then-off-ge-MAX_OFFSET-clause-held g c clean held holds = (
 )
 
 pub returns-clause-held : goal.returns-clause-held
-returns-clause-held g c clean held holds =
+returns-clause-held g c held clean holds =
     let off = c.args.off in
-    let rows = c.in_ok-elements.ensures.held clean held holds in
+    let rows = c.in_ok-elements.ensures.held held clean holds in
     let it = counted_at held off in
     MatchResult-weaker c.from_tables.result (c.from_tables.ensures.rows off it.0 (subst (AreRowsOf _) it.1 rows.0))
     (λ loaded h. (

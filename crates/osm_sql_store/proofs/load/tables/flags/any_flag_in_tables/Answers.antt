@@ -11,7 +11,7 @@ unfolding everything
 answer-requires g c = refl
 
 pub returns-clause-held : goal.returns-clause-held
-returns-clause-held g c clean held holds =
+returns-clause-held g c held clean holds =
     let old = state g.S.Store c.args.connection.now in
     let answered = c.in_ok-rows.ensures.rows clean in
     let read = flag_read old (state g.S.Store c.answer.new.connection) _ (placed_in held) (has_tables old.now held holds.schema holds.tables) answered.shown in

@@ -30,7 +30,7 @@ unfolding everything
 answer-requires-3 g c = refl
 
 pub returns-clause-held : goal.returns-clause-held
-returns-clause-held g c clean held holds =
+returns-clause-held g c held clean holds =
     let old = state g.S.Store c.args.connection.now in
     let one = state g.S.Store c.answer.new.connection in
     let two = state g.S.Store c.answer-2.new.connection in

@@ -25,19 +25,20 @@ loop-row-preserved g c =
           let clean_now : HasCleanDisk now = clean_before now next asks clean in
           let before = c.loop-row.invariant.read clean_now held found holds is alone in
           let it = row_at (IsAlone (placed_in held)) element_row found _ _ _ (All-from_recursion _ _ alone) is c.loop-row-test.true c.row-item.is in
-          let parts = c.in_ok-its_tags.ensures.held clean held it.item before.0 it.is it.fits in (
-            asks_holds Tables now next asks held before.0 clean parts.2,
+          let read = c.in_ok-its_tags.ensures.held held it.item it.is it.fits clean before.0 in
+          let parts = read.0 in (
+            asks_holds Tables now next asks held before.0 clean read.1,
             several_more tag_row tags_at (take c.loop-row.row-index found) _ it.item _ _ _ it.more before.1 parts.0 c.in_ok-append.ensures.items,
             several_more link_row links_at (take c.loop-row.row-index found) _ it.item _ _ _ it.more before.2 parts.1 c.in_ok-append-2.ensures.items,
           );
     }
 
 pub returns-in_err-its_tags-clause-held : goal.returns-in_err-its_tags-clause-held
-returns-in_err-its_tags-clause-held g c clean held found holds is alone =
+returns-in_err-its_tags-clause-held g c held found is alone clean holds =
     let now = state g.S.Store c.loop-row.connection in
     let next = state g.S.Store c.parts_of.new.connection in
     let p = err_from_is_err_and c.from_residual.result c.from_residual.ensures.1 in
     let clean_now : HasCleanDisk now = clean_before now next c.parts_of.ensures.asks clean in
     let before = c.loop-row.invariant.read clean_now held found holds is alone in
     let it = row_at (IsAlone (placed_in held)) element_row found _ _ _ (All-from_recursion _ _ alone) is c.loop-row-test.true c.row-item.is in
-    rw (p.1, p.2) (c.in_err-its_tags.ensures.held clean held it.item before.0 it.is it.fits)
+    rw (p.1, p.2) (c.in_err-its_tags.ensures.held held it.item it.is it.fits clean before.0)

@@ -28,7 +28,7 @@ pub returns-clause-asks : goal.returns-clause-asks
 returns-clause-asks g c = asks_then _ _ _ c.answer.ensures.asks c.all_parts.ensures.asks
 
 pub returns-clause-held : goal.returns-clause-held
-returns-clause-held g c clean held holds =
+returns-clause-held g c held clean holds =
     let old = state g.S.Store c.args.connection.now in
     let one = state g.S.Store c.answer.new.connection in
     let two = state g.S.Store c.all_parts.new.connection in
@@ -39,7 +39,8 @@ returns-clause-held g c clean held holds =
     let shown = rw (c.number.ensures, c.from-code.ensures, c.element_code.ensures, id) at answered.shown in
     let read = found_read old one _ (placed_in held) (has_tables old.now held holds.schema holds.tables) c.args.kind c.args.id shown in
     let found = filter (is_of c.args.kind c.args.id) (placed_in held) in
-    let parts = c.in_ok-tags.ensures.held clean held found still (c.deref.ensures.value ∙ read) (all-filter _ (is_of c.args.kind c.args.id) (placed_in held) (all_alone held)) in (
+    let told = c.in_ok-tags.ensures.held held found (c.deref.ensures.value ∙ read) (all-filter _ (is_of c.args.kind c.args.id) (placed_in held) (all_alone held)) clean still in
+    let parts = told.0 in (
       record {
         elements = read;
         tags = parts.0;
@@ -47,11 +48,11 @@ returns-clause-held g c clean held holds =
         ascending = ascending-filter IsBefore (is_of c.args.kind c.args.id) (placed_in held) (placed_in_rise held);
         stored = All-from_recursion _ _ (all-filter _ (is_of c.args.kind c.args.id) (placed_in held) (all_stored Tables held holds.kept));
       },
-      parts.2,
+      told.1,
     )
 
 pub returns-in_err-tags-clause-held : goal.returns-in_err-tags-clause-held
-returns-in_err-tags-clause-held g c clean held holds =
+returns-in_err-tags-clause-held g c held clean holds =
     let old = state g.S.Store c.args.connection.now in
     let one = state g.S.Store c.answer.new.connection in
     let two = state g.S.Store c.all_parts.new.connection in
@@ -63,7 +64,7 @@ returns-in_err-tags-clause-held g c clean held holds =
     let shown = rw (c.number.ensures, c.from-code.ensures, c.element_code.ensures, id) at answered.shown in
     let read = found_read old one _ (placed_in held) (has_tables old.now held holds.schema holds.tables) c.args.kind c.args.id shown in
     let found = filter (is_of c.args.kind c.args.id) (placed_in held) in
-    rw (p.1, p.2) (c.in_err-tags.ensures.held clean held found still (c.deref.ensures.value ∙ read) (all-filter _ (is_of c.args.kind c.args.id) (placed_in held) (all_alone held)))
+    rw (p.1, p.2) (c.in_err-tags.ensures.held held found (c.deref.ensures.value ∙ read) (all-filter _ (is_of c.args.kind c.args.id) (placed_in held) (all_alone held)) clean still)
 
 pub returns-in_err-tags-clause-asks : goal.returns-in_err-tags-clause-asks
 returns-in_err-tags-clause-asks g c = asks_then _ _ _ c.answer.ensures.asks c.all_parts.ensures.asks

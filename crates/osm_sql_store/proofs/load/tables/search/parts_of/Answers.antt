@@ -23,7 +23,7 @@ unfolding everything
 answer-requires-2 g c = refl
 
 pub returns-clause-held : goal.returns-clause-held
-returns-clause-held g c clean held p holds is alone =
+returns-clause-held g c held p is alone clean holds =
     let old = state g.S.Store c.args.connection.now in
     let one = state g.S.Store c.answer.new.connection in
     let two = state g.S.Store c.answer-2.new.connection in
@@ -42,7 +42,7 @@ returns-clause-held g c clean held p holds is alone =
     let links_shown = rw (off_again, position_again) at second.shown in
     let tags = its_tags_read old one _ (placed_in held) (has_tables old.now held holds.schema holds.tables) p.0 p.1 tags_shown in
     let links = its_links_read one two _ (placed_in held) (has_tables one.now held still.schema still.tables) p.0 p.1 links_shown in
-    (c.in_ok-all.ensures ∙ tags ∙ ap (map tag_row) alone.tags, c.in_ok-all-2.ensures ∙ links ∙ ap (map link_row) alone.links, second.is_open)
+    ((c.in_ok-all.ensures ∙ tags ∙ ap (map tag_row) alone.tags, c.in_ok-all-2.ensures ∙ links ∙ ap (map link_row) alone.links), second.is_open)
 
 pub returns-clause-asks : goal.returns-clause-asks
 returns-clause-asks g c = asks_then _ _ _ c.answer.ensures.asks c.answer-2.ensures.asks
