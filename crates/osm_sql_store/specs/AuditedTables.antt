@@ -4,7 +4,7 @@ use Rattle.sqlite.specs.Order.{Row}
 use Rattle.sqlite.specs.Schema.{Schema}
 use Rattle.sqlite.specs.Tree.{Trees}
 use Rattle.osm_value.specs.declared.element.Element.{Element}
-use Rattle.osm_rows.specs.Audit.{seen_extents, seen_elements, seen_tags, seen_links}
+use Rattle.osm_rows.specs.Audit.{HasAt, ShowElementsAt, seen_extents, seen_elements, seen_tags, seen_links}
 use Rattle.osm_sql_store.specs.declared.audit.table.AuditedTable.{AuditedTable}
 use Rattle.osm_sql_store.specs.declared.audit.table.AuditedTable.TheVariants.{Blobs, Elements, Tags, Links}
 use Rattle.osm_rows.specs.declared.keeper.Extent.{Extent}
@@ -39,6 +39,10 @@ rows_in Blobs extent elements = extent_columns extent ∷ []
 rows_in Elements extent elements = element_rows (placed extent.off 0 elements)
 rows_in Tags extent elements = tag_rows (placed extent.off 0 elements)
 rows_in Links extent elements = link_rows (placed extent.off 0 elements)
+
+-- at the offset of an extent `blob` has its row, the tables of elements have those that these elements stand for, and none has more
+abbrev pub ShowsRows : Layout → Extent → List Element → Trees → Type 0
+ShowsRows layout extent elements db = HasAt extent.off (extent_columns extent ∷ []) (seen_extents db) × ShowElementsAt layout extent.off (placed extent.off 0 elements) db
 
 -- the text of the statement that counts its rows
 abbrev pub count_statement : AuditedTable → List ℕ

@@ -9,6 +9,7 @@ ghost use Rattle.osm_sql_store.specs.AuditedTables.{HasTable, tree_of};
 ghost use Rattle.osm_sql_store.specs.ElementCounts.{ShowsElementCounts};
 ghost use Rattle.osm_rows.specs.Keeping.{IsForeign};
 ghost use Rattle.osm_sql_store.specs.Load.Asking.{JustAsks};
+ghost use Rattle.osm_sql_store.specs.Load.Telling.{TellsWhether};
 ghost use Rattle.osm_rows.specs.Schema.Tables.{table_schema};
 ghost use Rattle.osm_rows.specs.Schema.Layouts.{schema_of};
 
@@ -62,8 +63,7 @@ pub(crate) fn has_table_counts<S: Alter>(
     connection: &mut Connection<S>,
     counts: &Counts,
 ) -> Result<bool, StoreFault>
-    ensures told { HasCleanDisk (state S.Store connection.new) → (state S.Store connection.old).now ≡ (state S.Store connection.old).committed → (state S.Store connection.old).now.schema ≡ table_schema
-        → IfOk result (λ told. IsTrue told ↔ ShowsElementCounts Layout.Tables (state S.Store connection.old).now.trees counts.now) }
+    ensures told { TellsWhether table_schema (state S.Store connection.old) result (state S.Store connection.new) (λ trees. ShowsElementCounts Layout.Tables trees counts.now) }
     ensures opened { HasCleanDisk (state S.Store connection.new) → IfOk result (λ _. IsTrue (state S.Store connection.new).is_open) }
     ensures ours { IfErr result (λ fault. ¬ (IsForeign fault)) }
     ensures asks { JustAsks (state S.Store connection.old) (state S.Store connection.new) }

@@ -1,13 +1,14 @@
 //! Whether the rows at an offset are those of one blob.
 
-ghost use Rattle.std.specs.Prelude.{◌≡◌, ◌↔◌, ◌<◌, ◌≤◌, ◌^◌, ◌∷◌, [], false, IsTrue, IfOk, IfErr};
+ghost use Rattle.std.specs.Prelude.{◌≡◌, ◌↔◌, ◌<◌, ◌≤◌, ◌^◌, false, IsTrue, IfOk, IfErr};
 ghost use Rattle.sqlite.specs.State.{HasCleanDisk};
 ghost use Rattle.sqlite.specs.Held.{state};
-ghost use Rattle.osm_rows.specs.Audit.{HasAt, ShowElementsAt, seen_extents};
-ghost use Rattle.osm_sql_store.specs.AuditedTables.{HasTable, rows_in, seen_in};
+ghost use Rattle.osm_rows.specs.Audit.{HasAt, ShowElementsAt};
+ghost use Rattle.osm_sql_store.specs.AuditedTables.{HasTable, ShowsRows, rows_in, seen_in};
 ghost use Rattle.osm_rows.specs.Keeping.{IsForeign};
 ghost use Rattle.osm_sql_store.specs.Load.Asking.{JustAsks};
-ghost use Rattle.osm_rows.specs.Rows.{extent_columns, placed};
+ghost use Rattle.osm_sql_store.specs.Load.Telling.{TellsWhether};
+ghost use Rattle.osm_rows.specs.Rows.{placed};
 ghost use Rattle.osm_rows.specs.Schema.Layouts.{schema_of};
 ghost use Rattle.osm_rows.specs.Schema.Tables.{table_schema};
 
@@ -78,8 +79,7 @@ pub(crate) fn shows_tables<S: Alter>(
     elements: &[Element],
 ) -> Result<bool, StoreFault>
     requires bounds { (extent.now.off ≤ MAX_OFFSET) × (extent.now.fin ≤ MAX_OFFSET) × (extent.now.n < 2 ^ 63) }
-    ensures told { HasCleanDisk (state S.Store connection.new) → (state S.Store connection.old).now ≡ (state S.Store connection.old).committed → (state S.Store connection.old).now.schema ≡ table_schema
-        → IfOk result (λ told. IsTrue told ↔ ShowElementsAt Layout.Tables extent.now.off (placed extent.now.off 0 elements.now) (state S.Store connection.old).now.trees) }
+    ensures told { TellsWhether table_schema (state S.Store connection.old) result (state S.Store connection.new) (ShowElementsAt Layout.Tables extent.now.off (placed extent.now.off 0 elements.now)) }
     ensures opened { HasCleanDisk (state S.Store connection.new) → IfOk result (λ _. IsTrue (state S.Store connection.new).is_open) }
     ensures ours { IfErr result (λ fault. ¬ (IsForeign fault)) }
     ensures asks { JustAsks (state S.Store connection.old) (state S.Store connection.new) }
@@ -103,8 +103,7 @@ pub(crate) fn has_rows_of<L: SqlLayout, S: Alter>(
     requires autocommit { (state S.Store connection.old).in_transaction ≡ false }
     requires bounds { (extent.now.off ≤ MAX_OFFSET) × (extent.now.fin ≤ MAX_OFFSET) × (extent.now.n < 2 ^ 63) }
     ensures told { HasCleanDisk (state S.Store connection.new) → (state S.Store connection.old).committed.schema ≡ schema_of L.LAYOUT
-        → IfOk result (λ told. IsTrue told ↔ (HasAt extent.now.off (extent_columns extent.now ∷ []) (seen_extents (state S.Store connection.old).committed.trees)
-        × ShowElementsAt L.LAYOUT extent.now.off (placed extent.now.off 0 elements.now) (state S.Store connection.old).committed.trees)) }
+        → IfOk result (λ told. IsTrue told ↔ ShowsRows L.LAYOUT extent.now elements.now (state S.Store connection.old).committed.trees) }
     ensures opened { HasCleanDisk (state S.Store connection.new) → IfOk result (λ _. IsTrue (state S.Store connection.new).is_open) }
     ensures ours { IfErr result (λ fault. ¬ (IsForeign fault)) }
     ensures asks { JustAsks (state S.Store connection.old) (state S.Store connection.new) }
