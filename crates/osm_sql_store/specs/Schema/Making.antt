@@ -1,5 +1,5 @@
 -- Making the tables of a store that holds nothing.
-use Rattle.std.specs.Prelude.{◌≡◌, ℕ, List, [], ◌∷◌}
+use Rattle.std.specs.Prelude.{◌≡◌, ℕ, List, [], ◌∷◌, IsTrue}
 use Rattle.std.specs.List.{AllByRecursion}
 use Rattle.sqlite.specs.Change.{KeepsRows}
 use Rattle.sqlite.specs.Schema.{Schema}
@@ -91,3 +91,11 @@ pub record IsEmptyStore (layout : Layout) (db : Trees) : Type 0 where
   pub meta : db 0 ≡ version_row layout ∷ []
   pub blob : db 1 ≡ []
   pub elements : HaveNoElements layout db
+
+-- The connection is open over a store that holds nothing, all that it sees is committed, and a crash leaves nothing else.
+pub record IsNewStore (layout : Layout) (s : State) : Type 0 where
+  pub is_open : IsTrue s.is_open
+  pub schema_is : s.now.schema ≡ schema_of layout
+  pub empty : IsEmptyStore layout s.now.trees
+  pub committed : s.committed ≡ s.now
+  pub settled : (db : Trees) → s.may_leave db → db ≡ s.now.trees

@@ -5,9 +5,8 @@ ghost use Rattle.sqlite.specs.State.{HasCleanDisk, Survives};
 ghost use Rattle.sqlite.specs.Held.{state};
 ghost use Rattle.osm_sql_store.specs.Inside.{GoesOn};
 ghost use Rattle.osm_sql_store.specs.Schema.Stages.{no_schema, two_tables};
-ghost use Rattle.osm_rows.specs.Schema.Layouts.{schema_of};
 ghost use Rattle.osm_sql_store.specs.Schema.Versions.{version_text_of};
-ghost use Rattle.osm_sql_store.specs.Schema.Making.{text_of, before, Makes, MakesElements, WritesVersion, IsEmptyStore};
+ghost use Rattle.osm_sql_store.specs.Schema.Making.{text_of, before, Makes, MakesElements, WritesVersion, IsEmptyStore, IsNewStore};
 ghost use Rattle.osm_sql_store.specs.Schema.Over.{IsOver, IsWriting};
 
 use crate::layout::SqlLayout;
@@ -102,10 +101,7 @@ pub(crate) fn create_tables<L: SqlLayout, S: Alter>(
 ) -> Result<(), Error>
     requires bare { HasCleanDisk (state S.Store connection.old) → (state S.Store connection.old).now.schema ≡ no_schema }
     requires autocommit { (state S.Store connection.old).in_transaction ≡ false }
-    ensures settled { HasCleanDisk (state S.Store connection.new) → OnOk result ((db : _) → (state S.Store connection.new).may_leave db → db ≡ (state S.Store connection.new).now.trees) }
-    ensures schema { HasCleanDisk (state S.Store connection.new) → OnOk result ((state S.Store connection.new).now.schema ≡ schema_of L.LAYOUT) }
-    ensures empty { HasCleanDisk (state S.Store connection.new) → OnOk result (IsEmptyStore L.LAYOUT (state S.Store connection.new).now.trees) }
-    ensures committed { HasCleanDisk (state S.Store connection.new) → OnOk result (IsTrue (state S.Store connection.new).is_open × ((state S.Store connection.new).committed ≡ (state S.Store connection.new).now)) }
+    ensures made { HasCleanDisk (state S.Store connection.new) → OnOk result (IsNewStore L.LAYOUT (state S.Store connection.new)) }
     ensures autocommit { (state S.Store connection.new).in_transaction ≡ false }
     ensures unchanged { HasCleanDisk (state S.Store connection.new) → IsTrue (state S.Store connection.new).is_open
         → OnErr result (((state S.Store connection.new).now ≡ (state S.Store connection.old).now) × ((state S.Store connection.new).committed ≡ (state S.Store connection.old).committed)) }

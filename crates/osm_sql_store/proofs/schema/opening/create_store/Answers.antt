@@ -5,15 +5,15 @@ use Rattle.osm_sql_store.proofs.schema.opening.create_store.Goals as goal
 
 pub returns-in-Ok-clause-empty : goal.returns-in-Ok-clause-empty
 returns-in-Ok-clause-empty g c clean =
-    let committed = c.in-Ok.ensures.committed clean in
+    let made = c.in-Ok.ensures.made clean in
     record {
       clean = clean;
-      opened = committed.0;
-      settled = sym committed.1;
-      schema = c.in-Ok.ensures.schema clean;
+      opened = made.is_open;
+      settled = sym made.committed;
+      schema = made.schema_is;
       kept = nothing_kept g.L.StoreLayout.LAYOUT;
-      tables = hold_nothing g.L.StoreLayout.LAYOUT _ (c.in-Ok.ensures.empty clean);
-      only = nothing_else g.L.StoreLayout.LAYOUT _ (c.in-Ok.ensures.empty clean);
+      tables = hold_nothing g.L.StoreLayout.LAYOUT _ made.empty;
+      only = nothing_else g.L.StoreLayout.LAYOUT _ made.empty;
     }
 
 pub returns-in-Err-clause-crash : goal.returns-in-Err-clause-crash
