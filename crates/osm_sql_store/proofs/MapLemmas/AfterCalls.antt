@@ -17,6 +17,7 @@ use Rattle.osm_rows.specs.declared.schema.layout.Layout.TheVariants.{Bodies, Tab
 use Rattle.osm_rows.specs.Schema.Layouts.{schema_of}
 use Rattle.osm_rows.specs.Rows.{Placed, CanStore, placed, extent_row}
 use Rattle.osm_sql_store.specs.Schema.Making.{HaveNoElements, IsEmptyStore}
+use Rattle.osm_sql_store.specs.Put.Steps.{MayPut}
 use Rattle.osm_rows.specs.Put.Gains.{Puts}
 use Rattle.osm_sql_store.specs.Load.Asking.{JustAsks}
 use Rattle.osm_rows.specs.LayoutHolding.{IsBlob, IsKept, HasRows, HoldElements, TablesHold, Holds, MayLeave, LeavesAMap}
@@ -51,9 +52,6 @@ module _ (held : HeldMap) (off : ℕ) (blob : Blob) (layout : Layout) (old new :
   abbrev added : List Placed
   added = placed off 0 blob.elements
 
-  abbrev pub MayPut : Trees → Type 0
-  MayPut trees = IsTrue old.is_open × AllByRecursion (CanStore layout) blob.elements × (old.now.schema ≡ schema_of layout → Puts layout old.now.trees trees (extent_of (off, blob)) added)
-
   pub holds_more : HasCleanDisk new → (old.now.schema ≡ schema_of layout → (new.now.schema ≡ schema_of layout) × Puts layout old.now.trees new.now.trees (extent_of (off, blob)) added)
       → IsTrue new.is_open → new.committed ≡ new.now → IsBlob layout blob → Holds layout new (with_blob held off blob)
   holds_more clean puts there committed is =
@@ -70,10 +68,10 @@ module _ (held : HeldMap) (off : ℕ) (blob : Blob) (layout : Layout) (old new :
         only = λ other kept_too tables_too. one_map layout other (with_blob held off blob) new.now.trees kept_too kept tables_too tables;
       }
 
-  left_more : IsBlob layout blob → (db : Trees) → MayPut db → TablesHold layout (with_blob held off blob) db
+  left_more : IsBlob layout blob → (db : Trees) → MayPut layout old (extent_of (off, blob)) blob.elements db → TablesHold layout (with_blob held off blob) db
   left_more is db may = hold_more held off blob layout holds.kept free order old.now.trees db holds.tables (may.2 holds.schema)
 
-  pub leaves_more : Survives old new MayPut → (AllByRecursion (CanStore layout) blob.elements → IsBlob layout blob) → HasCleanDisk new → (left : HeldMap) → MayLeave layout new left → MayLeave layout old left ⊎ (left ≡ with_blob held off blob)
+  pub leaves_more : Survives old new (MayPut layout old (extent_of (off, blob)) blob.elements) → (AllByRecursion (CanStore layout) blob.elements → IsBlob layout blob) → HasCleanDisk new → (left : HeldMap) → MayLeave layout new left → MayLeave layout old left ⊎ (left ≡ with_blob held off blob)
   leaves_more survives is clean left may = elim (survives.crash clean may.trees may.left) [
     | inl before ↦ inl (record { kept = may.kept; trees = may.trees; left = before; tables = may.tables })
     | inr put ↦
@@ -81,7 +79,7 @@ module _ (held : HeldMap) (off : ℕ) (blob : Blob) (layout : Layout) (old new :
         inr (one_map layout left (with_blob held off blob) may.trees may.kept (kept_more held off blob layout holds.kept free order limit blob_is) may.tables (left_more blob_is may.trees put))
   ]
 
-  pub leaves_a_map : Survives old new MayPut → (AllByRecursion (CanStore layout) blob.elements → IsBlob layout blob) → IsSettled old → HasCleanDisk new → LeavesAMap layout new
+  pub leaves_a_map : Survives old new (MayPut layout old (extent_of (off, blob)) blob.elements) → (AllByRecursion (CanStore layout) blob.elements → IsBlob layout blob) → IsSettled old → HasCleanDisk new → LeavesAMap layout new
   leaves_a_map survives is settles clean db left = elim (survives.crash clean db left) [
     | inl before ↦ leaves_held layout old held holds settles db before
     | inr put ↦

@@ -29,7 +29,7 @@ use Rattle.osm_sql_store.proofs.PutLemmas.InsertTexts.{IsInsert, element_text, t
 use Rattle.std.specs.Option.{option_copied}
 use Rattle.osm_sql_store.specs.Schema.Over.{IsWriting}
 use Rattle.osm_rows.specs.Put.Gains.{Gains}
-use Rattle.osm_sql_store.specs.Put.Steps.{AddsRows}
+use Rattle.osm_sql_store.specs.Put.Steps.{AddsRows, AddsGivenRows}
 use Rattle.osm_sql_store.specs.Put.Batches.{rows_of, statement_of}
 use Rattle.osm_rows.specs.declared.fault.StoreFault.{StoreFault}
 use Rattle.osm_sql_store.specs.declared.put.batch.Batch.{Batch}
@@ -111,6 +111,6 @@ inserts_link batch = inserts link_columns link 6 _ 4 (rows_of batch) (λ r. refl
 -- where the statement ran, given the values of rows, these are added
 pub ran_adds : {X U : Type 0} {columns : X → Row} {tree count : ℕ} {statement text : List ℕ} → Inserts columns tree statement count → text ≡ statement → (params : Row) (old new : State) → IsWriting Tables old
     → (r : Result U StoreFault) → OnOk r ((changed : ℕ) × ExecutesInside 0 text params old new (Ok changed))
-    → OnOk r ((rows : List X) → length rows ≡ count → params ≡ flat_map columns rows → AddsRows Tables tree old new (map columns rows))
+    → OnOk r (AddsGivenRows columns tree count params old new)
 ran_adds added is params old new over r ran =
     on_ok_weaker r (λ it rows many these. added rows many params these old new it.0 over (subst (λ sql. ExecutesInside 0 sql params old new (Ok it.0)) is it.1)) ran

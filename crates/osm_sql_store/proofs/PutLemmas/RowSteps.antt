@@ -11,6 +11,7 @@ use Rattle.sqlite.specs.Tree.{Trees}
 use Rattle.sqlite.proofs.StateLemmas.{survives_then}
 use Rattle.sqlite.proofs.Callers.{survives_begin}
 use Rattle.sqlite.specs.Steps.{FailsToCommit}
+use Rattle.osm_value.specs.declared.element.Element.{Element}
 use Rattle.osm_rows.specs.declared.keeper.Extent.{Extent}
 use Rattle.sqlite.specs.Table.{Table}
 use Rattle.std.specs.Prelude.{OnOk}
@@ -20,11 +21,11 @@ use Rattle.osm_rows.specs.declared.schema.layout.Layout.{Layout}
 use Rattle.osm_rows.specs.declared.schema.layout.Layout.TheVariants.{Bodies, Tables}
 use Rattle.osm_sql_store.specs.declared.schema.sql.TheConstants.{INSERT_BLOB}
 use Rattle.osm_rows.specs.Schema.Layouts.{schema_of}
-use Rattle.osm_rows.specs.Rows.{Placed, body_row, extent_row}
+use Rattle.osm_rows.specs.Rows.{Placed, CanStore, placed, body_row, extent_row}
 use Rattle.osm_rows.specs.TableRows.{element_rows, tag_rows, link_rows}
 use Rattle.osm_sql_store.specs.Schema.Over.{IsWriting}
 use Rattle.osm_rows.specs.Put.Gains.{Gains, GainsElements, Puts}
-use Rattle.osm_sql_store.specs.Put.Steps.{KeepsOthers, AddsRow, AddsRows, AddsElements, AddsExtent, Writes}
+use Rattle.osm_sql_store.specs.Put.Steps.{KeepsOthers, AddsRow, AddsRows, AddsElements, AddsExtent, Writes, MayPut, KeepsAll}
 use Rattle.osm_sql_store.proofs.PutLemmas.Inserts.{inserts_blob}
 use Rattle.osm_sql_store.proofs.SchemaLemmas.MakeSteps.{becomes}
 use Rattle.osm_sql_store.proofs.PutLemmas.Adds.{blob_values, new_blob, blob_added}
@@ -129,21 +130,18 @@ written layout old mid new extent elements (Ok x) was_open inside first still re
 }
 written layout old mid new extent elements (Err fault) was_open inside first still rest = tt
 
-module _ {S : Type 0} (g : Ghosts S) (old mid end : Held S) (layout : Layout) (extent : Extent) (InRange : Type 0) (elements : List Placed) where
-  abbrev pub MayPut : Trees → Type 0
-  MayPut trees = IsTrue (state g old).is_open × InRange × ((state g old).now.schema ≡ schema_of layout → Puts layout (state g old).now.trees trees extent elements)
-
+module _ {S : Type 0} (g : Ghosts S) (old mid end : Held S) (layout : Layout) (extent : Extent) (elements : List Element) where
   pub put_survives : Survives (state g (record old { in_transaction = true })) (state g mid) (λ _. ⊥)
-      → (HasCleanDisk (state g mid) → Writes layout (state g (record old { in_transaction = true })) (state g mid) extent elements) → InRange
-      → Survives (state g mid) (state g end) (λ db. db ≡ (state g mid).now.trees) → Survives (state g old) (state g end) MayPut
-  put_survives inside written in_range commit =
-      survives_then (state g old) (state g mid) (state g end) _ _ MayPut (λ _ db none. absurd none)
-      (λ clean db is. let it = written (omega (arith, commit.clean)) in (it.was_open, in_range, λ has. subst (λ trees. Puts layout (state g old).now.trees trees extent elements) (sym is) (it.puts has).1))
+      → (HasCleanDisk (state g mid) → Writes layout (state g (record old { in_transaction = true })) (state g mid) extent (placed extent.off 0 elements)) → AllByRecursion (CanStore layout) elements
+      → Survives (state g mid) (state g end) (λ db. db ≡ (state g mid).now.trees) → Survives (state g old) (state g end) (MayPut layout (state g old) extent elements)
+  put_survives inside written can_store commit =
+      survives_then (state g old) (state g mid) (state g end) _ _ (MayPut layout (state g old) extent elements) (λ _ db none. absurd none)
+      (λ clean db is. let it = written (omega (arith, commit.clean)) in (it.was_open, can_store, λ has. subst (λ trees. Puts layout (state g old).now.trees trees extent (placed extent.off 0 elements)) (sym is) (it.puts has).1))
       (survives_begin g old (state g mid) _ inside) commit
 
   pub put_undone : HasCleanDisk (state g end) → IsTrue (state g end).is_open → (IsTrue (state g old).is_open → (state g old).now ≡ (state g old).committed)
       → KeepsCommit (state g (record old { in_transaction = true })) (state g mid) → IsTrue (state g mid).in_transaction → (e : Error) → FailsToCommit (state g mid) (state g end) e
-      → IsTrue (state g old).is_open × ((state g end).now ≡ (state g old).now) × ((state g end).committed ≡ (state g old).committed)
+      → KeepsAll (state g old) (state g end)
   put_undone clean there settled kept inside e (inl failed) =
       let mid_open = failed.3.was_open there in
       let undone = failed.3.undone there in

@@ -1,12 +1,12 @@
 //! Rows of `element`, `tag` and `link`, the layout of tables, several written by one statement.
 
-ghost use Rattle.std.specs.Prelude.{◌≡◌, ℕ, ◌<◌, ◌≤◌, List, map, flat_map, length, OnOk};
+ghost use Rattle.std.specs.Prelude.{◌≡◌, ℕ, ◌<◌, ◌≤◌, map, length, OnOk};
 ghost use Rattle.sqlite.specs.Values.{bound};
 ghost use Rattle.sqlite.specs.State.{HasCleanDisk};
 ghost use Rattle.sqlite.specs.Held.{state};
 ghost use Rattle.osm_sql_store.specs.Inside.{WorksInside};
 ghost use Rattle.osm_sql_store.specs.Schema.Over.{IsWriting};
-ghost use Rattle.osm_sql_store.specs.Put.Steps.{AddsRows};
+ghost use Rattle.osm_sql_store.specs.Put.Steps.{AddsRows, AddsGivenRows};
 ghost use Rattle.osm_sql_store.specs.Put.Batches.{rows_of, statement_of};
 
 use crate::put::statement::execute;
@@ -75,7 +75,7 @@ pub(crate) trait InsertedRow: TableRow {
     ) -> Result<(), StoreFault>
         ensures step { WorksInside S.Store transaction.old.conn result transaction.new.conn }
         ensures added { HasCleanDisk (state S.Store transaction.new.conn.now) → IsWriting Layout.Tables (state S.Store transaction.old.conn.now)
-            → OnOk result ((rows : List Self) → length rows ≡ rows_of batch → bound values.now ≡ flat_map Self.TableRow.columns rows → AddsRows Layout.Tables tree (state S.Store transaction.old.conn.now) (state S.Store transaction.new.conn.now) (map Self.TableRow.columns rows)) };
+            → OnOk result (AddsGivenRows Self.TableRow.columns tree (rows_of batch) (bound values.now) (state S.Store transaction.old.conn.now) (state S.Store transaction.new.conn.now)) };
 }
 
 impl<'a> InsertedRow for ElementRow<'a> {

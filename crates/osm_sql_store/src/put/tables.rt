@@ -1,15 +1,13 @@
 //! A blob's elements in the layout of tables: all their rows are made, and then written.
 
-ghost use Rattle.std.specs.Prelude.{◌≡◌, ◌≤◌, List, map, OnOk};
+ghost use Rattle.std.specs.Prelude.{◌≤◌, OnOk};
 ghost use Rattle.std.specs.List.{AllByRecursion};
 ghost use Rattle.sqlite.specs.State.{HasCleanDisk};
 ghost use Rattle.sqlite.specs.Held.{state};
 ghost use Rattle.osm_sql_store.specs.Inside.{WorksInside};
-ghost use Rattle.osm_rows.specs.Rows.{Placed, placed, CanStore};
-ghost use Rattle.osm_rows.specs.TableRows.{element_rows, tag_rows, link_rows};
-ghost use Rattle.osm_rows.specs.Put.WrittenRows.{element_columns, tag_columns, link_columns};
+ghost use Rattle.osm_rows.specs.Rows.{placed, CanStore};
 ghost use Rattle.osm_sql_store.specs.Schema.Over.{IsWriting};
-ghost use Rattle.osm_sql_store.specs.Put.Steps.{AddsElements};
+ghost use Rattle.osm_sql_store.specs.Put.Steps.{AddsElements, AddsElementsOf};
 
 use crate::put::batch::add_rows;
 use osm_rows::{
@@ -31,8 +29,7 @@ fn write_table_rows<S: Alter>(
 ) -> Result<(), StoreFault>
     ensures step { WorksInside S.Store transaction.old.conn result transaction.new.conn }
     ensures added { HasCleanDisk (state S.Store transaction.new.conn.now) → IsWriting Layout.Tables (state S.Store transaction.old.conn.now)
-        → OnOk result ((placed : List Placed) → map element_columns elements.now ≡ element_rows placed → map tag_columns tags.now ≡ tag_rows placed → map link_columns links.now ≡ link_rows placed
-        → AddsElements Layout.Tables (state S.Store transaction.old.conn.now) (state S.Store transaction.new.conn.now) placed) }
+        → OnOk result (AddsElementsOf elements.now tags.now links.now (state S.Store transaction.old.conn.now) (state S.Store transaction.new.conn.now)) }
 {
     add_rows(alloc, transaction, elements)?;
     add_rows(alloc, transaction, tags)?;

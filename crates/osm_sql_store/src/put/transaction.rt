@@ -6,11 +6,9 @@ ghost use Rattle.sqlite.specs.State.{HasCleanDisk, Survives};
 ghost use Rattle.sqlite.specs.Held.{state};
 ghost use Rattle.osm_sql_store.specs.Inside.{WorksInside};
 ghost use Rattle.osm_rows.specs.Keeping.{IsForeign};
-ghost use Rattle.osm_rows.specs.Schema.Layouts.{schema_of};
 ghost use Rattle.osm_rows.specs.Rows.{placed, extent_row, CanStore};
 ghost use Rattle.osm_sql_store.specs.Schema.Over.{IsWriting};
-ghost use Rattle.osm_sql_store.specs.Put.Steps.{AddsExtent, Writes};
-ghost use Rattle.osm_rows.specs.Put.Gains.{Puts};
+ghost use Rattle.osm_sql_store.specs.Put.Steps.{AddsExtent, Writes, CommitsBlob, KeepsAll, MayPut};
 
 use crate::layout::SqlLayout;
 use crate::put::statement::execute;
@@ -72,17 +70,13 @@ pub(crate) fn put_rows<L: SqlLayout, S: Alter>(
 ) -> Result<(), StoreFault>
     requires autocommit { (state S.Store connection.old).in_transaction ≡ false }
     requires bounds { (extent.now.off ≤ MAX_OFFSET) × (extent.now.fin ≤ MAX_OFFSET) × (extent.now.n < 2 ^ 63) }
-    ensures added { HasCleanDisk (state S.Store connection.new) → (state S.Store connection.old).now.schema ≡ schema_of L.LAYOUT
-        → OnOk result (((state S.Store connection.new).now.schema ≡ schema_of L.LAYOUT) × Puts L.LAYOUT (state S.Store connection.old).now.trees (state S.Store connection.new).now.trees extent.now (placed extent.now.off 0 elements.now)) }
+    ensures committed { HasCleanDisk (state S.Store connection.new)
+        → OnOk result (CommitsBlob L.LAYOUT (state S.Store connection.old) (state S.Store connection.new) extent.now (placed extent.now.off 0 elements.now)) }
     ensures can_store { OnOk result (AllByRecursion (CanStore L.LAYOUT) elements.now) }
-    ensures committed { HasCleanDisk (state S.Store connection.new) → OnOk result (IsTrue (state S.Store connection.old).is_open × IsTrue (state S.Store connection.new).is_open × ((state S.Store connection.new).committed ≡ (state S.Store connection.new).now)) }
     ensures autocommit { (state S.Store connection.new).in_transaction ≡ false }
-    ensures unchanged { HasCleanDisk (state S.Store connection.new) → IsTrue (state S.Store connection.new).is_open
-        → OnErr result (IsTrue (state S.Store connection.old).is_open × ((state S.Store connection.new).now ≡ (state S.Store connection.old).now) × ((state S.Store connection.new).committed ≡ (state S.Store connection.old).committed)) }
+    ensures unchanged { HasCleanDisk (state S.Store connection.new) → IsTrue (state S.Store connection.new).is_open → OnErr result (KeepsAll (state S.Store connection.old) (state S.Store connection.new)) }
     ensures ours { IfErr result (λ fault. ¬ (IsForeign fault)) }
-    ensures crash { Survives (state S.Store connection.old) (state S.Store connection.new) (λ trees. IsTrue (state S.Store connection.old).is_open
-        × AllByRecursion (CanStore L.LAYOUT) elements.now
-        × ((state S.Store connection.old).now.schema ≡ schema_of L.LAYOUT → Puts L.LAYOUT (state S.Store connection.old).now.trees trees extent.now (placed extent.now.off 0 elements.now))) }
+    ensures crash { Survives (state S.Store connection.old) (state S.Store connection.new) (MayPut L.LAYOUT (state S.Store connection.old) extent.now elements.now) }
 {
     let _settled = connection.is_autocommit();
     let mut transaction = connection.transaction();

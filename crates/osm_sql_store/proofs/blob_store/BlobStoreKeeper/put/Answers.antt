@@ -13,7 +13,7 @@ returns g c =
     let says = c.put_rows-answer.ensures in
     let adds = put_adds g.L.StoreLayout.LAYOUT g.S.Store inside new c.args.off blob c.requires.order c.requires.limit wide (λ db there left. g.met.S.Store.settled c.self.inside.connection.store db there left)
     c.put_rows-answer.result
-    (record { added = says.added; can_store = says.can_store; committed = says.committed; unchanged = says.unchanged; ours = says.ours; crash = says.crash })
+    (record { committed = says.committed; can_store = says.can_store; unchanged = says.unchanged; ours = says.ours; crash = says.crash })
     c.failures_after-self-inside.ensures in
     record {
       adds = subst (λ old. AddsBlob g.L.StoreLayout.LAYOUT g.S.Store c.args.off blob old c.put_rows-answer.result new) c.self.view_is adds;
