@@ -1,15 +1,14 @@
 //! The version of a store.
 
-ghost use Rattle.std.specs.Prelude.{◌≡◌, ◌∷◌, [], ℤ, pos, IsTrue, MatchResult, IfOk, IfErr};
+ghost use Rattle.std.specs.Prelude.{◌≡◌, ◌∷◌, [], ℤ, pos, MatchResult, IfOk, IfErr};
 ghost use Rattle.sqlite.specs.declared.types.Value.TheVariants.{Int};
 ghost use Rattle.sqlite.specs.Order.{Row, column};
 ghost use Rattle.sqlite.specs.State.{HasCleanDisk};
 ghost use Rattle.sqlite.specs.Held.{state};
 ghost use Rattle.osm_sql_store.specs.Load.Asking.{JustAsks, NamesVersion};
+ghost use Rattle.osm_sql_store.specs.Load.Telling.{TellsOf};
 ghost use Rattle.osm_rows.specs.Faults.{NamesNoVersion};
 ghost use Rattle.osm_rows.specs.Held.{HeldMap};
-ghost use Rattle.osm_rows.specs.LayoutHolding.{Holds};
-ghost use Rattle.osm_rows.specs.Keeping.{IsForeign};
 ghost use Rattle.osm_rows.specs.Schema.Layouts.{version_of};
 
 use crate::load::ask;
@@ -32,8 +31,7 @@ fn only_version(rows: &[Row]) -> Result<i64, StoreFault>
 
 /// The version that the table `meta` names; `NotThisStore` where there is no such table.
 pub(crate) fn version<S: Alter>(connection: &mut Connection<S>) -> Result<i64, StoreFault>
-    ensures held { HasCleanDisk (state S.Store connection.new) → (layout : Layout) (held : HeldMap) → Holds layout (state S.Store connection.old) held
-        → MatchResult result (λ found. (found ≡ pos (version_of layout)) × IsTrue (state S.Store connection.new).is_open) (λ fault. ¬ (IsForeign fault)) }
+    ensures held { (layout : Layout) (held : HeldMap) → TellsOf layout held (state S.Store connection.old) result (state S.Store connection.new) (λ found. found ≡ pos (version_of layout)) }
     ensures named { HasCleanDisk (state S.Store connection.new) → IfOk result (NamesVersion (state S.Store connection.old) (state S.Store connection.new)) }
     ensures unnamed { IfErr result NamesNoVersion }
     ensures asks { JustAsks (state S.Store connection.old) (state S.Store connection.new) }

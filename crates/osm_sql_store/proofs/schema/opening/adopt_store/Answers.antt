@@ -10,11 +10,11 @@ pub returns-in-Err-clause-other : goal.returns-in-Err-clause-other
 returns-in-Err-clause-other g c found is = absurd (subst NamesNoVersion is c.in-Err.ensures.unnamed)
 
 pub returns-in-Err-clause-held : goal.returns-in-Err-clause-held
-returns-in-Err-clause-held g c held holds clean = c.in-Err.ensures.held clean g.L.StoreLayout.LAYOUT held holds
+returns-in-Err-clause-held g c held holds clean = c.in-Err.ensures.held g.L.StoreLayout.LAYOUT held clean holds
 
 pub returns-then-has_tables-clause-held : goal.returns-then-has_tables-clause-held
 returns-then-has_tables-clause-held g c held holds clean =
-    let told = c.in-Ok.ensures.held clean g.L.StoreLayout.LAYOUT held holds in
+    let told = c.in-Ok.ensures.held g.L.StoreLayout.LAYOUT held clean holds in
     asks_holds g.L.StoreLayout.LAYOUT (state g.S.Store c.args.connection) (state g.S.Store c.version.new.connection) c.version.ensures.asks held holds clean told.1
 
 pub returns-then-has_tables-clause-ours : goal.returns-then-has_tables-clause-ours

@@ -15,11 +15,11 @@ unfolding everything
 ask-requires g c = refl
 
 pub returns-in-Err-clause-held : goal.returns-in-Err-clause-held
-returns-in-Err-clause-held g c clean layout held holds foreign =
+returns-in-Err-clause-held g c layout held clean holds foreign =
     cause_ours c.in-Err.error (version_fails layout (state g.S.Store c.args.connection.now) (state g.S.Store c.ask.new.connection) holds.schema c.in-Err.error (c.in-Err.ensures.cause clean)) (subst IsForeign c.fault_over_unknown.ensures.exact foreign)
 
 pub returns-clause-held : goal.returns-clause-held
-returns-clause-held g c clean layout held holds =
+returns-clause-held g c layout held clean holds =
     let old = state g.S.Store c.args.connection.now in
     let answered = c.in-Ok.ensures.rows clean in
     let read = version_read layout old (state g.S.Store c.ask.new.connection) _ (pos (version_of layout)) (has_version layout old.now held holds.schema holds.tables) answered.shown in
