@@ -1,6 +1,6 @@
 -- Where a database has the rows of each frame, and no others, these are the rows of what an import of the frames comes to.
 use Rattle.std.proofs.Common.{◌≡◌, ℕ, ◌+◌, ◌<◌, ◌≤◌, ◌&&◌, Bool, true, false, T, cond, eqb, List, [], ◌∷◌, map, length, Some, refl, sym, ◌∙◌, ap, ap₂, subst, inl, inr, arith}
-use Rattle.std.specs.Prelude.{◌↔◌}
+use Rattle.std.specs.Prelude.{◌↔◌, IsTrue}
 use Rattle.std.specs.Ordering.{nat_cmp, is_lt}
 use Rattle.std.specs.Cmp.{unsigned_tied}
 use Rattle.std.specs.List.{AllByRecursion}
@@ -21,7 +21,7 @@ use Rattle.osm_import.proofs.FilesLemmas.{entry-same}
 use Rattle.osm_reading.proofs.GoodLaws.{frame-filled}
 use Rattle.osm_verify.specs.declared.comparing.Depth.TheVariants.{Elements}
 use Rattle.osm_verify.specs.Agreements.{IsSame}
-use Rattle.osm_verify.specs.Audits.{AreEntries, IsEntryOf, AuditedShowsImport, KeepsImport}
+use Rattle.osm_verify.specs.Audits.{AreEntries, IsEntryOf, AuditedShowsImport, KeepsImport, TellsFrame}
 use Rattle.osm_verify.proofs.LawLemmas.{exact-is-one}
 
 pub frame-long : (off : ℕ) (frame : List ℕ) (blob : Blob) → IsEntry off frame blob → 4 ≤ length frame
@@ -41,6 +41,13 @@ shown-told P off frame blob elements T entry are told = (
 -- what is so of a frame's entry implies what it implies
 pub entry-weaker : (P Q : Blob → Type 0) (off : ℕ) (frame : List ℕ) (elements : List Element) → ((blob : Blob) → P blob → Q blob) → IsEntryOf P off frame elements → IsEntryOf Q off frame elements
 entry-weaker P Q off frame elements weaker is = record { entry = is.entry; is_entry = is.is_entry; elements_are = is.elements_are; so = weaker is.entry is.so }
+
+-- so it is told whether the rows at the offset are those of the frame
+pub frame-told : (P : Blob → Type 0) (layout : Layout) (db : Trees) (off : ℕ) (frame : List ℕ) (blob : Blob) (elements : List Element) (told : Bool) → ((other : Blob) → P other → ShowsBlob layout db off other)
+    → IsEntry off frame blob → blob.elements ≡ elements → IsTrue told ↔ P blob → TellsFrame P layout db off frame elements told
+frame-told P layout db off frame blob elements told shows entry are is =
+    let whether = shown-told P off frame blob elements (IsTrue told) entry are is in
+    record { whether = whether; shown = λ yes. entry-weaker P (ShowsBlob layout db off) off frame elements shows (whether.0 yes) }
 
 -- what a held map is told to have at a frame's offset
 pub held-told : (held : HeldMap) (off : ℕ) (frame : List ℕ) (blob : Blob) (T : Type 0) → IsEntry off frame blob → T ↔ (get held off ≡ Some blob) → T ↔ IsSame Elements held off frame

@@ -7,9 +7,12 @@ use Rattle.std.specs.FinMap.{get, entries, find, is_sorted, get-entries, entries
 use Rattle.std.proofs.lemmas.List.{take_at, take_all, take_more, length-map}
 use Rattle.osm_value.specs.declared.element.Element.{Element}
 use Rattle.osm_rows.specs.Audit.{elements_held}
+use Rattle.osm_rows.specs.Calls.{OfHeld}
 use Rattle.osm_rows.specs.Held.{Blob, HeldMap}
 use Rattle.osm_rows.specs.Keeping.{extent_of, extents_of}
+use Rattle.osm_rows.specs.declared.audit.counts.Counts.{Counts}
 use Rattle.osm_rows.specs.declared.keeper.Extent.{Extent}
+use Rattle.osm_rows.specs.declared.keeper.Reader.{Ghosts as ReaderOf}
 use Rattle.osm_reading.specs.Bad.{IsBad, IsFinding}
 use Rattle.osm_reading.specs.declared.examination.ExamineFault.{ExamineFault}
 use Rattle.osm_reading.specs.declared.examination.ExamineFault.TheVariants as examined
@@ -30,6 +33,7 @@ use Rattle.osm_verify.specs.declared.comparing.Depth.{Depth}
 use Rattle.osm_verify.specs.declared.comparing.Depth.TheVariants.{Elements}
 use Rattle.osm_verify.specs.InFile.{IsIn}
 use Rattle.osm_verify.specs.Judging.{AreEntriesIn, AreJudged, IsFound, IsJudged, IsNoEntry, IsStray, finding_of}
+use Rattle.osm_verify.specs.Seeing.{SeesExtent, SeesFrame}
 use Rattle.osm_verify.specs.declared.part_audit.Finding.{Finding}
 use Rattle.osm_verify.specs.declared.part_audit.Finding.TheVariants as finding
 use Rattle.osm_verify.proofs.FileRows.{one-blob}
@@ -91,15 +95,14 @@ none-same off Missing is = absurd (cc)
 none-same off Differs is = absurd (cc)
 
 -- what is found of the bytes that were read, with nothing found
-pub read-seen : {E : Type 0} (result : Result (Option Finding) E) (depth : Depth) (known : Known) (extent : Extent) (bytes : List ℕ) (Counted : List Element → Type 0) (Rows : List ℕ → List Element → Type 0) (Holds : HeldMap → Type 0) (is_honest : Type 0)
+pub read-seen : {K E : Type 0} (store : ReaderOf K) (old new : K) (has_tables : Type 0) (has_rows : ℕ → Blob → Type 0) (result : Result (Option Finding) E) (depth : Depth) (rows_old rows_new : Counts) (known : Known) (extent : Extent) (bytes : List ℕ)
     → IsIn known extent.off bytes → extent.fin ≡ extent.off + length bytes
-    → IfOk result (λ found. IsNone found → (elements : List Element) × IsEntryOf (λ entry. Unit {0}) extent.off bytes elements × Counted elements × Rows bytes elements)
-    → ((held : HeldMap) → Holds held → is_honest → IfOk result (IsFound depth held extent.off bytes))
-    → IfOk result (λ found. IsNone found → (elements : List Element) × (frame : List ℕ) × IsIn known extent.off frame × IsEntryOf (λ entry. Unit {0}) extent.off frame elements
-    × Counted elements × ((held : HeldMap) → Holds held → is_honest → IsSame depth held extent.off frame) × Rows frame elements × (extent.fin ≡ extent.off + length frame))
-read-seen (Ok None) depth known extent bytes Counted Rows Holds is_honest within fin seen found = λ none. (let it = seen none in (it.0, bytes, within, it.1, it.2, found, it.3, fin))
-read-seen (Ok (Some finding)) depth known extent bytes Counted Rows Holds is_honest within fin seen found = λ none. absurd (true≢false none)
-read-seen (Err fault) depth known extent bytes Counted Rows Holds is_honest within fin seen found = tt
+    → IfOk result (λ found. IsNone found → SeesFrame store new has_tables has_rows depth rows_old rows_new extent.off bytes)
+    → OfHeld store old new (λ held. IfOk result (IsFound depth held extent.off bytes))
+    → IfOk result (λ found. IsNone found → SeesExtent store old new has_tables has_rows depth rows_old rows_new known extent)
+read-seen store old new has_tables has_rows (Ok None) depth rows_old rows_new known extent bytes within fin seen found = λ none. record { frame = bytes; within = within; ends = fin; seen = seen none; same = found }
+read-seen store old new has_tables has_rows (Ok (Some finding)) depth rows_old rows_new known extent bytes within fin seen found = λ none. absurd (true≢false none)
+read-seen store old new has_tables has_rows (Err fault) depth rows_old rows_new known extent bytes within fin seen found = tt
 
 -- ---- one more
 

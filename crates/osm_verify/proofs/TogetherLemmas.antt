@@ -1,9 +1,13 @@
 -- One store more.
-use Rattle.std.proofs.Common.{◌≡◌, ℕ, zero, suc, ◌+◌, ◌≤◌, Bool, false, List, [], ◌∷◌, ◌++◌, length, take, Some, None, slice_get, Result, Ok, Err, refl, sym, ◌∙◌, ap, subst, arith, append_assoc, append-nil, add-one}
-use Rattle.std.specs.Prelude.{IfErr, IfOk, IfSome}
+use Rattle.std.proofs.Common.{◌≡◌, ℕ, zero, suc, ◌+◌, ◌-◌, ◌^◌, ◌≤◌, Bool, false, cond, List, [], ◌∷◌, ◌++◌, length, take, Some, None, slice_get, Result, Ok, Err, refl, sym, ◌∙◌, ap, subst, inl, inr, arith, append_assoc, append-nil, add-one}
+use Rattle.std.specs.Prelude.{IfErr, IfSome}
+use Rattle.std.proofs.lemmas.Bool.Decides.{eqb_tells}
 use Rattle.osm_rows.specs.Held.{HeldMap, IsApart}
-use Rattle.osm_rows.specs.Keeping.{extents_of}
+use Rattle.osm_rows.specs.Keeping.{extents_of, failures_after}
+use Rattle.osm_rows.specs.declared.fault.StoreFault.{StoreFault}
+use Rattle.osm_rows.specs.declared.fault.StoreFault.TheVariants.{Memory}
 use Rattle.osm_reading.specs.Framings.{Known}
+use Rattle.osm_import.specs.Step.{HasCause}
 use Rattle.osm_parts.specs.Reading.{AreStores, IsReadOf}
 use Rattle.osm_parts.specs.declared.runs.Part.{Part}
 use Rattle.osm_parts.proofs.OpeningLemmas.{cause-closed, cause-later}
@@ -14,7 +18,7 @@ use Rattle.osm_verify.specs.Together.{AreAllJudged, HoldFile, IsClean, IsVerdict
 use Rattle.osm_verify.specs.declared.part_audit.Audit.{Audit}
 use Rattle.osm_verify.specs.declared.together.Verdict.{Verdict}
 use Rattle.osm_verify.proofs.FileFrames.{agreed-hold-file}
-use Rattle.osm_verify.specs.Faults.{AuditHasCause, IsOfParts, IsOwn}
+use Rattle.osm_verify.specs.Faults.{AuditHasCause, IsOfParts, IsOwn, IsOwnFault}
 use Rattle.osm_verify.specs.declared.part_audit.Finding.{Finding}
 use Rattle.osm_verify.specs.declared.fault.AuditFault.{AuditFault}
 use Rattle.osm_verify.specs.declared.fault.AuditFault.TheVariants.{Unread, Parts}
@@ -68,16 +72,24 @@ audit-later old middle new (Parts (Store fault)) le cause = cause-later old midd
 audit-later old middle new (Parts (Interleaved off)) le cause = tt
 audit-later old middle new (Parts (Refused conflict off)) le cause = tt
 
-pub audit-closed : (old lent new first last : ℕ) (result : Result Audit AuditFault) → lent ≡ old → AddsUp lent last new → IfErr result (AuditHasCause first last) → IfErr result (AuditHasCause old new)
-audit-closed old lent new first last (Ok audit) same adds cause = tt
-audit-closed old lent new first last (Err (Unread off)) same adds cause = tt
-audit-closed old lent new first last (Err (Parts (Store fault))) same adds cause = cause-closed old lent new first last fault same adds cause
-audit-closed old lent new first last (Err (Parts (Interleaved off))) same adds cause = tt
-audit-closed old lent new first last (Err (Parts (Refused conflict off))) same adds cause = tt
+-- a call of a store that answers a fault was counted
+pub failed-call : (old new : ℕ) (fault : StoreFault) → new ≡ failures_after {T = Unit {0}} (Err fault) old → HasCause old new fault
+failed-call old new fault counted = elim (eqb_tells old (2 ^ 64 - 1)) [
+  | inl (full, top) ↦ (let same : new ≡ old = counted ∙ ap (λ b. cond b old (old + 1)) full in inr (inr (omega (arith, top, same))))
+  | inr (room, below) ↦ (let more : new ≡ old + 1 = counted ∙ ap (λ b. cond b old (old + 1)) room in inr (inl (omega (arith, more))))
+]
 
-pub if-ok-all : {T E : Type 0} (result : Result T E) (P : Type 0) → P → IfOk result (λ _. P)
-if-ok-all (Ok value) P p = p
-if-ok-all (Err fault) P p = tt
+-- and so is one where memory was refused
+pub memory-own : (old new : ℕ) → IsOwnFault old new (Parts (Store Memory))
+memory-own old new = record { own = λ foreign. foreign; cause = inl refl }
+
+-- the fault of a store that is closed again
+pub audit-closed : (old lent new first last : ℕ) (result : Result Audit AuditFault) → lent ≡ old → AddsUp lent last new → IfErr result (IsOwnFault first last) → IfErr result (IsOwnFault old new)
+audit-closed old lent new first last (Ok audit) same adds failed = tt
+audit-closed old lent new first last (Err (Unread off)) same adds failed = record { own = tt; cause = tt }
+audit-closed old lent new first last (Err (Parts (Store fault))) same adds failed = record { own = failed.own; cause = cause-closed old lent new first last fault same adds failed.cause }
+audit-closed old lent new first last (Err (Parts (Interleaved off))) same adds failed = absurd failed.own
+audit-closed old lent new first last (Err (Parts (Refused conflict off))) same adds failed = absurd failed.own
 
 pub agreed-known : (depth : Depth) (known : Known) (maps : List HeldMap) (verdict : Verdict) → IsVerdict depth known maps verdict → IsClean verdict → IfSome known (λ file. HoldFile depth file maps)
 agreed-known depth None maps verdict is agreed = tt

@@ -1,5 +1,5 @@
 -- What it comes to that a database has the rows of each frame of a file, and no others, whatever else was said of it.
-use Rattle.std.specs.Prelude.{◌≡◌, ℕ, ◌+◌, List, [], ◌∷◌, ◌++◌, length}
+use Rattle.std.specs.Prelude.{◌≡◌, ◌↔◌, ℕ, ◌+◌, Bool, IsTrue, List, [], ◌∷◌, ◌++◌, length}
 pub use Rattle.sqlite.specs.Tree.{Trees}
 use Rattle.std.specs.List.{AllByRecursion}
 use Rattle.std.specs.FinMap.{entries}
@@ -33,6 +33,12 @@ IsShown layout db off frame elements = IsEntryOf (ShowsBlob layout db off) off f
 -- so is each of the frames that stand one behind the other from this offset on
 abbrev pub AreShown : Layout → Trees → ℕ → List (List ℕ) → List (List Element) → Type 0
 AreShown layout db start frames blobs = AreEntries (ShowsBlob layout db) start frames blobs
+
+-- It is told whether this is so of the blob of the good frame at this offset, which has these elements. If it is, the rows at the
+-- offset are those of that blob.
+pub record TellsFrame (P : Blob → Type 0) (layout : Layout) (db : Trees) (off : ℕ) (frame : List ℕ) (elements : List Element) (told : Bool) : Type 0 where
+  pub whether : IsTrue told ↔ IsEntryOf P off frame elements
+  pub shown : IsTrue told → IsShown layout db off frame elements
 
 -- the rows at the offset of each frame are those of its blob, and the tables have no more rows than these
 pub record IsAudited (layout : Layout) (db : Trees) (frames : List (List ℕ)) : Type 0 where

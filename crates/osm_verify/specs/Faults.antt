@@ -23,3 +23,8 @@ IsOfParts maps (Parts fault) = IsOfMaps maps fault
 abbrev pub AuditHasCause : ℕ → ℕ → AuditFault → Type 0
 AuditHasCause before now (Unread off) = Unit {0}
 AuditHasCause before now (Parts fault) = PartsFaultHasCause before now fault
+
+-- one store alone that holds a map may answer the fault, which has a cause
+pub record IsOwnFault (before now : ℕ) (fault : AuditFault) : Type 0 where
+  pub own : IsOwn fault
+  pub cause : AuditHasCause before now fault

@@ -4,8 +4,8 @@ use Rattle.std.specs.List.{cons_option}
 use Rattle.sqlite.specs.Tree.{Trees}
 use Rattle.osm_value.specs.declared.element.Element.{Element}
 use Rattle.osm_rows.specs.Audit.{AreCountable, ShowsCounts, counts_of}
-use Rattle.osm_rows.specs.Held.{Blob, HeldMap}
-use Rattle.osm_rows.specs.Keeping.{AscendApart}
+use Rattle.osm_rows.specs.Held.{Blob, HeldMap, IsApart}
+use Rattle.osm_rows.specs.Keeping.{AscendApart, extents_of}
 use Rattle.osm_rows.specs.declared.keeper.Extent.{Extent}
 use Rattle.osm_rows.specs.declared.schema.layout.Layout.{Layout}
 use Rattle.osm_reading.specs.Framings.{Known}
@@ -17,6 +17,7 @@ use Rattle.osm_verify.specs.declared.comparing.Agreement.{Agreement}
 use Rattle.osm_verify.specs.declared.comparing.Agreement.TheVariants.{Same, Missing}
 use Rattle.osm_verify.specs.declared.comparing.Agreement.TheVariants as agreement
 use Rattle.osm_verify.specs.InFile.{IsIn, StandsIn}
+use Rattle.osm_verify.specs.declared.part_audit.Audit.{Audit}
 use Rattle.osm_verify.specs.declared.part_audit.Finding.{Finding}
 use Rattle.osm_verify.specs.declared.part_audit.Finding.TheVariants.{Differs, Extra}
 
@@ -59,6 +60,12 @@ abbrev pub AreJudged : Depth → HeldMap → Known → List Extent → List Find
 AreJudged depth held known [] findings = findings ≡ []
 AreJudged depth held known (extent ∷ extents) findings =
     (found : Option Finding) × (rest : List Finding) × IsJudged depth held known extent found × AreJudged depth held known extents rest × (findings ≡ cons_option found rest)
+
+-- The map's blobs stand apart, these are its extents, and this is found at them.
+pub record IsAuditOf (depth : Depth) (held : HeldMap) (known : Known) (audit : Audit) : Type 0 where
+  pub apart : IsApart held
+  pub extents : audit.extents.items ≡ extents_of held
+  pub found : AreJudged depth held known (extents_of held) audit.findings.items
 
 -- ---- whatever rows the tables have
 

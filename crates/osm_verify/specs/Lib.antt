@@ -3,6 +3,8 @@ pub mod Laws
 pub mod Audits
 pub mod InFile
 pub mod Judging
+pub mod Calls
+pub mod Seeing
 pub mod Faults
 pub mod Together
 pub mod Showing

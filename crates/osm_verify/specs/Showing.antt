@@ -1,9 +1,15 @@
 -- Stores whose tables have the rows of a file's frames among them, whatever rows these were.
 use Rattle.std.specs.Prelude.{◌≡◌, ◌⊎◌, ℕ, ◌+◌, false, All, List, [], ◌∷◌, length}
+use Rattle.sqlite.specs.Tree.{Trees}
+use Rattle.osm_rows.specs.Held.{Blob}
 use Rattle.osm_rows.specs.Keeping.{IsRange}
 use Rattle.osm_rows.specs.declared.keeper.Extent.{Extent}
+use Rattle.osm_rows.specs.declared.keeper.Reader.{Ghosts as ReaderOf}
+use Rattle.osm_rows.specs.declared.schema.layout.Layout.{Layout}
+use Rattle.osm_reading.specs.Framings.{Known}
 use Rattle.osm_import.specs.Files.{IsFile, IsFrameAt}
 use Rattle.osm_parts.specs.declared.runs.Part.{Part}
+use Rattle.osm_verify.specs.Judging.{ShowsPart}
 
 -- the extent is one of these
 abbrev pub IsAmong : Extent → List Extent → Type 0
@@ -14,6 +20,18 @@ IsAmong extent (first ∷ extents) = (first ≡ extent) ⊎ IsAmong extent exten
 abbrev pub IsOfOne : Extent → List (List Extent) → Type 0
 IsOfOne extent [] = ⊥
 IsOfOne extent (own ∷ others) = IsAmong extent own ⊎ IsOfOne extent others
+
+-- each store that lies there has the tables of a store, if it has given what was written
+abbrev pub HasTablesThere : {K : Type 0} → ReaderOf K → (K → Type 0) → (K → Type 0) → Type 0
+HasTablesThere {K} reader has_tables lies = (store : K) → lies store → reader.is_honest store → has_tables store
+
+-- so has each store that lies at any place
+abbrev pub HaveTables : {K : Type 0} → ReaderOf K → (K → Type 0) → (ℕ → K → Type 0) → Type 0
+HaveTables reader has_tables lies = (place : ℕ) → HasTablesThere reader has_tables (lies place)
+
+-- the rows of a store are those of the good frames of the file that these extents name, and no others, as `ShowsPart` says it
+abbrev pub ShowsExtents : {K : Type 0} → (Trees → ℕ → Blob → Type 0) → Layout → (K → Trees) → Known → K → List Extent → Type 0
+ShowsExtents has_rows layout trees known store extents = ShowsPart (has_rows (trees store)) layout (trees store) known extents
 
 -- a store that lies there shows these extents
 pub record IsShownAt {K : Type 0} (lies : K → Type 0) (shows : K → List Extent → Type 0) (extents : List Extent) : Type 0 where

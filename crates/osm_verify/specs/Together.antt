@@ -1,11 +1,12 @@
 -- Stores that together hold a file.
-use Rattle.std.specs.Prelude.{◌≡◌, ℕ, ◌<◌, List, [], ◌∷◌, ◌++◌, length, Some, IfSome}
+use Rattle.std.specs.Prelude.{◌≡◌, ℕ, ◌<◌, false, List, [], ◌∷◌, ◌++◌, length, Some, IfSome}
 use Rattle.std.specs.FinMap.{get}
 use Rattle.osm_rows.specs.Held.{Blob, HeldMap, IsApart}
 use Rattle.osm_rows.specs.Keeping.{extents_of}
 use Rattle.osm_reading.specs.Framings.{Known}
 use Rattle.osm_import.specs.Files.{IsFile, IsFrameAt}
 use Rattle.osm_import.specs.Gaps.{AreGaps}
+use Rattle.osm_parts.specs.Reading.{AreStores}
 use Rattle.osm_parts.specs.Unions.{IsUnionOf}
 use Rattle.osm_verify.specs.Agreements.{IsSame}
 use Rattle.osm_verify.specs.Laws.{IsExact}
@@ -13,6 +14,7 @@ use Rattle.osm_verify.specs.declared.comparing.Depth.{Depth}
 use Rattle.osm_verify.specs.InFile.{StandsIn}
 use Rattle.osm_verify.specs.Judging.{AreJudged}
 use Rattle.osm_verify.specs.declared.part_audit.Finding.{Finding}
+use Rattle.osm_verify.specs.declared.together.Gathered.{Gathered}
 use Rattle.osm_verify.specs.declared.together.Verdict.{Verdict}
 
 -- what is found at the blobs of each store, one store after the other
@@ -20,6 +22,11 @@ abbrev pub AreAllJudged : Depth → Known → List HeldMap → List Finding → 
 AreAllJudged depth known [] findings = findings ≡ []
 AreAllJudged depth known (held ∷ maps) findings =
     (own : List Finding) × (rest : List Finding) × AreJudged depth held known (extents_of held) own × AreAllJudged depth known maps rest × (findings ≡ own ++ rest)
+
+-- These are the stores of the maps, by their places, and what is found at their blobs.
+pub record AreAllAudited (depth : Depth) (known : Known) (maps : List HeldMap) (gathered : Gathered) : Type 0 where
+  pub read : AreStores false 0 maps gathered.stores.items
+  pub found : AreAllJudged depth known maps gathered.findings.items
 
 -- Of a union of what the stores hold how many blobs it has, and of a file of that size which ranges none of them covers.
 pub record Covers (known : Known) (maps : List HeldMap) (verdict : Verdict) : Type 0 where

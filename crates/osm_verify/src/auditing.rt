@@ -8,7 +8,7 @@ ghost use Rattle.osm_reading.specs.Good.{IsGood};
 ghost use Rattle.osm_import.specs.Step.{HasCause};
 ghost use Rattle.osm_import.specs.Stores.{Rereads};
 ghost use Rattle.osm_verify.specs.Agreements.{IsSame};
-ghost use Rattle.osm_verify.specs.Audits.{IsEntryOf, IsShown};
+ghost use Rattle.osm_verify.specs.Audits.{TellsFrame};
 ghost use Rattle.osm_verify.specs.declared.comparing.Depth.TheVariants.{Elements};
 
 use osm_import::Good;
@@ -32,11 +32,9 @@ pub fn has_frame<K: Audited>(
     good: &Good<'_>,
 ) -> Result<bool, StoreFault>
     requires { IsGood off bytes.now good.now.kind good.now.elements.items }
+    // and if they are, queries see them
     ensures told { K.is_honest store.new → K.has_tables store.old
-        → IfOk result (λ told. IsTrue told ↔ IsEntryOf (K.has_rows (K.trees store.old) off) off bytes.now good.now.elements.items) }
-    // and so queries see them
-    ensures shown { K.is_honest store.new → K.has_tables store.old
-        → IfOk result (λ told. IsTrue told → IsShown K.layout (K.trees store.old) off bytes.now good.now.elements.items) }
+        → IfOk result (TellsFrame (K.has_rows (K.trees store.old) off) K.layout (K.trees store.old) off bytes.now good.now.elements.items) }
     // over a held map, it is whether the map has the frame's blob there
     ensures held { OfHeld K.Reader store.old store.new (λ held. IfOk result (λ told. IsTrue told ↔ IsSame Elements held off bytes.now)) }
     ensures same { KeepsTables K.Reader store.old store.new }

@@ -1,17 +1,16 @@
 //! One store and a file of whose blobs it ought to hold some.
 
-ghost use Rattle.std.specs.Prelude.{◌≡◌, ◌+◌, ◌++◌, ◌≤◌, ℕ, [], All, List, length, IfOk, IfErr, IfSome, IsNone, OnOk};
+ghost use Rattle.std.specs.Prelude.{◌≡◌, ◌+◌, ◌++◌, ◌≤◌, ℕ, [], All, length, IfOk, IfErr, IfSome, IsNone, OnOk};
 ghost use Rattle.std.specs.List.{cons_option};
-ghost use Rattle.osm_value.specs.declared.element.Element.{Element as ElementValue};
 ghost use Rattle.osm_rows.specs.Audit.{AreCountable, ShowsCounts, counts_of, elements_held};
 ghost use Rattle.osm_rows.specs.Calls.{KeepsTables, OfHeld};
-ghost use Rattle.osm_rows.specs.Keeping.{IsRange, extents_of};
+ghost use Rattle.osm_rows.specs.Keeping.{IsRange};
 ghost use Rattle.osm_import.specs.Stores.{Rereads};
-ghost use Rattle.osm_verify.specs.Agreements.{IsSame};
-ghost use Rattle.osm_verify.specs.Audits.{CountsMore, IsEntryOf};
-ghost use Rattle.osm_verify.specs.Faults.{AuditHasCause, IsOwn};
+ghost use Rattle.osm_verify.specs.Calls.{RereadsTables};
+ghost use Rattle.osm_verify.specs.Faults.{AuditHasCause, IsOwn, IsOwnFault};
 ghost use Rattle.osm_verify.specs.InFile.{IsIn};
-ghost use Rattle.osm_verify.specs.Judging.{AreEntriesIn, AreJudged, IsFound, IsJudged, IsStray, ShowsPart, finding_of};
+ghost use Rattle.osm_verify.specs.Judging.{AreJudged, IsAuditOf, IsFound, IsJudged, IsStray, ShowsPart, finding_of};
+ghost use Rattle.osm_verify.specs.Seeing.{SeesExtent, SeesExtents, SeesFrame};
 
 use crate::fault::AuditFault;
 use crate::file_bytes::FileBytes;
@@ -87,13 +86,11 @@ fn judge<K: Audited>(
     rows: &mut Counts,
 ) -> Result<Option<Finding>, AuditFault>
     ensures found { OfHeld K.Reader store.old store.new (λ held. IfOk result (IsFound depth held off bytes.now)) }
-    ensures seen { IfOk result (λ found. IsNone found → (elements : List ElementValue) × IsEntryOf (λ entry. Unit {0}) off bytes.now elements × CountsMore rows.old elements rows.new
-        × (K.is_honest store.new → K.is_open store.new → K.has_tables store.old → depth ≡ Depth.Elements → IsEntryOf (K.has_rows (K.trees store.old) off) off bytes.now elements)) }
-    ensures same { KeepsTables K.Reader store.old store.new }
-    ensures rereads { Rereads K.Reader store.old result store.new }
+    ensures seen { IfOk result (λ found. IsNone found
+        → SeesFrame K.Reader store.new (K.has_tables store.old) (K.has_rows (K.trees store.old)) depth rows.old rows.new off bytes.now) }
+    ensures reads { RereadsTables K.Reader store.old result store.new }
     ensures own { OfHeld K.Reader store.old store.new (λ _. IfErr result IsOwn) }
     ensures cause { IfErr result (AuditHasCause (K.failures store.old) (K.failures store.new)) }
-    ensures counted { K.failures store.old ≤ K.failures store.new }
 {
     match examine(alloc, off, bytes) {
         Ok(good) => {
@@ -117,16 +114,11 @@ fn audit_extent<K: Audited, F: FileBytes>(
 ) -> Result<Option<Finding>, AuditFault>
     requires { IsRange extent.now }
     ensures found { OfHeld K.Reader store.old store.new (λ held. IfOk result (IsJudged depth held (F.bytes file.old) extent.now)) }
-    ensures seen { IfOk result (λ found. IsNone found → (elements : List ElementValue) × (frame : List ℕ) × IsIn (F.bytes file.old) extent.now.off frame × IsEntryOf (λ entry. Unit {0}) extent.now.off frame elements
-        × CountsMore rows.old elements rows.new
-        × (OfHeld K.Reader store.old store.new (λ held. IsSame depth held extent.now.off frame))
-        × (K.is_honest store.new → K.is_open store.new → K.has_tables store.old → depth ≡ Depth.Elements → IsEntryOf (K.has_rows (K.trees store.old) extent.now.off) extent.now.off frame elements)
-        × (extent.now.fin ≡ extent.now.off + length frame)) }
-    ensures same { KeepsTables K.Reader store.old store.new }
-    ensures rereads { Rereads K.Reader store.old result store.new }
+    ensures seen { IfOk result (λ found. IsNone found
+        → SeesExtent K.Reader store.old store.new (K.has_tables store.old) (K.has_rows (K.trees store.old)) depth rows.old rows.new (F.bytes file.old) extent.now) }
+    ensures reads { RereadsTables K.Reader store.old result store.new }
     ensures own { OfHeld K.Reader store.old store.new (λ _. IfErr result IsOwn) }
     ensures cause { IfErr result (AuditHasCause (K.failures store.old) (K.failures store.new)) }
-    ensures counted { K.failures store.old ≤ K.failures store.new }
     ensures kept { F.bytes file.new ≡ F.bytes file.old }
 {
     match read_blob(alloc, file, extent)? {
@@ -157,15 +149,11 @@ fn audit_extents<K: Audited, F: FileBytes>(
     requires ranges { All IsRange extents.now }
     requires none { rows.old ≡ counts_of [] }
     ensures found { OfHeld K.Reader store.old store.new (λ held. IfOk result (λ findings. AreJudged depth held (F.bytes file.old) extents.now findings.items)) }
-    ensures held_rows { OfHeld K.Reader store.old store.new (λ held. extents.now ≡ extents_of held → depth ≡ Depth.Elements
-        → IfOk result (λ findings. findings.items ≡ [] → rows.new ≡ counts_of (elements_held held))) }
-    ensures seen { IfOk result (λ findings. findings.items ≡ [] → (blobs : List (List ElementValue)) × (rows.new ≡ counts_of blobs) × AreEntriesIn (λ off blob. Unit {0}) (F.bytes file.old) extents.now blobs
-        × (K.is_honest store.new → K.is_open store.new → K.has_tables store.old → depth ≡ Depth.Elements → AreEntriesIn (K.has_rows (K.trees store.old)) (F.bytes file.old) extents.now blobs)) }
-    ensures same { KeepsTables K.Reader store.old store.new }
-    ensures rereads { Rereads K.Reader store.old result store.new }
+    ensures seen { IfOk result (λ findings. findings.items ≡ []
+        → SeesExtents K.Reader store.old store.new (K.has_tables store.old) (K.has_rows (K.trees store.old)) depth rows.new (F.bytes file.old) extents.now) }
+    ensures reads { RereadsTables K.Reader store.old result store.new }
     ensures own { OfHeld K.Reader store.old store.new (λ _. IfErr result IsOwn) }
     ensures cause { IfErr result (AuditHasCause (K.failures store.old) (K.failures store.new)) }
-    ensures counted { K.failures store.old ≤ K.failures store.new }
     ensures kept { F.bytes file.new ≡ F.bytes file.old }
 {
     let mut findings = Vec::new(alloc);
@@ -214,16 +202,14 @@ pub fn audit_part<K: Audited, F: FileBytes>(
     file: &mut F,
     depth: Depth,
 ) -> Result<Audit, AuditFault>
-    ensures extents { OfHeld K.Reader store.old store.new (λ held. IfOk result (λ audit. audit.extents.items ≡ extents_of held)) }
+    ensures audited { OfHeld K.Reader store.old store.new (λ held. IfOk result (IsAuditOf depth held (F.bytes file.old))) }
     ensures ranges { IfOk result (λ audit. All IsRange audit.extents.items) }
-    ensures found { OfHeld K.Reader store.old store.new (λ held. IfOk result (λ audit. AreJudged depth held (F.bytes file.old) (extents_of held) audit.findings.items)) }
     // Whatever rows the tables have had: where by elements nothing was found, they have the rows of the file's blobs at these
     // extents, and no others. That leaves out more rows than SQL can count.
     ensures shown { K.is_honest store.new → K.has_tables store.old → depth ≡ Depth.Elements
         → IfOk result (λ audit. audit.findings.items ≡ [] → ShowsPart (K.has_rows (K.trees store.old)) K.layout (K.trees store.old) (F.bytes file.old) audit.extents.items) }
     ensures rereads { Rereads K.Reader store.old result store.new }
-    ensures own { OfHeld K.Reader store.old store.new (λ _. IfErr result IsOwn) }
-    ensures cause { OfHeld K.Reader store.old store.new (λ _. IfErr result (AuditHasCause (K.failures store.old) (K.failures store.new))) }
+    ensures fault { OfHeld K.Reader store.old store.new (λ _. IfErr result (IsOwnFault (K.failures store.old) (K.failures store.new))) }
     ensures counted { K.failures store.old ≤ K.failures store.new }
     ensures kept { F.bytes file.new ≡ F.bytes file.old }
 {

@@ -1,16 +1,17 @@
 //! Several stores and the file of which they ought to hold all.
 
 ghost use Rattle.std.specs.Prelude.{◌≡◌, ◌↔◌, ◌≤◌, [], ℕ, Some, IsTrue, false, All, List, length, slice_get, IfOk, IfErr, IfSome};
-ghost use Rattle.osm_rows.specs.Held.{HeldMap, IsApart};
-ghost use Rattle.osm_rows.specs.Keeping.{IsRange, extents_of};
+ghost use Rattle.osm_rows.specs.Held.{HeldMap};
+ghost use Rattle.osm_rows.specs.Keeping.{IsRange};
 ghost use Rattle.osm_reading.specs.Framings.{Known};
 ghost use Rattle.osm_parts.specs.Opening.{OnlyOpens};
-ghost use Rattle.osm_parts.specs.Reading.{AreRead, AreStores};
+ghost use Rattle.osm_parts.specs.Reading.{AreRead};
 ghost use Rattle.osm_verify.specs.declared.comparing.Depth.{Depth as DepthValue};
-ghost use Rattle.osm_verify.specs.Faults.{AuditHasCause, IsOfParts, IsOwn};
-ghost use Rattle.osm_verify.specs.Judging.{AreJudged, ShowsPart};
-ghost use Rattle.osm_verify.specs.Showing.{AreShownParts, IsShownAt, ShowTogether};
-ghost use Rattle.osm_verify.specs.Together.{AreAllJudged, Covers, HoldFile, IsClean, IsVerdict};
+ghost use Rattle.osm_verify.specs.Calls.{OfMaps};
+ghost use Rattle.osm_verify.specs.Faults.{AuditHasCause, IsOfParts, IsOwnFault};
+ghost use Rattle.osm_verify.specs.Judging.{IsAuditOf};
+ghost use Rattle.osm_verify.specs.Showing.{AreShownParts, HasTablesThere, HaveTables, IsShownAt, ShowTogether, ShowsExtents};
+ghost use Rattle.osm_verify.specs.Together.{AreAllAudited, AreAllJudged, Covers, HoldFile, IsClean, IsVerdict};
 
 use crate::Depth;
 use crate::fault::AuditFault;
@@ -69,17 +70,14 @@ fn audit_at<K: Audited + Drop, O: Openings<K>, F: FileBytes>(
     place: u64,
     depth: Depth,
 ) -> Result<Audit, AuditFault>
-    ensures extents { (maps : List HeldMap) (held : HeldMap) → O.holds openings.old maps → O.is_honest openings.new → slice_get maps place ≡ Some held → IfOk result (λ audit. audit.extents.items ≡ extents_of held) }
-    ensures found { (maps : List HeldMap) (held : HeldMap) → O.holds openings.old maps → O.is_honest openings.new → slice_get maps place ≡ Some held
-        → IfOk result (λ audit. AreJudged depth held (F.bytes file.old) (extents_of held) audit.findings.items) }
-    ensures apart { (maps : List HeldMap) (held : HeldMap) → O.holds openings.old maps → O.is_honest openings.new → slice_get maps place ≡ Some held → IfOk result (λ _. IsApart held) }
+    ensures audited { OfMaps O.holds O.is_honest openings.old openings.new (λ maps. (held : HeldMap) → slice_get maps place ≡ Some held
+        → IfOk result (IsAuditOf depth held (F.bytes file.old))) }
     ensures ranges { IfOk result (λ audit. All IsRange audit.extents.items) }
-    ensures shown { O.is_honest openings.new → depth ≡ Depth.Elements → ((store : K) → O.lies openings.old place store → K.is_honest store → K.has_tables store)
-        → IfOk result (λ audit. audit.findings.items ≡ [] → IsShownAt (O.lies openings.old place) (λ store extents. ShowsPart (K.has_rows (K.trees store)) K.layout (K.trees store) (F.bytes file.old) extents) audit.extents.items) }
+    ensures shown { O.is_honest openings.new → depth ≡ Depth.Elements → HasTablesThere K.Reader K.has_tables (O.lies openings.old place)
+        → IfOk result (λ audit. audit.findings.items ≡ [] → IsShownAt (O.lies openings.old place) (ShowsExtents K.has_rows K.layout K.trees (F.bytes file.old)) audit.extents.items) }
     ensures still { (at : ℕ) (store : K) → O.lies openings.new at store → O.lies openings.old at store }
-    ensures own { (maps : List HeldMap) → O.holds openings.old maps → O.is_honest openings.new → IfErr result IsOwn }
+    ensures fault { OfMaps O.holds O.is_honest openings.old openings.new (λ _. IfErr result (IsOwnFault (O.failures openings.old) (O.failures openings.new))) }
     ensures opens { OnlyOpens O.holds O.is_honest O.is_open openings.old result openings.new }
-    ensures cause { (maps : List HeldMap) → O.holds openings.old maps → O.is_honest openings.new → IfErr result (AuditHasCause (O.failures openings.old) (O.failures openings.new)) }
     ensures counted { O.failures openings.old ≤ O.failures openings.new }
     ensures kept { F.bytes file.new ≡ F.bytes file.old }
 {
@@ -97,14 +95,12 @@ fn gather<K: Audited + Drop, O: Openings<K>, F: FileBytes>(
     file: &mut F,
     depth: Depth,
 ) -> Result<Gathered, AuditFault>
-    ensures read { (maps : List HeldMap) → O.holds openings.old maps → O.is_honest openings.new → length maps ≡ count → IfOk result (λ all. AreStores false 0 maps all.stores.items) }
-    ensures found { (maps : List HeldMap) → O.holds openings.old maps → O.is_honest openings.new → length maps ≡ count → IfOk result (λ all. AreAllJudged depth (F.bytes file.old) maps all.findings.items) }
+    ensures audited { OfMaps O.holds O.is_honest openings.old openings.new (λ maps. length maps ≡ count → IfOk result (AreAllAudited depth (F.bytes file.old) maps)) }
     ensures many { IfOk result (λ all. length all.stores.items ≡ count) }
-    ensures shown { O.is_honest openings.new → depth ≡ Depth.Elements → ((place : ℕ) (store : K) → O.lies openings.old place store → K.is_honest store → K.has_tables store)
-        → IfOk result (λ all. all.findings.items ≡ [] → AreShownParts (O.lies openings.old) (λ store extents. ShowsPart (K.has_rows (K.trees store)) K.layout (K.trees store) (F.bytes file.old) extents) 0 all.stores.items) }
-    ensures own { (maps : List HeldMap) → O.holds openings.old maps → O.is_honest openings.new → IfErr result IsOwn }
+    ensures shown { O.is_honest openings.new → depth ≡ Depth.Elements → HaveTables K.Reader K.has_tables (O.lies openings.old)
+        → IfOk result (λ all. all.findings.items ≡ [] → AreShownParts (O.lies openings.old) (ShowsExtents K.has_rows K.layout K.trees (F.bytes file.old)) 0 all.stores.items) }
+    ensures fault { OfMaps O.holds O.is_honest openings.old openings.new (λ _. IfErr result (IsOwnFault (O.failures openings.old) (O.failures openings.new))) }
     ensures opens { OnlyOpens O.holds O.is_honest O.is_open openings.old result openings.new }
-    ensures cause { (maps : List HeldMap) → O.holds openings.old maps → O.is_honest openings.new → IfErr result (AuditHasCause (O.failures openings.old) (O.failures openings.new)) }
     ensures counted { O.failures openings.old ≤ O.failures openings.new }
     ensures kept { F.bytes file.new ≡ F.bytes file.old }
 {
@@ -165,8 +161,8 @@ pub fn audit_parts<K: Audited + Drop, O: Openings<K>, F: FileBytes>(
         → IfOk result (λ verdict. IsClean verdict → IfSome (F.bytes file.old) (λ bytes. HoldFile depth bytes maps)) }
     // Whatever rows the tables have had: where by elements it agrees, the rows of each store are those of the frames of the file
     // that its extents name, and no others, and each frame of the file is named. That leaves out more rows than SQL can count.
-    ensures shown { O.is_honest openings.new → depth ≡ Depth.Elements → ((place : ℕ) (store : K) → O.lies openings.old place store → K.is_honest store → K.has_tables store)
-        → IfOk result (λ verdict. IsClean verdict → IfSome (F.bytes file.old) (λ bytes. ShowTogether (O.lies openings.old) (λ store extents. ShowsPart (K.has_rows (K.trees store)) K.layout (K.trees store) (Some bytes) extents) count bytes)) }
+    ensures shown { O.is_honest openings.new → depth ≡ Depth.Elements → HaveTables K.Reader K.has_tables (O.lies openings.old)
+        → IfOk result (λ verdict. IsClean verdict → IfSome (F.bytes file.old) (λ bytes. ShowTogether (O.lies openings.old) (ShowsExtents K.has_rows K.layout K.trees (Some bytes)) count bytes)) }
     ensures fault { (maps : List HeldMap) → O.holds openings.old maps → O.is_honest openings.new → length maps ≡ count → IfErr result (IsOfParts maps) }
     ensures opens { OnlyOpens O.holds O.is_honest O.is_open openings.old result openings.new }
     ensures cause { (maps : List HeldMap) → O.holds openings.old maps → O.is_honest openings.new → IfErr result (AuditHasCause (O.failures openings.old) (O.failures openings.new)) }

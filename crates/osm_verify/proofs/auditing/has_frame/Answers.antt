@@ -3,12 +3,11 @@ use Rattle.std.specs.List.{AllByRecursion}
 use Rattle.std.proofs.lemmas.Result.{IfOk-weaker}
 use Rattle.osm_value.specs.declared.element.Element.{Element}
 use Rattle.osm_value.specs.Elements.{IsElement}
-use Rattle.osm_rows.specs.Audit.{ShowsBlob}
 use Rattle.osm_rows.specs.Held.{Blob}
 use Rattle.osm_reading.specs.Good.{IsGood}
 use Rattle.osm_import.specs.Step.{IsEntry}
 use Rattle.osm_import.proofs.Delivering.{few-texts}
-use Rattle.osm_verify.proofs.AuditLemmas.{entry-weaker, held-told, plain-each, shown-told}
+use Rattle.osm_verify.proofs.AuditLemmas.{frame-told, held-told, plain-each}
 use Rattle.osm_verify.proofs.auditing.has_frame.Goals as goal
 
 pub returns-clause-told : goal.returns-clause-told
@@ -18,16 +17,10 @@ returns-clause-told g c honest tables =
     let blob : Blob = record { fin = off + length bytes; digest = c.digest-digest.result; kind = c.args.good.now.kind; elements = c.deref-2.result.now } in
     let good : IsGood off bytes c.args.good.now.kind c.deref-2.result.now = subst (λ (es : List Element). IsGood off bytes c.args.good.now.kind es) (sym c.deref-2.ensures.value) c.requires in
     let entry : IsEntry off bytes blob = record { good = good; ends = refl; digested = c.digest-digest.ensures } in
-    IfOk-weaker c.has_blob.result _ _ (λ b told. shown-told (g.K.Audited.has_rows (g.K.Audited.trees c.args.store.now) off) off bytes blob c.args.good.now.elements.items (IsTrue b) entry c.deref-2.ensures.value told) (c.has_blob.ensures.told honest tables)
-
-pub returns-clause-shown : goal.returns-clause-shown
-returns-clause-shown g c honest tables =
     let A = g.K.Audited in
-    let off = c.args.off in
-    let elements = c.args.good.now.elements.items in
+    let db = A.trees c.args.store.now in
     IfOk-weaker c.has_blob.result _ _
-    (λ b told yes. entry-weaker (A.has_rows (A.trees c.args.store.now) off) (ShowsBlob A.layout (A.trees c.args.store.now) off) off c.args.bytes.now elements (λ blob has. g.met.K.Audited.shown (A.trees c.args.store.now) off blob has) (told.0 yes))
-    (returns-clause-told g c honest tables)
+    (λ b told. frame-told (A.has_rows db off) A.layout db off bytes blob c.args.good.now.elements.items b (λ other has. g.met.K.Audited.shown db off other has) entry c.deref-2.ensures.value told) (c.has_blob.ensures.told honest tables)
 
 pub returns-clause-held : goal.returns-clause-held
 returns-clause-held g c held holds honest =

@@ -67,7 +67,7 @@ returns-then-branch-clause-rows g c = λ honest up tables deep same.
     let K = g.K.Audited in
     let asked = c.in_ok-has_frame.ensures in
     let first = c.in_ok-touched.ensures.reads.same (asked.rereads.stays.honest honest) (asked.rereads.stays.open_if up) in
-    subst (λ (db : Trees). IsEntryOf (K.has_rows db c.args.off) c.args.off c.args.bytes.now c.args.good.now.elements.items) (g.met.K.Audited.same_trees _ _ first) ((asked.told honest (g.met.K.Audited.same_has_tables _ _ first tables)).0 c.if-branch.true)
+    subst (λ (db : Trees). IsEntryOf (K.has_rows db c.args.off) c.args.off c.args.bytes.now c.args.good.now.elements.items) (g.met.K.Audited.same_trees _ _ first) ((asked.told honest (g.met.K.Audited.same_has_tables _ _ first tables)).whether.0 c.if-branch.true)
 
 pub returns-clause-rows : goal.returns-clause-rows
 returns-clause-rows g c = λ honest up tables deep same. absurd (cc)

@@ -3,9 +3,6 @@ use Rattle.std.proofs.lemmas.Result.{IfOk-weaker}
 use Rattle.osm_parts.proofs.OpeningLemmas.{if-err}
 use Rattle.osm_verify.specs.Faults.{AuditHasCause}
 use Rattle.osm_verify.specs.InFile.{IsIn}
-use Rattle.osm_value.specs.declared.element.Element.{Element}
-use Rattle.osm_verify.specs.Audits.{CountsMore, IsEntryOf}
-use Rattle.osm_verify.specs.declared.comparing.Depth.TheVariants.{Elements}
 use Rattle.osm_verify.proofs.JudgingLemmas.{found-judged, read-seen}
 use Rattle.osm_verify.proofs.part_audit.audit_extent.Goals as goal
 
@@ -34,7 +31,5 @@ returns-in-Some-clause-seen g c =
     let same = sym c.deref.ensures.value in
     let within : IsIn known extent.off c.deref.result.now = subst (λ (w : List ℕ). IsIn known extent.off w) same read.0 in
     let fin : extent.fin ≡ extent.off + length c.deref.result.now = subst (λ (w : List ℕ). extent.fin ≡ extent.off + length w) same read.1 in
-    read-seen c.judge.result c.args.depth known extent c.deref.result.now (λ (elements : List Element). CountsMore c.args.rows.now elements c.judge.new.rows)
-    (λ (frame : List ℕ) (elements : List Element). K.is_honest c.judge.new.store → K.is_open c.judge.new.store → A.has_tables c.args.store.now → c.args.depth ≡ Elements
-    → IsEntryOf (A.has_rows (A.trees c.args.store.now) extent.off) extent.off frame elements)
-    (K.holds c.args.store.now) (K.is_honest c.judge.new.store) within fin c.judge.ensures.seen c.judge.ensures.found
+    read-seen K c.args.store.now c.judge.new.store (A.has_tables c.args.store.now) (A.has_rows (A.trees c.args.store.now)) c.judge.result c.args.depth c.args.rows.now c.judge.new.rows known extent c.deref.result.now
+    within fin c.judge.ensures.seen c.judge.ensures.found

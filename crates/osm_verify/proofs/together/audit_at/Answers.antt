@@ -1,42 +1,33 @@
 use Rattle.std.proofs.Common.{subst}
 use Rattle.std.proofs.lemmas.Result.{IfOk-weaker}
 use Rattle.osm_rows.specs.Held.{HeldMap}
-use Rattle.osm_parts.proofs.OpeningLemmas.{opened-closed, same-held}
-use Rattle.osm_verify.proofs.TogetherLemmas.{audit-closed, if-ok-all}
+use Rattle.osm_parts.specs.declared.fault.PartsFault.TheVariants.{Store}
+use Rattle.osm_parts.proofs.OpeningLemmas.{if-err, opened-closed, same-held}
+use Rattle.osm_verify.specs.Faults.{IsOwnFault}
+use Rattle.osm_verify.specs.declared.fault.AuditFault.TheVariants.{Parts}
+use Rattle.osm_verify.proofs.TogetherLemmas.{audit-closed, failed-call}
 use Rattle.osm_verify.proofs.together.audit_at.Goals as goal
 
-pub returns-clause-extents : goal.returns-clause-extents
-returns-clause-extents g c = λ maps held holds honest at.
+pub returns-clause-audited : goal.returns-clause-audited
+returns-clause-audited g c = λ maps holds honest held at.
     let both = c.close.ensures.honest honest in
     let it = c.in_ok-store.ensures.lent maps holds both.0 (c.audit_part-answer.ensures.rereads.stays.honest both.1) in
     let same = same-held maps c.args.place it.held held it.at at in
-    c.audit_part-answer.ensures.extents held (subst (λ (m : HeldMap). g.K.Reader.holds c.in_ok-store.store m) same it.store) both.1
+    c.audit_part-answer.ensures.audited held (subst (λ (m : HeldMap). g.K.Reader.holds c.in_ok-store.store m) same it.store) both.1
 
-pub returns-clause-found : goal.returns-clause-found
-returns-clause-found g c = λ maps held holds honest at.
+pub returns-in_err-store-clause-fault : goal.returns-in_err-store-clause-fault
+returns-in_err-store-clause-fault g c = λ maps holds honest.
+    let failed = c.in_err-store.ensures in
+    let fault = c.in_err-store.field-0.0 in
+    let old = g.O.Openings.failures c.args.openings.now in
+    let now = g.O.Openings.failures c.open.new.self in
+    if-err c.from_residual.result (Parts (Store fault)) (IsOwnFault old now) c.from_residual.ensures.1 (record { own = failed.own maps holds honest; cause = failed-call old now fault failed.counted })
+
+pub returns-clause-fault : goal.returns-clause-fault
+returns-clause-fault g c = λ maps holds honest.
     let both = c.close.ensures.honest honest in
     let it = c.in_ok-store.ensures.lent maps holds both.0 (c.audit_part-answer.ensures.rereads.stays.honest both.1) in
-    let same = same-held maps c.args.place it.held held it.at at in
-    c.audit_part-answer.ensures.found held (subst (λ (m : HeldMap). g.K.Reader.holds c.in_ok-store.store m) same it.store) both.1
-
-pub returns-clause-apart : goal.returns-clause-apart
-returns-clause-apart g c = λ maps held holds honest at.
-    let both = c.close.ensures.honest honest in
-    let it = c.in_ok-store.ensures.lent maps holds both.0 (c.audit_part-answer.ensures.rereads.stays.honest both.1) in
-    let same = same-held maps c.args.place it.held held it.at at in
-    if-ok-all c.audit_part-answer.result _ (g.met.K.Reader.is_apart c.in_ok-store.store held (subst (λ (m : HeldMap). g.K.Reader.holds c.in_ok-store.store m) same it.store))
-
-pub returns-clause-own : goal.returns-clause-own
-returns-clause-own g c = λ maps holds honest.
-    let both = c.close.ensures.honest honest in
-    let it = c.in_ok-store.ensures.lent maps holds both.0 (c.audit_part-answer.ensures.rereads.stays.honest both.1) in
-    c.audit_part-answer.ensures.own it.held it.store both.1
-
-pub returns-clause-cause : goal.returns-clause-cause
-returns-clause-cause g c = λ maps holds honest.
-    let both = c.close.ensures.honest honest in
-    let it = c.in_ok-store.ensures.lent maps holds both.0 (c.audit_part-answer.ensures.rereads.stays.honest both.1) in
-    audit-closed _ _ _ _ _ c.audit_part-answer.result c.in_ok-store.ensures.counted c.close.ensures.counted (c.audit_part-answer.ensures.cause it.held it.store both.1)
+    audit-closed _ _ _ _ _ c.audit_part-answer.result c.in_ok-store.ensures.counted c.close.ensures.counted (c.audit_part-answer.ensures.fault it.held it.store both.1)
 
 pub returns-clause-opens : goal.returns-clause-opens
 returns-clause-opens g c =

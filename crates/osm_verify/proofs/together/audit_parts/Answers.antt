@@ -17,8 +17,8 @@ pub returns-clause-told : goal.returns-clause-told
 returns-clause-told g c = λ maps holds honest all.
     let made = c.in_ok-all.ensures in
     let known : Known = g.F.FileBytes.bytes c.args.file.now in
-    let judged = subst (λ (k : Known). AreAllJudged c.args.depth k maps c.in_ok-all.all.findings.items) c.in_ok-size.ensures.kept (made.found maps holds honest all) in
-    let stores = subst (λ (l : List Part). AreStores false 0 maps l) (sym c.deref.ensures.value) (made.read maps holds honest all) in
+    let judged = subst (λ (k : Known). AreAllJudged c.args.depth k maps c.in_ok-all.all.findings.items) c.in_ok-size.ensures.kept (made.audited maps holds honest all).found in
+    let stores = subst (λ (l : List Part). AreStores false 0 maps l) (sym c.deref.ensures.value) (made.audited maps holds honest all).read in
     let read = subst (λ (l : List Part). AreRead maps false l) (sym c.deref-2.ensures.value) (c.in_ok-parts.ensures.read maps false stores) in
     c.verdict_of.ensures.verdict maps c.args.depth known read judged c.in_ok-size.ensures.told
 
@@ -53,11 +53,17 @@ returns-in_err-size-clause-cause g c = λ maps holds honest.
 
 pub returns-in_err-all-clause-fault : goal.returns-in_err-all-clause-fault
 returns-in_err-all-clause-fault g c = λ maps holds honest all.
-    if-err c.from_residual-in_err-all.result c.in_err-all.field-0.0 (IsOfParts maps) c.from_residual-in_err-all.ensures.1 (own-parts maps c.in_err-all.field-0.0 (c.in_err-all.ensures.own maps holds honest))
+    if-err c.from_residual-in_err-all.result c.in_err-all.field-0.0 (IsOfParts maps) c.from_residual-in_err-all.ensures.1 (own-parts maps c.in_err-all.field-0.0 (c.in_err-all.ensures.fault maps holds honest).own)
+
+pub returns-in_err-all-clause-cause : goal.returns-in_err-all-clause-cause
+returns-in_err-all-clause-cause g c = λ maps holds honest.
+    let old = g.O.Openings.failures c.args.openings.now in
+    let now = g.O.Openings.failures c.gather.new.openings in
+    if-err c.from_residual-in_err-all.result c.in_err-all.field-0.0 (AuditHasCause old now) c.from_residual-in_err-all.ensures.1 (c.in_err-all.ensures.fault maps holds honest).cause
 
 pub returns-in_err-parts-clause-fault : goal.returns-in_err-parts-clause-fault
 returns-in_err-parts-clause-fault g c = λ maps holds honest all.
-    let stores = subst (λ (l : List Part). AreStores false 0 maps l) (sym c.deref.ensures.value) (c.in_ok-all.ensures.read maps holds honest all) in
+    let stores = subst (λ (l : List Part). AreStores false 0 maps l) (sym c.deref.ensures.value) (c.in_ok-all.ensures.audited maps holds honest all).read in
     if-err c.from_residual-in_err-parts.result (Parts c.in_err-parts.field-0.0) (IsOfParts maps) c.from_residual-in_err-parts.ensures.1 (c.in_err-parts.ensures.fault maps false stores)
 
 pub returns-in_err-parts-clause-cause : goal.returns-in_err-parts-clause-cause
