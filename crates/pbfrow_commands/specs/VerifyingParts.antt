@@ -1,17 +1,12 @@
 -- What the command `verify` writes of several stores that ought to hold a file together.
-use Rattle.std.specs.Prelude.{◌≡◌, ◌↔◌, ◌⊎◌, ℕ, Bool, true, false, List, ◌++◌, length, codes, IsTrue, Some}
+use Rattle.std.specs.Prelude.{◌≡◌, ◌↔◌, ◌⊎◌, ℕ, Bool, true, false, List, ◌++◌, length, codes, IsTrue}
 use Rattle.std.specs.List.{count_by, flat_map}
 use Rattle.std.specs.Fmt.{decimal}
 use Rattle.osm_value.specs.Sink.{Wrote}
-use Rattle.osm_rows.specs.Held.{Blob, HeldMap}
-use Rattle.osm_rows.specs.declared.keeper.Extent.{Extent}
-use Rattle.osm_rows.specs.declared.keeper.Reader.{Ghosts as ReaderOf}
-use Rattle.osm_rows.specs.declared.schema.layout.Layout.{Layout}
+use Rattle.osm_rows.specs.Held.{HeldMap}
 use Rattle.osm_reading.specs.Framings.{Known}
 use Rattle.osm_reading.specs.declared.stream.fault.Stop.TheVariants.{ReadFailed}
-use Rattle.osm_verify.specs.Audits.{Trees}
 use Rattle.osm_verify.specs.Faults.{AuditHasCause, IsOfParts}
-use Rattle.osm_verify.specs.Judging.{ShowsPart}
 use Rattle.osm_verify.specs.Together.{IsClean, IsVerdict}
 use Rattle.osm_verify.specs.declared.part_audit.Finding.{Finding}
 use Rattle.osm_verify.specs.declared.part_audit.Finding.TheVariants.{Differs, Extra}
@@ -70,14 +65,6 @@ pub record TellsVerdict (depth : Depth) (known : Known) (maps : List HeldMap) (t
   pub agreed : Bool
   pub agrees : IsTrue agreed ↔ IsClean verdict
   pub status_is : t.status ≡ status_of agreed t.has_failed
-
--- The tables of each store that lies at a place are those of a store, if it has given what was written.
-abbrev pub HaveTables : {K : Type 0} → ReaderOf K → (K → Type 0) → (ℕ → K → Type 0) → Type 0
-HaveTables {K} store has_tables lies = (place : ℕ) (one : K) → lies place one → store.is_honest one → has_tables one
-
--- the rows of a store are those of the frames of the file that these extents name, and no others, as `ShowsPart` says it
-abbrev pub ShowsExtents : {K : Type 0} → (Trees → ℕ → Blob → Type 0) → Layout → (K → Trees) → List ℕ → K → List Extent → Type 0
-ShowsExtents has_rows layout trees file one extents = ShowsPart (has_rows (trees one)) layout (trees one) (Some file) extents
 
 -- what `verify` of several stores has told: the verdict on their maps, or the line of a fault that the maps bear out
 abbrev pub VerifiesParts : Depth → Known → List HeldMap → Telling → Type 0

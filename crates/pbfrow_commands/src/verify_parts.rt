@@ -1,14 +1,14 @@
 //! The command `verify` on several stores that hold parts of one file.
 
-ghost use Rattle.std.specs.Prelude.{◌≡◌, ◌≤◌, List, length, IfSome};
+ghost use Rattle.std.specs.Prelude.{◌≡◌, ◌≤◌, List, Some, length, IfSome};
 ghost use Rattle.std.specs.List.{count_by};
 ghost use Rattle.osm_value.specs.Printing.{Prints};
 ghost use Rattle.osm_rows.specs.Held.{HeldMap};
 ghost use Rattle.osm_parts.specs.Opening.{KeepsMaps};
-ghost use Rattle.osm_verify.specs.Showing.{ShowTogether};
+ghost use Rattle.osm_verify.specs.Showing.{HaveTables, ShowsExtents, ShowTogether};
 ghost use Rattle.osm_verify.specs.Together.{HoldFile};
 ghost use Rattle.pbfrow_commands.specs.Telling.{telling};
-ghost use Rattle.pbfrow_commands.specs.VerifyingParts.{HaveTables, ShowsExtents, VerifiesParts, audit_fault_line, finding_line, finding_lines, is_other, verdict_line, verdict_text};
+ghost use Rattle.pbfrow_commands.specs.VerifyingParts.{VerifiesParts, audit_fault_line, finding_line, finding_lines, is_other, verdict_line, verdict_text};
 
 use crate::parts::put_parts_fault;
 use crate::status::put_gaps;
@@ -127,7 +127,7 @@ pub fn verify_parts<K: Audited + Drop, O: Openings<K>, F: FileBytes, S: Sink>(
     // At 0 by elements, whatever rows the tables have had: those of each store are the rows of the frames of the file that its
     // extents name, and no others, and each frame of the file is named. That leaves out more rows than SQL can count.
     ensures shown { O.is_honest openings.new → depth ≡ Depth.Elements → HaveTables K.Reader K.has_tables (O.lies openings.old) → result ≡ 0
-        → IfSome (F.bytes file.old) (λ bytes. ShowTogether (O.lies openings.old) (ShowsExtents K.has_rows K.layout K.trees bytes) count bytes) }
+        → IfSome (F.bytes file.old) (λ bytes. ShowTogether (O.lies openings.old) (ShowsExtents K.has_rows K.layout K.trees (Some bytes)) count bytes) }
     ensures keeps { KeepsMaps O.holds O.is_honest O.is_open openings.old openings.new }
     ensures bound { result ≤ 1 }
 {

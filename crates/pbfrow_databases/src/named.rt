@@ -1,13 +1,13 @@
 //! The commands on several databases, all of those that are named, one after the other.
 
-ghost use Rattle.std.specs.Prelude.{◌≡◌, ◌≤◌, List, IfSome};
+ghost use Rattle.std.specs.Prelude.{◌≡◌, ◌≤◌, List, Some, IfSome};
 ghost use Rattle.osm_rows.specs.Held.{HeldMap};
 ghost use Rattle.osm_parts.specs.Opening.{KeepsMaps};
-ghost use Rattle.osm_verify.specs.Showing.{ShowTogether};
+ghost use Rattle.osm_verify.specs.Showing.{HaveTables, ShowsExtents, ShowTogether};
 ghost use Rattle.osm_verify.specs.Together.{HoldFile};
 ghost use Rattle.pbfrow_commands.specs.Merging.{HasMerged, IsMergeOf, NeverLoses, TakesOf};
 ghost use Rattle.pbfrow_commands.specs.Telling.{telling};
-ghost use Rattle.pbfrow_commands.specs.VerifyingParts.{HaveTables, ShowsExtents, VerifiesParts};
+ghost use Rattle.pbfrow_commands.specs.VerifyingParts.{VerifiesParts};
 ghost use Rattle.pbfrow_databases.specs.Questions.{AnswersTogether};
 
 use crate::questions::ask_in_turn;
@@ -49,7 +49,7 @@ pub fn verify_named<K: Audited + Drop, O: Several<K>, F: FileBytes, S: Sink>(
     ensures exact { (maps : List HeldMap) → O.holds openings.old maps → O.is_honest openings.new → result ≡ 0
         → IfSome (F.bytes file.old) (λ bytes. HoldFile depth bytes maps) }
     ensures shown { O.is_honest openings.new → depth ≡ Depth.Elements → HaveTables K.Reader K.has_tables (O.lies openings.old) → result ≡ 0
-        → IfSome (F.bytes file.old) (λ bytes. ShowTogether (O.lies openings.old) (ShowsExtents K.has_rows K.layout K.trees bytes) (O.many openings.old) bytes) }
+        → IfSome (F.bytes file.old) (λ bytes. ShowTogether (O.lies openings.old) (ShowsExtents K.has_rows K.layout K.trees (Some bytes)) (O.many openings.old) bytes) }
     ensures keeps { KeepsMaps O.holds O.is_honest O.is_open openings.old openings.new }
     ensures bound { result ≤ 1 }
 {
