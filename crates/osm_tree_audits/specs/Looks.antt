@@ -1,8 +1,8 @@
 -- What a look at the indexes of a store has found.
-use Rattle.std.specs.Prelude.{◌≡◌, ℕ, ◌-◌, ◌^◌, ◌<◌, List, map, length, IsTrue}
+use Rattle.std.specs.Prelude.{◌≡◌, ℕ, ◌-◌, ◌^◌, ◌<◌, List, map, length, All, Contains, Option, IsTrue, IfSome, MatchOption}
 use Rattle.sqlite_value.specs.Order.{Row}
 use Rattle.sqlite_trees.specs.Tree.{Trees}
-use Rattle.sqlite_sql.specs.Catalog.{entry_of}
+use Rattle.sqlite_sql.specs.Catalog.{entry_of, IsIndexOf}
 use Rattle.osm_tree_audits.specs.ElementTables.{index_of, key_of, table_of}
 use Rattle.osm_tree_audits.specs.declared.indexes.StoreIndex.{StoreIndex}
 use Rattle.osm_tree_audits.specs.declared.look.Look.{Look}
@@ -16,6 +16,10 @@ use Rattle.osm_tree_audits.specs.declared.tables.ElementTable.TheVariants.{Eleme
 abbrev pub IsInStep : List ℕ → List Row → List Row → Type 0
 IsInStep columns table index = map (entry_of columns) table ≡ index
 
+-- each row of the table has its entry in the index
+abbrev pub AreEntered : List ℕ → List Row → List Row → Type 0
+AreEntered columns table index = All (Contains index) (map (entry_of columns) table)
+
 -- the rows of the table stand in the order of its primary key
 abbrev pub IsInOrder : Trees → ElementTable → Type 0
 IsInOrder db of = IsInStep (key_of of) (db (table_of of)) (db (index_of of))
@@ -24,6 +28,20 @@ IsInOrder db of = IsInStep (key_of of) (db (table_of of)) (db (index_of of))
 pub record IsSeen (columns : List ℕ) (table index : List Row) (seen : TableLook) : Type 0 where
   pub rows : seen.rows ≡ length table
   pub order : IsTrue seen.in_order → IsInStep columns table index
+
+-- This is how many rows the table has, and P holds; or no number is told, and P doesn't hold.
+abbrev pub CountsIf : Type 0 → List Row → Option ℕ → Type 0
+CountsIf P table counted = MatchOption counted (¬ P) (λ n. (n ≡ length table) × P)
+
+-- This is how many rows the table has, and the index on these columns is in step with it; or no number is told.
+abbrev pub CountsInStep : Trees → ℕ → ℕ → List ℕ → Option ℕ → Type 0
+CountsInStep db table index columns counted = IfSome counted (λ n. (n ≡ length (db table)) × IsInStep columns (db table) (db index))
+
+-- This was seen of the table, and the index on these columns has one entry for each row of it, and no other; or nothing is told, and
+-- the index hasn't.
+abbrev pub SeesIndex : Trees → ℕ → ℕ → List ℕ → Option TableLook → Type 0
+SeesIndex db table index columns seen =
+    MatchOption seen (¬ (IsIndexOf columns (db table) (db index))) (λ look. IsIndexOf columns (db table) (db index) × IsSeen columns (db table) (db index) look)
 
 -- this was seen of each table by the index of its primary key
 pub record IsLook (db : Trees) (look : Look) : Type 0 where

@@ -1,11 +1,11 @@
 -- What cursors over an index and its table have left.
-use Rattle.std.specs.Prelude.{◌≡◌, ℕ, ℤ, Bool, true, false, List, [], ◌∷◌, ◌++◌, map, drop, filter, flat_map, Contains}
+use Rattle.std.specs.Prelude.{◌≡◌, ℕ, ℤ, Bool, true, false, List, [], ◌∷◌, ◌++◌, map, drop, filter, flat_map, Contains, IsSome}
 use Rattle.sqlite_value.specs.Order.{Row, column}
 use Rattle.sqlite_value.specs.declared.value.Value.TheVariants.{Int}
 use Rattle.sqlite_value.specs.Keys.{plain}
 use Rattle.sqlite_trees.specs.declared.store.Shape.TheVariants.{Table}
 use Rattle.sqlite_trees.specs.Tree.{Trees, IsIndex, from_key}
-use Rattle.sqlite_trees.specs.View.{View, IsShaped}
+use Rattle.sqlite_trees.specs.View.{View, IsClean, IsShaped}
 use Rattle.sqlite_sql.specs.Catalog.{entry_of}
 use Rattle.sqlite_exec.specs.Loops.{left_of}
 use Rattle.sqlite_exec.specs.Plan.{resolved}
@@ -22,6 +22,12 @@ IsNext v entry = (left : List Row) × (left_of v 1 ≡ entry ∷ left)
 -- each of these is among those
 abbrev pub AreAmong : List Row → List Row → Type 0
 AreAmong rows some = (e : Row) → Contains some e → Contains rows e
+
+-- a walk may go on: its two cursors can be used, and the store isn't broken
+pub record CanWalk (v : View) : Type 0 where
+  pub entries : IsSome (v.cursors 0)
+  pub rows : IsSome (v.cursors 1)
+  pub sound : IsClean v → v.is_broken ≡ false
 
 -- the cursor 0 has entries left, in order, and the cursor 1 rows of the table
 pub record IsWalk (v : View) (table : ℕ) : Type 0 where

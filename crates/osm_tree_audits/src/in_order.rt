@@ -2,10 +2,10 @@
 //! the index is asked only where they begin.
 
 ghost use Rattle.std.specs.Prelude.{◌≡◌, false, length, IsSome, IsTrue, IfOk, IfErr, OnOk};
-ghost use Rattle.sqlite_trees.specs.View.{IsClean, StayLive};
+ghost use Rattle.sqlite_trees.specs.View.{IsClean};
 ghost use Rattle.sqlite_exec.specs.Loops.{left_of};
 ghost use Rattle.osm_rows.specs.Keeping.{IsForeign};
-ghost use Rattle.osm_tree_audits.specs.Looking.{Looks};
+ghost use Rattle.osm_tree_audits.specs.Looking.{Looks, Steps};
 ghost use Rattle.osm_tree_audits.specs.declared.tables.ElementTable.{ElementTable as AnyTable};
 ghost use Rattle.osm_tree_audits.specs.ElementTables.{index_of, key_of, table_of};
 ghost use Rattle.osm_tree_audits.specs.Looks.{IsInOrder};
@@ -34,8 +34,7 @@ fn seek_row<S: Store>(
     requires { IsClean (S.Store.view store.old) → (S.Store.view store.old).shape table ≡ Shape.Table }
     ensures placed { OnOk result (IsClean (S.Store.view store.new) → IsAtNamed ((S.Store.view store.old).trees table) entry.now width (left_of (S.Store.view store.new) 1)) }
     ensures rows { OnOk result (IsSome ((S.Store.view store.new).cursors 1)) }
-    ensures stay { OnOk result (StayLive (S.Store.view store.old) (S.Store.view store.new)) }
-    ensures sound { OnOk result (IsClean (S.Store.view store.new) → (S.Store.view store.new).is_broken ≡ false) }
+    ensures steps { OnOk result (Steps (S.Store.view store.old) (S.Store.view store.new)) }
     ensures ours { IfErr result (λ fault. ¬ (IsForeign fault)) }
     ensures looks { Looks S.Store store.old store.new }
 {
@@ -94,8 +93,7 @@ pub(crate) fn next_in_order<S: Store>(
     ensures told { IfOk result (λ more. IsClean (S.Store.view store.new) → (of : AnyTable) → AreInOrder (S.Store.view store.old) (key_of of)
         → Leads (reached_alone (S.Store.view store.old) (key_of of) key.now) row.new (reached_alone (S.Store.view store.new) (key_of of) key.now) more) }
     ensures walk { OnOk result (IsClean (S.Store.view store.new) → (of : AnyTable) → AreInOrder (S.Store.view store.old) (key_of of) → AreInOrder (S.Store.view store.new) (key_of of)) }
-    ensures stay { OnOk result (StayLive (S.Store.view store.old) (S.Store.view store.new)) }
-    ensures sound { OnOk result (IsClean (S.Store.view store.new) → (S.Store.view store.new).is_broken ≡ false) }
+    ensures steps { OnOk result (Steps (S.Store.view store.old) (S.Store.view store.new)) }
     ensures ours { IfErr result (λ fault. ¬ (IsForeign fault)) }
     ensures looks { Looks S.Store store.old store.new }
 {

@@ -1,13 +1,13 @@
 //! Whether each index of a store has one entry for each row of its table, and no other.
 
-ghost use Rattle.std.specs.Prelude.{◌≡◌, ◌≢◌, ◌↔◌, ◌∷◌, [], ℕ, false, length, map, All, Contains, IsSome, IsTrue, IfOk, IfErr, IfSome, OnOk, MatchOption};
+ghost use Rattle.std.specs.Prelude.{◌≡◌, ◌≢◌, ◌↔◌, ◌∷◌, [], ℕ, false, Contains, IsSome, IsTrue, IfOk, IfErr, IfSome, OnOk};
 ghost use Rattle.sqlite_trees.specs.Tree.{IsIndexShape};
-ghost use Rattle.sqlite_trees.specs.View.{IsClean, StayLive};
+ghost use Rattle.sqlite_trees.specs.View.{IsClean};
 ghost use Rattle.sqlite_sql.specs.Catalog.{entry_of, IsIndexOf};
 ghost use Rattle.sqlite_exec.specs.Loops.{left_of};
 ghost use Rattle.osm_rows.specs.Keeping.{IsForeign};
-ghost use Rattle.osm_tree_audits.specs.Looking.{Looks};
-ghost use Rattle.osm_tree_audits.specs.Looks.{IsInStep, IsSeen};
+ghost use Rattle.osm_tree_audits.specs.Looking.{Looks, Steps};
+ghost use Rattle.osm_tree_audits.specs.Looks.{AreEntered, CountsIf, CountsInStep, SeesIndex};
 ghost use Rattle.osm_tree_audits.specs.Walking.{IsNext, AreAmong};
 
 use crate::counts::count;
@@ -63,8 +63,7 @@ fn next_is<S: Store>(store: &mut S, entry: &Row, found: &mut Row) -> Result<bool
     ensures told { IfOk result (λ told. IsClean (S.Store.view store.new) → (IsTrue told ↔ IsNext (S.Store.view store.old) entry.now)) }
     ensures left { OnOk result (IsClean (S.Store.view store.new) → AreAmong (left_of (S.Store.view store.old) 1) (left_of (S.Store.view store.new) 1)) }
     ensures rows { OnOk result (IsClean (S.Store.view store.new) → (S.Store.view store.new).cursors 0 ≡ (S.Store.view store.old).cursors 0) }
-    ensures stay { OnOk result (StayLive (S.Store.view store.old) (S.Store.view store.new)) }
-    ensures sound { OnOk result (IsClean (S.Store.view store.new) → (S.Store.view store.new).is_broken ≡ false) }
+    ensures steps { OnOk result (Steps (S.Store.view store.old) (S.Store.view store.new)) }
     ensures ours { IfErr result (λ fault. ¬ (IsForeign fault)) }
     ensures looks { Looks S.Store store.old store.new }
 {
@@ -86,8 +85,7 @@ fn seek_is<S: Store>(
     ensures told { IfOk result (λ told. IsClean (S.Store.view store.new) → (IsTrue told ↔ Contains ((S.Store.view store.old).trees tree) entry.now)) }
     ensures left { OnOk result (IsClean (S.Store.view store.new) → AreAmong ((S.Store.view store.old).trees tree) (left_of (S.Store.view store.new) 1)) }
     ensures rows { OnOk result (IsClean (S.Store.view store.new) → (S.Store.view store.new).cursors 0 ≡ (S.Store.view store.old).cursors 0) }
-    ensures stay { OnOk result (StayLive (S.Store.view store.old) (S.Store.view store.new)) }
-    ensures sound { OnOk result (IsClean (S.Store.view store.new) → (S.Store.view store.new).is_broken ≡ false) }
+    ensures steps { OnOk result (Steps (S.Store.view store.old) (S.Store.view store.new)) }
     ensures ours { IfErr result (λ fault. ¬ (IsForeign fault)) }
     ensures looks { Looks S.Store store.old store.new }
 {
@@ -110,8 +108,7 @@ fn has_entry<S: Store>(
     ensures told { IfOk result (λ told. IsClean (S.Store.view store.new) → AreAmong ((S.Store.view store.old).trees tree) (left_of (S.Store.view store.old) 1) → (IsTrue told ↔ Contains ((S.Store.view store.old).trees tree) entry.now)) }
     ensures left { OnOk result (IsClean (S.Store.view store.new) → AreAmong ((S.Store.view store.old).trees tree) (left_of (S.Store.view store.old) 1) → AreAmong ((S.Store.view store.old).trees tree) (left_of (S.Store.view store.new) 1)) }
     ensures rows { OnOk result (IsClean (S.Store.view store.new) → (S.Store.view store.new).cursors 0 ≡ (S.Store.view store.old).cursors 0) }
-    ensures stay { OnOk result (StayLive (S.Store.view store.old) (S.Store.view store.new)) }
-    ensures sound { OnOk result (IsClean (S.Store.view store.new) → (S.Store.view store.new).is_broken ≡ false) }
+    ensures steps { OnOk result (Steps (S.Store.view store.old) (S.Store.view store.new)) }
     ensures ours { IfErr result (λ fault. ¬ (IsForeign fault)) }
     ensures looks { Looks S.Store store.old store.new }
 {
@@ -132,8 +129,7 @@ fn count_entered<S: Store>(
     requires index { IsClean (S.Store.view store.old) → IsIndexShape ((S.Store.view store.old).shape tree) }
     requires table { IsClean (S.Store.view store.old) → (S.Store.view store.old).shape table ≡ Shape.Table }
     ensures told { IfOk result (λ counted. IsClean (S.Store.view store.new)
-        → MatchOption counted (¬ (All (Contains ((S.Store.view store.old).trees tree)) (map (entry_of columns.now) ((S.Store.view store.old).trees table))))
-        (λ n. (n ≡ length ((S.Store.view store.old).trees table)) × All (Contains ((S.Store.view store.old).trees tree)) (map (entry_of columns.now) ((S.Store.view store.old).trees table)))) }
+        → CountsIf (AreEntered columns.now ((S.Store.view store.old).trees table) ((S.Store.view store.old).trees tree)) ((S.Store.view store.old).trees table) counted) }
     ensures sound { OnOk result (IsClean (S.Store.view store.new) → (S.Store.view store.new).is_broken ≡ false) }
     ensures ours { IfErr result (λ fault. ¬ (IsForeign fault)) }
     ensures looks { Looks S.Store store.old store.new }
@@ -176,8 +172,7 @@ fn count_indexed<S: Store>(
     requires index { IsClean (S.Store.view store.old) → IsIndexShape ((S.Store.view store.old).shape tree) }
     requires table { IsClean (S.Store.view store.old) → (S.Store.view store.old).shape table ≡ Shape.Table }
     ensures told { IfOk result (λ counted. IsClean (S.Store.view store.new)
-        → MatchOption counted (¬ (IsIndexOf columns.now ((S.Store.view store.old).trees table) ((S.Store.view store.old).trees tree)))
-        (λ n. (n ≡ length ((S.Store.view store.old).trees table)) × IsIndexOf columns.now ((S.Store.view store.old).trees table) ((S.Store.view store.old).trees tree))) }
+        → CountsIf (IsIndexOf columns.now ((S.Store.view store.old).trees table) ((S.Store.view store.old).trees tree)) ((S.Store.view store.old).trees table) counted) }
     ensures sound { OnOk result (IsClean (S.Store.view store.new) → (S.Store.view store.new).is_broken ≡ false) }
     ensures ours { IfErr result (λ fault. ¬ (IsForeign fault)) }
     ensures looks { Looks S.Store store.old store.new }
@@ -218,8 +213,7 @@ fn next_is_of<S: Store>(
     requires { IsSome ((S.Store.view store.old).cursors cursor) }
     ensures told { IfOk result (λ told. IsClean (S.Store.view store.new) → IsTrue told → (left_of (S.Store.view store.old) cursor ≡ entry_of columns.now row.now ∷ left_of (S.Store.view store.new) cursor)) }
     ensures others { OnOk result (IsClean (S.Store.view store.new) → (c : ℕ) → c ≢ cursor → (S.Store.view store.new).cursors c ≡ (S.Store.view store.old).cursors c) }
-    ensures stay { OnOk result (StayLive (S.Store.view store.old) (S.Store.view store.new)) }
-    ensures sound { OnOk result (IsClean (S.Store.view store.new) → (S.Store.view store.new).is_broken ≡ false) }
+    ensures steps { OnOk result (Steps (S.Store.view store.old) (S.Store.view store.new)) }
     ensures ours { IfErr result (λ fault. ¬ (IsForeign fault)) }
     ensures looks { Looks S.Store store.old store.new }
 {
@@ -235,8 +229,7 @@ fn has_ended<S: Store>(store: &mut S, cursor: u16, found: &mut Row) -> Result<bo
     requires { IsSome ((S.Store.view store.old).cursors cursor) }
     ensures told { IfOk result (λ told. IsClean (S.Store.view store.new) → IsTrue told → (left_of (S.Store.view store.old) cursor ≡ [])) }
     ensures others { OnOk result (IsClean (S.Store.view store.new) → (c : ℕ) → c ≢ cursor → (S.Store.view store.new).cursors c ≡ (S.Store.view store.old).cursors c) }
-    ensures stay { OnOk result (StayLive (S.Store.view store.old) (S.Store.view store.new)) }
-    ensures sound { OnOk result (IsClean (S.Store.view store.new) → (S.Store.view store.new).is_broken ≡ false) }
+    ensures steps { OnOk result (Steps (S.Store.view store.old) (S.Store.view store.new)) }
     ensures ours { IfErr result (λ fault. ¬ (IsForeign fault)) }
     ensures looks { Looks S.Store store.old store.new }
 {
@@ -256,8 +249,7 @@ fn count_if_ended<S: Store>(
     requires { IsSome ((S.Store.view store.old).cursors cursor) }
     ensures told { IfOk result (λ counted. IsClean (S.Store.view store.new) → IfSome counted (λ n. (n ≡ count) × (left_of (S.Store.view store.old) cursor ≡ []))) }
     ensures others { OnOk result (IsClean (S.Store.view store.new) → (c : ℕ) → c ≢ cursor → (S.Store.view store.new).cursors c ≡ (S.Store.view store.old).cursors c) }
-    ensures stay { OnOk result (StayLive (S.Store.view store.old) (S.Store.view store.new)) }
-    ensures sound { OnOk result (IsClean (S.Store.view store.new) → (S.Store.view store.new).is_broken ≡ false) }
+    ensures steps { OnOk result (Steps (S.Store.view store.old) (S.Store.view store.new)) }
     ensures ours { IfErr result (λ fault. ¬ (IsForeign fault)) }
     ensures looks { Looks S.Store store.old store.new }
 {
@@ -278,8 +270,7 @@ fn count_in_step<S: Store>(
 ) -> Result<Option<u64>, StoreFault>
     requires index { IsClean (S.Store.view store.old) → IsIndexShape ((S.Store.view store.old).shape tree) }
     requires table { IsClean (S.Store.view store.old) → (S.Store.view store.old).shape table ≡ Shape.Table }
-    ensures told { IfOk result (λ counted. IsClean (S.Store.view store.new)
-        → IfSome counted (λ n. (n ≡ length ((S.Store.view store.old).trees table)) × IsInStep columns.now ((S.Store.view store.old).trees table) ((S.Store.view store.old).trees tree))) }
+    ensures told { IfOk result (λ counted. IsClean (S.Store.view store.new) → CountsInStep (S.Store.view store.old).trees table tree columns.now counted) }
     ensures sound { OnOk result (IsClean (S.Store.view store.new) → (S.Store.view store.new).is_broken ≡ false) }
     ensures ours { IfErr result (λ fault. ¬ (IsForeign fault)) }
     ensures looks { Looks S.Store store.old store.new }
@@ -322,8 +313,7 @@ fn goes_on<S: Store>(
     ensures told { IfOk result (λ told. IsClean (S.Store.view store.new) → IsTrue told
         → IsTrue until_now × (left_of (S.Store.view store.old) cursor ≡ entry_of columns.now row.now ∷ left_of (S.Store.view store.new) cursor)) }
     ensures others { OnOk result (IsClean (S.Store.view store.new) → (c : ℕ) → c ≢ cursor → (S.Store.view store.new).cursors c ≡ (S.Store.view store.old).cursors c) }
-    ensures stay { OnOk result (StayLive (S.Store.view store.old) (S.Store.view store.new)) }
-    ensures sound { OnOk result (IsClean (S.Store.view store.new) → (S.Store.view store.new).is_broken ≡ false) }
+    ensures steps { OnOk result (Steps (S.Store.view store.old) (S.Store.view store.new)) }
     ensures ours { IfErr result (λ fault. ¬ (IsForeign fault)) }
     ensures looks { Looks S.Store store.old store.new }
 {
@@ -346,8 +336,7 @@ fn count_at_end<S: Store>(
     requires sound { IsClean (S.Store.view store.old) → (S.Store.view store.old).is_broken ≡ false }
     ensures told { IfOk result (λ counted. IsClean (S.Store.view store.new) → IfSome counted (λ n. (n ≡ count) × IsTrue until_now × (left_of (S.Store.view store.old) cursor ≡ []))) }
     ensures others { OnOk result (IsClean (S.Store.view store.new) → (c : ℕ) → c ≢ cursor → (S.Store.view store.new).cursors c ≡ (S.Store.view store.old).cursors c) }
-    ensures stay { OnOk result (StayLive (S.Store.view store.old) (S.Store.view store.new)) }
-    ensures sound { OnOk result (IsClean (S.Store.view store.new) → (S.Store.view store.new).is_broken ≡ false) }
+    ensures steps { OnOk result (Steps (S.Store.view store.old) (S.Store.view store.new)) }
     ensures ours { IfErr result (λ fault. ¬ (IsForeign fault)) }
     ensures looks { Looks S.Store store.old store.new }
 {
@@ -392,8 +381,7 @@ pub(crate) fn counts_in_step<S: Store>(
     other_columns: &[usize],
 ) -> Result<(Option<u64>, Option<u64>), StoreFault>
     ensures told { IfOk result (λ counted. IsClean (S.Store.view store.new)
-        → IfSome counted.0 (λ n. (n ≡ length ((S.Store.view store.old).trees table)) × IsInStep one_columns.now ((S.Store.view store.old).trees table) ((S.Store.view store.old).trees one))
-        × IfSome counted.1 (λ n. (n ≡ length ((S.Store.view store.old).trees table)) × IsInStep other_columns.now ((S.Store.view store.old).trees table) ((S.Store.view store.old).trees other))) }
+        → CountsInStep (S.Store.view store.old).trees table one one_columns.now counted.0 × CountsInStep (S.Store.view store.old).trees table other other_columns.now counted.1) }
     ensures sound { OnOk result (IsClean (S.Store.view store.new) → (S.Store.view store.new).is_broken ≡ false) }
     ensures ours { IfErr result (λ fault. ¬ (IsForeign fault)) }
     ensures looks { Looks S.Store store.old store.new }
@@ -441,11 +429,9 @@ fn seen_at<S: Store>(
 ) -> Result<Option<TableLook>, StoreFault>
     requires index { IsClean (S.Store.view store.old) → IsIndexShape ((S.Store.view store.old).shape tree) }
     requires table { IsClean (S.Store.view store.old) → (S.Store.view store.old).shape table ≡ Shape.Table }
-    requires step { IsClean (S.Store.view store.old) → IfSome in_step (λ n. (n ≡ length ((S.Store.view store.old).trees table)) × IsInStep columns.now ((S.Store.view store.old).trees table) ((S.Store.view store.old).trees tree)) }
+    requires step { IsClean (S.Store.view store.old) → CountsInStep (S.Store.view store.old).trees table tree columns.now in_step }
     requires sound { IsClean (S.Store.view store.old) → (S.Store.view store.old).is_broken ≡ false }
-    ensures told { IfOk result (λ seen. IsClean (S.Store.view store.new)
-        → MatchOption seen (¬ (IsIndexOf columns.now ((S.Store.view store.old).trees table) ((S.Store.view store.old).trees tree)))
-        (λ look. IsIndexOf columns.now ((S.Store.view store.old).trees table) ((S.Store.view store.old).trees tree) × IsSeen columns.now ((S.Store.view store.old).trees table) ((S.Store.view store.old).trees tree) look)) }
+    ensures told { IfOk result (λ seen. IsClean (S.Store.view store.new) → SeesIndex (S.Store.view store.old).trees table tree columns.now seen) }
     ensures sound { OnOk result (IsClean (S.Store.view store.new) → (S.Store.view store.new).is_broken ≡ false) }
     ensures ours { IfErr result (λ fault. ¬ (IsForeign fault)) }
     ensures looks { Looks S.Store store.old store.new }
@@ -475,9 +461,7 @@ pub(crate) fn look_at<S: Store>(
     order: Order,
     columns: &[usize],
 ) -> Result<Option<TableLook>, StoreFault>
-    ensures told { IfOk result (λ seen. IsClean (S.Store.view store.new)
-        → MatchOption seen (¬ (IsIndexOf columns.now ((S.Store.view store.old).trees table) ((S.Store.view store.old).trees tree)))
-        (λ look. IsIndexOf columns.now ((S.Store.view store.old).trees table) ((S.Store.view store.old).trees tree) × IsSeen columns.now ((S.Store.view store.old).trees table) ((S.Store.view store.old).trees tree) look)) }
+    ensures told { IfOk result (λ seen. IsClean (S.Store.view store.new) → SeesIndex (S.Store.view store.old).trees table tree columns.now seen) }
     ensures sound { OnOk result (IsClean (S.Store.view store.new) → (S.Store.view store.new).is_broken ≡ false) }
     ensures ours { IfErr result (λ fault. ¬ (IsForeign fault)) }
     ensures looks { Looks S.Store store.old store.new }
@@ -518,11 +502,9 @@ pub(crate) fn look_on<S: Store>(
     columns: &[usize],
     in_step: Option<u64>,
 ) -> Result<Option<TableLook>, StoreFault>
-    requires step { IsClean (S.Store.view store.old) → IfSome in_step (λ n. (n ≡ length ((S.Store.view store.old).trees table)) × IsInStep columns.now ((S.Store.view store.old).trees table) ((S.Store.view store.old).trees tree)) }
+    requires step { IsClean (S.Store.view store.old) → CountsInStep (S.Store.view store.old).trees table tree columns.now in_step }
     requires sound { IsClean (S.Store.view store.old) → (S.Store.view store.old).is_broken ≡ false }
-    ensures told { IfOk result (λ seen. IsClean (S.Store.view store.new)
-        → MatchOption seen (¬ (IsIndexOf columns.now ((S.Store.view store.old).trees table) ((S.Store.view store.old).trees tree)))
-        (λ look. IsIndexOf columns.now ((S.Store.view store.old).trees table) ((S.Store.view store.old).trees tree) × IsSeen columns.now ((S.Store.view store.old).trees table) ((S.Store.view store.old).trees tree) look)) }
+    ensures told { IfOk result (λ seen. IsClean (S.Store.view store.new) → SeesIndex (S.Store.view store.old).trees table tree columns.now seen) }
     ensures sound { OnOk result (IsClean (S.Store.view store.new) → (S.Store.view store.new).is_broken ≡ false) }
     ensures ours { IfErr result (λ fault. ¬ (IsForeign fault)) }
     ensures looks { Looks S.Store store.old store.new }

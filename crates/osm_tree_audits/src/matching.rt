@@ -8,7 +8,7 @@ ghost use Rattle.sqlite_value.specs.Order.{column};
 ghost use Rattle.sqlite_trees.specs.View.{IsClean};
 ghost use Rattle.osm_rows.specs.Keeping.{IsForeign};
 ghost use Rattle.osm_tree_audits.specs.Looking.{Looks};
-ghost use Rattle.osm_tree_audits.specs.Walking.{Begins, IsWalkBy, reached_by};
+ghost use Rattle.osm_tree_audits.specs.Walking.{Begins, CanWalk, IsWalkBy, reached_by};
 
 use crate::tables::ElementTable;
 use crate::values::is_integer;
@@ -66,15 +66,11 @@ pub(crate) fn finds_next<'v, S: Store, R: TableRow>(
     expected: &'v [R],
 ) -> Result<bool, StoreFault>
     requires one { length key.now ≡ 1 }
-    requires entries { IsSome ((S.Store.view store.old).cursors 0) }
-    requires rows { IsSome ((S.Store.view store.old).cursors 1) }
-    requires sound { IsClean (S.Store.view store.old) → (S.Store.view store.old).is_broken ≡ false }
+    requires ready { CanWalk (S.Store.view store.old) }
     ensures told { IfOk result (λ told. IsClean (S.Store.view store.new) → IsWalkBy way (S.Store.view store.old) of
         → Begins (reached_by way (S.Store.view store.old) of key.now) (map R.columns expected.now) (reached_by way (S.Store.view store.new) of key.now) told) }
     ensures walk { OnOk result (IsClean (S.Store.view store.new) → IsWalkBy way (S.Store.view store.old) of → IsWalkBy way (S.Store.view store.new) of) }
-    ensures entries { OnOk result (IsSome ((S.Store.view store.new).cursors 0)) }
-    ensures rows { OnOk result (IsSome ((S.Store.view store.new).cursors 1)) }
-    ensures sound { OnOk result (IsClean (S.Store.view store.new) → (S.Store.view store.new).is_broken ≡ false) }
+    ensures ready { OnOk result (CanWalk (S.Store.view store.new)) }
     ensures ours { IfErr result (λ fault. ¬ (IsForeign fault)) }
     ensures looks { Looks S.Store store.old store.new }
 {

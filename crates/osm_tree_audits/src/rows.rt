@@ -1,18 +1,17 @@
 //! Whether the rows at an offset are those of one blob.
 
-ghost use Rattle.std.specs.Prelude.{◌≡◌, ◌↔◌, ◌+◌, ◌<◌, ◌≤◌, ◌^◌, ◌∷◌, [], pos, false, filter, length, IsSome, IsTrue, IfOk, IfErr, OnOk};
+ghost use Rattle.std.specs.Prelude.{◌≡◌, ◌↔◌, ◌+◌, ◌<◌, ◌≤◌, ◌^◌, ◌∷◌, [], pos, false, filter, length, IsTrue, IfOk, IfErr, OnOk};
 ghost use Rattle.sqlite_value.specs.declared.value.Value.TheVariants.{Int};
 ghost use Rattle.sqlite_trees.specs.Tree.{has_rowid};
 ghost use Rattle.sqlite_trees.specs.View.{IsClean};
 ghost use Rattle.osm_rows.specs.Keeping.{IsForeign};
 ghost use Rattle.osm_rows.specs.Rows.{placed, extent_row};
-ghost use Rattle.osm_rows.specs.TableRows.{element_rows, tag_rows, link_rows};
 ghost use Rattle.osm_tree_writes.specs.Putting.{IsIndexedStore};
 ghost use Rattle.osm_tree_audits.specs.Looking.{Looks};
-ghost use Rattle.osm_tree_audits.specs.Auditing.{KeepsAt, KeepsBlob};
+ghost use Rattle.osm_tree_audits.specs.Auditing.{KeepElementsAt, KeepsAt, KeepsBlob};
 ghost use Rattle.osm_tree_audits.specs.ElementTables.{rows_in, table_of};
 ghost use Rattle.osm_tree_audits.specs.Looks.{IsInOrder, IsLook};
-ghost use Rattle.osm_tree_audits.specs.Walking.{Begins, IsWalkBy, reached_by};
+ghost use Rattle.osm_tree_audits.specs.Walking.{Begins, CanWalk, IsWalkBy, reached_by};
 
 use crate::look::Look;
 use crate::matching::{finds_next, finds_no_more};
@@ -54,16 +53,12 @@ fn finds_some<S: Store>(
     elements: &[Element],
 ) -> Result<bool, StoreFault>
     requires one { length key.now ≡ 1 }
-    requires entries { IsSome ((S.Store.view store.old).cursors 0) }
-    requires rows { IsSome ((S.Store.view store.old).cursors 1) }
-    requires sound { IsClean (S.Store.view store.old) → (S.Store.view store.old).is_broken ≡ false }
+    requires ready { CanWalk (S.Store.view store.old) }
     requires bounds { (off ≤ MAX_OFFSET) × (first + length elements.now ≤ 2 ^ 63) }
     ensures told { IfOk result (λ told. IsClean (S.Store.view store.new) → IsWalkBy way (S.Store.view store.old) of
         → Begins (reached_by way (S.Store.view store.old) of key.now) (rows_in of (placed off first elements.now)) (reached_by way (S.Store.view store.new) of key.now) told) }
     ensures walk { OnOk result (IsClean (S.Store.view store.new) → IsWalkBy way (S.Store.view store.old) of → IsWalkBy way (S.Store.view store.new) of) }
-    ensures entries { OnOk result (IsSome ((S.Store.view store.new).cursors 0)) }
-    ensures rows { OnOk result (IsSome ((S.Store.view store.new).cursors 1)) }
-    ensures sound { OnOk result (IsClean (S.Store.view store.new) → (S.Store.view store.new).is_broken ≡ false) }
+    ensures ready { OnOk result (CanWalk (S.Store.view store.new)) }
     ensures ours { IfErr result (λ fault. ¬ (IsForeign fault)) }
     ensures looks { Looks S.Store store.old store.new }
 {
@@ -95,9 +90,7 @@ fn finds_each<S: Store>(
     elements: &[Element],
 ) -> Result<bool, StoreFault>
     requires one { length key.now ≡ 1 }
-    requires entries { IsSome ((S.Store.view store.old).cursors 0) }
-    requires rows { IsSome ((S.Store.view store.old).cursors 1) }
-    requires sound { IsClean (S.Store.view store.old) → (S.Store.view store.old).is_broken ≡ false }
+    requires ready { CanWalk (S.Store.view store.old) }
     requires bounds { off ≤ MAX_OFFSET }
     ensures told { IfOk result (λ told. IsClean (S.Store.view store.new) → IsWalkBy way (S.Store.view store.old) of
         → (IsTrue told ↔ (reached_by way (S.Store.view store.old) of key.now ≡ rows_in of (placed off 0 elements.now)))) }
@@ -196,9 +189,7 @@ fn has_inner_rows<S: Store>(
 ) -> Result<bool, StoreFault>
     requires { off ≤ MAX_OFFSET }
     ensures told { IsClean (S.Store.view store.new) → IsIndexedStore (S.Store.view store.old).trees → IsLook (S.Store.view store.old).trees look.now
-        → IfOk result (λ told. IsTrue told ↔ (KeepsAt off (element_rows (placed off 0 elements.now)) ((S.Store.view store.old).trees 2)
-        × KeepsAt off (tag_rows (placed off 0 elements.now)) ((S.Store.view store.old).trees 4)
-        × KeepsAt off (link_rows (placed off 0 elements.now)) ((S.Store.view store.old).trees 6))) }
+        → IfOk result (λ told. IsTrue told ↔ KeepElementsAt off (placed off 0 elements.now) (S.Store.view store.old).trees) }
     ensures sound { OnOk result (IsClean (S.Store.view store.new) → (S.Store.view store.new).is_broken ≡ false) }
     ensures ours { IfErr result (λ fault. ¬ (IsForeign fault)) }
     ensures looks { Looks S.Store store.old store.new }

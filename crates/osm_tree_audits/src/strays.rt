@@ -3,9 +3,9 @@
 ghost use Rattle.std.specs.Prelude.{◌≡◌, ◌↔◌, false, All, IsTrue, IfSome, IfOk, IfErr, OnOk, MatchOption};
 ghost use Rattle.sqlite_value.specs.declared.value.Value.TheVariants.{Int};
 ghost use Rattle.sqlite_value.specs.Order.{column};
-ghost use Rattle.sqlite_trees.specs.View.{IsClean, StayLive};
+ghost use Rattle.sqlite_trees.specs.View.{IsClean};
 ghost use Rattle.osm_rows.specs.Keeping.{IsForeign};
-ghost use Rattle.osm_tree_audits.specs.Looking.{Looks};
+ghost use Rattle.osm_tree_audits.specs.Looking.{Looks, Steps};
 ghost use Rattle.osm_tree_audits.specs.ElementTables.{table_of};
 ghost use Rattle.osm_tree_audits.specs.Strays.{HasBlob, IsStrayRow, LacksBlob};
 
@@ -29,8 +29,7 @@ pub struct Stray {
 fn lacks_blob<S: Store>(store: &mut S, off: i64, blob: &mut Row) -> Result<bool, StoreFault>
     ensures told { IfOk result (λ told. IsClean (S.Store.view store.new) → (IsTrue told ↔ LacksBlob (S.Store.view store.old).trees off)) }
     ensures same { OnOk result (IsClean (S.Store.view store.new) → S.Store.view store.new ≡ S.Store.view store.old) }
-    ensures stay { OnOk result (StayLive (S.Store.view store.old) (S.Store.view store.new)) }
-    ensures sound { OnOk result (IsClean (S.Store.view store.new) → (S.Store.view store.new).is_broken ≡ false) }
+    ensures steps { OnOk result (Steps (S.Store.view store.old) (S.Store.view store.new)) }
     ensures ours { IfErr result (λ fault. ¬ (IsForeign fault)) }
     ensures looks { Looks S.Store store.old store.new }
 {
@@ -56,8 +55,7 @@ fn stray_offset<S: Store>(
         → MatchOption stray (HasBlob (S.Store.view store.old).trees row.now) (λ off. (column row.now 1 ≡ Int off) × LacksBlob (S.Store.view store.old).trees off)) }
     ensures held { OnOk result (IsClean (S.Store.view store.new) → IfSome held.old (λ off. ¬ (LacksBlob (S.Store.view store.old).trees off)) → IfSome held.new (λ off. ¬ (LacksBlob (S.Store.view store.old).trees off))) }
     ensures same { OnOk result (IsClean (S.Store.view store.new) → S.Store.view store.new ≡ S.Store.view store.old) }
-    ensures stay { OnOk result (StayLive (S.Store.view store.old) (S.Store.view store.new)) }
-    ensures sound { OnOk result (IsClean (S.Store.view store.new) → (S.Store.view store.new).is_broken ≡ false) }
+    ensures steps { OnOk result (Steps (S.Store.view store.old) (S.Store.view store.new)) }
     ensures ours { IfErr result (λ fault. ¬ (IsForeign fault)) }
     ensures looks { Looks S.Store store.old store.new }
 {

@@ -1,14 +1,14 @@
 //! A walk over the rows of a table in the order of an index: the cursor 0 gives the entries, and the cursor 1 the rows.
 
-ghost use Rattle.std.specs.Prelude.{◌≡◌, false, Contains, IsSome, IsTrue, IfOk, IfErr, OnOk};
+ghost use Rattle.std.specs.Prelude.{◌≡◌, Contains, IsSome, IsTrue, IfOk, IfErr, OnOk};
 ghost use Rattle.sqlite_value.specs.Keys.{plain};
 ghost use Rattle.sqlite_value.specs.Order.{column};
 ghost use Rattle.sqlite_trees.specs.Tree.{from_key, rowid};
-ghost use Rattle.sqlite_trees.specs.View.{IsClean, StayLive};
+ghost use Rattle.sqlite_trees.specs.View.{IsClean};
 ghost use Rattle.sqlite_exec.specs.Loops.{left_of};
 ghost use Rattle.osm_rows.specs.Keeping.{IsForeign};
-ghost use Rattle.osm_tree_audits.specs.Looking.{Looks};
-ghost use Rattle.osm_tree_audits.specs.Walking.{AreAmong, IsWalk, Leads, reached};
+ghost use Rattle.osm_tree_audits.specs.Looking.{Looks, Steps};
+ghost use Rattle.osm_tree_audits.specs.Walking.{AreAmong, CanWalk, IsWalk, Leads, reached};
 
 use osm_rows::StoreFault;
 use osm_tree_writes::fault_of;
@@ -30,11 +30,9 @@ pub(crate) fn begin_walk<S: Store>(
 ) -> Result<(), StoreFault>
     requires index { IsClean (S.Store.view store.old) → (S.Store.view store.old).shape index ≡ Shape.Index Order.PLAIN }
     requires table { IsClean (S.Store.view store.old) → (S.Store.view store.old).shape table ≡ Shape.Table }
-    ensures entries { OnOk result (IsSome ((S.Store.view store.new).cursors 0)) }
-    ensures rows { OnOk result (IsSome ((S.Store.view store.new).cursors 1)) }
+    ensures ready { OnOk result (CanWalk (S.Store.view store.new)) }
     ensures walk { OnOk result (IsClean (S.Store.view store.new) → IsWalk (S.Store.view store.new) table) }
     ensures placed { OnOk result (IsClean (S.Store.view store.new) → left_of (S.Store.view store.new) 0 ≡ from_key plain key.now ((S.Store.view store.old).trees index)) }
-    ensures sound { OnOk result (IsClean (S.Store.view store.new) → (S.Store.view store.new).is_broken ≡ false) }
     ensures ours { IfErr result (λ fault. ¬ (IsForeign fault)) }
     ensures looks { Looks S.Store store.old store.new }
 {
@@ -60,8 +58,7 @@ fn next_has<S: Store>(
     ensures told { IfOk result (λ told. IsClean (S.Store.view store.new) → IsTrue told → Contains (left_of (S.Store.view store.old) 1) row.new × (rowid row.new ≡ column entry.now width)) }
     ensures left { OnOk result (IsClean (S.Store.view store.new) → AreAmong (left_of (S.Store.view store.old) 1) (left_of (S.Store.view store.new) 1)) }
     ensures entries { OnOk result (IsClean (S.Store.view store.new) → (S.Store.view store.new).cursors 0 ≡ (S.Store.view store.old).cursors 0) }
-    ensures stay { OnOk result (StayLive (S.Store.view store.old) (S.Store.view store.new)) }
-    ensures sound { OnOk result (IsClean (S.Store.view store.new) → (S.Store.view store.new).is_broken ≡ false) }
+    ensures steps { OnOk result (Steps (S.Store.view store.old) (S.Store.view store.new)) }
     ensures ours { IfErr result (λ fault. ¬ (IsForeign fault)) }
     ensures looks { Looks S.Store store.old store.new }
 {
@@ -84,8 +81,7 @@ fn seek_has<S: Store>(
     ensures told { IfOk result (λ told. IsClean (S.Store.view store.new) → IsTrue told → Contains ((S.Store.view store.old).trees table) row.new × (rowid row.new ≡ column entry.now width)) }
     ensures left { OnOk result (IsClean (S.Store.view store.new) → AreAmong ((S.Store.view store.old).trees table) (left_of (S.Store.view store.new) 1)) }
     ensures entries { OnOk result (IsClean (S.Store.view store.new) → (S.Store.view store.new).cursors 0 ≡ (S.Store.view store.old).cursors 0) }
-    ensures stay { OnOk result (StayLive (S.Store.view store.old) (S.Store.view store.new)) }
-    ensures sound { OnOk result (IsClean (S.Store.view store.new) → (S.Store.view store.new).is_broken ≡ false) }
+    ensures steps { OnOk result (Steps (S.Store.view store.old) (S.Store.view store.new)) }
     ensures ours { IfErr result (λ fault. ¬ (IsForeign fault)) }
     ensures looks { Looks S.Store store.old store.new }
 {
@@ -114,8 +110,7 @@ fn read_row<S: Store>(
     ensures found { OnOk result (IsClean (S.Store.view store.new) → AreAmong ((S.Store.view store.old).trees table) (left_of (S.Store.view store.old) 1) → Contains ((S.Store.view store.old).trees table) row.new × (rowid row.new ≡ column entry.now width)) }
     ensures left { OnOk result (IsClean (S.Store.view store.new) → AreAmong ((S.Store.view store.old).trees table) (left_of (S.Store.view store.old) 1) → AreAmong ((S.Store.view store.old).trees table) (left_of (S.Store.view store.new) 1)) }
     ensures entries { OnOk result (IsClean (S.Store.view store.new) → (S.Store.view store.new).cursors 0 ≡ (S.Store.view store.old).cursors 0) }
-    ensures stay { OnOk result (StayLive (S.Store.view store.old) (S.Store.view store.new)) }
-    ensures sound { OnOk result (IsClean (S.Store.view store.new) → (S.Store.view store.new).is_broken ≡ false) }
+    ensures steps { OnOk result (Steps (S.Store.view store.old) (S.Store.view store.new)) }
     ensures ours { IfErr result (λ fault. ¬ (IsForeign fault)) }
     ensures looks { Looks S.Store store.old store.new }
 {
@@ -144,8 +139,7 @@ pub(crate) fn next_row<S: Store>(
     ensures told { IfOk result (λ more. IsClean (S.Store.view store.new) → IsWalk (S.Store.view store.old) table
         → Leads (reached (S.Store.view store.old) table width key.now) row.new (reached (S.Store.view store.new) table width key.now) more) }
     ensures walk { OnOk result (IsClean (S.Store.view store.new) → IsWalk (S.Store.view store.old) table → IsWalk (S.Store.view store.new) table) }
-    ensures stay { OnOk result (StayLive (S.Store.view store.old) (S.Store.view store.new)) }
-    ensures sound { OnOk result (IsClean (S.Store.view store.new) → (S.Store.view store.new).is_broken ≡ false) }
+    ensures steps { OnOk result (Steps (S.Store.view store.old) (S.Store.view store.new)) }
     ensures ours { IfErr result (λ fault. ¬ (IsForeign fault)) }
     ensures looks { Looks S.Store store.old store.new }
 {

@@ -1,12 +1,12 @@
 //! The two ways to walk over the rows of a table of elements, of tags or of links in the order of its primary key.
 
-ghost use Rattle.std.specs.Prelude.{◌≡◌, false, length, IsSome, IsTrue, IfOk, IfErr, OnOk};
-ghost use Rattle.sqlite_trees.specs.View.{IsClean, StayLive};
+ghost use Rattle.std.specs.Prelude.{◌≡◌, length, IsSome, IsTrue, IfOk, IfErr, OnOk};
+ghost use Rattle.sqlite_trees.specs.View.{IsClean};
 ghost use Rattle.osm_rows.specs.Keeping.{IsForeign};
-ghost use Rattle.osm_tree_audits.specs.Looking.{Looks};
+ghost use Rattle.osm_tree_audits.specs.Looking.{Looks, Steps};
 ghost use Rattle.osm_tree_audits.specs.ElementTables.{index_of, table_of};
 ghost use Rattle.osm_tree_audits.specs.Looks.{IsInOrder};
-ghost use Rattle.osm_tree_audits.specs.Walking.{IsWalkBy, Leads, all_reached, reached_by};
+ghost use Rattle.osm_tree_audits.specs.Walking.{CanWalk, IsWalkBy, Leads, all_reached, reached_by};
 
 use crate::in_order::{begin_in_order, next_in_order};
 use crate::tables::ElementTable;
@@ -37,9 +37,7 @@ fn begin_by_index<S: Store>(
     requires table { IsClean (S.Store.view store.old) → (S.Store.view store.old).shape (table_of of) ≡ Shape.Table }
     ensures walk { IfOk result (λ way. IsClean (S.Store.view store.new) → IsWalkBy way (S.Store.view store.new) of) }
     ensures all { IfOk result (λ way. IsClean (S.Store.view store.new) → reached_by way (S.Store.view store.new) of key.now ≡ all_reached (S.Store.view store.old).trees of key.now) }
-    ensures entries { OnOk result (IsSome ((S.Store.view store.new).cursors 0)) }
-    ensures rows { OnOk result (IsSome ((S.Store.view store.new).cursors 1)) }
-    ensures sound { OnOk result (IsClean (S.Store.view store.new) → (S.Store.view store.new).is_broken ≡ false) }
+    ensures ready { OnOk result (CanWalk (S.Store.view store.new)) }
     ensures ours { IfErr result (λ fault. ¬ (IsForeign fault)) }
     ensures looks { Looks S.Store store.old store.new }
 {
@@ -61,9 +59,7 @@ pub(crate) fn begin<S: Store>(
     ensures walk { IfOk result (λ way. IsClean (S.Store.view store.new) → (IsTrue in_order → IsInOrder (S.Store.view store.old).trees of) → IsWalkBy way (S.Store.view store.new) of) }
     ensures all { IfOk result (λ way. IsClean (S.Store.view store.new) → (IsTrue in_order → IsInOrder (S.Store.view store.old).trees of)
         → reached_by way (S.Store.view store.new) of key.now ≡ all_reached (S.Store.view store.old).trees of key.now) }
-    ensures entries { OnOk result (IsSome ((S.Store.view store.new).cursors 0)) }
-    ensures rows { OnOk result (IsSome ((S.Store.view store.new).cursors 1)) }
-    ensures sound { OnOk result (IsClean (S.Store.view store.new) → (S.Store.view store.new).is_broken ≡ false) }
+    ensures ready { OnOk result (CanWalk (S.Store.view store.new)) }
     ensures ours { IfErr result (λ fault. ¬ (IsForeign fault)) }
     ensures looks { Looks S.Store store.old store.new }
 {
@@ -93,8 +89,7 @@ pub(crate) fn next_by<S: Store>(
     ensures told { IfOk result (λ more. IsClean (S.Store.view store.new) → IsWalkBy way (S.Store.view store.old) of
         → Leads (reached_by way (S.Store.view store.old) of key.now) row.new (reached_by way (S.Store.view store.new) of key.now) more) }
     ensures walk { OnOk result (IsClean (S.Store.view store.new) → IsWalkBy way (S.Store.view store.old) of → IsWalkBy way (S.Store.view store.new) of) }
-    ensures stay { OnOk result (StayLive (S.Store.view store.old) (S.Store.view store.new)) }
-    ensures sound { OnOk result (IsClean (S.Store.view store.new) → (S.Store.view store.new).is_broken ≡ false) }
+    ensures steps { OnOk result (Steps (S.Store.view store.old) (S.Store.view store.new)) }
     ensures ours { IfErr result (λ fault. ¬ (IsForeign fault)) }
     ensures looks { Looks S.Store store.old store.new }
 {

@@ -18,7 +18,7 @@ rows-init g c = (
       let old = g.S.Store.view c.args.store.now in
       let new = g.S.Store.view c.begin_walk.new.store in
       let gives = g.R.FromRow.from_row_gives in
-      let trees : new.trees ≡ old.trees = ap (λ (v : View). v.trees) (c.begin_walk.ensures.looks.reads clean (c.in_ok-begin_walk.ensures.sound clean)) in
+      let trees : new.trees ≡ old.trees = ap (λ (v : View). v.trees) (c.begin_walk.ensures.looks.reads clean (c.in_ok-begin_walk.ensures.ready.sound clean)) in
       let all = begins_with old new c.args.index c.args.table c.args.width c.args.key.now trees (c.in_ok-begin_walk.ensures.placed clean) in
       (c.in_ok-begin_walk.ensures.walk clean, rw c.new-rows.ensures.items (ap (map gives) all)),
 )
@@ -58,3 +58,9 @@ rows-preserved g c = (
 
 pub returns-in_err-push-clause-looks : goal.returns-in_err-push-clause-looks
 returns-in_err-push-clause-looks g c = record { reads = search rules; quiet = still_quiet c.rows.invariant.3 c.next_row.ensures.looks.quiet }
+
+pub returns-in_err-copy_columns-clause-looks : goal.returns-in_err-copy_columns-clause-looks
+returns-in_err-copy_columns-clause-looks g c = record { reads = search rules; quiet = still_quiet c.rows.invariant.3 c.next_row.ensures.looks.quiet }
+
+pub returns-in_err-from_row-clause-looks : goal.returns-in_err-from_row-clause-looks
+returns-in_err-from_row-clause-looks g c = record { reads = search rules; quiet = still_quiet c.rows.invariant.3 c.next_row.ensures.looks.quiet }

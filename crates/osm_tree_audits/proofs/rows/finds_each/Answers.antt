@@ -20,9 +20,9 @@ loop-rest-init g c =
       done,
       record {
         whole = c.split_at.ensures.by_index.0;
-        entries = c.requires.entries;
-        rows = c.requires.rows;
-        reads = λ clean. (refl, c.requires.sound clean);
+        entries = c.requires.ready.entries;
+        rows = c.requires.ready.rows;
+        reads = λ clean. (refl, c.requires.ready.sound clean);
         quiet = search rules;
         found = λ clean walk. (walk, ap (λ l. l ++ now) (sym (no_rows of c.args.off done none)));
       },

@@ -46,7 +46,7 @@ returns-clause-told g c clean walk =
     let found = rw trees at (c.in_ok-read_row.ensures.found clean among) in
     let f = resolved (old.trees c.args.table) c.args.width in
     let leads = led (old.trees c.args.table) c.args.width e row walk.shaped found.0 found.1 in
-    let last : new.trees ≡ old.trees = ap (λ (v : View). v.trees) (c.read_row.ensures.looks.reads clean (c.in_ok-read_row.ensures.sound clean)) ∙ trees in
+    let last : new.trees ≡ old.trees = ap (λ (v : View). v.trees) (c.read_row.ensures.looks.reads clean (c.in_ok-read_row.ensures.steps.sound clean)) ∙ trees in
     let left : left_of new 0 ≡ left_of next 0 = rw (c.in_ok-read_row.ensures.entries clean) refl in
     let more : reached new c.args.table c.args.width c.args.key.now ≡ map (drop 1) (flat_map f (filter (starts c.args.key.now) (left_of next 0))) = rw (last, left) refl in
     ap (λ l. map (drop 1) (flat_map f (filter (starts c.args.key.now) l))) step
@@ -64,7 +64,7 @@ returns-clause-walk g c clean walk =
     let trees : next.trees ≡ old.trees = ap (λ (v : View). v.trees) moves.same in
     let rows : left_of next 1 ≡ left_of old 1 = rw (moves.others 1 (omega arith)) refl in
     let among : AreAmong (next.trees c.args.table) (left_of next 1) = rw (trees, rows) walk.rows in
-    let reads = c.read_row.ensures.looks.reads clean (c.in_ok-read_row.ensures.sound clean) in
+    let reads = c.read_row.ensures.looks.reads clean (c.in_ok-read_row.ensures.steps.sound clean) in
     let same : new ≡ record old { cursors = new.cursors } = reads ∙ ap (λ (v : View). record v { cursors = new.cursors }) moves.same in
     let left : left_of new 0 ≡ left_of next 0 = rw (c.in_ok-read_row.ensures.entries clean) refl in
     let ahead : left_of old 0 ≡ c.next.new.row ∷ left_of new 0 = step ∙ ap (λ l. c.next.new.row ∷ l) (sym left) in

@@ -13,6 +13,6 @@ returns-clause-all g c clean =
     let key = c.args.key.now in
     let old = g.S.Store.view c.args.store.now in
     let new = g.S.Store.view c.begin_walk.new.store in
-    let trees : new.trees ≡ old.trees = ap (λ (v : View). v.trees) (c.begin_walk.ensures.looks.reads clean (c.in_ok-begin_walk.ensures.sound clean)) in
+    let trees : new.trees ≡ old.trees = ap (λ (v : View). v.trees) (c.begin_walk.ensures.looks.reads clean (c.in_ok-begin_walk.ensures.ready.sound clean)) in
     let placed = subst (λ t. left_of new 0 ≡ from_key plain key (old.trees t)) c.index.ensures (c.in_ok-begin_walk.ensures.placed clean) in
     begins_with old new (index_of of) (table_of of) (width_of of) key trees placed
