@@ -1,6 +1,6 @@
 //! The rows of tags and links, and those of a whole blob.
 
-ghost use Rattle.std.specs.Prelude.{◌≡◌, ◌<◌, ◌^◌, [], ◌∷◌, pos, false, map, filter, IfOk, IfErr, OnOk, MatchResult};
+ghost use Rattle.std.specs.Prelude.{◌≡◌, ◌<◌, ◌^◌, [], ◌∷◌, pos, false, filter, IfOk, IfErr, OnOk};
 ghost use Rattle.sqlite_value.specs.declared.value.Value.TheVariants.{Int};
 ghost use Rattle.sqlite_value.specs.Order.{column};
 ghost use Rattle.sqlite_trees.specs.View.{IsClean};
@@ -10,9 +10,10 @@ ghost use Rattle.osm_rows.specs.Keeping.{IsForeign};
 ghost use Rattle.osm_rows.specs.Load.TableAnswers.{AreRowsOf};
 ghost use Rattle.osm_rows.specs.Load.TableParts.{IsAlone};
 ghost use Rattle.osm_rows.specs.Rows.{Placed, is_in, placed_in};
-ghost use Rattle.osm_rows.specs.TableRows.{element_row, tags_at, tag_row, links_at, link_row};
+ghost use Rattle.osm_rows.specs.TableRows.{element_row};
 ghost use Rattle.osm_tree_audits.specs.Finding.{Finds};
 ghost use Rattle.osm_tree_audits.specs.Looking.{Looks};
+ghost use Rattle.osm_trees.specs.Answers.{AreItsParts, IsAnswer};
 ghost use Rattle.osm_trees.specs.Below.{HoldsBelow};
 
 use osm_rows::{PartRow, StoreFault};
@@ -68,7 +69,7 @@ pub(crate) fn parts_of<S: Store>(
     element: &row::Row,
 ) -> Result<(Vec<PartRow>, Vec<PartRow>), StoreFault>
     ensures held { IsClean (S.Store.view store.new) → (held : HeldMap) (p : Placed) → HoldsBelow Tables (S.Store.view store.old) held → element.now ≡ element_row p → IsAlone (placed_in held) p
-        → MatchResult result (λ parts. (parts.0.items ≡ map tag_row (tags_at p)) × (parts.1.items ≡ map link_row (links_at p)) × ((S.Store.view store.new).is_broken ≡ false)) (λ fault. ¬ (IsForeign fault)) }
+        → IsAnswer (S.Store.view store.new) result (λ parts. AreItsParts p parts.0.items parts.1.items) }
     ensures looks { Looks S.Store store.old store.new }
 {
     let key = place_key(alloc, element)?;
@@ -83,7 +84,7 @@ pub(crate) fn blob_rows<S: Store>(
 ) -> Result<(Vec<Row>, Vec<PartRow>, Vec<PartRow>), StoreFault>
     requires { off < 2 ^ 63 }
     ensures held { IsClean (S.Store.view store.new) → (held : HeldMap) → HoldsBelow Tables (S.Store.view store.old) held
-        → MatchResult result (λ rows. AreRowsOf (record { elements = rows.0; tags = rows.1; links = rows.2 }) (filter (is_in off) (placed_in held)) × ((S.Store.view store.new).is_broken ≡ false)) (λ fault. ¬ (IsForeign fault)) }
+        → IsAnswer (S.Store.view store.new) result (λ rows. AreRowsOf (record { elements = rows.0; tags = rows.1; links = rows.2 }) (filter (is_in off) (placed_in held))) }
     ensures looks { Looks S.Store store.old store.new }
 {
     let key = offset_key(alloc, off)?;

@@ -1,19 +1,17 @@
 //! The rows of the elements of one kind and id.
 
-ghost use Rattle.std.specs.Prelude.{◌≡◌, [], ◌∷◌, pos, false, List, filter, IfOk, OnOk, MatchResult};
-ghost use Rattle.std.specs.List.{AllByRecursion};
+ghost use Rattle.std.specs.Prelude.{◌≡◌, [], ◌∷◌, pos, List, filter, IfOk, OnOk};
 ghost use Rattle.std.specs.List.Sorted.{IsPermutation, IsSorted};
 ghost use Rattle.sqlite_value.specs.declared.value.Value.TheVariants.{Int};
 ghost use Rattle.sqlite_value.specs.Keys.{plain, entry_cmp};
 ghost use Rattle.sqlite_trees.specs.View.{IsClean};
 ghost use Rattle.osm_rows.specs.declared.schema.layout.Layout.TheVariants.{Tables};
 ghost use Rattle.osm_rows.specs.Held.{HeldMap};
-ghost use Rattle.osm_rows.specs.Keeping.{IsForeign};
 ghost use Rattle.osm_rows.specs.Load.TableAnswers.{AreRowsOf};
-ghost use Rattle.osm_rows.specs.Load.TableParts.{IsAlone};
 ghost use Rattle.osm_rows.specs.Rows.{Placed, element_code, is_of, placed_in};
-ghost use Rattle.osm_rows.specs.TableRows.{element_rows, tag_rows, link_rows};
+ghost use Rattle.osm_rows.specs.TableRows.{element_rows};
 ghost use Rattle.osm_tree_audits.specs.Looking.{Looks};
+ghost use Rattle.osm_trees.specs.Answers.{AreAlone, ArePartsOf, IsAnswer};
 ghost use Rattle.osm_trees.specs.Below.{HoldsBelow};
 
 use crate::parts::parts_of;
@@ -66,7 +64,7 @@ fn matching_rows<S: Store>(
     id: i64,
 ) -> Result<Vec<row::Row>, StoreFault>
     ensures held { IsClean (S.Store.view store.new) → (held : HeldMap) → HoldsBelow Tables (S.Store.view store.old) held
-        → MatchResult result (λ rows. (rows.items ≡ element_rows (filter (is_of kind id) (placed_in held))) × ((S.Store.view store.new).is_broken ≡ false)) (λ fault. ¬ (IsForeign fault)) }
+        → IsAnswer (S.Store.view store.new) result (λ rows. rows.items ≡ element_rows (filter (is_of kind id) (placed_in held))) }
     ensures looks { Looks S.Store store.old store.new }
 {
     let key = id_key(alloc, kind, id)?;
@@ -81,8 +79,8 @@ fn all_parts<S: Store>(
     store: &mut S,
     elements: &[row::Row],
 ) -> Result<(Vec<PartRow>, Vec<PartRow>), StoreFault>
-    ensures held { IsClean (S.Store.view store.new) → (held : HeldMap) (found : List Placed) → HoldsBelow Tables (S.Store.view store.old) held → elements.now ≡ element_rows found → AllByRecursion (IsAlone (placed_in held)) found
-        → MatchResult result (λ parts. (parts.0.items ≡ tag_rows found) × (parts.1.items ≡ link_rows found) × ((S.Store.view store.new).is_broken ≡ false)) (λ fault. ¬ (IsForeign fault)) }
+    ensures held { IsClean (S.Store.view store.new) → (held : HeldMap) (found : List Placed) → HoldsBelow Tables (S.Store.view store.old) held → elements.now ≡ element_rows found → AreAlone held found
+        → IsAnswer (S.Store.view store.new) result (λ parts. ArePartsOf found parts.0.items parts.1.items) }
     ensures looks { Looks S.Store store.old store.new }
 {
     let mut tags = Vec::new(alloc);
@@ -103,7 +101,7 @@ pub(crate) fn found_rows<S: Store>(
     id: i64,
 ) -> Result<(Vec<Row>, Vec<PartRow>, Vec<PartRow>), StoreFault>
     ensures held { IsClean (S.Store.view store.new) → (held : HeldMap) → HoldsBelow Tables (S.Store.view store.old) held
-        → MatchResult result (λ rows. AreRowsOf (record { elements = rows.0; tags = rows.1; links = rows.2 }) (filter (is_of kind id) (placed_in held)) × ((S.Store.view store.new).is_broken ≡ false)) (λ fault. ¬ (IsForeign fault)) }
+        → IsAnswer (S.Store.view store.new) result (λ rows. AreRowsOf (record { elements = rows.0; tags = rows.1; links = rows.2 }) (filter (is_of kind id) (placed_in held))) }
     ensures looks { Looks S.Store store.old store.new }
 {
     let elements = matching_rows(alloc, store, kind, id)?;

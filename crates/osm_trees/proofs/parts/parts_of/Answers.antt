@@ -13,5 +13,5 @@ returns-clause-held g c clean held p holds is alone =
     MatchResult-weaker c.parts_with.result (joined c.parts_with.result _ _ _ c.parts_with.ensures.found c.parts_with.ensures.sound c.parts_with.ensures.ours)
     (λ parts h.
     let found = rw key at (h.0 clean) in
-    (its_tags trees held holds.tables p alone _ found.0, its_links trees held holds.tables p alone _ found.1, h.1 clean))
+    (record { are_tags = its_tags trees held holds.tables p alone _ found.0; are_links = its_links trees held holds.tables p alone _ found.1 }, h.1 clean))
     (λ fault h. h)

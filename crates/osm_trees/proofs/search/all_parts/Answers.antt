@@ -24,9 +24,9 @@ loop-row-preserved g c =
           let before = c.loop-row.invariant.read clean_now held found holds is alone in
           let it = row_at (IsAlone (placed_in held)) element_row found _ _ _ (All-from_recursion _ _ alone) is c.loop-row-test.true c.row-item.is in
           let parts = c.in_ok-its_tags.ensures.held clean held it.item before.0 it.is it.fits in (
-            holds_after Tables now next held (looks.reads clean parts.2) clean parts.2 before.0,
-            several_more tag_row tags_at (take c.loop-row.row-index found) _ it.item _ _ _ it.more before.1 parts.0 c.in_ok-append.ensures.items,
-            several_more link_row links_at (take c.loop-row.row-index found) _ it.item _ _ _ it.more before.2 parts.1 c.in_ok-append-2.ensures.items,
+            holds_after Tables now next held (looks.reads clean parts.1) clean parts.1 before.0,
+            several_more tag_row tags_at (take c.loop-row.row-index found) _ it.item _ _ _ it.more before.1 parts.0.are_tags c.in_ok-append.ensures.items,
+            several_more link_row links_at (take c.loop-row.row-index found) _ it.item _ _ _ it.more before.2 parts.0.are_links c.in_ok-append-2.ensures.items,
           );
     }
 

@@ -21,7 +21,7 @@ returns-clause-held g c clean held holds =
     let matches = rw (to_z-of_z w64 c.args.id c.ranges.id) at (c.in_ok-elements.ensures.held clean_one held holds) in
     let still = holds_after Tables old one held (c.matching_rows.ensures.looks.reads clean_one matches.1) clean_one matches.1 holds in
     let parts = c.in_ok-tags.ensures.held clean held (filter test (placed_in held)) still (c.deref.ensures.value ∙ matches.0) (all-filter _ test (placed_in held) (all_alone held)) in
-    (rows_of_some held test _ holds.kept (c.in_ok-answered.ensures ∙ c.deref-2.ensures.value ∙ matches.0) parts.0 parts.1, parts.2)
+    (rows_of_some held test _ holds.kept (c.in_ok-answered.ensures ∙ c.deref-2.ensures.value ∙ matches.0) parts.0.are_tags parts.0.are_links, parts.1)
 
 pub returns-in_err-tags-clause-held : goal.returns-in_err-tags-clause-held
 returns-in_err-tags-clause-held g c clean held holds =
