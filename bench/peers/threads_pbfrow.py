@@ -1,11 +1,14 @@
 #!/usr/bin/env python3
-"""threads_pbfrow.py FILE RUNS: how long it takes to decode a file that is in memory, by one, two and four threads of one process, by
-so many processes, which share nothing, and as `blocks` decodes it ahead for a loop that has each block in turn: the best of so many
-runs, all of them in turn. Each thread or process has each second or fourth blob; each block is dropped once it is decoded.
+"""threads_pbfrow.py FILE ROUNDS: how long it takes to decode a file that is in memory, by one, two and four threads of one process,
+by so many processes, which share nothing, and as `blocks` decodes it ahead for a loop that has each block in turn: medians of so
+many rounds, all of them in turn, and how one compares with four in the same round. Each thread or process has each second or
+fourth blob; each block is dropped once it is decoded. Where four take more processor time than one for the same blobs, a processor
+of this machine is slower while the others work, too; what is lost otherwise is waiting.
 
 Beside them stands what four processors of this machine can do at all: processes that share work that needs no memory, and such
 that copy memory from one place to another."""
 import os
+import statistics
 import sys
 import time
 from threading import Thread
@@ -79,20 +82,27 @@ def took(call, *words):
     return time.perf_counter() - wall, sum(os.times()[:4]) - used
 
 
+def spread(figures):
+    return f"{statistics.median(figures):.2f} ({min(figures):.2f} to {max(figures):.2f})"
+
+
 def main():
-    path, runs = sys.argv[1], int(sys.argv[2])
+    path, rounds = sys.argv[1], int(sys.argv[2])
     ways = [(call, count) for call in NAMES for count in (1, 2, 4)]
-    best = {}
+    taken = {way: [] for way in ways}
     with pbfrow.open(path) as file:
         blobs = list(file.blobs())
         by_threads(file, blobs, 1)
-        for _ in range(runs):
+        for _ in range(rounds):
             for way in ways:
-                best[way] = min(best.get(way, (9e9, 0)), took(way[0], file, blobs, way[1]))
-    print(f"\ndecoding alone, {os.path.getsize(path)} bytes in memory, without the start of Python\n\n| By | wall s | processor s | times one |\n|---|---|---|---|")
-    for call, count in ways:
-        wall, used = best[call, count]
-        print(f"| {NAMES[call]}: {count} | {wall:.3f} | {used:.3f} | {best[call, 1][0] / wall:.1f} |")
+                taken[way].append(took(way[0], file, blobs, way[1]))
+    print(f"\ndecoding alone, {os.path.getsize(path)} bytes in memory, without the start of Python; medians of {rounds} rounds (least to greatest)\n")
+    print("| By | one, s | two, s | four, s | one / four | processor time of four / of one |\n|---|---|---|---|---|---|")
+    for call, name in NAMES.items():
+        walls = [spread([wall for wall, _ in taken[call, count]]) for count in (1, 2, 4)]
+        both = [*zip(taken[call, 1], taken[call, 4])]
+        faster = spread([one[0] / four[0] for one, four in both])
+        print(f"| {name} | {' | '.join(walls)} | {faster} | {spread([four[1] / one[1] for one, four in both])} |")
 
 
 main()
