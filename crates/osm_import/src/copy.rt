@@ -25,7 +25,7 @@ pub enum CopyFault {
     #[error("{0}")]
     Refused(Conflict),
     /// The first store's rows aren't those of the blob that was put there: there are other than as many elements of it as
-    /// its row says, or one uses more texts than any that a store is given. Nothing of it is copied.
+    /// its row says, a row is of no element, or one uses more texts than any that a store is given. Nothing of it is copied.
     #[error("the rows aren't those of the blob that was put there")]
     Spoiled,
     /// A call of either store has failed, or memory was refused.
@@ -136,7 +136,9 @@ fn copy_blob<F: Reader, T: Keeper>(
         return Err(CopyFault::Refused(Conflict::Overlap));
     }
     let loaded = from.load(alloc, extent.off)?;
-    let elements = loaded.elements(alloc)?;
+    let Some(elements) = loaded.elements(alloc)? else {
+        return Err(CopyFault::Spoiled);
+    };
     if elements.len() as u64 != extent.n {
         return Err(CopyFault::Spoiled);
     }
@@ -211,10 +213,10 @@ fn copy_blobs<F: Reader, T: Keeper>(
 /// at `off`, and holds what it held and, at each free offset below, the blob of the first. `Refused` comes with `Differs`
 /// where `off` is held with another digest, and with `Overlap` where it is free and the blob's extent meets a held one;
 /// `Spoiled` comes where the first store, which then holds no map, has other than as many elements of the blob as its row
-/// says, or one of more texts than any that was put, before anything of it is copied; `Store` comes where a call of either
-/// store has failed or memory was refused. A crash, and a `Store` after which the other store has to be opened again, leave
-/// what was held with the blobs below some offset; a crash after `Ok` leaves all of them. Whatever rows the first store has,
-/// what the other held stays, also after a crash.
+/// says, a row of no element, or one of more texts than any that was put, before anything of it is copied; `Store` comes
+/// where a call of either store has failed or memory was refused. A crash, and a `Store` after which the other store has to
+/// be opened again, leave what was held with the blobs below some offset; a crash after `Ok` leaves all of them. Whatever
+/// rows the first store has, what the other held stays, also after a crash.
 pub fn copy_held<F: Reader, T: Keeper>(
     alloc: Global,
     from: &mut F,

@@ -33,10 +33,10 @@ pub(crate) fn load_blob<S: Store>(
 {
     // A held blob has bytes, and ends at `MAX_OFFSET` at most.
     if off >= MAX_OFFSET {
-        return Loaded::from_tables(alloc, Vec::new(alloc), Vec::new(alloc), Vec::new(alloc));
+        return Loaded::from_tables(Vec::new(alloc), Vec::new(alloc), Vec::new(alloc));
     }
     let (elements, tags, links) = blob_rows(alloc, store, off)?;
-    Loaded::from_tables(alloc, elements, tags, links)
+    Loaded::from_tables(elements, tags, links)
 }
 
 /// The rows of all held elements of this kind and id, by offset and position.

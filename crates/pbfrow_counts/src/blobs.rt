@@ -15,7 +15,8 @@ use crate::fault::CountFault;
 use osm_rows::{Extent, Reader};
 use std::alloc::Global;
 
-/// Counts the elements of the blob at an extent, unless the store has other than as many of it as the extent says.
+/// Counts the elements of the blob at an extent, unless the store has other than as many of it as the extent says, or a row
+/// of it that no element has.
 fn count_blob<K: Reader>(
     alloc: Global,
     keeper: &mut K,
@@ -33,7 +34,9 @@ fn count_blob<K: Reader>(
     ensures counted { K.failures keeper.old ≤ K.failures keeper.new }
 {
     let loaded = keeper.load(alloc, extent.off)?;
-    let elements = loaded.elements(alloc)?;
+    let Some(elements) = loaded.elements(alloc)? else {
+        return Err(CountFault::Miscounted(extent.off));
+    };
     if elements.len() as u64 != extent.n {
         return Err(CountFault::Miscounted(extent.off));
     }
@@ -46,7 +49,8 @@ fn count_blob<K: Reader>(
 ///
 /// Where the extents are all or some of those that the store holds, the elements of these blobs are counted, each once, and
 /// an error is that of a read that has failed, or refused memory. Whatever rows the store has, as many elements are counted
-/// as the extents say; where the store has more or fewer, it stops with `Miscounted` and that offset.
+/// as the extents say; where the store has more or fewer, or a row that no element has, it stops with `Miscounted` and that
+/// offset.
 pub fn count_blobs<K: Reader>(
     alloc: Global,
     keeper: &mut K,

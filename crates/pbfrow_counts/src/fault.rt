@@ -12,7 +12,7 @@ use thiserror::Error;
 /// Why the elements of a store aren't counted.
 #[derive(Clone, Copy, Debug, PartialEq, Eq, Error)]
 pub enum CountFault {
-    /// The blob at this offset has other than as many elements as its row says.
+    /// The blob at this offset has other than as many elements as its row says, or a row that no element has.
     #[error("the rows at {0} aren't those of the blob that was put there")]
     Miscounted(u64),
     /// A call of the store has failed, or memory was refused.

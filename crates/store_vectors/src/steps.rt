@@ -232,8 +232,11 @@ pub fn loaded_lines<K: Reader>(
     off: u64,
 ) -> Result<Vec<u8>, StoreFault> {
     let loaded = store.load(alloc, off)?;
+    let Some(elements) = loaded.elements(alloc)? else {
+        return Err(StoreFault::NotThisStore(None));
+    };
     let mut out = Outlet::new(Vec::new(alloc));
-    for element in &loaded.elements(alloc)? {
+    for element in &elements {
         if write_line(element, &mut out).is_err() {
             return Err(StoreFault::Memory);
         }

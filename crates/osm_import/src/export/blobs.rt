@@ -54,7 +54,8 @@ pub(super) fn extents_to_export<K: Reader>(
     Ok(extents)
 }
 
-/// Takes the step at the blob at an extent, unless the store has other than as many elements of it as the extent says.
+/// Takes the step at the blob at an extent, unless the store has other than as many elements of it as the extent says, or a
+/// row of it that no element has.
 fn write_blob<K: Reader, S: Sink, W: BlobStep<S>>(
     alloc: Global,
     keeper: &mut K,
@@ -72,7 +73,9 @@ fn write_blob<K: Reader, S: Sink, W: BlobStep<S>>(
     ensures counted { K.failures keeper.old ≤ K.failures keeper.new }
 {
     let loaded = keeper.load(alloc, extent.off)?;
-    let elements = loaded.elements(alloc)?;
+    let Some(elements) = loaded.elements(alloc)? else {
+        return Err(ExportFault::Miscounted(extent.off));
+    };
     if elements.len() as u64 != extent.n {
         return Err(ExportFault::Miscounted(extent.off));
     }
@@ -83,7 +86,7 @@ fn write_blob<K: Reader, S: Sink, W: BlobStep<S>>(
 /// of those that the store holds, it is taken once at each of these, by offset. What is held stays.
 ///
 /// Whatever rows the store has, the step is taken at as many elements as each extent says; where the store has more or
-/// fewer, it stops with `Miscounted` and that offset.
+/// fewer, or a row that no element has, it stops with `Miscounted` and that offset.
 pub fn write_blobs<K: Reader, S: Sink, W: BlobStep<S>>(
     alloc: Global,
     keeper: &mut K,

@@ -24,7 +24,8 @@ pub enum ExportFault {
     /// An element whose block alone has more than 33,554,431 bytes. It comes from exports as PBF alone.
     #[error("an element is too large for a block")]
     BlockTooLarge,
-    /// The blob at this offset has other than as many elements as its row says. Nothing of it is written.
+    /// The blob at this offset has other than as many elements as its row says, or a row that no element has. Nothing of it
+    /// is written.
     #[error("the rows at {0} aren't those of the blob that was put there")]
     Miscounted(u64),
     /// A call of the store has failed, or memory was refused.

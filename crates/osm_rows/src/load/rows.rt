@@ -1,6 +1,6 @@
 //! Rows of elements, as their store keeps elements.
 
-ghost use Rattle.std.specs.Prelude.{◌≡◌, List, map, IfOk};
+ghost use Rattle.std.specs.Prelude.{◌≡◌, List, map, IfOk, IsSomeAnd};
 ghost use Rattle.osm_rows.specs.Load.Loading.{StandFor};
 ghost use Rattle.osm_rows.specs.Rows.{Placed};
 
@@ -29,14 +29,27 @@ impl ElementRows {
         }
     }
 
-    /// The elements alone.
-    pub(crate) fn elements(&self, alloc: Global) -> Result<Vec<Element<'_>>, AllocError>
-        ensures { (placed : List Placed) → StandFor self.now placed → IfOk result (λ found. found.items ≡ map (λ p. p.2) placed) }
+    /// The same, but None where a row of tables is of no element.
+    fn placed(&self, alloc: Global) -> Result<Option<Vec<(u64, u64, Element<'_>)>>, AllocError>
+        ensures { (placed : List Placed) → StandFor self.now placed → IfOk result (λ found. IsSomeAnd found (λ elements. elements.items ≡ placed)) }
     {
-        let mut elements = Vec::new(alloc);
-        for found in self.matches(alloc)? {
+        match self {
+            ElementRows::Bodies(bodies) => Ok(Some(bodies.matches(alloc)?)),
+            ElementRows::Tables(tables) => tables.placed(alloc),
+        }
+    }
+
+    /// The elements alone; None where a row of tables is of no element.
+    pub(crate) fn elements(&self, alloc: Global) -> Result<Option<Vec<Element<'_>>>, AllocError>
+        ensures { (placed : List Placed) → StandFor self.now placed → IfOk result (λ found. IsSomeAnd found (λ elements. elements.items ≡ map (λ p. p.2) placed)) }
+    {
+        let Some(placed) = self.placed(alloc)? else {
+            return Ok(None);
+        };
+        let mut elements = Vec::with_capacity(alloc, placed.len())?;
+        for found in placed {
             elements.push(found.2)?;
         }
-        Ok(elements)
+        Ok(Some(elements))
     }
 }

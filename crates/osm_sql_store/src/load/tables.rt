@@ -49,7 +49,7 @@ pub(crate) fn load_tables<S: Alter>(
         tags,
         links,
     } = load_table_rows(alloc, connection, off)?;
-    Loaded::from_tables(alloc, elements, tags, links)
+    Loaded::from_tables(elements, tags, links)
 }
 
 /// The rows of all held elements of this kind and id, by offset and position.

@@ -5,6 +5,7 @@ use Rattle.std.proofs.lemmas.Slice.Eq.{bytes_eq-Decides}
 use Rattle.std.proofs.lemmas.Bool.Decides.{not_from_Decides}
 use Rattle.osm_rows.specs.Held.{Blob, IsFree}
 use Rattle.osm_rows.specs.declared.keeper.Extent.{Extent}
+use Rattle.osm_rows.proofs.LoadLemmas.ElementKinds.{found_as}
 use Rattle.osm_import.proofs.Delivering.{addable, found-at, unheld-at}
 use Rattle.osm_import.specs.Stores.{blob_of}
 use Rattle.osm_import.proofs.CopiesLemmas.{crash-keeps, keeps-free, keeps-same, kept-failed, kept-still, never-many}
@@ -47,7 +48,7 @@ returns-then-not-is_empty-clause-step g c = λ source held blob from_holds from_
 pub returns-in-Ok-clause-step : goal.returns-in-Ok-clause-step
 returns-in-Ok-clause-step g c = λ source held blob from_holds from_honest holds honest of is.
     let earlier = c.put.ensures.adds.honest honest in
-    let are = c.deref-3.ensures.value ∙ c.in_ok-elements.ensures blob.elements (c.in_ok-loaded.ensures.rows source blob from_holds from_honest of) in
+    let are = c.deref-3.ensures.value ∙ found_as (λ made. made.items ≡ blob.elements) _ _ (c.in_ok-elements.ensures blob.elements (c.in_ok-loaded.ensures.rows source blob from_holds from_honest of)) c.in-Some-2.is in
     let few = c.in_ok-few.ensures.0 c.if-not-few.false in
     let can = addable held c.args.extent.now.off c.args.extent.now.fin c.in_ok-touched.touched.items c.args.extent.now.digest c.args.extent.now.kind c.deref-3.result.now c.deref-2.result.now
     (c.in_ok-touched.ensures.touching held holds earlier) (search rules) (c.deref-3.ensures.value ∙ sym c.deref-2.ensures.value) few in
@@ -60,7 +61,7 @@ returns-in-Ok-clause-step g c = λ source held blob from_holds from_honest holds
 pub returns-in-Ok-clause-crash : goal.returns-in-Ok-clause-crash
 returns-in-Ok-clause-crash g c = λ source held blob from_holds from_honest holds honest of is left leaves.
     let earlier = c.put.ensures.adds.honest honest in
-    let are = c.deref-3.ensures.value ∙ c.in_ok-elements.ensures blob.elements (c.in_ok-loaded.ensures.rows source blob from_holds from_honest of) in
+    let are = c.deref-3.ensures.value ∙ found_as (λ made. made.items ≡ blob.elements) _ _ (c.in_ok-elements.ensures blob.elements (c.in_ok-loaded.ensures.rows source blob from_holds from_honest of)) c.in-Some-2.is in
     let few = c.in_ok-few.ensures.0 c.if-not-few.false in
     let can = addable held c.args.extent.now.off c.args.extent.now.fin c.in_ok-touched.touched.items c.args.extent.now.digest c.args.extent.now.kind c.deref-3.result.now c.deref-2.result.now
     (c.in_ok-touched.ensures.touching held holds earlier) (search rules) (c.deref-3.ensures.value ∙ sym c.deref-2.ensures.value) few in
@@ -98,7 +99,7 @@ returns-in-Ok-clause-whole g c = λ held holds honest.
 pub returns-clause-step : goal.returns-clause-step
 returns-clause-step g c = λ source held blob from_holds from_honest holds honest of is open_now.
     let earlier = c.put.ensures.adds.honest honest in
-    let are = c.deref-3.ensures.value ∙ c.in_ok-elements.ensures blob.elements (c.in_ok-loaded.ensures.rows source blob from_holds from_honest of) in
+    let are = c.deref-3.ensures.value ∙ found_as (λ made. made.items ≡ blob.elements) _ _ (c.in_ok-elements.ensures blob.elements (c.in_ok-loaded.ensures.rows source blob from_holds from_honest of)) c.in-Some-2.is in
     let few = c.in_ok-few.ensures.0 c.if-not-few.false in
     let can = addable held c.args.extent.now.off c.args.extent.now.fin c.in_ok-touched.touched.items c.args.extent.now.digest c.args.extent.now.kind c.deref-3.result.now c.deref-2.result.now
     (c.in_ok-touched.ensures.touching held holds earlier) (search rules) (c.deref-3.ensures.value ∙ sym c.deref-2.ensures.value) few in
@@ -107,7 +108,7 @@ returns-clause-step g c = λ source held blob from_holds from_honest holds hones
 pub returns-clause-crash : goal.returns-clause-crash
 returns-clause-crash g c = λ source held blob from_holds from_honest holds honest of is left leaves.
     let earlier = c.put.ensures.adds.honest honest in
-    let are = c.deref-3.ensures.value ∙ c.in_ok-elements.ensures blob.elements (c.in_ok-loaded.ensures.rows source blob from_holds from_honest of) in
+    let are = c.deref-3.ensures.value ∙ found_as (λ made. made.items ≡ blob.elements) _ _ (c.in_ok-elements.ensures blob.elements (c.in_ok-loaded.ensures.rows source blob from_holds from_honest of)) c.in-Some-2.is in
     let few = c.in_ok-few.ensures.0 c.if-not-few.false in
     let can = addable held c.args.extent.now.off c.args.extent.now.fin c.in_ok-touched.touched.items c.args.extent.now.digest c.args.extent.now.kind c.deref-3.result.now c.deref-2.result.now
     (c.in_ok-touched.ensures.touching held holds earlier) (search rules) (c.deref-3.ensures.value ∙ sym c.deref-2.ensures.value) few in
@@ -145,7 +146,7 @@ returns-clause-whole g c = λ held holds honest.
 pub returns-clause-own : goal.returns-clause-own
 returns-clause-own g c = λ source held blob from_holds from_honest holds honest of is.
     let earlier = c.put.ensures.adds.honest honest in
-    let are = c.deref-3.ensures.value ∙ c.in_ok-elements.ensures blob.elements (c.in_ok-loaded.ensures.rows source blob from_holds from_honest of) in
+    let are = c.deref-3.ensures.value ∙ found_as (λ made. made.items ≡ blob.elements) _ _ (c.in_ok-elements.ensures blob.elements (c.in_ok-loaded.ensures.rows source blob from_holds from_honest of)) c.in-Some-2.is in
     let few = c.in_ok-few.ensures.0 c.if-not-few.false in
     let can = addable held c.args.extent.now.off c.args.extent.now.fin c.in_ok-touched.touched.items c.args.extent.now.digest c.args.extent.now.kind c.deref-3.result.now c.deref-2.result.now
     (c.in_ok-touched.ensures.touching held holds earlier) (search rules) (c.deref-3.ensures.value ∙ sym c.deref-2.ensures.value) few in
@@ -169,12 +170,12 @@ returns-clause-list g c = λ held holds honest rows lists.
 
 pub returns-then-len-extent-clause-step : goal.returns-then-len-extent-clause-step
 returns-then-len-extent-clause-step g c = λ source held blob from_holds from_honest holds honest of is.
-    let counted = counted-by c.args.extent.now.off c.args.extent.now blob c.in_ok-elements.elements.items is (c.in_ok-elements.ensures blob.elements (c.in_ok-loaded.ensures.rows source blob from_holds from_honest of)) in
+    let counted = counted-by c.args.extent.now.off c.args.extent.now blob c.in-Some-2.elements.items is (found_as (λ made. made.items ≡ blob.elements) _ _ (c.in_ok-elements.ensures blob.elements (c.in_ok-loaded.ensures.rows source blob from_holds from_honest of)) c.in-Some-2.is) in
     absurd (omega (arith, c.len.ensures, c.if-len-extent.true, counted))
 
 pub returns-then-len-extent-clause-own : goal.returns-then-len-extent-clause-own
 returns-then-len-extent-clause-own g c = λ source held blob from_holds from_honest holds honest of is.
-    let counted = counted-by c.args.extent.now.off c.args.extent.now blob c.in_ok-elements.elements.items is (c.in_ok-elements.ensures blob.elements (c.in_ok-loaded.ensures.rows source blob from_holds from_honest of)) in
+    let counted = counted-by c.args.extent.now.off c.args.extent.now blob c.in-Some-2.elements.items is (found_as (λ made. made.items ≡ blob.elements) _ _ (c.in_ok-elements.ensures blob.elements (c.in_ok-loaded.ensures.rows source blob from_holds from_honest of)) c.in-Some-2.is) in
     absurd (omega (arith, c.len.ensures, c.if-len-extent.true, counted))
 
 pub returns-in-Ok-clause-complete : goal.returns-in-Ok-clause-complete
@@ -222,10 +223,21 @@ returns-in_err-touched-clause-kept g c = λ held holds honest.
 
 pub returns-then-not-few-clause-step : goal.returns-then-not-few-clause-step
 returns-then-not-few-clause-step g c = λ source held blob from_holds from_honest holds honest of is.
-    let are = c.deref-2.ensures.value ∙ c.in_ok-elements.ensures blob.elements (c.in_ok-loaded.ensures.rows source blob from_holds from_honest of) in
+    let are = c.deref-2.ensures.value ∙ found_as (λ made. made.items ≡ blob.elements) _ _ (c.in_ok-elements.ensures blob.elements (c.in_ok-loaded.ensures.rows source blob from_holds from_honest of)) c.in-Some-2.is in
     absurd (never-many _ c.in_ok-few.few blob.elements are (g.met.F.Reader.has_few_texts _ source from_holds c.args.extent.now.off blob of) c.in_ok-few.ensures c.if-not-few.true)
 
 pub returns-then-not-few-clause-own : goal.returns-then-not-few-clause-own
 returns-then-not-few-clause-own g c = λ source held blob from_holds from_honest holds honest of is.
-    let are = c.deref-2.ensures.value ∙ c.in_ok-elements.ensures blob.elements (c.in_ok-loaded.ensures.rows source blob from_holds from_honest of) in
+    let are = c.deref-2.ensures.value ∙ found_as (λ made. made.items ≡ blob.elements) _ _ (c.in_ok-elements.ensures blob.elements (c.in_ok-loaded.ensures.rows source blob from_holds from_honest of)) c.in-Some-2.is in
     absurd (never-many _ c.in_ok-few.few blob.elements are (g.met.F.Reader.has_few_texts _ source from_holds c.args.extent.now.off blob of) c.in_ok-few.ensures c.if-not-few.true)
+
+pub returns-in_default-2-clause-step : goal.returns-in_default-2-clause-step
+returns-in_default-2-clause-step g c = λ source held blob from_holds from_honest holds honest of is.
+    absurd (found_as (λ made. made.items ≡ blob.elements) _ _ (c.in_ok-elements.ensures blob.elements (c.in_ok-loaded.ensures.rows source blob from_holds from_honest of)) c.in_default-2.is)
+
+pub returns-in_default-2-clause-own : goal.returns-in_default-2-clause-own
+returns-in_default-2-clause-own g c = λ source held blob from_holds from_honest holds honest of is.
+    absurd (found_as (λ made. made.items ≡ blob.elements) _ _ (c.in_ok-elements.ensures blob.elements (c.in_ok-loaded.ensures.rows source blob from_holds from_honest of)) c.in_default-2.is)
+
+pub returns-in_default-2-clause-kept : goal.returns-in_default-2-clause-kept
+returns-in_default-2-clause-kept g c = λ held holds honest. kept-still g.T.Reader c.extents_touching.new.self _ held (c.in_ok-touched.ensures.reads.ok honest held holds) (λ left leaves. g.met.T.Reader.settled _ held left holds (c.in_ok-touched.ensures.reads.crash honest left leaves))

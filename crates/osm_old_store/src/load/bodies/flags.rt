@@ -41,7 +41,9 @@ fn any_flag_at<S: Alter>(
     ensures asks { JustAsks (state S.Store connection.old) (state S.Store connection.new) }
 {
     let loaded = load_bodies(alloc, connection, off)?;
-    let elements = loaded.elements(alloc)?;
+    let Some(elements) = loaded.elements(alloc)? else {
+        return Err(StoreFault::NotThisStore(None));
+    };
     Ok(any_flag(&elements))
 }
 

@@ -1,11 +1,12 @@
 use Rattle.std.proofs.Common.{◌≡◌, ◌∙◌, List, length, ap, subst, arith}
 use Rattle.osm_value.specs.declared.element.Element.{Element}
+use Rattle.osm_rows.proofs.LoadLemmas.ElementKinds.{found_as}
 use Rattle.osm_import.proofs.WalkLemmas.{one-of, write-cause, write-own, tells-none, complete-of, counted-by}
 use Rattle.osm_import.proofs.export.blobs.write_blob.Goals as goal
 
 pub returns-clause-wrote : goal.returns-clause-wrote
 returns-clause-wrote g c = λ held blob holds honest found counted.
-    let same : c.deref.result.now ≡ blob.elements = c.deref.ensures.value ∙ c.in_ok-elements.ensures blob.elements (c.in_ok-loaded.ensures.rows held blob holds honest found) in
+    let same : c.deref.result.now ≡ blob.elements = c.deref.ensures.value ∙ found_as (λ made. made.items ≡ blob.elements) _ _ (c.in_ok-elements.ensures blob.elements (c.in_ok-loaded.ensures.rows held blob holds honest found)) c.in-Some.is in
     one-of g.W.BlobStep.writes (g.S.Sink.written c.args.out.now) blob.elements (g.S.Sink.written c.write.new.out) c.write.result
     (subst (λ (es : List Element). g.W.BlobStep.writes (g.S.Sink.written c.args.out.now) es (g.S.Sink.written c.write.new.out) c.write.result) same c.write.ensures.wrote)
 
@@ -27,5 +28,9 @@ returns-clause-complete g c =
 
 pub returns-then-len-extent-clause-wrote : goal.returns-then-len-extent-clause-wrote
 returns-then-len-extent-clause-wrote g c = λ held blob holds honest found is.
-    let counted = counted-by c.args.extent.now.off c.args.extent.now blob c.in_ok-elements.elements.items is (c.in_ok-elements.ensures blob.elements (c.in_ok-loaded.ensures.rows held blob holds honest found)) in
+    let counted = counted-by c.args.extent.now.off c.args.extent.now blob c.in-Some.elements.items is (found_as (λ made. made.items ≡ blob.elements) _ _ (c.in_ok-elements.ensures blob.elements (c.in_ok-loaded.ensures.rows held blob holds honest found)) c.in-Some.is) in
     absurd (omega (arith, c.len.ensures, c.if-len-extent.true, counted))
+
+pub returns-in_default-clause-wrote : goal.returns-in_default-clause-wrote
+returns-in_default-clause-wrote g c = λ held blob holds honest found is.
+    absurd (found_as (λ made. made.items ≡ blob.elements) _ _ (c.in_ok-elements.ensures blob.elements (c.in_ok-loaded.ensures.rows held blob holds honest found)) c.in_default.is)

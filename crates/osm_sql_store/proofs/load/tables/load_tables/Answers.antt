@@ -1,10 +1,9 @@
 use Rattle.std.proofs.Common.{◌≡◌, ◌<◌, ◌≤◌, ◌∙◌, map, sym, ap, subst, arith}
-use Rattle.std.proofs.lemmas.Result.{MatchResult-weaker}
 use Rattle.pbf_frame.specs.declared.part.TheConstants.{MAX_OFFSET}
-use Rattle.osm_rows.specs.Keeping.{IsForeign}
 use Rattle.osm_rows.specs.Load.Loading.{HasRowsOf}
 use Rattle.osm_rows.specs.Load.TableAnswers.{AreRowsOf}
 use Rattle.osm_rows.specs.Rows.{Placed}
+use Rattle.osm_rows.proofs.LoadLemmas.StoredRows.{given_as}
 use Rattle.osm_rows.proofs.MapLemmas.HeldLemmas.{placed_at, counted_at, elements_of}
 use Rattle.osm_sql_store.proofs.load.tables.load_tables.Goals as goal
 
@@ -22,11 +21,10 @@ returns-clause-held g c held clean holds =
     let off = c.args.off in
     let rows = c.in_ok-elements.ensures.held held clean holds in
     let it = counted_at held off in
-    MatchResult-weaker c.from_tables.result (c.from_tables.ensures.rows off it.0 (subst (AreRowsOf _) it.1 rows.0))
+    given_as _ _ c.from_tables.result (c.from_tables.ensures.rows off it.0 (subst (AreRowsOf _) it.1 rows.0))
     (λ loaded h. (
       λ blob is.
           let same : it.0 ≡ blob.elements = sym (elements_of off 0 it.0) ∙ ap (map (λ (p : Placed). p.2)) (sym it.1 ∙ placed_at held off blob is) ∙ elements_of off 0 blob.elements in
           subst (HasRowsOf loaded) same h,
       rows.1,
     ))
-    (λ fault is foreign. subst IsForeign is foreign)

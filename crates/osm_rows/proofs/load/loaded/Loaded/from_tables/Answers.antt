@@ -1,5 +1,4 @@
 use Rattle.std.proofs.Common.{◌∙◌, refl, sym, true≢false}
-use Rattle.osm_rows.specs.Rows.{placed}
 use Rattle.osm_rows.specs.TableRows.{element_row}
 use Rattle.osm_rows.proofs.LoadLemmas.Numbering.{placed_numbered}
 use Rattle.osm_rows.proofs.load.loaded.Loaded.from_tables.Goals as goal
@@ -8,8 +7,5 @@ pub returns-then-not-are_numbered-clause-rows : goal.returns-then-not-are_number
 returns-then-not-are_numbered-clause-rows c off blob are =
     absurd (true≢false (sym (c.are_numbered.ensures.1 (placed_numbered element_row (λ p. refl) off blob _ (c.deref.ensures.value ∙ are.elements))) ∙ c.if-not-are_numbered.true))
 
-pub returns-in-Ok-clause-rows : goal.returns-in-Ok-clause-rows
-returns-in-Ok-clause-rows c off blob are = record { off = off; rows = are }
-
-pub returns-in-Err-clause-rows : goal.returns-in-Err-clause-rows
-returns-in-Err-clause-rows c off blob are = c.in-Err.ensures (placed off 0 blob) are
+pub returns-clause-rows : goal.returns-clause-rows
+returns-clause-rows c off blob are = record { off = off; rows = are }
