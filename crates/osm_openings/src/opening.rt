@@ -25,6 +25,17 @@ use std::alloc::{AllocError, Global};
 /// Bytes 20 to 23 of a database's header, where each of its pages ends in a sum of its bytes.
 const WITH_SUMS: u32 = 0x0840_2020;
 
+/// How many pages are kept in memory while the list of a database's objects is read, each of which is read once.
+const PAGES_OF_THE_LIST: usize = 16;
+
+/// The same options, but for the list of a database's objects: room for many pages would be made in vain.
+fn for_the_list(options: Options) -> Options {
+    Options {
+        cache_pages: PAGES_OF_THE_LIST,
+        ..options
+    }
+}
+
 /// The size of the pages of a database whose pages have no sums.
 pub(crate) fn page_size<D: Disk>(
     alloc: Global,
@@ -188,7 +199,7 @@ pub(crate) fn open_listed<D: Disk + Drop>(
     let Some(size) = page_size(alloc, &mut files)? else {
         return Ok(None);
     };
-    let unlisted = unopened(alloc, files, size, options, &[])?;
+    let unlisted = unopened(alloc, files, size, for_the_list(options), &[])?;
     let Some(listed) = list(alloc, unlisted, size, options, objects)? else {
         return Ok(None);
     };
@@ -218,7 +229,7 @@ pub(crate) fn open_checked<D: Disk + Drop>(
     let Some(size) = page_size(alloc, &mut files)? else {
         return Ok(None);
     };
-    let unlisted = unopened(alloc, files, size, options, &[])?;
+    let unlisted = unopened(alloc, files, size, for_the_list(options), &[])?;
     let Some(listed) = list(alloc, unlisted, size, options, objects)? else {
         return Ok(None);
     };
