@@ -25,10 +25,10 @@ use std::alloc::{AllocError, Global};
 /// Bytes 20 to 23 of a database's header, where each of its pages ends in a sum of its bytes.
 const WITH_SUMS: u32 = 0x0840_2020;
 
-/// How many pages are kept in memory while the list of a database's objects is read, each of which is read once.
+/// How many pages are kept in memory while the list of a database's objects is read.
 const PAGES_OF_THE_LIST: usize = 16;
 
-/// The same options, but for the list of a database's objects: room for many pages would be made in vain.
+/// The same options, but with room for few pages: it costs time, and the files are opened again behind the list.
 fn for_the_list(options: Options) -> Options {
     Options {
         cache_pages: PAGES_OF_THE_LIST,
