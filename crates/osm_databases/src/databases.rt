@@ -5,15 +5,13 @@
 //! error. SQL makes a store where there is none, and reads one that keeps elements as blocks, which is copied into another
 //! database.
 
-ghost use Rattle.std.specs.Prelude.{◌≡◌, ℕ, List, false, take, IfOk, IfSome};
+ghost use Rattle.std.specs.Prelude.{◌≡◌, ℕ, List, false, IfOk, IfSome};
 ghost use Rattle.sqlite.specs.Held.{IsNew, state};
 ghost use Rattle.sqlite_trees.specs.Objects.{catalog_tree};
 ghost use Rattle.sqlite_trees.specs.View.{IsClean};
-ghost use Rattle.osm_tree_writes.specs.Tables.{table_listings};
 ghost use Rattle.osm_tree_audits.specs.Looks.{IsLook};
-ghost use Rattle.osm_trees.specs.Below.{IsChecked};
 ghost use Rattle.osm_tree_writes.specs.Appending.{IsStoreAt, TakeBlobs};
-ghost use Rattle.osm_databases.specs.Checked.{HasWholeAdded, IsOfVersion};
+ghost use Rattle.osm_databases.specs.Checked.{HasWholeAdded, IsCheckedStore, IsOfVersion};
 ghost use Rattle.osm_databases.specs.Found.{AreFound, AreReadFrom, AreFoundOrMade, AreMade, AreMadeUnder};
 
 use crate::reason::{Reason, tell, tell_of_obstruction, told, told_of};
@@ -236,8 +234,7 @@ pub fn opened_checked<D: CheckedDatabases>(
 ) -> Result<CheckedStore<D::Trees>, StoreFault>
     ensures failures { IfOk result (λ reader. reader.trees.failures ≡ 0) }
     ensures found { IfOk result (λ reader. AreReadFrom D.Trees.Store (D.gives databases.now name.now) reader.trees.store) }
-    ensures checked { IfOk result (λ reader. IsClean (D.Trees.Store.view reader.trees.store)
-        → IsChecked (D.Trees.Store.view reader.trees.store) × (take 9 ((D.Trees.Store.view reader.trees.store).trees catalog_tree) ≡ table_listings)) }
+    ensures checked { IfOk result (λ reader. IsClean (D.Trees.Store.view reader.trees.store) → IsCheckedStore (D.Trees.Store.view reader.trees.store)) }
     ensures look { IfOk result (λ reader. IsClean (D.Trees.Store.view reader.trees.store) → IsLook (D.Trees.Store.view reader.trees.store).trees reader.look) }
     ensures added { IfOk result (λ reader. IsClean (D.Trees.Store.view reader.trees.store) → HasWholeAdded (D.Trees.Store.view reader.trees.store).trees) }
 {

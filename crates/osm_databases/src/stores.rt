@@ -1,6 +1,6 @@
 //! The store that is made where a connection has none, and trees that take blobs or were looked at.
 
-ghost use Rattle.std.specs.Prelude.{◌≡◌, ◌≢◌, false, take, IfOk, IfSome};
+ghost use Rattle.std.specs.Prelude.{◌≡◌, ◌≢◌, false, IfOk, IfSome};
 ghost use Rattle.std.specs.FinMap.{empty};
 ghost use Rattle.sqlite.specs.Held.{state};
 ghost use Rattle.sqlite_trees.specs.View.{IsClean};
@@ -11,9 +11,8 @@ ghost use Rattle.sqlite_trees.specs.Objects.{catalog_tree};
 ghost use Rattle.osm_tree_writes.specs.Appending.{IsStoreAt, TakeBlobs};
 ghost use Rattle.osm_tree_writes.specs.Putting.{IsIndexedStore};
 ghost use Rattle.osm_tree_audits.specs.Looks.{IsLook};
-ghost use Rattle.osm_trees.specs.Below.{HoldsBelow, IsChecked};
-ghost use Rattle.osm_tree_writes.specs.Tables.{table_listings};
-ghost use Rattle.osm_databases.specs.Checked.{HasWholeAdded, IsOfVersion};
+ghost use Rattle.osm_trees.specs.Below.{HoldsBelow};
+ghost use Rattle.osm_databases.specs.Checked.{HasWholeAdded, IsCheckedStore, IsOfVersion};
 ghost use Rattle.osm_databases.specs.Found.{ListOnlyAStore};
 
 use crate::reason::{Reason, Refusal};
@@ -147,7 +146,7 @@ pub(crate) fn checked<S: Alter + Drop>(alloc: Global, trees: S) -> Result<Checke
     ensures failures { IfOk result (λ reader. reader.trees.failures ≡ 0) }
     ensures reads { IfOk result (λ reader. IsClean (S.Store.view reader.trees.store) → OnlyReads (S.Store.view trees) (S.Store.view reader.trees.store)) }
     ensures checked { IfOk result (λ reader. IsClean (S.Store.view reader.trees.store) → (IsClean (S.Store.view trees) → IsOfVersion (S.Store.view trees)) → IsStoreAt (S.Store.view trees).shape
-        → IsChecked (S.Store.view reader.trees.store) × (take 9 ((S.Store.view reader.trees.store).trees catalog_tree) ≡ table_listings)) }
+        → IsCheckedStore (S.Store.view reader.trees.store)) }
     ensures look { IfOk result (λ reader. IsClean (S.Store.view reader.trees.store) → IsLook (S.Store.view reader.trees.store).trees reader.look) }
     ensures added { IfOk result (λ reader. IsClean (S.Store.view reader.trees.store) → HasWholeAdded (S.Store.view reader.trees.store).trees) }
 {
