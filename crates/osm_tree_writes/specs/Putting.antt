@@ -77,7 +77,7 @@ pub record WritesElements (more : List Index) (old new : View) (added : List Pla
   pub rest : new ≡ record old { trees = new.trees; cursors = new.cursors }
 
 -- the rows of a blob are written, and nothing is committed
-pub record Writes (more : List Index) (old new : View) (extent : Extent) (added : List Placed) : Type 0 where
+pub record WritesUncommitted (more : List Index) (old new : View) (extent : Extent) (added : List Placed) : Type 0 where
   pub sound : old.is_broken ≡ false
   pub puts : PutsRows more old.trees new.trees extent added
   pub rest : new ≡ record old { trees = new.trees; cursors = new.cursors }

@@ -11,7 +11,7 @@ ghost use Rattle.osm_rows.specs.Rows.{placed, extent_row};
 ghost use Rattle.osm_tree_writes.specs.Added.{AreKept, plain_indexes};
 ghost use Rattle.osm_tree_writes.specs.Appending.{AreBehind, AreIndexesAt, IsStoreAt, RiseFrom, TakeBlobs};
 ghost use Rattle.osm_tree_writes.specs.Harmless.{IsHarmless};
-ghost use Rattle.osm_tree_writes.specs.Putting.{PutsBlob, Writes, WritesElements};
+ghost use Rattle.osm_tree_writes.specs.Putting.{PutsBlob, WritesUncommitted, WritesElements};
 
 use crate::added::plain_indexes;
 use crate::append::{append_rows, put_table_row};
@@ -151,7 +151,7 @@ fn append_elements<S: Store>(
     Ok(())
 }
 
-/// Writes the rows of a blob, and commits nothing.
+/// WritesUncommitted the rows of a blob, and commits nothing.
 fn write_rows<S: Alter>(
     alloc: Global,
     store: &mut S,
@@ -159,7 +159,7 @@ fn write_rows<S: Alter>(
     elements: &[Element],
 ) -> Result<(), StoreFault>
     requires bounds { (extent.now.off ≤ MAX_OFFSET) × (extent.now.fin ≤ MAX_OFFSET) × (extent.now.n < 2 ^ 63) }
-    ensures written { OnOk result (IsClean (S.Store.view store.new) → Writes (plain_indexes ((S.Store.view store.old).trees catalog_tree)) (S.Store.view store.old) (S.Store.view store.new) extent.now (placed extent.now.off 0 elements.now)) }
+    ensures written { OnOk result (IsClean (S.Store.view store.new) → WritesUncommitted (plain_indexes ((S.Store.view store.old).trees catalog_tree)) (S.Store.view store.old) (S.Store.view store.new) extent.now (placed extent.now.off 0 elements.now)) }
     ensures can_store { OnOk result (AllByRecursion IsElement elements.now) }
     ensures indexed { OnOk result (IsClean (S.Store.view store.old) → TakeBlobs (S.Store.view store.old).shape ((S.Store.view store.old).trees catalog_tree)) }
     ensures harmless { IsHarmless S.Store.view S.Store.faults S.Store.recovers S.Store.is_shielded store.old result store.new }
