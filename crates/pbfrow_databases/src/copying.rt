@@ -7,7 +7,7 @@ ghost use Rattle.osm_import.specs.declared.copy.CopyCounts.{CopyCounts as CopyCo
 ghost use Rattle.osm_import.specs.declared.copy.CopyStop.{CopyStop as CopyStopValue};
 ghost use Rattle.pbfrow_commands.specs.Copying.{CopiesStore, copy_status, outcome_line};
 
-use osm_databases::databases::{Databases, close, opened_or_made, source_of_blocks};
+use osm_databases::databases::{Databases, close, open_or_make, source_of_blocks};
 use osm_rows::{Keeper, Reader};
 use osm_value::{Outlet, Sink};
 use pbfrow_commands::metered::MeteredStore;
@@ -52,7 +52,7 @@ fn copy_into<D: Databases, F: Reader + Drop, W: Write>(
 ) -> u8
     ensures { result ≤ 1 }
 {
-    let mut store = match opened_or_made(rt, files, database) {
+    let mut store = match open_or_make(rt, files, database) {
         Ok(store) => store,
         Err(fault) => return refuse_store(out, fault),
     };
