@@ -20,7 +20,7 @@ use std::io;
 use std::io::Write;
 
 /// Copies what a store holds into another, and answers the first and the exit status, as `migrate` does.
-fn copied<F: Reader, T: Keeper, S: Sink>(
+fn copy_store<F: Reader, T: Keeper, S: Sink>(
     alloc: Global,
     from: F,
     to: &mut T,
@@ -56,7 +56,7 @@ fn copy_into<D: Databases, F: Reader + Drop, W: Write>(
         Ok(store) => store,
         Err(fault) => return refuse_store(out, fault),
     };
-    let (_from, status) = copied(rt.alloc(), from, &mut store, meter, out);
+    let (_from, status) = copy_store(rt.alloc(), from, &mut store, meter, out);
     close(files, store);
     status
 }

@@ -42,7 +42,7 @@ fn tell_of_stray<S: Store>(rt: &HostRuntime, name: &str, trees: &mut S) {
 
 /// Compares what a reader gives with what a store holds, and answers the store, which was only read, and the exit status, as
 /// `verify` does. The meter is told of each byte and blob.
-fn compared<K: Audited, R: Read + Drop, W: Write>(
+fn compare_one<K: Audited, R: Read + Drop, W: Write>(
     alloc: Global,
     mut store: K,
     reader: R,
@@ -85,7 +85,7 @@ fn compare_in<D: CheckedDatabases, R: Read + Drop, W: Write>(
         Ok(store) => store,
         Err(fault) => return refuse_store(out, fault),
     };
-    let (store, status) = compared(rt.alloc(), store, reader, depth, meter, out);
+    let (store, status) = compare_one(rt.alloc(), store, reader, depth, meter, out);
     let mut trees = store.into_store();
     if status != 0 && depth == Depth::Elements {
         meter.erase();
