@@ -59,7 +59,7 @@ built:
 	@./pbfrow --is-current || { echo "the program isn't built, or a source has changed: run make first, and not as root" >&2; exit 1; }
 
 library:
-	cd crates/pbfrow_c && rt lib
+	library/archive
 	library/build "$(BUILT_LIBRARY)"
 
 python: library

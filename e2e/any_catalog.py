@@ -10,7 +10,9 @@ a computed column, verify may also end with fault 65 without a name.
 
 usage: any_catalog.py PROGRAM EXTRACT HOW_MANY SEED, in an empty folder. Of the extract the first and the last data blob are taken.
 """
+import collections
 import hashlib
+import multiprocessing
 import os
 import random
 import shutil
@@ -20,6 +22,8 @@ import sys
 
 PROGRAM, EXTRACT = sys.argv[1], "two.osm.pbf"
 HOW_MANY, SEED = int(sys.argv[3]), int(sys.argv[4])
+# as many processes as there are processors
+SHARES = len(os.sched_getaffinity(0))
 OF_PBFROW = ("meta", "blob", "element", "tag", "link", "element_by_id", "sqlite_autoindex_element_1", "sqlite_autoindex_tag_1",
              "sqlite_autoindex_link_1")
 NAMES = ("mine", "Mine", "roads", "Way", "node", "tags", "elements", "Element2", "a b", 'a"b', "a'b", "straße", "道路", "select", "order",
@@ -320,16 +324,25 @@ class Checker:
         return None
 
 
-def main():
+def check_share(share):
+    """Checks one of SHARES equal shares of the catalogs, in a folder of its own. Gives what is wrong with those that aren't as they
+    have to be, and what was counted."""
+    os.mkdir(f"share{share}")
+    os.chdir(f"share{share}")
     checker = Checker()
-    wrong = 0
-    for at in range(HOW_MANY):
-        fault = checker.check(random.Random(f"{SEED} {at}"))
-        if fault is not None:
-            wrong += 1
-            print(f"catalog {at}: {fault}"[:3000])
-    print(f"{HOW_MANY} catalogs, seed {SEED}: {checker.counts}")
-    sys.exit(wrong > 0)
+    faults = [(at, checker.check(random.Random(f"{SEED} {at}"))) for at in range(share, HOW_MANY, SHARES)]
+    return [f"catalog {at}: {fault}"[:3000] for at, fault in faults if fault is not None], checker.counts
+
+
+def main():
+    faults, counts = [], collections.Counter()
+    with multiprocessing.Pool(SHARES) as pool:
+        for wrong, counted in pool.imap(check_share, range(SHARES), 1):
+            faults += wrong
+            counts.update(counted)
+    print(*faults, sep="\n", end="\n" if faults else "")
+    print(f"{HOW_MANY} catalogs, seed {SEED}: {dict(counts)}")
+    sys.exit(bool(faults))
 
 
 main()
