@@ -91,6 +91,15 @@ ratio() {
   printf "%.${digits}f | %.${digits}f | %.${digits}f" "$middle" "$least" "$greatest"
 }
 
+# swapped OVER UNDER: the same of commands that `both` has run in an even number of rounds. Two rounds, in which each command has had
+# either processor, give one ratio, the root of the product of both: a processor that is slower than the other is so for both commands.
+swapped() {
+  local middle least greatest
+  read -r middle least greatest < <(paste "$1" "$2" | awk '
+    { now = ($2 + $3) / ($6 + $7); if (NR % 2) first = now; else print sqrt(first * now) }' | median)
+  printf '%.3f | %.3f | %.3f' "$middle" "$least" "$greatest"
+}
+
 # mean NAME FILE COMMAND..: the mean processor time of fifteen runs with the file as standard input. One of a fifth of a second
 # is told too coarsely.
 mean() {

@@ -6,15 +6,16 @@ fourth blob; each block is dropped once it is decoded. Where four take more proc
 of this machine is slower while the others work, too; what is lost otherwise is waiting.
 
 Beside them stands what four processors of this machine can do at all: processes that share work that needs no memory, and such
-that copy memory from one place to another."""
+that copy memory from one place to another. Last comes what the threads spend their time on."""
 import os
 import statistics
 import sys
 import time
-from threading import Thread
+from threading import Thread, local
 
 import numpy as np
 import pbfrow
+from pbfrow._library import library
 
 
 def decode_all(file, blobs):
@@ -28,6 +29,34 @@ def by_threads(file, blobs, count):
         thread.start()
     for thread in threads:
         thread.join()
+
+
+def spent(file, blobs, count):
+    """By so many threads, each with its share: the seconds of all of them together in the library's call, in Python, and waiting, and
+    then how long the slowest and the fastest took."""
+    rows, call, in_call = [], library.pbfrow_block_columns, local()
+
+    def timed(*words):
+        start = time.thread_time()
+        status = call(*words)
+        in_call.seconds += time.thread_time() - start
+        return status
+
+    def work(number):
+        in_call.seconds = 0
+        wall, used = time.perf_counter(), time.thread_time()
+        decode_all(file, blobs[number::count])
+        rows.append((time.perf_counter() - wall, time.thread_time() - used, in_call.seconds))
+
+    library.pbfrow_block_columns = timed
+    threads = [Thread(target=work, args=(number,)) for number in range(count)]
+    for thread in threads:
+        thread.start()
+    for thread in threads:
+        thread.join()
+    library.pbfrow_block_columns = call
+    walls, used, called = zip(*rows)
+    return sum(called), sum(used) - sum(called), sum(walls) - sum(used), max(walls), min(walls)
 
 
 def in_processes(count, work):
@@ -96,6 +125,7 @@ def main():
         for _ in range(rounds):
             for way in ways:
                 taken[way].append(took(way[0], file, blobs, way[1]))
+        profiles = [(count, [*zip(*(spent(file, blobs, count) for _ in range(rounds)))]) for count in (1, 2, 4)]
     print(f"\ndecoding alone, {os.path.getsize(path)} bytes in memory, without the start of Python; medians of {rounds} rounds (least to greatest)\n")
     print("| By | one, s | two, s | four, s | one / four | processor time of four / of one |\n|---|---|---|---|---|---|")
     for call, name in NAMES.items():
@@ -103,6 +133,10 @@ def main():
         both = [*zip(taken[call, 1], taken[call, 4])]
         faster = spread([one[0] / four[0] for one, four in both])
         print(f"| {name} | {' | '.join(walls)} | {faster} | {spread([four[1] / one[1] for one, four in both])} |")
+    print("\nwhat threads with their shares spend, in seconds of all of them together, and how long one takes\n")
+    print("| Threads | in the library's call | in Python | waiting | the slowest | the fastest |\n|---|---|---|---|---|---|")
+    for count, columns in profiles:
+        print(f"| {count} | {' | '.join(f'{statistics.median(column):.3f}' for column in columns)} |")
 
 
 main()

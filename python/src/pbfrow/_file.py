@@ -9,6 +9,8 @@ import mmap
 import os
 import stat
 from collections import deque
+from queue import SimpleQueue
+from threading import Lock, Thread
 from typing import TYPE_CHECKING, Any, Callable, Generic, Iterator, Literal, Mapping, NamedTuple, TypeVar, Union
 
 import numpy as np
@@ -22,8 +24,6 @@ from ._memory import Decoder
 from ._tables import Table
 
 if TYPE_CHECKING:
-    from concurrent.futures import Future
-
     from numpy.typing import NDArray
 
 #: How many bytes of a file may be mapped behind the place that a loop has reached.
@@ -336,20 +336,62 @@ class _BlocksAhead(_Blocks):
         return self._next_of(self._started)
 
     def _made(self, has: Any) -> Any:
-        return has.result() if hasattr(has, "result") else super()._made(has)
+        return has.result() if isinstance(has, _Ahead) else super()._made(has)
+
+
+class _Ahead:
+    """A blob that a thread makes a block of. A pool of concurrent.futures would take several times as long to hand each one over,
+    while no other thread can go on."""
+
+    def __init__(self, blob: Blob) -> None:
+        self._blob, self._has_ended = blob, Lock()
+        self._has_ended.acquire()
+        self._block: Block | None = None
+        self._fault: BaseException | None = None
+
+    def decode(self, file: File) -> None:
+        try:
+            self._block = file.decode(self._blob)
+        except BaseException as fault:  # it is raised where the block is asked for
+            self._fault = fault
+        finally:
+            self._has_ended.release()
+
+    def result(self) -> Block | None:
+        with self._has_ended:
+            if self._fault is not None:
+                raise self._fault
+            return self._block
+
+
+def _decode_each(file: File, todo: SimpleQueue[_Ahead | None]) -> None:
+    for ahead in iter(todo.get, None):
+        ahead.decode(file)
 
 
 def _started(file: File, walk: _Walk, threads: int) -> Iterator[tuple[int, Any]]:
     """The frames of a file, the blobs of some of them on their way to blocks."""
-    from concurrent.futures import ThreadPoolExecutor  # which takes longer to import than a small file to read
-
-    waiting: deque[tuple[int, Blob | Fault | Future[Block] | None]] = deque()
-    with ThreadPoolExecutor(threads, "pbfrow") as pool:
+    waiting: deque[tuple[int, Fault | _Ahead | None]] = deque()
+    todo: SimpleQueue[_Ahead | None] = SimpleQueue()
+    workers = [Thread(target=_decode_each, args=(file, todo), daemon=True) for _ in range(threads)]
+    for worker in workers:
+        worker.start()
+    try:
         for end, has in walk:
-            waiting.append((end, pool.submit(file.decode, has) if isinstance(has, Blob) else has))
+            if isinstance(has, Blob):
+                todo.put(ahead := _Ahead(has))
+                waiting.append((end, ahead))
+            else:
+                waiting.append((end, has))
             if len(waiting) > 2 * threads:
                 yield waiting.popleft()
-        yield from waiting
+        while waiting:
+            yield waiting.popleft()
+    finally:
+        for _ in workers:
+            todo.put(None)
+        for worker in workers:
+            worker.join()
 
 
 Made = TypeVar("Made", bound=Table)
