@@ -8,6 +8,7 @@ use Rattle.osm_rows.specs.Rows.{version_row}
 use Rattle.osm_tree_writes.specs.Added.{AreKept, plain_indexes}
 use Rattle.osm_tree_writes.specs.Tables.{table_listings}
 use Rattle.osm_tree_audits.specs.Indexes.{AreWhole}
+use Rattle.osm_trees.specs.Below.{IsChecked}
 use Rattle.osm_openings.specs.Asked.{ListsAsAsked}
 
 -- The store can go on, nothing is written, and its first trees are those of a store of this version. Each other is listed as its
@@ -22,3 +23,7 @@ pub record IsOfVersion (v : View) : Type 0 where
 -- each index that somebody has added to a table of the store is one that a put keeps, and has one entry for each row of its table, and no other
 abbrev pub HasWholeAdded : Trees → Type 0
 HasWholeAdded db = AreKept (db catalog_tree) × AreWhole db (plain_indexes (db catalog_tree))
+
+-- the trees were looked at, and the first are those of a store
+abbrev pub IsCheckedStore : View → Type 0
+IsCheckedStore v = IsChecked v × (take 9 (v.trees catalog_tree) ≡ table_listings)

@@ -10,6 +10,7 @@ mod export;
 mod few_texts;
 mod gap;
 pub mod laws;
+mod place;
 mod stream;
 
 pub use answer::{Answer, Conflict};

@@ -2,6 +2,7 @@
 use Rattle.std.specs.Prelude.{◌≡◌, false, [], ◌∷◌, take}
 use Rattle.sqlite_trees.specs.Objects.{catalog_tree}
 use Rattle.sqlite_trees.specs.View.{View}
+use Rattle.sqlite_exec.specs.Calls.{OnlyReads}
 use Rattle.sqlite_wal.specs.Recovery.{Image}
 use Rattle.osm_rows.specs.declared.schema.layout.Layout.TheVariants.{Tables}
 use Rattle.osm_rows.specs.Rows.{version_row}
@@ -17,3 +18,7 @@ pub record IsOpened (image : Image) (v : View) : Type 0 where
   pub listed : take 9 (v.trees catalog_tree) ≡ table_listings
   pub version : v.trees 0 ≡ version_row Tables ∷ []
   pub reads : ReadsAs image v.trees
+
+-- the table that names the version has the one row of this version, and was only read
+abbrev pub IsOfThisVersion : View → View → Type 0
+IsOfThisVersion old new = OnlyReads old new × (new.is_broken ≡ false) × (old.trees 0 ≡ version_row Tables ∷ [])

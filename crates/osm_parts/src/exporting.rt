@@ -8,12 +8,11 @@ ghost use Rattle.osm_rows.specs.Keeping.{extents_of};
 ghost use Rattle.osm_import.specs.ExportCauses.{ExportHasCause, ExportIsOwn, WriteHasCause};
 ghost use Rattle.osm_import.specs.Exports.{IsExport, IsUnbegun, size_of};
 ghost use Rattle.osm_import.specs.Gaps.{Tiles};
-ghost use Rattle.osm_import.specs.Pbf.{IsHeadedExport};
 ghost use Rattle.osm_import.specs.Walks.{Walks};
 ghost use Rattle.osm_parts.specs.Opening.{OnlyOpens};
 ghost use Rattle.osm_parts.specs.Parts.{AreParts, entries_in};
 ghost use Rattle.osm_parts.specs.Reading.{IsPart, AreEach, AreRead};
-ghost use Rattle.osm_parts.specs.Unions.{IsHistoryOf};
+ghost use Rattle.osm_parts.specs.Unions.{IsPbfOfParts};
 
 use crate::openings::Openings;
 use crate::reading::extents_of_parts;
@@ -136,7 +135,7 @@ pub fn export_parts_as_pbf<K: Reader + Drop, O: Openings<K>, S: Sink>(
     out: &mut S,
 ) -> Result<(), ExportFault>
     ensures export { (maps : List HeldMap) (whole : HeldMap) → O.holds openings.old maps → O.is_honest openings.new → (read : AreRead maps true parts.now) → AreParts read.ordered whole
-        → (history : Bool) × IsHistoryOf maps whole history × IsHeadedExport history whole (size_of size (extents_of whole)) partial (S.written out.old) (S.written out.new) result }
+        → IsPbfOfParts maps whole (size_of size (extents_of whole)) partial (S.written out.old) (S.written out.new) result }
     ensures opens { OnlyOpens O.holds O.is_honest O.is_open openings.old result openings.new }
     ensures own { (maps : List HeldMap) → O.holds openings.old maps → O.is_honest openings.new → ExportIsOwn result }
     ensures cause { ExportHasCause (O.failures openings.old) (O.failures openings.new) (S.has_failed out.new) result }

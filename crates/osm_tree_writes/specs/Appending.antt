@@ -108,3 +108,8 @@ pub record Appends (table : TableTree) (more : List AddedIndex) (added : List Ro
   pub more_indexed : KeepIndexed more old.trees new.trees
   pub others : (t : ℕ) → t ≢ table.tree → AllByRecursion (λ (i : IndexTree). i.tree ≢ t) (indexes_of table) → IsNoIndex more t → new.trees t ≡ old.trees t
   pub rest : new ≡ record old { trees = new.trees; cursors = new.cursors }
+
+-- Where each rowid of the table is below that of this row, the table has the row more, behind its own.
+abbrev pub AppendsRow : TableTree → List AddedIndex → Row → View → View → Type 0
+AppendsRow table more row old new = (next : ℤ) (columns : Row) → row ≡ Int next ∷ columns → IsAfter next (old.trees table.tree)
+    → Appends table more (columns ∷ []) old new × (new.trees table.tree ≡ old.trees table.tree ++ row ∷ [])

@@ -1,6 +1,6 @@
 //! Rows put behind the last one of a table, each with its entries in the table's indexes.
 
-ghost use Rattle.std.specs.Prelude.{◌≡◌, ◌∷◌, ◌++◌, [], map, IsTrue, OnOk};
+ghost use Rattle.std.specs.Prelude.{◌≡◌, ◌∷◌, [], map, IsTrue, OnOk};
 ghost use Rattle.sqlite_value.specs.declared.value.Value.TheVariants.{Int};
 ghost use Rattle.sqlite_value.specs.Keys.{plain};
 ghost use Rattle.sqlite_trees.specs.declared.store.Shape.TheVariants.{Table};
@@ -8,7 +8,7 @@ ghost use Rattle.sqlite_trees.specs.Tree.{rowid, put_row, insert_entry};
 ghost use Rattle.sqlite_trees.specs.View.{IsClean, OnlyWrites, SetsTree, is_int};
 ghost use Rattle.sqlite_sql.specs.Catalog.{entry_of};
 ghost use Rattle.sqlite.specs.Values.{bound};
-ghost use Rattle.osm_tree_writes.specs.Appending.{columns_of, AreIndexesAt, IsAfter, IsApart, IsApartOf, IsIndexAt, IsTableAt, Appends, PutsEntries};
+ghost use Rattle.osm_tree_writes.specs.Appending.{columns_of, AreIndexesAt, IsApart, IsApartOf, IsIndexAt, IsTableAt, Appends, AppendsRow, PutsEntries};
 ghost use Rattle.osm_tree_writes.specs.Harmless.{IsHarmless};
 
 use crate::fault::fault_of;
@@ -120,8 +120,7 @@ fn append_own<S: Store>(
     requires shaped { IsClean (S.Store.view store.old) → IsTableAt (S.Store.view store.old).shape table.now }
     requires apart { IsApart table.now }
     requires keyed { IsTrue (is_int (rowid row.now)) }
-    ensures appended { OnOk result (IsClean (S.Store.view store.new) → (next : _) (columns : _) → row.now ≡ Int next ∷ columns → IsAfter next ((S.Store.view store.old).trees table.now.tree)
-        → Appends table.now [] (columns ∷ []) (S.Store.view store.old) (S.Store.view store.new) × ((S.Store.view store.new).trees table.now.tree ≡ (S.Store.view store.old).trees table.now.tree ++ row.now ∷ [])) }
+    ensures appended { OnOk result (IsClean (S.Store.view store.new) → AppendsRow table.now [] row.now (S.Store.view store.old) (S.Store.view store.new)) }
     ensures frame { OnOk result (IsClean (S.Store.view store.new) → OnlyWrites (S.Store.view store.old) (S.Store.view store.new)) }
     ensures harmless { IsHarmless S.Store.view S.Store.faults S.Store.recovers S.Store.is_shielded store.old result store.new }
 {
@@ -146,8 +145,7 @@ fn append_row<S: Store>(
     requires apart { IsApart table.now }
     requires apart_of { IsApartOf table.now more.now }
     requires keyed { IsTrue (is_int (rowid row.now)) }
-    ensures appended { OnOk result (IsClean (S.Store.view store.new) → (next : _) (columns : _) → row.now ≡ Int next ∷ columns → IsAfter next ((S.Store.view store.old).trees table.now.tree)
-        → Appends table.now more.now (columns ∷ []) (S.Store.view store.old) (S.Store.view store.new) × ((S.Store.view store.new).trees table.now.tree ≡ (S.Store.view store.old).trees table.now.tree ++ row.now ∷ [])) }
+    ensures appended { OnOk result (IsClean (S.Store.view store.new) → AppendsRow table.now more.now row.now (S.Store.view store.old) (S.Store.view store.new)) }
     ensures harmless { IsHarmless S.Store.view S.Store.faults S.Store.recovers S.Store.is_shielded store.old result store.new }
 {
     append_own(store, table, row, entry)?;

@@ -1,18 +1,17 @@
 //! A blob's rows, put into the trees in one transaction.
 
-ghost use Rattle.std.specs.Prelude.{◌≡◌, ◌↔◌, ◌⊎◌, ◌+◌, ◌<◌, ◌≤◌, ◌^◌, false, length, IsTrue, IsSome, IfSome, OnOk, OnErr, IfOk, IfErr};
+ghost use Rattle.std.specs.Prelude.{◌≡◌, ◌↔◌, ◌+◌, ◌<◌, ◌≤◌, ◌^◌, length, IsTrue, IsSome, IfSome, OnOk, IfOk};
 ghost use Rattle.std.specs.List.{AllByRecursion};
 ghost use Rattle.sqlite_trees.specs.declared.store.Shape.TheVariants.{Table};
 ghost use Rattle.sqlite_trees.specs.Objects.{catalog_tree};
-ghost use Rattle.sqlite_trees.specs.Tree.{Trees, put_row};
-ghost use Rattle.sqlite_trees.specs.View.{doubt, IsClean, SetsTree};
+ghost use Rattle.sqlite_trees.specs.Tree.{put_row};
+ghost use Rattle.sqlite_trees.specs.View.{IsClean, SetsTree};
 ghost use Rattle.osm_value.specs.Elements.{IsElement};
-ghost use Rattle.osm_rows.specs.Keeping.{IsForeign};
 ghost use Rattle.osm_rows.specs.Rows.{placed, extent_row};
 ghost use Rattle.osm_tree_writes.specs.Added.{AreKept, plain_indexes};
 ghost use Rattle.osm_tree_writes.specs.Appending.{AreBehind, AreIndexesAt, IsStoreAt, RiseFrom, TakeBlobs};
 ghost use Rattle.osm_tree_writes.specs.Harmless.{IsHarmless};
-ghost use Rattle.osm_tree_writes.specs.Putting.{PutsBelow, Writes, WritesElements};
+ghost use Rattle.osm_tree_writes.specs.Putting.{PutsBlob, WritesUncommitted, WritesElements};
 
 use crate::added::plain_indexes;
 use crate::append::{append_rows, put_table_row};
@@ -152,7 +151,7 @@ fn append_elements<S: Store>(
     Ok(())
 }
 
-/// Writes the rows of a blob, and commits nothing.
+/// WritesUncommitted the rows of a blob, and commits nothing.
 fn write_rows<S: Alter>(
     alloc: Global,
     store: &mut S,
@@ -160,7 +159,7 @@ fn write_rows<S: Alter>(
     elements: &[Element],
 ) -> Result<(), StoreFault>
     requires bounds { (extent.now.off ≤ MAX_OFFSET) × (extent.now.fin ≤ MAX_OFFSET) × (extent.now.n < 2 ^ 63) }
-    ensures written { OnOk result (IsClean (S.Store.view store.new) → Writes (plain_indexes ((S.Store.view store.old).trees catalog_tree)) (S.Store.view store.old) (S.Store.view store.new) extent.now (placed extent.now.off 0 elements.now)) }
+    ensures written { OnOk result (IsClean (S.Store.view store.new) → WritesUncommitted (plain_indexes ((S.Store.view store.old).trees catalog_tree)) (S.Store.view store.old) (S.Store.view store.new) extent.now (placed extent.now.off 0 elements.now)) }
     ensures can_store { OnOk result (AllByRecursion IsElement elements.now) }
     ensures indexed { OnOk result (IsClean (S.Store.view store.old) → TakeBlobs (S.Store.view store.old).shape ((S.Store.view store.old).trees catalog_tree)) }
     ensures harmless { IsHarmless S.Store.view S.Store.faults S.Store.recovers S.Store.is_shielded store.old result store.new }
@@ -189,17 +188,7 @@ pub fn put_blob<S: Alter>(
     elements: &[Element],
 ) -> Result<(), StoreFault>
     requires bounds { (extent.now.off ≤ MAX_OFFSET) × (extent.now.fin ≤ MAX_OFFSET) × (extent.now.n < 2 ^ 63) }
-    ensures added { IsClean (S.Store.view store.new) → OnOk result (PutsBelow (S.Store.view store.old).trees (S.Store.view store.new).trees extent.now (placed extent.now.off 0 elements.now)) }
-    ensures can_store { OnOk result (AllByRecursion IsElement elements.now) }
-    ensures indexed { OnOk result (IsClean (S.Store.view store.old) → TakeBlobs (S.Store.view store.old).shape ((S.Store.view store.old).trees catalog_tree)) }
-    ensures committed { IsClean (S.Store.view store.new) → OnOk result (((S.Store.view store.old).is_broken ≡ false) × ((S.Store.view store.new).is_broken ≡ false) × ((S.Store.view store.new).committed ≡ (S.Store.view store.new).trees)) }
-    ensures unchanged { IsClean (S.Store.view store.new) → IsTrue (S.Store.view store.new).is_open
-        → OnErr result (IsTrue (S.Store.view store.old).is_open × ((S.Store.view store.new).is_broken ≡ false) × ((S.Store.view store.new).trees ≡ (S.Store.view store.old).committed) × ((S.Store.view store.new).committed ≡ (S.Store.view store.old).committed)) }
-    ensures ours { IfErr result (λ fault. ¬ (IsForeign fault)) }
-    ensures clean { doubt (S.Store.view store.old).is_clean ≤ doubt (S.Store.view store.new).is_clean }
-    // a crash leaves what it could leave before, or the trees with the whole blob
-    ensures crash { IsClean (S.Store.view store.new) → (db : Trees) → S.Store.recovers store.new db
-        → S.Store.recovers store.old db ⊎ (((S.Store.view store.old).is_broken ≡ false) × AllByRecursion IsElement elements.now × PutsBelow (S.Store.view store.old).trees db extent.now (placed extent.now.off 0 elements.now)) }
+    ensures { PutsBlob S.Store store.old store.new extent.now elements.now result }
 {
     if store.is_broken() {
         store.rollback();

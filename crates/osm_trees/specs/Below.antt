@@ -1,5 +1,6 @@
 -- When the trees of a store hold a map, with no word of SQL, and what a read leaves of them.
 use Rattle.std.specs.Prelude.{◌≡◌, Bool, false, IsTrue, List, [], ◌∷◌}
+use Rattle.sqlite.specs.State.{State, HasCleanDisk, IsLive, Opens}
 use Rattle.sqlite_value.specs.Order.{Row, column}
 use Rattle.sqlite_trees.specs.declared.store.Store.{Ghosts}
 use Rattle.sqlite_trees.specs.Tree.{Trees}
@@ -21,6 +22,10 @@ pub record HoldsBelow (layout : Layout) (v : View) (held : HeldMap) : Type 0 whe
   pub kept : IsKept layout held
   pub tables : TreesHold layout held v.trees
   pub only : (other : HeldMap) → IsKept layout other → TreesHold layout other v.trees → other ≡ held
+
+-- said where a connection was opened over these trees, which an honest disk keeps
+abbrev pub WhereOpenedOver : Trees → State → Type 0 → Type 0
+WhereOpenedOver db opened P = HasCleanDisk opened → Opens opened → IsLive opened → opened.now.trees ≡ db → P
 
 -- what was broken is rolled back, what wasn't stays, and a crash leaves nothing new
 pub record Mends {S : Type 0} (g : Ghosts S) (old new : S) : Type 0 where

@@ -4,13 +4,12 @@ ghost use Rattle.std.specs.Prelude.{◌≡◌, false};
 ghost use Rattle.sqlite_trees.specs.Objects.{catalog_tree};
 ghost use Rattle.sqlite_catalog.specs.Listing.{Lists};
 ghost use Rattle.sqlite.specs.Held.{state};
-ghost use Rattle.sqlite.specs.State.{HasCleanDisk, IsLive, Opens};
 ghost use Rattle.osm_rows.specs.declared.schema.layout.Layout.{Layout};
 ghost use Rattle.osm_rows.specs.declared.schema.layout.Layout.TheVariants.{Tables};
 ghost use Rattle.osm_rows.specs.Schema.Tables.{table_schema};
 ghost use Rattle.osm_rows.specs.Held.{HeldMap};
 ghost use Rattle.osm_rows.specs.LayoutHolding.{Holds};
-ghost use Rattle.osm_trees.specs.Below.{HoldsBelow};
+ghost use Rattle.osm_trees.specs.Below.{HoldsBelow, WhereOpenedOver};
 
 use crate::tree_store::TreeStore;
 use osm_rows::Reader;
@@ -39,8 +38,8 @@ pub fn a_connection_holds_the_same<T: Store, S: Alter>(
     before: &TreeStore<T>,
     connection: &Connection<S>,
 )
-    ensures { (held : HeldMap) → HoldsBelow Tables (T.Store.view before.now.store) held → HasCleanDisk (state S.Store connection.now) → Opens (state S.Store connection.now) → IsLive (state S.Store connection.now)
-        → (state S.Store connection.now).now.trees ≡ (T.Store.view before.now.store).committed → Lists ((T.Store.view before.now.store).committed catalog_tree) table_schema → Holds Tables (state S.Store connection.now) held }
+    ensures { (held : HeldMap) → HoldsBelow Tables (T.Store.view before.now.store) held → WhereOpenedOver (T.Store.view before.now.store).committed (state S.Store connection.now)
+        (Lists ((T.Store.view before.now.store).committed catalog_tree) table_schema → Holds Tables (state S.Store connection.now) held) }
 {
     let _before = before;
     holds_again(connection);

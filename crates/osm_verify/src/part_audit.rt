@@ -7,7 +7,7 @@ ghost use Rattle.osm_rows.specs.Calls.{KeepsTables, OfHeld};
 ghost use Rattle.osm_rows.specs.Keeping.{IsRange};
 ghost use Rattle.osm_import.specs.Stores.{Rereads};
 ghost use Rattle.osm_verify.specs.Calls.{RereadsTables};
-ghost use Rattle.osm_verify.specs.Faults.{AuditHasCause, IsOwn, IsOwnFault};
+ghost use Rattle.osm_verify.specs.Faults.{AuditHasCause, IsOwnAudit, IsOwnFault};
 ghost use Rattle.osm_verify.specs.InFile.{IsIn};
 ghost use Rattle.osm_verify.specs.Judging.{AreJudged, IsAuditOf, IsFound, IsJudged, IsStray, ShowsPart, finding_of};
 ghost use Rattle.osm_verify.specs.Seeing.{SeesExtent, SeesExtents, SeesFrame};
@@ -49,7 +49,7 @@ fn read_blob<F: FileBytes>(
     requires { IsRange extent.now }
     ensures some { IfOk result (λ read. IfSome read (λ bytes. IsIn (F.bytes file.old) extent.now.off bytes.items × (extent.now.fin ≡ extent.now.off + length bytes.items))) }
     ensures none { IfOk result (λ read. IsNone read → IfSome (F.bytes file.old) (λ whole. IsStray whole extent.now)) }
-    ensures own { IfErr result IsOwn }
+    ensures own { IfErr result IsOwnAudit }
     ensures cause { IfErr result (λ fault. (before : ℕ) (now : ℕ) → AuditHasCause before now fault) }
     ensures kept { F.bytes file.new ≡ F.bytes file.old }
 {
@@ -89,7 +89,7 @@ fn judge<K: Audited>(
     ensures seen { IfOk result (λ found. IsNone found
         → SeesFrame K.Reader store.new (K.has_tables store.old) (K.has_rows (K.trees store.old)) depth rows.old rows.new off bytes.now) }
     ensures reads { RereadsTables K.Reader store.old result store.new }
-    ensures own { OfHeld K.Reader store.old store.new (λ _. IfErr result IsOwn) }
+    ensures own { OfHeld K.Reader store.old store.new (λ _. IfErr result IsOwnAudit) }
     ensures cause { IfErr result (AuditHasCause (K.failures store.old) (K.failures store.new)) }
 {
     match examine(alloc, off, bytes) {
@@ -117,7 +117,7 @@ fn audit_extent<K: Audited, F: FileBytes>(
     ensures seen { IfOk result (λ found. IsNone found
         → SeesExtent K.Reader store.old store.new (K.has_tables store.old) (K.has_rows (K.trees store.old)) depth rows.old rows.new (F.bytes file.old) extent.now) }
     ensures reads { RereadsTables K.Reader store.old result store.new }
-    ensures own { OfHeld K.Reader store.old store.new (λ _. IfErr result IsOwn) }
+    ensures own { OfHeld K.Reader store.old store.new (λ _. IfErr result IsOwnAudit) }
     ensures cause { IfErr result (AuditHasCause (K.failures store.old) (K.failures store.new)) }
     ensures kept { F.bytes file.new ≡ F.bytes file.old }
 {
@@ -152,7 +152,7 @@ fn audit_extents<K: Audited, F: FileBytes>(
     ensures seen { IfOk result (λ findings. findings.items ≡ []
         → SeesExtents K.Reader store.old store.new (K.has_tables store.old) (K.has_rows (K.trees store.old)) depth rows.new (F.bytes file.old) extents.now) }
     ensures reads { RereadsTables K.Reader store.old result store.new }
-    ensures own { OfHeld K.Reader store.old store.new (λ _. IfErr result IsOwn) }
+    ensures own { OfHeld K.Reader store.old store.new (λ _. IfErr result IsOwnAudit) }
     ensures cause { IfErr result (AuditHasCause (K.failures store.old) (K.failures store.new)) }
     ensures kept { F.bytes file.new ≡ F.bytes file.old }
 {
@@ -176,7 +176,7 @@ fn refuse_other_rows<K: Audited>(
         → OnOk result (K.is_open store.new × (K.has_tables store.old → ShowsCounts K.layout (K.trees store.old) rows.now)) }
     ensures same { KeepsTables K.Reader store.old store.new }
     ensures rereads { Rereads K.Reader store.old result store.new }
-    ensures own { OfHeld K.Reader store.old store.new (λ held. (findings.now ≡ [] → depth ≡ Depth.Elements → rows.now ≡ counts_of (elements_held held)) → IfErr result IsOwn) }
+    ensures own { OfHeld K.Reader store.old store.new (λ held. (findings.now ≡ [] → depth ≡ Depth.Elements → rows.now ≡ counts_of (elements_held held)) → IfErr result IsOwnAudit) }
     ensures cause { OfHeld K.Reader store.old store.new (λ held. (findings.now ≡ [] → depth ≡ Depth.Elements → rows.now ≡ counts_of (elements_held held)) → IfErr result (AuditHasCause (K.failures store.old) (K.failures store.new))) }
     ensures counted { K.failures store.old ≤ K.failures store.new }
 {

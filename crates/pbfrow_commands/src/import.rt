@@ -7,7 +7,7 @@ ghost use Rattle.osm_import.specs.Flows.{input, output};
 ghost use Rattle.osm_import.specs.Stores.{Takes};
 ghost use Rattle.osm_import.specs.Merges.{ImportsPart};
 ghost use Rattle.osm_import.specs.declared.stream.fault.ImportStop.{ImportStop as ImportStopValue};
-ghost use Rattle.pbfrow_commands.specs.Importing.{Skips, IsShort, Imports, ImportsFront, ImportsUpTo, EndsBefore, EndsLine, EndsStop, import_status, HoldsFile, HoldsRange, IsTold, ends_frames, ends_input, imported_of};
+ghost use Rattle.pbfrow_commands.specs.Importing.{Skips, IsShort, DropsAndImports, ImportsFront, ImportsUpTo, EndsBefore, EndsLine, EndsStop, import_status, HoldsFile, HoldsRange, IsTold, ends_frames, ends_input, imported_of};
 
 use crate::report::put_summary;
 use osm_import::{ImportFault, ImportStop, Inlet, Source, Stop, Summary, Teller, import_stream};
@@ -67,7 +67,7 @@ fn import_from<R: Source, K: Keeper, T: Teller, S: Sink>(
     out: &mut S,
 ) -> Result<Summary, ImportStop>
     requires { start.at ≤ MAX_OFFSET }
-    ensures { Imports start.dropped start.at (input R.Source reader.old reader.new) (output (T.tells teller.now) S.Sink out.old out.new) (store.new ≡ store.old) (Takes K.Reader store.old store.new) result }
+    ensures { DropsAndImports start.dropped start.at (input R.Source reader.old reader.new) (output (T.tells teller.now) S.Sink out.old out.new) (store.new ≡ store.old) (Takes K.Reader store.old store.new) result }
 {
     match skip(reader, start.dropped) {
         Ok(()) => import_stream(alloc, store, reader, start.at, MAX_BLOBS, teller, out),
@@ -128,7 +128,7 @@ fn reached(
     }
 }
 
-/// Imports what of a reader stands before the offset `to` of the file, from which on nothing is read, or all of it.
+/// DropsAndImports what of a reader stands before the offset `to` of the file, from which on nothing is read, or all of it.
 fn import_front<R: Read + Drop, K: Keeper, T: Teller, S: Sink>(
     alloc: Global,
     reader: R,
@@ -189,7 +189,7 @@ fn finish<S: Sink>(out: &mut S, outcome: Result<Summary, ImportStop>) -> u8
     }
 }
 
-/// Imports the blobs of a reader into a store: all of them, or those that stand before the offset `to` of the file. The first
+/// DropsAndImports the blobs of a reader into a store: all of them, or those that stand before the offset `to` of the file. The first
 /// `dropped` bytes are read and dropped; what comes behind them stands at the offset `at` of the file, and a blob has to begin
 /// there. Writes a line for each blob that is told, and finally the counts or the line of the fault at which it stopped.
 /// Answers the exit status: 0 if all blobs are held, and 1 if a blob was bad or refused, the import stopped, or the output

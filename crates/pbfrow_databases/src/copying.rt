@@ -7,7 +7,7 @@ ghost use Rattle.osm_import.specs.declared.copy.CopyCounts.{CopyCounts as CopyCo
 ghost use Rattle.osm_import.specs.declared.copy.CopyStop.{CopyStop as CopyStopValue};
 ghost use Rattle.pbfrow_commands.specs.Copying.{CopiesStore, copy_status, outcome_line};
 
-use osm_databases::databases::{Databases, close, opened_or_made, source_of_blocks};
+use osm_databases::databases::{Databases, close, open_or_make, source_of_blocks};
 use osm_rows::{Keeper, Reader};
 use osm_value::{Outlet, Sink};
 use pbfrow_commands::metered::MeteredStore;
@@ -20,7 +20,7 @@ use std::io;
 use std::io::Write;
 
 /// Copies what a store holds into another, and answers the first and the exit status, as `migrate` does.
-fn copied<F: Reader, T: Keeper, S: Sink>(
+fn copy_store<F: Reader, T: Keeper, S: Sink>(
     alloc: Global,
     from: F,
     to: &mut T,
@@ -52,11 +52,11 @@ fn copy_into<D: Databases, F: Reader + Drop, W: Write>(
 ) -> u8
     ensures { result ≤ 1 }
 {
-    let mut store = match opened_or_made(rt, files, database) {
+    let mut store = match open_or_make(rt, files, database) {
         Ok(store) => store,
         Err(fault) => return refuse_store(out, fault),
     };
-    let (_from, status) = copied(rt.alloc(), from, &mut store, meter, out);
+    let (_from, status) = copy_store(rt.alloc(), from, &mut store, meter, out);
     close(files, store);
     status
 }

@@ -8,7 +8,7 @@ ghost use Rattle.pbfrow_databases.specs.Questions.{AnswersQuery};
 
 use crate::questions::{ask_one, goes_by_blobs};
 use crate::starting::most_bytes;
-use osm_databases::databases::{Databases, close, opened, opened_or_made};
+use osm_databases::databases::{Databases, close, open_asked, open_or_make};
 use osm_import::{Stop, Teller, Told};
 use osm_rows::Reader;
 use osm_value::{MemberKind, Outlet, Sink};
@@ -60,7 +60,7 @@ fn fill_from<D: Databases, R: Read + Drop, T: Teller, W: Write>(
     requires ends { IfSome part.to (λ n. (part.start.at < n) × (n ≤ MAX_OFFSET)) }
     ensures { result ≤ 1 }
 {
-    let mut store = match opened_or_made(rt, files, database) {
+    let mut store = match open_or_make(rt, files, database) {
         Ok(store) => store,
         Err(fault) => return refuse_store(out, fault),
     };
@@ -150,7 +150,7 @@ pub(crate) fn ask<D: Databases>(rt: &HostRuntime, files: &D, database: &str, que
         Ok(out) => out,
         Err(status) => return status,
     };
-    let status = match opened(rt, files, database) {
+    let status = match open_asked(rt, files, database) {
         Ok(store) => {
             let mut store = MeteredStore {
                 store,

@@ -9,7 +9,7 @@ ghost use Rattle.osm_databases.specs.Found.{AreReadFrom};
 ghost use Rattle.pbfrow_commands.specs.Verifying.{ShowsFile, VerifiesInput};
 
 use crate::named::verify_named;
-use osm_databases::databases::{CheckedDatabases, opened_checked};
+use osm_databases::databases::{CheckedDatabases, open_checked};
 use osm_parts::{InTurn, OpensNamed};
 use osm_rows::{Audited, StoreFault};
 use osm_tree_audits::{Stray, stray_row};
@@ -42,7 +42,7 @@ fn tell_of_stray<S: Store>(rt: &HostRuntime, name: &str, trees: &mut S) {
 
 /// Compares what a reader gives with what a store holds, and answers the store, which was only read, and the exit status, as
 /// `verify` does. The meter is told of each byte and blob.
-fn compared<K: Audited, R: Read + Drop, W: Write>(
+fn compare_one<K: Audited, R: Read + Drop, W: Write>(
     alloc: Global,
     mut store: K,
     reader: R,
@@ -81,11 +81,11 @@ fn compare_in<D: CheckedDatabases, R: Read + Drop, W: Write>(
 ) -> u8
     ensures { result ≤ 1 }
 {
-    let store = match opened_checked(rt, files, database) {
+    let store = match open_checked(rt, files, database) {
         Ok(store) => store,
         Err(fault) => return refuse_store(out, fault),
     };
-    let (store, status) = compared(rt.alloc(), store, reader, depth, meter, out);
+    let (store, status) = compare_one(rt.alloc(), store, reader, depth, meter, out);
     let mut trees = store.into_store();
     if status != 0 && depth == Depth::Elements {
         meter.erase();
@@ -105,7 +105,7 @@ impl<D: CheckedDatabases> OpensNamed<CheckedStore<D::Trees>> for CheckedParts<'_
     ghost lies = { λ parts name store. AreReadFrom D.Trees.Store (D.gives parts.files.now name) store.trees.store };
 
     fn open_named(&self, name: &str) -> Result<CheckedStore<D::Trees>, StoreFault> {
-        opened_checked(self.rt, self.files, name)
+        open_checked(self.rt, self.files, name)
     }
 }
 

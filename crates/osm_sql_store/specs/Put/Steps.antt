@@ -64,7 +64,7 @@ AddsElementsOf elements tags links old new =
     (all : List Placed) → map element_columns elements ≡ element_rows all → map tag_columns tags ≡ tag_rows all → map link_columns links ≡ link_rows all → AddsElements Tables old new all
 
 -- the rows of a blob are written, if the connection is over a store's schema
-pub record Writes (layout : Layout) (old new : State) (extent : Extent) (elements : List Placed) : Type 0 where
+pub record WritesInTransaction (layout : Layout) (old new : State) (extent : Extent) (elements : List Placed) : Type 0 where
   pub was_open : IsTrue old.is_open
   pub inside : IsTrue new.in_transaction
   pub puts : old.now.schema ≡ schema_of layout → (new.now.schema ≡ schema_of layout) × Puts layout old.now.trees new.now.trees extent elements

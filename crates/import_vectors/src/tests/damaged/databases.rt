@@ -1,7 +1,7 @@
 //! Stores that are made over connections in memory, of which each has something else.
 
 use super::openings::{Held, held_by};
-use osm_databases::stores::{made, made_where_none};
+use osm_databases::stores::{make_store, make_where_none};
 use osm_rows::{Reader, StoreFault};
 use sqlite::{Alter, Connection, MemStore};
 use std::alloc::Global;
@@ -29,7 +29,7 @@ fn makes<S: Alter + Drop>(alloc: Global, connection: Connection<S>) -> Outcome {
     if !connection.is_autocommit() {
         return Err(StoreFault::Full);
     }
-    Ok(by_trees(alloc, made(connection)?))
+    Ok(by_trees(alloc, make_store(connection)?))
 }
 
 /// Makes one where the connection has none.
@@ -37,7 +37,7 @@ fn makes_where_none<S: Alter + Drop>(alloc: Global, connection: Connection<S>) -
     if !connection.is_autocommit() {
         return Err(StoreFault::Full);
     }
-    Ok(by_trees(alloc, made_where_none(connection)?))
+    Ok(by_trees(alloc, make_where_none(connection)?))
 }
 
 /// What a connection in memory has.

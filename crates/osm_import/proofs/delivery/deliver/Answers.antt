@@ -1,29 +1,10 @@
 use Rattle.std.proofs.Common.{refl, subst, sym, rules}
 use Rattle.osm_reading.specs.Bad.{IsBad}
 use Rattle.osm_reading.specs.declared.fault.Fault.{Fault}
-use Rattle.osm_import.proofs.EventLemmas.{leaves-events}
 use Rattle.osm_import.proofs.delivery.deliver.Goals as goal
 
 pub returns-in-Ok : goal.returns-in-Ok
-returns-in-Ok g c =
-    let K = g.K.Reader in
-    let made = c.deliver_good.ensures in
-    record {
-      step = made.step;
-      crash = made.crash;
-      events = λ held holds honest.
-          leaves-events (K.is_open c.deliver_good.new.keeper) (K.holds c.deliver_good.new.keeper) (K.leaves c.deliver_good.new.keeper) (λ now left. g.met.K.Reader.settled c.deliver_good.new.keeper now left)
-          held c.args.off c.args.bytes.now c.deliver_good.result (made.step held holds honest) (made.crash held holds honest);
-      whole = made.whole;
-      list = made.list;
-      own = made.own;
-      cause = made.cause;
-      same = made.same;
-      shut = made.shut;
-      honest = made.honest;
-      open_if = made.open_if;
-      counted = made.counted;
-    }
+returns-in-Ok g c = c.deliver_good.ensures
 
 pub returns-in-Err-Bad : goal.returns-in-Err-Bad
 returns-in-Err-Bad g c = record {

@@ -1,108 +1,86 @@
-use Rattle.std.proofs.Common.{◌≡◌, ◌==◌, ◌+◌, List, length, Some, refl, sym, subst, ◌∙◌, ap, inl, inr, rules}
-use Rattle.std.specs.Prelude.{find}
-use Rattle.std.proofs.lemmas.Slice.Eq.{bytes_eq-Decides}
-use Rattle.std.proofs.lemmas.Bool.Decides.{not_from_Decides}
-use Rattle.osm_rows.specs.Held.{HaveFewTexts}
+use Rattle.std.proofs.Common.{◌≡◌, ◌+◌, ◌∙◌, ℕ, List, length, refl, sym, subst, inr, rules}
 use Rattle.osm_value.specs.declared.element.Element.{Element}
-use Rattle.osm_rows.specs.declared.keeper.Extent.{Extent}
-use Rattle.osm_import.proofs.Delivering.{addable, held_already, held_otherwise, overlapping, free-of, storing, few-texts}
+use Rattle.osm_rows.specs.Calls.{OfHeld}
+use Rattle.osm_rows.specs.Held.{Blob, HeldMap, HaveFewTexts}
+use Rattle.osm_rows.specs.Keeping.{IsAddable, with_blob}
+use Rattle.osm_import.specs.Places.{IsPlaceOf}
+use Rattle.osm_import.specs.Step.{IsStoring}
+use Rattle.osm_import.specs.declared.answer.Answer.TheVariants.{AlreadyHeld, Fault, Refused}
+use Rattle.osm_import.specs.declared.place.Place.{Place}
+use Rattle.osm_import.proofs.Delivering.{few-texts, held_already, refused_there, storing}
+use Rattle.osm_import.proofs.Taking.{Promises, takes_by_putting, takes_by_reading}
 use Rattle.osm_import.proofs.delivery.deliver_good.Goals as goal
 
-pub returns-then-eq-clause-step : goal.returns-then-eq-clause-step
-returns-then-eq-clause-step g c = λ held holds honest.
-    let same = (bytes_eq-Decides c.in-Some.extent.digest c.digest-digest.result).0 (sym c.if-eq.ensures) in
-    let found : Some c.in-Some.extent ≡ find (λ (extent : Extent). extent.off == c.args.off) c.in-Ok.touched.items
-    = c.in-Some.ensures ∙ ap (find (λ (extent : Extent). extent.off == c.args.off)) c.deref.ensures.value in (
+pub returns-in-Err : goal.returns-in-Err
+returns-in-Err g c =
+    let K = g.met.K.Reader in
+    takes_by_reading g.K.Reader (record { settled = K.settled; leaves_held = K.leaves_held; is_apart = K.is_apart; same_then = K.same_tables_then }) c.args.keeper.now c.place_of.new.keeper c.args.off c.args.bytes.now (Fault c.in-Err.fault)
+    _ c.in-Err.ensures.reads (λ held holds honest up. c.in-Err.ensures.reads.err honest up held holds) (λ no. no) (λ held holds honest. c.in-Err.ensures.reads.own held holds honest) (search rules) (search rules)
+
+pub returns-in-Held : goal.returns-in-Held
+returns-in-Held g c =
+    let K = g.met.K.Reader in
+    takes_by_reading g.K.Reader (record { settled = K.settled; leaves_held = K.leaves_held; is_apart = K.is_apart; same_then = K.same_tables_then }) c.args.keeper.now c.place_of.new.keeper c.args.off c.args.bytes.now AlreadyHeld
+    _ c.in-Ok.ensures.reads
+    (λ held holds honest. (
       held,
-      (
-        held_already held c.args.off c.args.bytes.now _ _ c.in-Ok.touched.items c.in-Some.extent c.requires (g.met.K.Reader.is_apart _ held holds) (c.in-Ok.ensures.touching held holds honest)
-            found (same ∙ c.digest-digest.ensures),
-        refl,
-      ),
+      held_already held c.args.off c.args.bytes.now _ _ c.digest-digest.result c.requires c.digest-digest.ensures
+          (subst (λ (p : Place). IsPlaceOf held c.args.off (c.args.off + length c.args.bytes.now) c.digest-digest.result p) c.in-Held.is (c.in-Ok.ensures.place held holds honest)),
       c.in-Ok.ensures.reads.ok honest held holds,
-    )
+    )) (λ no. no) (λ held holds honest. tt) (search rules) (search rules)
 
-pub returns-in-Some-clause-step : goal.returns-in-Some-clause-step
-returns-in-Some-clause-step g c = λ held holds honest.
-    let found : Some c.in-Some.extent ≡ find (λ (extent : Extent). extent.off == c.args.off) c.in-Ok.touched.items
-    = c.in-Some.ensures ∙ ap (find (λ (extent : Extent). extent.off == c.args.off)) c.deref.ensures.value in (
+pub returns-in-Taken : goal.returns-in-Taken
+returns-in-Taken g c =
+    let K = g.met.K.Reader in
+    takes_by_reading g.K.Reader (record { settled = K.settled; leaves_held = K.leaves_held; is_apart = K.is_apart; same_then = K.same_tables_then }) c.args.keeper.now c.place_of.new.keeper c.args.off c.args.bytes.now (Refused c.in-Taken.conflict)
+    _ c.in-Ok.ensures.reads
+    (λ held holds honest. (
       held,
-      (
-        held_otherwise held c.args.off c.args.bytes.now _ _ c.in-Ok.touched.items c.in-Some.extent c.requires (g.met.K.Reader.is_apart _ held holds) (c.in-Ok.ensures.touching held holds honest)
-            found (λ same. not_from_Decides _ (bytes_eq-Decides c.in-Some.extent.digest c.digest-digest.result) (sym c.if-eq.ensures) (same ∙ sym c.digest-digest.ensures)),
-        refl,
-      ),
+      refused_there held c.args.off c.args.bytes.now _ _ c.digest-digest.result c.in-Taken.conflict c.requires c.digest-digest.ensures
+          (subst (λ (p : Place). IsPlaceOf held c.args.off (c.args.off + length c.args.bytes.now) c.digest-digest.result p) c.in-Taken.is (c.in-Ok.ensures.place held holds honest)),
       c.in-Ok.ensures.reads.ok honest held holds,
-    )
+    )) (λ no. no) (λ held holds honest. tt) (search rules) (search rules)
 
-pub returns-then-not-is_empty-clause-step : goal.returns-then-not-is_empty-clause-step
-returns-then-not-is_empty-clause-step g c = λ held holds honest. (
-  held,
-  (
-    overlapping held c.args.off c.args.bytes.now _ _ c.in-Ok.touched.items c.requires (g.met.K.Reader.is_apart _ held holds) (c.in-Ok.ensures.touching held holds honest)
-        (λ extent is. c.in_default.not-Some extent (c.extent_at.ensures ∙ ap (find (λ (extent : Extent). extent.off == c.args.off)) c.deref.ensures.value ∙ is)) (search rules),
-    refl,
-  ),
-  c.in-Ok.ensures.reads.ok honest held holds,
-)
-
-pub returns-in-Ok-put-clause-step : goal.returns-in-Ok-put-clause-step
-returns-in-Ok-put-clause-step g c = λ held holds honest.
-    let earlier = c.put.ensures.adds.honest honest in
-    let kept = c.in-Ok.ensures.reads.ok earlier held holds in
-    let none : length c.in-Ok.touched.items ≡ 0 = search rules in
-    let free = free-of held c.args.off (c.args.off + length c.args.bytes.now) c.in-Ok.touched.items (c.in-Ok.ensures.touching held holds earlier) none in (
+pub returns-in-Ok-put : goal.returns-in-Ok-put
+returns-in-Ok-put g c =
+    let K = g.met.K.Reader in
+    let promised : Promises g.K.Reader = record { settled = K.settled; leaves_held = K.leaves_held; is_apart = K.is_apart; same_then = K.same_tables_then } in
+    let stored = c.deref.result.now in
+    let blob : Blob = record { fin = c.args.off + length c.args.bytes.now; digest = c.digest-digest.result; kind = c.args.good.now.kind; elements = stored } in
+    let can : OfHeld g.K.Reader c.args.keeper.now c.place_of.new.keeper (λ held. IsAddable held c.args.off blob)
+    = λ held holds honest. record {
+      free = subst (λ (p : Place). IsPlaceOf held c.args.off (c.args.off + length c.args.bytes.now) c.digest-digest.result p) c.in-Free.is (c.in-Ok.ensures.place held holds honest);
+      few_texts = subst (λ (es : List Element). HaveFewTexts es) (sym c.deref.ensures.value) (few-texts c.args.off c.args.bytes.now c.args.good.now.kind c.args.good.now.elements.items c.requires);
+    } in
+    let stores : (held after : HeldMap) (count : ℕ) → g.K.Reader.holds c.args.keeper.now held → g.K.Reader.is_honest c.place_of.new.keeper → count ≡ length stored → after ≡ with_blob held c.args.off blob → IsStoring held c.args.off c.args.bytes.now count after
+    = λ held after count holds honest counted is. storing held c.args.off c.args.bytes.now c.args.good.now.kind c.args.good.now.elements.items stored c.digest-digest.result count after c.requires c.deref.ensures.value c.digest-digest.ensures (K.is_apart _ held holds) (can held holds honest).free counted is in
+    let adds = c.in-Ok-put.ensures.adds in
+    takes_by_putting g.K.Reader promised c.args.keeper.now c.place_of.new.keeper c.put.new.self c.args.off c.args.bytes.now blob _ c.in-Ok.ensures.reads _ adds can _
+    (λ held after holds honest is left here. inr (length stored, stores held left (length stored) holds (adds.honest honest) refl (here ∙ is)))
+    (λ held holds honest. (
       _,
-      storing held c.args.off c.args.bytes.now c.args.good.now.kind c.args.good.now.elements.items c.deref-2.result.now c.digest-digest.result c.len.result _ c.requires c.deref-2.ensures.value c.digest-digest.ensures (g.met.K.Reader.is_apart _ held holds) free (search rules) refl,
-      c.in-Ok-put.ensures.adds.ok honest held kept (record { free = free; few_texts = subst (λ (es : List Element). HaveFewTexts es) (sym c.deref-2.ensures.value) (few-texts c.args.off c.args.bytes.now c.args.good.now.kind c.args.good.now.elements.items c.requires) }),
-    )
+      stores held (with_blob held c.args.off blob) _ holds (adds.honest honest) (search rules) refl,
+      adds.ok honest held (c.in-Ok.ensures.reads.ok (adds.honest honest) held holds) (can held holds (adds.honest honest)),
+    ))
+    (λ honest shut stored. shut (adds.was_open honest)) (λ held holds honest. tt) (λ honest up other. absurd (other tt)) (search rules) (search rules)
 
-pub returns-in-Ok-put-clause-crash : goal.returns-in-Ok-put-clause-crash
-returns-in-Ok-put-clause-crash g c = λ held holds honest left leaves.
-    let earlier = c.put.ensures.adds.honest honest in
-    let kept = c.in-Ok.ensures.reads.ok earlier held holds in
-    let can = addable held c.args.off (c.args.off + length c.args.bytes.now) c.in-Ok.touched.items c.digest-digest.result c.args.good.now.kind c.deref-2.result.now c.args.good.now.elements.items (c.in-Ok.ensures.touching held holds earlier) (search rules) c.deref-2.ensures.value (few-texts c.args.off c.args.bytes.now c.args.good.now.kind c.args.good.now.elements.items c.requires) in
-    elim (c.put.ensures.adds.crash honest held left kept can leaves) [
-      | inl old ↦ inl (g.met.K.Reader.settled _ held left holds (c.in-Ok.ensures.reads.crash earlier left old))
-      | inr new ↦ inr (length c.deref-2.result.now, storing held c.args.off c.args.bytes.now c.args.good.now.kind c.args.good.now.elements.items c.deref-2.result.now c.digest-digest.result _ left c.requires c.deref-2.ensures.value c.digest-digest.ensures (g.met.K.Reader.is_apart _ held holds) can.free refl new)
-    ]
-
-pub returns-clause-step : goal.returns-clause-step
-returns-clause-step g c = λ held holds honest open_now.
-    let earlier = c.put.ensures.adds.honest honest in
-    c.in-Err-put.ensures.adds.err honest open_now held (c.in-Ok.ensures.reads.ok earlier held holds) (addable held c.args.off (c.args.off + length c.args.bytes.now) c.in-Ok.touched.items c.digest-digest.result c.args.good.now.kind c.deref-2.result.now c.args.good.now.elements.items (c.in-Ok.ensures.touching held holds earlier) (search rules) c.deref-2.ensures.value (few-texts c.args.off c.args.bytes.now c.args.good.now.kind c.args.good.now.elements.items c.requires))
-
-pub returns-clause-crash : goal.returns-clause-crash
-returns-clause-crash g c = λ held holds honest left leaves.
-    let earlier = c.put.ensures.adds.honest honest in
-    let kept = c.in-Ok.ensures.reads.ok earlier held holds in
-    let can = addable held c.args.off (c.args.off + length c.args.bytes.now) c.in-Ok.touched.items c.digest-digest.result c.args.good.now.kind c.deref-2.result.now c.args.good.now.elements.items (c.in-Ok.ensures.touching held holds earlier) (search rules) c.deref-2.ensures.value (few-texts c.args.off c.args.bytes.now c.args.good.now.kind c.args.good.now.elements.items c.requires) in
-    elim (c.put.ensures.adds.crash honest held left kept can leaves) [
-      | inl old ↦ inl (g.met.K.Reader.settled _ held left holds (c.in-Ok.ensures.reads.crash earlier left old))
-      | inr new ↦ inr (length c.deref-2.result.now, storing held c.args.off c.args.bytes.now c.args.good.now.kind c.args.good.now.elements.items c.deref-2.result.now c.digest-digest.result _ left c.requires c.deref-2.ensures.value c.digest-digest.ensures (g.met.K.Reader.is_apart _ held holds) can.free refl new)
-    ]
-
-pub returns-in-Ok-put-clause-whole : goal.returns-in-Ok-put-clause-whole
-returns-in-Ok-put-clause-whole g c = λ held holds honest.
-    let earlier = c.put.ensures.adds.honest honest in
-    c.put.ensures.adds.whole honest held (c.in-Ok.ensures.reads.ok earlier held holds) (addable held c.args.off (c.args.off + length c.args.bytes.now) c.in-Ok.touched.items c.digest-digest.result c.args.good.now.kind c.deref-2.result.now c.args.good.now.elements.items (c.in-Ok.ensures.touching held holds earlier) (search rules) c.deref-2.ensures.value (few-texts c.args.off c.args.bytes.now c.args.good.now.kind c.args.good.now.elements.items c.requires))
-
-pub returns-in-Ok-put-clause-list : goal.returns-in-Ok-put-clause-list
-returns-in-Ok-put-clause-list g c = λ held holds honest rows lists.
-    let earlier = c.put.ensures.adds.honest honest in
-    c.put.ensures.adds.list honest held (c.in-Ok.ensures.reads.ok earlier held holds) (addable held c.args.off (c.args.off + length c.args.bytes.now) c.in-Ok.touched.items c.digest-digest.result c.args.good.now.kind c.deref-2.result.now c.args.good.now.elements.items (c.in-Ok.ensures.touching held holds earlier) (search rules) c.deref-2.ensures.value (few-texts c.args.off c.args.bytes.now c.args.good.now.kind c.args.good.now.elements.items c.requires)) rows (c.in-Ok.ensures.reads.list earlier rows lists)
-
-pub returns-clause-whole : goal.returns-clause-whole
-returns-clause-whole g c = λ held holds honest.
-    let earlier = c.put.ensures.adds.honest honest in
-    c.put.ensures.adds.whole honest held (c.in-Ok.ensures.reads.ok earlier held holds) (addable held c.args.off (c.args.off + length c.args.bytes.now) c.in-Ok.touched.items c.digest-digest.result c.args.good.now.kind c.deref-2.result.now c.args.good.now.elements.items (c.in-Ok.ensures.touching held holds earlier) (search rules) c.deref-2.ensures.value (few-texts c.args.off c.args.bytes.now c.args.good.now.kind c.args.good.now.elements.items c.requires))
-
-pub returns-clause-list : goal.returns-clause-list
-returns-clause-list g c = λ held holds honest rows lists.
-    let earlier = c.put.ensures.adds.honest honest in
-    c.put.ensures.adds.list honest held (c.in-Ok.ensures.reads.ok earlier held holds) (addable held c.args.off (c.args.off + length c.args.bytes.now) c.in-Ok.touched.items c.digest-digest.result c.args.good.now.kind c.deref-2.result.now c.args.good.now.elements.items (c.in-Ok.ensures.touching held holds earlier) (search rules) c.deref-2.ensures.value (few-texts c.args.off c.args.bytes.now c.args.good.now.kind c.args.good.now.elements.items c.requires)) rows (c.in-Ok.ensures.reads.list earlier rows lists)
-
-pub returns-clause-own : goal.returns-clause-own
-returns-clause-own g c = λ held holds honest.
-    let earlier = c.put.ensures.adds.honest honest in
-    c.in-Err-put.ensures.adds.own held (c.in-Ok.ensures.reads.ok earlier held holds) honest (addable held c.args.off (c.args.off + length c.args.bytes.now) c.in-Ok.touched.items c.digest-digest.result c.args.good.now.kind c.deref-2.result.now c.args.good.now.elements.items (c.in-Ok.ensures.touching held holds earlier) (search rules) c.deref-2.ensures.value (few-texts c.args.off c.args.bytes.now c.args.good.now.kind c.args.good.now.elements.items c.requires))
+pub returns-in-Err-put : goal.returns-in-Err-put
+returns-in-Err-put g c =
+    let K = g.met.K.Reader in
+    let promised : Promises g.K.Reader = record { settled = K.settled; leaves_held = K.leaves_held; is_apart = K.is_apart; same_then = K.same_tables_then } in
+    let stored = c.deref.result.now in
+    let blob : Blob = record { fin = c.args.off + length c.args.bytes.now; digest = c.digest-digest.result; kind = c.args.good.now.kind; elements = stored } in
+    let can : OfHeld g.K.Reader c.args.keeper.now c.place_of.new.keeper (λ held. IsAddable held c.args.off blob)
+    = λ held holds honest. record {
+      free = subst (λ (p : Place). IsPlaceOf held c.args.off (c.args.off + length c.args.bytes.now) c.digest-digest.result p) c.in-Free.is (c.in-Ok.ensures.place held holds honest);
+      few_texts = subst (λ (es : List Element). HaveFewTexts es) (sym c.deref.ensures.value) (few-texts c.args.off c.args.bytes.now c.args.good.now.kind c.args.good.now.elements.items c.requires);
+    } in
+    let stores : (held after : HeldMap) (count : ℕ) → g.K.Reader.holds c.args.keeper.now held → g.K.Reader.is_honest c.place_of.new.keeper → count ≡ length stored → after ≡ with_blob held c.args.off blob → IsStoring held c.args.off c.args.bytes.now count after
+    = λ held after count holds honest counted is. storing held c.args.off c.args.bytes.now c.args.good.now.kind c.args.good.now.elements.items stored c.digest-digest.result count after c.requires c.deref.ensures.value c.digest-digest.ensures (K.is_apart _ held holds) (can held holds honest).free counted is in
+    let adds = c.in-Err-put.ensures.adds in
+    takes_by_putting g.K.Reader promised c.args.keeper.now c.place_of.new.keeper c.put.new.self c.args.off c.args.bytes.now blob _ c.in-Ok.ensures.reads _ adds can (Fault c.in-Err-put.fault)
+    (λ held after holds honest is left here. inr (length stored, stores held left (length stored) holds (adds.honest honest) refl (here ∙ is)))
+    (λ held holds honest up. adds.err honest up held (c.in-Ok.ensures.reads.ok (adds.honest honest) held holds) (can held holds (adds.honest honest)))
+    (λ honest shut no. no)
+    (λ held holds honest. adds.own held (c.in-Ok.ensures.reads.ok (adds.honest honest) held holds) honest (can held holds (adds.honest honest)))
+    (λ honest up other. adds.same honest up) (search rules) (search rules)

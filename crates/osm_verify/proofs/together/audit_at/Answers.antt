@@ -42,5 +42,5 @@ returns-clause-shown g c = λ honest deep tables.
     let both = c.close.ensures.honest honest in
     let first = c.audit_part-answer.ensures.rereads.stays.honest both.1 in
     let store = c.in_ok-store.store in
-    let there = c.in_ok-store.ensures.given in
+    let there = c.in_ok-store.ensures.given.0 in
     IfOk-weaker c.audit_part-answer.result _ _ (λ audit shown none. record { store = store; there = there; shown = shown none }) (c.audit_part-answer.ensures.shown both.1 (tables store there first) deep)

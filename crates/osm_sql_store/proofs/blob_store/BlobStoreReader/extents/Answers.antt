@@ -8,7 +8,7 @@ use Rattle.osm_sql_store.proofs.blob_store.BlobStoreReader.extents.Goals as goal
 pub returns-clause-reads : goal.returns-clause-reads
 returns-clause-reads g c =
     reads_held g.S.Store (record { connection = c.all_extents-answer.new.connection; failures = c.failures_after-self-inside.result }) refl c.self.view_is c.all_extents-answer.ensures.asks c.all_extents-answer.result c.failures_after-self-inside.ensures
-    _ (λ clean. c.all_extents-answer.ensures.held clean g.L.StoreLayout.LAYOUT)
+    _ (λ held clean. c.all_extents-answer.ensures.held clean g.L.StoreLayout.LAYOUT held)
 
 pub returns-clause-all : goal.returns-clause-all
 returns-clause-all g c held holds clean =

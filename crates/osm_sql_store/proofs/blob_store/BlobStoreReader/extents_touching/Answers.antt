@@ -8,7 +8,7 @@ use Rattle.osm_sql_store.proofs.blob_store.BlobStoreReader.extents_touching.Goal
 pub returns-clause-reads : goal.returns-clause-reads
 returns-clause-reads g c =
     reads_held g.S.Store (record { connection = c.touched_extents-answer.new.connection; failures = c.failures_after-self-inside.result }) refl c.self.view_is c.touched_extents-answer.ensures.asks c.touched_extents-answer.result c.failures_after-self-inside.ensures
-    _ (λ clean held holds. c.touched_extents-answer.ensures.held g.L.StoreLayout.LAYOUT held clean holds)
+    _ (c.touched_extents-answer.ensures.held g.L.StoreLayout.LAYOUT)
 
 pub returns-clause-touching : goal.returns-clause-touching
 returns-clause-touching g c held holds clean =

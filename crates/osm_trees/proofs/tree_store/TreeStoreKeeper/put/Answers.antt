@@ -15,8 +15,7 @@ returns g c =
     let says = c.put_blob-answer.ensures in
     let adds = put_adds g.S.Store inside new c.args.off blob c.requires.order c.requires.limit wide (λ db up there. g.met.S.Store.settled c.self.inside.store db up there) (g.met.S.Store.broken_if_shut c.self.inside.store)
     c.put_blob-answer.result
-    (record { added = says.added; can_store = says.can_store; committed = says.committed; unchanged = says.unchanged; ours = says.ours; clean = says.clean; crash = says.crash })
-    c.failures_after-self-inside.ensures in
+    says c.failures_after-self-inside.ensures in
     let kept : KeepsAddedIndexes g.S.Store inside.store new.store c.put_blob-answer.result = record {
       written = λ clean. on_ok_weaker c.put_blob-answer.result (λ puts. puts.more_indexed) (says.added clean);
       crash = λ clean db left. elim (says.crash clean db left) [ inl before ↦ inl before | inr put ↦ inr put.2.more_indexed ];

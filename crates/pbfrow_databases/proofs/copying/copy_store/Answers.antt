@@ -1,5 +1,5 @@
 use Rattle.pbfrow_databases.proofs.MeteredLemmas.{inner-in_turn}
-use Rattle.pbfrow_databases.proofs.copying.copied.Goals as goal
+use Rattle.pbfrow_databases.proofs.copying.copy_store.Goals as goal
 
 pub returns-clause-copies : goal.returns-clause-copies
 returns-clause-copies g c =

@@ -15,7 +15,7 @@ use Rattle.osm_tree_writes.proofs.Obeying.{one_map_below, trees_of}
 use Rattle.osm_trees.specs.Below.{HoldsBelow}
 use Rattle.osm_trees.specs.Reading.{open_of, lists_always}
 use Rattle.osm_databases.specs.Found.{ListOnlyAStore}
-use Rattle.osm_databases.proofs.stores.made.Goals as goal
+use Rattle.osm_databases.proofs.stores.make_store.Goals as goal
 
 pub returns-clause-empty : goal.returns-clause-empty
 returns-clause-empty g c =

@@ -1,5 +1,5 @@
 use Rattle.osm_databases.proofs.Looked.{checked_on, reads_from, seen_on}
-use Rattle.osm_databases.proofs.stores.checked.Goals as goal
+use Rattle.osm_databases.proofs.stores.check_store.Goals as goal
 
 pub returns-clause-checked : goal.returns-clause-checked
 returns-clause-checked g c = rw (c.new-2.ensures, c.new.ensures) (λ clean found shaped. checked_on _ _ _ c.in_ok-whole.ensures.reads _ c.in_ok-whole.ensures.whole (c.in_ok-kept.ensures.reads clean) clean found shaped)

@@ -3,19 +3,19 @@ use Rattle.sqlite_trees.specs.View.{IsClean}
 use Rattle.osm_databases.specs.Checked.{IsOfVersion}
 use Rattle.osm_databases.specs.declared.reason.Refusal.{Refusal}
 use Rattle.osm_databases.proofs.Told.{told_of}
-use Rattle.osm_databases.proofs.databases.opened_checked.Goals as goal
+use Rattle.osm_databases.proofs.databases.open_checked.Goals as goal
 
 pub returns-clause-checked : goal.returns-clause-checked
 returns-clause-checked g c = λ clean.
     let known = rw c.in-Some.is at c.in_ok-found.ensures.version in
     let version = subst (λ (s : g.row.D-Trees.Denot). IsClean (g.D.Trees.Store.view s) → IsOfVersion (g.D.Trees.Store.view s)) (sym c.in_ok-kept.ensures.same) known in
-    told_of (λ (refusal : Refusal). refusal.fault) _ _ _ _ c.told.ensures c.in_ok-store.was c.checked.ensures.checked clean version c.in_ok-kept.ensures.store
+    told_of (λ (refusal : Refusal). refusal.fault) _ _ _ _ c.tell_refusal.ensures c.in_ok-store.was c.check_store.ensures.checked clean version c.in_ok-kept.ensures.store
 
 pub returns-clause-added : goal.returns-clause-added
-returns-clause-added g c = λ clean. told_of (λ (refusal : Refusal). refusal.fault) _ _ _ _ c.told.ensures c.in_ok-store.was c.checked.ensures.added clean
+returns-clause-added g c = λ clean. told_of (λ (refusal : Refusal). refusal.fault) _ _ _ _ c.tell_refusal.ensures c.in_ok-store.was c.check_store.ensures.added clean
 
 pub returns-clause-look : goal.returns-clause-look
-returns-clause-look g c = λ clean. told_of (λ (refusal : Refusal). refusal.fault) _ _ _ _ c.told.ensures c.in_ok-store.was c.checked.ensures.look clean
+returns-clause-look g c = λ clean. told_of (λ (refusal : Refusal). refusal.fault) _ _ _ _ c.tell_refusal.ensures c.in_ok-store.was c.check_store.ensures.look clean
 
 pub returns-clause-found : goal.returns-clause-found
 returns-clause-found g c =
@@ -27,5 +27,5 @@ returns-clause-found g c =
         given = subst (λ (s : g.row.D-Trees.Denot). g.D.Databases.gives c.args.databases.now c.args.name.now s) (sym c.in_ok-kept.ensures.same) given;
         version = subst (λ (s : g.row.D-Trees.Denot). IsClean (g.D.Trees.Store.view s) → IsOfVersion (g.D.Trees.Store.view s)) (sym c.in_ok-kept.ensures.same) version;
       };
-      reads = λ clean. told_of (λ (refusal : Refusal). refusal.fault) _ _ _ _ c.told.ensures c.in_ok-store.was c.checked.ensures.reads clean;
+      reads = λ clean. told_of (λ (refusal : Refusal). refusal.fault) _ _ _ _ c.tell_refusal.ensures c.in_ok-store.was c.check_store.ensures.reads clean;
     }

@@ -1,4 +1,4 @@
-use Rattle.osm_databases.proofs.databases.opened.Goals as goal
+use Rattle.osm_databases.proofs.databases.open_asked.Goals as goal
 
 pub returns-in-Some-clause-found : goal.returns-in-Some-clause-found
 returns-in-Some-clause-found g c =

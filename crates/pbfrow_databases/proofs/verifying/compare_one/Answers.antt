@@ -1,4 +1,4 @@
-use Rattle.pbfrow_databases.proofs.verifying.compared.Goals as goal
+use Rattle.pbfrow_databases.proofs.verifying.compare_one.Goals as goal
 
 pub returns-clause-verified : goal.returns-clause-verified
 returns-clause-verified g c = assumption c.verify-status.ensures.verified
