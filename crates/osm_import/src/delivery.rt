@@ -1,42 +1,13 @@
 //! One delivery.
 
-ghost use Rattle.osm_reading.specs.Good.{IsGood};
 ghost use Rattle.osm_import.specs.Stores.{TakesOne};
 
 use crate::answer::Answer;
 use crate::place::{Place, place_of};
-use osm_reading::{ExamineFault, Good, examine};
+use osm_reading::{ExamineFault, examine};
 use osm_rows::{Keeper, StoreFault};
 use sha2::{Digest, Sha256};
 use std::alloc::Global;
-
-/// The delivery of a good blob.
-fn deliver_good<K: Keeper>(
-    alloc: Global,
-    keeper: &mut K,
-    off: u64,
-    bytes: &[u8],
-    good: &Good<'_>,
-) -> Answer
-    requires { IsGood off bytes.now good.now.kind good.now.elements.items }
-    ensures { TakesOne K.Reader keeper.old keeper.new off bytes.now result }
-{
-    let fin = off + bytes.len() as u64;
-    let digest = Sha256::digest(bytes);
-    let place = match place_of(alloc, keeper, off, fin, &digest) {
-        Ok(place) => place,
-        Err(fault) => return Answer::Fault(fault),
-    };
-    match place {
-        Place::Held => return Answer::AlreadyHeld,
-        Place::Taken(conflict) => return Answer::Refused(conflict),
-        Place::Free => {}
-    }
-    match keeper.put(alloc, off, fin, &digest, good.kind, &good.elements) {
-        Ok(()) => Answer::Stored(good.elements.len() as u64),
-        Err(fault) => Answer::Fault(fault),
-    }
-}
 
 /// Delivers bytes as the blob at the offset `off`, in bytes, of its file: one step of the held map.
 ///
@@ -51,9 +22,24 @@ fn deliver_good<K: Keeper>(
 pub fn deliver<K: Keeper>(alloc: Global, keeper: &mut K, off: u64, bytes: &[u8]) -> Answer
     ensures { TakesOne K.Reader keeper.old keeper.new off bytes.now result }
 {
-    match examine(alloc, off, bytes) {
-        Ok(good) => deliver_good(alloc, keeper, off, bytes, &good),
-        Err(ExamineFault::Bad(fault)) => Answer::Bad(fault),
-        Err(ExamineFault::Memory) => Answer::Fault(StoreFault::Memory),
+    let good = match examine(alloc, off, bytes) {
+        Ok(good) => good,
+        Err(ExamineFault::Bad(fault)) => return Answer::Bad(fault),
+        Err(ExamineFault::Memory) => return Answer::Fault(StoreFault::Memory),
+    };
+    let fin = off + bytes.len() as u64;
+    let digest = Sha256::digest(bytes);
+    let place = match place_of(alloc, keeper, off, fin, &digest) {
+        Ok(place) => place,
+        Err(fault) => return Answer::Fault(fault),
+    };
+    match place {
+        Place::Held => return Answer::AlreadyHeld,
+        Place::Taken(conflict) => return Answer::Refused(conflict),
+        Place::Free => {}
+    }
+    match keeper.put(alloc, off, fin, &digest, good.kind, &good.elements) {
+        Ok(()) => Answer::Stored(good.elements.len() as u64),
+        Err(fault) => Answer::Fault(fault),
     }
 }

@@ -1,4 +1,4 @@
-//! The rows of tags and links, and those of a whole blob.
+//! The keys of rows, and the rows of tags and links.
 
 ghost use Rattle.std.specs.Prelude.{◌≡◌, ◌<◌, ◌^◌, [], ◌∷◌, pos, false, filter, IfOk, IfErr, OnOk};
 ghost use Rattle.sqlite_value.specs.declared.value.Value.TheVariants.{Int};
@@ -26,7 +26,7 @@ use sqlite_value::value::ValueRef;
 use std::alloc::{AllocError, Global};
 
 /// The key of all rows at an offset.
-fn offset_key(alloc: Global, off: u64) -> Result<row::Row, AllocError>
+pub(crate) fn offset_key(alloc: Global, off: u64) -> Result<row::Row, AllocError>
     requires { off < 2 ^ 63 }
     ensures { IfOk result (λ key. key ≡ Int (pos off) ∷ []) }
 {
@@ -46,7 +46,7 @@ fn place_key(alloc: Global, element: &row::Row) -> Result<row::Row, AllocError>
 }
 
 /// The rows of the tags and those of the links whose keys begin with this one.
-fn parts_with<S: Store>(
+pub(crate) fn parts_with<S: Store>(
     alloc: Global,
     store: &mut S,
     key: &row::Row,
@@ -74,21 +74,4 @@ pub(crate) fn parts_of<S: Store>(
 {
     let key = place_key(alloc, element)?;
     parts_with(alloc, store, &key)
-}
-
-/// The rows of the elements, of the tags and of the links of the blob at this offset, by position and number.
-pub(crate) fn blob_rows<S: Store>(
-    alloc: Global,
-    store: &mut S,
-    off: u64,
-) -> Result<(Vec<Row>, Vec<PartRow>, Vec<PartRow>), StoreFault>
-    requires { off < 2 ^ 63 }
-    ensures held { IsClean (S.Store.view store.new) → (held : HeldMap) → HoldsBelow Tables (S.Store.view store.old) held
-        → IsAnswer (S.Store.view store.new) result (λ rows. AreRowsOf (record { elements = rows.0; tags = rows.1; links = rows.2 }) (filter (is_in off) (placed_in held))) }
-    ensures looks { Looks S.Store store.old store.new }
-{
-    let key = offset_key(alloc, off)?;
-    let elements: Vec<Row> = rows_with(alloc, store, ELEMENT_KEY, ELEMENTS, 2, &key)?;
-    let (tags, links) = parts_with(alloc, store, &key)?;
-    Ok((elements, tags, links))
 }
