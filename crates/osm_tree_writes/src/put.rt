@@ -151,7 +151,7 @@ fn append_elements<S: Store>(
     Ok(())
 }
 
-/// WritesUncommitted the rows of a blob, and commits nothing.
+/// Writes the rows of a blob, and commits nothing.
 fn write_rows<S: Alter>(
     alloc: Global,
     store: &mut S,

@@ -1,15 +1,14 @@
 //! The keys of rows, and the rows of tags and links.
 
-ghost use Rattle.std.specs.Prelude.{◌≡◌, ◌<◌, ◌^◌, [], ◌∷◌, pos, false, filter, IfOk, IfErr, OnOk};
+ghost use Rattle.std.specs.Prelude.{◌≡◌, ◌<◌, ◌^◌, [], ◌∷◌, pos, false, IfOk, IfErr, OnOk};
 ghost use Rattle.sqlite_value.specs.declared.value.Value.TheVariants.{Int};
 ghost use Rattle.sqlite_value.specs.Order.{column};
 ghost use Rattle.sqlite_trees.specs.View.{IsClean};
 ghost use Rattle.osm_rows.specs.declared.schema.layout.Layout.TheVariants.{Tables};
 ghost use Rattle.osm_rows.specs.Held.{HeldMap};
 ghost use Rattle.osm_rows.specs.Keeping.{IsForeign};
-ghost use Rattle.osm_rows.specs.Load.TableAnswers.{AreRowsOf};
 ghost use Rattle.osm_rows.specs.Load.TableParts.{IsAlone};
-ghost use Rattle.osm_rows.specs.Rows.{Placed, is_in, placed_in};
+ghost use Rattle.osm_rows.specs.Rows.{Placed, placed_in};
 ghost use Rattle.osm_rows.specs.TableRows.{element_row};
 ghost use Rattle.osm_tree_audits.specs.Finding.{Finds};
 ghost use Rattle.osm_tree_audits.specs.Looking.{Looks};
@@ -19,7 +18,6 @@ ghost use Rattle.osm_trees.specs.Below.{HoldsBelow};
 use osm_rows::{PartRow, StoreFault};
 use osm_tree_audits::rows_with;
 use osm_tree_writes::trees::{ELEMENT_KEY, ELEMENTS, LINK_KEY, LINKS, TAG_KEY, TAGS};
-use sqlite::Row;
 use sqlite_trees::store::Store;
 use sqlite_value::row;
 use sqlite_value::value::ValueRef;

@@ -7,7 +7,7 @@ ghost use Rattle.osm_import.specs.Flows.{input, output};
 ghost use Rattle.osm_import.specs.Stores.{Takes};
 ghost use Rattle.osm_import.specs.Merges.{ImportsPart};
 ghost use Rattle.osm_import.specs.declared.stream.fault.ImportStop.{ImportStop as ImportStopValue};
-ghost use Rattle.pbfrow_commands.specs.Importing.{Skips, IsShort, DropsAndImports, ImportsFront, ImportsUpTo, EndsBefore, EndsLine, EndsStop, import_status, HoldsFile, HoldsRange, IsTold, ends_frames, ends_input, imported_of};
+ghost use Rattle.pbfrow_commands.specs.Importing.{Skips, IsShort, DropsAndImports, ImportsUpTo, EndsBefore, EndsLine, EndsStop, import_status, HoldsFile, HoldsRange, IsTold, ends_frames, ends_input, imported_of};
 
 use crate::report::put_summary;
 use osm_import::{ImportFault, ImportStop, Inlet, Source, Stop, Summary, Teller, import_stream};
@@ -128,32 +128,6 @@ fn reached(
     }
 }
 
-/// DropsAndImports what of a reader stands before the offset `to` of the file, from which on nothing is read, or all of it.
-fn import_front<R: Read + Drop, K: Keeper, T: Teller, S: Sink>(
-    alloc: Global,
-    reader: R,
-    store: &mut K,
-    start: Start,
-    to: Option<u64>,
-    teller: &T,
-    out: &mut S,
-) -> Result<Summary, ImportStop>
-    requires begins { start.at ≤ MAX_OFFSET }
-    requires drops { OnSome to (start.dropped ≤ start.at) }
-    requires ends { IfSome to (λ end. (start.at < end) × (end ≤ MAX_OFFSET)) }
-    ensures { ImportsFront start.dropped start.at to (R.remaining reader) (output (T.tells teller.now) S.Sink out.old out.new) (store.new ≡ store.old) (Takes K.Reader store.old store.new) result }
-{
-    match to {
-        None => import_from(alloc, &mut Inlet::new(reader), store, start, teller, out),
-        Some(to) => {
-            let mut front = reader.take(start.dropped + (to - start.at));
-            let mut input = Inlet::new(&mut front);
-            let outcome = import_from(alloc, &mut input, store, start, teller, out);
-            reached(outcome, to, front.limit())
-        }
-    }
-}
-
 /// Writes the line of the fault at which an import stopped. If the output has failed, nothing is written.
 fn put_stop<S: Sink>(out: &mut S, stop: ImportStop)
     ensures line { EndsStop (S.written out.old) (S.written out.new) (S.has_failed out.new) stop.at stop.fault }
@@ -189,7 +163,7 @@ fn finish<S: Sink>(out: &mut S, outcome: Result<Summary, ImportStop>) -> u8
     }
 }
 
-/// DropsAndImports the blobs of a reader into a store: all of them, or those that stand before the offset `to` of the file. The first
+/// Imports the blobs of a reader into a store: all of them, or those that stand before the offset `to` of the file. The first
 /// `dropped` bytes are read and dropped; what comes behind them stands at the offset `at` of the file, and a blob has to begin
 /// there. Writes a line for each blob that is told, and finally the counts or the line of the fault at which it stopped.
 /// Answers the exit status: 0 if all blobs are held, and 1 if a blob was bad or refused, the import stopped, or the output
@@ -226,7 +200,15 @@ pub fn import<R: Read + Drop, K: Keeper, T: Teller, S: Sink>(
         → OfHeld K.Reader store.old store.new (λ held. HoldsRange (K.holds store.new) held start.dropped start.at end (R.remaining reader))) }
     ensures bound { result ≤ 1 }
 {
-    let told = import_front(alloc, reader, store, start, to, teller, out);
+    let told = match to {
+        None => import_from(alloc, &mut Inlet::new(reader), store, start, teller, out),
+        Some(to) => {
+            let mut front = reader.take(start.dropped + (to - start.at));
+            let mut input = Inlet::new(&mut front);
+            let outcome = import_from(alloc, &mut input, store, start, teller, out);
+            reached(outcome, to, front.limit())
+        }
+    };
     finish(out, told)
 }
 
