@@ -10,6 +10,7 @@ use Rattle.osm_tree_writes.specs.Tables.{table_listings}
 use Rattle.osm_tree_audits.specs.Indexes.{AreWhole}
 use Rattle.osm_trees.specs.Below.{IsChecked}
 use Rattle.osm_openings.specs.Asked.{ListsAsAsked}
+use Rattle.osm_rows.specs.declared.trees.TheConstants.{META}
 
 -- The store can go on, nothing is written, and its first trees are those of a store of this version. Each other is listed as its
 -- row asks.
@@ -17,7 +18,7 @@ pub record IsOfVersion (v : View) : Type 0 where
   pub unbroken : v.is_broken ≡ false
   pub settled : v.trees ≡ v.committed
   pub listed : take 9 (v.trees catalog_tree) ≡ table_listings
-  pub version : v.trees 0 ≡ version_row Tables ∷ []
+  pub version : v.trees META ≡ version_row Tables ∷ []
   pub asked : ListsAsAsked (v.trees catalog_tree)
 
 -- each index that somebody has added to a table of the store is one that a put keeps, and has one entry for each row of its table, and no other

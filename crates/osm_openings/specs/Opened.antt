@@ -8,6 +8,7 @@ use Rattle.osm_rows.specs.declared.schema.layout.Layout.TheVariants.{Tables}
 use Rattle.osm_rows.specs.Rows.{version_row}
 use Rattle.osm_tree_writes.specs.Tables.{table_listings}
 use Rattle.osm_openings.specs.Presumed.{ReadsAs}
+use Rattle.osm_rows.specs.declared.trees.TheConstants.{META}
 
 -- The store can go on, its pages end in no sums, and nothing is written beyond the last commit. Its first trees are those of a
 -- store of this version, and all of them are what these files read as, so that nothing was changed.
@@ -16,9 +17,9 @@ pub record IsOpened (image : Image) (v : View) : Type 0 where
   pub settled : v.trees ≡ v.committed
   pub plain : v.has_sums ≡ false
   pub listed : take 9 (v.trees catalog_tree) ≡ table_listings
-  pub version : v.trees 0 ≡ version_row Tables ∷ []
+  pub version : v.trees META ≡ version_row Tables ∷ []
   pub reads : ReadsAs image v.trees
 
 -- the table that names the version has the one row of this version, and was only read
 abbrev pub IsOfThisVersion : View → View → Type 0
-IsOfThisVersion old new = OnlyReads old new × (new.is_broken ≡ false) × (old.trees 0 ≡ version_row Tables ∷ [])
+IsOfThisVersion old new = OnlyReads old new × (new.is_broken ≡ false) × (old.trees META ≡ version_row Tables ∷ [])

@@ -15,11 +15,11 @@ ghost use Rattle.osm_tree_writes.specs.Tables.{table_listing, index_listing, tab
 
 use crate::opening::{open_checked, open_listed};
 use crate::version::has_only;
+use osm_rows::trees::META;
 use osm_rows::{
     CREATE_BLOB, CREATE_ELEMENT, CREATE_ELEMENT_INDEX, CREATE_LINK, CREATE_META, CREATE_TAG,
     TABLE_VERSION,
 };
-use osm_tree_writes::trees::META;
 use sqlite_disk::{Disk, Files};
 use sqlite_pager::Options;
 use sqlite_store::FileStore;

@@ -9,6 +9,7 @@ pub mod laws;
 mod load;
 mod put;
 mod schema;
+pub mod trees;
 pub mod unreadable;
 
 pub use audit::{Audited, Counts};

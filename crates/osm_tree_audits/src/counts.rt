@@ -9,9 +9,9 @@ ghost use Rattle.osm_tree_audits.specs.Looking.{Looks};
 ghost use Rattle.osm_tree_audits.specs.Looks.{IsCount, IsLook};
 
 use crate::look::Look;
+use osm_rows::trees::BLOBS;
 use osm_rows::{Counts, StoreFault};
 use osm_tree_writes::fault_of;
-use osm_tree_writes::trees::BLOBS;
 use sqlite_trees::store::{Direction, Store};
 use sqlite_value::row::Row;
 use std::alloc::Global;

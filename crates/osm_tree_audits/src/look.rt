@@ -11,9 +11,7 @@ ghost use Rattle.osm_tree_audits.specs.Looks.{IsLook, MatchLooked};
 
 use crate::indexes::{StoreIndex, counts_in_step, look_at, look_on};
 use osm_rows::StoreFault;
-use osm_tree_writes::trees::{
-    ELEMENT_BY_ID, ELEMENT_KEY, ELEMENTS, LINK_KEY, LINKS, TAG_KEY, TAGS,
-};
+use osm_rows::trees::{ELEMENT_BY_ID, ELEMENT_KEY, ELEMENTS, LINK_KEY, LINKS, TAG_KEY, TAGS};
 use sqlite_trees::store::Store;
 use sqlite_value::keys::Order;
 use std::alloc::Global;

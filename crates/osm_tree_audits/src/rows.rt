@@ -17,9 +17,9 @@ use crate::look::Look;
 use crate::matching::{finds_next, finds_no_more};
 use crate::tables::ElementTable;
 use crate::ways::{Way, begin};
+use osm_rows::trees::BLOBS;
 use osm_rows::{Extent, StoreFault, blob_code, element_rows, link_rows, tag_rows};
 use osm_tree_writes::fault_of;
-use osm_tree_writes::trees::BLOBS;
 use osm_value::Element;
 use pbf_frame::MAX_OFFSET;
 use sqlite_trees::store::{Shape, Store};
@@ -162,7 +162,7 @@ fn has_extent_row<S: Store>(
 ) -> Result<bool, StoreFault>
     requires bounds { (extent.now.off ≤ MAX_OFFSET) × (extent.now.fin ≤ MAX_OFFSET) × (extent.now.n < 2 ^ 63) }
     ensures told { IsClean (S.Store.view store.new)
-        → IfOk result (λ told. IsTrue told ↔ (filter (has_rowid (pos extent.now.off)) ((S.Store.view store.old).trees 1) ≡ extent_row extent.now ∷ [])) }
+        → IfOk result (λ told. IsTrue told ↔ (filter (has_rowid (pos extent.now.off)) ((S.Store.view store.old).trees BLOBS) ≡ extent_row extent.now ∷ [])) }
     ensures sound { OnOk result (IsClean (S.Store.view store.new) → (S.Store.view store.new).is_broken ≡ false) }
     ensures ours { IfErr result (λ fault. ¬ (IsForeign fault)) }
     ensures looks { Looks S.Store store.old store.new }

@@ -11,8 +11,8 @@ ghost use Rattle.osm_tree_audits.specs.Strays.{HasBlob, IsStrayRow, LacksBlob};
 
 use crate::tables::ElementTable;
 use osm_rows::StoreFault;
+use osm_rows::trees::BLOBS;
 use osm_tree_writes::fault_of;
-use osm_tree_writes::trees::BLOBS;
 use sqlite_trees::store::{Direction, Shape, Store};
 use sqlite_value::row::Row;
 use sqlite_value::value::ValueRef;

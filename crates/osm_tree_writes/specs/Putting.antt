@@ -23,6 +23,7 @@ use Rattle.osm_rows.specs.Keeping.{IsAddable, IsForeign, extents_of}
 use Rattle.osm_rows.specs.LayoutHolding.{HoldElements, IsBlob, IsKept}
 use Rattle.osm_rows.specs.Rows.{Placed, extent_row, placed, placed_in, version_row}
 use Rattle.osm_rows.specs.Put.Gains.{GainsElements}
+use Rattle.osm_rows.specs.declared.trees.TheConstants.{BLOBS, ELEMENTS, LINKS, META, TAGS}
 use Rattle.osm_tree_writes.specs.Added.{plain_indexes}
 use Rattle.osm_tree_writes.specs.Appending.{IsNoIndex, KeepIndexed, TakeBlobs}
 use Rattle.osm_tree_writes.specs.Beside.{HasAStore}
@@ -33,15 +34,15 @@ IsIndexedStore db = AllByRecursion (λ (i : Index). IsIndexOf i.columns (db i.ta
 
 -- the rows of the tables of elements stand in the order of their rowids
 abbrev pub AreTables : Trees → Type 0
-AreTables db = IsShaped Table (db 2) × IsShaped Table (db 4) × IsShaped Table (db 6)
+AreTables db = IsShaped Table (db ELEMENTS) × IsShaped Table (db TAGS) × IsShaped Table (db LINKS)
 
 -- The trees of a store have exactly the rows that the map stands for, and obey its schema, whatever else is listed behind
 -- them, and whatever that holds.
 pub record TreesHold (layout : Layout) (held : HeldMap) (db : Trees) : Type 0 where
   pub lists : HasAStore layout (db catalog_tree)
   pub obeys : Obeys (schema_of layout) db
-  pub meta : db 0 ≡ version_row layout ∷ []
-  pub blob : db 1 ≡ map extent_row (extents_of held)
+  pub meta : db META ≡ version_row layout ∷ []
+  pub blob : db BLOBS ≡ map extent_row (extents_of held)
   pub elements : HoldElements layout (placed_in held) db
 
 -- no tree behind those of a store has changed but these indexes
@@ -69,8 +70,8 @@ pub record WritesElements (more : List Index) (old new : View) (added : List Pla
   pub sound : old.is_broken ≡ false
   pub others : KeepOthers more old.trees new.trees
   pub catalog : new.trees catalog_tree ≡ old.trees catalog_tree
-  pub meta : new.trees 0 ≡ old.trees 0
-  pub blob : new.trees 1 ≡ old.trees 1
+  pub meta : new.trees META ≡ old.trees META
+  pub blob : new.trees BLOBS ≡ old.trees BLOBS
   pub elements : GainsElements Tables added old.trees new.trees
   pub indexed : IsIndexedStore old.trees → IsIndexedStore new.trees
   pub more_indexed : KeepIndexed more old.trees new.trees

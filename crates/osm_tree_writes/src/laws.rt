@@ -10,11 +10,12 @@ ghost use Rattle.osm_rows.specs.Keeping.{extent_of, extents_of, with_blob};
 ghost use Rattle.osm_rows.specs.LayoutHolding.{HoldElements};
 ghost use Rattle.osm_rows.specs.Rows.{extent_row, placed, placed_in, version_row};
 ghost use Rattle.osm_tree_writes.specs.Putting.{AreTables, CanTake, IsIndexedStore, PutsBelow, TreesHold};
+ghost use Rattle.osm_rows.specs.declared.trees.TheConstants.{BLOBS, META};
 
 /// Trees that have the rows of a map, and in each index an entry for each row, obey the schema of a store: each value has its
 /// column's type, none is missing, and no key comes twice.
 pub fn rows_of_a_map_obey_the_schema()
-    ensures { (held : HeldMap) (db : Trees) → db 0 ≡ version_row Tables ∷ [] → db 1 ≡ map extent_row (extents_of held) → HoldElements Tables (placed_in held) db
+    ensures { (held : HeldMap) (db : Trees) → db META ≡ version_row Tables ∷ [] → db BLOBS ≡ map extent_row (extents_of held) → HoldElements Tables (placed_in held) db
         → AreTables db → IsIndexedStore db → Obeys table_schema db }
 {}
 

@@ -3,8 +3,7 @@
 ghost use Rattle.std.specs.Prelude.{◌≡◌, ◌⊎◌, ◌↔◌, ◌<◌, ◌≤◌, ◌^◌, IsTrue};
 ghost use Rattle.osm_tree_writes.specs.Appending.{IsIndexAt, IsTableAt, RiseFrom};
 
-use crate::trees;
-use crate::trees::TREES;
+use osm_rows::trees::{self, TREES};
 use sqlite_schema::schema::Index;
 use sqlite_trees::store::{Shape, Store};
 use sqlite_value::keys::Order;

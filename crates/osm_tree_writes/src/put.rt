@@ -12,13 +12,14 @@ ghost use Rattle.osm_tree_writes.specs.Added.{AreKept, plain_indexes};
 ghost use Rattle.osm_tree_writes.specs.Appending.{AreBehind, AreIndexesAt, IsStoreAt, RiseFrom, TakeBlobs};
 ghost use Rattle.osm_tree_writes.specs.Harmless.{IsHarmless};
 ghost use Rattle.osm_tree_writes.specs.Putting.{PutsBlob, WritesUncommitted, WritesElements};
+ghost use Rattle.osm_rows.specs.declared.trees.TheConstants.{TREES};
 
 use crate::added::plain_indexes;
 use crate::append::{append_rows, put_table_row};
 use crate::fault::fault_of;
 use crate::free::are_places_free;
 use crate::layout::{ELEMENTS, LINKS, TAGS, has_more, has_table};
-use crate::trees::BLOBS;
+use osm_rows::trees::BLOBS;
 use osm_rows::{Extent, StoreFault, blob_code, element_rows, link_rows, tag_rows};
 use osm_value::Element;
 use osm_value::laws::elements_in_range;
@@ -45,7 +46,7 @@ fn has_tables<S: Store>(store: &S) -> bool
 /// The indexes that somebody has added to the tables of a store, each of which has to get the entries of the rows that a put
 /// writes; none where a put can't write to these trees, as where a trigger is on one of the tables.
 fn indexes_to_keep<S: Alter>(alloc: Global, store: &S) -> Result<Option<Vec<Index>>, AllocError>
-    ensures shaped { IfOk result (λ found. IfSome found (λ more. IsStoreAt (S.Store.view store.now).shape × RiseFrom (S.Store.view store.now).shape 9 more.items)) }
+    ensures shaped { IfOk result (λ found. IfSome found (λ more. IsStoreAt (S.Store.view store.now).shape × RiseFrom (S.Store.view store.now).shape TREES more.items)) }
     ensures all { IfOk result (λ found. IfSome found (λ more. IsClean (S.Store.view store.now) → AreKept ((S.Store.view store.now).trees catalog_tree) × (more.items ≡ plain_indexes ((S.Store.view store.now).trees catalog_tree)))) }
     ensures none { IfOk result (λ found. IsClean (S.Store.view store.now) → TakeBlobs (S.Store.view store.now).shape ((S.Store.view store.now).trees catalog_tree) → IsSome found) }
 {
@@ -89,9 +90,9 @@ fn extent_row(alloc: Global, extent: &Extent) -> Result<Row, AllocError>
 
 /// Puts the row of a blob into its table.
 fn put_extent<S: Store>(alloc: Global, store: &mut S, extent: &Extent) -> Result<(), StoreFault>
-    requires shaped { IsClean (S.Store.view store.old) → (S.Store.view store.old).shape 1 ≡ Table }
+    requires shaped { IsClean (S.Store.view store.old) → (S.Store.view store.old).shape BLOBS ≡ Table }
     requires bounds { (extent.now.off ≤ MAX_OFFSET) × (extent.now.fin ≤ MAX_OFFSET) × (extent.now.n < 2 ^ 63) }
-    ensures ok { OnOk result (IsClean (S.Store.view store.new) → SetsTree (S.Store.view store.old) (S.Store.view store.new) 1 (put_row (extent_row extent.now))) }
+    ensures ok { OnOk result (IsClean (S.Store.view store.new) → SetsTree (S.Store.view store.old) (S.Store.view store.new) BLOBS (put_row (extent_row extent.now))) }
     ensures harmless { IsHarmless S.Store.view S.Store.faults S.Store.recovers S.Store.is_shielded store.old result store.new }
 {
     let row = extent_row(alloc, extent)?;

@@ -13,6 +13,7 @@ use Rattle.osm_rows.specs.LayoutHolding.{IsKept}
 use Rattle.osm_rows.specs.Rows.{version_row}
 use Rattle.osm_tree_writes.specs.Appending.{IsStoreAt}
 use Rattle.osm_tree_writes.specs.Putting.{IsIndexedStore, TreesHold}
+use Rattle.osm_rows.specs.declared.trees.TheConstants.{META}
 
 -- the store can go on, nothing is written, and its trees' rows are those of this map and of no other
 pub record HoldsBelow (layout : Layout) (v : View) (held : HeldMap) : Type 0 where
@@ -73,4 +74,4 @@ pub record IsChecked (v : View) : Type 0 where
   pub unbroken : v.is_broken ≡ false
   pub indexed : IsIndexed v
   pub shaped : IsStoreAt v.shape
-  pub version : v.trees 0 ≡ version_row Tables ∷ []
+  pub version : v.trees META ≡ version_row Tables ∷ []

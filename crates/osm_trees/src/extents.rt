@@ -14,9 +14,9 @@ ghost use Rattle.osm_tree_audits.specs.Looking.{Looks};
 ghost use Rattle.osm_trees.specs.Below.{HoldsBelow};
 
 use crate::row::extent_of;
+use osm_rows::trees::BLOBS;
 use osm_rows::{Extent, StoreFault, are_apart};
 use osm_tree_writes::fault_of;
-use osm_tree_writes::trees::BLOBS;
 use pbf_frame::MAX_OFFSET;
 use sqlite_trees::store::{Direction, Shape, Store};
 use sqlite_value::row::Row;
@@ -25,7 +25,7 @@ use std::alloc::{AllocError, Global};
 
 /// The extents that the rows of the tree stand for.
 fn read_extents<S: Store>(alloc: Global, store: &mut S) -> Result<Vec<Extent>, StoreFault>
-    ensures rows { IsClean (S.Store.view store.new) → (extents : List Held) → All IsKeptExtent extents → (S.Store.view store.old).trees 1 ≡ map extent_row extents
+    ensures rows { IsClean (S.Store.view store.new) → (extents : List Held) → All IsKeptExtent extents → (S.Store.view store.old).trees BLOBS ≡ map extent_row extents
         → MatchResult result (λ found. found.items ≡ extents) (λ fault. ¬ (IsForeign fault)) }
     ensures ranges { IfOk result (λ found. All IsRange found.items) }
     ensures sound { OnOk result (IsClean (S.Store.view store.new) → (S.Store.view store.new).is_broken ≡ false) }
@@ -87,7 +87,7 @@ fn read_touched<S: Store>(
     to: u64,
 ) -> Result<Vec<Extent>, StoreFault>
     requires { (from < to) × (to ≤ MAX_OFFSET) }
-    ensures rows { IsClean (S.Store.view store.new) → (extents : List Held) → All IsKeptExtent extents → AscendApart extents → (S.Store.view store.old).trees 1 ≡ map extent_row extents
+    ensures rows { IsClean (S.Store.view store.new) → (extents : List Held) → All IsKeptExtent extents → AscendApart extents → (S.Store.view store.old).trees BLOBS ≡ map extent_row extents
         → MatchResult result (λ found. found.items ≡ reverse (filter (touches from to) extents)) (λ fault. ¬ (IsForeign fault)) }
     ensures ranges { IfOk result (λ found. All IsRange found.items) }
     ensures sound { OnOk result (IsClean (S.Store.view store.new) → (S.Store.view store.new).is_broken ≡ false) }

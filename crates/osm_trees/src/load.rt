@@ -14,9 +14,9 @@ ghost use Rattle.osm_trees.specs.Below.{HoldsBelow};
 
 use crate::parts::{offset_key, parts_with};
 use crate::search::found_rows;
+use osm_rows::trees::{ELEMENT_KEY, ELEMENTS};
 use osm_rows::{Found, Loaded, StoreFault};
 use osm_tree_audits::rows_with;
-use osm_tree_writes::trees::{ELEMENT_KEY, ELEMENTS};
 use osm_value::MemberKind;
 use pbf_frame::MAX_OFFSET;
 use sqlite::Row;

@@ -15,9 +15,9 @@ ghost use Rattle.osm_tree_audits.specs.Looking.{Looks};
 ghost use Rattle.osm_trees.specs.Answers.{AreItsParts, IsAnswer};
 ghost use Rattle.osm_trees.specs.Below.{HoldsBelow};
 
+use osm_rows::trees::{ELEMENT_KEY, ELEMENTS, LINK_KEY, LINKS, TAG_KEY, TAGS};
 use osm_rows::{PartRow, StoreFault};
 use osm_tree_audits::rows_with;
-use osm_tree_writes::trees::{ELEMENT_KEY, ELEMENTS, LINK_KEY, LINKS, TAG_KEY, TAGS};
 use sqlite_trees::store::Store;
 use sqlite_value::row;
 use sqlite_value::value::ValueRef;
@@ -50,7 +50,7 @@ pub(crate) fn parts_with<S: Store>(
     key: &row::Row,
 ) -> Result<(Vec<PartRow>, Vec<PartRow>), StoreFault>
     ensures found { IfOk result (λ parts. IsClean (S.Store.view store.new)
-        → Finds (λ r. r) (S.Store.view store.old).trees 5 4 3 key.now parts.0.items × Finds (λ r. r) (S.Store.view store.old).trees 7 6 3 key.now parts.1.items) }
+        → Finds (λ r. r) (S.Store.view store.old).trees TAG_KEY TAGS 3 key.now parts.0.items × Finds (λ r. r) (S.Store.view store.old).trees LINK_KEY LINKS 3 key.now parts.1.items) }
     ensures sound { OnOk result (IsClean (S.Store.view store.new) → (S.Store.view store.new).is_broken ≡ false) }
     ensures ours { IfErr result (λ fault. ¬ (IsForeign fault)) }
     ensures looks { Looks S.Store store.old store.new }

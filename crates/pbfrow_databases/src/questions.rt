@@ -36,12 +36,7 @@ pub fn goes_by_blobs(question: Question) -> bool
 }
 
 /// Asks a store, and answers the exit status. What it holds stays.
-pub fn ask_one<K: Reader, S: Sink>(
-    alloc: Global,
-    store: &mut K,
-    query: Query,
-    out: &mut S,
-) -> u8
+pub fn ask_one<K: Reader, S: Sink>(alloc: Global, store: &mut K, query: Query, out: &mut S) -> u8
     ensures told { OfHeld K.Reader store.old store.new (λ held. AnswersQuery query held (telling K.failures S.Sink store.old store.new out.old out.new result)) }
     ensures stays { Stays K.Reader store.old store.new }
     ensures bound { result ≤ 1 }
@@ -49,11 +44,13 @@ pub fn ask_one<K: Reader, S: Sink>(
     match query {
         Query::Whole(Question::Status { size }) => status(alloc, store, size, out),
         Query::Whole(Question::Counts { size }) => status_with_counts(alloc, store, size, out),
-        Query::Whole(Question::Export {
-            size,
-            partial,
-            form,
-        }) => export(alloc, store, size, partial, form, out),
+        Query::Whole(
+            Question::Export {
+                size,
+                partial,
+                form,
+            },
+        ) => export(alloc, store, size, partial, form, out),
         Query::Element(kind, id) => find(alloc, store, kind, id, out),
     }
 }

@@ -20,22 +20,20 @@ returns-clause-appended g c =
     let clean_mid : IsClean mid = omega (arith, clean, c.put_entries.ensures.harmless.quiet.clean) in
     let entered : IsClean keyed × (mid.shape ≡ keyed.shape) × EntersOther table.by_id row keyed mid = elim c.match-table.branch [
       | in-Some+in_ok-put_entry-2 w ↦ (
-        let last = g.S.Store.view w.put_entry-in-Some.new.store in
-        let same : mid ≡ last = ap g.S.Store.view w.store-is in
-        let clean_last : IsClean last = subst IsClean same clean_mid in
-        let clean_keyed : IsClean keyed = omega (arith, clean_last, w.put_entry-in-Some.ensures.harmless.quiet.clean) in
-        (
-          clean_keyed,
-          ap (λ (v : View). v.shape) same ∙ w.put_entry-in-Some.ensures.harmless.schema.shape,
-          subst (λ (v : View). EntersOther table.by_id row keyed v) (sym same) (subst (λ o. EntersOther o row keyed last) (sym w.in-Some.is) (w.in_ok-put_entry-2.ensures.ok clean_last)),
-        ))
+          let last = g.S.Store.view w.put_entry-in-Some.new.store in
+          let same : mid ≡ last = ap g.S.Store.view w.store-is in
+          let clean_last : IsClean last = subst IsClean same clean_mid in
+          let clean_keyed : IsClean keyed = omega (arith, clean_last, w.put_entry-in-Some.ensures.harmless.quiet.clean) in (
+            clean_keyed,
+            ap (λ (v : View). v.shape) same ∙ w.put_entry-in-Some.ensures.harmless.schema.shape,
+            subst (λ (v : View). EntersOther table.by_id row keyed v) (sym same) (subst (λ o. EntersOther o row keyed last) (sym w.in-Some.is) (w.in_ok-put_entry-2.ensures.ok clean_last)),
+          ))
       | in_default w ↦ (
-        let same : mid ≡ keyed = ap g.S.Store.view w.store-is in
-        (
-          subst IsClean same clean_mid,
-          ap (λ (v : View). v.shape) same,
-          subst (λ (v : View). EntersOther table.by_id row keyed v) (sym same) (subst (λ o. EntersOther o row keyed keyed) (sym w.in_default.is) refl),
-        ))
+          let same : mid ≡ keyed = ap g.S.Store.view w.store-is in (
+            subst IsClean same clean_mid,
+            ap (λ (v : View). v.shape) same,
+            subst (λ (v : View). EntersOther table.by_id row keyed v) (sym same) (subst (λ o. EntersOther o row keyed keyed) (sym w.in_default.is) refl),
+          ))
     ] in
     let clean_keyed = entered.0 in
     let clean_put : IsClean put = omega (arith, clean_keyed, c.put_entry.ensures.harmless.quiet.clean) in
