@@ -6,7 +6,7 @@ use Rattle.osm_rows.specs.Held.{Blob, HeldMap, IsFree}
 use Rattle.osm_rows.specs.Keeping.{IsAddable, extent_of, with_blob}
 use Rattle.osm_rows.specs.declared.fault.StoreFault.{StoreFault}
 use Rattle.osm_rows.specs.declared.keeper.Extent.{Extent}
-use Rattle.osm_rows.specs.declared.keeper.Reader.{Ghosts}
+use Rattle.osm_rows.specs.declared.keeper.BlobReader.{Ghosts}
 use Rattle.osm_import.specs.Copies.{BlobHasCause, BlobTells, CopiesBlob, IsCopyStep, IsOwnBlob, is_added}
 use Rattle.osm_import.specs.Places.{IsMet, IsPlaceOf}
 use Rattle.osm_import.specs.Stores.{AddsComplete, CopiesOne, HoldsStill, KeepsHeld, Rereads, WhereHeld}

@@ -4,7 +4,7 @@ use Rattle.osm_rows.specs.Calls.{OfHeld}
 use Rattle.osm_rows.specs.Held.{Blob, HeldMap, IsApart}
 use Rattle.osm_rows.specs.Keeping.{Adds, IsAddable, OnlyReads, with_blob}
 use Rattle.osm_rows.specs.declared.fault.StoreFault.{StoreFault}
-use Rattle.osm_rows.specs.declared.keeper.Reader.{Ghosts}
+use Rattle.osm_rows.specs.declared.keeper.BlobReader.{Ghosts}
 use Rattle.osm_import.specs.Runs.{IsStored}
 use Rattle.osm_import.specs.Step.{Delivers, CrashLeaves, FaultHasCause, IsOwn}
 use Rattle.osm_import.specs.Stores.{TakesOne}

@@ -6,7 +6,7 @@ use Rattle.osm_rows.specs.Held.{Blob, HeldMap, IsFree}
 use Rattle.osm_rows.specs.Calls.{OfHeld}
 use Rattle.osm_rows.specs.Keeping.{KeepsList, extent_of, with_blob}
 use Rattle.osm_rows.specs.declared.keeper.Extent.{Extent}
-use Rattle.osm_rows.specs.declared.keeper.Reader.{Ghosts}
+use Rattle.osm_rows.specs.declared.keeper.BlobReader.{Ghosts}
 use Rattle.osm_import.specs.Copies.{BlobCopied, CopiesBlob, Copies, CrashLeavesBlob, CrashLeavesSome, BlobHasCause, BlobTells, CopyHasCause, CopyTells, IsOwnBlob, IsOwnCopy, ComeTo, is_added}
 use Rattle.osm_import.specs.Deliveries.{DeliveryValue}
 use Rattle.osm_import.specs.Files.{AreFrames, AreOfFile, IsHeldOfFile}

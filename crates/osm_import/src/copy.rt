@@ -12,7 +12,7 @@ ghost use Rattle.osm_import.specs.Stores.{CopiesAll, CopiesOne};
 use crate::answer::Conflict;
 use crate::few_texts::have_few_texts;
 use crate::place::{Place, place_of};
-use osm_rows::{Extent, Keeper, Loaded, Reader, StoreFault};
+use osm_rows::{BlobKeeper, BlobReader, Extent, Loaded, StoreFault};
 use osm_value::Element;
 use std::alloc::{AllocError, Global};
 use thiserror::Error;
@@ -122,14 +122,14 @@ fn complete_elements<'a>(
 
 /// Copies the blob at an extent of the first store, unless the other holds its offset with its digest. The digest comes
 /// first, so that a blob that is held costs no reading of its rows.
-fn copy_blob<F: Reader, T: Keeper>(
+fn copy_blob<F: BlobReader, T: BlobKeeper>(
     alloc: Global,
     from: &mut F,
     to: &mut T,
     extent: &Extent,
 ) -> Result<BlobCopy, CopyFault>
     requires { IsRange extent.now }
-    ensures { CopiesOne F.Reader T.Reader from.old from.new to.old to.new (extent.now, result) }
+    ensures { CopiesOne F.BlobReader T.BlobReader from.old from.new to.old to.new (extent.now, result) }
 {
     let place = place_of(alloc, to, extent.off, extent.fin, &extent.digest)?;
     match place {
@@ -153,14 +153,14 @@ fn copy_blob<F: Reader, T: Keeper>(
 }
 
 /// Copies the blobs at these extents, which are all of the first store.
-fn copy_blobs<F: Reader, T: Keeper>(
+fn copy_blobs<F: BlobReader, T: BlobKeeper>(
     alloc: Global,
     from: &mut F,
     to: &mut T,
     extents: &[Extent],
 ) -> Result<CopyCounts, CopyStop>
     requires { All IsRange extents.now }
-    ensures { CopiesAll F.Reader T.Reader (λ source. F.holds from.old source × (extents.now ≡ extents_of source)) from.old from.new to.old to.new result }
+    ensures { CopiesAll F.BlobReader T.BlobReader (λ source. F.holds from.old source × (extents.now ≡ extents_of source)) from.old from.new to.old to.new result }
 {
     let mut copied = 0;
     let mut held = 0;
@@ -194,12 +194,12 @@ fn copy_blobs<F: Reader, T: Keeper>(
 /// where a call of either store has failed or memory was refused. A crash, and a `Store` after which the other store has to
 /// be opened again, leave what was held with the blobs below some offset; a crash after `Ok` leaves all of them. Whatever
 /// rows the first store has, what the other held stays, also after a crash.
-pub fn copy_held<F: Reader, T: Keeper>(
+pub fn copy_held<F: BlobReader, T: BlobKeeper>(
     alloc: Global,
     from: &mut F,
     to: &mut T,
 ) -> Result<CopyCounts, CopyStop>
-    ensures { CopiesAll F.Reader T.Reader (F.holds from.old) from.old from.new to.old to.new result }
+    ensures { CopiesAll F.BlobReader T.BlobReader (F.holds from.old) from.old from.new to.old to.new result }
 {
     let extents = match from.extents(alloc) {
         Ok(extents) => extents,

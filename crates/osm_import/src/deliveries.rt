@@ -5,7 +5,7 @@ ghost use Rattle.osm_import.specs.Stores.{TakesAll};
 
 use crate::answer::Answer;
 use crate::delivery::deliver;
-use osm_rows::Keeper;
+use osm_rows::BlobKeeper;
 use std::alloc::{AllocError, Global};
 use std::marker::Model;
 
@@ -37,14 +37,14 @@ impl<'a> Model for Delivery<'a> {
 /// answer is a `Fault`. A fault that asks for that shuts the store: nothing is stored behind it, and the next opening finds
 /// the map after the answers before it, or that map with the blob of the delivery at fault. A crash now leaves the same,
 /// or, where no fault has shut the store, the map after all answers.
-pub fn deliver_all<K: Keeper>(
+pub fn deliver_all<K: BlobKeeper>(
     alloc: Global,
     keeper: &mut K,
     deliveries: &[Delivery<'_>],
 ) -> Result<Vec<Answer>, AllocError>
     ensures answered { IfOk result (λ answers. vec_len answers ≡ length deliveries.now) }
     // All that the deliveries have done, as that says clause by clause.
-    ensures taken { IfOk result (λ answers. TakesAll K.Reader keeper.old keeper.new deliveries.now answers.items) }
+    ensures taken { IfOk result (λ answers. TakesAll K.BlobReader keeper.old keeper.new deliveries.now answers.items) }
     ensures err { OnErr result (keeper.new ≡ keeper.old) }
 {
     let mut answers = Vec::with_capacity(alloc, deliveries.len())?;

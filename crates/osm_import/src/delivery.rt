@@ -5,7 +5,7 @@ ghost use Rattle.osm_import.specs.Stores.{TakesOne};
 use crate::answer::Answer;
 use crate::place::{Place, place_of};
 use osm_reading::{ExamineFault, examine};
-use osm_rows::{Keeper, StoreFault};
+use osm_rows::{BlobKeeper, StoreFault};
 use sha2::{Digest, Sha256};
 use std::alloc::Global;
 
@@ -19,8 +19,8 @@ use std::alloc::Global;
 /// to be opened again, leave what was held, or that with this blob whole. A store that has to be opened again already
 /// stores nothing, and a crash leaves what it could leave before. Where the store can go on, each answer but `Stored`
 /// leaves the tables as they were, whatever rows they have.
-pub fn deliver<K: Keeper>(alloc: Global, keeper: &mut K, off: u64, bytes: &[u8]) -> Answer
-    ensures { TakesOne K.Reader keeper.old keeper.new off bytes.now result }
+pub fn deliver<K: BlobKeeper>(alloc: Global, keeper: &mut K, off: u64, bytes: &[u8]) -> Answer
+    ensures { TakesOne K.BlobReader keeper.old keeper.new off bytes.now result }
 {
     let good = match examine(alloc, off, bytes) {
         Ok(good) => good,

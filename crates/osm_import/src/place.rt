@@ -7,7 +7,7 @@ ghost use Rattle.osm_rows.specs.Keeping.{OnlyReads};
 ghost use Rattle.osm_import.specs.Places.{IsPlaceOf};
 
 use crate::answer::Conflict;
-use osm_rows::{Extent, Keeper, StoreFault};
+use osm_rows::{BlobKeeper, Extent, StoreFault};
 use std::alloc::Global;
 
 /// What the place of a blob is, from its offset to its end.
@@ -33,7 +33,7 @@ fn extent_at(extents: &[Extent], off: u64) -> Option<Extent>
 }
 
 /// The place of a blob from `off` to `fin` with this digest, in a store that is only read.
-pub(crate) fn place_of<K: Keeper>(
+pub(crate) fn place_of<K: BlobKeeper>(
     alloc: Global,
     keeper: &mut K,
     off: u64,

@@ -18,12 +18,12 @@ use crate::openings::Openings;
 use crate::reading::extents_of_parts;
 use crate::runs::Part;
 use osm_import::{BlobStep, Blocks, ExportFault, Lines, refused, write_blobs, write_header};
-use osm_rows::Reader;
+use osm_rows::BlobReader;
 use osm_value::Sink;
 use std::alloc::Global;
 
 /// Takes the step at each blob of a part, whose store is opened and closed.
-fn write_part<K: Reader + Drop, O: Openings<K>, S: Sink, W: BlobStep<S>>(
+fn write_part<K: BlobReader + Drop, O: Openings<K>, S: Sink, W: BlobStep<S>>(
     alloc: Global,
     openings: &mut O,
     part: &Part,
@@ -44,7 +44,7 @@ fn write_part<K: Reader + Drop, O: Openings<K>, S: Sink, W: BlobStep<S>>(
 }
 
 /// Takes the step at each blob of the parts, one part after the other, up to the first fault.
-fn write_in_turn<K: Reader + Drop, O: Openings<K>, S: Sink, W: BlobStep<S>>(
+fn write_in_turn<K: BlobReader + Drop, O: Openings<K>, S: Sink, W: BlobStep<S>>(
     alloc: Global,
     openings: &mut O,
     parts: &[Part],
@@ -102,7 +102,7 @@ fn have_history(parts: &[Part]) -> bool
 /// After `WriteFailed` a front of the text went out, and after `Store` the lines of the blobs before; it is also the answer
 /// where a store isn't opened. After `Miscounted`, which never comes over stores that hold maps, it is the lines of the
 /// blobs before, too.
-pub fn export_parts_as_lines<K: Reader + Drop, O: Openings<K>, S: Sink>(
+pub fn export_parts_as_lines<K: BlobReader + Drop, O: Openings<K>, S: Sink>(
     alloc: Global,
     openings: &mut O,
     parts: &[Part],
@@ -126,7 +126,7 @@ pub fn export_parts_as_lines<K: Reader + Drop, O: Openings<K>, S: Sink>(
 ///
 /// After `BlockTooLarge` the frames before the element that is too large went out, and after `WriteFailed` and `Store` a
 /// front of what was to be written.
-pub fn export_parts_as_pbf<K: Reader + Drop, O: Openings<K>, S: Sink>(
+pub fn export_parts_as_pbf<K: BlobReader + Drop, O: Openings<K>, S: Sink>(
     alloc: Global,
     openings: &mut O,
     parts: &[Part],

@@ -5,11 +5,11 @@ ghost use Rattle.osm_rows.specs.Held.{HeldMap};
 ghost use Rattle.osm_rows.specs.Keeping.{IsForeign, failures_after};
 ghost use Rattle.osm_parts.specs.Opening.{IsLent, KeepsMaps, AddsUp};
 
-use osm_rows::{Reader, StoreFault};
+use osm_rows::{BlobReader, StoreFault};
 
 /// What opens stores by their places in a list, counted from 0, and closes them. A store that is given out is closed
 /// before the next is opened.
-pub trait Openings<K: Reader> {
+pub trait Openings<K: BlobReader> {
     /// These are the maps of the stores, in order, and none is given out.
     ghost holds: { Self → List HeldMap → Type 0 };
 

@@ -5,7 +5,7 @@ ghost use Rattle.osm_rows.specs.Held.{HeldMap};
 ghost use Rattle.osm_import.specs.Merges.{IsImported, placed_from};
 ghost use Rattle.osm_restarts.specs.Verified.{IsLookedAt, KeepsFile};
 
-use osm_rows::{Audited, Reader};
+use osm_rows::{Audited, BlobReader};
 use osm_trees::{CheckedStore, TreeStore};
 use sqlite_trees::store::Store;
 
@@ -16,8 +16,8 @@ use sqlite_trees::store::Store;
 pub fn a_verified_store_holds_the_import<S: Store>(store: &CheckedStore<S>)
     ensures imported { (frames : List (List ℕ)) → IsLookedAt S.Store store.now
         → KeepsFile ⟦<CheckedStore<S> as Audited>⟧.has_rows (⟦<CheckedStore<S> as Audited>⟧.trees store.now) frames
-        → (held : HeldMap) × IsImported (placed_from 0 frames) held × ⟦<CheckedStore<S> as Reader>⟧.holds store.now held }
-    ensures trees { (held : HeldMap) → ⟦<CheckedStore<S> as Reader>⟧.holds store.now held → ⟦<TreeStore<S> as Reader>⟧.holds store.now.trees held }
+        → (held : HeldMap) × IsImported (placed_from 0 frames) held × ⟦<CheckedStore<S> as BlobReader>⟧.holds store.now held }
+    ensures trees { (held : HeldMap) → ⟦<CheckedStore<S> as BlobReader>⟧.holds store.now held → ⟦<TreeStore<S> as BlobReader>⟧.holds store.now.trees held }
 {
     let _store = store;
 }

@@ -3,7 +3,7 @@
 ghost use Rattle.std.specs.Prelude.{◌≡◌};
 
 use crate::TreeStore;
-use osm_rows::{Audited, Counts, Extent, Found, Loaded, Reader, StoreFault};
+use osm_rows::{Audited, BlobReader, Counts, Extent, Found, Loaded, StoreFault};
 use osm_tree_audits::Look;
 use osm_value::{Element, MemberKind};
 use pbf_frame::Kind;
@@ -51,7 +51,7 @@ impl<S: Store> CheckedStore<S> {
     }
 }
 
-impl<S: Store> Reader for CheckedStore<S> {
+impl<S: Store> BlobReader for CheckedStore<S> {
     ghost use Rattle.sqlite_trees.specs.View.{IsClean};
     ghost use Rattle.osm_rows.specs.declared.schema.layout.Layout.TheVariants.{Tables};
     ghost use Rattle.osm_rows.specs.StoreLaws.{few_texts_of, open_or_shut};

@@ -12,7 +12,7 @@ ghost use Rattle.osm_rows.specs.LayoutHolding.{Holds};
 ghost use Rattle.osm_trees.specs.Below.{HoldsBelow, WhereOpenedOver};
 
 use crate::tree_store::TreeStore;
-use osm_rows::Reader;
+use osm_rows::BlobReader;
 use osm_rows::laws::holds_again;
 use sqlite::{Alter, Connection, MemStore};
 use sqlite_trees::store::Store;
@@ -27,7 +27,7 @@ pub fn holds_below<S: Alter>(connection: &Connection<S>)
 
 /// A crash leaves of trees that hold a map what these list, whatever somebody has beside a store's own.
 pub fn a_crash_leaves_the_list<S: Store>(store: &TreeStore<S>)
-    ensures { (held : HeldMap) → ⟦<TreeStore<S> as Reader>⟧.holds store.now held → ⟦<TreeStore<S> as Reader>⟧.lists store.now ((S.Store.view store.now.store).trees catalog_tree) }
+    ensures { (held : HeldMap) → ⟦<TreeStore<S> as BlobReader>⟧.holds store.now held → ⟦<TreeStore<S> as BlobReader>⟧.lists store.now ((S.Store.view store.now.store).trees catalog_tree) }
 {
     let _store = store;
 }
@@ -46,9 +46,9 @@ pub fn a_connection_holds_the_same<T: Store, S: Alter>(
 }
 
 /// A store in memory stays usable: its trees are what was written, and it needn't be opened again after any answer. So what
-/// `Reader` and `Keeper` promise of a store that is usable holds of it whatever is answered.
+/// `BlobReader` and `BlobKeeper` promise of a store that is usable holds of it whatever is answered.
 pub fn memory_goes_on(store: &TreeStore<MemStore>)
-    ensures { ⟦<TreeStore<MemStore> as Reader>⟧.is_honest store.now × ⟦<TreeStore<MemStore> as Reader>⟧.is_open store.now }
+    ensures { ⟦<TreeStore<MemStore> as BlobReader>⟧.is_honest store.now × ⟦<TreeStore<MemStore> as BlobReader>⟧.is_open store.now }
 {
     let _asked = store;
 }

@@ -6,7 +6,7 @@ ghost use Rattle.osm_rows.specs.Keeping.{failures_after};
 use crate::extents::{all_extents, touched_extents};
 use crate::history::any_flag;
 use crate::load::{find_elements, load_blob};
-use osm_rows::{Counts, Extent, Found, Keeper, Loaded, Reader, StoreFault};
+use osm_rows::{BlobKeeper, BlobReader, Counts, Extent, Found, Loaded, StoreFault};
 use osm_tree_audits::{Look, has_row_counts, has_rows_of};
 use osm_tree_writes::put_blob;
 use osm_value::{Element, MemberKind};
@@ -101,7 +101,7 @@ fn failures_after<T>(answer: &Result<T, StoreFault>, failures: u64) -> u64
     }
 }
 
-impl<S: Store> Reader for TreeStore<S> {
+impl<S: Store> BlobReader for TreeStore<S> {
     ghost use Rattle.sqlite_trees.specs.View.{IsClean};
     ghost use Rattle.osm_rows.specs.declared.schema.layout.Layout.TheVariants.{Tables};
     ghost use Rattle.osm_rows.specs.StoreLaws.{few_texts_of, open_or_shut};
@@ -183,7 +183,7 @@ impl<S: Store> Reader for TreeStore<S> {
     ghost has_few_texts = { λ r held holds. few_texts_of Tables held holds.kept };
 }
 
-impl<S: Alter> Keeper for TreeStore<S> {
+impl<S: Alter> BlobKeeper for TreeStore<S> {
     ghost use Rattle.std.specs.Prelude.{◌<◌, ◌≤◌};
     ghost use Rattle.pbf_frame.specs.declared.part.TheConstants.{MAX_OFFSET};
     ghost use Rattle.osm_trees.specs.Putting.{AddsBelow, KeepsAddedIndexes};

@@ -85,11 +85,11 @@ fn judge<K: Audited>(
     depth: Depth,
     rows: &mut Counts,
 ) -> Result<Option<Finding>, AuditFault>
-    ensures found { OfHeld K.Reader store.old store.new (λ held. IfOk result (IsFound depth held off bytes.now)) }
+    ensures found { OfHeld K.BlobReader store.old store.new (λ held. IfOk result (IsFound depth held off bytes.now)) }
     ensures seen { IfOk result (λ found. IsNone found
-        → SeesFrame K.Reader store.new (K.has_tables store.old) (K.has_rows (K.trees store.old)) depth rows.old rows.new off bytes.now) }
-    ensures reads { RereadsTables K.Reader store.old result store.new }
-    ensures own { OfHeld K.Reader store.old store.new (λ _. IfErr result IsOwnAudit) }
+        → SeesFrame K.BlobReader store.new (K.has_tables store.old) (K.has_rows (K.trees store.old)) depth rows.old rows.new off bytes.now) }
+    ensures reads { RereadsTables K.BlobReader store.old result store.new }
+    ensures own { OfHeld K.BlobReader store.old store.new (λ _. IfErr result IsOwnAudit) }
     ensures cause { IfErr result (AuditHasCause (K.failures store.old) (K.failures store.new)) }
 {
     match examine(alloc, off, bytes) {
@@ -113,11 +113,11 @@ fn audit_extent<K: Audited, F: FileBytes>(
     rows: &mut Counts,
 ) -> Result<Option<Finding>, AuditFault>
     requires { IsRange extent.now }
-    ensures found { OfHeld K.Reader store.old store.new (λ held. IfOk result (IsJudged depth held (F.bytes file.old) extent.now)) }
+    ensures found { OfHeld K.BlobReader store.old store.new (λ held. IfOk result (IsJudged depth held (F.bytes file.old) extent.now)) }
     ensures seen { IfOk result (λ found. IsNone found
-        → SeesExtent K.Reader store.old store.new (K.has_tables store.old) (K.has_rows (K.trees store.old)) depth rows.old rows.new (F.bytes file.old) extent.now) }
-    ensures reads { RereadsTables K.Reader store.old result store.new }
-    ensures own { OfHeld K.Reader store.old store.new (λ _. IfErr result IsOwnAudit) }
+        → SeesExtent K.BlobReader store.old store.new (K.has_tables store.old) (K.has_rows (K.trees store.old)) depth rows.old rows.new (F.bytes file.old) extent.now) }
+    ensures reads { RereadsTables K.BlobReader store.old result store.new }
+    ensures own { OfHeld K.BlobReader store.old store.new (λ _. IfErr result IsOwnAudit) }
     ensures cause { IfErr result (AuditHasCause (K.failures store.old) (K.failures store.new)) }
     ensures kept { F.bytes file.new ≡ F.bytes file.old }
 {
@@ -148,11 +148,11 @@ fn audit_extents<K: Audited, F: FileBytes>(
 ) -> Result<Vec<Finding>, AuditFault>
     requires ranges { All IsRange extents.now }
     requires none { rows.old ≡ counts_of [] }
-    ensures found { OfHeld K.Reader store.old store.new (λ held. IfOk result (λ findings. AreJudged depth held (F.bytes file.old) extents.now findings.items)) }
+    ensures found { OfHeld K.BlobReader store.old store.new (λ held. IfOk result (λ findings. AreJudged depth held (F.bytes file.old) extents.now findings.items)) }
     ensures seen { IfOk result (λ findings. findings.items ≡ []
-        → SeesExtents K.Reader store.old store.new (K.has_tables store.old) (K.has_rows (K.trees store.old)) depth rows.new (F.bytes file.old) extents.now) }
-    ensures reads { RereadsTables K.Reader store.old result store.new }
-    ensures own { OfHeld K.Reader store.old store.new (λ _. IfErr result IsOwnAudit) }
+        → SeesExtents K.BlobReader store.old store.new (K.has_tables store.old) (K.has_rows (K.trees store.old)) depth rows.new (F.bytes file.old) extents.now) }
+    ensures reads { RereadsTables K.BlobReader store.old result store.new }
+    ensures own { OfHeld K.BlobReader store.old store.new (λ _. IfErr result IsOwnAudit) }
     ensures cause { IfErr result (AuditHasCause (K.failures store.old) (K.failures store.new)) }
     ensures kept { F.bytes file.new ≡ F.bytes file.old }
 {
@@ -174,10 +174,10 @@ fn refuse_other_rows<K: Audited>(
 ) -> Result<(), AuditFault>
     ensures shown { K.is_honest store.new → AreCountable rows.now → findings.now ≡ [] → depth ≡ Depth.Elements
         → OnOk result (K.is_open store.new × (K.has_tables store.old → ShowsCounts K.layout (K.trees store.old) rows.now)) }
-    ensures same { KeepsTables K.Reader store.old store.new }
-    ensures rereads { Rereads K.Reader store.old result store.new }
-    ensures own { OfHeld K.Reader store.old store.new (λ held. (findings.now ≡ [] → depth ≡ Depth.Elements → rows.now ≡ counts_of (elements_held held)) → IfErr result IsOwnAudit) }
-    ensures cause { OfHeld K.Reader store.old store.new (λ held. (findings.now ≡ [] → depth ≡ Depth.Elements → rows.now ≡ counts_of (elements_held held)) → IfErr result (AuditHasCause (K.failures store.old) (K.failures store.new))) }
+    ensures same { KeepsTables K.BlobReader store.old store.new }
+    ensures rereads { Rereads K.BlobReader store.old result store.new }
+    ensures own { OfHeld K.BlobReader store.old store.new (λ held. (findings.now ≡ [] → depth ≡ Depth.Elements → rows.now ≡ counts_of (elements_held held)) → IfErr result IsOwnAudit) }
+    ensures cause { OfHeld K.BlobReader store.old store.new (λ held. (findings.now ≡ [] → depth ≡ Depth.Elements → rows.now ≡ counts_of (elements_held held)) → IfErr result (AuditHasCause (K.failures store.old) (K.failures store.new))) }
     ensures counted { K.failures store.old ≤ K.failures store.new }
 {
     if depth == Depth::Extents || !findings.is_empty() {
@@ -202,14 +202,14 @@ pub fn audit_part<K: Audited, F: FileBytes>(
     file: &mut F,
     depth: Depth,
 ) -> Result<Audit, AuditFault>
-    ensures audited { OfHeld K.Reader store.old store.new (λ held. IfOk result (IsAuditOf depth held (F.bytes file.old))) }
+    ensures audited { OfHeld K.BlobReader store.old store.new (λ held. IfOk result (IsAuditOf depth held (F.bytes file.old))) }
     ensures ranges { IfOk result (λ audit. All IsRange audit.extents.items) }
     // Whatever rows the tables have had: where by elements nothing was found, they have the rows of the file's blobs at these
     // extents, and no others. That leaves out more rows than SQL can count.
     ensures shown { K.is_honest store.new → K.has_tables store.old → depth ≡ Depth.Elements
         → IfOk result (λ audit. audit.findings.items ≡ [] → ShowsPart (K.has_rows (K.trees store.old)) K.layout (K.trees store.old) (F.bytes file.old) audit.extents.items) }
-    ensures rereads { Rereads K.Reader store.old result store.new }
-    ensures fault { OfHeld K.Reader store.old store.new (λ _. IfErr result (IsOwnFault (K.failures store.old) (K.failures store.new))) }
+    ensures rereads { Rereads K.BlobReader store.old result store.new }
+    ensures fault { OfHeld K.BlobReader store.old store.new (λ _. IfErr result (IsOwnFault (K.failures store.old) (K.failures store.new))) }
     ensures counted { K.failures store.old ≤ K.failures store.new }
     ensures kept { F.bytes file.new ≡ F.bytes file.old }
 {

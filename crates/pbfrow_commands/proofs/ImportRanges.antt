@@ -9,7 +9,7 @@ use Rattle.std.specs.Io.KnownBytes.{Consumes}
 use Rattle.osm_rows.specs.Calls.{OfHeld}
 use Rattle.osm_rows.specs.Held.{Blob, HeldMap}
 use Rattle.osm_rows.specs.HeldLaws.{get-insert_here}
-use Rattle.osm_rows.specs.declared.keeper.Reader.{Ghosts}
+use Rattle.osm_rows.specs.declared.keeper.BlobReader.{Ghosts}
 use Rattle.osm_import.specs.Deliveries.{DeliveryValue}
 use Rattle.osm_reading.specs.Framings.{Known}
 use Rattle.osm_import.specs.Files.{joined}

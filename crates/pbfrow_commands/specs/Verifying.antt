@@ -14,7 +14,7 @@ use Rattle.osm_rows.specs.Keeping.{IsForeign, extents_of}
 use Rattle.osm_rows.specs.declared.audit.counts.Counts.{Counts as Rows}
 use Rattle.osm_rows.specs.declared.fault.StoreFault.{StoreFault}
 use Rattle.osm_rows.specs.declared.keeper.Extent.{Extent}
-use Rattle.osm_rows.specs.declared.keeper.Reader.{Ghosts as ReaderOf}
+use Rattle.osm_rows.specs.declared.keeper.BlobReader.{Ghosts as ReaderOf}
 use Rattle.osm_rows.specs.declared.schema.layout.Layout.{Layout}
 use Rattle.osm_reading.specs.Bad.{IsBad}
 use Rattle.osm_reading.specs.Framings.{Known}

@@ -11,7 +11,7 @@ ghost use Rattle.pbfrow_commands.specs.Importing.{Skips, IsShort, DropsAndImport
 
 use crate::report::put_summary;
 use osm_import::{ImportFault, ImportStop, Inlet, Source, Stop, Summary, Teller, import_stream};
-use osm_rows::Keeper;
+use osm_rows::BlobKeeper;
 use osm_value::Sink;
 use pbf_frame::{FrameFault, MAX_OFFSET};
 use pbfrow_reading::report::put_fault_at;
@@ -58,7 +58,7 @@ fn skip<R: Source>(reader: &mut R, count: u64) -> Result<(), Short>
 }
 
 /// Reads and drops the bytes before the start, and imports the blobs from there on.
-fn import_from<R: Source, K: Keeper, T: Teller, S: Sink>(
+fn import_from<R: Source, K: BlobKeeper, T: Teller, S: Sink>(
     alloc: Global,
     reader: &mut R,
     store: &mut K,
@@ -67,7 +67,7 @@ fn import_from<R: Source, K: Keeper, T: Teller, S: Sink>(
     out: &mut S,
 ) -> Result<Summary, ImportStop>
     requires { start.at ≤ MAX_OFFSET }
-    ensures { DropsAndImports start.dropped start.at (input R.Source reader.old reader.new) (output (T.tells teller.now) S.Sink out.old out.new) (store.new ≡ store.old) (Takes K.Reader store.old store.new) result }
+    ensures { DropsAndImports start.dropped start.at (input R.Source reader.old reader.new) (output (T.tells teller.now) S.Sink out.old out.new) (store.new ≡ store.old) (Takes K.BlobReader store.old store.new) result }
 {
     match skip(reader, start.dropped) {
         Ok(()) => import_stream(alloc, store, reader, start.at, MAX_BLOBS, teller, out),
@@ -179,7 +179,7 @@ fn finish<S: Sink>(out: &mut S, outcome: Result<Summary, ImportStop>) -> u8
 /// If it answers 0 with `to`, every byte from the start to `to` is in a frame that is held: whole frames, each held at its
 /// offset, follow one another from the one to the other, and where the reader's bytes are known they are these frames. What
 /// was held before stays held, and beside it nothing is held but these frames.
-pub fn import<R: Read + Drop, K: Keeper, T: Teller, S: Sink>(
+pub fn import<R: Read + Drop, K: BlobKeeper, T: Teller, S: Sink>(
     alloc: Global,
     reader: R,
     store: &mut K,
@@ -191,13 +191,13 @@ pub fn import<R: Read + Drop, K: Keeper, T: Teller, S: Sink>(
     requires begins { start.at ≤ MAX_OFFSET }
     requires drops { OnSome to (start.dropped ≤ start.at) }
     requires ends { IfSome to (λ end. (start.at < end) × (end ≤ MAX_OFFSET)) }
-    ensures imports { ImportsUpTo start.dropped start.at to (R.remaining reader) (output (T.tells teller.now) S.Sink out.old out.new) (store.new ≡ store.old) (Takes K.Reader store.old store.new) result }
+    ensures imports { ImportsUpTo start.dropped start.at to (R.remaining reader) (output (T.tells teller.now) S.Sink out.old out.new) (store.new ≡ store.old) (Takes K.BlobReader store.old store.new) result }
     ensures one_file { (bytes : List ℕ) → R.remaining reader ≡ Some bytes → start.at ≡ 0 → result ≡ 0
-        → OfHeld K.Reader store.old store.new (HoldsFile (K.holds store.new) (imported_of start.dropped start.at to bytes)) }
+        → OfHeld K.BlobReader store.old store.new (HoldsFile (K.holds store.new) (imported_of start.dropped start.at to bytes)) }
     ensures part { (bytes : List ℕ) → R.remaining reader ≡ Some bytes → result ≡ 0 → K.holds store.old empty → K.is_honest store.new
         → ImportsPart (K.holds store.new) start.at (imported_of start.dropped start.at to bytes) }
     ensures whole { IfSome to (λ end. result ≡ 0
-        → OfHeld K.Reader store.old store.new (λ held. HoldsRange (K.holds store.new) held start.dropped start.at end (R.remaining reader))) }
+        → OfHeld K.BlobReader store.old store.new (λ held. HoldsRange (K.holds store.new) held start.dropped start.at end (R.remaining reader))) }
     ensures bound { result ≤ 1 }
 {
     let told = match to {

@@ -7,7 +7,7 @@ ghost use Rattle.pbfrow_commands.specs.Merging.{NeverLoses};
 use crate::named::merge_named;
 use osm_databases::databases::{Databases, close, open_asked, open_or_make};
 use osm_parts::{InTurn, OpensNamed};
-use osm_rows::{Keeper, StoreFault};
+use osm_rows::{BlobKeeper, StoreFault};
 use osm_trees::TreeStore;
 use osm_value::Outlet;
 use pbfrow_commands::metered::MeteredStore;
@@ -42,7 +42,7 @@ impl<'a, D: Databases> OpensNamed<MeteredSource<'a, D>> for Sources<'a, D> {
 
 /// Copies what databases hold into a store, one after the other, up to a fault, and answers the exit status. Whatever they hold
 /// and whatever the status, what the store held stays, also after a crash.
-fn merge_from<D: Databases, T: Keeper, W: Write>(
+fn merge_from<D: Databases, T: BlobKeeper, W: Write>(
     rt: &HostRuntime,
     files: &D,
     names: &[&str],
@@ -50,7 +50,7 @@ fn merge_from<D: Databases, T: Keeper, W: Write>(
     meter: &Meter,
     out: &mut Outlet<W>,
 ) -> u8
-    ensures stays { NeverLoses T.Reader into.old into.new }
+    ensures stays { NeverLoses T.BlobReader into.old into.new }
     ensures bound { result ≤ 1 }
 {
     let mut sources = InTurn::<MeteredSource<D>, _>::new(Sources { rt, files, meter }, names);

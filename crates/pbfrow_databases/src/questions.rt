@@ -9,7 +9,7 @@ ghost use Rattle.pbfrow_commands.specs.Telling.{telling};
 ghost use Rattle.pbfrow_databases.specs.Questions.{AnswersQuery, AnswersTogether, goes_by_blobs};
 
 use osm_parts::Openings;
-use osm_rows::Reader;
+use osm_rows::BlobReader;
 use osm_value::{MemberKind, Sink};
 use pbfrow_commands::counts::{status_parts_with_counts, status_with_counts};
 use pbfrow_commands::export::export;
@@ -36,9 +36,14 @@ pub fn goes_by_blobs(question: Question) -> bool
 }
 
 /// Asks a store, and answers the exit status. What it holds stays.
-pub fn ask_one<K: Reader, S: Sink>(alloc: Global, store: &mut K, query: Query, out: &mut S) -> u8
-    ensures told { OfHeld K.Reader store.old store.new (λ held. AnswersQuery query held (telling K.failures S.Sink store.old store.new out.old out.new result)) }
-    ensures stays { Stays K.Reader store.old store.new }
+pub fn ask_one<K: BlobReader, S: Sink>(
+    alloc: Global,
+    store: &mut K,
+    query: Query,
+    out: &mut S,
+) -> u8
+    ensures told { OfHeld K.BlobReader store.old store.new (λ held. AnswersQuery query held (telling K.failures S.Sink store.old store.new out.old out.new result)) }
+    ensures stays { Stays K.BlobReader store.old store.new }
     ensures bound { result ≤ 1 }
 {
     match query {
@@ -56,7 +61,7 @@ pub fn ask_one<K: Reader, S: Sink>(alloc: Global, store: &mut K, query: Query, o
 }
 
 /// Asks `count` stores, which are opened one after the other, and answers the exit status. What they hold stays.
-pub fn ask_in_turn<K: Reader + Drop, O: Openings<K>, S: Sink>(
+pub fn ask_in_turn<K: BlobReader + Drop, O: Openings<K>, S: Sink>(
     alloc: Global,
     openings: &mut O,
     count: u64,

@@ -50,14 +50,14 @@ fn compare_one<K: Audited, R: Read + Drop, W: Write>(
     meter: &Meter,
     out: &mut Outlet<W>,
 ) -> (K, u8)
-    ensures verified { OfHeld K.Reader store result.0 (λ held. VerifiesInput depth held (R.remaining reader) (W.contents out.old.writer) (W.contents out.new.writer) out.new.has_failed (K.failures store) (K.failures result.0) result.1) }
+    ensures verified { OfHeld K.BlobReader store result.0 (λ held. VerifiesInput depth held (R.remaining reader) (W.contents out.old.writer) (W.contents out.new.writer) out.new.has_failed (K.failures store) (K.failures result.0) result.1) }
     // At 0 the input is a file of good blobs, and the store holds what an import of it comes to.
-    ensures exact { OfHeld K.Reader store result.0 (λ held. result.1 ≡ 0
+    ensures exact { OfHeld K.BlobReader store result.0 (λ held. result.1 ≡ 0
         → IfSome (R.remaining reader) (λ bytes. (frames : List (List ℕ)) × IsFile bytes frames × IsExact depth held frames)) }
     // At 0 by elements, whatever rows the tables have had, they are those that an import of the input writes.
     ensures shown { K.is_honest result.0 → K.has_tables store → depth ≡ Depth.Elements → result.1 ≡ 0
         → IfSome (R.remaining reader) (λ bytes. (frames : List (List ℕ)) × IsFile bytes frames × ShowsFile (K.has_rows (K.trees store)) K.layout (K.trees store) frames) }
-    ensures stays { Stays K.Reader store result.0 }
+    ensures stays { Stays K.BlobReader store result.0 }
     ensures bound { result.1 ≤ 1 }
 {
     let mut input = MeteredReader {

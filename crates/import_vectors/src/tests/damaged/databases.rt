@@ -2,7 +2,7 @@
 
 use super::openings::{Held, held_by};
 use osm_databases::stores::{make_store, make_where_none};
-use osm_rows::{Reader, StoreFault};
+use osm_rows::{BlobReader, StoreFault};
 use sqlite::{Alter, Connection, MemStore};
 use std::alloc::Global;
 use std::test::*;
@@ -20,7 +20,7 @@ const OF_BLOCKS: Outcome = Err(StoreFault::NotThisStore(Some(1)));
 const OF_ROWS: Outcome = Err(StoreFault::NotThisStore(Some(2)));
 
 /// What a store over trees holds.
-fn by_trees<R: Reader + Drop>(alloc: Global, mut store: R) -> Held {
+fn by_trees<R: BlobReader + Drop>(alloc: Global, mut store: R) -> Held {
     held_by(alloc, &mut store)
 }
 

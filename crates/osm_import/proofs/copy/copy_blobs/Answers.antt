@@ -29,7 +29,7 @@ loop-extent-init g c = record {
 
 pub loop-extent-preserved : goal.loop-extent-preserved
 loop-extent-preserved g c =
-    let T = g.T.Reader in
+    let T = g.T.BlobReader in
     let new_held : c.match-answer.held ≡ c.loop-extent.held + already c.in-Ok.answer = elim c.match-answer.branch [
       | in-Added w ↦ (let known = w.in-Added.is in let same = ap already known in let kept = w.held-is in omega (arith, same, kept))
       | in-AlreadyHeld w ↦ (let known = w.in-AlreadyHeld.is in let same = ap already known in let more = w.held-is in omega (arith, same, more))
@@ -56,7 +56,7 @@ loop-extent-preserved g c =
       list = λ held holds honest rows lists. (let before = inv.kept held holds (made.honest honest) in made.list before.0 before.2 honest rows (inv.list held holds (made.honest honest) rows lists));
       each = (
         inv.each.0 ++ (_, Ok c.in-Ok.answer) ∷ [],
-        copies-push g.F.Reader T c.args.from.now c.loop-extent.from c.copy_blob.new.from c.args.to.now c.loop-extent.to c.copy_blob.new.to inv.each.0 _ inv.each.1 made,
+        copies-push g.F.BlobReader T c.args.from.now c.loop-extent.from c.copy_blob.new.from c.args.to.now c.loop-extent.to c.copy_blob.new.to inv.each.0 _ inv.each.1 made,
         counted-push inv.each.0 _ c.in-Ok.answer c.loop-extent.copied c.loop-extent.held c.match-answer.copied c.match-answer.held inv.each.2 new_held (omega (arith, inv.counts, counts)),
       );
       merged = λ source held from_holds from_honest holds honest are.
@@ -67,19 +67,19 @@ loop-extent-preserved g c =
           let step = made.step source before.0 at.blob from_now from_honest before.2 honest at.found at.same in (
             step.0,
             taken_more c.args.extents.now c.loop-extent.extent-index _ source held step.0 (omega arith) is
-                (merged_step (λ off. IsAt (take c.loop-extent.extent-index c.args.extents.now) off) source held before.0 step.0 _ at.blob c.in-Ok.answer before.1 (g.met.T.Reader.is_apart _ before.0 before.2)
-                ((g.met.F.Reader.is_apart _ source from_now).filled _ at.blob at.found) at.found step.1),
+                (merged_step (λ off. IsAt (take c.loop-extent.extent-index c.args.extents.now) off) source held before.0 step.0 _ at.blob c.in-Ok.answer before.1 (g.met.T.BlobReader.is_apart _ before.0 before.2)
+                ((g.met.F.BlobReader.is_apart _ source from_now).filled _ at.blob at.found) at.found step.1),
             step.2,
             held_more source held c.args.extents.now c.loop-extent.extent-index _ c.loop-extent.held _ are (omega arith) is before.3
-                (new_held ∙ ap (λ n. c.loop-extent.held + n) (sym (held_by source held before.0 step.0 c.args.extents.now c.loop-extent.extent-index _ at.blob c.in-Ok.answer are (omega arith) is before.1 (g.met.T.Reader.is_apart _ before.0 before.2)
-                ((g.met.F.Reader.is_apart _ source from_now).filled _ at.blob at.found) at.found step.1))),
+                (new_held ∙ ap (λ n. c.loop-extent.held + n) (sym (held_by source held before.0 step.0 c.args.extents.now c.loop-extent.extent-index _ at.blob c.in-Ok.answer are (omega arith) is before.1 (g.met.T.BlobReader.is_apart _ before.0 before.2)
+                ((g.met.F.BlobReader.is_apart _ source from_now).filled _ at.blob at.found) at.found step.1))),
           );
     }
 
 pub returns-in-Err : goal.returns-in-Err
 returns-in-Err g c =
-    let F = g.F.Reader in
-    let T = g.T.Reader in
+    let F = g.F.BlobReader in
+    let T = g.T.BlobReader in
     let inv = c.loop-extent.invariant in
     let made = c.in-Err.ensures in
     let is = read-is c.args.extents.now c.loop-extent.extent-index _ _ (omega arith) in
@@ -96,8 +96,8 @@ returns-in-Err g c =
           let before = inv.merged source held of.0 (made.source.stays.honest from_honest) holds (made.honest honest) of.1 in
           let at = at_blob source c.args.extents.now c.loop-extent.extent-index _ of.1 (omega arith) is in
           let from_now = inv.from_kept (made.source.stays.honest from_honest) source of.0 in
-          crash_below source held before.0 left _ at.blob (taken_below c.args.extents.now c.loop-extent.extent-index _ source held before.0 of.1 (omega arith) is before.1) (g.met.T.Reader.is_apart _ before.0 before.2)
-          ((g.met.F.Reader.is_apart _ source from_now).filled _ at.blob at.found) at.found
+          crash_below source held before.0 left _ at.blob (taken_below c.args.extents.now c.loop-extent.extent-index _ source held before.0 of.1 (omega arith) is before.1) (g.met.T.BlobReader.is_apart _ before.0 before.2)
+          ((g.met.F.BlobReader.is_apart _ source from_now).filled _ at.blob at.found) at.found
           (made.crash source before.0 at.blob from_now from_honest before.2 honest at.found at.same left leaves);
       kept = λ held holds honest.
           let before = inv.kept held holds (made.honest honest) in
@@ -143,7 +143,7 @@ returns-in-Err g c =
 
 pub returns : goal.returns
 returns g c =
-    let T = g.T.Reader in
+    let T = g.T.BlobReader in
     let inv = c.loop-extent.invariant in
     record {
       copies = λ source held of from_honest holds honest.
@@ -154,12 +154,12 @@ returns g c =
       reached = λ source of from_honest. tt;
       crash = λ source held of from_honest holds honest left leaves.
           let made = inv.merged source held of.0 from_honest holds honest of.1 in
-          subst (λ (h : HeldMap). IsMerged (λ off. Unit {0}) source held h) (sym (g.met.T.Reader.settled _ made.0 left made.2 leaves))
+          subst (λ (h : HeldMap). IsMerged (λ off. Unit {0}) source held h) (sym (g.met.T.BlobReader.settled _ made.0 left made.2 leaves))
           (taken_all c.args.extents.now c.loop-extent.extent-index source held made.0 of.1 (omega arith) made.1);
       kept = λ held holds honest.
           let now = inv.kept held holds honest in
-          record { ok = now; err = tt; crash = λ left leaves. subst (Keeps held) (sym (g.met.T.Reader.settled _ now.0 left now.2 leaves)) now.1 };
-      whole = λ held holds honest. (let now = inv.kept held holds honest in g.met.T.Reader.leaves_held _ now.0 now.2);
+          record { ok = now; err = tt; crash = λ left leaves. subst (Keeps held) (sym (g.met.T.BlobReader.settled _ now.0 left now.2 leaves)) now.1 };
+      whole = λ held holds honest. (let now = inv.kept held holds honest in g.met.T.BlobReader.leaves_held _ now.0 now.2);
       list = inv.list;
       source = record {
         stays = record { honest = inv.from_honest; open_if = inv.from_open_if; kept = λ h up source holds. inv.from_kept h source holds; crash = inv.from_crash; whole = inv.from_whole };
@@ -178,7 +178,7 @@ returns g c =
         come = inv.each.2;
       };
       same = λ honest up none.
-          copies-same g.F.Reader T g.met.T.Reader.same_tables_self g.met.T.Reader.same_tables_then c.args.from.now c.loop-extent.from c.args.to.now c.loop-extent.to inv.each.0 inv.each.1 honest up
+          copies-same g.F.BlobReader T g.met.T.BlobReader.same_tables_self g.met.T.BlobReader.same_tables_then c.args.from.now c.loop-extent.from c.args.to.now c.loop-extent.to inv.each.0 inv.each.1 honest up
           (sym inv.each.2.0 ∙ none);
       counted = (inv.from_counted, inv.counted);
     }

@@ -9,14 +9,14 @@ use Rattle.osm_import.proofs.copy.copy_held.Goals as goal
 
 pub returns-in-Err : goal.returns-in-Err
 returns-in-Err g c =
-    let T = g.met.T.Reader in
+    let T = g.met.T.BlobReader in
     let reads = c.in-Err.ensures.reads in
     record {
       copies = λ source held from_holds from_honest holds honest. (held, merged_none (λ off. off < 0) source held (λ off low. omega arith), λ up. holds);
       reached = λ source from_holds from_honest. inl refl;
       crash = λ source held from_holds from_honest holds honest left leaves.
           (0, subst (λ (h : HeldMap). IsUnitedBelow 0 source held h) (sym (T.settled _ held left holds leaves)) (merged_none (λ off. off < 0) source held (λ off low. omega arith)));
-      kept = λ held holds honest. kept-still g.T.Reader c.args.to.now _ held holds (λ left leaves. T.settled _ held left holds leaves);
+      kept = λ held holds honest. kept-still g.T.BlobReader c.args.to.now _ held holds (λ left leaves. T.settled _ held left holds leaves);
       whole = λ held holds honest. T.leaves_held _ held holds;
       list = λ held holds honest rows lists. lists;
       source = record { stays = record { honest = reads.honest; open_if = reads.open_if; kept = reads.err; crash = reads.crash; whole = reads.whole }; ok = tt };
@@ -38,7 +38,7 @@ returns-in-Err g c =
 
 pub returns : goal.returns
 returns g c =
-    let F = g.F.Reader in
+    let F = g.F.BlobReader in
     let reads = c.in-Ok.ensures.reads in
     let all = c.copy_blobs.ensures in
     let stays = all.source.stays in

@@ -32,14 +32,14 @@ returns-in-Err-Bad g c = record {
 
 pub returns-in-Err : goal.returns-in-Err
 returns-in-Err g c =
-    let K = g.met.K.Reader in
-    takes_by_reading g.K.Reader (record { settled = K.settled; leaves_held = K.leaves_held; is_apart = K.is_apart; same_then = K.same_tables_then }) c.args.keeper.now c.place_of.new.keeper c.args.off c.args.bytes.now (Fault c.in-Err.fault)
+    let K = g.met.K.BlobReader in
+    takes_by_reading g.K.BlobReader (record { settled = K.settled; leaves_held = K.leaves_held; is_apart = K.is_apart; same_then = K.same_tables_then }) c.args.keeper.now c.place_of.new.keeper c.args.off c.args.bytes.now (Fault c.in-Err.fault)
     _ c.in-Err.ensures.reads (λ held holds honest up. c.in-Err.ensures.reads.err honest up held holds) (λ no. no) (λ held holds honest. c.in-Err.ensures.reads.own held holds honest) (search rules) (search rules)
 
 pub returns-in-Held : goal.returns-in-Held
 returns-in-Held g c =
-    let K = g.met.K.Reader in
-    takes_by_reading g.K.Reader (record { settled = K.settled; leaves_held = K.leaves_held; is_apart = K.is_apart; same_then = K.same_tables_then }) c.args.keeper.now c.place_of.new.keeper c.args.off c.args.bytes.now AlreadyHeld
+    let K = g.met.K.BlobReader in
+    takes_by_reading g.K.BlobReader (record { settled = K.settled; leaves_held = K.leaves_held; is_apart = K.is_apart; same_then = K.same_tables_then }) c.args.keeper.now c.place_of.new.keeper c.args.off c.args.bytes.now AlreadyHeld
     _ c.in-Ok-place_of.ensures.reads
     (λ held holds honest. (
       held,
@@ -50,8 +50,8 @@ returns-in-Held g c =
 
 pub returns-in-Taken : goal.returns-in-Taken
 returns-in-Taken g c =
-    let K = g.met.K.Reader in
-    takes_by_reading g.K.Reader (record { settled = K.settled; leaves_held = K.leaves_held; is_apart = K.is_apart; same_then = K.same_tables_then }) c.args.keeper.now c.place_of.new.keeper c.args.off c.args.bytes.now (Refused c.in-Taken.conflict)
+    let K = g.met.K.BlobReader in
+    takes_by_reading g.K.BlobReader (record { settled = K.settled; leaves_held = K.leaves_held; is_apart = K.is_apart; same_then = K.same_tables_then }) c.args.keeper.now c.place_of.new.keeper c.args.off c.args.bytes.now (Refused c.in-Taken.conflict)
     _ c.in-Ok-place_of.ensures.reads
     (λ held holds honest. (
       held,
@@ -62,19 +62,19 @@ returns-in-Taken g c =
 
 pub returns-in-Ok-put : goal.returns-in-Ok-put
 returns-in-Ok-put g c =
-    let K = g.met.K.Reader in
-    let promised : Promises g.K.Reader = record { settled = K.settled; leaves_held = K.leaves_held; is_apart = K.is_apart; same_then = K.same_tables_then } in
+    let K = g.met.K.BlobReader in
+    let promised : Promises g.K.BlobReader = record { settled = K.settled; leaves_held = K.leaves_held; is_apart = K.is_apart; same_then = K.same_tables_then } in
     let stored = c.deref.result.now in
     let blob : Blob = record { fin = c.args.off + length c.args.bytes.now; digest = c.digest-digest.result; kind = c.in-Ok.good.kind; elements = stored } in
-    let can : OfHeld g.K.Reader c.args.keeper.now c.place_of.new.keeper (λ held. IsAddable held c.args.off blob)
+    let can : OfHeld g.K.BlobReader c.args.keeper.now c.place_of.new.keeper (λ held. IsAddable held c.args.off blob)
     = λ held holds honest. record {
       free = subst (λ (p : Place). IsPlaceOf held c.args.off (c.args.off + length c.args.bytes.now) c.digest-digest.result p) c.in-Free.is (c.in-Ok-place_of.ensures.place held holds honest);
       few_texts = subst (λ (es : List Element). HaveFewTexts es) (sym c.deref.ensures.value) (few-texts c.args.off c.args.bytes.now c.in-Ok.good.kind c.in-Ok.good.elements.items c.in-Ok.ensures.good);
     } in
-    let stores : (held after : HeldMap) (count : ℕ) → g.K.Reader.holds c.args.keeper.now held → g.K.Reader.is_honest c.place_of.new.keeper → count ≡ length stored → after ≡ with_blob held c.args.off blob → IsStoring held c.args.off c.args.bytes.now count after
+    let stores : (held after : HeldMap) (count : ℕ) → g.K.BlobReader.holds c.args.keeper.now held → g.K.BlobReader.is_honest c.place_of.new.keeper → count ≡ length stored → after ≡ with_blob held c.args.off blob → IsStoring held c.args.off c.args.bytes.now count after
     = λ held after count holds honest counted is. storing held c.args.off c.args.bytes.now c.in-Ok.good.kind c.in-Ok.good.elements.items stored c.digest-digest.result count after c.in-Ok.ensures.good c.deref.ensures.value c.digest-digest.ensures (K.is_apart _ held holds) (can held holds honest).free counted is in
     let adds = c.in-Ok-put.ensures.adds in
-    takes_by_putting g.K.Reader promised c.args.keeper.now c.place_of.new.keeper c.put.new.self c.args.off c.args.bytes.now blob _ c.in-Ok-place_of.ensures.reads _ adds can _
+    takes_by_putting g.K.BlobReader promised c.args.keeper.now c.place_of.new.keeper c.put.new.self c.args.off c.args.bytes.now blob _ c.in-Ok-place_of.ensures.reads _ adds can _
     (λ held after holds honest is left here. inr (length stored, stores held left (length stored) holds (adds.honest honest) refl (here ∙ is)))
     (λ held holds honest. (
       _,
@@ -85,19 +85,19 @@ returns-in-Ok-put g c =
 
 pub returns : goal.returns
 returns g c =
-    let K = g.met.K.Reader in
-    let promised : Promises g.K.Reader = record { settled = K.settled; leaves_held = K.leaves_held; is_apart = K.is_apart; same_then = K.same_tables_then } in
+    let K = g.met.K.BlobReader in
+    let promised : Promises g.K.BlobReader = record { settled = K.settled; leaves_held = K.leaves_held; is_apart = K.is_apart; same_then = K.same_tables_then } in
     let stored = c.deref.result.now in
     let blob : Blob = record { fin = c.args.off + length c.args.bytes.now; digest = c.digest-digest.result; kind = c.in-Ok.good.kind; elements = stored } in
-    let can : OfHeld g.K.Reader c.args.keeper.now c.place_of.new.keeper (λ held. IsAddable held c.args.off blob)
+    let can : OfHeld g.K.BlobReader c.args.keeper.now c.place_of.new.keeper (λ held. IsAddable held c.args.off blob)
     = λ held holds honest. record {
       free = subst (λ (p : Place). IsPlaceOf held c.args.off (c.args.off + length c.args.bytes.now) c.digest-digest.result p) c.in-Free.is (c.in-Ok-place_of.ensures.place held holds honest);
       few_texts = subst (λ (es : List Element). HaveFewTexts es) (sym c.deref.ensures.value) (few-texts c.args.off c.args.bytes.now c.in-Ok.good.kind c.in-Ok.good.elements.items c.in-Ok.ensures.good);
     } in
-    let stores : (held after : HeldMap) (count : ℕ) → g.K.Reader.holds c.args.keeper.now held → g.K.Reader.is_honest c.place_of.new.keeper → count ≡ length stored → after ≡ with_blob held c.args.off blob → IsStoring held c.args.off c.args.bytes.now count after
+    let stores : (held after : HeldMap) (count : ℕ) → g.K.BlobReader.holds c.args.keeper.now held → g.K.BlobReader.is_honest c.place_of.new.keeper → count ≡ length stored → after ≡ with_blob held c.args.off blob → IsStoring held c.args.off c.args.bytes.now count after
     = λ held after count holds honest counted is. storing held c.args.off c.args.bytes.now c.in-Ok.good.kind c.in-Ok.good.elements.items stored c.digest-digest.result count after c.in-Ok.ensures.good c.deref.ensures.value c.digest-digest.ensures (K.is_apart _ held holds) (can held holds honest).free counted is in
     let adds = c.in-Err-put.ensures.adds in
-    takes_by_putting g.K.Reader promised c.args.keeper.now c.place_of.new.keeper c.put.new.self c.args.off c.args.bytes.now blob _ c.in-Ok-place_of.ensures.reads _ adds can (Fault c.in-Err-put.fault)
+    takes_by_putting g.K.BlobReader promised c.args.keeper.now c.place_of.new.keeper c.put.new.self c.args.off c.args.bytes.now blob _ c.in-Ok-place_of.ensures.reads _ adds can (Fault c.in-Err-put.fault)
     (λ held after holds honest is left here. inr (length stored, stores held left (length stored) holds (adds.honest honest) refl (here ∙ is)))
     (λ held holds honest up. adds.err honest up held (c.in-Ok-place_of.ensures.reads.ok (adds.honest honest) held holds) (can held holds (adds.honest honest)))
     (λ honest shut no. no)

@@ -14,7 +14,7 @@ returns-clause-copies g c =
         own = made.1.own;
         cause = made.1.cause;
         told = made.1.told;
-        each = inner-in_turn made.1.each g.F.Reader (λ metered. metered.store)
+        each = inner-in_turn made.1.each g.F.BlobReader (λ metered. metered.store)
             (λ first last stays. record { honest = stays.honest; open_if = stays.open_if; kept = stays.kept; crash = stays.crash; whole = stays.whole })
             (λ first last old new copy one. record {
               step = one.step;
