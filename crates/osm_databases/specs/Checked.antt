@@ -1,4 +1,4 @@
--- What is known of the trees of a database each page of which was looked at.
+-- What is known of the trees of a database each page of which was checked.
 use Rattle.std.specs.Prelude.{◌≡◌, false, [], ◌∷◌, take}
 use Rattle.sqlite_trees.specs.Objects.{catalog_tree}
 use Rattle.sqlite_trees.specs.Tree.{Trees}
@@ -21,10 +21,10 @@ pub record IsOfVersion (v : View) : Type 0 where
   pub version : v.trees META ≡ version_row Tables ∷ []
   pub asked : ListsAsAsked (v.trees catalog_tree)
 
--- each index that somebody has added to a table of the store is one that a put keeps, and has one entry for each row of its table, and no other
+-- each index added to a table of the store is one that a put keeps, and has one entry for each row of its table, and no other
 abbrev pub HasWholeAdded : Trees → Type 0
 HasWholeAdded db = AreKept (db catalog_tree) × AreWhole db (plain_indexes (db catalog_tree))
 
--- the trees were looked at, and the first are those of a store
+-- the trees were checked, and the first are those of a store
 abbrev pub IsCheckedStore : View → Type 0
 IsCheckedStore v = IsChecked v × (take 9 (v.trees catalog_tree) ≡ table_listings)

@@ -62,9 +62,9 @@ pub trait Databases {
     fn close(&self, trees: Self::Trees);
 }
 
-/// Databases of which each page can be looked at as they are opened.
+/// Databases of which each page can be checked as they are opened.
 pub trait CheckedDatabases: Databases {
-    /// The trees of a database of this version, each page and tree of which was looked at: the first of them are those of a
+    /// The trees of a database of this version, each page and tree of which was checked: the first of them are those of a
     /// store, and nothing is written that isn't committed. If it is anything else it is closed.
     fn checked_trees(&self, rt: &HostRuntime, name: &str) -> Result<Option<Self::Trees>, StoreFault>
         ensures given { IfOk result (λ found. IfSome found (λ trees. Self.gives self.now name.now trees)) }
@@ -222,7 +222,7 @@ fn refusal_with_a_look<D: Databases>(rt: &HostRuntime, databases: &D, name: &str
 }
 
 /// The store of a database whose rows are to be compared, whatever these are. It is read by its trees: each page and each tree
-/// is looked at, and each index of the store has one entry for each row, and so has each that somebody has added to its tables;
+/// is checked, and each index of the store has one entry for each row, and so has each added to its tables;
 /// the store has what was seen of the tables at that. Nothing is written.
 ///
 /// Why it can't be opened is told on standard error. The fault is one of those of `open_asked`; it is also `Disk` where one of its

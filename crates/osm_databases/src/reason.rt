@@ -28,7 +28,7 @@ pub enum Reason {
     Unlisted,
     /// An index lacks the entry of a row, or has an entry of none.
     Index(StoreIndex),
-    /// So does one of this name that somebody has added.
+    /// So does one of this name that the user has added.
     AddedIndex(String),
     /// It has no store, or one of another version, or a call of the store failed.
     Store(StoreFault),

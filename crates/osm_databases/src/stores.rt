@@ -1,4 +1,4 @@
-//! The store that is made where a connection has none, and trees that take blobs or were looked at.
+//! The store that is made where a connection has none, and trees that take blobs or were checked.
 
 ghost use Rattle.std.specs.Prelude.{◌≡◌, ◌≢◌, false, IfOk, IfSome};
 ghost use Rattle.std.specs.FinMap.{empty};
@@ -71,7 +71,7 @@ pub fn make_where_none<S: Alter + Drop>(
     make_store(connection)
 }
 
-/// The trees, if a put can keep all that the database has: each index that somebody has added to a table of the store is one
+/// The trees, if a put can keep all that the database has: each index added to a table of the store is one
 /// of columns of the table of elements, of tags or of links (`osm_tree_writes::plain_index`), and no trigger is on one of
 /// these tables. Where there is another index they are dropped, and SQL writes it. All else is left as it is. A fault is
 /// `Memory`.
@@ -90,7 +90,7 @@ pub fn taking_blobs<S: Alter + Drop>(alloc: Global, trees: S) -> Result<Option<S
 }
 
 /// The trees, if each index of the store has one entry for each row of its table, and no other, with what was seen of the tables
-/// as the indexes were looked at; they are dropped if not, and the fault is `Disk`. Of the rows nothing has to be known. Another
+/// as the indexes were checked; they are dropped if not, and the fault is `Disk`. Of the rows nothing has to be known. Another
 /// fault is that of a read that has failed, or `Memory`. No more than one row and its entry are in memory.
 pub fn with_whole_indexes<S: Store + Drop>(
     alloc: Global,
@@ -109,7 +109,7 @@ pub fn with_whole_indexes<S: Store + Drop>(
     }
 }
 
-/// That an index which somebody has added isn't whole.
+/// That an index which the user has added isn't whole.
 fn faulty(alloc: Global, index: &Index) -> Result<Refusal, AllocError>
     ensures { IfOk result (λ refusal. refusal.fault ≡ StoreFault.Disk) }
 {
@@ -120,7 +120,7 @@ fn faulty(alloc: Global, index: &Index) -> Result<Refusal, AllocError>
     })
 }
 
-/// The trees, if a put keeps each index that somebody has added to a table of the store (`taking_blobs`), and each of these
+/// The trees, if a put keeps each index added to a table of the store (`taking_blobs`), and each of these
 /// has one entry for each row of its table, and no other; they are dropped if not, and the fault is `Disk`. Of the rows
 /// nothing has to be known. Another fault is that of a read that has failed, or `Memory`. No more than one row and its entry
 /// are in memory.
@@ -140,7 +140,7 @@ pub fn with_whole_added_indexes<S: Alter + Drop>(alloc: Global, mut trees: S) ->
 }
 
 /// The store of trees that are those of a store of this version, if each of its indexes has one entry for each row of its
-/// table, and no other, and so has each that somebody has added, with what was seen of its tables. A fault is that of
+/// table, and no other, and so has each that the user has added, with what was seen of its tables. A fault is that of
 /// `with_whole_indexes`, or of `with_whole_added_indexes`.
 pub(crate) fn check_store<S: Alter + Drop>(
     alloc: Global,

@@ -59,7 +59,7 @@ pub enum Obstacle {
     TwoNames,
     #[error("it has a text that isn't in UTF-8")]
     OtherText,
-    /// An index of somebody's own on one of pbfrow's tables.
+    /// An index of the user's own on one of pbfrow's tables.
     #[error("it has an index that pbfrow doesn't keep up to date")]
     UnkeptIndex,
 }

@@ -9,7 +9,7 @@ use osm_rows::{Audited, BlobReader};
 use osm_trees::{CheckedStore, TreeStore};
 use sqlite_trees::store::Store;
 
-/// A store over trees whose database was looked at as it was opened, each page, tree and index of it, whatever it lists behind
+/// A store over trees whose database was checked as it was opened, each page, tree and index of it, whatever it lists behind
 /// the store's trees: where it keeps the rows of an import of these frames and no others, which is what `verify` tells at status 0
 /// by elements, it holds the map of that import, and so do its trees alone. So whatever is asked of it next, or put into these,
 /// begins with what it needs.

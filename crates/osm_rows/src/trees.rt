@@ -27,5 +27,5 @@ pub const LINK_KEY: u32 = 7;
 /// The index of elements by kind and id.
 pub const ELEMENT_BY_ID: u32 = 8;
 
-/// How many trees a store has. Those from this number on are somebody else's.
+/// How many trees a store has. Those from this number on are the user's.
 pub const TREES: u64 = 9;

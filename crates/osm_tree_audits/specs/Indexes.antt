@@ -1,4 +1,4 @@
--- When one index of a store is whole, and when those are that somebody has added.
+-- When one index of a store is whole, and when those are that the user has added.
 use Rattle.std.specs.Prelude.{List, [], ◌∷◌}
 use Rattle.std.specs.List.{AllByRecursion}
 use Rattle.sqlite_trees.specs.Tree.{Trees}
@@ -15,7 +15,7 @@ IsWhole db TagKey = IsIndexOf (1 ∷ 2 ∷ 3 ∷ []) (db TAGS) (db TAG_KEY)
 IsWhole db LinkKey = IsIndexOf (1 ∷ 2 ∷ 3 ∷ []) (db LINKS) (db LINK_KEY)
 IsWhole db ElementById = IsIndexOf (3 ∷ 4 ∷ []) (db ELEMENTS) (db ELEMENT_BY_ID)
 
--- an index that somebody has added has one entry for each row of its table, and no other
+-- an index that the user has added has one entry for each row of its table, and no other
 abbrev pub IsWholeAdded : Trees → Index → Type 0
 IsWholeAdded db index = IsIndexOf index.columns (db index.table) (db index.tree)
 

@@ -1,4 +1,4 @@
-//! Whether each index that somebody has added to the tables of a store has one entry for each row of its table, and no other.
+//! Whether each index added to the tables of a store has one entry for each row of its table, and no other.
 
 ghost use Rattle.std.specs.Prelude.{◌≡◌, ◌<◌, false, length, slice_get, Some, IfSome, IfOk, IfErr, OnOk, MatchOption};
 ghost use Rattle.sqlite_trees.specs.View.{IsClean};

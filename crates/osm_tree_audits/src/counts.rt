@@ -76,7 +76,7 @@ fn has_inner_counts(look: &Look, counts: &Counts) -> bool
 }
 
 /// Whether each table of a store has exactly so many rows, fewer than SQL can count. Of the rows nothing has to be known, but
-/// what was seen of the tables of elements, of tags and of links as the indexes were looked at (`look_at_indexes`): only the
+/// what was seen of the tables of elements, of tags and of links as the indexes were checked (`look_at_indexes`): only the
 /// rows of the table of blobs are counted here. No more than one is in memory. A fault is that of a read that has failed, or
 /// `Memory`.
 pub fn has_row_counts<S: Store>(

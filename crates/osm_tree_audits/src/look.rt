@@ -16,7 +16,7 @@ use sqlite_trees::store::Store;
 use sqlite_value::keys::Order;
 use std::alloc::Global;
 
-/// What was seen of a table as the index of its primary key was looked at.
+/// What was seen of a table as the index of its primary key was checked.
 #[derive(Clone, Copy, Debug, PartialEq, Eq)]
 pub struct TableLook {
     /// How many rows it has.
@@ -25,7 +25,7 @@ pub struct TableLook {
     pub in_order: bool,
 }
 
-/// What was seen of the tables of a store as its indexes were looked at.
+/// What was seen of the tables of a store as its indexes were checked.
 #[derive(Clone, Copy, Debug, PartialEq, Eq)]
 pub struct Look {
     pub elements: TableLook,

@@ -226,7 +226,7 @@ fn has_inner_rows<S: Store>(
 
 /// Whether the rows at a blob's offset, in all tables, are those that a put of it writes, and no others, each as it is
 /// kept. Of the rows nothing has to be known, but each index has to have one entry for each, and what was seen of the tables
-/// as the indexes were looked at (`look_at_indexes`). The offsets are at most `MAX_OFFSET`, in bytes. No more rows than those
+/// as the indexes were checked (`look_at_indexes`). The offsets are at most `MAX_OFFSET`, in bytes. No more rows than those
 /// of a few elements are in memory. A fault is that of a read that has failed, `Memory`, or `Disk` where the trees have no
 /// such tables and indexes.
 pub fn has_rows_of<S: Store>(

@@ -60,7 +60,7 @@ AreIndexesAt shapes more = AllByRecursion (λ (i : AddedIndex). shapes i.tree �
 abbrev pub IsBehind : AddedIndex → Type 0
 IsBehind i = (TREES ≤ i.tree) × (i.tree < 2 ^ 32) × ((i.table ≡ ELEMENTS.tree) ⊎ ((i.table ≡ TAGS.tree) ⊎ (i.table ≡ LINKS.tree)))
 
--- indexes of somebody's own, each in a tree of its own
+-- indexes of the user's own, each in a tree of its own
 pub record AreBehind (more : List AddedIndex) : Type 0 where
   pub each : AllByRecursion IsBehind more
   pub apart : IsAscending (λ (i j : AddedIndex). i.tree ≢ j.tree) more
@@ -71,7 +71,7 @@ RiseFrom shapes low [] = Unit {0}
 RiseFrom shapes low (i ∷ is) = (low ≤ i.tree) × (i.tree < 2 ^ 32) × ((i.table ≡ ELEMENTS.tree) ⊎ ((i.table ≡ TAGS.tree) ⊎ (i.table ≡ LINKS.tree))) × (shapes i.tree ≡ Index i.order) × RiseFrom shapes (i.tree + 1) is
 
 -- A put can write to trees of these shapes with this list of objects: they have the tables of a store, their indexes, and
--- each index that somebody has added, and no trigger is on one of the tables.
+-- each index that the user has added, and no trigger is on one of the tables.
 pub record TakeBlobs (shapes : ℕ → Shape) (objects : List Row) : Type 0 where
   pub store : IsStoreAt shapes
   pub kept : AreKept objects

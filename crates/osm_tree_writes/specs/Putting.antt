@@ -50,7 +50,7 @@ abbrev pub KeepOthers : List Index → Trees → Trees → Type 0
 KeepOthers more old new = (t : ℕ) → 9 ≤ t → IsNoIndex more t → new t ≡ old t
 
 -- The trees have the rows of one blob more, and the indexes of a store, if they had an entry for each row, have one for each
--- still. So has each of these indexes that somebody has added.
+-- still. So has each of these indexes that the user has added.
 pub record PutsRows (more : List Index) (old new : Trees) (extent : Extent) (added : List Placed) : Type 0 where
   pub others : KeepOthers more old new
   pub catalog : new catalog_tree ≡ old catalog_tree

@@ -75,7 +75,7 @@ fn make_entry_of(entry: &mut Row, columns: &[usize], row: &Row) -> Result<(), Al
     entry.push(row.get(0))
 }
 
-/// Puts a row's entry into an index that somebody has added.
+/// Puts a row's entry into an index that the user has added.
 fn put_entry_of<S: Store>(
     store: &mut S,
     added: &Index,
@@ -110,7 +110,7 @@ fn put_entries<S: Store>(
     Ok(())
 }
 
-/// Puts a row behind the last one of a table, with its entries in the indexes of a store, and in those that somebody has added.
+/// Puts a row behind the last one of a table, with its entries in the indexes of a store, and in those that the user has added.
 fn append_row<S: Store>(
     store: &mut S,
     table: &TableTree,

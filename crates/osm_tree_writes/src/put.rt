@@ -43,7 +43,7 @@ fn has_tables<S: Store>(store: &S) -> bool
         && has_table(store, &LINKS)
 }
 
-/// The indexes that somebody has added to the tables of a store, each of which has to get the entries of the rows that a put
+/// The indexes added to the tables of a store, each of which has to get the entries of the rows that a put
 /// writes; none where a put can't write to these trees, as where a trigger is on one of the tables.
 fn indexes_to_keep<S: Alter>(alloc: Global, store: &S) -> Result<Option<Vec<Index>>, AllocError>
     ensures shaped { IfOk result (λ found. IfSome found (λ more. IsStoreAt (S.Store.view store.now).shape × RiseFrom (S.Store.view store.now).shape TREES more.items)) }
@@ -177,7 +177,7 @@ fn write_rows<S: Alter>(
     append_elements(alloc, store, extent.off, elements, more.as_slice())
 }
 
-/// One transaction adds the rows of a blob and of its elements, or nothing. Each index that somebody has added to the
+/// One transaction adds the rows of a blob and of its elements, or nothing. Each index added to the
 /// tables gets an entry for each row, and no other tree behind those of a store is touched. A fault is `Memory`, `Full` where
 /// there is no room, and else `Disk`, as where the trees take no blobs (`takes_blobs`) or have rows at the blob's offset that
 /// are those of no blob; what was committed before stays, and where the trees needn't be opened again they are those of that

@@ -1,4 +1,4 @@
-//! A store in the layout of tables, over trees, each index of which was looked at.
+//! A store in the layout of tables, over trees, each index of which was checked.
 
 ghost use Rattle.std.specs.Prelude.{◌≡◌};
 
@@ -11,7 +11,7 @@ use sqlite_trees::store::Store;
 use std::alloc::Global;
 use std::marker::Model;
 
-/// A store over the trees of its database, each index of which was looked at. What was seen of its tables then stays so, since
+/// A store over the trees of its database, each index of which was checked. What was seen of its tables then stays so, since
 /// nothing is ever put into it.
 pub struct CheckedStore<S: Store> {
     trees: TreeStore<S>,

@@ -25,7 +25,7 @@ pub fn holds_below<S: Alter>(connection: &Connection<S>)
     let _connection = connection;
 }
 
-/// A crash leaves of trees that hold a map what these list, whatever somebody has beside a store's own.
+/// A crash leaves of trees that hold a map what these list, whatever the user has beside a store's own.
 pub fn a_crash_leaves_the_list<S: Store>(store: &TreeStore<S>)
     ensures { (held : HeldMap) → ⟦<TreeStore<S> as BlobReader>⟧.holds store.now held → ⟦<TreeStore<S> as BlobReader>⟧.lists store.now ((S.Store.view store.now.store).trees catalog_tree) }
 {

@@ -188,7 +188,7 @@ impl<S: Alter> BlobKeeper for TreeStore<S> {
     ghost use Rattle.pbf_frame.specs.declared.part.TheConstants.{MAX_OFFSET};
     ghost use Rattle.osm_trees.specs.Putting.{AddsBelow, KeepsAddedIndexes};
 
-    /// Each index that somebody has added to the tables of elements, of tags and of links gets an entry for each row, too.
+    /// Each index added to the tables of elements, of tags and of links gets an entry for each row, too.
     fn put(
         &mut self,
         alloc: Global,
@@ -228,7 +228,7 @@ impl<S: Store> TreeStore<S> {
     ghost use Rattle.osm_trees.specs.Reading.{JustReads};
 
     /// Whether the rows at a blob's offset, in all tables, are those that a put of it writes, and no others. Rows are found by
-    /// the indexes, so these have to be whole, and by what was seen of the tables as they were looked at
+    /// the indexes, so these have to be whole, and by what was seen of the tables as they were checked
     /// (`osm_tree_audits::look_at_indexes`). The offsets are at most `MAX_OFFSET`, in bytes. What is held stays, also after a
     /// fault, which is that of a read that has failed, or `Memory`.
     pub fn has_rows_of(
@@ -250,7 +250,7 @@ impl<S: Store> TreeStore<S> {
         answer
     }
 
-    /// Whether each table has exactly so many rows, by what was seen of the tables as the indexes were looked at. What is held
+    /// Whether each table has exactly so many rows, by what was seen of the tables as the indexes were checked. What is held
     /// stays, also after a fault, which is that of a read that has failed, or `Memory`.
     pub fn has_row_counts(
         &mut self,

@@ -193,7 +193,7 @@ fn refuse_other_rows<K: Audited>(
 /// its end. What the file has elsewhere isn't read. What is held stays.
 ///
 /// Of the rows nothing has to be known. By `Depth::Elements`, where nothing was found and the tables have yet more rows, as
-/// somebody else has written them, that is the fault `NotThisStore`; over an honest disk, where the store holds a map, it
+/// another program has written them, that is the fault `NotThisStore`; over an honest disk, where the store holds a map, it
 /// never is. An error is that, or `Unread` with the offset of the extent at which a read of the file has failed, the fault of
 /// a read of the store that has failed, or refused memory.
 pub fn audit_part<K: Audited, F: FileBytes>(

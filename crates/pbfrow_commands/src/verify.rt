@@ -107,7 +107,7 @@ impl Counts {
 /// extent or by its elements too, and which other extents begin in the frame, and at last which begin behind the end.
 /// Writes `missing OFFSET`, `differs OFFSET` or `extra OFFSET` for each that doesn't agree and a fault's line for each bad
 /// blob, ascending by offset, and finally the counts; nothing follows the line of a read that failed, of a fault of the
-/// store or of refused memory. Where by elements all agrees and the tables have yet more rows, as somebody else has
+/// store or of refused memory. Where by elements all agrees and the tables have yet more rows, as another program has
 /// written them, that is the fault `NotThisStore` at the end of the input. The lines so far are flushed before more of the input is read. Where the output fails, no
 /// more is read. What is held stays. The watcher is called for each blob that was compared.
 ///

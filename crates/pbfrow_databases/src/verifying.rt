@@ -68,7 +68,7 @@ fn compare_one<K: Audited, R: Read + Drop, W: Write>(
     (store, status)
 }
 
-/// Compares what a reader gives with a database, each page and index of which is looked at as it is opened, and answers the
+/// Compares what a reader gives with a database, each page and index of which is checked as it is opened, and answers the
 /// exit status.
 fn compare_in<D: CheckedDatabases, R: Read + Drop, W: Write>(
     rt: &HostRuntime,
@@ -94,7 +94,7 @@ fn compare_in<D: CheckedDatabases, R: Read + Drop, W: Write>(
     status
 }
 
-/// Opens databases, each page and index of which is looked at.
+/// Opens databases, each page and index of which is checked.
 #[derive(Drop)]
 struct CheckedParts<'a, D> {
     rt: &'a HostRuntime,

@@ -189,7 +189,7 @@ fn expect_changes<K: NewSqlStore, R: Abort + Alloc<A = Global>>(
     Ok(())
 }
 
-/// The store over trees, each index of which is looked at, if each is whole.
+/// The store over trees, each index of which is checked, if each is whole.
 fn checked<S: Store + Drop>(alloc: Global, mut trees: S) -> Option<CheckedStore<S>> {
     match look_at_indexes(alloc, &mut trees) {
         Ok(Looked::Whole(look)) => Some(CheckedStore::new(TreeStore::new(trees), look)),

@@ -48,7 +48,7 @@ enum Content {
     Rows,
     /// The same of blocks.
     Blocks,
-    /// A table of somebody else.
+    /// A table of another program.
     Stranger,
 }
 
