@@ -10,7 +10,7 @@ ghost use Rattle.osm_rows.specs.Held.{HeldMap};
 ghost use Rattle.osm_rows.specs.Keeping.{IsForeign, IsRange, AscendApart, extents_of, touches};
 ghost use Rattle.osm_rows.specs.LayoutHolding.{IsKeptExtent};
 ghost use Rattle.osm_rows.specs.Rows.{extent_row};
-ghost use Rattle.osm_tree_audits.specs.Looking.{Looks};
+ghost use Rattle.osm_tree_audits.specs.Looking.{IsSound, Looks};
 ghost use Rattle.osm_trees.specs.Below.{HoldsBelow};
 
 use crate::row::extent_of;
@@ -28,7 +28,7 @@ fn read_extents<S: Store>(alloc: Global, store: &mut S) -> Result<Vec<Extent>, S
     ensures rows { IsClean (S.Store.view store.new) → (extents : List Held) → All IsKeptExtent extents → (S.Store.view store.old).trees BLOBS ≡ map extent_row extents
         → MatchResult result (λ found. found.items ≡ extents) (λ fault. ¬ (IsForeign fault)) }
     ensures ranges { IfOk result (λ found. All IsRange found.items) }
-    ensures sound { OnOk result (IsClean (S.Store.view store.new) → (S.Store.view store.new).is_broken ≡ false) }
+    ensures sound { OnOk result (IsSound S.Store store.new) }
     ensures reads { IsClean (S.Store.view store.new) → (S.Store.view store.new).is_broken ≡ false → OnlyReads (S.Store.view store.old) (S.Store.view store.new) }
     ensures quiet { IsQuiet S.Store.view S.Store.faults S.Store.recovers S.Store.is_shielded store.old store.new }
 {
@@ -90,7 +90,7 @@ fn read_touched<S: Store>(
     ensures rows { IsClean (S.Store.view store.new) → (extents : List Held) → All IsKeptExtent extents → AscendApart extents → (S.Store.view store.old).trees BLOBS ≡ map extent_row extents
         → MatchResult result (λ found. found.items ≡ reverse (filter (touches from to) extents)) (λ fault. ¬ (IsForeign fault)) }
     ensures ranges { IfOk result (λ found. All IsRange found.items) }
-    ensures sound { OnOk result (IsClean (S.Store.view store.new) → (S.Store.view store.new).is_broken ≡ false) }
+    ensures sound { OnOk result (IsSound S.Store store.new) }
     ensures reads { IsClean (S.Store.view store.new) → (S.Store.view store.new).is_broken ≡ false → OnlyReads (S.Store.view store.old) (S.Store.view store.new) }
     ensures quiet { IsQuiet S.Store.view S.Store.faults S.Store.recovers S.Store.is_shielded store.old store.new }
 {

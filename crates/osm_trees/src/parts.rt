@@ -1,6 +1,6 @@
 //! The keys of rows, and the rows of tags and links.
 
-ghost use Rattle.std.specs.Prelude.{◌≡◌, ◌<◌, ◌^◌, [], ◌∷◌, pos, false, IfOk, IfErr, OnOk};
+ghost use Rattle.std.specs.Prelude.{◌≡◌, ◌<◌, ◌^◌, [], ◌∷◌, pos, IfOk, IfErr, OnOk};
 ghost use Rattle.sqlite_value.specs.declared.value.Value.TheVariants.{Int};
 ghost use Rattle.sqlite_value.specs.Order.{column};
 ghost use Rattle.sqlite_trees.specs.View.{IsClean};
@@ -11,7 +11,7 @@ ghost use Rattle.osm_rows.specs.Load.TableParts.{IsAlone};
 ghost use Rattle.osm_rows.specs.Rows.{Placed, placed_in};
 ghost use Rattle.osm_rows.specs.TableRows.{element_row};
 ghost use Rattle.osm_tree_audits.specs.Finding.{Finds};
-ghost use Rattle.osm_tree_audits.specs.Looking.{Looks};
+ghost use Rattle.osm_tree_audits.specs.Looking.{IsSound, Looks};
 ghost use Rattle.osm_trees.specs.Answers.{AreItsParts, IsAnswer};
 ghost use Rattle.osm_trees.specs.Below.{HoldsBelow};
 
@@ -51,7 +51,7 @@ pub(crate) fn parts_with<S: Store>(
 ) -> Result<(Vec<PartRow>, Vec<PartRow>), StoreFault>
     ensures found { IfOk result (λ parts. IsClean (S.Store.view store.new)
         → Finds (λ r. r) (S.Store.view store.old).trees TAG_KEY TAGS 3 key.now parts.0.items × Finds (λ r. r) (S.Store.view store.old).trees LINK_KEY LINKS 3 key.now parts.1.items) }
-    ensures sound { OnOk result (IsClean (S.Store.view store.new) → (S.Store.view store.new).is_broken ≡ false) }
+    ensures sound { OnOk result (IsSound S.Store store.new) }
     ensures ours { IfErr result (λ fault. ¬ (IsForeign fault)) }
     ensures looks { Looks S.Store store.old store.new }
 {
