@@ -17,7 +17,7 @@ ghost use Rattle.osm_parts.specs.Unions.{IsPbfOfParts};
 use crate::openings::Openings;
 use crate::reading::extents_of_parts;
 use crate::runs::Part;
-use osm_import::{BlobStep, Blocks, ExportFault, Lines, refused, write_blobs, write_header};
+use osm_import::{BlobStep, Blocks, ExportFault, Lines, export_refusal, write_blobs, write_header};
 use osm_rows::BlobReader;
 use osm_value::Sink;
 use std::alloc::Global;
@@ -82,7 +82,7 @@ fn refuse_untiled(
         return Ok(());
     }
     let extents = extents_of_parts(alloc, parts)?;
-    match refused(&extents, size) {
+    match export_refusal(&extents, size) {
         Some(fault) => Err(fault),
         None => Ok(()),
     }

@@ -113,7 +113,7 @@ fn ended_before(to: u64, lacking: u64) -> Result<Summary, ImportStop>
 }
 
 /// What is told of an import whose input has to reach as far as `to`, and lacked so many bytes of that.
-fn reached(
+fn require_end(
     outcome: Result<Summary, ImportStop>,
     to: u64,
     lacking: u64,
@@ -206,7 +206,7 @@ pub fn import<R: Read + Drop, K: BlobKeeper, T: Teller, S: Sink>(
             let mut front = reader.take(start.dropped + (to - start.at));
             let mut input = Inlet::new(&mut front);
             let outcome = import_from(alloc, &mut input, store, start, teller, out);
-            reached(outcome, to, front.limit())
+            require_end(outcome, to, front.limit())
         }
     };
     finish(out, told)

@@ -61,7 +61,7 @@ pub fn end_merge<S: Sink>(out: &mut S, counts: CopyCounts) -> u8
 }
 
 /// What the copy of one store is to the merge.
-fn merged(outcome: Result<CopyCounts, CopyStop>) -> Result<CopyCounts, MergeStop>
+fn merge_outcome(outcome: Result<CopyCounts, CopyStop>) -> Result<CopyCounts, MergeStop>
     ensures { result ≡ merged_of outcome }
 {
     match outcome {
@@ -95,11 +95,11 @@ fn merge_at<F: BlobReader + Drop, O: Openings<F>, T: BlobKeeper, S: Sink>(
     };
     let outcome = merge_one(alloc, &mut store, into, out);
     openings.close(store);
-    merged(outcome)
+    merge_outcome(outcome)
 }
 
 /// The counts of more stores together. A sum stops at 2^64 - 1.
-fn added(total: CopyCounts, counts: CopyCounts) -> CopyCounts
+fn sum_of(total: CopyCounts, counts: CopyCounts) -> CopyCounts
     ensures { (so_far : List CopyCountsValue) → total ≡ total_of so_far → result ≡ total_of (so_far ++ counts ∷ []) }
 {
     CopyCounts {
@@ -126,7 +126,7 @@ fn merge_each<F: BlobReader + Drop, O: Openings<F>, T: BlobKeeper, S: Sink>(
     let mut total = CopyCounts { copied: 0, held: 0 };
     for place in 0..count {
         let counts = merge_at(alloc, openings, place, into, out)?;
-        total = added(total, counts);
+        total = sum_of(total, counts);
     }
     Ok(total)
 }

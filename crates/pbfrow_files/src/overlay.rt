@@ -118,7 +118,7 @@ impl Overlay {
     }
 
     /// A copy of bytes that are written, in room that was taken beforehand if they are few.
-    fn copied(&mut self, bytes: &[u8]) -> Result<Vec<u8>, AllocError>
+    fn copy_of(&mut self, bytes: &[u8]) -> Result<Vec<u8>, AllocError>
         ensures copy { IfOk result (λ copy. copy.items ≡ bytes.now) }
         ensures changes { self.new.changes ≡ self.old.changes }
         ensures len { self.new.len ≡ self.old.len }
@@ -201,7 +201,7 @@ impl Overlay {
         }
         let taken = bytes.len() + CHANGE_WEIGHT;
         self.refuse_full(taken)?;
-        let Ok(copy) = self.copied(bytes) else {
+        let Ok(copy) = self.copy_of(bytes) else {
             return Err(ErrorKind::OutOfMemory.into());
         };
         let len = self.len.max(at + bytes.len());

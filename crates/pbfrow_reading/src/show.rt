@@ -55,7 +55,7 @@ fn show_blobs<R: Read, W: Write>(
         match frames.next() {
             Ok(Some((at, bytes))) => match show_blob(alloc, at, bytes, out) {
                 Ok(is_next_good) => *is_good &= is_next_good,
-                Err(_) => return Ending::refused(at),
+                Err(_) => return Ending::without_memory(at),
             },
             Ok(None) => return Ending::Whole,
             Err(stop) => return Ending::Early(stop),

@@ -12,7 +12,7 @@ ghost use Rattle.osm_import.specs.Walks.{Writing, IsWithin, WritesOne, WritesCom
 ghost use Rattle.osm_import.specs.Stores.{Rereads};
 
 use super::ExportFault;
-use super::refusal::refused;
+use super::refusal::export_refusal;
 use osm_rows::{BlobReader, Extent};
 use osm_value::{Element, Sink};
 use std::alloc::Global;
@@ -47,7 +47,7 @@ pub(super) fn extents_to_export<K: BlobReader>(
 {
     let extents = keeper.extents(alloc)?;
     if !partial {
-        if let Some(fault) = refused(&extents, size) {
+        if let Some(fault) = export_refusal(&extents, size) {
             return Err(fault);
         }
     }

@@ -82,7 +82,7 @@ fn import_frame<K: BlobKeeper, R: Source, T: Teller, S: Sink>(
 }
 
 /// What is said at the end of an input that stood at `from` at its start.
-fn ended(from: u64, summary: Summary) -> Result<Summary, ImportStop>
+fn end_of(from: u64, summary: Summary) -> Result<Summary, ImportStop>
     ensures { result ≡ ended_at from summary }
 {
     if from == 0 && summary.next == 0 {
@@ -144,7 +144,7 @@ pub fn import_stream<K: BlobKeeper, R: Source, T: Teller, S: Sink>(
     for _blobs in 0..max_blobs {
         match import_frame(alloc, keeper, &mut framer, &mut piece, reader, teller, out) {
             Ok(Some(blob)) => summary.add(&blob.answer, blob.fin),
-            Ok(None) => return ended(from, summary),
+            Ok(None) => return end_of(from, summary),
             Err(fault) => {
                 return Err(ImportStop {
                     fault,
@@ -154,7 +154,7 @@ pub fn import_stream<K: BlobKeeper, R: Source, T: Teller, S: Sink>(
         }
     }
     match has_more(&mut piece, reader) {
-        Ok(false) => ended(from, summary),
+        Ok(false) => end_of(from, summary),
         Ok(true) => Err(ImportStop {
             fault: ImportFault::BlobLimit,
             at: summary.next,

@@ -21,5 +21,5 @@ returns-in-Some g c =
       before_is = front;
       outcome = c.import_from-outcome.result;
       imports = c.import_from-outcome.ensures;
-      is_told = c.reached.ensures;
+      is_told = c.require_end.ensures;
     })

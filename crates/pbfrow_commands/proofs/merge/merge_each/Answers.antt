@@ -56,7 +56,7 @@ loop-place-preserved g c =
       open_if = λ o. inv.open_if (made.open_if o);
       copied = (
         so_far ++ more ∷ [],
-        c.added-total.ensures so_far inv.copied.1,
+        c.sum_of-total.ensures so_far inv.copied.1,
         (λ start before h. line-more start before so_far more _ _ (made.line start _ (inv.copied.2 start before h))),
         (λ maps held holds honest all into_holds into_honest.
             let earlier = made.opens.keeps.honest honest in

@@ -47,7 +47,7 @@ returns-in-Ok-None-clause-streams g c =
     let source = input g.R.Source c.args.reader.now c.import_frame.new.reader in
     let sink = output (g.T.Teller.tells c.args.teller.now) g.S.Sink c.args.out.now c.import_frame.new.out in
     let within : c.loop-blobs._blobs < c.args.max_blobs = omega arith in
-    subst (λ (r : Result Summary ImportStop). Streams c.args.from c.args.max_blobs source sink (Takes g.K.BlobReader c.args.keeper.now c.import_frame.new.keeper) r) (sym c.ended.ensures)
+    subst (λ (r : Result Summary ImportStop). Streams c.args.from c.args.max_blobs source sink (Takes g.K.BlobReader c.args.keeper.now c.import_frame.new.keeper) r) (sym c.end_of.ensures)
     (stream-ends c.args.from c.args.max_blobs c.loop-blobs._blobs c.loop-blobs.framer source c.import_frame.new.piece sink c.loop-blobs.summary (Takes g.K.BlobReader c.args.keeper.now c.import_frame.new.keeper)
     (stream-stays (g.T.Teller.tells c.args.teller.now) c.args.from c.loop-blobs._blobs c.loop-blobs.framer source.before (prepend_known c.loop-blobs.piece (g.R.Source.bytes_left c.loop-blobs.reader)) (prepend_known c.import_frame.new.piece source.after)
     sink.before (g.S.Sink.written c.loop-blobs.out) sink.after c.loop-blobs.summary (Takes g.K.BlobReader c.args.keeper.now c.loop-blobs.keeper) (Takes g.K.BlobReader c.args.keeper.now c.import_frame.new.keeper)
@@ -79,7 +79,7 @@ pub returns-in-Ok-false-clause-streams : goal.returns-in-Ok-false-clause-streams
 returns-in-Ok-false-clause-streams g c =
     let source = input g.R.Source c.args.reader.now c.has_more.new.reader in
     let sink = output (g.T.Teller.tells c.args.teller.now) g.S.Sink c.args.out.now c.loop-blobs.out in
-    subst (λ (r : Result Summary ImportStop). Streams c.args.from c.args.max_blobs source sink (Takes g.K.BlobReader c.args.keeper.now c.loop-blobs.keeper) r) (sym c.ended-in-Ok-false.ensures)
+    subst (λ (r : Result Summary ImportStop). Streams c.args.from c.args.max_blobs source sink (Takes g.K.BlobReader c.args.keeper.now c.loop-blobs.keeper) r) (sym c.end_of-in-Ok-false.ensures)
     (stream-ends c.args.from c.args.max_blobs c.loop-blobs._blobs c.loop-blobs.framer source c.has_more.new.piece sink c.loop-blobs.summary (Takes g.K.BlobReader c.args.keeper.now c.loop-blobs.keeper)
     (stream-stays (g.T.Teller.tells c.args.teller.now) c.args.from c.loop-blobs._blobs c.loop-blobs.framer source.before (prepend_known c.loop-blobs.piece (g.R.Source.bytes_left c.loop-blobs.reader)) (prepend_known c.has_more.new.piece source.after)
     sink.before sink.after sink.after c.loop-blobs.summary (Takes g.K.BlobReader c.args.keeper.now c.loop-blobs.keeper) (Takes g.K.BlobReader c.args.keeper.now c.loop-blobs.keeper)
@@ -98,22 +98,22 @@ pub returns-in-Ok-None-clause-one_file : goal.returns-in-Ok-None-clause-one_file
 returns-in-Ok-None-clause-one_file g c = λ file held left zero holds honest.
     stream-one-file c.args.from c.args.max_blobs file (input g.R.Source c.args.reader.now c.import_frame.new.reader) (output (g.T.Teller.tells c.args.teller.now) g.S.Sink c.args.out.now c.import_frame.new.out)
     (Takes g.K.BlobReader c.args.keeper.now c.import_frame.new.keeper) (g.K.BlobReader.holds c.import_frame.new.keeper) held left zero
-    (λ ds rs took none. took.unbroken held holds honest none) c.ended.result (returns-in-Ok-None-clause-streams g c)
+    (λ ds rs took none. took.unbroken held holds honest none) c.end_of.result (returns-in-Ok-None-clause-streams g c)
 
 pub returns-in-Ok-None-clause-part : goal.returns-in-Ok-None-clause-part
 returns-in-Ok-None-clause-part g c = λ piece left holds honest.
     stream_part c.args.from c.args.max_blobs piece (input g.R.Source c.args.reader.now c.import_frame.new.reader) (output (g.T.Teller.tells c.args.teller.now) g.S.Sink c.args.out.now c.import_frame.new.out)
     (Takes g.K.BlobReader c.args.keeper.now c.import_frame.new.keeper) (g.K.BlobReader.holds c.import_frame.new.keeper) left
-    (λ ds rs took none. took.unbroken empty holds honest none) c.ended.result (returns-in-Ok-None-clause-streams g c)
+    (λ ds rs took none. took.unbroken empty holds honest none) c.end_of.result (returns-in-Ok-None-clause-streams g c)
 
 pub returns-in-Ok-false-clause-one_file : goal.returns-in-Ok-false-clause-one_file
 returns-in-Ok-false-clause-one_file g c = λ file held left zero holds honest.
     stream-one-file c.args.from c.args.max_blobs file (input g.R.Source c.args.reader.now c.has_more.new.reader) (output (g.T.Teller.tells c.args.teller.now) g.S.Sink c.args.out.now c.loop-blobs.out)
     (Takes g.K.BlobReader c.args.keeper.now c.loop-blobs.keeper) (g.K.BlobReader.holds c.loop-blobs.keeper) held left zero
-    (λ ds rs took none. took.unbroken held holds honest none) c.ended-in-Ok-false.result (returns-in-Ok-false-clause-streams g c)
+    (λ ds rs took none. took.unbroken held holds honest none) c.end_of-in-Ok-false.result (returns-in-Ok-false-clause-streams g c)
 
 pub returns-in-Ok-false-clause-part : goal.returns-in-Ok-false-clause-part
 returns-in-Ok-false-clause-part g c = λ piece left holds honest.
     stream_part c.args.from c.args.max_blobs piece (input g.R.Source c.args.reader.now c.has_more.new.reader) (output (g.T.Teller.tells c.args.teller.now) g.S.Sink c.args.out.now c.loop-blobs.out)
     (Takes g.K.BlobReader c.args.keeper.now c.loop-blobs.keeper) (g.K.BlobReader.holds c.loop-blobs.keeper) left
-    (λ ds rs took none. took.unbroken empty holds honest none) c.ended-in-Ok-false.result (returns-in-Ok-false-clause-streams g c)
+    (λ ds rs took none. took.unbroken empty holds honest none) c.end_of-in-Ok-false.result (returns-in-Ok-false-clause-streams g c)

@@ -1,7 +1,7 @@
 use Rattle.std.proofs.Common.{◌∙◌, sym}
 use Rattle.std.proofs.lemmas.Bool.Decides.{not_from_Decides, Decides-eqb}
 use Rattle.osm_import.proofs.ExportLemmas.{refused-gap, refused-end, tiling}
-use Rattle.osm_import.proofs.export.refusal.refused.Goals as goal
+use Rattle.osm_import.proofs.export.refusal.export_refusal.Goals as goal
 
 pub returns-in-Some : goal.returns-in-Some
 returns-in-Some c = refused-gap c.args.extents.now c.args.size c.greatest_end-greatest.result c.unwrap_or-size.result c.in-Some.from c.in-Some.to c.greatest_end-greatest.ensures c.unwrap_or-size.ensures c.in-Some.ensures
