@@ -34,7 +34,7 @@ pub returns-in-Ok-clause-plain : goal.returns-in-Ok-clause-plain
 returns-in-Ok-clause-plain g c =
     λ now.
     let e = c.in-Ok.ensures in
-    let h = of_some _ _ _ c.in-Some-2.is c.in_ok-with_list.ensures.lists (e.honest now) in
+    let h = of_some _ _ _ c.in-Some-2.is c.in_ok-listed.ensures.lists (e.honest now) in
     let sizes = (e.kept now).size ∙ h.size ∙ c.in_ok-unlisted.ensures.size in
     ap is_summed sizes ∙ plain_size c.in-Some.size.bytes c.in-Some.size.aligned
 
@@ -43,7 +43,7 @@ returns-in-Ok-clause-listed g c =
     λ now.
     let e = c.in-Ok.ensures in
     let objects = c.args.objects.now in
-    let h = of_some _ _ _ c.in-Some-2.is c.in_ok-with_list.ensures.lists (e.honest now) in
+    let h = of_some _ _ _ c.in-Some-2.is c.in_ok-listed.ensures.lists (e.honest now) in
     let reads = trees_are c.in-Ok.store e.ready now (wanted_by c.in-Some-2.listed) e.schema in
     let is = ap (λ trees. trees catalog_tree) reads ∙ listed_in _ _ _ ∙ ap (listed_from 0) h.wanted in
     subst (ListsFirst objects) (sym is) (lists_first objects _ _ h.listed)
@@ -56,7 +56,7 @@ returns-in-Ok-clause-reads g c =
     let store = c.in-Ok.store in
     let mid = c.in-Some-2.listed in
     let unopened = c.in_ok-unlisted.unlisted in
-    let h = of_some _ _ _ c.in-Some-2.is c.in_ok-with_list.ensures.lists (e.honest now) in
+    let h = of_some _ _ _ c.in-Some-2.is c.in_ok-listed.ensures.lists (e.honest now) in
     let files = c.in_ok-unlisted.ensures.files in
     let clean : AreClean disk c.page_size.new.files.log c.page_size.new.files.db = c.in_ok-unlisted.ensures.honest h.clean in
     let images : image unopened ≡ seen_image disk c.args.files.log c.args.files.db =
@@ -77,7 +77,7 @@ returns-in-Ok-clause-asked g c =
     let store = c.in-Ok.store in
     let mid = c.in-Some-2.listed in
     let objects = c.args.objects.now in
-    let h = of_some _ _ _ c.in-Some-2.is c.in_ok-with_list.ensures.lists (e.honest now) in
+    let h = of_some _ _ _ c.in-Some-2.is c.in_ok-listed.ensures.lists (e.honest now) in
     let size = (state_of c.in_ok-unlisted.unlisted).page_size in
     let reads = trees_are store e.ready now (wanted_by mid) e.schema in
     let is = ap (λ trees. trees catalog_tree) reads ∙ listed_in _ _ _ ∙ ap (listed_from 0) h.wanted in
