@@ -14,23 +14,23 @@ returns-clause-imports g c =
     let front : ImportsFront start.dropped start.at c.args.to bytes (output (g.T.Teller.tells c.args.teller.now) g.S.Sink c.args.out.now c.match-to.out) (c.match-to.store ≡ c.args.store.now) (Takes g.K.BlobReader c.args.store.now c.match-to.store) c.match-to.told
     = elim c.match-to.branch [
       | in-None w ↦ (
-        let all : g.R.Read.remaining w.new.result.reader ≡ bytes = search rules in
-        rw (w.store-is, w.out-is, w.told-is, w.in-None.is) (record {
-          source = _;
-          before_is = all;
-          outcome = w.import_from-told.result;
-          imports = w.import_from-told.ensures;
-          is_told = refl;
-        }))
+          let all : g.R.Read.remaining w.new.result.reader ≡ bytes = search rules in
+          rw (w.store-is, w.out-is, w.told-is, w.in-None.is) (record {
+            source = _;
+            before_is = all;
+            outcome = w.import_from-told.result;
+            imports = w.import_from-told.ensures;
+            is_told = refl;
+          }))
       | in-Some w ↦ (
-        let front : option_map (take w.new-input.result.reader.now.limit) (g.R.Read.remaining w.new-input.result.reader.now.inner) ≡ option_map (take (start.dropped + (w.in-Some.to - start.at))) bytes = search rules in
-        rw (w.store-is, w.out-is, w.told-is, w.in-Some.is) (record {
-          source = _;
-          before_is = front;
-          outcome = w.import_from-outcome.result;
-          imports = w.import_from-outcome.ensures;
-          is_told = w.require_end-told.ensures;
-        }))
+          let front : option_map (take w.new-input.result.reader.now.limit) (g.R.Read.remaining w.new-input.result.reader.now.inner) ≡ option_map (take (start.dropped + (w.in-Some.to - start.at))) bytes = search rules in
+          rw (w.store-is, w.out-is, w.told-is, w.in-Some.is) (record {
+            source = _;
+            before_is = front;
+            outcome = w.import_from-outcome.result;
+            imports = w.import_from-outcome.ensures;
+            is_told = w.require_end-told.ensures;
+          }))
     ] in
     record {
       told = c.match-to.told;
