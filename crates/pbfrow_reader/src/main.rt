@@ -3,7 +3,6 @@
 #![tactic(auto)]
 
 ghost use Rattle.std.specs.Prelude.{◌≡◌, ◌≤◌};
-ghost use Rattle.std.specs.Process.{exit_status};
 ghost use Rattle.pbfrow_words.specs.Words.{CutsSome};
 
 use pbfrow_terminal::entry::{INVALID_ARGUMENTS, command_of, given_words, texts_of};
@@ -11,24 +10,27 @@ use pbfrow_terminal::reading::{cut_file, read_file};
 use pbfrow_words::Words;
 use std::process::ExitCode;
 
-/// Runs the command that the program was started with. Its exit status is that of the command, 2 where the words name none that
-/// is here, and 1 where they can't be read or what they ask for can't be written.
-fn main(rt: HostRuntime) -> ExitCode
-    ensures { exit_status result ≤ 2 }
+fn main(rt: HostRuntime) -> ExitCode {
+    ExitCode::from(run_given(&rt))
+}
+
+/// Runs the command that the program was started with. The exit status is that of the command, 2 where the words name none that is
+/// here, and 1 where they can't be read or what they ask for can't be written.
+fn run_given(rt: &HostRuntime) -> u8
+    ensures { result ≤ 2 }
 {
-    let words = match given_words(&rt) {
+    let words = match given_words(rt) {
         Ok(words) => words,
-        Err(status) => return ExitCode::from(status),
+        Err(status) => return status,
     };
-    let texts = match texts_of(&rt, &words) {
+    let texts = match texts_of(rt, &words) {
         Ok(texts) => texts,
-        Err(status) => return ExitCode::from(status),
+        Err(status) => return status,
     };
-    let status = match command_of(&rt, &texts) {
-        Ok(command) => run(&rt, command),
+    match command_of(rt, &texts) {
+        Ok(command) => run(rt, command),
         Err(status) => status,
-    };
-    ExitCode::from(status)
+    }
 }
 
 /// Runs a command that only reads a file, and answers the exit status.
