@@ -125,7 +125,7 @@ def main():
         for _ in range(rounds):
             for way in ways:
                 taken[way].append(took(way[0], file, blobs, way[1]))
-        profiles = [(count, [*zip(*(spent(file, blobs, count) for _ in range(rounds)))]) for count in (1, 2, 4)]
+        profiles = [[spent(file, blobs, count) for count in (1, 2, 4)] for _ in range(rounds)]
     print(f"\ndecoding alone, {os.path.getsize(path)} bytes in memory, without the start of Python; medians of {rounds} rounds (least to greatest)\n")
     print("| By | one, s | two, s | four, s | one / four | processor time of four / of one |\n|---|---|---|---|---|---|")
     for call, name in NAMES.items():
@@ -135,8 +135,8 @@ def main():
         print(f"| {name} | {' | '.join(walls)} | {faster} | {spread([four[1] / one[1] for one, four in both])} |")
     print("\nwhat threads with their shares spend, in seconds of all of them together, and how long one takes\n")
     print("| Threads | in the library's call | in Python | waiting | the slowest | the fastest |\n|---|---|---|---|---|---|")
-    for count, columns in profiles:
-        print(f"| {count} | {' | '.join(f'{statistics.median(column):.3f}' for column in columns)} |")
+    for count, taken_by in zip((1, 2, 4), zip(*profiles)):
+        print(f"| {count} | {' | '.join(f'{statistics.median(column):.3f}' for column in zip(*taken_by))} |")
 
 
 main()

@@ -340,8 +340,8 @@ class _BlocksAhead(_Blocks):
 
 
 class _Ahead:
-    """A blob that a thread makes a block of. A pool of concurrent.futures would take several times as long to hand each one over,
-    while no other thread can go on."""
+    """A blob that a thread makes a block of. A pool of concurrent.futures does more to hand one over, and meanwhile no other
+    thread can go on."""
 
     def __init__(self, blob: Blob) -> None:
         self._blob, self._has_ended = blob, Lock()
