@@ -1,13 +1,14 @@
 #!/usr/bin/env python3
 """threads_pbfrow.py FILE ROUNDS: how long it takes to decode a file that is in memory, by one, two and four threads of one process,
 by so many processes, which share nothing, and as `blocks` decodes it ahead for a loop that has each block in turn: medians of so
-many rounds, all of them in turn, and how one compares with four in the same round. Each thread or process has each second or
-fourth blob; each block is dropped once it is decoded. Where four take more processor time than one for the same blobs, a processor
-of this machine is slower while the others work, too; what is lost otherwise is waiting.
+many rounds, all of them in turn, and how one compares with four in the same round. Each thread or process takes the next blob that
+none has taken; each block is dropped once it is decoded. Where four take more processor time than one for the same blobs, a
+processor of this machine is slower while the others work, too; what is lost otherwise is waiting.
 
 Beside them stands what four processors of this machine can do at all: processes that share work that needs no memory, and such
 that copy memory from one place to another. Last comes what the threads spend their time on."""
 import os
+import resource
 import statistics
 import sys
 import time
@@ -18,23 +19,28 @@ import pbfrow
 from pbfrow._library import library
 
 
-def decode_all(file, blobs):
-    for blob in blobs:
+def decode_all(file, todo):
+    for blob in todo:
         file.decode(blob)
 
 
-def by_threads(file, blobs, count):
-    threads = [Thread(target=decode_all, args=(file, blobs[number::count])) for number in range(count)]
+def in_threads(count, work):
+    threads = [Thread(target=work) for _ in range(count)]
     for thread in threads:
         thread.start()
     for thread in threads:
         thread.join()
 
 
+def by_threads(file, blobs, count):
+    todo = iter(blobs)
+    in_threads(count, lambda: decode_all(file, todo))
+
+
 def spent(file, blobs, count):
-    """By so many threads, each with its share: the seconds of all of them together in the library's call, in Python, and waiting, and
+    """By so many threads: the seconds of all of them together in the library's call, in Python, of both in the kernel, and waiting, and
     then how long the slowest and the fastest took."""
-    rows, call, in_call = [], library.pbfrow_block_columns, local()
+    rows, call, in_call, todo = [], library.pbfrow_block_columns, local(), iter(blobs)
 
     def timed(*words):
         start = time.thread_time()
@@ -42,30 +48,27 @@ def spent(file, blobs, count):
         in_call.seconds += time.thread_time() - start
         return status
 
-    def work(number):
+    def work():
         in_call.seconds = 0
         wall, used = time.perf_counter(), time.thread_time()
-        decode_all(file, blobs[number::count])
-        rows.append((time.perf_counter() - wall, time.thread_time() - used, in_call.seconds))
+        decode_all(file, todo)
+        in_kernel = resource.getrusage(resource.RUSAGE_THREAD).ru_stime
+        rows.append((time.perf_counter() - wall, time.thread_time() - used, in_call.seconds, in_kernel))
 
     library.pbfrow_block_columns = timed
-    threads = [Thread(target=work, args=(number,)) for number in range(count)]
-    for thread in threads:
-        thread.start()
-    for thread in threads:
-        thread.join()
+    in_threads(count, work)
     library.pbfrow_block_columns = call
-    walls, used, called = zip(*rows)
-    return sum(called), sum(used) - sum(called), sum(walls) - sum(used), max(walls), min(walls)
+    walls, used, called, in_kernel = zip(*rows)
+    return sum(called), sum(used) - sum(called), sum(in_kernel), sum(walls) - sum(used), max(walls), min(walls)
 
 
 def in_processes(count, work):
-    """Does a share of work, which is a function of its number, in each of so many processes."""
+    """Does some work in each of so many processes."""
     children = []
-    for number in range(count):
+    for _ in range(count):
         child = os.fork()
         if child == 0:
-            work(number)
+            work()
             os._exit(0)
         children.append(child)
     for child in children:
@@ -73,15 +76,21 @@ def in_processes(count, work):
 
 
 def by_processes(file, blobs, count):
-    in_processes(count, lambda number: decode_all(file, blobs[number::count]))
+    """The numbers of the blobs stand in a pipe, out of which each process takes the next one."""
+    out, into = os.pipe()
+    os.write(into, b"".join(number.to_bytes(4, "little") for number in range(len(blobs))))
+    os.close(into)
+    numbers = iter(lambda: os.read(out, 4), b"")
+    in_processes(count, lambda: decode_all(file, (blobs[int.from_bytes(number, "little")] for number in numbers)))
+    os.close(out)
 
 
 def by_counting(_file, _blobs, count):
-    in_processes(count, lambda _: sum(range(ADDED // count)))
+    in_processes(count, lambda: sum(range(ADDED // count)))
 
 
 def by_copying(_file, _blobs, count):
-    def copy(_):
+    def copy():
         source, target = np.zeros(COPIED, np.uint8), np.zeros(COPIED, np.uint8)
         for _ in range(COPIES // count):
             target[:] = source
@@ -133,8 +142,8 @@ def main():
         both = [*zip(taken[call, 1], taken[call, 4])]
         faster = spread([one[0] / four[0] for one, four in both])
         print(f"| {name} | {' | '.join(walls)} | {faster} | {spread([four[1] / one[1] for one, four in both])} |")
-    print("\nwhat threads with their shares spend, in seconds of all of them together, and how long one takes\n")
-    print("| Threads | in the library's call | in Python | waiting | the slowest | the fastest |\n|---|---|---|---|---|---|")
+    print("\nwhat threads spend, in seconds of all of them together, and how long one takes\n")
+    print("| Threads | in the library's call | in Python | of both in the kernel | waiting | the slowest | the fastest |\n|---|---|---|---|---|---|---|")
     for count, taken_by in zip((1, 2, 4), zip(*profiles)):
         print(f"| {count} | {' | '.join(f'{statistics.median(column):.3f}' for column in zip(*taken_by))} |")
 

@@ -21,10 +21,10 @@ use Rattle.osm_block.specs.Phases.{Phase, Gives, first}
 -- ---- a payload that is a field list, or isn't
 
 -- what reads w as a message answers the fault of its wire
-pub err-of_gives : {M : Type 0} (view : M → List Entry) (r : Result M WireFault) (w : List ℕ) → reading.Gives view r (fields_of w) → result_err r ≡ wire w
+pub err-of_gives : {M : Type 0} (view : M → List Entry) (r : Result M WireFault) (w : List ℕ) → reading.ReturnsReading view r (fields_of w) → result_err r ≡ wire w
 err-of_gives {M} view r w g = by r (wire w) refl g
   where
-    by : (r : Result M WireFault) (o : Option WireFault) → wire w ≡ o → reading.Gives view r (fields_of w) → result_err r ≡ o
+    by : (r : Result M WireFault) (o : Option WireFault) → wire w ≡ o → reading.ReturnsReading view r (fields_of w) → result_err r ≡ o
     by (Ok m) None e g = refl
     by (Ok m) (Some f) e g = let h : Err f ≡ Ok (view m) = sym (wire_is w f e) ∙ g in absurd cc
     by (Err d) None e g = let h : Ok (fields w) ≡ Err d = sym (fields_are w e) ∙ g in absurd cc

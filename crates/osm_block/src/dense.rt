@@ -60,7 +60,7 @@ pub(crate) fn read_arrays<'a>(
     ready_arrays(alloc, scale, &dense)
 }
 
-/// Appends the nodes that the payloads together stand to.
+/// Appends the nodes that the payloads together encode.
 pub(crate) fn read_dense<'a>(
     alloc: Global,
     scale: &Scale<'a>,

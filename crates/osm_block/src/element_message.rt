@@ -1,4 +1,4 @@
-//! Messages that stand to one element each: nodes, ways and relations.
+//! Messages that encode one element each: nodes, ways and relations.
 
 ghost use Rattle.std.specs.Prelude.{◌≡◌, ◌∷◌, [], ◌++◌, ℕ, List, map, ⊤, OnOk};
 ghost use Rattle.std.specs.List.{flat_map};
@@ -41,7 +41,7 @@ pub(crate) trait ElementMessage {
     fn fault(&self) -> Option<WireFault>
         ensures { (fs : List Entry) → left self.now [] fs → result ≡ first_there (map wire (each fs ELEMENT_INFO) ++ arrays (ELEMENT_KEYS ∷ ELEMENT_VALS ∷ own) fs) };
 
-    /// The element that the message stands to.
+    /// The element that the message encodes.
     fn element<'a>(&self, alloc: Global, scale: &Scale<'a>) -> Result<Element<'a>, BlockError>
         ensures { (p : List ℕ) → left self.now [] (fields p) → Gives (λ e. MessageOf (context_of scale.now) (e ∷ []) (message p)) (first (phases_after_wire (context_of scale.now) (message p))) result };
 
@@ -64,7 +64,7 @@ fn read_message<M: ElementMessage>(payload: &[u8], message: &mut M) -> Result<()
     }
 }
 
-/// The element that a payload stands to.
+/// The element that a payload encodes.
 fn read_element<'a, M: ElementMessage>(
     alloc: Global,
     scale: &Scale<'a>,

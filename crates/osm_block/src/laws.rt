@@ -23,8 +23,8 @@ pub fn one_list_of_numbers()
     ensures { (us vs ds : List ℤ) → Diff us ds → Diff vs ds → us ≡ vs }
 {}
 
-/// The tags that are read for n dense nodes are those of the one list of n nodes that stands to the array, and the
-/// array is uneven (fault 51) exactly where no list of n nodes stands to it.
+/// The tags that are read for n dense nodes are those of the one list of n nodes that the array encodes, and the
+/// array is uneven (fault 51) exactly where it encodes no list of n nodes.
 pub fn uneven_tags_stand_to_no_nodes()
     ensures read { (n : ℕ) (kv : List ℤ) (ts : List (List Pair)) → (pairs_for n kv ≡ Some ts) ↔ ((length ts ≡ n) × Tags ts kv) }
     ensures uneven { (n texts : ℕ) (kv : List ℤ) → (first (tags_phases n texts kv) ≡ Some TagsUneven) ↔ ((ts : List (List Pair)) → length ts ≡ n → Tags ts kv → ⊥) }

@@ -85,7 +85,7 @@ fn node_in_range(scale: &Scale, id: i64, lat: i64, lon: i64, info: &InfoNumbers)
     wide_in_range(id) & lat & lon & info_in_range(scale, info)
 }
 
-/// The node that the message stands to.
+/// The node that the message encodes.
 fn node_of<'a>(
     alloc: Global,
     scale: &Scale<'a>,

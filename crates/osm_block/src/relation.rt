@@ -164,7 +164,7 @@ fn members_of<'a>(
     Ok(members)
 }
 
-/// The relation that the message stands to.
+/// The relation that the message encodes.
 fn relation_of<'a>(
     alloc: Global,
     scale: &Scale<'a>,

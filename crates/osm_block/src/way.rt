@@ -73,7 +73,7 @@ impl ElementMessage for WayFields {
     }
 }
 
-/// The way that the message stands to.
+/// The way that the message encodes.
 fn way_of<'a>(alloc: Global, scale: &Scale<'a>, way: &WayFields) -> Result<Element<'a>, BlockError>
     ensures { Gives (λ e. (w : WayValue) × (e ∷ [] ≡ elements.Way w ∷ []) × WayOf (context_of scale.now) w (way_message_of way.now)) (first (way_phases (context_of scale.now) (way_message_of way.now))) result }
 {

@@ -39,7 +39,7 @@ checked_after old new reads unbroken indexed clean found shaped =
       ap (λ (trees : Trees). take 9 (trees catalog_tree)) same ∙ known.listed,
     )
 
--- and after more of them, which found those whole that somebody has added
+-- and after more of them, which found those whole that the user has added
 pub checked_on : (a b c : View) → (IsClean b → OnlyReads a b × (b.is_broken ≡ false)) → (look : Look) → (IsClean b → IsIndexedStore b.trees × IsLook b.trees look) → OnlyReads b c × (c.is_broken ≡ false) → IsClean c → (IsClean a → IsOfVersion a) → IsStoreAt a.shape
     → IsChecked c × (take 9 (c.trees catalog_tree) ≡ table_listings)
 checked_on a b c before look whole after clean found shaped =

@@ -5,19 +5,17 @@
 //! error. SQL makes a store where there is none, and reads one that keeps elements as blocks, which is copied into another
 //! database.
 
-ghost use Rattle.std.specs.Prelude.{◌≡◌, ℕ, List, false, take, IfOk, IfSome};
+ghost use Rattle.std.specs.Prelude.{◌≡◌, ℕ, List, false, IfOk, IfSome};
 ghost use Rattle.sqlite.specs.Held.{IsNew, state};
 ghost use Rattle.sqlite_trees.specs.Objects.{catalog_tree};
 ghost use Rattle.sqlite_trees.specs.View.{IsClean};
-ghost use Rattle.osm_tree_writes.specs.Tables.{table_listings};
 ghost use Rattle.osm_tree_audits.specs.Looks.{IsLook};
-ghost use Rattle.osm_trees.specs.Below.{IsChecked};
 ghost use Rattle.osm_tree_writes.specs.Appending.{IsStoreAt, TakeBlobs};
-ghost use Rattle.osm_databases.specs.Checked.{HasWholeAdded, IsOfVersion};
+ghost use Rattle.osm_databases.specs.Checked.{HasWholeAdded, IsCheckedStore, IsOfVersion};
 ghost use Rattle.osm_databases.specs.Found.{AreFound, AreReadFrom, AreFoundOrMade, AreMade, AreMadeUnder};
 
-use crate::reason::{Reason, tell, tell_of_obstruction, told, told_of};
-use crate::stores::{BLOCKS, checked, made_where_none, taking_blobs};
+use crate::reason::{Reason, tell, tell_fault, tell_of_obstruction, tell_refusal};
+use crate::stores::{BLOCKS, check_store, make_where_none, taking_blobs};
 use osm_old_store::BodyStore;
 use osm_openings::{Obstacle, Obstruction, find_unkept};
 use osm_rows::{StoreFault, TABLE_VERSION};
@@ -64,9 +62,9 @@ pub trait Databases {
     fn close(&self, trees: Self::Trees);
 }
 
-/// Databases of which each page can be looked at as they are opened.
+/// Databases of which each page can be checked as they are opened.
 pub trait CheckedDatabases: Databases {
-    /// The trees of a database of this version, each page and tree of which was looked at: the first of them are those of a
+    /// The trees of a database of this version, each page and tree of which was checked: the first of them are those of a
     /// store, and nothing is written that isn't committed. If it is anything else it is closed.
     fn checked_trees(&self, rt: &HostRuntime, name: &str) -> Result<Option<Self::Trees>, StoreFault>
         ensures given { IfOk result (λ found. IfSome found (λ trees. Self.gives self.now name.now trees)) }
@@ -75,16 +73,16 @@ pub trait CheckedDatabases: Databases {
 
 /// The fault of a database whose trees aren't opened and in whose way nothing is known to stand, once SQL has said this of its
 /// version. It is told.
-fn told_version(rt: &HostRuntime, name: &str, fault: StoreFault) -> StoreFault {
+fn tell_version(rt: &HostRuntime, name: &str, fault: StoreFault) -> StoreFault {
     if fault == StoreFault::NotThisStore(Some(TABLE_VERSION)) {
         tell(rt, name, &Reason::Unlisted);
         return StoreFault::Disk;
     }
-    told_of(rt, name, fault)
+    tell_fault(rt, name, fault)
 }
 
-/// The store that is made where a connection has none (`made_where_none`). Why none is made is told.
-pub fn made_or_told<S: Alter + Drop>(
+/// The store that is made where a connection has none (`make_where_none`). Why none is made is told.
+pub fn make_or_tell<S: Alter + Drop>(
     rt: &HostRuntime,
     name: &str,
     connection: Connection<S>,
@@ -93,9 +91,9 @@ pub fn made_or_told<S: Alter + Drop>(
     ensures failures { IfOk result (λ store. store.failures ≡ 0) }
     ensures made { IfOk result (λ store. AreMade S.Store store.store) }
 {
-    match made_where_none(connection) {
+    match make_where_none(connection) {
         Ok(store) => Ok(store),
-        Err(fault) => Err(told_version(rt, name, fault)),
+        Err(fault) => Err(tell_version(rt, name, fault)),
     }
 }
 
@@ -138,7 +136,7 @@ fn adopted_blocks<D: Databases>(
     let connection = databases.connection(rt, name)?;
     match BodyStore::adopt(connection) {
         Ok(store) => Ok(store),
-        Err((fault, _)) => Err(told_version(rt, name, fault)),
+        Err((fault, _)) => Err(tell_version(rt, name, fault)),
     }
 }
 
@@ -156,12 +154,12 @@ fn blocks_of<D: Databases>(
 
 /// The fault of a database whose trees aren't opened, which is told. Where nothing is known to stand in the way, SQL says of
 /// what version it is: it is empty, or its table `meta` names another version, or it is damaged behind the list of its tables.
-fn refused<D: Databases>(rt: &HostRuntime, databases: &D, name: &str) -> StoreFault {
+fn refusal<D: Databases>(rt: &HostRuntime, databases: &D, name: &str) -> StoreFault {
     if let Err(fault) = refuse_obstructed(rt, databases, name) {
         return fault;
     }
     match adopted_blocks(rt, databases, name) {
-        Ok(_) => told_of(rt, name, StoreFault::NotThisStore(Some(BLOCKS))),
+        Ok(_) => tell_fault(rt, name, StoreFault::NotThisStore(Some(BLOCKS))),
         Err(fault) => fault,
     }
 }
@@ -171,7 +169,7 @@ fn refused<D: Databases>(rt: &HostRuntime, databases: &D, name: &str) -> StoreFa
 /// Why it can't be opened is told on standard error. The fault is `NotThisStore` where it has no store of pbfrow's, or one of
 /// another version. It is `Disk` where a table or the index by kind and id isn't as pbfrow makes it, where two objects have
 /// one name, where a text isn't in UTF-8, and where it is damaged or its file can't be opened.
-pub fn opened<D: Databases>(
+pub fn open_asked<D: Databases>(
     rt: &HostRuntime,
     databases: &D,
     name: &str,
@@ -181,7 +179,7 @@ pub fn opened<D: Databases>(
 {
     match databases.trees(rt, name)? {
         Some(trees) => Ok(TreeStore::new(trees)),
-        None => Err(refused(rt, databases, name)),
+        None => Err(refusal(rt, databases, name)),
     }
 }
 
@@ -204,16 +202,16 @@ fn keeping_all<S: Alter + Drop>(rt: &HostRuntime, name: &str, trees: S) -> Resul
     refuse_unkept(rt, name, &trees)?;
     match taking_blobs(rt.alloc(), trees) {
         Ok(Some(kept)) => Ok(kept),
-        Ok(None) => Err(told_of(rt, name, StoreFault::Disk)),
-        Err(refusal) => told(rt, name, Err(refusal)),
+        Ok(None) => Err(tell_fault(rt, name, StoreFault::Disk)),
+        Err(refusal) => tell_refusal(rt, name, Err(refusal)),
     }
 }
 
 /// The fault of a database of which a page or a tree isn't sound, or whose trees aren't opened. It is told.
-fn refused_with_a_look<D: Databases>(rt: &HostRuntime, databases: &D, name: &str) -> StoreFault {
+fn refusal_with_a_look<D: Databases>(rt: &HostRuntime, databases: &D, name: &str) -> StoreFault {
     let trees = match databases.trees(rt, name) {
         Ok(Some(trees)) => trees,
-        Ok(None) => return refused(rt, databases, name),
+        Ok(None) => return refusal(rt, databases, name),
         Err(fault) => return fault,
     };
     if let Err(fault) = refuse_unkept(rt, name, &trees) {
@@ -224,34 +222,33 @@ fn refused_with_a_look<D: Databases>(rt: &HostRuntime, databases: &D, name: &str
 }
 
 /// The store of a database whose rows are to be compared, whatever these are. It is read by its trees: each page and each tree
-/// is looked at, and each index of the store has one entry for each row, and so has each that somebody has added to its tables;
+/// is checked, and each index of the store has one entry for each row, and so has each added to its tables;
 /// the store has what was seen of the tables at that. Nothing is written.
 ///
-/// Why it can't be opened is told on standard error. The fault is one of those of `opened`; it is also `Disk` where one of its
+/// Why it can't be opened is told on standard error. The fault is one of those of `open_asked`; it is also `Disk` where one of its
 /// tables has a trigger, or an index that a put doesn't keep, and where a page, a tree or an index isn't sound.
-pub fn opened_checked<D: CheckedDatabases>(
+pub fn open_checked<D: CheckedDatabases>(
     rt: &HostRuntime,
     databases: &D,
     name: &str,
 ) -> Result<CheckedStore<D::Trees>, StoreFault>
     ensures failures { IfOk result (λ reader. reader.trees.failures ≡ 0) }
     ensures found { IfOk result (λ reader. AreReadFrom D.Trees.Store (D.gives databases.now name.now) reader.trees.store) }
-    ensures checked { IfOk result (λ reader. IsClean (D.Trees.Store.view reader.trees.store)
-        → IsChecked (D.Trees.Store.view reader.trees.store) × (take 9 ((D.Trees.Store.view reader.trees.store).trees catalog_tree) ≡ table_listings)) }
+    ensures checked { IfOk result (λ reader. IsClean (D.Trees.Store.view reader.trees.store) → IsCheckedStore (D.Trees.Store.view reader.trees.store)) }
     ensures look { IfOk result (λ reader. IsClean (D.Trees.Store.view reader.trees.store) → IsLook (D.Trees.Store.view reader.trees.store).trees reader.look) }
     ensures added { IfOk result (λ reader. IsClean (D.Trees.Store.view reader.trees.store) → HasWholeAdded (D.Trees.Store.view reader.trees.store).trees) }
 {
     let found = databases.checked_trees(rt, name)?;
     let Some(trees) = found else {
-        return Err(refused_with_a_look(rt, databases, name));
+        return Err(refusal_with_a_look(rt, databases, name));
     };
     let kept = keeping_all(rt, name, trees)?;
-    let store = told(rt, name, checked(rt.alloc(), kept))?;
+    let store = tell_refusal(rt, name, check_store(rt.alloc(), kept))?;
     Ok(store)
 }
 
 /// The store of a database that keeps elements as blocks, by SQL. Nothing is written. Why it can't be opened is told on
-/// standard error. The fault is one of those of `opened`, but one that keeps them in tables is `NotThisStore` with its version;
+/// standard error. The fault is one of those of `open_asked`, but one that keeps them in tables is `NotThisStore` with its version;
 /// it is also `Disk` where the database has a virtual table, or a trigger on one of the store's tables.
 pub fn source_of_blocks<D: Databases>(
     rt: &HostRuntime,
@@ -261,14 +258,14 @@ pub fn source_of_blocks<D: Databases>(
     ensures { IfOk result (λ store. store.failures ≡ 0) }
 {
     if databases.trees(rt, name)?.is_some() {
-        return Err(told_of(rt, name, StoreFault::NotThisStore(Some(TABLE_VERSION))));
+        return Err(tell_fault(rt, name, StoreFault::NotThisStore(Some(TABLE_VERSION))));
     }
     blocks_of(rt, databases, name)
 }
 
 /// The store that is made in a database whose trees aren't opened, where it has no table of anybody's, or where the making of
 /// one was interrupted. If something stands in the way nothing is written.
-fn made_in<D: Databases>(
+fn make_in<D: Databases>(
     rt: &HostRuntime,
     databases: &D,
     name: &str,
@@ -283,9 +280,9 @@ fn made_in<D: Databases>(
 /// The store of a database that is to take blobs, which is made if there is none; it is written by its trees. Where it is
 /// refused nothing is written.
 ///
-/// Why it can't be opened is told on standard error. The fault is one of those of `opened`; it is also `Disk` where one of its
+/// Why it can't be opened is told on standard error. The fault is one of those of `open_asked`; it is also `Disk` where one of its
 /// tables has a trigger, or an index that a put doesn't keep.
-pub fn opened_or_made<D: Databases>(
+pub fn open_or_make<D: Databases>(
     rt: &HostRuntime,
     databases: &D,
     name: &str,
@@ -296,7 +293,7 @@ pub fn opened_or_made<D: Databases>(
 {
     match databases.trees(rt, name)? {
         Some(trees) => Ok(TreeStore::new(keeping_all(rt, name, trees)?)),
-        None => made_in(rt, databases, name),
+        None => make_in(rt, databases, name),
     }
 }
 

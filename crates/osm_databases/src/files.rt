@@ -11,8 +11,8 @@ ghost use Rattle.osm_openings.specs.Opened.{IsOpened};
 ghost use Rattle.osm_openings.specs.Presumed.{ArePresumedTables};
 ghost use Rattle.osm_databases.specs.Checked.{IsOfVersion};
 
-use crate::databases::{CheckedDatabases, Databases, made_or_told};
-use crate::reason::{Reason, Refusal, told, told_of};
+use crate::databases::{CheckedDatabases, Databases, make_or_tell};
+use crate::reason::{Reason, Refusal, tell_fault, tell_refusal};
 use crate::trees::{
     FEW_PAGES, KeptPages, MANY_PAGES, checked_trees_in, close_files, connection_in, obstacle_in,
     trees_in,
@@ -147,7 +147,7 @@ impl Databases for FilledFiles {
         rt: &HostRuntime,
         name: &str,
     ) -> Result<Option<FileStore<WriteFile>>, StoreFault> {
-        told(rt, name, trees_to_write(rt, name, Unknown, self.pages))
+        tell_refusal(rt, name, trees_to_write(rt, name, Unknown, self.pages))
     }
 
     fn obstruction(&self, rt: &HostRuntime, name: &str) -> Option<Obstruction> {
@@ -159,8 +159,8 @@ impl Databases for FilledFiles {
         rt: &HostRuntime,
         name: &str,
     ) -> Result<Connection<FileStore<WriteFile>>, StoreFault> {
-        let files = told(rt, name, files_to_write(rt, name, Unknown))?;
-        told(rt, name, connection_in(rt, files, self.pages))
+        let files = tell_refusal(rt, name, files_to_write(rt, name, Unknown))?;
+        tell_refusal(rt, name, connection_in(rt, files, self.pages))
     }
 
     fn make(
@@ -169,7 +169,7 @@ impl Databases for FilledFiles {
         name: &str,
     ) -> Result<TreeStore<FileStore<WriteFile>>, StoreFault> {
         let connection = self.connection(rt, name)?;
-        made_or_told(rt, name, connection)
+        make_or_tell(rt, name, connection)
     }
 
     fn close(&self, trees: FileStore<WriteFile>) {
@@ -193,7 +193,7 @@ impl Databases for AskedFiles {
         rt: &HostRuntime,
         name: &str,
     ) -> Result<Option<FileStore<ReadFile>>, StoreFault> {
-        told(rt, name, trees_to_read(rt, name, Unknown, FEW_PAGES))
+        tell_refusal(rt, name, trees_to_read(rt, name, Unknown, FEW_PAGES))
     }
 
     fn obstruction(&self, rt: &HostRuntime, name: &str) -> Option<Obstruction> {
@@ -205,8 +205,8 @@ impl Databases for AskedFiles {
         rt: &HostRuntime,
         name: &str,
     ) -> Result<Connection<FileStore<ReadFile>>, StoreFault> {
-        let files = told(rt, name, files_to_read(rt, name, Unknown))?;
-        told(rt, name, connection_in(rt, files, MANY_PAGES))
+        let files = tell_refusal(rt, name, files_to_read(rt, name, Unknown))?;
+        tell_refusal(rt, name, connection_in(rt, files, MANY_PAGES))
     }
 
     fn make(
@@ -214,7 +214,7 @@ impl Databases for AskedFiles {
         rt: &HostRuntime,
         name: &str,
     ) -> Result<TreeStore<FileStore<ReadFile>>, StoreFault> {
-        Err(told_of(rt, name, StoreFault::NotThisStore(None)))
+        Err(tell_fault(rt, name, StoreFault::NotThisStore(None)))
     }
 
     fn close(&self, _trees: FileStore<ReadFile>) {}
@@ -226,7 +226,7 @@ impl CheckedDatabases for AskedFiles {
         rt: &HostRuntime,
         name: &str,
     ) -> Result<Option<FileStore<ReadFile>>, StoreFault> {
-        told(
+        tell_refusal(
             rt,
             name,
             checked_trees_to_read(rt, name, Unknown, MANY_PAGES),

@@ -28,7 +28,7 @@ pub enum Reason {
     Unlisted,
     /// An index lacks the entry of a row, or has an entry of none.
     Index(StoreIndex),
-    /// So does one of this name that somebody has added.
+    /// So does one of this name that the user has added.
     AddedIndex(String),
     /// It has no store, or one of another version, or a call of the store failed.
     Store(StoreFault),
@@ -185,7 +185,11 @@ pub fn tell_of_obstruction(rt: &HostRuntime, name: &str, found: &Obstruction) ->
 }
 
 /// Says on standard error why a database isn't opened, if it isn't, and passes on its fault.
-pub fn told<T>(rt: &HostRuntime, name: &str, opened: Result<T, Refusal>) -> Result<T, StoreFault>
+pub fn tell_refusal<T>(
+    rt: &HostRuntime,
+    name: &str,
+    opened: Result<T, Refusal>,
+) -> Result<T, StoreFault>
     ensures { MatchResult opened (λ it. result ≡ Ok it) (λ refusal. result ≡ Err refusal.fault) }
 {
     match opened {
@@ -199,7 +203,7 @@ pub fn told<T>(rt: &HostRuntime, name: &str, opened: Result<T, Refusal>) -> Resu
 
 /// Says on standard error that a database has no store of this program, or that a call of it failed, and passes on the
 /// fault.
-pub fn told_of(rt: &HostRuntime, name: &str, fault: StoreFault) -> StoreFault
+pub fn tell_fault(rt: &HostRuntime, name: &str, fault: StoreFault) -> StoreFault
     ensures { result ≡ fault }
 {
     tell(rt, name, &Reason::Store(fault));

@@ -1,6 +1,6 @@
-//! The store that is made where a connection has none, and trees that take blobs or were looked at.
+//! The store that is made where a connection has none, and trees that take blobs or were checked.
 
-ghost use Rattle.std.specs.Prelude.{◌≡◌, ◌≢◌, false, take, IfOk, IfSome};
+ghost use Rattle.std.specs.Prelude.{◌≡◌, ◌≢◌, false, IfOk, IfSome};
 ghost use Rattle.std.specs.FinMap.{empty};
 ghost use Rattle.sqlite.specs.Held.{state};
 ghost use Rattle.sqlite_trees.specs.View.{IsClean};
@@ -11,9 +11,8 @@ ghost use Rattle.sqlite_trees.specs.Objects.{catalog_tree};
 ghost use Rattle.osm_tree_writes.specs.Appending.{IsStoreAt, TakeBlobs};
 ghost use Rattle.osm_tree_writes.specs.Putting.{IsIndexedStore};
 ghost use Rattle.osm_tree_audits.specs.Looks.{IsLook};
-ghost use Rattle.osm_trees.specs.Below.{HoldsBelow, IsChecked};
-ghost use Rattle.osm_tree_writes.specs.Tables.{table_listings};
-ghost use Rattle.osm_databases.specs.Checked.{HasWholeAdded, IsOfVersion};
+ghost use Rattle.osm_trees.specs.Below.{HoldsBelow};
+ghost use Rattle.osm_databases.specs.Checked.{HasWholeAdded, IsCheckedStore, IsOfVersion};
 ghost use Rattle.osm_databases.specs.Found.{ListOnlyAStore};
 
 use crate::reason::{Reason, Refusal};
@@ -34,7 +33,7 @@ pub(crate) const BLOCKS: i64 = 1;
 /// The trees of a store that is made in a database without tables. It holds no blob, and no object stands beside its own.
 /// Where the database has a table, an index or a view, whosever it is, nothing is written, and the fault is
 /// `NotThisStore(None)`; any other is that of `TableStore::create`.
-pub fn made<S: Alter + Drop>(connection: Connection<S>) -> Result<TreeStore<S>, StoreFault>
+pub fn make_store<S: Alter + Drop>(connection: Connection<S>) -> Result<TreeStore<S>, StoreFault>
     requires { (state S.Store connection).in_transaction ≡ false }
     ensures empty { IfOk result (λ trees. IsClean (S.Store.view trees.store) → HoldsBelow Tables (S.Store.view trees.store) empty) }
     ensures alone { IfOk result (λ trees. IsClean (S.Store.view trees.store) → ListOnlyAStore (S.Store.view trees.store) (S.Store.recovers trees.store)) }
@@ -54,7 +53,7 @@ pub fn made<S: Alter + Drop>(connection: Connection<S>) -> Result<TreeStore<S>, 
 
 /// The trees of a store that is made where a connection has no store and no table of anybody's, numbered as this program makes
 /// them. A store that it has, of either version, is `NotThisStore` with that version, and nothing is written.
-pub fn made_where_none<S: Alter + Drop>(
+pub fn make_where_none<S: Alter + Drop>(
     connection: Connection<S>,
 ) -> Result<TreeStore<S>, StoreFault>
     requires { (state S.Store connection).in_transaction ≡ false }
@@ -69,10 +68,10 @@ pub fn made_where_none<S: Alter + Drop>(
     if fault != StoreFault::NotThisStore(None) {
         return Err(fault);
     }
-    made(connection)
+    make_store(connection)
 }
 
-/// The trees, if a put can keep all that the database has: each index that somebody has added to a table of the store is one
+/// The trees, if a put can keep all that the database has: each index added to a table of the store is one
 /// of columns of the table of elements, of tags or of links (`osm_tree_writes::plain_index`), and no trigger is on one of
 /// these tables. Where there is another index they are dropped, and SQL writes it. All else is left as it is. A fault is
 /// `Memory`.
@@ -91,7 +90,7 @@ pub fn taking_blobs<S: Alter + Drop>(alloc: Global, trees: S) -> Result<Option<S
 }
 
 /// The trees, if each index of the store has one entry for each row of its table, and no other, with what was seen of the tables
-/// as the indexes were looked at; they are dropped if not, and the fault is `Disk`. Of the rows nothing has to be known. Another
+/// as the indexes were checked; they are dropped if not, and the fault is `Disk`. Of the rows nothing has to be known. Another
 /// fault is that of a read that has failed, or `Memory`. No more than one row and its entry are in memory.
 pub fn with_whole_indexes<S: Store + Drop>(
     alloc: Global,
@@ -110,7 +109,7 @@ pub fn with_whole_indexes<S: Store + Drop>(
     }
 }
 
-/// That an index which somebody has added isn't whole.
+/// That an index which the user has added isn't whole.
 fn faulty(alloc: Global, index: &Index) -> Result<Refusal, AllocError>
     ensures { IfOk result (λ refusal. refusal.fault ≡ StoreFault.Disk) }
 {
@@ -121,7 +120,7 @@ fn faulty(alloc: Global, index: &Index) -> Result<Refusal, AllocError>
     })
 }
 
-/// The trees, if a put keeps each index that somebody has added to a table of the store (`taking_blobs`), and each of these
+/// The trees, if a put keeps each index added to a table of the store (`taking_blobs`), and each of these
 /// has one entry for each row of its table, and no other; they are dropped if not, and the fault is `Disk`. Of the rows
 /// nothing has to be known. Another fault is that of a read that has failed, or `Memory`. No more than one row and its entry
 /// are in memory.
@@ -141,13 +140,16 @@ pub fn with_whole_added_indexes<S: Alter + Drop>(alloc: Global, mut trees: S) ->
 }
 
 /// The store of trees that are those of a store of this version, if each of its indexes has one entry for each row of its
-/// table, and no other, and so has each that somebody has added, with what was seen of its tables. A fault is that of
+/// table, and no other, and so has each that the user has added, with what was seen of its tables. A fault is that of
 /// `with_whole_indexes`, or of `with_whole_added_indexes`.
-pub(crate) fn checked<S: Alter + Drop>(alloc: Global, trees: S) -> Result<CheckedStore<S>, Refusal>
+pub(crate) fn check_store<S: Alter + Drop>(
+    alloc: Global,
+    trees: S,
+) -> Result<CheckedStore<S>, Refusal>
     ensures failures { IfOk result (λ reader. reader.trees.failures ≡ 0) }
     ensures reads { IfOk result (λ reader. IsClean (S.Store.view reader.trees.store) → OnlyReads (S.Store.view trees) (S.Store.view reader.trees.store)) }
     ensures checked { IfOk result (λ reader. IsClean (S.Store.view reader.trees.store) → (IsClean (S.Store.view trees) → IsOfVersion (S.Store.view trees)) → IsStoreAt (S.Store.view trees).shape
-        → IsChecked (S.Store.view reader.trees.store) × (take 9 ((S.Store.view reader.trees.store).trees catalog_tree) ≡ table_listings)) }
+        → IsCheckedStore (S.Store.view reader.trees.store)) }
     ensures look { IfOk result (λ reader. IsClean (S.Store.view reader.trees.store) → IsLook (S.Store.view reader.trees.store).trees reader.look) }
     ensures added { IfOk result (λ reader. IsClean (S.Store.view reader.trees.store) → HasWholeAdded (S.Store.view reader.trees.store).trees) }
 {

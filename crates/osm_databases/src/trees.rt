@@ -116,12 +116,12 @@ pub fn connection_in<D: Disk + Drop>(
     let options = options(rt, pages)?;
     match Connection::open_files(rt.alloc(), files, options) {
         Ok(connection) => Ok(connection),
-        Err((error, _)) => Err(unopened(error)),
+        Err((error, _)) => Err(sql_refusal(error)),
     }
 }
 
 /// Why SQL doesn't open a database: memory was refused, or any other cause.
-fn unopened(error: SqlError) -> Refusal {
+fn sql_refusal(error: SqlError) -> Refusal {
     match error {
         SqlError::SqliteFailure(ErrorCode::OutOfMemory) => StoreFault::Memory.into(),
         _ => Refusal {

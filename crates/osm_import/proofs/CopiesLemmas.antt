@@ -8,7 +8,7 @@ use Rattle.std.proofs.lemmas.Bool.Decides.{eqb_tells}
 use Rattle.osm_rows.specs.Held.{Blob, HeldMap, HaveFewTexts, IsApart, IsFree}
 use Rattle.osm_value.specs.declared.element.Element.{Element}
 use Rattle.osm_rows.specs.HeldLaws.{get-insert_other, IsFree-unheld}
-use Rattle.osm_rows.specs.declared.keeper.Reader.{Ghosts}
+use Rattle.osm_rows.specs.declared.keeper.BlobReader.{Ghosts}
 use Rattle.osm_rows.specs.declared.keeper.Extent.{Extent}
 use Rattle.osm_import.specs.Copies.{BlobCopied, AreCounted, is_added, is_met}
 use Rattle.osm_import.specs.Stores.{CopiesOne, CopiesEach, HoldsStill, Keeps, KeepsHeld}

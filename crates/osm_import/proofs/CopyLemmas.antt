@@ -1,9 +1,8 @@
 -- From the copies of single blobs to the copy of a map.
-use Rattle.std.proofs.Common.{◌≡◌, ◌≢◌, ◌⊎◌, ℕ, suc, zero, ◌+◌, ◌<◌, ◌≤◌, true, List, [], ◌∷◌, ◌++◌, map, length, take, get_or, Option, Result, Some, None, Ok, Err, cond, is_some, add-one, sym, ◌∙◌, ap, subst, inl, inr, arith}
+use Rattle.std.proofs.Common.{◌≡◌, ◌≢◌, ◌⊎◌, ℕ, suc, zero, ◌+◌, ◌<◌, ◌≤◌, true, List, [], ◌∷◌, ◌++◌, map, length, take, get_or, Option, Some, None, Ok, Err, cond, is_some, add-one, sym, ◌∙◌, ap, subst, inl, inr, arith}
 use Rattle.std.specs.FinMap as finite
 use Rattle.std.specs.FinMap.{get, insert, entries, get-entries, entries_sorted, is_sorted}
 use Rattle.std.specs.Ordering.{nat_cmp}
-use Rattle.std.specs.Prelude.{IfErr}
 use Rattle.std.proofs.lemmas.Bool.Decides.{eqb_tells}
 use Rattle.std.proofs.lemmas.List.{take_all, take_more, length-map}
 use Rattle.osm_rows.specs.Held.{Blob, HeldMap, IsFree, IsApart}
@@ -16,13 +15,12 @@ use Rattle.osm_import.specs.Step.{HasCause}
 use Rattle.osm_import.specs.declared.answer.Conflict.TheVariants.{Differs, Overlap}
 use Rattle.osm_import.specs.declared.copy.CopyFault.{CopyFault}
 use Rattle.osm_import.specs.declared.copy.CopyFault.TheVariants.{Refused, Spoiled, Store}
-use Rattle.osm_import.specs.declared.copy.CopyStop.{CopyStop}
-use Rattle.osm_import.specs.declared.copy.CopyCounts.{CopyCounts}
 use Rattle.osm_import.specs.declared.copy.BlobCopy.{BlobCopy}
 use Rattle.osm_import.specs.declared.copy.BlobCopy.TheVariants.{Added, AlreadyHeld}
-use Rattle.osm_import.specs.Copies.{IsMerged, IsUnited, IsUnitedBelow, IsMet, held_among, IsCopyStep, CopiesBlob, Stops, FaultIsCaused, FaultTells}
-use Rattle.osm_import.proofs.Touching.{Meets, touching-meets, find-cons, find-tail, find-head, sorted-tail}
-use Rattle.osm_import.proofs.Delivering.{true-of, AreTouching, both-held, none-held, not-held}
+use Rattle.osm_import.specs.Places.{IsMet}
+use Rattle.osm_import.specs.Copies.{IsMerged, IsUnited, IsUnitedBelow, held_among, IsCopyStep, CopiesBlob, Stops, FaultIsCaused, FaultTells}
+use Rattle.osm_import.proofs.Touching.{find-cons, find-tail, find-head, sorted-tail}
+use Rattle.osm_import.proofs.Delivering.{true-of, both-held, none-held, not-held}
 
 -- ---- which offsets were taken
 
@@ -212,12 +210,6 @@ pub blob_put : (off : ℕ) (x : Extent) (blob : Blob) (elements : List Element) 
     → (record { fin = x.fin; digest = x.digest; kind = x.kind; elements = elements }) ≡ blob
 blob_put off x blob elements same are = λ i. record { fin = (same i).fin; digest = (same i).digest; kind = (same i).kind; elements = are i }
 
--- where an extent touches, something held meets the range
-pub met_of : (held : HeldMap) (off fin : ℕ) (extents : List Extent) → AreTouching held off fin extents → 0 < length extents → IsMet held off fin
-met_of held off fin extents are some =
-    let met : Meets (entries held) off fin = touching-meets off fin (entries held) (true-of _ (entries_sorted held)) (omega (arith, ap length are)) in
-    record { at = met.at; blob = met.blob; found = get-entries held met.at ∙ met.found; starts = met.starts; ends = met.ends }
-
 -- ---- one blob more
 
 pub merged_step : (P : ℕ → Type 0) (source held middle after : HeldMap) (o : ℕ) (blob : Blob) (answer : BlobCopy) → IsMerged P source held middle → IsApart middle → o < blob.fin → get source o ≡ Some blob
@@ -323,9 +315,3 @@ held_by source held middle after extents i x blob AlreadyHeld are within is m ap
       let below = front_below (entries source) (true-of _ (entries_sorted source)) i x (subst (λ (xs : List Extent). i < length xs) are within) (is ∙ ap (λ (xs : List Extent). get_or xs i x) are) x.off blob (sym (get-entries source x.off) ∙ of) in
       let low : x.off < x.off = below.0 (subst (λ (xs : List Extent). IsAt (take i xs) x.off) are taken) in absurd (omega arith)
 ]
-
--- a copy that stopped at a blob of the source stopped there or at 0
-pub reached_at : (source : HeldMap) (result : Result CopyCounts CopyStop) → IfErr result (λ (stop : CopyStop). (blob : Blob) × (get source stop.off ≡ Some blob))
-    → IfErr result (λ (stop : CopyStop). (stop.off ≡ 0) ⊎ ((blob : Blob) × (get source stop.off ≡ Some blob)))
-reached_at source (Ok counts) at = tt
-reached_at source (Err stop) at = inr at

@@ -9,9 +9,14 @@ use Rattle.pbf_frame.specs.declared.kind.Kind.{Kind}
 use Rattle.pbf_frame.specs.declared.kind.Kind.TheVariants.{OsmHeader, OsmData, Other}
 use Rattle.osm_rows.specs.Held.{Blob, HeldMap, IsFree, IsApart, HaveFewTexts}
 use Rattle.osm_rows.specs.HeldLaws.{IsFree-unheld}
-use Rattle.osm_rows.specs.Keeping.{IsAddable, touches, extents_of, extent_of}
+use Rattle.osm_rows.specs.Keeping.{touches, extents_of, extent_of}
 use Rattle.osm_rows.specs.declared.keeper.Extent.{Extent}
-use Rattle.osm_import.specs.Step.{IsEntry, IsHeldAlready, IsHeldOtherwise, IsOverlapping, IsStoring}
+use Rattle.osm_import.specs.Places.{IsMet, IsPlaceOf}
+use Rattle.osm_import.specs.Step.{IsEntry, IsStep, IsStoring}
+use Rattle.osm_import.specs.declared.answer.Answer.TheVariants.{AlreadyHeld, Refused}
+use Rattle.osm_import.specs.declared.answer.Conflict.{Conflict}
+use Rattle.osm_import.specs.declared.answer.Conflict.TheVariants.{Differs, Overlap}
+use Rattle.osm_import.specs.declared.place.Place.TheVariants as places
 use Rattle.osm_reading.proofs.GoodLaws.{frame-filled}
 use Rattle.osm_import.proofs.FewTexts.{block_uses_few_texts}
 use Rattle.osm_import.proofs.Touching.{extent_found, find_touching, free-none, touching-meets, Meets}
@@ -76,45 +81,15 @@ pub free-of : (held : HeldMap) (off fin : ℕ) (extents : List Extent) → AreTo
 free-of held off fin extents are none at blob is =
     free-none off fin (entries held) (sym are ∙ none_of extents none) at blob (sym (get-entries held at) ∙ is)
 
--- where no extent touches its own, a blob of few texts can be taken
-pub addable : (held : HeldMap) (off fin : ℕ) (extents : List Extent) (digest : List ℕ) (kind : Kind) (stored elements : List Element) → AreTouching held off fin extents → length extents ≡ 0
-    → stored ≡ elements → HaveFewTexts elements → IsAddable held off (record { fin = fin; digest = digest; kind = kind; elements = stored })
-addable held off fin extents digest kind stored elements are none same few =
-    record { free = free-of held off fin extents are none; few_texts = subst (λ (es : List Element). HaveFewTexts es) (sym same) few }
-
-pub held_already : (held : HeldMap) (off : ℕ) (frame : List ℕ) (kind : Kind) (elements : List Element) (extents : List Extent) (extent : Extent)
-    → IsGood off frame kind elements → IsApart held → AreTouching held off (off + length frame) extents
-    → Some extent ≡ find (λ (extent : Extent). extent.off == off) extents → extent.digest ≡ sha256 frame → IsHeldAlready held off frame
-held_already held off frame kind elements extents extent good apart are is same =
-    let it = found-at held off (off + length frame) extents extent apart (good-filled off frame kind elements good) are is in
-    record { entry = entry_at off frame kind elements; is_entry = entry_at-is off frame kind elements good; blob = it.0; found = it.1; same = sym it.2 ∙ same }
-
-pub held_otherwise : (held : HeldMap) (off : ℕ) (frame : List ℕ) (kind : Kind) (elements : List Element) (extents : List Extent) (extent : Extent)
-    → IsGood off frame kind elements → IsApart held → AreTouching held off (off + length frame) extents
-    → Some extent ≡ find (λ (extent : Extent). extent.off == off) extents → extent.digest ≢ sha256 frame → IsHeldOtherwise held off frame
-held_otherwise held off frame kind elements extents extent good apart are is differs =
-    let it = found-at held off (off + length frame) extents extent apart (good-filled off frame kind elements good) are is in
-    record { entry = entry_at off frame kind elements; is_entry = entry_at-is off frame kind elements good; blob = it.0; found = it.1; other = λ same. differs (it.2 ∙ same) }
-
 pub true-of : (b : Bool) → T b → b ≡ true
 true-of true h = refl
 true-of false h = absurd h
 
-pub overlapping : (held : HeldMap) (off : ℕ) (frame : List ℕ) (kind : Kind) (elements : List Element) (extents : List Extent)
-    → IsGood off frame kind elements → IsApart held → AreTouching held off (off + length frame) extents
-    → ((extent : Extent) → find (λ (extent : Extent). extent.off == off) extents ≢ Some extent) → 0 < length extents → IsOverlapping held off frame
-overlapping held off frame kind elements extents good apart are none some =
-    let met : Meets (entries held) off (off + length frame) = touching-meets off (off + length frame) (entries held) (true-of _ (entries_sorted held)) (omega (arith, ap length are)) in
-    record {
-      entry = entry_at off frame kind elements;
-      is_entry = entry_at-is off frame kind elements good;
-      unheld = unheld-at held off (off + length frame) extents apart (good-filled off frame kind elements good) are none;
-      at = met.at;
-      blob = met.blob;
-      found = get-entries held met.at ∙ met.found;
-      starts = met.starts;
-      ends = met.ends;
-    }
+-- where an extent touches, something held meets the range
+pub met-of : (held : HeldMap) (off fin : ℕ) (extents : List Extent) → AreTouching held off fin extents → 0 < length extents → IsMet held off fin
+met-of held off fin extents are some =
+    let met : Meets (entries held) off fin = touching-meets off fin (entries held) (true-of _ (entries_sorted held)) (omega (arith, ap length are)) in
+    record { at = met.at; blob = met.blob; found = get-entries held met.at ∙ met.found; starts = met.starts; ends = met.ends }
 
 pub both-held : (held : HeldMap) (off : ℕ) (a b : Blob) → get held off ≡ Some a → get held off ≡ Some b → a ≡ b
 both-held held off a b x y = let e : Some a ≡ Some b = sym x ∙ y in cc
@@ -137,3 +112,17 @@ storing held off frame kind elements stored digest count after good same digeste
   counted = counted;
   added = added;
 }
+
+-- what a place that isn't free says of a good delivery
+pub held_already : (held : HeldMap) (off : ℕ) (frame : List ℕ) (kind : Kind) (elements : List Element) (digest : List ℕ) → IsGood off frame kind elements → digest ≡ sha256 frame
+    → IsPlaceOf held off (off + length frame) digest places.Held → IsStep held off frame AlreadyHeld held
+held_already held off frame kind elements digest good digested place =
+    (record { entry = entry_at off frame kind elements; is_entry = entry_at-is off frame kind elements good; blob = place.0; found = place.1; same = place.2 ∙ digested }, refl)
+
+pub refused_there : (held : HeldMap) (off : ℕ) (frame : List ℕ) (kind : Kind) (elements : List Element) (digest : List ℕ) (conflict : Conflict) → IsGood off frame kind elements → digest ≡ sha256 frame
+    → IsPlaceOf held off (off + length frame) digest (places.Taken conflict) → IsStep held off frame (Refused conflict) held
+refused_there held off frame kind elements digest Differs good digested place =
+    (record { entry = entry_at off frame kind elements; is_entry = entry_at-is off frame kind elements good; blob = place.0; found = place.1; other = λ same. place.2 (same ∙ sym digested) }, refl)
+refused_there held off frame kind elements digest Overlap good digested place =
+    let met = place.1 in
+    (record { entry = entry_at off frame kind elements; is_entry = entry_at-is off frame kind elements good; unheld = place.0; at = met.at; blob = met.blob; found = met.found; starts = met.starts; ends = met.ends }, refl)

@@ -1,4 +1,6 @@
 pub mod Delivering
+pub mod Taking
+pub mod Copying
 pub mod PbfLemmas
 pub mod PbfFile
 pub mod ExportLemmas

@@ -1,7 +1,7 @@
 -- Deliveries that go on after a fault, and what a crash leaves of them.
 use Rattle.std.proofs.Common.{◌≡◌, ◌⊎◌, List, [], ◌∷◌, refl, sym, subst, inl, inr}
 use Rattle.osm_rows.specs.Held.{HeldMap}
-use Rattle.osm_rows.specs.declared.keeper.Reader.{Ghosts}
+use Rattle.osm_rows.specs.declared.keeper.BlobReader.{Ghosts}
 use Rattle.osm_import.specs.Deliveries.{DeliveryValue}
 use Rattle.osm_import.specs.Runs.{IsStored, IsNone, Runs, ShutAfter, LeavesAfterAll}
 use Rattle.osm_import.specs.Step.{IsStep}

@@ -1,7 +1,7 @@
 -- One more delivery of a stream.
 use Rattle.std.proofs.Common.{◌≡◌, ℕ, List, [], ◌∷◌, ◌++◌, refl, inl, inr, arith}
 use Rattle.osm_rows.specs.Held.{HeldMap}
-use Rattle.osm_rows.specs.declared.keeper.Reader.{Ghosts}
+use Rattle.osm_rows.specs.declared.keeper.BlobReader.{Ghosts}
 use Rattle.osm_import.specs.Deliveries.{DeliveryValue}
 use Rattle.osm_import.specs.Runs.{IsFault, IsNone}
 use Rattle.osm_import.specs.Stores.{Takes, TakesEach, TakesOne}

@@ -3,6 +3,7 @@ pub mod ExportCauses
 pub mod Exports
 pub mod Files
 pub mod Gaps
+pub mod Places
 pub mod Histories
 pub mod FileHistories
 pub mod Runs

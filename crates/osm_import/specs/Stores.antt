@@ -1,17 +1,18 @@
 -- What calls do to a store, in the terms of what is said of one.
-use Rattle.std.specs.Prelude.{◌≡◌, ℕ, ◌≤◌, false, List, [], ◌∷◌, length, Some, Result, Ok, Err, OnOk, OnErr}
+use Rattle.std.specs.Prelude.{◌≡◌, ◌⊎◌, ℕ, ◌≤◌, false, List, [], ◌∷◌, length, Some, Result, Ok, Err, OnOk, OnErr, IfOk, IfErr}
 use Rattle.std.specs.FinMap.{get}
 use Rattle.osm_value.specs.declared.element.Element.{Element}
 use Rattle.osm_rows.specs.Held.{Blob, HeldMap, IsFree}
 use Rattle.osm_rows.specs.Calls.{OfHeld}
 use Rattle.osm_rows.specs.Keeping.{KeepsList, extent_of, with_blob}
 use Rattle.osm_rows.specs.declared.keeper.Extent.{Extent}
-use Rattle.osm_rows.specs.declared.keeper.Reader.{Ghosts}
-use Rattle.osm_import.specs.Copies.{BlobCopied, CopiesBlob, CrashLeavesBlob, BlobHasCause, BlobTells, IsOwnBlob, ComeTo, is_added}
+use Rattle.osm_rows.specs.declared.keeper.BlobReader.{Ghosts}
+use Rattle.osm_import.specs.Copies.{BlobCopied, CopiesBlob, Copies, CrashLeavesBlob, CrashLeavesSome, BlobHasCause, BlobTells, CopyHasCause, CopyTells, IsOwnBlob, IsOwnCopy, ComeTo, is_added}
 use Rattle.osm_import.specs.Deliveries.{DeliveryValue}
+use Rattle.osm_import.specs.Files.{AreFrames, AreOfFile, IsHeldOfFile}
 use Rattle.osm_import.specs.Step.{Delivers, CrashLeaves, FaultHasCause, IsOwn}
 use Rattle.osm_import.specs.Histories.{LeavesEvents}
-use Rattle.osm_import.specs.Runs.{Runs, LeavesAfter, HaveCauses, AreOwn, IsFault, IsNone, IsStored, StaysShut}
+use Rattle.osm_import.specs.Runs.{Runs, Imports, LeavesAfter, LeavesAfterAll, HaveCauses, AreOwn, IsFirstFaultOwn, IsFault, IsNone, IsStored, StaysShut}
 use Rattle.osm_import.specs.declared.answer.Answer.{Answer}
 use Rattle.osm_import.specs.declared.copy.BlobCopy.TheVariants.{Added, AlreadyHeld}
 use Rattle.osm_import.specs.declared.copy.CopyCounts.{CopyCounts}
@@ -57,6 +58,28 @@ pub record Takes {S : Type 0} (store : Ghosts S) (old new : S) (deliveries : Lis
   pub honest : store.is_honest new → store.is_honest old
   pub open_if : store.is_open new → store.is_open old
   pub counted : store.failures old ≤ store.failures new
+
+-- What a list of deliveries has done, over any answers, faults among them.
+pub record TakesAll {S : Type 0} (store : Ghosts S) (old new : S) (deliveries : List DeliveryValue) (answers : List Answer) : Type 0 where
+  -- Each delivery is one that `deliver` may have made, of the store that the one before has left. So one that isn't stored
+  -- leaves the tables, whatever rows they have, also beside others that are; and where none is, they are as they were.
+  pub each : TakesEach store old new deliveries answers
+  pub same : store.is_honest new → store.is_open new → IsNone IsStored answers → store.same_tables old new
+  -- each answer is that of its step, and the store holds what the steps leave, also where nothing is known of its being open
+  -- but that no answer is a fault
+  pub run : OfHeld store old new (λ held. store.is_open new ⊎ IsNone IsFault answers → Runs (store.holds new) held deliveries answers)
+  -- over one file the store holds the union of what was answered Stored, each once, and nothing is refused
+  pub one_file : (held : HeldMap) (frames : List (List ℕ)) → store.holds old held → store.is_honest new → AreFrames frames → AreOfFile frames deliveries → IsHeldOfFile frames held
+      → store.is_open new ⊎ IsNone IsFault answers → Imports (store.holds new) frames held deliveries answers
+  -- what a crash may leave, also behind a fault that has shut the store
+  pub crash : OfHeld store old new (λ held. LeavesAfterAll (store.leaves new) held deliveries answers)
+  pub whole : OfHeld store old new (λ _. store.leaves_a_map new)
+  -- why faults are answered: each has a cause of its own, and the first never says that the tables are another store's
+  pub first_own : OfHeld store old new (λ _. IsFirstFaultOwn answers)
+  pub own : OfHeld store old new (λ _. store.is_open new ⊎ IsNone IsFault answers → AreOwn answers)
+  pub cause : HaveCauses (store.failures old) (store.failures new) answers
+  pub honest : store.is_honest new → store.is_honest old
+  pub open_if : store.is_open new → store.is_open old
 
 -- Whatever a call answered, the store keeps what it holds, if it can go on, and what a crash may leave.
 pub record Stays {S : Type 0} (store : Ghosts S) (old new : S) : Type 0 where
@@ -137,3 +160,28 @@ pub record CopiesInTurn {F T : Type 0} (from : Ghosts F) (to : Ghosts T) (first 
   pub copies : List BlobCopied
   pub each : CopiesEach from to listed last old new copies
   pub come : ComeTo copies result
+
+-- The copy of all blobs of a store, which is this of the map that it holds.
+pub record CopiesAll {F T : Type 0} (from : Ghosts F) (to : Ghosts T) (IsSource : HeldMap → Type 0) (first last : F) (old new : T) (result : Result CopyCounts CopyStop) : Type 0 where
+  pub copies : (source held : HeldMap) → IsSource source → from.is_honest last → to.holds old held → to.is_honest new → Copies (to.is_open new) (to.holds new) source held result
+  -- it stops at a blob of the first store, or at 0 before the first
+  pub reached : (source : HeldMap) → IsSource source → from.is_honest last → IfErr result (λ stop. (stop.off ≡ 0) ⊎ ((blob : Blob) × (get source stop.off ≡ Some blob)))
+  -- what a crash may leave now
+  pub crash : (source held : HeldMap) → IsSource source → from.is_honest last → to.holds old held → to.is_honest new → CrashLeavesSome (to.leaves new) source held result
+  -- what the other store held stays, whatever the first one holds and gives
+  pub kept : OfHeld to old new (λ held. KeepsHeld to new result held)
+  pub whole : OfHeld to old new (λ _. to.leaves_a_map new)
+  pub list : OfHeld to old new (λ _. KeepsList to.lists old new)
+  -- what the first store holds stays
+  pub source : Rereads from first result last
+  -- why a fault is answered
+  pub own : (source held : HeldMap) → IsSource source → from.is_honest last → to.holds old held → to.is_honest new → IsOwnCopy result
+  pub cause : CopyHasCause (from.failures first) (from.failures last) (to.failures old) (to.failures new) result
+  pub told : CopyTells (from.failures first) (from.failures last) (to.failures old) (to.failures new) result
+  pub honest : to.is_honest new → to.is_honest old
+  pub open_if : to.is_open new → to.is_open old
+  -- The copy of a blob that isn't added leaves the other's tables, whatever rows they have, also beside others that are. So
+  -- where nothing is copied they are as they were.
+  pub each : CopiesInTurn from to first last old new result
+  pub same : to.is_honest new → to.is_open new → IfOk result (λ counts. counts.copied ≡ 0 → to.same_tables old new)
+  pub counted : (from.failures first ≤ from.failures last) × (to.failures old ≤ to.failures new)

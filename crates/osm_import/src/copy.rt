@@ -1,20 +1,19 @@
 //! Copies of held blobs from one store into another.
 
-ghost use Rattle.std.specs.Prelude.{◌≡◌, ◌⊎◌, ◌≤◌, false, List, Some, All, IfOk, IfErr};
-ghost use Rattle.std.specs.FinMap.{get};
-ghost use Rattle.osm_rows.specs.Calls.{OfHeld};
-ghost use Rattle.osm_rows.specs.Held.{Blob, HeldMap};
-ghost use Rattle.osm_rows.specs.Keeping.{IsRange, KeepsList, extent_of, extents_of};
-ghost use Rattle.osm_import.specs.Copies.{BlobCopied, CopiesBlob, Copies, CrashLeavesBlob, CrashLeavesSome, BlobHasCause, CopyHasCause, BlobTells, CopyTells, IsOwnBlob, IsOwnCopy, ComeTo, is_added};
+ghost use Rattle.std.specs.Prelude.{◌≡◌, ◌⊎◌, length, All, IfOk, IfErr, MatchResult};
+ghost use Rattle.osm_rows.specs.Held.{Blob, HaveFewTexts};
+ghost use Rattle.osm_rows.specs.Keeping.{IsRange, extents_of};
+ghost use Rattle.osm_rows.specs.Load.Loading.{HasRowsOf};
 ghost use Rattle.osm_rows.specs.declared.fault.StoreFault.TheVariants.{Memory};
-ghost use Rattle.osm_import.specs.declared.copy.CopyFault.TheVariants.{Store};
+ghost use Rattle.osm_import.specs.declared.copy.CopyFault.TheVariants.{Spoiled, Store};
 ghost use Rattle.osm_import.specs.CopyFaults.{copy_number_of, copy_name_of};
-ghost use Rattle.osm_import.specs.Stores.{AddsComplete, CopiesEach, CopiesInTurn, KeepsHeld, Rereads};
+ghost use Rattle.osm_import.specs.Stores.{CopiesAll, CopiesOne};
 
 use crate::answer::Conflict;
-use crate::delivery::extent_at;
 use crate::few_texts::have_few_texts;
-use osm_rows::{Extent, Keeper, Reader, StoreFault};
+use crate::place::{Place, place_of};
+use osm_rows::{BlobKeeper, BlobReader, Extent, Loaded, StoreFault};
+use osm_value::Element;
 use std::alloc::{AllocError, Global};
 use thiserror::Error;
 
@@ -97,45 +96,17 @@ pub enum BlobCopy {
     AlreadyHeld,
 }
 
-/// Copies the blob at an extent of the first store, unless the other holds its offset with its digest. The digest comes
-/// first, so that a blob that is held costs no reading of its rows. A blob that is added has as many elements as the
-/// extent says, and each uses as few texts as `put` asks for.
-fn copy_blob<F: Reader, T: Keeper>(
+/// The elements that were loaded, if they are as many as the extent says, and each uses as few texts as `put` asks for.
+fn complete_elements<'a>(
     alloc: Global,
-    from: &mut F,
-    to: &mut T,
+    loaded: &'a Loaded,
     extent: &Extent,
-) -> Result<BlobCopy, CopyFault>
-    requires range { IsRange extent.now }
-    ensures step { (source held : HeldMap) (blob : Blob) → F.holds from.old source → F.is_honest from.new → T.holds to.old held → T.is_honest to.new
-        → get source extent.now.off ≡ Some blob → extent.now ≡ extent_of (extent.now.off, blob) → CopiesBlob (T.is_open to.new) (T.holds to.new) held extent.now.off blob result }
-    ensures crash { (source held : HeldMap) (blob : Blob) → F.holds from.old source → F.is_honest from.new → T.holds to.old held → T.is_honest to.new
-        → get source extent.now.off ≡ Some blob → extent.now ≡ extent_of (extent.now.off, blob) → CrashLeavesBlob (T.leaves to.new) held extent.now.off blob }
-    ensures kept { OfHeld T.Reader to.old to.new (λ held. KeepsHeld T.Reader to.new result held) }
-    ensures whole { OfHeld T.Reader to.old to.new (λ _. T.leaves_a_map to.new) }
-    ensures list { OfHeld T.Reader to.old to.new (λ _. KeepsList T.lists to.old to.new) }
-    ensures own { (source held : HeldMap) (blob : Blob) → F.holds from.old source → F.is_honest from.new → T.holds to.old held → T.is_honest to.new
-        → get source extent.now.off ≡ Some blob → extent.now ≡ extent_of (extent.now.off, blob) → IsOwnBlob result }
-    ensures source { Rereads F.Reader from.old result from.new }
-    ensures cause { BlobHasCause (F.failures from.old) (F.failures from.new) (T.failures to.old) (T.failures to.new) result }
-    ensures told { BlobTells (F.failures from.old) (F.failures from.new) (T.failures to.old) (T.failures to.new) result }
-    ensures honest { T.is_honest to.new → T.is_honest to.old }
-    ensures open_if { T.is_open to.new → T.is_open to.old }
-    ensures same { T.is_honest to.new → T.is_open to.new → is_added (extent.now, result) ≡ false → T.same_tables to.old to.new }
-    ensures complete { AddsComplete T.Reader to.old to.new (extent.now, result) }
-    ensures counted { (F.failures from.old ≤ F.failures from.new) × (T.failures to.old ≤ T.failures to.new) }
+) -> Result<Vec<Element<'a>>, CopyFault>
+    ensures complete { IfOk result (λ elements. (length elements.items ≡ extent.now.n) × HaveFewTexts elements.items) }
+    ensures held { (blob : Blob) → HasRowsOf loaded.now blob.elements → HaveFewTexts blob.elements → extent.now.n ≡ length blob.elements
+        → MatchResult result (λ elements. elements.items ≡ blob.elements) (λ fault. fault ≡ Store Memory) }
+    ensures fault { IfErr result (λ fault. (fault ≡ Spoiled) ⊎ (fault ≡ Store Memory)) }
 {
-    let touched = to.extents_touching(alloc, extent.off, extent.fin)?;
-    if let Some(found) = extent_at(&touched, extent.off) {
-        if found.digest == extent.digest {
-            return Ok(BlobCopy::AlreadyHeld);
-        }
-        return Err(CopyFault::Refused(Conflict::Differs));
-    }
-    if !touched.is_empty() {
-        return Err(CopyFault::Refused(Conflict::Overlap));
-    }
-    let loaded = from.load(alloc, extent.off)?;
     let Some(elements) = loaded.elements(alloc)? else {
         return Err(CopyFault::Spoiled);
     };
@@ -146,6 +117,28 @@ fn copy_blob<F: Reader, T: Keeper>(
     if !few {
         return Err(CopyFault::Spoiled);
     }
+    Ok(elements)
+}
+
+/// Copies the blob at an extent of the first store, unless the other holds its offset with its digest. The digest comes
+/// first, so that a blob that is held costs no reading of its rows.
+fn copy_blob<F: BlobReader, T: BlobKeeper>(
+    alloc: Global,
+    from: &mut F,
+    to: &mut T,
+    extent: &Extent,
+) -> Result<BlobCopy, CopyFault>
+    requires { IsRange extent.now }
+    ensures { CopiesOne F.BlobReader T.BlobReader from.old from.new to.old to.new (extent.now, result) }
+{
+    let place = place_of(alloc, to, extent.off, extent.fin, &extent.digest)?;
+    match place {
+        Place::Held => return Ok(BlobCopy::AlreadyHeld),
+        Place::Taken(conflict) => return Err(CopyFault::Refused(conflict)),
+        Place::Free => {}
+    }
+    let loaded = from.load(alloc, extent.off)?;
+    let elements = complete_elements(alloc, &loaded, extent)?;
     match to.put(
         alloc,
         extent.off,
@@ -160,30 +153,14 @@ fn copy_blob<F: Reader, T: Keeper>(
 }
 
 /// Copies the blobs at these extents, which are all of the first store.
-fn copy_blobs<F: Reader, T: Keeper>(
+fn copy_blobs<F: BlobReader, T: BlobKeeper>(
     alloc: Global,
     from: &mut F,
     to: &mut T,
     extents: &[Extent],
 ) -> Result<CopyCounts, CopyStop>
-    requires ranges { All IsRange extents.now }
-    ensures copies { (source held : HeldMap) → F.holds from.old source → F.is_honest from.new → T.holds to.old held → T.is_honest to.new → extents.now ≡ extents_of source
-        → Copies (T.is_open to.new) (T.holds to.new) source held result }
-    ensures crash { (source held : HeldMap) → F.holds from.old source → F.is_honest from.new → T.holds to.old held → T.is_honest to.new → extents.now ≡ extents_of source
-        → CrashLeavesSome (T.leaves to.new) source held result }
-    ensures kept { OfHeld T.Reader to.old to.new (λ held. KeepsHeld T.Reader to.new result held) }
-    ensures whole { OfHeld T.Reader to.old to.new (λ _. T.leaves_a_map to.new) }
-    ensures list { OfHeld T.Reader to.old to.new (λ _. KeepsList T.lists to.old to.new) }
-    ensures own { (source held : HeldMap) → F.holds from.old source → F.is_honest from.new → T.holds to.old held → T.is_honest to.new → extents.now ≡ extents_of source → IsOwnCopy result }
-    ensures reached { (source : HeldMap) → extents.now ≡ extents_of source → IfErr result (λ stop. (blob : Blob) × (get source stop.off ≡ Some blob)) }
-    ensures source { Rereads F.Reader from.old result from.new }
-    ensures cause { CopyHasCause (F.failures from.old) (F.failures from.new) (T.failures to.old) (T.failures to.new) result }
-    ensures told { CopyTells (F.failures from.old) (F.failures from.new) (T.failures to.old) (T.failures to.new) result }
-    ensures honest { T.is_honest to.new → T.is_honest to.old }
-    ensures open_if { T.is_open to.new → T.is_open to.old }
-    ensures each { (copies : List BlobCopied) × CopiesEach F.Reader T.Reader from.old from.new to.old to.new copies × ComeTo copies result }
-    ensures same { T.is_honest to.new → T.is_open to.new → IfOk result (λ counts. counts.copied ≡ 0 → T.same_tables to.old to.new) }
-    ensures counted { (F.failures from.old ≤ F.failures from.new) × (T.failures to.old ≤ T.failures to.new) }
+    requires { All IsRange extents.now }
+    ensures { CopiesAll F.BlobReader T.BlobReader (λ source. F.holds from.old source × (extents.now ≡ extents_of source)) from.old from.new to.old to.new result }
 {
     let mut copied = 0;
     let mut held = 0;
@@ -217,42 +194,12 @@ fn copy_blobs<F: Reader, T: Keeper>(
 /// where a call of either store has failed or memory was refused. A crash, and a `Store` after which the other store has to
 /// be opened again, leave what was held with the blobs below some offset; a crash after `Ok` leaves all of them. Whatever
 /// rows the first store has, what the other held stays, also after a crash.
-pub fn copy_held<F: Reader, T: Keeper>(
+pub fn copy_held<F: BlobReader, T: BlobKeeper>(
     alloc: Global,
     from: &mut F,
     to: &mut T,
 ) -> Result<CopyCounts, CopyStop>
-    ensures copies { (source held : HeldMap) → F.holds from.old source → F.is_honest from.new → T.holds to.old held → T.is_honest to.new
-        → Copies (T.is_open to.new) (T.holds to.new) source held result }
-
-    // It stops at a blob of the first store, or at 0 before the first.
-    ensures reached { (source : HeldMap) → F.holds from.old source → F.is_honest from.new
-        → IfErr result (λ stop. (stop.off ≡ 0) ⊎ ((blob : Blob) × (get source stop.off ≡ Some blob))) }
-
-    // What a crash may leave now.
-    ensures crash { (source held : HeldMap) → F.holds from.old source → F.is_honest from.new → T.holds to.old held → T.is_honest to.new
-        → CrashLeavesSome (T.leaves to.new) source held result }
-
-    // What the other store held stays, whatever the first one holds and gives.
-    ensures kept { OfHeld T.Reader to.old to.new (λ held. KeepsHeld T.Reader to.new result held) }
-    ensures whole { OfHeld T.Reader to.old to.new (λ _. T.leaves_a_map to.new) }
-    ensures list { OfHeld T.Reader to.old to.new (λ _. KeepsList T.lists to.old to.new) }
-
-    // What the first store holds stays.
-    ensures source { Rereads F.Reader from.old result from.new }
-
-    // Why a fault is answered.
-    ensures own { (source held : HeldMap) → F.holds from.old source → F.is_honest from.new → T.holds to.old held → T.is_honest to.new → IsOwnCopy result }
-    ensures cause { CopyHasCause (F.failures from.old) (F.failures from.new) (T.failures to.old) (T.failures to.new) result }
-    ensures told { CopyTells (F.failures from.old) (F.failures from.new) (T.failures to.old) (T.failures to.new) result }
-    ensures honest { T.is_honest to.new → T.is_honest to.old }
-    ensures open_if { T.is_open to.new → T.is_open to.old }
-
-    // The copy of a blob that isn't added leaves the other's tables, whatever rows they have, also beside others that are. So
-    // where nothing is copied they are as they were.
-    ensures each { CopiesInTurn F.Reader T.Reader from.old from.new to.old to.new result }
-    ensures same { T.is_honest to.new → T.is_open to.new → IfOk result (λ counts. counts.copied ≡ 0 → T.same_tables to.old to.new) }
-    ensures counted { (F.failures from.old ≤ F.failures from.new) × (T.failures to.old ≤ T.failures to.new) }
+    ensures { CopiesAll F.BlobReader T.BlobReader (F.holds from.old) from.old from.new to.old to.new result }
 {
     let extents = match from.extents(alloc) {
         Ok(extents) => extents,

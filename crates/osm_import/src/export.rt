@@ -10,4 +10,4 @@ pub use blobs::{BlobStep, write_blobs};
 pub use fault::ExportFault;
 pub use lines::{Lines, export_lines};
 pub use pbf::{Blocks, export_pbf, write_header};
-pub use refusal::{greatest_end, refused};
+pub use refusal::{export_refusal, greatest_end};

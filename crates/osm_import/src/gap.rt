@@ -7,7 +7,7 @@ ghost use Rattle.osm_import.specs.Gaps.{AreGaps, gap_before, ranges_between};
 ghost use Rattle.osm_import.specs.Step.{HasCause};
 ghost use Rattle.osm_import.specs.Stores.{Rereads};
 
-use osm_rows::{Extent, Reader, StoreFault};
+use osm_rows::{BlobReader, Extent, StoreFault};
 use std::alloc::{AllocError, Global};
 
 /// The bytes from `end` to `next`, within the size, if there are any.
@@ -46,14 +46,14 @@ pub fn gaps_between(
 ///
 /// An error is that of a read of the store that has failed, or `Memory` where memory was refused. Over an honest disk,
 /// where the store holds a map, it is never `NotThisStore`.
-pub fn gaps<K: Reader>(
+pub fn gaps<K: BlobReader>(
     alloc: Global,
     keeper: &mut K,
     size: u64,
 ) -> Result<Vec<(u64, u64)>, StoreFault>
-    ensures gaps { OfHeld K.Reader keeper.old keeper.new (λ held. IfOk result (λ gaps. AreGaps held size gaps.items)) }
-    ensures rereads { Rereads K.Reader keeper.old result keeper.new }
-    ensures own { OfHeld K.Reader keeper.old keeper.new (λ _. IfErr result (λ fault. ¬ (IsForeign fault))) }
+    ensures gaps { OfHeld K.BlobReader keeper.old keeper.new (λ held. IfOk result (λ gaps. AreGaps held size gaps.items)) }
+    ensures rereads { Rereads K.BlobReader keeper.old result keeper.new }
+    ensures own { OfHeld K.BlobReader keeper.old keeper.new (λ _. IfErr result (λ fault. ¬ (IsForeign fault))) }
     ensures cause { IfErr result (HasCause (K.failures keeper.old) (K.failures keeper.new)) }
     ensures told { OnOk result (K.failures keeper.new ≡ K.failures keeper.old) }
 {

@@ -10,6 +10,7 @@ mod export;
 mod few_texts;
 mod gap;
 pub mod laws;
+mod place;
 mod stream;
 
 pub use answer::{Answer, Conflict};
@@ -17,7 +18,7 @@ pub use copy::{BlobCopy, CopyCounts, CopyFault, CopyStop, copy_held};
 pub use deliveries::{Delivery, deliver_all};
 pub use delivery::deliver;
 pub use export::{
-    BlobStep, Blocks, ExportFault, Lines, export_lines, export_pbf, greatest_end, refused,
+    BlobStep, Blocks, ExportFault, Lines, export_lines, export_pbf, export_refusal, greatest_end,
     write_blobs, write_header,
 };
 pub use gap::{gaps, gaps_between};

@@ -18,6 +18,7 @@ use Rattle.osm_rows.specs.Rows.{Placed, placed_in, version_row, extent_row, body
 use Rattle.osm_rows.specs.TableRows.{element_rows, tag_rows, link_rows}
 use Rattle.osm_rows.specs.LayoutHolding.{HasRows}
 use Rattle.osm_rows.specs.Schema.Layouts.{schema_of}
+use Rattle.osm_rows.specs.declared.trees.TheConstants.{BLOBS, ELEMENTS, LINKS, META, TAGS}
 
 -- ---- what could be kept
 
@@ -49,12 +50,12 @@ abbrev pub body_row : Placed → Row
 body_row p = body_columns p.0 p.1 (kind_of_element p.2) (id_of_element p.2) (canon (p.2 ∷ []))
 
 abbrev pub HoldElements : Layout → List Placed → Trees → Type 0
-HoldElements Bodies elements db = HasRows (map body_row elements) (db 2)
-HoldElements Tables elements db = HasRows (element_rows elements) (db 2) × HasRows (tag_rows elements) (db 4) × HasRows (link_rows elements) (db 6)
+HoldElements Bodies elements db = HasRows (map body_row elements) (db ELEMENTS)
+HoldElements Tables elements db = HasRows (element_rows elements) (db ELEMENTS) × HasRows (tag_rows elements) (db TAGS) × HasRows (link_rows elements) (db LINKS)
 
 -- the tables have exactly the rows that the map stood for
 pub record TablesHold (layout : Layout) (held : HeldMap) (db : Trees) : Type 0 where
   pub sound : IsSound (schema_of layout) db
-  pub meta : db 0 ≡ version_row layout ∷ []
-  pub blob : db 1 ≡ map extent_row (extents_of held)
+  pub meta : db META ≡ version_row layout ∷ []
+  pub blob : db BLOBS ≡ map extent_row (extents_of held)
   pub elements : HoldElements layout (placed_in held) db

@@ -59,7 +59,7 @@ pub enum Obstacle {
     TwoNames,
     #[error("it has a text that isn't in UTF-8")]
     OtherText,
-    /// An index of somebody's own on one of pbfrow's tables.
+    /// An index of the user's own on one of pbfrow's tables.
     #[error("it has an index that pbfrow doesn't keep up to date")]
     UnkeptIndex,
 }
@@ -231,7 +231,7 @@ fn shows(obstacle: Obstacle, row: &Row) -> bool
 }
 
 /// An obstacle, and the name of the object that is one.
-fn named(alloc: Global, obstacle: Obstacle, name: &[u8]) -> Result<Obstruction, AllocError>
+fn obstruction_of(alloc: Global, obstacle: Obstacle, name: &[u8]) -> Result<Obstruction, AllocError>
     ensures obstacle { IfOk result (λ told. told.obstacle ≡ obstacle) }
     ensures object { IfOk result (λ told. told.object.items ≡ name.now) }
 {
@@ -240,11 +240,11 @@ fn named(alloc: Global, obstacle: Obstacle, name: &[u8]) -> Result<Obstruction, 
 }
 
 /// An obstacle, and the name of the object that a row tells of.
-fn told(alloc: Global, obstacle: Obstacle, row: &Row) -> Result<Obstruction, AllocError>
+fn obstruction_by(alloc: Global, obstacle: Obstacle, row: &Row) -> Result<Obstruction, AllocError>
     ensures obstacle { IfOk result (λ told. told.obstacle ≡ obstacle) }
     ensures object { IfOk result (λ told. told.object.items ≡ spec.name_of row.now) }
 {
-    named(alloc, obstacle, bytes_of(row.get(2)))
+    obstruction_of(alloc, obstacle, bytes_of(row.get(2)))
 }
 
 /// The first row that tells of an obstacle.
@@ -257,7 +257,7 @@ fn first_that_shows(
 {
     for row in rows {
         if shows(obstacle, row) {
-            return Ok(Some(told(alloc, obstacle, row)?));
+            return Ok(Some(obstruction_by(alloc, obstacle, row)?));
         }
     }
     Ok(None)
@@ -281,7 +281,7 @@ fn first_named_twice(alloc: Global, rows: &[Row]) -> Result<Option<Obstruction>,
     for next in 0..rows.len() {
         let row = &rows[next];
         if is_named_before(&rows[..next], row) {
-            return Ok(Some(told(alloc, Obstacle::TwoNames, row)?));
+            return Ok(Some(obstruction_by(alloc, Obstacle::TwoNames, row)?));
         }
     }
     Ok(None)
@@ -301,7 +301,7 @@ fn missing_index(alloc: Global, rows: &[Row]) -> Result<Option<Obstruction>, All
     if has_by_id(rows) {
         Ok(None)
     } else {
-        Ok(Some(named(alloc, Obstacle::ChangedIndex, b"element_by_id")?))
+        Ok(Some(obstruction_of(alloc, Obstacle::ChangedIndex, b"element_by_id")?))
     }
 }
 
@@ -432,11 +432,11 @@ fn unkept(alloc: Global, row: &Row) -> Result<Option<Obstruction>, AllocError>
     ensures { IfOk result (λ found. spec.Tells found (spec.unkept row.now)) }
 {
     if binds_a_store(row) {
-        return Ok(Some(told(alloc, Obstacle::Trigger, row)?));
+        return Ok(Some(obstruction_by(alloc, Obstacle::Trigger, row)?));
     }
     let index = plain_index(alloc, row)?;
     if is_added_index(row) && index.is_none() {
-        Ok(Some(told(alloc, Obstacle::UnkeptIndex, row)?))
+        Ok(Some(obstruction_by(alloc, Obstacle::UnkeptIndex, row)?))
     } else {
         Ok(None)
     }

@@ -60,7 +60,7 @@ pub(crate) fn page_size<D: Disk>(
 }
 
 /// The files as they are before they are opened, with this list of their trees. Their pages end in no sums.
-fn unopened<D: Disk + Drop>(
+fn prepare<D: Disk + Drop>(
     alloc: Global,
     files: Files<D>,
     size: PageSize,
@@ -120,7 +120,7 @@ fn read_rows<D: Disk>(
 
 /// The files with the list of these objects, and of the trees of these rows behind them, if their texts are in UTF-8. Else they
 /// are closed.
-fn listed<'a, D: Disk + Drop>(
+fn with_list<'a, D: Disk + Drop>(
     alloc: Global,
     files: Files<D>,
     size: PageSize,
@@ -141,7 +141,7 @@ fn listed<'a, D: Disk + Drop>(
     let Some(trees) = trees_of(alloc, objects, rows, roots)? else {
         return Ok(None);
     };
-    let it = unopened(alloc, files, size, options, trees.as_slice())?;
+    let it = prepare(alloc, files, size, options, trees.as_slice())?;
     Ok(Some(it))
 }
 
@@ -163,7 +163,7 @@ fn list<D: Disk + Drop>(
         return Ok(None);
     };
     let both = files.close();
-    let Some(new) = listed(
+    let Some(new) = with_list(
         alloc,
         both,
         size,
@@ -199,7 +199,7 @@ pub(crate) fn open_listed<D: Disk + Drop>(
     let Some(size) = page_size(alloc, &mut files)? else {
         return Ok(None);
     };
-    let unlisted = unopened(alloc, files, size, for_the_list(options), &[])?;
+    let unlisted = prepare(alloc, files, size, for_the_list(options), &[])?;
     let Some(listed) = list(alloc, unlisted, size, options, objects)? else {
         return Ok(None);
     };
@@ -229,7 +229,7 @@ pub(crate) fn open_checked<D: Disk + Drop>(
     let Some(size) = page_size(alloc, &mut files)? else {
         return Ok(None);
     };
-    let unlisted = unopened(alloc, files, size, for_the_list(options), &[])?;
+    let unlisted = prepare(alloc, files, size, for_the_list(options), &[])?;
     let Some(listed) = list(alloc, unlisted, size, options, objects)? else {
         return Ok(None);
     };

@@ -1,26 +1,25 @@
 //! The trees of a store that keeps elements in tables.
 
-ghost use Rattle.std.specs.Prelude.{◌≡◌, ◌∷◌, [], ℕ, false, IsTrue, IfOk, IfSome};
+ghost use Rattle.std.specs.Prelude.{◌≡◌, ℕ, IsTrue, IfOk, IfSome};
 ghost use Rattle.sqlite_trees.specs.Objects.{catalog_tree, object_row, text_or_null};
 ghost use Rattle.sqlite_trees.specs.View.{IsClean, IsQuiet};
-ghost use Rattle.sqlite_exec.specs.Calls.{OnlyReads};
 ghost use Rattle.sqlite_store.specs.FileStore.{view, is_shielded};
 ghost use Rattle.sqlite_wal.specs.Files.{seen_image};
 ghost use Rattle.osm_rows.specs.declared.schema.layout.Layout.{Layout};
 ghost use Rattle.osm_rows.specs.Rows.{version_row};
 ghost use Rattle.osm_openings.specs.Asked.{ListsAsAsked};
 ghost use Rattle.osm_openings.specs.Catalog.{listings};
-ghost use Rattle.osm_openings.specs.Opened.{IsOpened};
+ghost use Rattle.osm_openings.specs.Opened.{IsOfThisVersion, IsOpened};
 ghost use Rattle.osm_openings.specs.Presumed.{ArePresumedTables};
 ghost use Rattle.osm_tree_writes.specs.Tables.{table_listing, index_listing, table_listings};
 
 use crate::opening::{open_checked, open_listed};
 use crate::version::has_only;
+use osm_rows::trees::META;
 use osm_rows::{
     CREATE_BLOB, CREATE_ELEMENT, CREATE_ELEMENT_INDEX, CREATE_LINK, CREATE_META, CREATE_TAG,
     TABLE_VERSION,
 };
-use osm_tree_writes::trees::META;
 use sqlite_disk::{Disk, Files};
 use sqlite_pager::Options;
 use sqlite_store::FileStore;
@@ -89,7 +88,7 @@ fn version_row(alloc: Global) -> Result<Row, AllocError>
 /// The store, if the table that names the version names this one alone; it is dropped if not.
 fn of_version<S: Store + Drop>(alloc: Global, mut store: S) -> Result<Option<S>, AllocError>
     ensures { IfOk result (λ found. IfSome found (λ kept. IsQuiet S.Store.view S.Store.faults S.Store.recovers S.Store.is_shielded store kept
-        × (IsClean (S.Store.view kept) → OnlyReads (S.Store.view store) (S.Store.view kept) × ((S.Store.view kept).is_broken ≡ false) × ((S.Store.view store).trees 0 ≡ version_row Layout.Tables ∷ [])))) }
+        × (IsClean (S.Store.view kept) → IsOfThisVersion (S.Store.view store) (S.Store.view kept)))) }
 {
     let row = version_row(alloc)?;
     if has_only(alloc, &mut store, META, &row)? {

@@ -3,7 +3,7 @@ use Rattle.std.proofs.Common.{◌≡◌, ℕ, ◌≤◌, List, slice_get, Some, 
 use Rattle.std.specs.Prelude.{OnOk, IfErr, IsErrAnd}
 use Rattle.osm_rows.specs.Held.{HeldMap}
 use Rattle.osm_rows.specs.declared.fault.StoreFault.{StoreFault}
-use Rattle.osm_rows.specs.declared.keeper.Reader.{Ghosts}
+use Rattle.osm_rows.specs.declared.keeper.BlobReader.{Ghosts}
 use Rattle.osm_import.specs.Step.{HasCause}
 use Rattle.osm_import.specs.Stores.{Rereads}
 use Rattle.osm_parts.specs.Opening.{IsLent, OnlyOpens, AddsUp}

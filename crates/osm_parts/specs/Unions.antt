@@ -1,10 +1,13 @@
 -- Maps that may hold the same blob.
-use Rattle.std.specs.Prelude.{◌≡◌, ℕ, Bool, true, List, Some}
+use Rattle.std.specs.Prelude.{◌≡◌, ℕ, Bool, true, List, Some, Result}
 use Rattle.std.specs.FinMap.{get}
 use Rattle.std.specs.List.{list_any}
 use Rattle.osm_rows.specs.Flags.{has_flags}
 use Rattle.osm_rows.specs.Held.{Blob, HeldMap}
 use Rattle.osm_rows.specs.Keeping.{extent_of}
+use Rattle.osm_reading.specs.Framings.{Known}
+use Rattle.osm_import.specs.Pbf.{IsHeadedExport}
+use Rattle.osm_import.specs.declared.export.fault.ExportFault.{ExportFault}
 use Rattle.osm_parts.specs.Parts.{IsInPart, AreParts}
 
 -- each blob of the maps is also in this list of maps, at the same offset and with the same extent: so with the same SHA-256
@@ -24,6 +27,10 @@ pub record IsHistoryOf (maps : List HeldMap) (whole : HeldMap) (history : Bool) 
   pub needed : has_flags whole ≡ true → history ≡ true
   pub told : history ≡ true → list_any has_flags maps ≡ true
   pub same : AreParts maps whole → history ≡ has_flags whole
+
+-- What an export of parts as PBF has done: that of the whole, whose header asks for history as that of their union does.
+abbrev pub IsPbfOfParts : List HeldMap → HeldMap → ℕ → Bool → Known → Known → Result (Unit {0}) ExportFault → Type 0
+IsPbfOfParts maps whole size partial before after result = (history : Bool) × IsHistoryOf maps whole history × IsHeadedExport history whole size partial before after result
 
 -- ---- the laws
 

@@ -8,23 +8,22 @@ ghost use Rattle.osm_rows.specs.Keeping.{extents_of};
 ghost use Rattle.osm_import.specs.ExportCauses.{ExportHasCause, ExportIsOwn, WriteHasCause};
 ghost use Rattle.osm_import.specs.Exports.{IsExport, IsUnbegun, size_of};
 ghost use Rattle.osm_import.specs.Gaps.{Tiles};
-ghost use Rattle.osm_import.specs.Pbf.{IsHeadedExport};
 ghost use Rattle.osm_import.specs.Walks.{Walks};
 ghost use Rattle.osm_parts.specs.Opening.{OnlyOpens};
 ghost use Rattle.osm_parts.specs.Parts.{AreParts, entries_in};
 ghost use Rattle.osm_parts.specs.Reading.{IsPart, AreEach, AreRead};
-ghost use Rattle.osm_parts.specs.Unions.{IsHistoryOf};
+ghost use Rattle.osm_parts.specs.Unions.{IsPbfOfParts};
 
 use crate::openings::Openings;
 use crate::reading::extents_of_parts;
 use crate::runs::Part;
-use osm_import::{BlobStep, Blocks, ExportFault, Lines, refused, write_blobs, write_header};
-use osm_rows::Reader;
+use osm_import::{BlobStep, Blocks, ExportFault, Lines, export_refusal, write_blobs, write_header};
+use osm_rows::BlobReader;
 use osm_value::Sink;
 use std::alloc::Global;
 
 /// Takes the step at each blob of a part, whose store is opened and closed.
-fn write_part<K: Reader + Drop, O: Openings<K>, S: Sink, W: BlobStep<S>>(
+fn write_part<K: BlobReader + Drop, O: Openings<K>, S: Sink, W: BlobStep<S>>(
     alloc: Global,
     openings: &mut O,
     part: &Part,
@@ -45,7 +44,7 @@ fn write_part<K: Reader + Drop, O: Openings<K>, S: Sink, W: BlobStep<S>>(
 }
 
 /// Takes the step at each blob of the parts, one part after the other, up to the first fault.
-fn write_in_turn<K: Reader + Drop, O: Openings<K>, S: Sink, W: BlobStep<S>>(
+fn write_in_turn<K: BlobReader + Drop, O: Openings<K>, S: Sink, W: BlobStep<S>>(
     alloc: Global,
     openings: &mut O,
     parts: &[Part],
@@ -83,7 +82,7 @@ fn refuse_untiled(
         return Ok(());
     }
     let extents = extents_of_parts(alloc, parts)?;
-    match refused(&extents, size) {
+    match export_refusal(&extents, size) {
         Some(fault) => Err(fault),
         None => Ok(()),
     }
@@ -103,7 +102,7 @@ fn have_history(parts: &[Part]) -> bool
 /// After `WriteFailed` a front of the text went out, and after `Store` the lines of the blobs before; it is also the answer
 /// where a store isn't opened. After `Miscounted`, which never comes over stores that hold maps, it is the lines of the
 /// blobs before, too.
-pub fn export_parts_as_lines<K: Reader + Drop, O: Openings<K>, S: Sink>(
+pub fn export_parts_as_lines<K: BlobReader + Drop, O: Openings<K>, S: Sink>(
     alloc: Global,
     openings: &mut O,
     parts: &[Part],
@@ -127,7 +126,7 @@ pub fn export_parts_as_lines<K: Reader + Drop, O: Openings<K>, S: Sink>(
 ///
 /// After `BlockTooLarge` the frames before the element that is too large went out, and after `WriteFailed` and `Store` a
 /// front of what was to be written.
-pub fn export_parts_as_pbf<K: Reader + Drop, O: Openings<K>, S: Sink>(
+pub fn export_parts_as_pbf<K: BlobReader + Drop, O: Openings<K>, S: Sink>(
     alloc: Global,
     openings: &mut O,
     parts: &[Part],
@@ -136,7 +135,7 @@ pub fn export_parts_as_pbf<K: Reader + Drop, O: Openings<K>, S: Sink>(
     out: &mut S,
 ) -> Result<(), ExportFault>
     ensures export { (maps : List HeldMap) (whole : HeldMap) → O.holds openings.old maps → O.is_honest openings.new → (read : AreRead maps true parts.now) → AreParts read.ordered whole
-        → (history : Bool) × IsHistoryOf maps whole history × IsHeadedExport history whole (size_of size (extents_of whole)) partial (S.written out.old) (S.written out.new) result }
+        → IsPbfOfParts maps whole (size_of size (extents_of whole)) partial (S.written out.old) (S.written out.new) result }
     ensures opens { OnlyOpens O.holds O.is_honest O.is_open openings.old result openings.new }
     ensures own { (maps : List HeldMap) → O.holds openings.old maps → O.is_honest openings.new → ExportIsOwn result }
     ensures cause { ExportHasCause (O.failures openings.old) (O.failures openings.new) (S.has_failed out.new) result }

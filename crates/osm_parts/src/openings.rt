@@ -5,11 +5,11 @@ ghost use Rattle.osm_rows.specs.Held.{HeldMap};
 ghost use Rattle.osm_rows.specs.Keeping.{IsForeign, failures_after};
 ghost use Rattle.osm_parts.specs.Opening.{IsLent, KeepsMaps, AddsUp};
 
-use osm_rows::{Reader, StoreFault};
+use osm_rows::{BlobReader, StoreFault};
 
 /// What opens stores by their places in a list, counted from 0, and closes them. A store that is given out is closed
 /// before the next is opened.
-pub trait Openings<K: Reader> {
+pub trait Openings<K: BlobReader> {
     /// These are the maps of the stores, in order, and none is given out.
     ghost holds: { Self → List HeldMap → Type 0 };
 
@@ -30,13 +30,12 @@ pub trait Openings<K: Reader> {
 
     /// The store at a place. An error is that of an opening that has failed, or of a place that has no store.
     fn open(&mut self, place: u64) -> Result<K, StoreFault>
-        ensures given { IfOk result (λ store. lies self.old place store) }
+        ensures given { IfOk result (λ store. lies self.old place store × (K.failures store ≡ 0)) }
         ensures still { (at : ℕ) (store : K) → lies self.new at store → lies self.old at store }
         ensures lent { (maps : List HeldMap) → holds self.old maps → is_honest self.new
             → IfOk result (λ store. K.is_honest store → IsLent (lends self.new) (K.holds store) maps place) }
         ensures honest { IfOk result (λ store. is_honest self.new → K.is_honest store → is_honest self.old) }
         ensures open_if { IfOk result (λ store. is_open self.new → K.is_open store → is_open self.old) }
-        ensures fresh { IfOk result (λ store. K.failures store ≡ 0) }
         ensures refused { OnErr result (KeepsMaps holds is_honest is_open self.old self.new) }
         ensures own { (maps : List HeldMap) → holds self.old maps → is_honest self.new → IfErr result (λ fault. ¬ (IsForeign fault)) }
         ensures counted { failures self.new ≡ failures_after result (failures self.old) };

@@ -20,14 +20,14 @@ use crate::openings::Openings;
 use crate::pieces::{Piece, add_pieces, by_offset, each_once};
 use crate::runs::{Part, cut_into_runs, first_return};
 use osm_import::gaps_between;
-use osm_rows::{Extent, Reader, StoreFault};
+use osm_rows::{BlobReader, Extent, StoreFault};
 use std::alloc::{AllocError, Global};
 
 /// Whether one of its elements has a flag of visibility, if that is asked.
-fn history_of<K: Reader>(alloc: Global, store: &mut K, asked: bool) -> Result<bool, StoreFault>
-    ensures flags { OfHeld K.Reader store.old store.new (λ held. IfOk result (λ found. found ≡ (asked && has_flags held))) }
-    ensures rereads { Rereads K.Reader store.old result store.new }
-    ensures own { OfHeld K.Reader store.old store.new (λ _. IfErr result (λ fault. ¬ (IsForeign fault))) }
+fn history_of<K: BlobReader>(alloc: Global, store: &mut K, asked: bool) -> Result<bool, StoreFault>
+    ensures flags { OfHeld K.BlobReader store.old store.new (λ held. IfOk result (λ found. found ≡ (asked && has_flags held))) }
+    ensures rereads { Rereads K.BlobReader store.old result store.new }
+    ensures own { OfHeld K.BlobReader store.old store.new (λ _. IfErr result (λ fault. ¬ (IsForeign fault))) }
     ensures cause { IfErr result (HasCause (K.failures store.old) (K.failures store.new)) }
     ensures counted { K.failures store.old ≤ K.failures store.new }
 {
@@ -39,15 +39,15 @@ fn history_of<K: Reader>(alloc: Global, store: &mut K, asked: bool) -> Result<bo
 }
 
 /// What is read of the store at a place.
-fn read_store<K: Reader>(
+fn read_store<K: BlobReader>(
     alloc: Global,
     store: &mut K,
     place: u64,
     asks_history: bool,
 ) -> Result<Part, StoreFault>
-    ensures told { OfHeld K.Reader store.old store.new (λ held. IfOk result (IsReadOf asks_history place held)) }
-    ensures rereads { Rereads K.Reader store.old result store.new }
-    ensures own { OfHeld K.Reader store.old store.new (λ _. IfErr result (λ fault. ¬ (IsForeign fault))) }
+    ensures told { OfHeld K.BlobReader store.old store.new (λ held. IfOk result (IsReadOf asks_history place held)) }
+    ensures rereads { Rereads K.BlobReader store.old result store.new }
+    ensures own { OfHeld K.BlobReader store.old store.new (λ _. IfErr result (λ fault. ¬ (IsForeign fault))) }
     ensures cause { IfErr result (HasCause (K.failures store.old) (K.failures store.new)) }
 {
     let extents = store.extents(alloc)?;
@@ -60,7 +60,7 @@ fn read_store<K: Reader>(
 }
 
 /// What is read of the store at a place, which is opened and closed.
-fn read_part<K: Reader + Drop, O: Openings<K>>(
+fn read_part<K: BlobReader + Drop, O: Openings<K>>(
     alloc: Global,
     openings: &mut O,
     place: u64,
@@ -82,7 +82,7 @@ fn read_part<K: Reader + Drop, O: Openings<K>>(
 }
 
 /// The blobs of the stores at `count` places, each store opened, read and closed in turn.
-fn gather<K: Reader + Drop, O: Openings<K>>(
+fn gather<K: BlobReader + Drop, O: Openings<K>>(
     alloc: Global,
     openings: &mut O,
     count: u64,
@@ -129,7 +129,7 @@ fn runs_of(alloc: Global, pieces: Vec<Piece>, count: u64) -> Result<Vec<Part>, P
 /// where a blob begins inside another one's bytes, at its beginning; `Interleaved` where there are more than twice as many
 /// runs as stores, with the offset of a run that lies between two of another store; or `Store`, the fault of an opening or
 /// of a read, or refused memory.
-pub fn read_parts<K: Reader + Drop, O: Openings<K>>(
+pub fn read_parts<K: BlobReader + Drop, O: Openings<K>>(
     alloc: Global,
     openings: &mut O,
     count: u64,

@@ -5,7 +5,7 @@ ghost use Rattle.osm_rows.specs.Held.{HeldMap};
 ghost use Rattle.osm_parts.specs.Shelves.{HoldsEach, LendsOne, AllAreIn};
 
 use crate::openings::Openings;
-use osm_rows::{Reader, StoreFault};
+use osm_rows::{BlobReader, StoreFault};
 use std::alloc::{AllocError, Global};
 
 /// Stores by their places, counted from 0, of which one at a time is given out. One of which a call has failed isn't given
@@ -20,7 +20,7 @@ pub struct Shelf<K> {
     failures: u64,
 }
 
-impl<K: Reader + Drop> Shelf<K> {
+impl<K: BlobReader + Drop> Shelf<K> {
     /// A shelf without stores.
     pub fn new(alloc: Global) -> Shelf<K>
         ensures empty { HoldsEach K.holds result.slots.items [] }
@@ -70,7 +70,7 @@ impl<K: Reader + Drop> Shelf<K> {
     }
 }
 
-impl<K: Reader + Drop> Openings<K> for Shelf<K> {
+impl<K: BlobReader + Drop> Openings<K> for Shelf<K> {
     ghost holds = { λ shelf maps. HoldsEach K.holds shelf.slots.items maps };
 
     ghost lends = { λ shelf maps lent. LendsOne K.holds shelf.slots.items shelf.taken maps lent };

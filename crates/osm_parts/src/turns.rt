@@ -8,10 +8,10 @@ ghost use Rattle.osm_parts.specs.Turns.{HoldInTurn, is_refused};
 
 use crate::openings::Openings;
 use crate::past::Past;
-use osm_rows::{Reader, StoreFault};
+use osm_rows::{BlobReader, StoreFault};
 
 /// What opens the store of a database by its name.
-pub trait OpensNamed<K: Reader> {
+pub trait OpensNamed<K: BlobReader> {
     /// This store lies at the name: it may be what an opening by it gives.
     ghost lies: { Self → List ℕ → K → Type 0 };
 
@@ -22,7 +22,7 @@ pub trait OpensNamed<K: Reader> {
 }
 
 /// What opens stores, and knows how many there are.
-pub trait Several<K: Reader>: Openings<K> {
+pub trait Several<K: BlobReader>: Openings<K> {
     /// How many stores there are.
     ghost many: { Self → ℕ };
 
@@ -69,7 +69,7 @@ fn is_refused<K>(answer: &Result<K, StoreFault>) -> bool
     matches!(answer, Err(StoreFault::NotThisStore(_)))
 }
 
-impl<K: Reader, O: OpensNamed<K>> InTurn<'_, K, O> {
+impl<K: BlobReader, O: OpensNamed<K>> InTurn<'_, K, O> {
     /// The store that lies at the name of a place.
     fn open_at(&self, place: u64) -> Result<K, StoreFault>
         ensures given { IfOk result (λ store. (name : _) × (slice_get self.now.names.now place ≡ Some name) × O.lies self.now.opener name.now store) }
@@ -95,13 +95,13 @@ impl<K: Reader, O: OpensNamed<K>> InTurn<'_, K, O> {
 }
 
 /// Lets a store go, and answers how many of its calls have failed.
-fn let_go<K: Reader + Drop>(store: K) -> u64
+fn let_go<K: BlobReader + Drop>(store: K) -> u64
     ensures { result ≡ K.failures store }
 {
     store.failures()
 }
 
-impl<K: Reader + Drop, O: OpensNamed<K>> Openings<K> for InTurn<'_, K, O> {
+impl<K: BlobReader + Drop, O: OpensNamed<K>> Openings<K> for InTurn<'_, K, O> {
     ghost holds = { λ databases maps. HoldInTurn (λ name. O.lies databases.opener name.now) K.is_honest K.holds databases.names.now maps };
 
     ghost lends = { λ databases maps held. HoldInTurn (λ name. O.lies databases.opener name.now) K.is_honest K.holds databases.names.now maps
@@ -128,7 +128,7 @@ impl<K: Reader + Drop, O: OpensNamed<K>> Openings<K> for InTurn<'_, K, O> {
     }
 }
 
-impl<K: Reader + Drop, O: OpensNamed<K>> Several<K> for InTurn<'_, K, O> {
+impl<K: BlobReader + Drop, O: OpensNamed<K>> Several<K> for InTurn<'_, K, O> {
     ghost many = { λ databases. length databases.names.now };
 
     fn count(&self) -> u64 {

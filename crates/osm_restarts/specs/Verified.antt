@@ -1,4 +1,4 @@
--- What is known of a store whose indexes were looked at, and of one that `verify` has compared with a file.
+-- What is known of a store whose indexes were checked, and of one that `verify` has compared with a file.
 use Rattle.std.specs.Prelude.{◌≡◌, ℕ, List, take}
 use Rattle.sqlite_trees.specs.declared.store.Store.{Ghosts}
 use Rattle.sqlite_trees.specs.Objects.{catalog_tree}

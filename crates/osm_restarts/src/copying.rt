@@ -13,7 +13,7 @@ ghost use Rattle.osm_restarts.specs.Left.{IsReopened, MayBeOpened};
 use crate::premise::what_is_left_may_be_opened;
 use crate::restart::a_restart_holds_what_was_left;
 use osm_import::{CopyCounts, CopyStop, copy_held};
-use osm_rows::Reader;
+use osm_rows::BlobReader;
 use osm_trees::TreeStore;
 use sqlite_disk::Disk;
 use sqlite_store::FileStore;
@@ -25,7 +25,7 @@ use std::alloc::Global;
 /// have ended in with no crash, and the next crash finds all that this one found. The list of objects stays what it was. Where it
 /// has no object beside a store's own, or each as its row asks, what the crash leaves may be opened by the opening that looks at
 /// no other page.
-pub fn copy_before_a_restart<D: Disk, E: Disk, F: Reader>(
+pub fn copy_before_a_restart<D: Disk, E: Disk, F: BlobReader>(
     alloc: Global,
     from: &mut F,
     mut to: TreeStore<FileStore<D>>,

@@ -6,7 +6,7 @@ ghost use Rattle.osm_import.specs.Runs.{Runs, Imports, IsNone, IsStored};
 ghost use Rattle.osm_restarts.specs.Further.{AreOfOneFile};
 
 use osm_import::{Answer, Delivery, deliver_all};
-use osm_rows::Reader;
+use osm_rows::BlobReader;
 use osm_trees::TreeStore;
 use osm_trees::laws::memory_goes_on;
 use sqlite::MemStore;
@@ -21,12 +21,12 @@ pub fn deliver_all_in_memory(
     keeper: &mut TreeStore<MemStore>,
     deliveries: &[Delivery<'_>],
 ) -> Result<Vec<Answer>, AllocError>
-    ensures run { (held : HeldMap) → ⟦<TreeStore<MemStore> as Reader>⟧.holds keeper.old held
-        → IfOk result (λ answers. Runs (⟦<TreeStore<MemStore> as Reader>⟧.holds keeper.new) held deliveries.now answers.items) }
-    ensures one_file { (held : HeldMap) (frames : List (List ℕ)) → ⟦<TreeStore<MemStore> as Reader>⟧.holds keeper.old held
+    ensures run { (held : HeldMap) → ⟦<TreeStore<MemStore> as BlobReader>⟧.holds keeper.old held
+        → IfOk result (λ answers. Runs (⟦<TreeStore<MemStore> as BlobReader>⟧.holds keeper.new) held deliveries.now answers.items) }
+    ensures one_file { (held : HeldMap) (frames : List (List ℕ)) → ⟦<TreeStore<MemStore> as BlobReader>⟧.holds keeper.old held
         → AreOfOneFile frames deliveries.now held
-        → IfOk result (λ answers. Imports (⟦<TreeStore<MemStore> as Reader>⟧.holds keeper.new) frames held deliveries.now answers.items) }
-    ensures same { IfOk result (λ answers. IsNone IsStored answers.items → ⟦<TreeStore<MemStore> as Reader>⟧.same_tables keeper.old keeper.new) }
+        → IfOk result (λ answers. Imports (⟦<TreeStore<MemStore> as BlobReader>⟧.holds keeper.new) frames held deliveries.now answers.items) }
+    ensures same { IfOk result (λ answers. IsNone IsStored answers.items → ⟦<TreeStore<MemStore> as BlobReader>⟧.same_tables keeper.old keeper.new) }
     ensures err { OnErr result (keeper.new ≡ keeper.old) }
 {
     let answers = deliver_all(alloc, keeper, deliveries);

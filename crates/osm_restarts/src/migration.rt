@@ -7,7 +7,7 @@ ghost use Rattle.osm_restarts.specs.TwoStores.{OfBoth};
 
 use osm_import::{CopyCounts, CopyStop, copy_held};
 use osm_old_store::BodyStore;
-use osm_rows::Reader;
+use osm_rows::BlobReader;
 use osm_sql_store::TableStore;
 use sqlite::Alter;
 use std::alloc::Global;
@@ -30,22 +30,22 @@ pub fn migrate<S: Alter + Drop, T: Alter + Drop>(
     old: &mut BodyStore<S>,
     new: &mut TableStore<T>,
 ) -> Result<CopyCounts, MigrateFault>
-    ensures copies { OfBoth ⟦<BodyStore<S> as Reader>⟧ ⟦<TableStore<T> as Reader>⟧ old.old old.new new.old new.new
-        (λ source held. Copies (⟦<TableStore<T> as Reader>⟧.is_open new.new) (⟦<TableStore<T> as Reader>⟧.holds new.new) source held result) }
+    ensures copies { OfBoth ⟦<BodyStore<S> as BlobReader>⟧ ⟦<TableStore<T> as BlobReader>⟧ old.old old.new new.old new.new
+        (λ source held. Copies (⟦<TableStore<T> as BlobReader>⟧.is_open new.new) (⟦<TableStore<T> as BlobReader>⟧.holds new.new) source held result) }
 
     // What a crash may leave now.
-    ensures crash { OfBoth ⟦<BodyStore<S> as Reader>⟧ ⟦<TableStore<T> as Reader>⟧ old.old old.new new.old new.new
-        (λ source held. CrashLeavesSome (⟦<TableStore<T> as Reader>⟧.leaves new.new) source held result) }
+    ensures crash { OfBoth ⟦<BodyStore<S> as BlobReader>⟧ ⟦<TableStore<T> as BlobReader>⟧ old.old old.new new.old new.new
+        (λ source held. CrashLeavesSome (⟦<TableStore<T> as BlobReader>⟧.leaves new.new) source held result) }
 
     // What the new store held stays, whatever the old one holds and gives.
-    ensures kept { OfHeld ⟦<TableStore<T> as Reader>⟧ new.old new.new (λ held. KeepsHeld ⟦<TableStore<T> as Reader>⟧ new.new result held) }
-    ensures whole { OfHeld ⟦<TableStore<T> as Reader>⟧ new.old new.new (λ _. ⟦<TableStore<T> as Reader>⟧.leaves_a_map new.new) }
+    ensures kept { OfHeld ⟦<TableStore<T> as BlobReader>⟧ new.old new.new (λ held. KeepsHeld ⟦<TableStore<T> as BlobReader>⟧ new.new result held) }
+    ensures whole { OfHeld ⟦<TableStore<T> as BlobReader>⟧ new.old new.new (λ _. ⟦<TableStore<T> as BlobReader>⟧.leaves_a_map new.new) }
 
     // What the old store holds stays, at `Ok` whatever else is known of it, and a crash leaves what it could leave before.
-    ensures source { Rereads ⟦<BodyStore<S> as Reader>⟧ old.old result old.new }
+    ensures source { Rereads ⟦<BodyStore<S> as BlobReader>⟧ old.old result old.new }
 
     // Why a fault is answered.
-    ensures own { OfBoth ⟦<BodyStore<S> as Reader>⟧ ⟦<TableStore<T> as Reader>⟧ old.old old.new new.old new.new (λ _ _. IsOwnCopy result) }
+    ensures own { OfBoth ⟦<BodyStore<S> as BlobReader>⟧ ⟦<TableStore<T> as BlobReader>⟧ old.old old.new new.old new.new (λ _ _. IsOwnCopy result) }
     ensures cause { CopyHasCause old.old.failures old.new.failures new.old.failures new.new.failures result }
 {
     copy_held(alloc, old, new)

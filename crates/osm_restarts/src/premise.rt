@@ -12,7 +12,7 @@ use sqlite_store::FileStore;
 /// Whatever a crash may leave of the files of a store, its opening may presume of them what it presumes, as long as no pages
 /// end in sums, and what is left lists no tree at all, as that of a store that was being made; or the trees of a store and
 /// nothing else; or each other tree as its row asks (`ListsAsAsked`), as that of a store that an opening gave over a database
-/// with somebody's own tables, indexes, views and triggers. What a store lists it lists between any two calls and where one was
+/// with the user's own tables, indexes, views and triggers. What a store lists it lists between any two calls and where one was
 /// broken off, since each call keeps it so (`ListsAlways`).
 pub fn what_is_left_may_be_opened<D: Disk>(store: &FileStore<D>)
     ensures { ((db : Trees) → recovers store.now db → ListsAStore db) → (image : Image) → MayCrashTo image store.now → ArePresumedTables image }

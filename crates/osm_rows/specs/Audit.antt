@@ -19,6 +19,7 @@ use Rattle.osm_rows.specs.Held.{Blob, HeldMap, HasFewTexts}
 use Rattle.osm_rows.specs.Keeping.{extent_of, extents_of}
 use Rattle.osm_rows.specs.Rows.{Placed, placed, placed_in, body_row, extent_columns}
 use Rattle.osm_rows.specs.TableRows.{element_rows, tag_rows, link_rows, links_of}
+use Rattle.osm_rows.specs.declared.trees.TheConstants.{BLOBS, ELEMENTS, LINKS, TAGS}
 
 -- what queries see of a table: of each row the values at these places, of which the rowid is place 0
 abbrev pub seen : List ℕ → List Row → List Row
@@ -26,19 +27,19 @@ seen places table = map (λ row. map (column row) places) table
 
 -- of the table `blob`, whose key `off` is the rowid
 abbrev pub seen_extents : Trees → List Row
-seen_extents db = seen (0 ∷ 2 ∷ 3 ∷ 4 ∷ 5 ∷ []) (db 1)
+seen_extents db = seen (0 ∷ 2 ∷ 3 ∷ 4 ∷ 5 ∷ []) (db BLOBS)
 
 abbrev pub seen_bodies : Trees → List Row
-seen_bodies db = seen (1 ∷ 2 ∷ 3 ∷ 4 ∷ 5 ∷ []) (db 2)
+seen_bodies db = seen (1 ∷ 2 ∷ 3 ∷ 4 ∷ 5 ∷ []) (db ELEMENTS)
 
 abbrev pub seen_elements : Trees → List Row
-seen_elements db = seen (1 ∷ 2 ∷ 3 ∷ 4 ∷ 5 ∷ 6 ∷ 7 ∷ 8 ∷ 9 ∷ 10 ∷ 11 ∷ 12 ∷ []) (db 2)
+seen_elements db = seen (1 ∷ 2 ∷ 3 ∷ 4 ∷ 5 ∷ 6 ∷ 7 ∷ 8 ∷ 9 ∷ 10 ∷ 11 ∷ 12 ∷ []) (db ELEMENTS)
 
 abbrev pub seen_tags : Trees → List Row
-seen_tags db = seen (1 ∷ 2 ∷ 3 ∷ 4 ∷ 5 ∷ []) (db 4)
+seen_tags db = seen (1 ∷ 2 ∷ 3 ∷ 4 ∷ 5 ∷ []) (db TAGS)
 
 abbrev pub seen_links : Trees → List Row
-seen_links db = seen (1 ∷ 2 ∷ 3 ∷ 4 ∷ 5 ∷ 6 ∷ []) (db 6)
+seen_links db = seen (1 ∷ 2 ∷ 3 ∷ 4 ∷ 5 ∷ 6 ∷ []) (db LINKS)
 
 -- ---- the rows of one blob
 
@@ -69,8 +70,8 @@ HasCount table n = (length table ≡ n) × (n < 2 ^ 63 - 1)
 
 -- each table has so many rows
 abbrev pub ShowsCounts : Layout → Trees → Counts → Type 0
-ShowsCounts Bodies db counts = HasCount (db 1) counts.blobs × HasCount (db 2) counts.elements
-ShowsCounts Tables db counts = HasCount (db 1) counts.blobs × HasCount (db 2) counts.elements × HasCount (db 4) counts.tags × HasCount (db 6) counts.links
+ShowsCounts Bodies db counts = HasCount (db BLOBS) counts.blobs × HasCount (db ELEMENTS) counts.elements
+ShowsCounts Tables db counts = HasCount (db BLOBS) counts.blobs × HasCount (db ELEMENTS) counts.elements × HasCount (db TAGS) counts.tags × HasCount (db LINKS) counts.links
 
 abbrev pub tags_in : List Element → ℕ
 tags_in elements = sum_by (λ e. length (tags_of_element e)) elements

@@ -1,6 +1,6 @@
 -- What is said of a call on a store: of the store before it, `old`, and after it, `new`.
 use Rattle.osm_rows.specs.Held.{HeldMap}
-use Rattle.osm_rows.specs.declared.keeper.Reader.{Ghosts}
+use Rattle.osm_rows.specs.declared.keeper.BlobReader.{Ghosts}
 
 -- of the map that the store held, where it has given what was written
 abbrev pub OfHeld : {S : Type 0} → Ghosts S → S → S → (HeldMap → Type 0) → Type 0

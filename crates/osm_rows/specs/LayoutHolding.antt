@@ -15,6 +15,7 @@ use Rattle.osm_rows.specs.Keeping.{extents_of, IsRange}
 use Rattle.osm_rows.specs.Rows.{Placed, CanStore, placed_in, version_row, extent_row, body_row}
 use Rattle.osm_rows.specs.TableRows.{element_rows, tag_rows, link_rows}
 use Rattle.osm_rows.specs.Schema.Layouts.{schema_of}
+use Rattle.osm_rows.specs.declared.trees.TheConstants.{BLOBS, ELEMENTS, LINKS, META, TAGS}
 
 -- what is kept of a blob: a digest of 32 bytes, and elements that the layout can store
 pub record IsBlob (layout : Layout) (blob : Blob) : Type 0 where
@@ -38,14 +39,14 @@ HasRows rows table = IsPermutation rows (map (drop 1) table)
 
 -- the tables of elements have exactly the rows that these elements stand for
 abbrev pub HoldElements : Layout → List Placed → Trees → Type 0
-HoldElements Bodies elements db = HasRows (map body_row elements) (db 2)
-HoldElements Tables elements db = HasRows (element_rows elements) (db 2) × HasRows (tag_rows elements) (db 4) × HasRows (link_rows elements) (db 6)
+HoldElements Bodies elements db = HasRows (map body_row elements) (db ELEMENTS)
+HoldElements Tables elements db = HasRows (element_rows elements) (db ELEMENTS) × HasRows (tag_rows elements) (db TAGS) × HasRows (link_rows elements) (db LINKS)
 
 -- the tables have exactly the rows that the map stands for
 pub record TablesHold (layout : Layout) (held : HeldMap) (db : Trees) : Type 0 where
   pub sound : IsSound (schema_of layout) db
-  pub meta : db 0 ≡ version_row layout ∷ []
-  pub blob : db 1 ≡ map extent_row (extents_of held)
+  pub meta : db META ≡ version_row layout ∷ []
+  pub blob : db BLOBS ≡ map extent_row (extents_of held)
   pub elements : HoldElements layout (placed_in held) db
 
 -- the connection can go on, no write is under way, and its tables' rows are those of this map and of no other

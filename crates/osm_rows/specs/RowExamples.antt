@@ -1,6 +1,6 @@
 -- Some elements, whose rows are known.
-use Rattle.std.specs.Prelude.{ℤ, pos, negsuc, [], ◌∷◌, None, codes}
-use Rattle.sqlite.specs.declared.types.Value.TheVariants.{Null}
+use Rattle.std.specs.Prelude.{ℕ, ℤ, pos, negsuc, [], ◌∷◌, None, codes}
+use Rattle.sqlite.specs.declared.types.Value.TheVariants.{Null, Int, Text as Words}
 use Rattle.sqlite.specs.Order.{Row}
 use Rattle.osm_value.specs.declared.element.Element.{Element}
 use Rattle.osm_value.specs.declared.element.Element.TheVariants as elements
@@ -27,6 +27,18 @@ a_relation = elements.Relation (record {
   info = no_info;
 })
 
--- the columns without a value: places, version, time, changeset, user id, user and flag
+-- the columns of an element's last change where nothing is known of it: version, time, changeset, user id, user and flag
+abbrev pub nothing_known : Row
+nothing_known = Null ∷ Null ∷ Null ∷ Null ∷ Null ∷ Null ∷ []
+
+-- the columns without a value, of what has no place
 abbrev pub no_values : Row
-no_values = Null ∷ Null ∷ Null ∷ Null ∷ Null ∷ Null ∷ Null ∷ Null ∷ []
+no_values = Null ∷ Null ∷ nothing_known
+
+-- the row of a node at this position of its blob, of which the id and the place are known
+abbrev pub row_of_a_node : ℕ → ℕ → ℤ → ℤ → ℤ → Row
+row_of_a_node off i id lat lon = Int (pos off) ∷ Int (pos i) ∷ Int (pos 0) ∷ Int id ∷ Int lat ∷ Int lon ∷ nothing_known
+
+-- the row of the node at this position of the way at position 0: of kind 0, with an empty role
+abbrev pub node_of_a_way : ℕ → ℕ → ℤ → Row
+node_of_a_way off at id = Int (pos off) ∷ Int (pos 0) ∷ Int (pos at) ∷ Int (pos 0) ∷ Int id ∷ Words [] ∷ []

@@ -12,7 +12,7 @@ ghost use Rattle.osm_rows.specs.Held.{Blob, HeldMap};
 ghost use Rattle.osm_rows.specs.Keeping.{OnlyReads};
 
 use crate::StoreFault;
-use crate::keeper::Reader;
+use crate::keeper::BlobReader;
 pub use counts::Counts;
 use osm_value::Element;
 use pbf_frame::{Kind, MAX_OFFSET};
@@ -20,7 +20,7 @@ use std::alloc::Global;
 
 /// A store whose tables may have any rows, as those of a database that other programs have written to. What is said here
 /// needs the tables of a store, and of their rows nothing.
-pub trait Audited: Reader {
+pub trait Audited: BlobReader {
     /// How the store keeps elements.
     ghost layout: { HowKept };
 

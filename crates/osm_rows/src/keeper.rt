@@ -32,7 +32,7 @@ pub struct Extent {
 
 /// What is read of a store of blobs, which stands for a finite map from offsets. A read answers `NotThisStore(None)` for
 /// rows that are those of no map, as far as it can tell by the rows that it was asked for.
-pub trait Reader {
+pub trait BlobReader {
     /// The store can go on, and its tables' rows are those of this map.
     ghost holds: { Self → HeldMap → Type 0 };
 
@@ -127,7 +127,7 @@ pub trait Reader {
 }
 
 /// A store of blobs that takes more of them.
-pub trait Keeper: Reader {
+pub trait BlobKeeper: BlobReader {
     /// Adds a blob where no held extent is touched: its bytes are those from `off` to `fin`, at most `MAX_OFFSET`, and
     /// `digest` is the SHA-256 of its frame (FIPS 180-4). It is added whole, or a fault is answered and, where the store
     /// needn't be opened again, what is held stays. A crash during the call leaves what was held, or that with the whole

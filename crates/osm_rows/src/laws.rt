@@ -3,11 +3,11 @@
 ghost use Rattle.std.specs.Prelude.{◌≡◌, ℕ, pos, negsuc, [], ◌∷◌, map, codes};
 ghost use Rattle.std.specs.FinMap.{entries};
 ghost use Rattle.std.specs.List.{AllByRecursion};
-ghost use Rattle.sqlite.specs.declared.types.Value.TheVariants.{Null, Int, Text as Words};
+ghost use Rattle.sqlite.specs.declared.types.Value.TheVariants.{Int, Text as Words};
 ghost use Rattle.sqlite.specs.Held.{state};
 ghost use Rattle.sqlite.specs.State.{HasCleanDisk, IsLive, Opens};
 ghost use Rattle.sqlite.specs.Tree.{Trees};
-ghost use Rattle.osm_rows.specs.RowExamples.{a_node, a_way, a_relation, no_values};
+ghost use Rattle.osm_rows.specs.RowExamples.{a_node, a_way, a_relation, no_values, node_of_a_way, row_of_a_node};
 ghost use Rattle.osm_rows.specs.TableRows.{element_rows, tag_rows, link_rows};
 ghost use Rattle.osm_rows.specs.Audit.{ShowsBlob, ShowsCounts, ShowsMap, counts_of};
 ghost use Rattle.osm_rows.specs.Held.{Blob, HeldMap};
@@ -31,17 +31,13 @@ pub fn rows_of_all_blobs()
 /// The rows of two nodes: their places, and nothing else.
 pub fn rows_of_nodes()
     ensures { (off : ℕ) → element_rows ((off, 0, a_node (pos 1) (pos 1000) (negsuc 99)) ∷ (off, 1, a_node (pos 2) (pos 900) (negsuc 99)) ∷ [])
-        ≡ (Int (pos off) ∷ Int (pos 0) ∷ Int (pos 0) ∷ Int (pos 1) ∷ Int (pos 1000) ∷ Int (negsuc 99) ∷ Null ∷ Null ∷ Null ∷ Null ∷ Null ∷ Null ∷ [])
-        ∷ (Int (pos off) ∷ Int (pos 1) ∷ Int (pos 0) ∷ Int (pos 2) ∷ Int (pos 900) ∷ Int (negsuc 99) ∷ Null ∷ Null ∷ Null ∷ Null ∷ Null ∷ Null ∷ []) ∷ [] }
+        ≡ row_of_a_node off 0 (pos 1) (pos 1000) (negsuc 99) ∷ row_of_a_node off 1 (pos 2) (pos 900) (negsuc 99) ∷ [] }
 {}
 
 /// The rows of a way's nodes: of kind 0, with an empty role.
 pub fn rows_of_a_way()
     ensures { (off : ℕ) → link_rows ((off, 0, a_way) ∷ [])
-        ≡ (Int (pos off) ∷ Int (pos 0) ∷ Int (pos 0) ∷ Int (pos 0) ∷ Int (pos 5) ∷ Words [] ∷ [])
-        ∷ (Int (pos off) ∷ Int (pos 0) ∷ Int (pos 1) ∷ Int (pos 0) ∷ Int (pos 6) ∷ Words [] ∷ [])
-        ∷ (Int (pos off) ∷ Int (pos 0) ∷ Int (pos 2) ∷ Int (pos 0) ∷ Int (pos 7) ∷ Words [] ∷ [])
-        ∷ (Int (pos off) ∷ Int (pos 0) ∷ Int (pos 3) ∷ Int (pos 0) ∷ Int (pos 6) ∷ Words [] ∷ []) ∷ [] }
+        ≡ node_of_a_way off 0 (pos 5) ∷ node_of_a_way off 1 (pos 6) ∷ node_of_a_way off 2 (pos 7) ∷ node_of_a_way off 3 (pos 6) ∷ [] }
 {}
 
 /// The rows of a relation, of its tag and of its members.

@@ -9,11 +9,12 @@ pub mod laws;
 mod load;
 mod put;
 mod schema;
+pub mod trees;
 pub mod unreadable;
 
 pub use audit::{Audited, Counts};
 pub use fault::{StoreFault, fault_over_unknown};
-pub use keeper::{Extent, Keeper, Reader};
+pub use keeper::{BlobKeeper, BlobReader, Extent};
 pub use load::{
     BodyRows, ElementRows, Found, Loaded, PartRow, TableRows, are_apart, are_numbered, number_at,
     read_apart,

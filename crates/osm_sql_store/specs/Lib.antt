@@ -4,5 +4,6 @@ pub mod Schema
 pub mod Put
 pub mod ElementCounts
 pub mod Store
+pub mod Left
 pub mod AuditedTables
 pub mod CommitLaws

@@ -19,7 +19,9 @@ use crate::layout::SqlLayout;
 use crate::load::{all_extents, touched_extents};
 use crate::put::put_rows;
 use crate::schema::{adopt_store, create_store};
-use osm_rows::{Audited, Counts, Extent, Found, Keeper, Loaded, Reader, StoreFault, Tables};
+use osm_rows::{
+    Audited, BlobKeeper, BlobReader, Counts, Extent, Found, Loaded, StoreFault, Tables,
+};
 use osm_value::{Element, MemberKind};
 use pbf_frame::Kind;
 use sqlite::{Alter, Connection};
@@ -131,7 +133,7 @@ impl<S: Alter, L: SqlLayout> BlobStore<S, L> {
     }
 }
 
-impl<S: Alter, L: SqlLayout> Reader for BlobStore<S, L> {
+impl<S: Alter, L: SqlLayout> BlobReader for BlobStore<S, L> {
     ghost use Rattle.sqlite.specs.State.{HasCleanDisk};
     ghost use Rattle.sqlite.specs.Held.{state};
     ghost use Rattle.std.specs.Prelude.{IsTrue, refl};
@@ -209,7 +211,7 @@ impl<S: Alter, L: SqlLayout> Reader for BlobStore<S, L> {
     ghost has_few_texts = { λ store held holds. few_texts_of L.LAYOUT held holds.kept };
 }
 
-impl<S: Alter, L: SqlLayout> Keeper for BlobStore<S, L> {
+impl<S: Alter, L: SqlLayout> BlobKeeper for BlobStore<S, L> {
     fn put(
         &mut self,
         alloc: Global,

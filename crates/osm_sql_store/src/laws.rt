@@ -1,12 +1,10 @@
 //! What holds of stores over a connection.
 
-ghost use Rattle.std.specs.Prelude.{◌≡◌, false, IsTrue, MatchResult};
+ghost use Rattle.std.specs.Prelude.{◌≡◌, false, IsTrue};
 ghost use Rattle.sqlite.specs.Held.{state};
-ghost use Rattle.sqlite.specs.State.{HasCleanDisk, IsLive, Opens};
+ghost use Rattle.sqlite.specs.State.{HasCleanDisk};
 ghost use Rattle.sqlite.specs.Steps.{over_memory};
-ghost use Rattle.osm_rows.specs.Held.{HeldMap};
-ghost use Rattle.osm_rows.specs.Keeping.{IsForeign};
-ghost use Rattle.osm_rows.specs.LayoutHolding.{Holds, LeavesAMap, MayLeave};
+ghost use Rattle.osm_sql_store.specs.Left.{AdoptsLeft, HoldsLeft, WhereLeft};
 
 use crate::blob_store::BlobStore;
 use crate::layout::SqlLayout;
@@ -18,9 +16,7 @@ pub fn holds_what_was_left<S: Alter, L: SqlLayout>(
     before: &BlobStore<S, L>,
     connection: &Connection<S>,
 )
-    ensures { LeavesAMap L.LAYOUT (state S.Store before.now.connection) → (state S.Store before.now.connection).may_leave (state S.Store connection.now).now.trees
-        → HasCleanDisk (state S.Store connection.now) → Opens (state S.Store connection.now) → IsLive (state S.Store connection.now)
-        → (left : HeldMap) × MayLeave L.LAYOUT (state S.Store before.now.connection) left × Holds L.LAYOUT (state S.Store connection.now) left }
+    ensures { WhereLeft L.LAYOUT (state S.Store before.now.connection) (state S.Store connection.now) (HoldsLeft L.LAYOUT (state S.Store before.now.connection) (state S.Store connection.now)) }
 {
     let _stopped = before;
     let _opened = connection;
@@ -33,11 +29,7 @@ pub fn adopted_over_what_was_left<S: Alter, L: SqlLayout>(
     connection: Connection<S>,
 ) -> Result<BlobStore<S, L>, (StoreFault, Connection<S>)>
     requires { (state S.Store connection).in_transaction ≡ false }
-    ensures { LeavesAMap L.LAYOUT (state S.Store before.now.connection) → (state S.Store before.now.connection).may_leave (state S.Store connection).now.trees
-        → HasCleanDisk (state S.Store connection) → Opens (state S.Store connection) → IsLive (state S.Store connection)
-        → MatchResult result
-        (λ store. HasCleanDisk (state S.Store store.connection) → (left : HeldMap) × MayLeave L.LAYOUT (state S.Store before.now.connection) left × Holds L.LAYOUT (state S.Store store.connection) left)
-        (λ e. HasCleanDisk (state S.Store e.1) → ¬ (IsForeign e.0)) }
+    ensures { WhereLeft L.LAYOUT (state S.Store before.now.connection) (state S.Store connection) (AdoptsLeft L.LAYOUT S.Store (state S.Store before.now.connection) result) }
 {
     holds_what_was_left(before, &connection);
     BlobStore::adopt(connection)

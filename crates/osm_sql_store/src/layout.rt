@@ -1,7 +1,7 @@
 //! What a store does with the tables of elements, in its own way in each layout. The tables `meta` and `blob`, which all
 //! layouts have, are those of the store itself.
 
-ghost use Rattle.std.specs.Prelude.{◌≡◌, ◌↔◌, ◌<◌, ◌≤◌, ◌^◌, Some, filter, IsTrue, IfOk, IfErr, OnOk, MatchResult};
+ghost use Rattle.std.specs.Prelude.{◌≡◌, ◌<◌, ◌≤◌, ◌^◌, Some, filter, IsTrue, IfOk, IfErr, OnOk};
 ghost use Rattle.std.specs.FinMap as map;
 ghost use Rattle.std.specs.List.{AllByRecursion};
 ghost use Rattle.sqlite.specs.State.{HasCleanDisk};
@@ -10,7 +10,6 @@ ghost use Rattle.osm_rows.specs.Audit.{ShowElementsAt};
 ghost use Rattle.osm_rows.specs.Flags.{has_flags};
 ghost use Rattle.osm_rows.specs.Held.{Blob, HeldMap};
 ghost use Rattle.osm_rows.specs.Keeping.{IsForeign};
-ghost use Rattle.osm_rows.specs.LayoutHolding.{Holds};
 ghost use Rattle.osm_rows.specs.Load.Finding.{AreMatches};
 ghost use Rattle.osm_rows.specs.Load.Loading.{HasRowsOf, IsInPlace};
 ghost use Rattle.osm_rows.specs.Rows.{is_of, placed, placed_in, CanStore};
@@ -18,6 +17,7 @@ ghost use Rattle.osm_rows.specs.Schema.Layouts.{schema_of};
 ghost use Rattle.osm_sql_store.specs.ElementCounts.{ShowsElementCounts};
 ghost use Rattle.osm_sql_store.specs.Inside.{GoesOn, WorksInside};
 ghost use Rattle.osm_sql_store.specs.Load.Asking.{JustAsks};
+ghost use Rattle.osm_sql_store.specs.Load.Telling.{TellsOf, TellsWhether};
 ghost use Rattle.osm_sql_store.specs.Put.Steps.{AddsElements};
 ghost use Rattle.osm_sql_store.specs.Schema.Making.{MakesElements};
 ghost use Rattle.osm_sql_store.specs.Schema.Named.{HasTables};
@@ -68,8 +68,7 @@ pub trait SqlLayout: StoreLayout {
         connection: &mut Connection<S>,
         off: u64,
     ) -> Result<Loaded, StoreFault>
-        ensures held { HasCleanDisk (state S.Store connection.new) → (held : HeldMap) → Holds Self.LAYOUT (state S.Store connection.old) held
-            → MatchResult result (λ loaded. ((blob : Blob) → map.get held off ≡ Some blob → HasRowsOf loaded blob.elements) × IsTrue (state S.Store connection.new).is_open) (λ fault. ¬ (IsForeign fault)) }
+        ensures held { (held : HeldMap) → TellsOf Self.LAYOUT held (state S.Store connection.old) result (state S.Store connection.new) (λ loaded. (blob : Blob) → map.get held off ≡ Some blob → HasRowsOf loaded blob.elements) }
         ensures positions { IfOk result IsInPlace }
         ensures asks { JustAsks (state S.Store connection.old) (state S.Store connection.new) };
 
@@ -80,8 +79,7 @@ pub trait SqlLayout: StoreLayout {
         kind: MemberKind,
         id: i64,
     ) -> Result<Found, StoreFault>
-        ensures held { HasCleanDisk (state S.Store connection.new) → (held : HeldMap) → Holds Self.LAYOUT (state S.Store connection.old) held
-            → MatchResult result (λ found. AreMatches found (filter (is_of kind id) (placed_in held)) × IsTrue (state S.Store connection.new).is_open) (λ fault. ¬ (IsForeign fault)) }
+        ensures held { (held : HeldMap) → TellsOf Self.LAYOUT held (state S.Store connection.old) result (state S.Store connection.new) (λ found. AreMatches found (filter (is_of kind id) (placed_in held))) }
         ensures asks { JustAsks (state S.Store connection.old) (state S.Store connection.new) };
 
     /// Whether any held element has a flag of visibility.
@@ -89,8 +87,7 @@ pub trait SqlLayout: StoreLayout {
         alloc: Global,
         connection: &mut Connection<S>,
     ) -> Result<bool, StoreFault>
-        ensures held { HasCleanDisk (state S.Store connection.new) → (held : HeldMap) → Holds Self.LAYOUT (state S.Store connection.old) held
-            → MatchResult result (λ found. (found ≡ has_flags held) × IsTrue (state S.Store connection.new).is_open) (λ fault. ¬ (IsForeign fault)) }
+        ensures held { (held : HeldMap) → TellsOf Self.LAYOUT held (state S.Store connection.old) result (state S.Store connection.new) (λ found. found ≡ has_flags held) }
         ensures asks { JustAsks (state S.Store connection.old) (state S.Store connection.new) };
 
     /// Whether the rows of a blob's elements are at its offset, and no others, whatever rows the tables have.
@@ -101,8 +98,7 @@ pub trait SqlLayout: StoreLayout {
         elements: &[Element],
     ) -> Result<bool, StoreFault>
         requires bounds { (extent.now.off ≤ MAX_OFFSET) × (extent.now.fin ≤ MAX_OFFSET) × (extent.now.n < 2 ^ 63) }
-        ensures told { HasCleanDisk (state S.Store connection.new) → (state S.Store connection.old).now ≡ (state S.Store connection.old).committed → (state S.Store connection.old).now.schema ≡ schema_of Self.LAYOUT
-            → IfOk result (λ told. IsTrue told ↔ ShowElementsAt Self.LAYOUT extent.now.off (placed extent.now.off 0 elements.now) (state S.Store connection.old).now.trees) }
+        ensures told { TellsWhether (schema_of Self.LAYOUT) (state S.Store connection.old) result (state S.Store connection.new) (ShowElementsAt Self.LAYOUT extent.now.off (placed extent.now.off 0 elements.now)) }
         ensures opened { HasCleanDisk (state S.Store connection.new) → IfOk result (λ _. IsTrue (state S.Store connection.new).is_open) }
         ensures ours { IfErr result (λ fault. ¬ (IsForeign fault)) }
         ensures asks { JustAsks (state S.Store connection.old) (state S.Store connection.new) };
@@ -112,8 +108,7 @@ pub trait SqlLayout: StoreLayout {
         connection: &mut Connection<S>,
         counts: &Counts,
     ) -> Result<bool, StoreFault>
-        ensures told { HasCleanDisk (state S.Store connection.new) → (state S.Store connection.old).now ≡ (state S.Store connection.old).committed → (state S.Store connection.old).now.schema ≡ schema_of Self.LAYOUT
-            → IfOk result (λ told. IsTrue told ↔ ShowsElementCounts Self.LAYOUT (state S.Store connection.old).now.trees counts.now) }
+        ensures told { TellsWhether (schema_of Self.LAYOUT) (state S.Store connection.old) result (state S.Store connection.new) (λ trees. ShowsElementCounts Self.LAYOUT trees counts.now) }
         ensures opened { HasCleanDisk (state S.Store connection.new) → IfOk result (λ _. IsTrue (state S.Store connection.new).is_open) }
         ensures ours { IfErr result (λ fault. ¬ (IsForeign fault)) }
         ensures asks { JustAsks (state S.Store connection.old) (state S.Store connection.new) };

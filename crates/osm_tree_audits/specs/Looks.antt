@@ -11,6 +11,7 @@ use Rattle.osm_tree_audits.specs.declared.look.Looked.TheVariants.{Whole, Faulty
 use Rattle.osm_tree_audits.specs.declared.look.TableLook.{TableLook}
 use Rattle.osm_tree_audits.specs.declared.tables.ElementTable.{ElementTable}
 use Rattle.osm_tree_audits.specs.declared.tables.ElementTable.TheVariants.{Elements, Tags, Links}
+use Rattle.osm_rows.specs.declared.trees.TheConstants.{ELEMENTS, ELEMENT_KEY, LINKS, LINK_KEY, TAGS, TAG_KEY}
 
 -- the index on these columns has the entries of the table's rows, in the order of the rows
 abbrev pub IsInStep : List ℕ → List Row → List Row → Type 0
@@ -45,9 +46,9 @@ SeesIndex db table index columns seen =
 
 -- this was seen of each table by the index of its primary key
 pub record IsLook (db : Trees) (look : Look) : Type 0 where
-  pub elements : IsSeen (key_of Elements) (db 2) (db 3) look.elements
-  pub tags : IsSeen (key_of Tags) (db 4) (db 5) look.tags
-  pub links : IsSeen (key_of Links) (db 6) (db 7) look.links
+  pub elements : IsSeen (key_of Elements) (db ELEMENTS) (db ELEMENT_KEY) look.elements
+  pub tags : IsSeen (key_of Tags) (db TAGS) (db TAG_KEY) look.tags
+  pub links : IsSeen (key_of Links) (db LINKS) (db LINK_KEY) look.links
 
 -- so many rows are this many, which are fewer than SQL can count
 abbrev pub IsCount : ℕ → ℕ → Type 0

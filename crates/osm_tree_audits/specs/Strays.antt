@@ -5,10 +5,11 @@ use Rattle.sqlite_value.specs.Order.{Row, column}
 use Rattle.sqlite_trees.specs.Tree.{Trees, has_rowid}
 use Rattle.osm_tree_audits.specs.ElementTables.{table_of}
 use Rattle.osm_tree_audits.specs.declared.strays.Stray.{Stray}
+use Rattle.osm_rows.specs.declared.trees.TheConstants.{BLOBS}
 
 -- no blob is held at this offset
 abbrev pub LacksBlob : Trees → ℤ → Type 0
-LacksBlob db off = filter (has_rowid off) (db 1) ≡ []
+LacksBlob db off = filter (has_rowid off) (db BLOBS) ≡ []
 
 -- if this is the row of an offset, a blob is held there
 abbrev pub HasBlob : Trees → Row → Type 0

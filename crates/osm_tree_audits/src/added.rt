@@ -1,9 +1,9 @@
-//! Whether each index that somebody has added to the tables of a store has one entry for each row of its table, and no other.
+//! Whether each index added to the tables of a store has one entry for each row of its table, and no other.
 
-ghost use Rattle.std.specs.Prelude.{◌≡◌, ◌<◌, false, length, slice_get, Some, IfSome, IfOk, IfErr, OnOk, MatchOption};
+ghost use Rattle.std.specs.Prelude.{◌≡◌, ◌<◌, length, slice_get, Some, IfSome, IfOk, IfErr, OnOk, MatchOption};
 ghost use Rattle.sqlite_trees.specs.View.{IsClean};
 ghost use Rattle.osm_rows.specs.Keeping.{IsForeign};
-ghost use Rattle.osm_tree_audits.specs.Looking.{Looks};
+ghost use Rattle.osm_tree_audits.specs.Looking.{IsSound, Looks};
 ghost use Rattle.osm_tree_audits.specs.Indexes.{AreWhole, IsWholeAdded};
 
 use crate::indexes::is_indexed;
@@ -27,7 +27,7 @@ pub fn faulty_added_index<S: Store>(
     ensures told { IfOk result (λ found. IsClean (S.Store.view store.new)
         → MatchOption found (AreWhole (S.Store.view store.old).trees indexes.now) (λ at. (index : _) → slice_get indexes.now at ≡ Some index → ¬ (IsWholeAdded (S.Store.view store.old).trees index))) }
     ensures within { IfOk result (λ found. IfSome found (λ at. at < length indexes.now)) }
-    ensures sound { OnOk result (IsClean (S.Store.view store.new) → (S.Store.view store.new).is_broken ≡ false) }
+    ensures sound { OnOk result (IsSound S.Store store.new) }
     ensures ours { IfErr result (λ fault. ¬ (IsForeign fault)) }
     ensures looks { Looks S.Store store.old store.new }
 {

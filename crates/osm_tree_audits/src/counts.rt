@@ -1,17 +1,17 @@
 //! How many rows the tables of a store have.
 
-ghost use Rattle.std.specs.Prelude.{◌≡◌, ◌↔◌, false, length, IsTrue, IfOk, IfErr, OnOk};
+ghost use Rattle.std.specs.Prelude.{◌≡◌, ◌↔◌, length, IsTrue, IfOk, IfErr, OnOk};
 ghost use Rattle.sqlite_trees.specs.View.{IsClean};
 ghost use Rattle.osm_rows.specs.Audit.{HasCount, ShowsCounts};
 ghost use Rattle.osm_rows.specs.declared.schema.layout.Layout.TheVariants.{Tables};
 ghost use Rattle.osm_rows.specs.Keeping.{IsForeign};
-ghost use Rattle.osm_tree_audits.specs.Looking.{Looks};
+ghost use Rattle.osm_tree_audits.specs.Looking.{IsSound, Looks};
 ghost use Rattle.osm_tree_audits.specs.Looks.{IsCount, IsLook};
 
 use crate::look::Look;
+use osm_rows::trees::BLOBS;
 use osm_rows::{Counts, StoreFault};
 use osm_tree_writes::fault_of;
-use osm_tree_writes::trees::BLOBS;
 use sqlite_trees::store::{Direction, Store};
 use sqlite_value::row::Row;
 use std::alloc::Global;
@@ -22,7 +22,7 @@ const MOST_ROWS: u64 = 9_223_372_036_854_775_807;
 /// How many rows or entries a tree has.
 pub(crate) fn count<S: Store>(alloc: Global, store: &mut S, tree: u32) -> Result<u64, StoreFault>
     ensures count { IfOk result (λ n. IsClean (S.Store.view store.new) → n ≡ length ((S.Store.view store.old).trees tree)) }
-    ensures sound { OnOk result (IsClean (S.Store.view store.new) → (S.Store.view store.new).is_broken ≡ false) }
+    ensures sound { OnOk result (IsSound S.Store store.new) }
     ensures ours { IfErr result (λ fault. ¬ (IsForeign fault)) }
     ensures looks { Looks S.Store store.old store.new }
 {
@@ -58,7 +58,7 @@ fn has_count<S: Store>(
     expected: u64,
 ) -> Result<bool, StoreFault>
     ensures told { IfOk result (λ told. IsClean (S.Store.view store.new) → (IsTrue told ↔ HasCount ((S.Store.view store.old).trees tree) expected)) }
-    ensures sound { OnOk result (IsClean (S.Store.view store.new) → (S.Store.view store.new).is_broken ≡ false) }
+    ensures sound { OnOk result (IsSound S.Store store.new) }
     ensures ours { IfErr result (λ fault. ¬ (IsForeign fault)) }
     ensures looks { Looks S.Store store.old store.new }
 {
@@ -76,7 +76,7 @@ fn has_inner_counts(look: &Look, counts: &Counts) -> bool
 }
 
 /// Whether each table of a store has exactly so many rows, fewer than SQL can count. Of the rows nothing has to be known, but
-/// what was seen of the tables of elements, of tags and of links as the indexes were looked at (`look_at_indexes`): only the
+/// what was seen of the tables of elements, of tags and of links as the indexes were checked (`look_at_indexes`): only the
 /// rows of the table of blobs are counted here. No more than one is in memory. A fault is that of a read that has failed, or
 /// `Memory`.
 pub fn has_row_counts<S: Store>(
@@ -86,7 +86,7 @@ pub fn has_row_counts<S: Store>(
     counts: &Counts,
 ) -> Result<bool, StoreFault>
     ensures told { IsClean (S.Store.view store.new) → IsLook (S.Store.view store.old).trees look.now → IfOk result (λ told. IsTrue told ↔ ShowsCounts Tables (S.Store.view store.old).trees counts.now) }
-    ensures sound { OnOk result (IsClean (S.Store.view store.new) → (S.Store.view store.new).is_broken ≡ false) }
+    ensures sound { OnOk result (IsSound S.Store store.new) }
     ensures ours { IfErr result (λ fault. ¬ (IsForeign fault)) }
     ensures looks { Looks S.Store store.old store.new }
 {

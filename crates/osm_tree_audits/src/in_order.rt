@@ -1,11 +1,11 @@
 //! A walk over the rows of a table that stand in the order of its primary key: the cursor 1 gives them, one behind another, and
 //! the index is asked only where they begin.
 
-ghost use Rattle.std.specs.Prelude.{◌≡◌, false, length, IsSome, IsTrue, IfOk, IfErr, OnOk};
+ghost use Rattle.std.specs.Prelude.{◌≡◌, length, IsSome, IsTrue, IfOk, IfErr, OnOk};
 ghost use Rattle.sqlite_trees.specs.View.{IsClean};
 ghost use Rattle.sqlite_exec.specs.Loops.{left_of};
 ghost use Rattle.osm_rows.specs.Keeping.{IsForeign};
-ghost use Rattle.osm_tree_audits.specs.Looking.{Looks, Steps};
+ghost use Rattle.osm_tree_audits.specs.Looking.{HasTable, IsSound, Looks, Steps};
 ghost use Rattle.osm_tree_audits.specs.declared.tables.ElementTable.{ElementTable as AnyTable};
 ghost use Rattle.osm_tree_audits.specs.ElementTables.{index_of, key_of, table_of};
 ghost use Rattle.osm_tree_audits.specs.Looks.{IsInOrder};
@@ -31,7 +31,7 @@ fn seek_row<S: Store>(
     width: usize,
     entry: &Row,
 ) -> Result<(), StoreFault>
-    requires { IsClean (S.Store.view store.old) → (S.Store.view store.old).shape table ≡ Shape.Table }
+    requires { HasTable S.Store store.old table }
     ensures placed { OnOk result (IsClean (S.Store.view store.new) → IsAtNamed ((S.Store.view store.old).trees table) entry.now width (left_of (S.Store.view store.new) 1)) }
     ensures rows { OnOk result (IsSome ((S.Store.view store.new).cursors 1)) }
     ensures steps { OnOk result (Steps (S.Store.view store.old) (S.Store.view store.new)) }
@@ -59,12 +59,12 @@ pub(crate) fn begin_in_order<S: Store>(
     key: &Row,
 ) -> Result<bool, StoreFault>
     requires index { IsClean (S.Store.view store.old) → (S.Store.view store.old).shape (index_of of) ≡ Shape.Index Order.PLAIN }
-    requires table { IsClean (S.Store.view store.old) → (S.Store.view store.old).shape (table_of of) ≡ Shape.Table }
+    requires table { HasTable S.Store store.old (table_of of) }
     ensures walk { IfOk result (λ begun. IsClean (S.Store.view store.new) → IsInOrder (S.Store.view store.old).trees of → IsTrue begun
         → AreInOrder (S.Store.view store.new) (key_of of) × (reached_alone (S.Store.view store.new) (key_of of) key.now ≡ all_reached (S.Store.view store.old).trees of key.now)) }
     ensures entries { OnOk result (IsSome ((S.Store.view store.new).cursors 0)) }
     ensures rows { IfOk result (λ begun. IsTrue begun → IsSome ((S.Store.view store.new).cursors 1)) }
-    ensures sound { OnOk result (IsClean (S.Store.view store.new) → (S.Store.view store.new).is_broken ≡ false) }
+    ensures sound { OnOk result (IsSound S.Store store.new) }
     ensures ours { IfErr result (λ fault. ¬ (IsForeign fault)) }
     ensures looks { Looks S.Store store.old store.new }
 {

@@ -1,12 +1,12 @@
 //! Whether each index of a store has one entry for each row of its table, and no other.
 
-ghost use Rattle.std.specs.Prelude.{◌≡◌, ◌≢◌, ◌↔◌, ◌∷◌, [], ℕ, false, Contains, IsSome, IsTrue, IfOk, IfErr, IfSome, OnOk};
+ghost use Rattle.std.specs.Prelude.{◌≡◌, ◌↔◌, ◌∷◌, [], Contains, IsSome, IsTrue, IfOk, IfErr, IfSome, OnOk};
 ghost use Rattle.sqlite_trees.specs.Tree.{IsIndexShape};
 ghost use Rattle.sqlite_trees.specs.View.{IsClean};
 ghost use Rattle.sqlite_sql.specs.Catalog.{entry_of, IsIndexOf};
 ghost use Rattle.sqlite_exec.specs.Loops.{left_of};
 ghost use Rattle.osm_rows.specs.Keeping.{IsForeign};
-ghost use Rattle.osm_tree_audits.specs.Looking.{Looks, Steps};
+ghost use Rattle.osm_tree_audits.specs.Looking.{HasTable, IsSound, KeepsCursor, KeepsOtherCursors, Looks, Steps};
 ghost use Rattle.osm_tree_audits.specs.Looks.{AreEntered, CountsIf, CountsInStep, SeesIndex};
 ghost use Rattle.osm_tree_audits.specs.Walking.{IsNext, AreAmong};
 
@@ -62,7 +62,7 @@ fn next_is<S: Store>(store: &mut S, entry: &Row, found: &mut Row) -> Result<bool
     requires { IsSome ((S.Store.view store.old).cursors 1) }
     ensures told { IfOk result (λ told. IsClean (S.Store.view store.new) → (IsTrue told ↔ IsNext (S.Store.view store.old) entry.now)) }
     ensures left { OnOk result (IsClean (S.Store.view store.new) → AreAmong (left_of (S.Store.view store.old) 1) (left_of (S.Store.view store.new) 1)) }
-    ensures rows { OnOk result (IsClean (S.Store.view store.new) → (S.Store.view store.new).cursors 0 ≡ (S.Store.view store.old).cursors 0) }
+    ensures rows { KeepsCursor S.Store 0 store.old result store.new }
     ensures steps { OnOk result (Steps (S.Store.view store.old) (S.Store.view store.new)) }
     ensures ours { IfErr result (λ fault. ¬ (IsForeign fault)) }
     ensures looks { Looks S.Store store.old store.new }
@@ -84,7 +84,7 @@ fn seek_is<S: Store>(
     requires { IsClean (S.Store.view store.old) → IsIndexShape ((S.Store.view store.old).shape tree) }
     ensures told { IfOk result (λ told. IsClean (S.Store.view store.new) → (IsTrue told ↔ Contains ((S.Store.view store.old).trees tree) entry.now)) }
     ensures left { OnOk result (IsClean (S.Store.view store.new) → AreAmong ((S.Store.view store.old).trees tree) (left_of (S.Store.view store.new) 1)) }
-    ensures rows { OnOk result (IsClean (S.Store.view store.new) → (S.Store.view store.new).cursors 0 ≡ (S.Store.view store.old).cursors 0) }
+    ensures rows { KeepsCursor S.Store 0 store.old result store.new }
     ensures steps { OnOk result (Steps (S.Store.view store.old) (S.Store.view store.new)) }
     ensures ours { IfErr result (λ fault. ¬ (IsForeign fault)) }
     ensures looks { Looks S.Store store.old store.new }
@@ -107,7 +107,7 @@ fn has_entry<S: Store>(
     requires live { IsSome ((S.Store.view store.old).cursors 1) }
     ensures told { IfOk result (λ told. IsClean (S.Store.view store.new) → AreAmong ((S.Store.view store.old).trees tree) (left_of (S.Store.view store.old) 1) → (IsTrue told ↔ Contains ((S.Store.view store.old).trees tree) entry.now)) }
     ensures left { OnOk result (IsClean (S.Store.view store.new) → AreAmong ((S.Store.view store.old).trees tree) (left_of (S.Store.view store.old) 1) → AreAmong ((S.Store.view store.old).trees tree) (left_of (S.Store.view store.new) 1)) }
-    ensures rows { OnOk result (IsClean (S.Store.view store.new) → (S.Store.view store.new).cursors 0 ≡ (S.Store.view store.old).cursors 0) }
+    ensures rows { KeepsCursor S.Store 0 store.old result store.new }
     ensures steps { OnOk result (Steps (S.Store.view store.old) (S.Store.view store.new)) }
     ensures ours { IfErr result (λ fault. ¬ (IsForeign fault)) }
     ensures looks { Looks S.Store store.old store.new }
@@ -127,10 +127,10 @@ fn count_entered<S: Store>(
     columns: &[usize],
 ) -> Result<Option<u64>, StoreFault>
     requires index { IsClean (S.Store.view store.old) → IsIndexShape ((S.Store.view store.old).shape tree) }
-    requires table { IsClean (S.Store.view store.old) → (S.Store.view store.old).shape table ≡ Shape.Table }
+    requires table { HasTable S.Store store.old table }
     ensures told { IfOk result (λ counted. IsClean (S.Store.view store.new)
         → CountsIf (AreEntered columns.now ((S.Store.view store.old).trees table) ((S.Store.view store.old).trees tree)) ((S.Store.view store.old).trees table) counted) }
-    ensures sound { OnOk result (IsClean (S.Store.view store.new) → (S.Store.view store.new).is_broken ≡ false) }
+    ensures sound { OnOk result (IsSound S.Store store.new) }
     ensures ours { IfErr result (λ fault. ¬ (IsForeign fault)) }
     ensures looks { Looks S.Store store.old store.new }
 {
@@ -170,10 +170,10 @@ fn count_indexed<S: Store>(
     columns: &[usize],
 ) -> Result<Option<u64>, StoreFault>
     requires index { IsClean (S.Store.view store.old) → IsIndexShape ((S.Store.view store.old).shape tree) }
-    requires table { IsClean (S.Store.view store.old) → (S.Store.view store.old).shape table ≡ Shape.Table }
+    requires table { HasTable S.Store store.old table }
     ensures told { IfOk result (λ counted. IsClean (S.Store.view store.new)
         → CountsIf (IsIndexOf columns.now ((S.Store.view store.old).trees table) ((S.Store.view store.old).trees tree)) ((S.Store.view store.old).trees table) counted) }
-    ensures sound { OnOk result (IsClean (S.Store.view store.new) → (S.Store.view store.new).is_broken ≡ false) }
+    ensures sound { OnOk result (IsSound S.Store store.new) }
     ensures ours { IfErr result (λ fault. ¬ (IsForeign fault)) }
     ensures looks { Looks S.Store store.old store.new }
 {
@@ -212,7 +212,7 @@ fn next_is_of<S: Store>(
 ) -> Result<bool, StoreFault>
     requires { IsSome ((S.Store.view store.old).cursors cursor) }
     ensures told { IfOk result (λ told. IsClean (S.Store.view store.new) → IsTrue told → (left_of (S.Store.view store.old) cursor ≡ entry_of columns.now row.now ∷ left_of (S.Store.view store.new) cursor)) }
-    ensures others { OnOk result (IsClean (S.Store.view store.new) → (c : ℕ) → c ≢ cursor → (S.Store.view store.new).cursors c ≡ (S.Store.view store.old).cursors c) }
+    ensures others { KeepsOtherCursors S.Store cursor store.old result store.new }
     ensures steps { OnOk result (Steps (S.Store.view store.old) (S.Store.view store.new)) }
     ensures ours { IfErr result (λ fault. ¬ (IsForeign fault)) }
     ensures looks { Looks S.Store store.old store.new }
@@ -228,7 +228,7 @@ fn next_is_of<S: Store>(
 fn has_ended<S: Store>(store: &mut S, cursor: u16, found: &mut Row) -> Result<bool, StoreFault>
     requires { IsSome ((S.Store.view store.old).cursors cursor) }
     ensures told { IfOk result (λ told. IsClean (S.Store.view store.new) → IsTrue told → (left_of (S.Store.view store.old) cursor ≡ [])) }
-    ensures others { OnOk result (IsClean (S.Store.view store.new) → (c : ℕ) → c ≢ cursor → (S.Store.view store.new).cursors c ≡ (S.Store.view store.old).cursors c) }
+    ensures others { KeepsOtherCursors S.Store cursor store.old result store.new }
     ensures steps { OnOk result (Steps (S.Store.view store.old) (S.Store.view store.new)) }
     ensures ours { IfErr result (λ fault. ¬ (IsForeign fault)) }
     ensures looks { Looks S.Store store.old store.new }
@@ -248,7 +248,7 @@ fn count_if_ended<S: Store>(
 ) -> Result<Option<u64>, StoreFault>
     requires { IsSome ((S.Store.view store.old).cursors cursor) }
     ensures told { IfOk result (λ counted. IsClean (S.Store.view store.new) → IfSome counted (λ n. (n ≡ count) × (left_of (S.Store.view store.old) cursor ≡ []))) }
-    ensures others { OnOk result (IsClean (S.Store.view store.new) → (c : ℕ) → c ≢ cursor → (S.Store.view store.new).cursors c ≡ (S.Store.view store.old).cursors c) }
+    ensures others { KeepsOtherCursors S.Store cursor store.old result store.new }
     ensures steps { OnOk result (Steps (S.Store.view store.old) (S.Store.view store.new)) }
     ensures ours { IfErr result (λ fault. ¬ (IsForeign fault)) }
     ensures looks { Looks S.Store store.old store.new }
@@ -269,9 +269,9 @@ fn count_in_step<S: Store>(
     columns: &[usize],
 ) -> Result<Option<u64>, StoreFault>
     requires index { IsClean (S.Store.view store.old) → IsIndexShape ((S.Store.view store.old).shape tree) }
-    requires table { IsClean (S.Store.view store.old) → (S.Store.view store.old).shape table ≡ Shape.Table }
+    requires table { HasTable S.Store store.old table }
     ensures told { IfOk result (λ counted. IsClean (S.Store.view store.new) → CountsInStep (S.Store.view store.old).trees table tree columns.now counted) }
-    ensures sound { OnOk result (IsClean (S.Store.view store.new) → (S.Store.view store.new).is_broken ≡ false) }
+    ensures sound { OnOk result (IsSound S.Store store.new) }
     ensures ours { IfErr result (λ fault. ¬ (IsForeign fault)) }
     ensures looks { Looks S.Store store.old store.new }
 {
@@ -309,10 +309,10 @@ fn goes_on<S: Store>(
     found: &mut Row,
 ) -> Result<bool, StoreFault>
     requires live { IsSome ((S.Store.view store.old).cursors cursor) }
-    requires sound { IsClean (S.Store.view store.old) → (S.Store.view store.old).is_broken ≡ false }
+    requires sound { IsSound S.Store store.old }
     ensures told { IfOk result (λ told. IsClean (S.Store.view store.new) → IsTrue told
         → IsTrue until_now × (left_of (S.Store.view store.old) cursor ≡ entry_of columns.now row.now ∷ left_of (S.Store.view store.new) cursor)) }
-    ensures others { OnOk result (IsClean (S.Store.view store.new) → (c : ℕ) → c ≢ cursor → (S.Store.view store.new).cursors c ≡ (S.Store.view store.old).cursors c) }
+    ensures others { KeepsOtherCursors S.Store cursor store.old result store.new }
     ensures steps { OnOk result (Steps (S.Store.view store.old) (S.Store.view store.new)) }
     ensures ours { IfErr result (λ fault. ¬ (IsForeign fault)) }
     ensures looks { Looks S.Store store.old store.new }
@@ -333,9 +333,9 @@ fn count_at_end<S: Store>(
     found: &mut Row,
 ) -> Result<Option<u64>, StoreFault>
     requires live { IsSome ((S.Store.view store.old).cursors cursor) }
-    requires sound { IsClean (S.Store.view store.old) → (S.Store.view store.old).is_broken ≡ false }
+    requires sound { IsSound S.Store store.old }
     ensures told { IfOk result (λ counted. IsClean (S.Store.view store.new) → IfSome counted (λ n. (n ≡ count) × IsTrue until_now × (left_of (S.Store.view store.old) cursor ≡ []))) }
-    ensures others { OnOk result (IsClean (S.Store.view store.new) → (c : ℕ) → c ≢ cursor → (S.Store.view store.new).cursors c ≡ (S.Store.view store.old).cursors c) }
+    ensures others { KeepsOtherCursors S.Store cursor store.old result store.new }
     ensures steps { OnOk result (Steps (S.Store.view store.old) (S.Store.view store.new)) }
     ensures ours { IfErr result (λ fault. ¬ (IsForeign fault)) }
     ensures looks { Looks S.Store store.old store.new }
@@ -356,11 +356,11 @@ fn counts_at_end<S: Store>(
 ) -> Result<(Option<u64>, Option<u64>), StoreFault>
     requires one { IsSome ((S.Store.view store.old).cursors 1) }
     requires other { IsSome ((S.Store.view store.old).cursors 2) }
-    requires sound { IsClean (S.Store.view store.old) → (S.Store.view store.old).is_broken ≡ false }
+    requires sound { IsSound S.Store store.old }
     ensures told { IfOk result (λ counted. IsClean (S.Store.view store.new)
         → IfSome counted.0 (λ n. (n ≡ count) × IsTrue one × (left_of (S.Store.view store.old) 1 ≡ []))
         × IfSome counted.1 (λ n. (n ≡ count) × IsTrue other × (left_of (S.Store.view store.old) 2 ≡ []))) }
-    ensures sound { OnOk result (IsClean (S.Store.view store.new) → (S.Store.view store.new).is_broken ≡ false) }
+    ensures sound { OnOk result (IsSound S.Store store.new) }
     ensures ours { IfErr result (λ fault. ¬ (IsForeign fault)) }
     ensures looks { Looks S.Store store.old store.new }
 {
@@ -382,7 +382,7 @@ pub(crate) fn counts_in_step<S: Store>(
 ) -> Result<(Option<u64>, Option<u64>), StoreFault>
     ensures told { IfOk result (λ counted. IsClean (S.Store.view store.new)
         → CountsInStep (S.Store.view store.old).trees table one one_columns.now counted.0 × CountsInStep (S.Store.view store.old).trees table other other_columns.now counted.1) }
-    ensures sound { OnOk result (IsClean (S.Store.view store.new) → (S.Store.view store.new).is_broken ≡ false) }
+    ensures sound { OnOk result (IsSound S.Store store.new) }
     ensures ours { IfErr result (λ fault. ¬ (IsForeign fault)) }
     ensures looks { Looks S.Store store.old store.new }
 {
@@ -428,11 +428,11 @@ fn seen_at<S: Store>(
     in_step: Option<u64>,
 ) -> Result<Option<TableLook>, StoreFault>
     requires index { IsClean (S.Store.view store.old) → IsIndexShape ((S.Store.view store.old).shape tree) }
-    requires table { IsClean (S.Store.view store.old) → (S.Store.view store.old).shape table ≡ Shape.Table }
+    requires table { HasTable S.Store store.old table }
     requires step { IsClean (S.Store.view store.old) → CountsInStep (S.Store.view store.old).trees table tree columns.now in_step }
-    requires sound { IsClean (S.Store.view store.old) → (S.Store.view store.old).is_broken ≡ false }
+    requires sound { IsSound S.Store store.old }
     ensures told { IfOk result (λ seen. IsClean (S.Store.view store.new) → SeesIndex (S.Store.view store.old).trees table tree columns.now seen) }
-    ensures sound { OnOk result (IsClean (S.Store.view store.new) → (S.Store.view store.new).is_broken ≡ false) }
+    ensures sound { OnOk result (IsSound S.Store store.new) }
     ensures ours { IfErr result (λ fault. ¬ (IsForeign fault)) }
     ensures looks { Looks S.Store store.old store.new }
 {
@@ -462,7 +462,7 @@ pub(crate) fn look_at<S: Store>(
     columns: &[usize],
 ) -> Result<Option<TableLook>, StoreFault>
     ensures told { IfOk result (λ seen. IsClean (S.Store.view store.new) → SeesIndex (S.Store.view store.old).trees table tree columns.now seen) }
-    ensures sound { OnOk result (IsClean (S.Store.view store.new) → (S.Store.view store.new).is_broken ≡ false) }
+    ensures sound { OnOk result (IsSound S.Store store.new) }
     ensures ours { IfErr result (λ fault. ¬ (IsForeign fault)) }
     ensures looks { Looks S.Store store.old store.new }
 {
@@ -484,7 +484,7 @@ pub(crate) fn is_indexed<S: Store>(
     columns: &[usize],
 ) -> Result<bool, StoreFault>
     ensures told { IfOk result (λ told. IsClean (S.Store.view store.new) → (IsTrue told ↔ IsIndexOf columns.now ((S.Store.view store.old).trees table) ((S.Store.view store.old).trees tree))) }
-    ensures sound { OnOk result (IsClean (S.Store.view store.new) → (S.Store.view store.new).is_broken ≡ false) }
+    ensures sound { OnOk result (IsSound S.Store store.new) }
     ensures ours { IfErr result (λ fault. ¬ (IsForeign fault)) }
     ensures looks { Looks S.Store store.old store.new }
 {
@@ -503,9 +503,9 @@ pub(crate) fn look_on<S: Store>(
     in_step: Option<u64>,
 ) -> Result<Option<TableLook>, StoreFault>
     requires step { IsClean (S.Store.view store.old) → CountsInStep (S.Store.view store.old).trees table tree columns.now in_step }
-    requires sound { IsClean (S.Store.view store.old) → (S.Store.view store.old).is_broken ≡ false }
+    requires sound { IsSound S.Store store.old }
     ensures told { IfOk result (λ seen. IsClean (S.Store.view store.new) → SeesIndex (S.Store.view store.old).trees table tree columns.now seen) }
-    ensures sound { OnOk result (IsClean (S.Store.view store.new) → (S.Store.view store.new).is_broken ≡ false) }
+    ensures sound { OnOk result (IsSound S.Store store.new) }
     ensures ours { IfErr result (λ fault. ¬ (IsForeign fault)) }
     ensures looks { Looks S.Store store.old store.new }
 {

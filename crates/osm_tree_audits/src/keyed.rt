@@ -1,9 +1,9 @@
 //! The rows of a table that an index finds by the first columns of its entries.
 
-ghost use Rattle.std.specs.Prelude.{◌≡◌, false, drop, IfOk, IfErr, OnOk};
+ghost use Rattle.std.specs.Prelude.{◌≡◌, drop, IfOk, IfErr, OnOk};
 ghost use Rattle.sqlite_trees.specs.View.{IsClean};
 ghost use Rattle.osm_rows.specs.Keeping.{IsForeign};
-ghost use Rattle.osm_tree_audits.specs.Looking.{Looks};
+ghost use Rattle.osm_tree_audits.specs.Looking.{IsSound, Looks};
 ghost use Rattle.osm_tree_audits.specs.Finding.{Finds};
 
 use crate::walk::{begin_walk, next_row};
@@ -37,7 +37,7 @@ pub fn rows_with<S: Store, R: FromRow>(
     key: &Row,
 ) -> Result<Vec<R>, StoreFault>
     ensures rows { IfOk result (λ rows. IsClean (S.Store.view store.new) → Finds R.FromRow.from_row_gives (S.Store.view store.old).trees index table width key.now rows.items) }
-    ensures sound { OnOk result (IsClean (S.Store.view store.new) → (S.Store.view store.new).is_broken ≡ false) }
+    ensures sound { OnOk result (IsSound S.Store store.new) }
     ensures ours { IfErr result (λ fault. ¬ (IsForeign fault)) }
     ensures looks { Looks S.Store store.old store.new }
 {

@@ -11,6 +11,7 @@ ghost use Rattle.osm_rows.specs.Keeping.{extent_of};
 ghost use Rattle.osm_rows.specs.Rows.{version_row};
 ghost use Rattle.osm_tree_writes.specs.Putting.{AreTables, IsIndexedStore};
 ghost use Rattle.osm_tree_audits.specs.Auditing.{KeepsBlob, KeepsBlobs, KeepsMap};
+ghost use Rattle.osm_rows.specs.declared.trees.TheConstants.{BLOBS, META};
 
 /// Of rows at an offset that are kept as a put of a blob writes them, queries see the rows of this blob, and no others.
 pub fn a_kept_blob_is_shown()
@@ -22,5 +23,5 @@ pub fn a_kept_blob_is_shown()
 /// none is missing, and no key comes twice.
 pub fn checked_trees_have_the_rows_of_the_map()
     ensures { (db : Trees) (held : HeldMap) → KeepsBlobs db held → ShowsCounts Tables db (counts_of (elements_held held))
-        → db 0 ≡ version_row Tables ∷ [] → IsShaped Table (db 1) → AreTables db → IsIndexedStore db → KeepsMap db held }
+        → db META ≡ version_row Tables ∷ [] → IsShaped Table (db BLOBS) → AreTables db → IsIndexedStore db → KeepsMap db held }
 {}

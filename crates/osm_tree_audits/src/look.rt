@@ -1,24 +1,22 @@
 //! A look at the indexes of a store: whether each has one entry for each row of its table, and no other, and what it tells of the
 //! tables.
 
-ghost use Rattle.std.specs.Prelude.{◌≡◌, false, IfOk, IfErr, OnOk};
+ghost use Rattle.std.specs.Prelude.{IfOk, IfErr, OnOk};
 ghost use Rattle.sqlite_trees.specs.View.{IsClean};
 ghost use Rattle.osm_rows.specs.Keeping.{IsForeign};
 ghost use Rattle.osm_tree_writes.specs.Putting.{IsIndexedStore};
-ghost use Rattle.osm_tree_audits.specs.Looking.{Looks};
+ghost use Rattle.osm_tree_audits.specs.Looking.{IsSound, Looks};
 ghost use Rattle.osm_tree_audits.specs.Indexes.{IsWhole};
 ghost use Rattle.osm_tree_audits.specs.Looks.{IsLook, MatchLooked};
 
 use crate::indexes::{StoreIndex, counts_in_step, look_at, look_on};
 use osm_rows::StoreFault;
-use osm_tree_writes::trees::{
-    ELEMENT_BY_ID, ELEMENT_KEY, ELEMENTS, LINK_KEY, LINKS, TAG_KEY, TAGS,
-};
+use osm_rows::trees::{ELEMENT_BY_ID, ELEMENT_KEY, ELEMENTS, LINK_KEY, LINKS, TAG_KEY, TAGS};
 use sqlite_trees::store::Store;
 use sqlite_value::keys::Order;
 use std::alloc::Global;
 
-/// What was seen of a table as the index of its primary key was looked at.
+/// What was seen of a table as the index of its primary key was checked.
 #[derive(Clone, Copy, Debug, PartialEq, Eq)]
 pub struct TableLook {
     /// How many rows it has.
@@ -27,7 +25,7 @@ pub struct TableLook {
     pub in_order: bool,
 }
 
-/// What was seen of the tables of a store as its indexes were looked at.
+/// What was seen of the tables of a store as its indexes were checked.
 #[derive(Clone, Copy, Debug, PartialEq, Eq)]
 pub struct Look {
     pub elements: TableLook,
@@ -54,7 +52,7 @@ pub enum Looked {
 pub fn look_at_indexes<S: Store>(alloc: Global, store: &mut S) -> Result<Looked, StoreFault>
     ensures told { IfOk result (λ looked. IsClean (S.Store.view store.new)
         → MatchLooked looked (λ look. IsIndexedStore (S.Store.view store.old).trees × IsLook (S.Store.view store.old).trees look) (λ index. ¬ (IsWhole (S.Store.view store.old).trees index))) }
-    ensures sound { OnOk result (IsClean (S.Store.view store.new) → (S.Store.view store.new).is_broken ≡ false) }
+    ensures sound { OnOk result (IsSound S.Store store.new) }
     ensures ours { IfErr result (λ fault. ¬ (IsForeign fault)) }
     ensures looks { Looks S.Store store.old store.new }
 {

@@ -1,13 +1,13 @@
 //! Whether the rows that an index finds are those that others write. Each is compared as the walk comes to it, so that no
 //! more than one is in memory.
 
-ghost use Rattle.std.specs.Prelude.{◌≡◌, ◌↔◌, [], false, drop, length, map, IsSome, IsTrue, IfOk, IfErr, OnOk};
+ghost use Rattle.std.specs.Prelude.{◌≡◌, ◌↔◌, [], drop, length, map, IsSome, IsTrue, IfOk, IfErr, OnOk};
 ghost use Rattle.sqlite.specs.Value.{owned};
 ghost use Rattle.sqlite.specs.Values.{bound, bound_value};
 ghost use Rattle.sqlite_value.specs.Order.{column};
 ghost use Rattle.sqlite_trees.specs.View.{IsClean};
 ghost use Rattle.osm_rows.specs.Keeping.{IsForeign};
-ghost use Rattle.osm_tree_audits.specs.Looking.{Looks};
+ghost use Rattle.osm_tree_audits.specs.Looking.{IsSound, Looks};
 ghost use Rattle.osm_tree_audits.specs.Walking.{Begins, CanWalk, IsWalkBy, reached_by};
 
 use crate::tables::ElementTable;
@@ -103,7 +103,7 @@ pub(crate) fn finds_no_more<S: Store>(
     requires entries { IsSome ((S.Store.view store.old).cursors 0) }
     requires rows { IsSome ((S.Store.view store.old).cursors 1) }
     ensures told { IfOk result (λ told. IsClean (S.Store.view store.new) → IsWalkBy way (S.Store.view store.old) of → (IsTrue told ↔ (reached_by way (S.Store.view store.old) of key.now ≡ []))) }
-    ensures sound { OnOk result (IsClean (S.Store.view store.new) → (S.Store.view store.new).is_broken ≡ false) }
+    ensures sound { OnOk result (IsSound S.Store store.new) }
     ensures ours { IfErr result (λ fault. ¬ (IsForeign fault)) }
     ensures looks { Looks S.Store store.old store.new }
 {

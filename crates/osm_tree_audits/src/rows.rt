@@ -1,13 +1,13 @@
 //! Whether the rows at an offset are those of one blob.
 
-ghost use Rattle.std.specs.Prelude.{◌≡◌, ◌↔◌, ◌+◌, ◌<◌, ◌≤◌, ◌^◌, ◌∷◌, [], pos, false, filter, length, IsTrue, IfOk, IfErr, OnOk};
+ghost use Rattle.std.specs.Prelude.{◌≡◌, ◌↔◌, ◌+◌, ◌<◌, ◌≤◌, ◌^◌, ◌∷◌, [], pos, filter, length, IsTrue, IfOk, IfErr, OnOk};
 ghost use Rattle.sqlite_value.specs.declared.value.Value.TheVariants.{Int};
 ghost use Rattle.sqlite_trees.specs.Tree.{has_rowid};
 ghost use Rattle.sqlite_trees.specs.View.{IsClean};
 ghost use Rattle.osm_rows.specs.Keeping.{IsForeign};
 ghost use Rattle.osm_rows.specs.Rows.{placed, extent_row};
 ghost use Rattle.osm_tree_writes.specs.Putting.{IsIndexedStore};
-ghost use Rattle.osm_tree_audits.specs.Looking.{Looks};
+ghost use Rattle.osm_tree_audits.specs.Looking.{IsSound, Looks};
 ghost use Rattle.osm_tree_audits.specs.Auditing.{KeepElementsAt, KeepsAt, KeepsBlob};
 ghost use Rattle.osm_tree_audits.specs.ElementTables.{rows_in, table_of};
 ghost use Rattle.osm_tree_audits.specs.Looks.{IsInOrder, IsLook};
@@ -17,9 +17,9 @@ use crate::look::Look;
 use crate::matching::{finds_next, finds_no_more};
 use crate::tables::ElementTable;
 use crate::ways::{Way, begin};
+use osm_rows::trees::BLOBS;
 use osm_rows::{Extent, StoreFault, blob_code, element_rows, link_rows, tag_rows};
 use osm_tree_writes::fault_of;
-use osm_tree_writes::trees::BLOBS;
 use osm_value::Element;
 use pbf_frame::MAX_OFFSET;
 use sqlite_trees::store::{Shape, Store};
@@ -94,7 +94,7 @@ fn finds_each<S: Store>(
     requires bounds { off ≤ MAX_OFFSET }
     ensures told { IfOk result (λ told. IsClean (S.Store.view store.new) → IsWalkBy way (S.Store.view store.old) of
         → (IsTrue told ↔ (reached_by way (S.Store.view store.old) of key.now ≡ rows_in of (placed off 0 elements.now)))) }
-    ensures sound { OnOk result (IsClean (S.Store.view store.new) → (S.Store.view store.new).is_broken ≡ false) }
+    ensures sound { OnOk result (IsSound S.Store store.new) }
     ensures ours { IfErr result (λ fault. ¬ (IsForeign fault)) }
     ensures looks { Looks S.Store store.old store.new }
 {
@@ -125,7 +125,7 @@ fn has_rows_in<S: Store>(
     requires { off ≤ MAX_OFFSET }
     ensures told { IsClean (S.Store.view store.new) → IsIndexedStore (S.Store.view store.old).trees → (IsTrue in_order → IsInOrder (S.Store.view store.old).trees of)
         → IfOk result (λ told. IsTrue told ↔ KeepsAt off (rows_in of (placed off 0 elements.now)) ((S.Store.view store.old).trees (table_of of))) }
-    ensures sound { OnOk result (IsClean (S.Store.view store.new) → (S.Store.view store.new).is_broken ≡ false) }
+    ensures sound { OnOk result (IsSound S.Store store.new) }
     ensures ours { IfErr result (λ fault. ¬ (IsForeign fault)) }
     ensures looks { Looks S.Store store.old store.new }
 {
@@ -162,8 +162,8 @@ fn has_extent_row<S: Store>(
 ) -> Result<bool, StoreFault>
     requires bounds { (extent.now.off ≤ MAX_OFFSET) × (extent.now.fin ≤ MAX_OFFSET) × (extent.now.n < 2 ^ 63) }
     ensures told { IsClean (S.Store.view store.new)
-        → IfOk result (λ told. IsTrue told ↔ (filter (has_rowid (pos extent.now.off)) ((S.Store.view store.old).trees 1) ≡ extent_row extent.now ∷ [])) }
-    ensures sound { OnOk result (IsClean (S.Store.view store.new) → (S.Store.view store.new).is_broken ≡ false) }
+        → IfOk result (λ told. IsTrue told ↔ (filter (has_rowid (pos extent.now.off)) ((S.Store.view store.old).trees BLOBS) ≡ extent_row extent.now ∷ [])) }
+    ensures sound { OnOk result (IsSound S.Store store.new) }
     ensures ours { IfErr result (λ fault. ¬ (IsForeign fault)) }
     ensures looks { Looks S.Store store.old store.new }
 {
@@ -190,7 +190,7 @@ fn has_inner_rows<S: Store>(
     requires { off ≤ MAX_OFFSET }
     ensures told { IsClean (S.Store.view store.new) → IsIndexedStore (S.Store.view store.old).trees → IsLook (S.Store.view store.old).trees look.now
         → IfOk result (λ told. IsTrue told ↔ KeepElementsAt off (placed off 0 elements.now) (S.Store.view store.old).trees) }
-    ensures sound { OnOk result (IsClean (S.Store.view store.new) → (S.Store.view store.new).is_broken ≡ false) }
+    ensures sound { OnOk result (IsSound S.Store store.new) }
     ensures ours { IfErr result (λ fault. ¬ (IsForeign fault)) }
     ensures looks { Looks S.Store store.old store.new }
 {
@@ -226,7 +226,7 @@ fn has_inner_rows<S: Store>(
 
 /// Whether the rows at a blob's offset, in all tables, are those that a put of it writes, and no others, each as it is
 /// kept. Of the rows nothing has to be known, but each index has to have one entry for each, and what was seen of the tables
-/// as the indexes were looked at (`look_at_indexes`). The offsets are at most `MAX_OFFSET`, in bytes. No more rows than those
+/// as the indexes were checked (`look_at_indexes`). The offsets are at most `MAX_OFFSET`, in bytes. No more rows than those
 /// of a few elements are in memory. A fault is that of a read that has failed, `Memory`, or `Disk` where the trees have no
 /// such tables and indexes.
 pub fn has_rows_of<S: Store>(
@@ -238,7 +238,7 @@ pub fn has_rows_of<S: Store>(
 ) -> Result<bool, StoreFault>
     requires bounds { (extent.now.off ≤ MAX_OFFSET) × (extent.now.fin ≤ MAX_OFFSET) × (extent.now.n < 2 ^ 63) }
     ensures told { IsClean (S.Store.view store.new) → IsIndexedStore (S.Store.view store.old).trees → IsLook (S.Store.view store.old).trees look.now → IfOk result (λ told. IsTrue told ↔ KeepsBlob (S.Store.view store.old).trees extent.now elements.now) }
-    ensures sound { OnOk result (IsClean (S.Store.view store.new) → (S.Store.view store.new).is_broken ≡ false) }
+    ensures sound { OnOk result (IsSound S.Store store.new) }
     ensures ours { IfErr result (λ fault. ¬ (IsForeign fault)) }
     ensures looks { Looks S.Store store.old store.new }
 {

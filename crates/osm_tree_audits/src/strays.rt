@@ -1,18 +1,18 @@
 //! Rows of elements, of tags and of links at whose offset no blob is held.
 
-ghost use Rattle.std.specs.Prelude.{◌≡◌, ◌↔◌, false, All, IsTrue, IfSome, IfOk, IfErr, OnOk, MatchOption};
+ghost use Rattle.std.specs.Prelude.{◌≡◌, ◌↔◌, All, IsTrue, IfSome, IfOk, IfErr, OnOk, MatchOption};
 ghost use Rattle.sqlite_value.specs.declared.value.Value.TheVariants.{Int};
 ghost use Rattle.sqlite_value.specs.Order.{column};
 ghost use Rattle.sqlite_trees.specs.View.{IsClean};
 ghost use Rattle.osm_rows.specs.Keeping.{IsForeign};
-ghost use Rattle.osm_tree_audits.specs.Looking.{Looks, Steps};
+ghost use Rattle.osm_tree_audits.specs.Looking.{IsSound, Looks, Steps};
 ghost use Rattle.osm_tree_audits.specs.ElementTables.{table_of};
 ghost use Rattle.osm_tree_audits.specs.Strays.{HasBlob, IsStrayRow, LacksBlob};
 
 use crate::tables::ElementTable;
 use osm_rows::StoreFault;
+use osm_rows::trees::BLOBS;
 use osm_tree_writes::fault_of;
-use osm_tree_writes::trees::BLOBS;
 use sqlite_trees::store::{Direction, Shape, Store};
 use sqlite_value::row::Row;
 use sqlite_value::value::ValueRef;
@@ -50,7 +50,7 @@ fn stray_offset<S: Store>(
     held: &mut Option<i64>,
     blob: &mut Row,
 ) -> Result<Option<i64>, StoreFault>
-    requires { IsClean (S.Store.view store.old) → (S.Store.view store.old).is_broken ≡ false }
+    requires { IsSound S.Store store.old }
     ensures told { IfOk result (λ stray. IsClean (S.Store.view store.new) → IfSome held.old (λ off. ¬ (LacksBlob (S.Store.view store.old).trees off))
         → MatchOption stray (HasBlob (S.Store.view store.old).trees row.now) (λ off. (column row.now 1 ≡ Int off) × LacksBlob (S.Store.view store.old).trees off)) }
     ensures held { OnOk result (IsClean (S.Store.view store.new) → IfSome held.old (λ off. ¬ (LacksBlob (S.Store.view store.old).trees off)) → IfSome held.new (λ off. ¬ (LacksBlob (S.Store.view store.old).trees off))) }
@@ -80,7 +80,7 @@ fn stray_in<S: Store>(
 ) -> Result<Option<Stray>, StoreFault>
     ensures told { IfOk result (λ found. IsClean (S.Store.view store.new)
         → MatchOption found (All (HasBlob (S.Store.view store.old).trees) ((S.Store.view store.old).trees (table_of of))) (IsStrayRow (S.Store.view store.old).trees)) }
-    ensures sound { OnOk result (IsClean (S.Store.view store.new) → (S.Store.view store.new).is_broken ≡ false) }
+    ensures sound { OnOk result (IsSound S.Store store.new) }
     ensures ours { IfErr result (λ fault. ¬ (IsForeign fault)) }
     ensures looks { Looks S.Store store.old store.new }
 {
@@ -110,7 +110,7 @@ fn stray_in<S: Store>(
 pub fn stray_row<S: Store>(alloc: Global, store: &mut S) -> Result<Option<Stray>, StoreFault>
     ensures told { IfOk result (λ found. IsClean (S.Store.view store.new)
         → MatchOption found ((stray : _) → ¬ (IsStrayRow (S.Store.view store.old).trees stray)) (IsStrayRow (S.Store.view store.old).trees)) }
-    ensures sound { OnOk result (IsClean (S.Store.view store.new) → (S.Store.view store.new).is_broken ≡ false) }
+    ensures sound { OnOk result (IsSound S.Store store.new) }
     ensures ours { IfErr result (λ fault. ¬ (IsForeign fault)) }
     ensures looks { Looks S.Store store.old store.new }
 {

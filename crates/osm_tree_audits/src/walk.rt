@@ -7,7 +7,7 @@ ghost use Rattle.sqlite_trees.specs.Tree.{from_key, rowid};
 ghost use Rattle.sqlite_trees.specs.View.{IsClean};
 ghost use Rattle.sqlite_exec.specs.Loops.{left_of};
 ghost use Rattle.osm_rows.specs.Keeping.{IsForeign};
-ghost use Rattle.osm_tree_audits.specs.Looking.{Looks, Steps};
+ghost use Rattle.osm_tree_audits.specs.Looking.{HasTable, KeepsCursor, Looks, Steps};
 ghost use Rattle.osm_tree_audits.specs.Walking.{AreAmong, CanWalk, IsWalk, Leads, reached};
 
 use osm_rows::StoreFault;
@@ -29,7 +29,7 @@ pub(crate) fn begin_walk<S: Store>(
     key: &Row,
 ) -> Result<(), StoreFault>
     requires index { IsClean (S.Store.view store.old) → (S.Store.view store.old).shape index ≡ Shape.Index Order.PLAIN }
-    requires table { IsClean (S.Store.view store.old) → (S.Store.view store.old).shape table ≡ Shape.Table }
+    requires table { HasTable S.Store store.old table }
     ensures ready { OnOk result (CanWalk (S.Store.view store.new)) }
     ensures walk { OnOk result (IsClean (S.Store.view store.new) → IsWalk (S.Store.view store.new) table) }
     ensures placed { OnOk result (IsClean (S.Store.view store.new) → left_of (S.Store.view store.new) 0 ≡ from_key plain key.now ((S.Store.view store.old).trees index)) }
@@ -57,7 +57,7 @@ fn next_has<S: Store>(
     requires { IsSome ((S.Store.view store.old).cursors 1) }
     ensures told { IfOk result (λ told. IsClean (S.Store.view store.new) → IsTrue told → Contains (left_of (S.Store.view store.old) 1) row.new × (rowid row.new ≡ column entry.now width)) }
     ensures left { OnOk result (IsClean (S.Store.view store.new) → AreAmong (left_of (S.Store.view store.old) 1) (left_of (S.Store.view store.new) 1)) }
-    ensures entries { OnOk result (IsClean (S.Store.view store.new) → (S.Store.view store.new).cursors 0 ≡ (S.Store.view store.old).cursors 0) }
+    ensures entries { KeepsCursor S.Store 0 store.old result store.new }
     ensures steps { OnOk result (Steps (S.Store.view store.old) (S.Store.view store.new)) }
     ensures ours { IfErr result (λ fault. ¬ (IsForeign fault)) }
     ensures looks { Looks S.Store store.old store.new }
@@ -80,7 +80,7 @@ fn seek_has<S: Store>(
 ) -> Result<bool, StoreFault>
     ensures told { IfOk result (λ told. IsClean (S.Store.view store.new) → IsTrue told → Contains ((S.Store.view store.old).trees table) row.new × (rowid row.new ≡ column entry.now width)) }
     ensures left { OnOk result (IsClean (S.Store.view store.new) → AreAmong ((S.Store.view store.old).trees table) (left_of (S.Store.view store.new) 1)) }
-    ensures entries { OnOk result (IsClean (S.Store.view store.new) → (S.Store.view store.new).cursors 0 ≡ (S.Store.view store.old).cursors 0) }
+    ensures entries { KeepsCursor S.Store 0 store.old result store.new }
     ensures steps { OnOk result (Steps (S.Store.view store.old) (S.Store.view store.new)) }
     ensures ours { IfErr result (λ fault. ¬ (IsForeign fault)) }
     ensures looks { Looks S.Store store.old store.new }
@@ -109,7 +109,7 @@ fn read_row<S: Store>(
     requires { IsSome ((S.Store.view store.old).cursors 1) }
     ensures found { OnOk result (IsClean (S.Store.view store.new) → AreAmong ((S.Store.view store.old).trees table) (left_of (S.Store.view store.old) 1) → Contains ((S.Store.view store.old).trees table) row.new × (rowid row.new ≡ column entry.now width)) }
     ensures left { OnOk result (IsClean (S.Store.view store.new) → AreAmong ((S.Store.view store.old).trees table) (left_of (S.Store.view store.old) 1) → AreAmong ((S.Store.view store.old).trees table) (left_of (S.Store.view store.new) 1)) }
-    ensures entries { OnOk result (IsClean (S.Store.view store.new) → (S.Store.view store.new).cursors 0 ≡ (S.Store.view store.old).cursors 0) }
+    ensures entries { KeepsCursor S.Store 0 store.old result store.new }
     ensures steps { OnOk result (Steps (S.Store.view store.old) (S.Store.view store.new)) }
     ensures ours { IfErr result (λ fault. ¬ (IsForeign fault)) }
     ensures looks { Looks S.Store store.old store.new }

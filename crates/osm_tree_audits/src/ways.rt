@@ -3,7 +3,7 @@
 ghost use Rattle.std.specs.Prelude.{◌≡◌, length, IsSome, IsTrue, IfOk, IfErr, OnOk};
 ghost use Rattle.sqlite_trees.specs.View.{IsClean};
 ghost use Rattle.osm_rows.specs.Keeping.{IsForeign};
-ghost use Rattle.osm_tree_audits.specs.Looking.{Looks, Steps};
+ghost use Rattle.osm_tree_audits.specs.Looking.{HasTable, Looks, Steps};
 ghost use Rattle.osm_tree_audits.specs.ElementTables.{index_of, table_of};
 ghost use Rattle.osm_tree_audits.specs.Looks.{IsInOrder};
 ghost use Rattle.osm_tree_audits.specs.Walking.{CanWalk, IsWalkBy, Leads, all_reached, reached_by};
@@ -34,7 +34,7 @@ fn begin_by_index<S: Store>(
     key: &Row,
 ) -> Result<Way, StoreFault>
     requires index { IsClean (S.Store.view store.old) → (S.Store.view store.old).shape (index_of of) ≡ Shape.Index Order.PLAIN }
-    requires table { IsClean (S.Store.view store.old) → (S.Store.view store.old).shape (table_of of) ≡ Shape.Table }
+    requires table { HasTable S.Store store.old (table_of of) }
     ensures walk { IfOk result (λ way. IsClean (S.Store.view store.new) → IsWalkBy way (S.Store.view store.new) of) }
     ensures all { IfOk result (λ way. IsClean (S.Store.view store.new) → reached_by way (S.Store.view store.new) of key.now ≡ all_reached (S.Store.view store.old).trees of key.now) }
     ensures ready { OnOk result (CanWalk (S.Store.view store.new)) }
@@ -55,7 +55,7 @@ pub(crate) fn begin<S: Store>(
     key: &Row,
 ) -> Result<Way, StoreFault>
     requires index { IsClean (S.Store.view store.old) → (S.Store.view store.old).shape (index_of of) ≡ Shape.Index Order.PLAIN }
-    requires table { IsClean (S.Store.view store.old) → (S.Store.view store.old).shape (table_of of) ≡ Shape.Table }
+    requires table { HasTable S.Store store.old (table_of of) }
     ensures walk { IfOk result (λ way. IsClean (S.Store.view store.new) → (IsTrue in_order → IsInOrder (S.Store.view store.old).trees of) → IsWalkBy way (S.Store.view store.new) of) }
     ensures all { IfOk result (λ way. IsClean (S.Store.view store.new) → (IsTrue in_order → IsInOrder (S.Store.view store.old).trees of)
         → reached_by way (S.Store.view store.new) of key.now ≡ all_reached (S.Store.view store.old).trees of key.now) }

@@ -197,7 +197,7 @@ appended_row table row next columns old put keyed new apart is shaped after puts
     go None apart enters = appended_one table.tree table.key row next columns is old put keyed shaped after puts keys apart.0.0 new enters
     go (Some i) apart enters = appended_both table.tree table.key row next columns is old put keyed shaped after puts keys apart.0.0 i new enters apart.0.1.0 apart.1.0
 
--- ---- its entries in indexes of somebody's own
+-- ---- its entries in indexes of the user's own
 
 pub kept_more : (more : List AddedIndex) (a b c : Trees) → KeepIndexed more a b → KeepIndexed more b c → KeepIndexed more a c
 kept_more more a b c = all_both (λ (i : AddedIndex). IsIndexOf i.columns (a i.table) (a i.tree) → IsIndexOf i.columns (b i.table) (b i.tree))

@@ -23,7 +23,7 @@ use Rattle.osm_rows.proofs.PutLemmas.Gaining.{gains_then}
 use Rattle.osm_tree_writes.specs.declared.layout.TheConstants.{ELEMENTS, TAGS, LINKS}
 use Rattle.osm_tree_writes.specs.Appending.{IsStoreAt, AreBehind, AreIndexesAt, IsApartOf, IsBehind, IsNoIndex, KeepIndexed, RiseFrom, Appends}
 use Rattle.osm_tree_writes.proofs.AppendLemmas.{with_same, with_other, kept_more}
-use Rattle.osm_tree_writes.specs.Putting.{IsIndexedStore, AreTables, PutsRows, WritesElements, Writes}
+use Rattle.osm_tree_writes.specs.Putting.{IsIndexedStore, AreTables, PutsRows, WritesElements, WritesUncommitted}
 
 -- two steps that write trees and move cursors are one
 rest_then : (a b c : View) → b ≡ record a { trees = b.trees; cursors = b.cursors } → c ≡ record b { trees = c.trees; cursors = c.cursors } → c ≡ record a { trees = c.trees; cursors = c.cursors }
@@ -216,7 +216,7 @@ module _ (more : List AddedIndex) (behind : AreBehind more) (v0 v1 v2 : View) (e
   pub rest : v2 ≡ record v0 { trees = v2.trees; cursors = v2.cursors }
   rest = rest_then v0 v1 v2 set_rest w.rest
 
-  pub written : IsStoreAt v0.shape → (v2.is_broken ≡ false → IsOrdered v2.shape v2.trees) → Writes more v0 v2 extent ps
+  pub written : IsStoreAt v0.shape → (v2.is_broken ≡ false → IsOrdered v2.shape v2.trees) → WritesUncommitted more v0 v2 extent ps
   written at ordered = record {
     sound = sets.sound;
     puts = record {
@@ -237,7 +237,7 @@ module _ (more : List AddedIndex) (behind : AreBehind more) (v0 v1 v2 : View) (e
   }
 
 -- what is written after a read is written after what was before the read
-pub written_after : (more : List AddedIndex) (a b c : View) (extent : Extent) (ps : List Placed) → OnlyReads a b → Writes more b c extent ps → Writes more a c extent ps
+pub written_after : (more : List AddedIndex) (a b c : View) (extent : Extent) (ps : List Placed) → OnlyReads a b → WritesUncommitted more b c extent ps → WritesUncommitted more a c extent ps
 written_after more a b c extent ps reads w = record {
   sound = sym (ap (λ (v : View). v.is_broken) reads) ∙ w.sound;
   puts = subst (λ (ts : Trees). PutsRows more ts c.trees extent ps) (ap (λ (v : View). v.trees) reads) w.puts;

@@ -1,4 +1,4 @@
--- Indexes that somebody has added to the tables of a store, as the list of a database's objects tells of them.
+-- Indexes added to the tables of a store, as the list of a database's objects tells of them.
 use Rattle.std.specs.Prelude.{◌≡◌, ℕ, suc, pos, nat_lt, if◌then◌else◌, Bool, false, not, ◌&&◌, ◌||◌, Option, None, Some, is_some, Ok, Err, List, [], ◌∷◌, codes}
 use Rattle.std.specs.List.{list_any}
 use Rattle.std.specs.Ordering.{is_lt}
@@ -20,7 +20,7 @@ is_of_a_store name = same_name name (codes "meta") || same_name name (codes "blo
 abbrev pub is_own_place : Value → Bool
 is_own_place rowid = is_lt (value_cmp rowid (Int (pos 10)))
 
--- the row of the list tells of an index that somebody has added to a table of a store
+-- the row of the list tells of an index added to a table of a store
 abbrev pub is_added_index : Row → Bool
 is_added_index row = is_word (codes "index") (column row 1) && is_of_a_store (bytes (column row 3)) && not (is_own_place (column row 0))
 
@@ -63,7 +63,7 @@ plain_indexes (row ∷ rows) = with_index (plain_index row) (plain_indexes rows)
 abbrev pub binds_a_store : Row → Bool
 binds_a_store row = is_word (codes "trigger") (column row 1) && is_of_a_store (bytes (column row 3))
 
--- it tells of something of somebody's own that stands on a table of a store
+-- it tells of something of the user's own that stands on a table of a store
 abbrev pub is_on_a_store : Row → Bool
 is_on_a_store row = is_added_index row || binds_a_store row
 
@@ -71,6 +71,6 @@ is_on_a_store row = is_added_index row || binds_a_store row
 abbrev pub is_refused : Row → Bool
 is_refused row = is_on_a_store row && not (is_some (plain_index row))
 
--- each index that somebody has added to a table of a store is one that a put keeps, and no trigger is on one
+-- each index added to a table of a store is one that a put keeps, and no trigger is on one
 abbrev pub AreKept : List Row → Type 0
 AreKept rows = list_any is_refused rows ≡ false

@@ -15,6 +15,7 @@ use Rattle.osm_tree_writes.specs.Added.{AreKept, plain_indexes}
 use Rattle.osm_tree_writes.specs.declared.layout.IndexTree.{IndexTree}
 use Rattle.osm_tree_writes.specs.declared.layout.TableTree.{TableTree}
 use Rattle.osm_tree_writes.specs.declared.layout.TheConstants.{ELEMENTS, TAGS, LINKS}
+use Rattle.osm_rows.specs.declared.trees.TheConstants.{BLOBS, TREES}
 
 -- these many places, from this one on
 abbrev pub places : ℕ → ℕ → List ℕ
@@ -41,7 +42,7 @@ IsTableAt shapes t = (shapes t.tree ≡ Table) × AllByRecursion (IsIndexAt shap
 
 -- the trees have the tables of a store, and their indexes
 abbrev pub IsStoreAt : (ℕ → Shape) → Type 0
-IsStoreAt shapes = (shapes 1 ≡ Table) × IsTableAt shapes ELEMENTS × IsTableAt shapes TAGS × IsTableAt shapes LINKS
+IsStoreAt shapes = (shapes BLOBS ≡ Table) × IsTableAt shapes ELEMENTS × IsTableAt shapes TAGS × IsTableAt shapes LINKS
 
 -- the table and each index have a tree of their own
 abbrev pub IsApart : TableTree → Type 0
@@ -57,9 +58,9 @@ AreIndexesAt shapes more = AllByRecursion (λ (i : AddedIndex). shapes i.tree �
 
 -- an index of the table of elements, of tags or of links, with a tree behind those of a store
 abbrev pub IsBehind : AddedIndex → Type 0
-IsBehind i = (9 ≤ i.tree) × (i.tree < 2 ^ 32) × ((i.table ≡ 2) ⊎ ((i.table ≡ 4) ⊎ (i.table ≡ 6)))
+IsBehind i = (TREES ≤ i.tree) × (i.tree < 2 ^ 32) × ((i.table ≡ ELEMENTS.tree) ⊎ ((i.table ≡ TAGS.tree) ⊎ (i.table ≡ LINKS.tree)))
 
--- indexes of somebody's own, each in a tree of its own
+-- indexes of the user's own, each in a tree of its own
 pub record AreBehind (more : List AddedIndex) : Type 0 where
   pub each : AllByRecursion IsBehind more
   pub apart : IsAscending (λ (i j : AddedIndex). i.tree ≢ j.tree) more
@@ -67,14 +68,14 @@ pub record AreBehind (more : List AddedIndex) : Type 0 where
 -- the trees have these indexes of the tables of elements, of tags and of links, each behind those before, from this one on
 abbrev pub RiseFrom : (ℕ → Shape) → ℕ → List AddedIndex → Type 0
 RiseFrom shapes low [] = Unit {0}
-RiseFrom shapes low (i ∷ is) = (low ≤ i.tree) × (i.tree < 2 ^ 32) × ((i.table ≡ 2) ⊎ ((i.table ≡ 4) ⊎ (i.table ≡ 6))) × (shapes i.tree ≡ Index i.order) × RiseFrom shapes (i.tree + 1) is
+RiseFrom shapes low (i ∷ is) = (low ≤ i.tree) × (i.tree < 2 ^ 32) × ((i.table ≡ ELEMENTS.tree) ⊎ ((i.table ≡ TAGS.tree) ⊎ (i.table ≡ LINKS.tree))) × (shapes i.tree ≡ Index i.order) × RiseFrom shapes (i.tree + 1) is
 
 -- A put can write to trees of these shapes with this list of objects: they have the tables of a store, their indexes, and
--- each index that somebody has added, and no trigger is on one of the tables.
+-- each index that the user has added, and no trigger is on one of the tables.
 pub record TakeBlobs (shapes : ℕ → Shape) (objects : List Row) : Type 0 where
   pub store : IsStoreAt shapes
   pub kept : AreKept objects
-  pub more : RiseFrom shapes 9 (plain_indexes objects)
+  pub more : RiseFrom shapes TREES (plain_indexes objects)
 
 -- none of these indexes is one that this table has anyhow, nor has one of them the rows of such an index
 pub record IsApartOf (table : TableTree) (more : List AddedIndex) : Type 0 where
@@ -108,3 +109,8 @@ pub record Appends (table : TableTree) (more : List AddedIndex) (added : List Ro
   pub more_indexed : KeepIndexed more old.trees new.trees
   pub others : (t : ℕ) → t ≢ table.tree → AllByRecursion (λ (i : IndexTree). i.tree ≢ t) (indexes_of table) → IsNoIndex more t → new.trees t ≡ old.trees t
   pub rest : new ≡ record old { trees = new.trees; cursors = new.cursors }
+
+-- Where each rowid of the table is below that of this row, the table has the row more, behind its own.
+abbrev pub AppendsRow : TableTree → List AddedIndex → Row → View → View → Type 0
+AppendsRow table more row old new = (next : ℤ) (columns : Row) → row ≡ Int next ∷ columns → IsAfter next (old.trees table.tree)
+    → Appends table more (columns ∷ []) old new × (new.trees table.tree ≡ old.trees table.tree ++ row ∷ [])

@@ -1,4 +1,4 @@
-//! Indexes that somebody has added to the tables of a store, as the list of a database's objects tells of them.
+//! Indexes added to the tables of a store, as the list of a database's objects tells of them.
 
 mod index;
 mod row;

@@ -1,14 +1,14 @@
 //! Rows put behind the last one of a table, each with its entries in the table's indexes.
 
-ghost use Rattle.std.specs.Prelude.{◌≡◌, ◌∷◌, ◌++◌, [], map, IsTrue, OnOk};
+ghost use Rattle.std.specs.Prelude.{◌≡◌, ◌∷◌, map, IsTrue, OnOk};
 ghost use Rattle.sqlite_value.specs.declared.value.Value.TheVariants.{Int};
 ghost use Rattle.sqlite_value.specs.Keys.{plain};
 ghost use Rattle.sqlite_trees.specs.declared.store.Shape.TheVariants.{Table};
 ghost use Rattle.sqlite_trees.specs.Tree.{rowid, put_row, insert_entry};
-ghost use Rattle.sqlite_trees.specs.View.{IsClean, OnlyWrites, SetsTree, is_int};
+ghost use Rattle.sqlite_trees.specs.View.{IsClean, SetsTree, is_int};
 ghost use Rattle.sqlite_sql.specs.Catalog.{entry_of};
 ghost use Rattle.sqlite.specs.Values.{bound};
-ghost use Rattle.osm_tree_writes.specs.Appending.{columns_of, AreIndexesAt, IsAfter, IsApart, IsApartOf, IsIndexAt, IsTableAt, Appends, PutsEntries};
+ghost use Rattle.osm_tree_writes.specs.Appending.{columns_of, AreIndexesAt, IsApart, IsApartOf, IsIndexAt, IsTableAt, Appends, AppendsRow, PutsEntries};
 ghost use Rattle.osm_tree_writes.specs.Harmless.{IsHarmless};
 
 use crate::fault::fault_of;
@@ -75,7 +75,7 @@ fn make_entry_of(entry: &mut Row, columns: &[usize], row: &Row) -> Result<(), Al
     entry.push(row.get(0))
 }
 
-/// Puts a row's entry into an index that somebody has added.
+/// Puts a row's entry into an index that the user has added.
 fn put_entry_of<S: Store>(
     store: &mut S,
     added: &Index,
@@ -110,30 +110,7 @@ fn put_entries<S: Store>(
     Ok(())
 }
 
-/// Puts a row behind the last one of a table, with its entries in the indexes of a store.
-fn append_own<S: Store>(
-    store: &mut S,
-    table: &TableTree,
-    row: &Row,
-    entry: &mut Row,
-) -> Result<(), StoreFault>
-    requires shaped { IsClean (S.Store.view store.old) → IsTableAt (S.Store.view store.old).shape table.now }
-    requires apart { IsApart table.now }
-    requires keyed { IsTrue (is_int (rowid row.now)) }
-    ensures appended { OnOk result (IsClean (S.Store.view store.new) → (next : _) (columns : _) → row.now ≡ Int next ∷ columns → IsAfter next ((S.Store.view store.old).trees table.now.tree)
-        → Appends table.now [] (columns ∷ []) (S.Store.view store.old) (S.Store.view store.new) × ((S.Store.view store.new).trees table.now.tree ≡ (S.Store.view store.old).trees table.now.tree ++ row.now ∷ [])) }
-    ensures frame { OnOk result (IsClean (S.Store.view store.new) → OnlyWrites (S.Store.view store.old) (S.Store.view store.new)) }
-    ensures harmless { IsHarmless S.Store.view S.Store.faults S.Store.recovers S.Store.is_shielded store.old result store.new }
-{
-    put_table_row(store, table.tree, row)?;
-    put_entry(store, table.key, row, entry)?;
-    match table.by_id {
-        Some(index) => put_entry(store, index, row, entry),
-        None => Ok(()),
-    }
-}
-
-/// Puts a row behind the last one of a table, with its entries in the indexes of a store, and in those that somebody has added.
+/// Puts a row behind the last one of a table, with its entries in the indexes of a store, and in those that the user has added.
 fn append_row<S: Store>(
     store: &mut S,
     table: &TableTree,
@@ -146,11 +123,14 @@ fn append_row<S: Store>(
     requires apart { IsApart table.now }
     requires apart_of { IsApartOf table.now more.now }
     requires keyed { IsTrue (is_int (rowid row.now)) }
-    ensures appended { OnOk result (IsClean (S.Store.view store.new) → (next : _) (columns : _) → row.now ≡ Int next ∷ columns → IsAfter next ((S.Store.view store.old).trees table.now.tree)
-        → Appends table.now more.now (columns ∷ []) (S.Store.view store.old) (S.Store.view store.new) × ((S.Store.view store.new).trees table.now.tree ≡ (S.Store.view store.old).trees table.now.tree ++ row.now ∷ [])) }
+    ensures appended { OnOk result (IsClean (S.Store.view store.new) → AppendsRow table.now more.now row.now (S.Store.view store.old) (S.Store.view store.new)) }
     ensures harmless { IsHarmless S.Store.view S.Store.faults S.Store.recovers S.Store.is_shielded store.old result store.new }
 {
-    append_own(store, table, row, entry)?;
+    put_table_row(store, table.tree, row)?;
+    put_entry(store, table.key, row, entry)?;
+    if let Some(index) = table.by_id {
+        put_entry(store, index, row, entry)?;
+    }
     put_entries(store, table.tree, more, row, entry)
 }
 

@@ -49,7 +49,7 @@ fn has_none<S: Store>(
     }
 }
 
-/// Whether no row of the tables of elements has this offset, as far as their primary keys tell: a row that somebody put there
+/// Whether no row of the tables of elements has this offset, as far as their primary keys tell: a row that another program put there
 /// would have a key of a new one.
 pub(crate) fn are_places_free<S: Store>(
     alloc: Global,

@@ -3,8 +3,7 @@
 ghost use Rattle.std.specs.Prelude.{◌≡◌, ◌⊎◌, ◌↔◌, ◌<◌, ◌≤◌, ◌^◌, IsTrue};
 ghost use Rattle.osm_tree_writes.specs.Appending.{IsIndexAt, IsTableAt, RiseFrom};
 
-use crate::trees;
-use crate::trees::TREES;
+use osm_rows::trees::{self, TREES};
 use sqlite_schema::schema::Index;
 use sqlite_trees::store::{Shape, Store};
 use sqlite_value::keys::Order;
@@ -88,7 +87,7 @@ fn has_elements(table: u32) -> bool
     table == trees::ELEMENTS || table == trees::TAGS || table == trees::LINKS
 }
 
-/// Whether the trees have this index that somebody has added, from this number on and over a table of elements.
+/// Whether the trees have this index that the user has added, from this number on and over a table of elements.
 fn is_behind<S: Store>(store: &S, low: u64, index: &Index) -> bool
     ensures { IsTrue result ↔ ((low ≤ index.now.tree) × (index.now.tree < 2 ^ 32) × ((index.now.table ≡ 2) ⊎ ((index.now.table ≡ 4) ⊎ (index.now.table ≡ 6))) × ((S.Store.view store.now).shape index.now.tree ≡ Shape.Index index.now.order)) }
 {
@@ -98,7 +97,7 @@ fn is_behind<S: Store>(store: &S, low: u64, index: &Index) -> bool
         && has_elements(index.table)
 }
 
-/// Whether the trees have these indexes that somebody has added, each behind those before and behind the trees of a
+/// Whether the trees have these indexes that the user has added, each behind those before and behind the trees of a
 /// store, over tables of elements.
 pub(crate) fn has_more<S: Store>(store: &S, more: &[Index]) -> bool
     ensures { IsTrue result ↔ RiseFrom (S.Store.view store.now).shape TREES more.now }

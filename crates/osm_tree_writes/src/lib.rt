@@ -9,7 +9,6 @@ pub mod laws;
 mod layout;
 mod put;
 mod rowid;
-pub mod trees;
 
 pub use added::{binds_a_store, is_added_index, is_of_a_store, plain_index, plain_indexes};
 pub use fault::fault_of;

@@ -1,25 +1,25 @@
 //! A blob's rows, put into the trees in one transaction.
 
-ghost use Rattle.std.specs.Prelude.{◌≡◌, ◌↔◌, ◌⊎◌, ◌+◌, ◌<◌, ◌≤◌, ◌^◌, false, length, IsTrue, IsSome, IfSome, OnOk, OnErr, IfOk, IfErr};
+ghost use Rattle.std.specs.Prelude.{◌≡◌, ◌↔◌, ◌+◌, ◌<◌, ◌≤◌, ◌^◌, length, IsTrue, IsSome, IfSome, OnOk, IfOk};
 ghost use Rattle.std.specs.List.{AllByRecursion};
 ghost use Rattle.sqlite_trees.specs.declared.store.Shape.TheVariants.{Table};
 ghost use Rattle.sqlite_trees.specs.Objects.{catalog_tree};
-ghost use Rattle.sqlite_trees.specs.Tree.{Trees, put_row};
-ghost use Rattle.sqlite_trees.specs.View.{doubt, IsClean, SetsTree};
+ghost use Rattle.sqlite_trees.specs.Tree.{put_row};
+ghost use Rattle.sqlite_trees.specs.View.{IsClean, SetsTree};
 ghost use Rattle.osm_value.specs.Elements.{IsElement};
-ghost use Rattle.osm_rows.specs.Keeping.{IsForeign};
 ghost use Rattle.osm_rows.specs.Rows.{placed, extent_row};
 ghost use Rattle.osm_tree_writes.specs.Added.{AreKept, plain_indexes};
 ghost use Rattle.osm_tree_writes.specs.Appending.{AreBehind, AreIndexesAt, IsStoreAt, RiseFrom, TakeBlobs};
 ghost use Rattle.osm_tree_writes.specs.Harmless.{IsHarmless};
-ghost use Rattle.osm_tree_writes.specs.Putting.{PutsBelow, Writes, WritesElements};
+ghost use Rattle.osm_tree_writes.specs.Putting.{PutsBlob, WritesUncommitted, WritesElements};
+ghost use Rattle.osm_rows.specs.declared.trees.TheConstants.{TREES};
 
 use crate::added::plain_indexes;
 use crate::append::{append_rows, put_table_row};
 use crate::fault::fault_of;
 use crate::free::are_places_free;
 use crate::layout::{ELEMENTS, LINKS, TAGS, has_more, has_table};
-use crate::trees::BLOBS;
+use osm_rows::trees::BLOBS;
 use osm_rows::{Extent, StoreFault, blob_code, element_rows, link_rows, tag_rows};
 use osm_value::Element;
 use osm_value::laws::elements_in_range;
@@ -43,10 +43,10 @@ fn has_tables<S: Store>(store: &S) -> bool
         && has_table(store, &LINKS)
 }
 
-/// The indexes that somebody has added to the tables of a store, each of which has to get the entries of the rows that a put
+/// The indexes added to the tables of a store, each of which has to get the entries of the rows that a put
 /// writes; none where a put can't write to these trees, as where a trigger is on one of the tables.
 fn indexes_to_keep<S: Alter>(alloc: Global, store: &S) -> Result<Option<Vec<Index>>, AllocError>
-    ensures shaped { IfOk result (λ found. IfSome found (λ more. IsStoreAt (S.Store.view store.now).shape × RiseFrom (S.Store.view store.now).shape 9 more.items)) }
+    ensures shaped { IfOk result (λ found. IfSome found (λ more. IsStoreAt (S.Store.view store.now).shape × RiseFrom (S.Store.view store.now).shape TREES more.items)) }
     ensures all { IfOk result (λ found. IfSome found (λ more. IsClean (S.Store.view store.now) → AreKept ((S.Store.view store.now).trees catalog_tree) × (more.items ≡ plain_indexes ((S.Store.view store.now).trees catalog_tree)))) }
     ensures none { IfOk result (λ found. IsClean (S.Store.view store.now) → TakeBlobs (S.Store.view store.now).shape ((S.Store.view store.now).trees catalog_tree) → IsSome found) }
 {
@@ -90,9 +90,9 @@ fn extent_row(alloc: Global, extent: &Extent) -> Result<Row, AllocError>
 
 /// Puts the row of a blob into its table.
 fn put_extent<S: Store>(alloc: Global, store: &mut S, extent: &Extent) -> Result<(), StoreFault>
-    requires shaped { IsClean (S.Store.view store.old) → (S.Store.view store.old).shape 1 ≡ Table }
+    requires shaped { IsClean (S.Store.view store.old) → (S.Store.view store.old).shape BLOBS ≡ Table }
     requires bounds { (extent.now.off ≤ MAX_OFFSET) × (extent.now.fin ≤ MAX_OFFSET) × (extent.now.n < 2 ^ 63) }
-    ensures ok { OnOk result (IsClean (S.Store.view store.new) → SetsTree (S.Store.view store.old) (S.Store.view store.new) 1 (put_row (extent_row extent.now))) }
+    ensures ok { OnOk result (IsClean (S.Store.view store.new) → SetsTree (S.Store.view store.old) (S.Store.view store.new) BLOBS (put_row (extent_row extent.now))) }
     ensures harmless { IsHarmless S.Store.view S.Store.faults S.Store.recovers S.Store.is_shielded store.old result store.new }
 {
     let row = extent_row(alloc, extent)?;
@@ -160,7 +160,7 @@ fn write_rows<S: Alter>(
     elements: &[Element],
 ) -> Result<(), StoreFault>
     requires bounds { (extent.now.off ≤ MAX_OFFSET) × (extent.now.fin ≤ MAX_OFFSET) × (extent.now.n < 2 ^ 63) }
-    ensures written { OnOk result (IsClean (S.Store.view store.new) → Writes (plain_indexes ((S.Store.view store.old).trees catalog_tree)) (S.Store.view store.old) (S.Store.view store.new) extent.now (placed extent.now.off 0 elements.now)) }
+    ensures written { OnOk result (IsClean (S.Store.view store.new) → WritesUncommitted (plain_indexes ((S.Store.view store.old).trees catalog_tree)) (S.Store.view store.old) (S.Store.view store.new) extent.now (placed extent.now.off 0 elements.now)) }
     ensures can_store { OnOk result (AllByRecursion IsElement elements.now) }
     ensures indexed { OnOk result (IsClean (S.Store.view store.old) → TakeBlobs (S.Store.view store.old).shape ((S.Store.view store.old).trees catalog_tree)) }
     ensures harmless { IsHarmless S.Store.view S.Store.faults S.Store.recovers S.Store.is_shielded store.old result store.new }
@@ -177,7 +177,7 @@ fn write_rows<S: Alter>(
     append_elements(alloc, store, extent.off, elements, more.as_slice())
 }
 
-/// One transaction adds the rows of a blob and of its elements, or nothing. Each index that somebody has added to the
+/// One transaction adds the rows of a blob and of its elements, or nothing. Each index added to the
 /// tables gets an entry for each row, and no other tree behind those of a store is touched. A fault is `Memory`, `Full` where
 /// there is no room, and else `Disk`, as where the trees take no blobs (`takes_blobs`) or have rows at the blob's offset that
 /// are those of no blob; what was committed before stays, and where the trees needn't be opened again they are those of that
@@ -189,17 +189,7 @@ pub fn put_blob<S: Alter>(
     elements: &[Element],
 ) -> Result<(), StoreFault>
     requires bounds { (extent.now.off ≤ MAX_OFFSET) × (extent.now.fin ≤ MAX_OFFSET) × (extent.now.n < 2 ^ 63) }
-    ensures added { IsClean (S.Store.view store.new) → OnOk result (PutsBelow (S.Store.view store.old).trees (S.Store.view store.new).trees extent.now (placed extent.now.off 0 elements.now)) }
-    ensures can_store { OnOk result (AllByRecursion IsElement elements.now) }
-    ensures indexed { OnOk result (IsClean (S.Store.view store.old) → TakeBlobs (S.Store.view store.old).shape ((S.Store.view store.old).trees catalog_tree)) }
-    ensures committed { IsClean (S.Store.view store.new) → OnOk result (((S.Store.view store.old).is_broken ≡ false) × ((S.Store.view store.new).is_broken ≡ false) × ((S.Store.view store.new).committed ≡ (S.Store.view store.new).trees)) }
-    ensures unchanged { IsClean (S.Store.view store.new) → IsTrue (S.Store.view store.new).is_open
-        → OnErr result (IsTrue (S.Store.view store.old).is_open × ((S.Store.view store.new).is_broken ≡ false) × ((S.Store.view store.new).trees ≡ (S.Store.view store.old).committed) × ((S.Store.view store.new).committed ≡ (S.Store.view store.old).committed)) }
-    ensures ours { IfErr result (λ fault. ¬ (IsForeign fault)) }
-    ensures clean { doubt (S.Store.view store.old).is_clean ≤ doubt (S.Store.view store.new).is_clean }
-    // a crash leaves what it could leave before, or the trees with the whole blob
-    ensures crash { IsClean (S.Store.view store.new) → (db : Trees) → S.Store.recovers store.new db
-        → S.Store.recovers store.old db ⊎ (((S.Store.view store.old).is_broken ≡ false) × AllByRecursion IsElement elements.now × PutsBelow (S.Store.view store.old).trees db extent.now (placed extent.now.off 0 elements.now)) }
+    ensures { PutsBlob S.Store store.old store.new extent.now elements.now result }
 {
     if store.is_broken() {
         store.rollback();

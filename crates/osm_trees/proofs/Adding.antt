@@ -1,22 +1,21 @@
 -- A put of a blob's rows into the trees keeps what a keeper promises of it.
 use Rattle.std.proofs.Common.{◌≡◌, ◌⊎◌, inl, inr, ℕ, ◌<◌, ◌≤◌, false, List, length, IsTrue, Result, Ok, Err, ap, sym, ◌∙◌, arith}
-use Rattle.std.specs.Prelude.{OnOk, OnErr, IfErr}
 use Rattle.std.specs.List.{AllByRecursion}
 use Rattle.sqlite_value.specs.Order.{Row}
 use Rattle.sqlite_trees.specs.declared.store.Store.{Ghosts}
 use Rattle.sqlite_trees.specs.Tree.{Trees}
-use Rattle.sqlite_trees.specs.View.{doubt, IsClean}
+use Rattle.sqlite_trees.specs.View.{IsClean}
 use Rattle.sqlite_trees.specs.Objects.{catalog_tree}
 use Rattle.pbf_frame.specs.declared.part.TheConstants.{MAX_OFFSET}
 use Rattle.osm_value.specs.Elements.{IsElement}
 use Rattle.osm_rows.specs.declared.fault.StoreFault.{StoreFault}
 use Rattle.osm_rows.specs.declared.schema.layout.Layout.TheVariants.{Tables}
 use Rattle.osm_rows.specs.Held.{Blob, HeldMap}
-use Rattle.osm_rows.specs.Keeping.{IsAddable, IsForeign, extent_of, failures_after, with_blob}
+use Rattle.osm_rows.specs.Keeping.{IsAddable, extent_of, failures_after, with_blob}
 use Rattle.osm_rows.specs.LayoutHolding.{IsBlob, IsKept}
 use Rattle.osm_rows.specs.Rows.{placed}
 use Rattle.osm_rows.proofs.MapLemmas.OneMore.{kept_more}
-use Rattle.osm_tree_writes.specs.Putting.{PutsBelow, TreesHold}
+use Rattle.osm_tree_writes.specs.Putting.{PutsBelow, PutsBlob, TreesHold}
 use Rattle.osm_tree_writes.proofs.Obeying.{hold_with, one_map_below}
 use Rattle.osm_trees.specs.Below.{HoldsBelow, IsUsable, MayLeave, LeavesAMap, ListsAlways}
 use Rattle.osm_trees.specs.Putting.{AddsBelow}
@@ -27,23 +26,13 @@ use Rattle.osm_trees.proofs.Mending.{holds_still}
 abbrev pub Puts : ℕ → Blob → Trees → Trees → Type 0
 Puts off blob old new = PutsBelow old new (extent_of (off, blob)) (placed off 0 blob.elements)
 
--- what the writing of a blob's rows says
-pub record Wrote {S T : Type 0} (g : Ghosts S) (off : ℕ) (blob : Blob) (old new : S) (r : Result T StoreFault) : Type 0 where
-  pub added : IsClean (g.view new) → OnOk r (Puts off blob (g.view old).trees (g.view new).trees)
-  pub can_store : OnOk r (AllByRecursion IsElement blob.elements)
-  pub committed : IsClean (g.view new) → OnOk r (((g.view old).is_broken ≡ false) × ((g.view new).is_broken ≡ false) × ((g.view new).committed ≡ (g.view new).trees))
-  pub unchanged : IsClean (g.view new) → IsTrue (g.view new).is_open → OnErr r (IsTrue (g.view old).is_open × ((g.view new).is_broken ≡ false) × ((g.view new).trees ≡ (g.view old).committed) × ((g.view new).committed ≡ (g.view old).committed))
-  pub ours : IfErr r (λ fault. ¬ (IsForeign fault))
-  pub clean : doubt (g.view old).is_clean ≤ doubt (g.view new).is_clean
-  pub crash : IsClean (g.view new) → (db : Trees) → g.recovers new db → g.recovers old db ⊎ (((g.view old).is_broken ≡ false) × AllByRecursion IsElement blob.elements × Puts off blob (g.view old).trees db)
-
 module _ {S : Type 0} (g : Ghosts S) (old new : Reading S) (off : ℕ) (blob : Blob) (order : off < blob.fin) (limit : blob.fin ≤ MAX_OFFSET) (digest : length blob.digest ≡ 32)
     (settles : (db : Trees) → IsTrue (g.view old.store).is_open → g.recovers old.store db → db ≡ (g.view old.store).committed) (shuts : (g.view old.store).is_open ≡ false → IsTrue (g.view old.store).is_broken) where
   was_open : (g.view old.store).is_broken ≡ false → IsTrue (g.view old.store).is_open
   was_open = open_of _ _ shuts
 
   abbrev Written : Result (Unit {0}) StoreFault → Type 0
-  Written r = Wrote g off blob old.store new.store r
+  Written r = PutsBlob g old.store new.store (extent_of (off, blob)) blob.elements r
 
   -- ---- where a map is held that can take the blob
   module _ (held : HeldMap) (holds : HoldsBelow Tables (g.view old.store) held) (can : IsAddable held off blob) where

@@ -1,4 +1,4 @@
--- A read of the trees is one of a store of them whose indexes were looked at.
+-- A read of the trees is one of a store of them whose indexes were checked.
 use Rattle.std.proofs.Common.{◌≡◌, false, IsTrue, Result, Ok, Err, refl, subst}
 use Rattle.sqlite_trees.specs.declared.store.Store.{Ghosts}
 use Rattle.osm_rows.specs.declared.fault.StoreFault.{StoreFault}

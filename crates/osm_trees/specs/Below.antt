@@ -1,5 +1,6 @@
 -- When the trees of a store hold a map, with no word of SQL, and what a read leaves of them.
 use Rattle.std.specs.Prelude.{◌≡◌, Bool, false, IsTrue, List, [], ◌∷◌}
+use Rattle.sqlite.specs.State.{State, HasCleanDisk, IsLive, Opens}
 use Rattle.sqlite_value.specs.Order.{Row, column}
 use Rattle.sqlite_trees.specs.declared.store.Store.{Ghosts}
 use Rattle.sqlite_trees.specs.Tree.{Trees}
@@ -12,6 +13,7 @@ use Rattle.osm_rows.specs.LayoutHolding.{IsKept}
 use Rattle.osm_rows.specs.Rows.{version_row}
 use Rattle.osm_tree_writes.specs.Appending.{IsStoreAt}
 use Rattle.osm_tree_writes.specs.Putting.{IsIndexedStore, TreesHold}
+use Rattle.osm_rows.specs.declared.trees.TheConstants.{META}
 
 -- the store can go on, nothing is written, and its trees' rows are those of this map and of no other
 pub record HoldsBelow (layout : Layout) (v : View) (held : HeldMap) : Type 0 where
@@ -21,6 +23,10 @@ pub record HoldsBelow (layout : Layout) (v : View) (held : HeldMap) : Type 0 whe
   pub kept : IsKept layout held
   pub tables : TreesHold layout held v.trees
   pub only : (other : HeldMap) → IsKept layout other → TreesHold layout other v.trees → other ≡ held
+
+-- said where a connection was opened over these trees, which an honest disk keeps
+abbrev pub WhereOpenedOver : Trees → State → Type 0 → Type 0
+WhereOpenedOver db opened P = HasCleanDisk opened → Opens opened → IsLive opened → opened.now.trees ≡ db → P
 
 -- what was broken is rolled back, what wasn't stays, and a crash leaves nothing new
 pub record Mends {S : Type 0} (g : Ghosts S) (old new : S) : Type 0 where
@@ -68,4 +74,4 @@ pub record IsChecked (v : View) : Type 0 where
   pub unbroken : v.is_broken ≡ false
   pub indexed : IsIndexed v
   pub shaped : IsStoreAt v.shape
-  pub version : v.trees 0 ≡ version_row Tables ∷ []
+  pub version : v.trees META ≡ version_row Tables ∷ []

@@ -1,4 +1,4 @@
--- What callers see of a store whose indexes were looked at, and what a read leaves of it.
+-- What callers see of a store whose indexes were checked, and what a read leaves of it.
 use Rattle.std.specs.Prelude.{◌≡◌, ℕ, Bool, refl, Result}
 use Rattle.std.proofs.Common.{sym, subst, ◌∙◌}
 use Rattle.std.specs.Coded.{Coded, code_by, coded×, coded_ℕ, coded_bool}
@@ -16,7 +16,7 @@ use Rattle.osm_trees.specs.Reading.{Reading, indexed_after, reading_code, same_n
 
 pub record Checking (S : Type 0) : Type 0 where
   pub trees : Reading S
-  -- what was seen of the tables as the indexes were looked at
+  -- what was seen of the tables as the indexes were checked
   pub look : Look
 
 abbrev pub checking_code : {S : Type 0} → Coded S → Coded (Checking S)

@@ -18,7 +18,7 @@ abbrev pub AddsBelow : {S T : Type 0} → Ghosts S → ℕ → Blob → Reading 
 AddsBelow g off blob old result new = Adds (λ r held. HoldsBelow Tables (g.view r.store) held) (λ r left. MayLeave (g.recovers r.store) left) (λ r. LeavesAMap (g.recovers r.store)) (λ r rows. ListsAlways (g.view r.store) (g.recovers r.store) rows) (λ r s. SameTrees (g.view r.store) (g.view s.store))
     (λ r. IsClean (g.view r.store)) (λ r. IsUsable (g.view r.store)) (λ r. r.failures) off blob old result new
 
--- Of the indexes that somebody has added to the tables, as the list of objects tells of them, each that had one entry for each
+-- Of the indexes added to the tables, as the list of objects tells of them, each that had one entry for each
 -- row of its table has one for each still; and so it is in what a crash leaves.
 pub record KeepsAddedIndexes {S T : Type 0} (g : Ghosts S) (old new : S) (r : Result T StoreFault) : Type 0 where
   pub written : IsClean (g.view new) → OnOk r (KeepIndexed (plain_indexes ((g.view old).trees catalog_tree)) (g.view old).trees (g.view new).trees)

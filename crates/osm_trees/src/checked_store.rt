@@ -1,9 +1,9 @@
-//! A store in the layout of tables, over trees, each index of which was looked at.
+//! A store in the layout of tables, over trees, each index of which was checked.
 
 ghost use Rattle.std.specs.Prelude.{◌≡◌};
 
 use crate::TreeStore;
-use osm_rows::{Audited, Counts, Extent, Found, Loaded, Reader, StoreFault};
+use osm_rows::{Audited, BlobReader, Counts, Extent, Found, Loaded, StoreFault};
 use osm_tree_audits::Look;
 use osm_value::{Element, MemberKind};
 use pbf_frame::Kind;
@@ -11,7 +11,7 @@ use sqlite_trees::store::Store;
 use std::alloc::Global;
 use std::marker::Model;
 
-/// A store over the trees of its database, each index of which was looked at. What was seen of its tables then stays so, since
+/// A store over the trees of its database, each index of which was checked. What was seen of its tables then stays so, since
 /// nothing is ever put into it.
 pub struct CheckedStore<S: Store> {
     trees: TreeStore<S>,
@@ -51,7 +51,7 @@ impl<S: Store> CheckedStore<S> {
     }
 }
 
-impl<S: Store> Reader for CheckedStore<S> {
+impl<S: Store> BlobReader for CheckedStore<S> {
     ghost use Rattle.sqlite_trees.specs.View.{IsClean};
     ghost use Rattle.osm_rows.specs.declared.schema.layout.Layout.TheVariants.{Tables};
     ghost use Rattle.osm_rows.specs.StoreLaws.{few_texts_of, open_or_shut};

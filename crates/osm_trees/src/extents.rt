@@ -10,13 +10,13 @@ ghost use Rattle.osm_rows.specs.Held.{HeldMap};
 ghost use Rattle.osm_rows.specs.Keeping.{IsForeign, IsRange, AscendApart, extents_of, touches};
 ghost use Rattle.osm_rows.specs.LayoutHolding.{IsKeptExtent};
 ghost use Rattle.osm_rows.specs.Rows.{extent_row};
-ghost use Rattle.osm_tree_audits.specs.Looking.{Looks};
+ghost use Rattle.osm_tree_audits.specs.Looking.{IsSound, Looks};
 ghost use Rattle.osm_trees.specs.Below.{HoldsBelow};
 
 use crate::row::extent_of;
+use osm_rows::trees::BLOBS;
 use osm_rows::{Extent, StoreFault, are_apart};
 use osm_tree_writes::fault_of;
-use osm_tree_writes::trees::BLOBS;
 use pbf_frame::MAX_OFFSET;
 use sqlite_trees::store::{Direction, Shape, Store};
 use sqlite_value::row::Row;
@@ -25,10 +25,10 @@ use std::alloc::{AllocError, Global};
 
 /// The extents that the rows of the tree stand for.
 fn read_extents<S: Store>(alloc: Global, store: &mut S) -> Result<Vec<Extent>, StoreFault>
-    ensures rows { IsClean (S.Store.view store.new) → (extents : List Held) → All IsKeptExtent extents → (S.Store.view store.old).trees 1 ≡ map extent_row extents
+    ensures rows { IsClean (S.Store.view store.new) → (extents : List Held) → All IsKeptExtent extents → (S.Store.view store.old).trees BLOBS ≡ map extent_row extents
         → MatchResult result (λ found. found.items ≡ extents) (λ fault. ¬ (IsForeign fault)) }
     ensures ranges { IfOk result (λ found. All IsRange found.items) }
-    ensures sound { OnOk result (IsClean (S.Store.view store.new) → (S.Store.view store.new).is_broken ≡ false) }
+    ensures sound { OnOk result (IsSound S.Store store.new) }
     ensures reads { IsClean (S.Store.view store.new) → (S.Store.view store.new).is_broken ≡ false → OnlyReads (S.Store.view store.old) (S.Store.view store.new) }
     ensures quiet { IsQuiet S.Store.view S.Store.faults S.Store.recovers S.Store.is_shielded store.old store.new }
 {
@@ -87,10 +87,10 @@ fn read_touched<S: Store>(
     to: u64,
 ) -> Result<Vec<Extent>, StoreFault>
     requires { (from < to) × (to ≤ MAX_OFFSET) }
-    ensures rows { IsClean (S.Store.view store.new) → (extents : List Held) → All IsKeptExtent extents → AscendApart extents → (S.Store.view store.old).trees 1 ≡ map extent_row extents
+    ensures rows { IsClean (S.Store.view store.new) → (extents : List Held) → All IsKeptExtent extents → AscendApart extents → (S.Store.view store.old).trees BLOBS ≡ map extent_row extents
         → MatchResult result (λ found. found.items ≡ reverse (filter (touches from to) extents)) (λ fault. ¬ (IsForeign fault)) }
     ensures ranges { IfOk result (λ found. All IsRange found.items) }
-    ensures sound { OnOk result (IsClean (S.Store.view store.new) → (S.Store.view store.new).is_broken ≡ false) }
+    ensures sound { OnOk result (IsSound S.Store store.new) }
     ensures reads { IsClean (S.Store.view store.new) → (S.Store.view store.new).is_broken ≡ false → OnlyReads (S.Store.view store.old) (S.Store.view store.new) }
     ensures quiet { IsQuiet S.Store.view S.Store.faults S.Store.recovers S.Store.is_shielded store.old store.new }
 {

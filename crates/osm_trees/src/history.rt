@@ -8,12 +8,12 @@ ghost use Rattle.osm_rows.specs.declared.schema.layout.Layout.TheVariants.{Table
 ghost use Rattle.osm_rows.specs.Flags.{has_flags};
 ghost use Rattle.osm_rows.specs.Held.{HeldMap};
 ghost use Rattle.osm_rows.specs.Keeping.{IsForeign};
-ghost use Rattle.osm_tree_audits.specs.Looking.{Looks};
+ghost use Rattle.osm_tree_audits.specs.Looking.{IsSound, Looks};
 ghost use Rattle.osm_trees.specs.Below.{HoldsBelow, is_flagged};
 
 use osm_rows::StoreFault;
+use osm_rows::trees::ELEMENTS;
 use osm_tree_writes::fault_of;
-use osm_tree_writes::trees::ELEMENTS;
 use sqlite_trees::store::{Direction, Store};
 use sqlite_value::row::Row;
 use sqlite_value::value::ValueRef;
@@ -28,8 +28,8 @@ fn is_flagged(row: &Row) -> bool
 
 /// Whether any row of the table of elements has a flag. The walk ends at the first that has one.
 fn meets_flag<S: Store>(alloc: Global, store: &mut S) -> Result<bool, StoreFault>
-    ensures found { IfOk result (λ found. IsClean (S.Store.view store.new) → found ≡ list_any is_flagged ((S.Store.view store.old).trees 2)) }
-    ensures sound { OnOk result (IsClean (S.Store.view store.new) → (S.Store.view store.new).is_broken ≡ false) }
+    ensures found { IfOk result (λ found. IsClean (S.Store.view store.new) → found ≡ list_any is_flagged ((S.Store.view store.old).trees ELEMENTS)) }
+    ensures sound { OnOk result (IsSound S.Store store.new) }
     ensures reads { IsClean (S.Store.view store.new) → (S.Store.view store.new).is_broken ≡ false → OnlyReads (S.Store.view store.old) (S.Store.view store.new) }
     ensures ours { IfErr result (λ fault. ¬ (IsForeign fault)) }
     ensures quiet { IsQuiet S.Store.view S.Store.faults S.Store.recovers S.Store.is_shielded store.old store.new }

@@ -4,16 +4,15 @@ ghost use Rattle.std.specs.Prelude.{◌≡◌, false};
 ghost use Rattle.sqlite_trees.specs.Objects.{catalog_tree};
 ghost use Rattle.sqlite_catalog.specs.Listing.{Lists};
 ghost use Rattle.sqlite.specs.Held.{state};
-ghost use Rattle.sqlite.specs.State.{HasCleanDisk, IsLive, Opens};
 ghost use Rattle.osm_rows.specs.declared.schema.layout.Layout.{Layout};
 ghost use Rattle.osm_rows.specs.declared.schema.layout.Layout.TheVariants.{Tables};
 ghost use Rattle.osm_rows.specs.Schema.Tables.{table_schema};
 ghost use Rattle.osm_rows.specs.Held.{HeldMap};
 ghost use Rattle.osm_rows.specs.LayoutHolding.{Holds};
-ghost use Rattle.osm_trees.specs.Below.{HoldsBelow};
+ghost use Rattle.osm_trees.specs.Below.{HoldsBelow, WhereOpenedOver};
 
 use crate::tree_store::TreeStore;
-use osm_rows::Reader;
+use osm_rows::BlobReader;
 use osm_rows::laws::holds_again;
 use sqlite::{Alter, Connection, MemStore};
 use sqlite_trees::store::Store;
@@ -26,9 +25,9 @@ pub fn holds_below<S: Alter>(connection: &Connection<S>)
     let _connection = connection;
 }
 
-/// A crash leaves of trees that hold a map what these list, whatever somebody has beside a store's own.
+/// A crash leaves of trees that hold a map what these list, whatever the user has beside a store's own.
 pub fn a_crash_leaves_the_list<S: Store>(store: &TreeStore<S>)
-    ensures { (held : HeldMap) → ⟦<TreeStore<S> as Reader>⟧.holds store.now held → ⟦<TreeStore<S> as Reader>⟧.lists store.now ((S.Store.view store.now.store).trees catalog_tree) }
+    ensures { (held : HeldMap) → ⟦<TreeStore<S> as BlobReader>⟧.holds store.now held → ⟦<TreeStore<S> as BlobReader>⟧.lists store.now ((S.Store.view store.now.store).trees catalog_tree) }
 {
     let _store = store;
 }
@@ -39,17 +38,17 @@ pub fn a_connection_holds_the_same<T: Store, S: Alter>(
     before: &TreeStore<T>,
     connection: &Connection<S>,
 )
-    ensures { (held : HeldMap) → HoldsBelow Tables (T.Store.view before.now.store) held → HasCleanDisk (state S.Store connection.now) → Opens (state S.Store connection.now) → IsLive (state S.Store connection.now)
-        → (state S.Store connection.now).now.trees ≡ (T.Store.view before.now.store).committed → Lists ((T.Store.view before.now.store).committed catalog_tree) table_schema → Holds Tables (state S.Store connection.now) held }
+    ensures { (held : HeldMap) → HoldsBelow Tables (T.Store.view before.now.store) held → WhereOpenedOver (T.Store.view before.now.store).committed (state S.Store connection.now)
+        (Lists ((T.Store.view before.now.store).committed catalog_tree) table_schema → Holds Tables (state S.Store connection.now) held) }
 {
     let _before = before;
     holds_again(connection);
 }
 
 /// A store in memory stays usable: its trees are what was written, and it needn't be opened again after any answer. So what
-/// `Reader` and `Keeper` promise of a store that is usable holds of it whatever is answered.
+/// `BlobReader` and `BlobKeeper` promise of a store that is usable holds of it whatever is answered.
 pub fn memory_goes_on(store: &TreeStore<MemStore>)
-    ensures { ⟦<TreeStore<MemStore> as Reader>⟧.is_honest store.now × ⟦<TreeStore<MemStore> as Reader>⟧.is_open store.now }
+    ensures { ⟦<TreeStore<MemStore> as BlobReader>⟧.is_honest store.now × ⟦<TreeStore<MemStore> as BlobReader>⟧.is_open store.now }
 {
     let _asked = store;
 }

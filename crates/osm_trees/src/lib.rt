@@ -1,4 +1,4 @@
-//! A store of blobs below SQL, over the trees of its database; and one that is read alone, each index of which was looked at.
+//! A store of blobs below SQL, over the trees of its database; and one that is read alone, each index of which was checked.
 #![tactic(auto)]
 
 mod checked_store;

@@ -12,11 +12,14 @@ ghost use Rattle.osm_rows.specs.Rows.{is_of, placed_in};
 ghost use Rattle.osm_tree_audits.specs.Looking.{Looks};
 ghost use Rattle.osm_trees.specs.Below.{HoldsBelow};
 
-use crate::parts::blob_rows;
+use crate::parts::{offset_key, parts_with};
 use crate::search::found_rows;
+use osm_rows::trees::{ELEMENT_KEY, ELEMENTS};
 use osm_rows::{Found, Loaded, StoreFault};
+use osm_tree_audits::rows_with;
 use osm_value::MemberKind;
 use pbf_frame::MAX_OFFSET;
+use sqlite::Row;
 use sqlite_trees::store::Store;
 use std::alloc::Global;
 
@@ -35,7 +38,9 @@ pub(crate) fn load_blob<S: Store>(
     if off >= MAX_OFFSET {
         return Loaded::from_tables(Vec::new(alloc), Vec::new(alloc), Vec::new(alloc));
     }
-    let (elements, tags, links) = blob_rows(alloc, store, off)?;
+    let key = offset_key(alloc, off)?;
+    let elements: Vec<Row> = rows_with(alloc, store, ELEMENT_KEY, ELEMENTS, 2, &key)?;
+    let (tags, links) = parts_with(alloc, store, &key)?;
     Loaded::from_tables(elements, tags, links)
 }
 

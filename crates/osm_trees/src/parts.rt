@@ -1,32 +1,30 @@
-//! The rows of tags and links, and those of a whole blob.
+//! The keys of rows, and the rows of tags and links.
 
-ghost use Rattle.std.specs.Prelude.{◌≡◌, ◌<◌, ◌^◌, [], ◌∷◌, pos, false, filter, IfOk, IfErr, OnOk};
+ghost use Rattle.std.specs.Prelude.{◌≡◌, ◌<◌, ◌^◌, [], ◌∷◌, pos, IfOk, IfErr, OnOk};
 ghost use Rattle.sqlite_value.specs.declared.value.Value.TheVariants.{Int};
 ghost use Rattle.sqlite_value.specs.Order.{column};
 ghost use Rattle.sqlite_trees.specs.View.{IsClean};
 ghost use Rattle.osm_rows.specs.declared.schema.layout.Layout.TheVariants.{Tables};
 ghost use Rattle.osm_rows.specs.Held.{HeldMap};
 ghost use Rattle.osm_rows.specs.Keeping.{IsForeign};
-ghost use Rattle.osm_rows.specs.Load.TableAnswers.{AreRowsOf};
 ghost use Rattle.osm_rows.specs.Load.TableParts.{IsAlone};
-ghost use Rattle.osm_rows.specs.Rows.{Placed, is_in, placed_in};
+ghost use Rattle.osm_rows.specs.Rows.{Placed, placed_in};
 ghost use Rattle.osm_rows.specs.TableRows.{element_row};
 ghost use Rattle.osm_tree_audits.specs.Finding.{Finds};
-ghost use Rattle.osm_tree_audits.specs.Looking.{Looks};
+ghost use Rattle.osm_tree_audits.specs.Looking.{IsSound, Looks};
 ghost use Rattle.osm_trees.specs.Answers.{AreItsParts, IsAnswer};
 ghost use Rattle.osm_trees.specs.Below.{HoldsBelow};
 
+use osm_rows::trees::{ELEMENT_KEY, ELEMENTS, LINK_KEY, LINKS, TAG_KEY, TAGS};
 use osm_rows::{PartRow, StoreFault};
 use osm_tree_audits::rows_with;
-use osm_tree_writes::trees::{ELEMENT_KEY, ELEMENTS, LINK_KEY, LINKS, TAG_KEY, TAGS};
-use sqlite::Row;
 use sqlite_trees::store::Store;
 use sqlite_value::row;
 use sqlite_value::value::ValueRef;
 use std::alloc::{AllocError, Global};
 
 /// The key of all rows at an offset.
-fn offset_key(alloc: Global, off: u64) -> Result<row::Row, AllocError>
+pub(crate) fn offset_key(alloc: Global, off: u64) -> Result<row::Row, AllocError>
     requires { off < 2 ^ 63 }
     ensures { IfOk result (λ key. key ≡ Int (pos off) ∷ []) }
 {
@@ -46,14 +44,14 @@ fn place_key(alloc: Global, element: &row::Row) -> Result<row::Row, AllocError>
 }
 
 /// The rows of the tags and those of the links whose keys begin with this one.
-fn parts_with<S: Store>(
+pub(crate) fn parts_with<S: Store>(
     alloc: Global,
     store: &mut S,
     key: &row::Row,
 ) -> Result<(Vec<PartRow>, Vec<PartRow>), StoreFault>
     ensures found { IfOk result (λ parts. IsClean (S.Store.view store.new)
-        → Finds (λ r. r) (S.Store.view store.old).trees 5 4 3 key.now parts.0.items × Finds (λ r. r) (S.Store.view store.old).trees 7 6 3 key.now parts.1.items) }
-    ensures sound { OnOk result (IsClean (S.Store.view store.new) → (S.Store.view store.new).is_broken ≡ false) }
+        → Finds (λ r. r) (S.Store.view store.old).trees TAG_KEY TAGS 3 key.now parts.0.items × Finds (λ r. r) (S.Store.view store.old).trees LINK_KEY LINKS 3 key.now parts.1.items) }
+    ensures sound { OnOk result (IsSound S.Store store.new) }
     ensures ours { IfErr result (λ fault. ¬ (IsForeign fault)) }
     ensures looks { Looks S.Store store.old store.new }
 {
@@ -74,21 +72,4 @@ pub(crate) fn parts_of<S: Store>(
 {
     let key = place_key(alloc, element)?;
     parts_with(alloc, store, &key)
-}
-
-/// The rows of the elements, of the tags and of the links of the blob at this offset, by position and number.
-pub(crate) fn blob_rows<S: Store>(
-    alloc: Global,
-    store: &mut S,
-    off: u64,
-) -> Result<(Vec<Row>, Vec<PartRow>, Vec<PartRow>), StoreFault>
-    requires { off < 2 ^ 63 }
-    ensures held { IsClean (S.Store.view store.new) → (held : HeldMap) → HoldsBelow Tables (S.Store.view store.old) held
-        → IsAnswer (S.Store.view store.new) result (λ rows. AreRowsOf (record { elements = rows.0; tags = rows.1; links = rows.2 }) (filter (is_in off) (placed_in held))) }
-    ensures looks { Looks S.Store store.old store.new }
-{
-    let key = offset_key(alloc, off)?;
-    let elements: Vec<Row> = rows_with(alloc, store, ELEMENT_KEY, ELEMENTS, 2, &key)?;
-    let (tags, links) = parts_with(alloc, store, &key)?;
-    Ok((elements, tags, links))
 }

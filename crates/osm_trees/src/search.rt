@@ -15,9 +15,9 @@ ghost use Rattle.osm_trees.specs.Answers.{AreAlone, ArePartsOf, IsAnswer};
 ghost use Rattle.osm_trees.specs.Below.{HoldsBelow};
 
 use crate::parts::parts_of;
+use osm_rows::trees::{ELEMENT_BY_ID, ELEMENTS};
 use osm_rows::{PartRow, StoreFault, element_code};
 use osm_tree_audits::rows_with;
-use osm_tree_writes::trees::{ELEMENT_BY_ID, ELEMENTS};
 use osm_value::MemberKind;
 use sqlite::Row;
 use sqlite_exec::work::FromRow;

@@ -6,7 +6,7 @@ ghost use Rattle.osm_rows.specs.Keeping.{failures_after};
 use crate::extents::{all_extents, touched_extents};
 use crate::history::any_flag;
 use crate::load::{find_elements, load_blob};
-use osm_rows::{Counts, Extent, Found, Keeper, Loaded, Reader, StoreFault};
+use osm_rows::{BlobKeeper, BlobReader, Counts, Extent, Found, Loaded, StoreFault};
 use osm_tree_audits::{Look, has_row_counts, has_rows_of};
 use osm_tree_writes::put_blob;
 use osm_value::{Element, MemberKind};
@@ -101,7 +101,7 @@ fn failures_after<T>(answer: &Result<T, StoreFault>, failures: u64) -> u64
     }
 }
 
-impl<S: Store> Reader for TreeStore<S> {
+impl<S: Store> BlobReader for TreeStore<S> {
     ghost use Rattle.sqlite_trees.specs.View.{IsClean};
     ghost use Rattle.osm_rows.specs.declared.schema.layout.Layout.TheVariants.{Tables};
     ghost use Rattle.osm_rows.specs.StoreLaws.{few_texts_of, open_or_shut};
@@ -183,12 +183,12 @@ impl<S: Store> Reader for TreeStore<S> {
     ghost has_few_texts = { λ r held holds. few_texts_of Tables held holds.kept };
 }
 
-impl<S: Alter> Keeper for TreeStore<S> {
+impl<S: Alter> BlobKeeper for TreeStore<S> {
     ghost use Rattle.std.specs.Prelude.{◌<◌, ◌≤◌};
     ghost use Rattle.pbf_frame.specs.declared.part.TheConstants.{MAX_OFFSET};
     ghost use Rattle.osm_trees.specs.Putting.{AddsBelow, KeepsAddedIndexes};
 
-    /// Each index that somebody has added to the tables of elements, of tags and of links gets an entry for each row, too.
+    /// Each index added to the tables of elements, of tags and of links gets an entry for each row, too.
     fn put(
         &mut self,
         alloc: Global,
@@ -228,7 +228,7 @@ impl<S: Store> TreeStore<S> {
     ghost use Rattle.osm_trees.specs.Reading.{JustReads};
 
     /// Whether the rows at a blob's offset, in all tables, are those that a put of it writes, and no others. Rows are found by
-    /// the indexes, so these have to be whole, and by what was seen of the tables as they were looked at
+    /// the indexes, so these have to be whole, and by what was seen of the tables as they were checked
     /// (`osm_tree_audits::look_at_indexes`). The offsets are at most `MAX_OFFSET`, in bytes. What is held stays, also after a
     /// fault, which is that of a read that has failed, or `Memory`.
     pub fn has_rows_of(
@@ -250,7 +250,7 @@ impl<S: Store> TreeStore<S> {
         answer
     }
 
-    /// Whether each table has exactly so many rows, by what was seen of the tables as the indexes were looked at. What is held
+    /// Whether each table has exactly so many rows, by what was seen of the tables as the indexes were checked. What is held
     /// stays, also after a fault, which is that of a read that has failed, or `Memory`.
     pub fn has_row_counts(
         &mut self,

@@ -7,12 +7,12 @@
 //! INFO is what is there of `v=` version, `t=` time, `c=` changeset, `i=` uid, `u=` user and `x=` whether it is visible,
 //! 1 or 0. TAGS are `KEY=VALUE`.
 
-ghost use Rattle.std.specs.Prelude.{◌≡◌, ℕ, ◌+◌, ◌<◌, ◌≤◌, List, ◌++◌, length, Option, map, option_map, option_to_list, option_copied, IsTrue, OnOk, OnErr, IsErr, ◌↔◌};
+ghost use Rattle.std.specs.Prelude.{◌≡◌, ℕ, ◌+◌, ◌<◌, ◌≤◌, List, length, map, option_map, option_to_list, option_copied, IsTrue, OnOk, OnErr, IsErr, ◌↔◌};
 ghost use Rattle.std.specs.Io.KnownBytes.{Appends};
 ghost use Rattle.std.specs.Fmt.{signed_decimal};
 ghost use Rattle.osm_value.specs.declared.element.Element.TheVariants as elements;
-ghost use Rattle.osm_value.specs.Sink.{AppendsFront, Wrote, WritesEach};
-ghost use Rattle.osm_value.specs.Printing.{Prints};
+ghost use Rattle.osm_value.specs.Sink.{AppendsFront, WritesEach};
+ghost use Rattle.osm_value.specs.Printing.{AddsPiece, Prints};
 ghost use Rattle.osm_value.specs.Line.{commas, comma_before, tag_text, line, tail_text, info_texts, number_info, user_info, visible_digit, visible_info, letter_of, member_text};
 
 use crate::element::{Element, Info, Member, MemberKind, Node, Relation, Way};
@@ -164,9 +164,7 @@ fn put_info<S: Sink>(sink: &mut S, info: &Info)
 /// Writes a number of the info, if it is there, as the piece at that index, and says the next index.
 fn put_info_number<S: Sink>(sink: &mut S, at: usize, letter: u8, number: Option<i64>) -> usize
     requires { at < 100 }
-    ensures text { (start : Option (List ℕ)) (before : List ℕ) (pieces : List (List ℕ)) → length pieces ≡ at
-        → Wrote start (before ++ commas pieces) (S.written sink.old) (S.has_failed sink.old)
-        → Wrote start (before ++ commas (pieces ++ option_to_list (option_map (number_info letter) number))) (S.written sink.new) (S.has_failed sink.new) }
+    ensures text { AddsPiece S.Sink sink.old sink.new at (option_map (number_info letter) number) }
     ensures place { result ≡ at + length (option_to_list (option_map (number_info letter) number)) }
     ensures next { result ≤ at + 1 }
 {
@@ -182,9 +180,7 @@ fn put_info_number<S: Sink>(sink: &mut S, at: usize, letter: u8, number: Option<
 /// Writes the user, if it is there, as the piece at that index, and says the next index.
 fn put_info_user<S: Sink>(sink: &mut S, at: usize, user: Option<&str>) -> usize
     requires { at < 100 }
-    ensures text { (start : Option (List ℕ)) (before : List ℕ) (pieces : List (List ℕ)) → length pieces ≡ at
-        → Wrote start (before ++ commas pieces) (S.written sink.old) (S.has_failed sink.old)
-        → Wrote start (before ++ commas (pieces ++ option_to_list (option_map user_info (option_copied user.entry)))) (S.written sink.new) (S.has_failed sink.new) }
+    ensures text { AddsPiece S.Sink sink.old sink.new at (option_map user_info (option_copied user.entry)) }
     ensures place { result ≡ at + length (option_to_list (option_map user_info (option_copied user.entry))) }
 {
     let Some(user) = user else {
@@ -198,9 +194,7 @@ fn put_info_user<S: Sink>(sink: &mut S, at: usize, user: Option<&str>) -> usize
 
 /// Writes whether it is visible, if that is known, as the piece at that index.
 fn put_info_visible<S: Sink>(sink: &mut S, at: usize, visible: Option<bool>)
-    ensures { (start : Option (List ℕ)) (before : List ℕ) (pieces : List (List ℕ)) → length pieces ≡ at
-        → Wrote start (before ++ commas pieces) (S.written sink.old) (S.has_failed sink.old)
-        → Wrote start (before ++ commas (pieces ++ option_to_list (option_map visible_info visible))) (S.written sink.new) (S.has_failed sink.new) }
+    ensures { AddsPiece S.Sink sink.old sink.new at (option_map visible_info visible) }
 {
     let Some(visible) = visible else {
         return;

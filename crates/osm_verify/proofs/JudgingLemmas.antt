@@ -12,7 +12,7 @@ use Rattle.osm_rows.specs.Held.{Blob, HeldMap}
 use Rattle.osm_rows.specs.Keeping.{extent_of, extents_of}
 use Rattle.osm_rows.specs.declared.audit.counts.Counts.{Counts}
 use Rattle.osm_rows.specs.declared.keeper.Extent.{Extent}
-use Rattle.osm_rows.specs.declared.keeper.Reader.{Ghosts as ReaderOf}
+use Rattle.osm_rows.specs.declared.keeper.BlobReader.{Ghosts as ReaderOf}
 use Rattle.osm_reading.specs.Bad.{IsBad, IsFinding}
 use Rattle.osm_reading.specs.declared.examination.ExamineFault.{ExamineFault}
 use Rattle.osm_reading.specs.declared.examination.ExamineFault.TheVariants as examined

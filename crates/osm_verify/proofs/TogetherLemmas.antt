@@ -18,7 +18,7 @@ use Rattle.osm_verify.specs.Together.{AreAllJudged, HoldFile, IsClean, IsVerdict
 use Rattle.osm_verify.specs.declared.part_audit.Audit.{Audit}
 use Rattle.osm_verify.specs.declared.together.Verdict.{Verdict}
 use Rattle.osm_verify.proofs.FileFrames.{agreed-hold-file}
-use Rattle.osm_verify.specs.Faults.{AuditHasCause, IsOfParts, IsOwn, IsOwnFault}
+use Rattle.osm_verify.specs.Faults.{AuditHasCause, IsOfParts, IsOwnAudit, IsOwnFault}
 use Rattle.osm_verify.specs.declared.part_audit.Finding.{Finding}
 use Rattle.osm_verify.specs.declared.fault.AuditFault.{AuditFault}
 use Rattle.osm_verify.specs.declared.fault.AuditFault.TheVariants.{Unread, Parts}
@@ -52,7 +52,7 @@ all-more depth known (map ∷ maps) findings held own judged more = (
   ap (λ (l : List Finding). l ++ own) judged.4 ∙ append_assoc judged.0 judged.1 own,
 )
 
-pub own-parts : (maps : List HeldMap) (fault : AuditFault) → IsOwn fault → IsOfParts maps fault
+pub own-parts : (maps : List HeldMap) (fault : AuditFault) → IsOwnAudit fault → IsOfParts maps fault
 own-parts maps (Unread off) own = tt
 own-parts maps (Parts (Store fault)) own = own
 own-parts maps (Parts (Interleaved off)) own = absurd own

@@ -8,11 +8,11 @@ use Rattle.osm_verify.specs.declared.fault.AuditFault.{AuditFault}
 use Rattle.osm_verify.specs.declared.fault.AuditFault.TheVariants.{Unread, Parts}
 
 -- one store alone that holds a map is found to be no other's, and in nobody's way
-abbrev pub IsOwn : AuditFault → Type 0
-IsOwn (Unread off) = Unit {0}
-IsOwn (Parts (Store fault)) = ¬ (IsForeign fault)
-IsOwn (Parts (Interleaved off)) = ⊥
-IsOwn (Parts (Refused conflict off)) = ⊥
+abbrev pub IsOwnAudit : AuditFault → Type 0
+IsOwnAudit (Unread off) = Unit {0}
+IsOwnAudit (Parts (Store fault)) = ¬ (IsForeign fault)
+IsOwnAudit (Parts (Interleaved off)) = ⊥
+IsOwnAudit (Parts (Refused conflict off)) = ⊥
 
 -- these maps bear the fault out
 abbrev pub IsOfParts : List HeldMap → AuditFault → Type 0
@@ -26,5 +26,5 @@ AuditHasCause before now (Parts fault) = PartsFaultHasCause before now fault
 
 -- one store alone that holds a map may answer the fault, which has a cause
 pub record IsOwnFault (before now : ℕ) (fault : AuditFault) : Type 0 where
-  pub own : IsOwn fault
+  pub own : IsOwnAudit fault
   pub cause : AuditHasCause before now fault

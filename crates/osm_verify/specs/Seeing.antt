@@ -7,7 +7,7 @@ use Rattle.osm_rows.specs.Held.{Blob}
 use Rattle.osm_rows.specs.Keeping.{extents_of}
 use Rattle.osm_rows.specs.declared.audit.counts.Counts.{Counts}
 use Rattle.osm_rows.specs.declared.keeper.Extent.{Extent}
-use Rattle.osm_rows.specs.declared.keeper.Reader.{Ghosts as ReaderOf}
+use Rattle.osm_rows.specs.declared.keeper.BlobReader.{Ghosts as ReaderOf}
 use Rattle.osm_reading.specs.Framings.{Known}
 use Rattle.osm_verify.specs.Agreements.{IsSame}
 use Rattle.osm_verify.specs.Audits.{CountsMore, IsEntryOf}

@@ -36,10 +36,10 @@ pub fn has_frame<K: Audited>(
     ensures told { K.is_honest store.new → K.has_tables store.old
         → IfOk result (TellsFrame (K.has_rows (K.trees store.old) off) K.layout (K.trees store.old) off bytes.now good.now.elements.items) }
     // over a held map, it is whether the map has the frame's blob there
-    ensures held { OfHeld K.Reader store.old store.new (λ held. IfOk result (λ told. IsTrue told ↔ IsSame Elements held off bytes.now)) }
-    ensures same { KeepsTables K.Reader store.old store.new }
-    ensures rereads { Rereads K.Reader store.old result store.new }
-    ensures own { OfHeld K.Reader store.old store.new (λ _. IfErr result (λ fault. ¬ (IsForeign fault))) }
+    ensures held { OfHeld K.BlobReader store.old store.new (λ held. IfOk result (λ told. IsTrue told ↔ IsSame Elements held off bytes.now)) }
+    ensures same { KeepsTables K.BlobReader store.old store.new }
+    ensures rereads { Rereads K.BlobReader store.old result store.new }
+    ensures own { OfHeld K.BlobReader store.old store.new (λ _. IfErr result (λ fault. ¬ (IsForeign fault))) }
     ensures cause { IfErr result (HasCause (K.failures store.old) (K.failures store.new)) }
     ensures counted { K.failures store.old ≤ K.failures store.new }
 {
@@ -55,12 +55,12 @@ pub fn has_frame<K: Audited>(
 /// where memory was refused. Over an honest disk, where the store holds a map, it is never `NotThisStore`.
 pub fn has_rows<K: Audited>(alloc: Global, store: &mut K, rows: &Counts) -> Result<bool, StoreFault>
     // the tables of a held map have as many rows as the map
-    ensures held { OfHeld K.Reader store.old store.new (λ held. rows.now ≡ counts_of (elements_held held) → IfOk result IsTrue) }
+    ensures held { OfHeld K.BlobReader store.old store.new (λ held. rows.now ≡ counts_of (elements_held held) → IfOk result IsTrue) }
     ensures shown { K.is_honest store.new → AreCountable rows.now
         → IfOk result (λ told. K.is_open store.new × (K.has_tables store.old → (IsTrue told ↔ ShowsCounts K.layout (K.trees store.old) rows.now))) }
-    ensures same { KeepsTables K.Reader store.old store.new }
-    ensures rereads { Rereads K.Reader store.old result store.new }
-    ensures own { OfHeld K.Reader store.old store.new (λ _. IfErr result (λ fault. ¬ (IsForeign fault))) }
+    ensures same { KeepsTables K.BlobReader store.old store.new }
+    ensures rereads { Rereads K.BlobReader store.old result store.new }
+    ensures own { OfHeld K.BlobReader store.old store.new (λ _. IfErr result (λ fault. ¬ (IsForeign fault))) }
     ensures cause { IfErr result (HasCause (K.failures store.old) (K.failures store.new)) }
     ensures counted { K.failures store.old ≤ K.failures store.new }
 {

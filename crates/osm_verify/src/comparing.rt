@@ -12,7 +12,7 @@ ghost use Rattle.osm_verify.specs.Audits.{IsEntryOf};
 
 use crate::auditing::has_frame;
 use osm_import::Good;
-use osm_rows::{Audited, Extent, Reader, StoreFault};
+use osm_rows::{Audited, BlobReader, Extent, StoreFault};
 use pbf_frame::MAX_OFFSET;
 use sha2::{Digest, Sha256};
 use std::alloc::{AllocError, Global};
@@ -79,12 +79,12 @@ pub fn compare<K: Audited>(
     depth: Depth,
 ) -> Result<Agreement, StoreFault>
     requires { IsGood off bytes.now good.now.kind good.now.elements.items }
-    ensures compared { OfHeld K.Reader store.old store.new (λ held. IfOk result (IsAgreement depth held off bytes.now)) }
+    ensures compared { OfHeld K.BlobReader store.old store.new (λ held. IfOk result (IsAgreement depth held off bytes.now)) }
     ensures rows { K.is_honest store.new → K.is_open store.new → K.has_tables store.old → depth ≡ Depth.Elements
         → IfOk result (λ agreement. agreement ≡ Agreement.Same → IsEntryOf (K.has_rows (K.trees store.old) off) off bytes.now good.now.elements.items) }
-    ensures same { KeepsTables K.Reader store.old store.new }
-    ensures rereads { Rereads K.Reader store.old result store.new }
-    ensures own { OfHeld K.Reader store.old store.new (λ _. IfErr result (λ fault. ¬ (IsForeign fault))) }
+    ensures same { KeepsTables K.BlobReader store.old store.new }
+    ensures rereads { Rereads K.BlobReader store.old result store.new }
+    ensures own { OfHeld K.BlobReader store.old store.new (λ _. IfErr result (λ fault. ¬ (IsForeign fault))) }
     ensures cause { IfErr result (HasCause (K.failures store.old) (K.failures store.new)) }
     ensures counted { K.failures store.old ≤ K.failures store.new }
 {
@@ -125,7 +125,7 @@ fn from_on(alloc: Global, extents: &[Extent], from: u64) -> Result<Vec<Extent>, 
 ///
 /// An error is that of a read of the store that has failed, or `Memory` where memory was refused. Over an honest disk,
 /// where the store holds a map, it is never `NotThisStore`.
-pub fn extents_beginning<K: Reader>(
+pub fn extents_beginning<K: BlobReader>(
     alloc: Global,
     store: &mut K,
     from: u64,
@@ -133,10 +133,10 @@ pub fn extents_beginning<K: Reader>(
 ) -> Result<Vec<Extent>, StoreFault>
     requires order { from ≤ to }
     requires limit { to ≤ MAX_OFFSET }
-    ensures all { OfHeld K.Reader store.old store.new (λ held. IfOk result (λ extents. extents.items ≡ filter (begins from to) (extents_of held))) }
-    ensures same { KeepsTables K.Reader store.old store.new }
-    ensures rereads { Rereads K.Reader store.old result store.new }
-    ensures own { OfHeld K.Reader store.old store.new (λ _. IfErr result (λ fault. ¬ (IsForeign fault))) }
+    ensures all { OfHeld K.BlobReader store.old store.new (λ held. IfOk result (λ extents. extents.items ≡ filter (begins from to) (extents_of held))) }
+    ensures same { KeepsTables K.BlobReader store.old store.new }
+    ensures rereads { Rereads K.BlobReader store.old result store.new }
+    ensures own { OfHeld K.BlobReader store.old store.new (λ _. IfErr result (λ fault. ¬ (IsForeign fault))) }
     ensures cause { IfErr result (HasCause (K.failures store.old) (K.failures store.new)) }
     ensures counted { K.failures store.old ≤ K.failures store.new }
 {

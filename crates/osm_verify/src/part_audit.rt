@@ -7,7 +7,7 @@ ghost use Rattle.osm_rows.specs.Calls.{KeepsTables, OfHeld};
 ghost use Rattle.osm_rows.specs.Keeping.{IsRange};
 ghost use Rattle.osm_import.specs.Stores.{Rereads};
 ghost use Rattle.osm_verify.specs.Calls.{RereadsTables};
-ghost use Rattle.osm_verify.specs.Faults.{AuditHasCause, IsOwn, IsOwnFault};
+ghost use Rattle.osm_verify.specs.Faults.{AuditHasCause, IsOwnAudit, IsOwnFault};
 ghost use Rattle.osm_verify.specs.InFile.{IsIn};
 ghost use Rattle.osm_verify.specs.Judging.{AreJudged, IsAuditOf, IsFound, IsJudged, IsStray, ShowsPart, finding_of};
 ghost use Rattle.osm_verify.specs.Seeing.{SeesExtent, SeesExtents, SeesFrame};
@@ -49,7 +49,7 @@ fn read_blob<F: FileBytes>(
     requires { IsRange extent.now }
     ensures some { IfOk result (λ read. IfSome read (λ bytes. IsIn (F.bytes file.old) extent.now.off bytes.items × (extent.now.fin ≡ extent.now.off + length bytes.items))) }
     ensures none { IfOk result (λ read. IsNone read → IfSome (F.bytes file.old) (λ whole. IsStray whole extent.now)) }
-    ensures own { IfErr result IsOwn }
+    ensures own { IfErr result IsOwnAudit }
     ensures cause { IfErr result (λ fault. (before : ℕ) (now : ℕ) → AuditHasCause before now fault) }
     ensures kept { F.bytes file.new ≡ F.bytes file.old }
 {
@@ -85,11 +85,11 @@ fn judge<K: Audited>(
     depth: Depth,
     rows: &mut Counts,
 ) -> Result<Option<Finding>, AuditFault>
-    ensures found { OfHeld K.Reader store.old store.new (λ held. IfOk result (IsFound depth held off bytes.now)) }
+    ensures found { OfHeld K.BlobReader store.old store.new (λ held. IfOk result (IsFound depth held off bytes.now)) }
     ensures seen { IfOk result (λ found. IsNone found
-        → SeesFrame K.Reader store.new (K.has_tables store.old) (K.has_rows (K.trees store.old)) depth rows.old rows.new off bytes.now) }
-    ensures reads { RereadsTables K.Reader store.old result store.new }
-    ensures own { OfHeld K.Reader store.old store.new (λ _. IfErr result IsOwn) }
+        → SeesFrame K.BlobReader store.new (K.has_tables store.old) (K.has_rows (K.trees store.old)) depth rows.old rows.new off bytes.now) }
+    ensures reads { RereadsTables K.BlobReader store.old result store.new }
+    ensures own { OfHeld K.BlobReader store.old store.new (λ _. IfErr result IsOwnAudit) }
     ensures cause { IfErr result (AuditHasCause (K.failures store.old) (K.failures store.new)) }
 {
     match examine(alloc, off, bytes) {
@@ -113,11 +113,11 @@ fn audit_extent<K: Audited, F: FileBytes>(
     rows: &mut Counts,
 ) -> Result<Option<Finding>, AuditFault>
     requires { IsRange extent.now }
-    ensures found { OfHeld K.Reader store.old store.new (λ held. IfOk result (IsJudged depth held (F.bytes file.old) extent.now)) }
+    ensures found { OfHeld K.BlobReader store.old store.new (λ held. IfOk result (IsJudged depth held (F.bytes file.old) extent.now)) }
     ensures seen { IfOk result (λ found. IsNone found
-        → SeesExtent K.Reader store.old store.new (K.has_tables store.old) (K.has_rows (K.trees store.old)) depth rows.old rows.new (F.bytes file.old) extent.now) }
-    ensures reads { RereadsTables K.Reader store.old result store.new }
-    ensures own { OfHeld K.Reader store.old store.new (λ _. IfErr result IsOwn) }
+        → SeesExtent K.BlobReader store.old store.new (K.has_tables store.old) (K.has_rows (K.trees store.old)) depth rows.old rows.new (F.bytes file.old) extent.now) }
+    ensures reads { RereadsTables K.BlobReader store.old result store.new }
+    ensures own { OfHeld K.BlobReader store.old store.new (λ _. IfErr result IsOwnAudit) }
     ensures cause { IfErr result (AuditHasCause (K.failures store.old) (K.failures store.new)) }
     ensures kept { F.bytes file.new ≡ F.bytes file.old }
 {
@@ -148,11 +148,11 @@ fn audit_extents<K: Audited, F: FileBytes>(
 ) -> Result<Vec<Finding>, AuditFault>
     requires ranges { All IsRange extents.now }
     requires none { rows.old ≡ counts_of [] }
-    ensures found { OfHeld K.Reader store.old store.new (λ held. IfOk result (λ findings. AreJudged depth held (F.bytes file.old) extents.now findings.items)) }
+    ensures found { OfHeld K.BlobReader store.old store.new (λ held. IfOk result (λ findings. AreJudged depth held (F.bytes file.old) extents.now findings.items)) }
     ensures seen { IfOk result (λ findings. findings.items ≡ []
-        → SeesExtents K.Reader store.old store.new (K.has_tables store.old) (K.has_rows (K.trees store.old)) depth rows.new (F.bytes file.old) extents.now) }
-    ensures reads { RereadsTables K.Reader store.old result store.new }
-    ensures own { OfHeld K.Reader store.old store.new (λ _. IfErr result IsOwn) }
+        → SeesExtents K.BlobReader store.old store.new (K.has_tables store.old) (K.has_rows (K.trees store.old)) depth rows.new (F.bytes file.old) extents.now) }
+    ensures reads { RereadsTables K.BlobReader store.old result store.new }
+    ensures own { OfHeld K.BlobReader store.old store.new (λ _. IfErr result IsOwnAudit) }
     ensures cause { IfErr result (AuditHasCause (K.failures store.old) (K.failures store.new)) }
     ensures kept { F.bytes file.new ≡ F.bytes file.old }
 {
@@ -174,10 +174,10 @@ fn refuse_other_rows<K: Audited>(
 ) -> Result<(), AuditFault>
     ensures shown { K.is_honest store.new → AreCountable rows.now → findings.now ≡ [] → depth ≡ Depth.Elements
         → OnOk result (K.is_open store.new × (K.has_tables store.old → ShowsCounts K.layout (K.trees store.old) rows.now)) }
-    ensures same { KeepsTables K.Reader store.old store.new }
-    ensures rereads { Rereads K.Reader store.old result store.new }
-    ensures own { OfHeld K.Reader store.old store.new (λ held. (findings.now ≡ [] → depth ≡ Depth.Elements → rows.now ≡ counts_of (elements_held held)) → IfErr result IsOwn) }
-    ensures cause { OfHeld K.Reader store.old store.new (λ held. (findings.now ≡ [] → depth ≡ Depth.Elements → rows.now ≡ counts_of (elements_held held)) → IfErr result (AuditHasCause (K.failures store.old) (K.failures store.new))) }
+    ensures same { KeepsTables K.BlobReader store.old store.new }
+    ensures rereads { Rereads K.BlobReader store.old result store.new }
+    ensures own { OfHeld K.BlobReader store.old store.new (λ held. (findings.now ≡ [] → depth ≡ Depth.Elements → rows.now ≡ counts_of (elements_held held)) → IfErr result IsOwnAudit) }
+    ensures cause { OfHeld K.BlobReader store.old store.new (λ held. (findings.now ≡ [] → depth ≡ Depth.Elements → rows.now ≡ counts_of (elements_held held)) → IfErr result (AuditHasCause (K.failures store.old) (K.failures store.new))) }
     ensures counted { K.failures store.old ≤ K.failures store.new }
 {
     if depth == Depth::Extents || !findings.is_empty() {
@@ -193,7 +193,7 @@ fn refuse_other_rows<K: Audited>(
 /// its end. What the file has elsewhere isn't read. What is held stays.
 ///
 /// Of the rows nothing has to be known. By `Depth::Elements`, where nothing was found and the tables have yet more rows, as
-/// somebody else has written them, that is the fault `NotThisStore`; over an honest disk, where the store holds a map, it
+/// another program has written them, that is the fault `NotThisStore`; over an honest disk, where the store holds a map, it
 /// never is. An error is that, or `Unread` with the offset of the extent at which a read of the file has failed, the fault of
 /// a read of the store that has failed, or refused memory.
 pub fn audit_part<K: Audited, F: FileBytes>(
@@ -202,14 +202,14 @@ pub fn audit_part<K: Audited, F: FileBytes>(
     file: &mut F,
     depth: Depth,
 ) -> Result<Audit, AuditFault>
-    ensures audited { OfHeld K.Reader store.old store.new (λ held. IfOk result (IsAuditOf depth held (F.bytes file.old))) }
+    ensures audited { OfHeld K.BlobReader store.old store.new (λ held. IfOk result (IsAuditOf depth held (F.bytes file.old))) }
     ensures ranges { IfOk result (λ audit. All IsRange audit.extents.items) }
     // Whatever rows the tables have had: where by elements nothing was found, they have the rows of the file's blobs at these
     // extents, and no others. That leaves out more rows than SQL can count.
     ensures shown { K.is_honest store.new → K.has_tables store.old → depth ≡ Depth.Elements
         → IfOk result (λ audit. audit.findings.items ≡ [] → ShowsPart (K.has_rows (K.trees store.old)) K.layout (K.trees store.old) (F.bytes file.old) audit.extents.items) }
-    ensures rereads { Rereads K.Reader store.old result store.new }
-    ensures fault { OfHeld K.Reader store.old store.new (λ _. IfErr result (IsOwnFault (K.failures store.old) (K.failures store.new))) }
+    ensures rereads { Rereads K.BlobReader store.old result store.new }
+    ensures fault { OfHeld K.BlobReader store.old store.new (λ _. IfErr result (IsOwnFault (K.failures store.old) (K.failures store.new))) }
     ensures counted { K.failures store.old ≤ K.failures store.new }
     ensures kept { F.bytes file.new ≡ F.bytes file.old }
 {

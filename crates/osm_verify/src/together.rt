@@ -73,7 +73,7 @@ fn audit_at<K: Audited + Drop, O: Openings<K>, F: FileBytes>(
     ensures audited { OfMaps O.holds O.is_honest openings.old openings.new (λ maps. (held : HeldMap) → slice_get maps place ≡ Some held
         → IfOk result (IsAuditOf depth held (F.bytes file.old))) }
     ensures ranges { IfOk result (λ audit. All IsRange audit.extents.items) }
-    ensures shown { O.is_honest openings.new → depth ≡ Depth.Elements → HasTablesThere K.Reader K.has_tables (O.lies openings.old place)
+    ensures shown { O.is_honest openings.new → depth ≡ Depth.Elements → HasTablesThere K.BlobReader K.has_tables (O.lies openings.old place)
         → IfOk result (λ audit. audit.findings.items ≡ [] → IsShownAt (O.lies openings.old place) (ShowsExtents K.has_rows K.layout K.trees (F.bytes file.old)) audit.extents.items) }
     ensures still { (at : ℕ) (store : K) → O.lies openings.new at store → O.lies openings.old at store }
     ensures fault { OfMaps O.holds O.is_honest openings.old openings.new (λ _. IfErr result (IsOwnFault (O.failures openings.old) (O.failures openings.new))) }
@@ -97,7 +97,7 @@ fn gather<K: Audited + Drop, O: Openings<K>, F: FileBytes>(
 ) -> Result<Gathered, AuditFault>
     ensures audited { OfMaps O.holds O.is_honest openings.old openings.new (λ maps. length maps ≡ count → IfOk result (AreAllAudited depth (F.bytes file.old) maps)) }
     ensures many { IfOk result (λ all. length all.stores.items ≡ count) }
-    ensures shown { O.is_honest openings.new → depth ≡ Depth.Elements → HaveTables K.Reader K.has_tables (O.lies openings.old)
+    ensures shown { O.is_honest openings.new → depth ≡ Depth.Elements → HaveTables K.BlobReader K.has_tables (O.lies openings.old)
         → IfOk result (λ all. all.findings.items ≡ [] → AreShownParts (O.lies openings.old) (ShowsExtents K.has_rows K.layout K.trees (F.bytes file.old)) 0 all.stores.items) }
     ensures fault { OfMaps O.holds O.is_honest openings.old openings.new (λ _. IfErr result (IsOwnFault (O.failures openings.old) (O.failures openings.new))) }
     ensures opens { OnlyOpens O.holds O.is_honest O.is_open openings.old result openings.new }
@@ -161,7 +161,7 @@ pub fn audit_parts<K: Audited + Drop, O: Openings<K>, F: FileBytes>(
         → IfOk result (λ verdict. IsClean verdict → IfSome (F.bytes file.old) (λ bytes. HoldFile depth bytes maps)) }
     // Whatever rows the tables have had: where by elements it agrees, the rows of each store are those of the frames of the file
     // that its extents name, and no others, and each frame of the file is named. That leaves out more rows than SQL can count.
-    ensures shown { O.is_honest openings.new → depth ≡ Depth.Elements → HaveTables K.Reader K.has_tables (O.lies openings.old)
+    ensures shown { O.is_honest openings.new → depth ≡ Depth.Elements → HaveTables K.BlobReader K.has_tables (O.lies openings.old)
         → IfOk result (λ verdict. IsClean verdict → IfSome (F.bytes file.old) (λ bytes. ShowTogether (O.lies openings.old) (ShowsExtents K.has_rows K.layout K.trees (Some bytes)) count bytes)) }
     ensures fault { (maps : List HeldMap) → O.holds openings.old maps → O.is_honest openings.new → length maps ≡ count → IfErr result (IsOfParts maps) }
     ensures opens { OnlyOpens O.holds O.is_honest O.is_open openings.old result openings.new }

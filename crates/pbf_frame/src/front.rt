@@ -1,7 +1,7 @@
 //! The front of a frame: the length of its header, and the header.
 
 ghost use Rattle.std.specs.Prelude.{IfOk};
-ghost use Rattle.pbf_wire.specs.Fault.{Gives};
+ghost use Rattle.pbf_wire.specs.Fault.{ReturnsReading};
 ghost use Rattle.pbf_frame.specs.Front.{IsWithin, begun, front_at};
 ghost use Rattle.std.specs.Prelude.{length};
 
@@ -35,7 +35,7 @@ pub(crate) enum Front<'a> {
 #[tactic(auto, unfolding(crate::specs::Front::front_at))]
 pub(crate) fn read_front(bytes: &[u8]) -> Result<Front<'_>, FrameFault>
     ensures within { IfOk result (λ front. IsWithin front (length bytes.now)) }
-    ensures exact { Gives begun result (front_at bytes.now) }
+    ensures exact { ReturnsReading begun result (front_at bytes.now) }
 {
     let Some((name, rest)) = bytes.split_first_chunk::<LENGTH_BYTES>() else {
         return Ok(Front::Length);

@@ -1,7 +1,7 @@
 //! Where the payload of a blob lies.
 
 ghost use Rattle.std.specs.Prelude.{◌≡◌, ◌≤◌, ◌+◌, IfOk, IfErr, IfSome, length, take, drop, option_map};
-ghost use Rattle.pbf_wire.specs.Fault.{Gives};
+ghost use Rattle.pbf_wire.specs.Fault.{ReturnsReading};
 ghost use Rattle.pbf_wire.specs.Field.{view};
 ghost use Rattle.pbf_wire.specs.Readings.{bytes_of, fields, last, last_bytes};
 ghost use Rattle.pbf_frame.specs.Frame as frames;
@@ -219,7 +219,7 @@ fn find_blob(frame: &[u8], from: usize, kind: Kind, offset: u64) -> (u8, Payload
 fn frame_from(bytes: &[u8], offset: u64) -> Result<Frame<'_>, FrameFault>
     ensures within { IfOk result (λ f. f.length ≤ length bytes.now) }
     ensures frame { IfOk result (λ f. frames.Frame f.type_name.now f.blob.now (take f.length bytes.now)) }
-    ensures exact { Gives found result (frame_from offset bytes.now) }
+    ensures exact { ReturnsReading found result (frame_from offset bytes.now) }
 {
     let frame = read_frame(bytes)?;
     if offset > MAX_OFFSET || frame.length > MAX_OFFSET - offset {

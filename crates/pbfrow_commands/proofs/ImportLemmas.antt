@@ -15,7 +15,7 @@ use Rattle.osm_import.specs.declared.stream.fault.ImportFault.TheVariants.{Strea
 use Rattle.osm_import.specs.declared.stream.fault.ImportStop.{ImportStop}
 use Rattle.osm_reading.specs.declared.stream.fault.Stop.TheVariants.{Frame, NoHeaderFirst, ReadFailed, Memory}
 use Rattle.osm_value.specs.Sink.{Wrote}
-use Rattle.pbfrow_commands.specs.Importing.{Skips, Imports, EndsStop, front_of, import_status, imported_of}
+use Rattle.pbfrow_commands.specs.Importing.{Skips, DropsAndImports, EndsStop, front_of, import_status, imported_of}
 use Rattle.pbfrow_commands.specs.CommandLines.{import_stop_line}
 
 -- ---- skipping
@@ -93,7 +93,7 @@ ends-on from limit input output failed Took summary h = record {
 
 pub imports-last : (dropped from : ℕ) (input : Input) (output : Output) (failed : Bool) (Same : Type 0) (Took : List DeliveryValue → List Answer → Type 0) (outcome : Result Summary ImportStop)
     → ((stop : ImportStop) → outcome ≡ Err stop → stop.fault ≡ WriteFailed → failed ≡ output.has_failed)
-    → Imports dropped from input output Same Took outcome → Imports dropped from input (record output { has_failed = failed }) Same Took outcome
+    → DropsAndImports dropped from input output Same Took outcome → DropsAndImports dropped from input (record output { has_failed = failed }) Same Took outcome
 imports-last dropped from input output failed Same Took (Ok summary) same (inl h) = inl (h.0, h.1, ends-on from 4294967295 (record input { before = h.0 }) output failed Took summary h.2)
 imports-last dropped from input output failed Same Took (Err stop) same (inl h) = inl (h.0, h.1, stops-on from 4294967295 (record input { before = h.0 }) output failed Took stop (same stop refl) h.2)
 imports-last dropped from input output failed Same Took outcome same (inr h) = inr h

@@ -9,7 +9,7 @@ use Rattle.std.specs.Io.KnownBytes.{Consumes}
 use Rattle.osm_rows.specs.Calls.{OfHeld}
 use Rattle.osm_rows.specs.Held.{Blob, HeldMap}
 use Rattle.osm_rows.specs.HeldLaws.{get-insert_here}
-use Rattle.osm_rows.specs.declared.keeper.Reader.{Ghosts}
+use Rattle.osm_rows.specs.declared.keeper.BlobReader.{Ghosts}
 use Rattle.osm_import.specs.Deliveries.{DeliveryValue}
 use Rattle.osm_reading.specs.Framings.{Known}
 use Rattle.osm_import.specs.Files.{joined}
@@ -28,7 +28,7 @@ use Rattle.osm_import.specs.declared.stream.fault.ImportStop.{ImportStop}
 use Rattle.osm_import.proofs.MergeLemmas.{stream_part}
 use Rattle.osm_import.proofs.RunsLemmas.{run-back, run-keep}
 use Rattle.osm_import.proofs.StreamFiles.{AreKept, IsKept, stream-one-file}
-use Rattle.pbfrow_commands.specs.Importing.{Skips, Imports, ImportsFront, ImportsUpTo, AreHeld, IsOfFrames, HoldsFile, HoldsRange, IsTold, ends_input, front_of, import_status, imported_of}
+use Rattle.pbfrow_commands.specs.Importing.{Skips, DropsAndImports, ImportsFront, ImportsUpTo, AreHeld, IsOfFrames, HoldsFile, HoldsRange, IsTold, ends_input, front_of, import_status, imported_of}
 use Rattle.pbfrow_commands.proofs.ImportLemmas.{imported-known, imports-last, none-bad, none-refused}
 
 -- ---- each frame is held
@@ -136,7 +136,7 @@ told-whole (Some to) (Err stop) summary (inr is) = (let wrong = is.1.2 in absurd
 
 -- and it skipped what it had to, and streamed the rest
 streamed-whole : (dropped from : ℕ) (source : Input) (output : Output) (Same : Type 0) (Took : List DeliveryValue → List Answer → Type 0) (outcome : Result Summary ImportStop) (summary : Summary) → outcome ≡ Ok summary
-    → Imports dropped from source output Same Took outcome → (skipped : Known) × Skips dropped source.before skipped × EndsWell from 4294967295 (record source { before = skipped }) output Took summary
+    → DropsAndImports dropped from source output Same Took outcome → (skipped : Known) × Skips dropped source.before skipped × EndsWell from 4294967295 (record source { before = skipped }) output Took summary
 streamed-whole dropped from source output Same Took outcome summary is (inl h) =
     (h.0, h.1, subst (λ (o : Result Summary ImportStop). Streams from 4294967295 (record source { before = h.0 }) output Took o) is h.2)
 streamed-whole dropped from source output Same Took outcome summary is (inr h) = (let wrong = h.1 in absurd cc)
@@ -227,7 +227,7 @@ one-fault stop other e written = cc
 
 imports-on : (dropped from : ℕ) (to : Option ℕ) (input : Input) (output : Output) (failed : Bool) (Same : Type 0) (Took : List DeliveryValue → List Answer → Type 0) (outcome told : Result Summary ImportStop)
     → IsTold to outcome told → ((stop : ImportStop) → told ≡ Err stop → stop.fault ≡ WriteFailed → failed ≡ output.has_failed)
-    → Imports dropped from input output Same Took outcome → Imports dropped from input (record output { has_failed = failed }) Same Took outcome
+    → DropsAndImports dropped from input output Same Took outcome → DropsAndImports dropped from input (record output { has_failed = failed }) Same Took outcome
 imports-on dropped from None input output failed Same Took outcome told is same h = imports-last dropped from input output failed Same Took outcome (λ stop e written. same stop (is ∙ e) written) h
 imports-on dropped from (Some to) input output failed Same Took (Ok raw) told is same h = imports-last dropped from input output failed Same Took (Ok raw) (λ stop e written. (let wrong = e in absurd cc)) h
 imports-on dropped from (Some to) input output failed Same Took (Err stop) told (inl is) same h = imports-last dropped from input output failed Same Took (Err stop) (λ other e written. same stop is (one-fault stop other e written)) h

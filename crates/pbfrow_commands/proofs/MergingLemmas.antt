@@ -8,7 +8,7 @@ use Rattle.std.proofs.lemmas.List.Sums.{sum_by_push}
 use Rattle.osm_value.specs.Sink.{Wrote, Writes}
 use Rattle.osm_value.proofs.SinkLemmas.{Wrote-text}
 use Rattle.osm_rows.specs.Held.{Blob, HeldMap}
-use Rattle.osm_rows.specs.declared.keeper.Reader.{Ghosts}
+use Rattle.osm_rows.specs.declared.keeper.BlobReader.{Ghosts}
 use Rattle.osm_import.specs.Copies.{IsMerged, IsUnited, Copies, CrashLeavesSome, Stops, held_among, FaultIsCaused, CopyHasCause, IsOwnCopy}
 use Rattle.osm_import.specs.Merges.{AreUnited, IsFrontUnited}
 use Rattle.osm_import.specs.Stores.{KeepsHeld}

@@ -42,7 +42,7 @@ use Rattle.osm_verify.proofs.AuditLemmas.{audited-keeps-import, audited-shows-im
 use Rattle.osm_verify.proofs.LawLemmas.{verified-is-exact}
 use Rattle.pbfrow_reading.specs.Checking.{capped}
 use Rattle.pbfrow_reading.specs.CommandLines.{stop_line}
-use Rattle.pbfrow_reading.specs.Walks.{Part, IsPart, joined, lines_from, AreFound, status_of}
+use Rattle.pbfrow_reading.specs.Walks.{Part, IsWholeFrame, joined, lines_from, AreFound, status_of}
 use Rattle.pbfrow_commands.specs.Verifying.{Comparison, Compared, IsComparison, HasCompared, HasCountedRows, HasElements, HasOwnElements, HasSeen, HasSeenInput, ShowsFile, agree, rows_of, is_whole, first_extra, is_missing, is_other, counts_of, agreement_line, comparison_line, IsBroken, IsClosing, HasClosed, close_text, counts_behind, counts_line, header_line, extra_lines, compared_lines, is_agreed, ComparesBlobs, VerifiesInput}
 use Rattle.pbfrow_commands.specs.declared.verify.Close.{Close}
 use Rattle.pbfrow_commands.specs.declared.verify.Close.TheVariants.{Whole, Early, Broken, Unwritten}
@@ -373,7 +373,7 @@ reads-none trusted P depth left now counts rows here same counted rows_are =
     record { found = tt; stands = here; read = subst (λ (o : Known). Consumes left o []) (sym same) (Consumes-nil left); counted = counted; rows_are = rows_are; seen = λ trust. tt }
 
 pub reads-more : (before trusted : Type 0) (P : ℕ → Blob → Type 0) (depth : Depth) (left : Known) (was now : Reading) (at : ℕ) (w : List ℕ) (c d : Counts) (r s : Rows) (blobs : List (Part Compared)) (p : Part Compared)
-    → (trusted → before) → Reads before P depth left was c r blobs → GivesFrame was now at w → p.bytes ≡ w → IsPart p → HasOwnElements at p
+    → (trusted → before) → Reads before P depth left was c r blobs → GivesFrame was now at w → p.bytes ≡ w → IsWholeFrame p → HasOwnElements at p
     → ((bs : List (Part Compared)) → c ≡ counts_of bs 0 → d ≡ counts_of (bs ++ p ∷ []) 0) → CountsMore r p.found.elements s → (trusted → HasSeen P depth at p)
     → Reads trusted P depth left now d s (blobs ++ p ∷ [])
 reads-more before trusted P depth left was now at w c d r s blobs p weaker so_far gives bytes is own counts rows seen =

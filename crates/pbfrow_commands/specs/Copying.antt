@@ -4,7 +4,7 @@ use Rattle.std.specs.Fmt.{decimal}
 use Rattle.osm_rows.specs.Calls.{OfHeld}
 use Rattle.osm_rows.specs.Held.{HeldMap}
 use Rattle.osm_rows.specs.Keeping.{KeepsList}
-use Rattle.osm_rows.specs.declared.keeper.Reader.{Ghosts}
+use Rattle.osm_rows.specs.declared.keeper.BlobReader.{Ghosts}
 use Rattle.osm_import.specs.Copies.{Copies, CopyHasCause, CopyTells, CrashLeavesSome, IsOwnCopy}
 use Rattle.osm_import.specs.Stores.{CopiesInTurn, KeepsHeld}
 use Rattle.osm_import.specs.CopyFaults.{copy_number_of, copy_name_of}

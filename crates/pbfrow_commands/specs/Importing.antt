@@ -33,8 +33,8 @@ IsShort count old new source_failed = (source_failed ≡ true)
 
 -- Before the last line: so many bytes were dropped, and the stream behind them was imported, which stands at an offset; or
 -- they couldn't be read, which is told at the offset, and nothing else was done.
-abbrev pub Imports : ℕ → ℕ → Input → Output → Type 0 → (List DeliveryValue → List Answer → Type 0) → Result Summary ImportStop → Type 0
-Imports dropped at input output Same Took outcome =
+abbrev pub DropsAndImports : ℕ → ℕ → Input → Output → Type 0 → (List DeliveryValue → List Answer → Type 0) → Result Summary ImportStop → Type 0
+DropsAndImports dropped at input output Same Took outcome =
     ((skipped : Known) × Skips dropped input.before skipped × Streams at 4294967295 (record input { before = skipped }) output Took outcome)
     ⊎ (IsShort dropped input.before input.after input.has_failed × (outcome ≡ Err (record { fault = Stream ReadFailed; at = at })) × (output.after ≡ output.before) × Same)
 
@@ -104,7 +104,7 @@ pub record ImportsFront (dropped at : ℕ) (to : Option ℕ) (bytes : Known) (ou
   pub source : Input
   pub before_is : source.before ≡ front_of dropped at to bytes
   pub outcome : Result Summary ImportStop
-  pub imports : Imports dropped at source output Same Took outcome
+  pub imports : DropsAndImports dropped at source output Same Took outcome
   pub is_told : IsTold to outcome told
 
 -- The import of an input, all of it or what stands before the offset `to`: that, the last line, which comes behind what was

@@ -7,7 +7,7 @@ use Rattle.osm_value.specs.declared.sink.Sink.{Ghosts as SinkOf}
 use Rattle.osm_rows.specs.Calls.{OfHeld}
 use Rattle.osm_rows.specs.Held.{Blob, HeldMap}
 use Rattle.osm_rows.specs.Keeping.{IsForeign, KeepsList}
-use Rattle.osm_rows.specs.declared.keeper.Reader.{Ghosts}
+use Rattle.osm_rows.specs.declared.keeper.BlobReader.{Ghosts}
 use Rattle.osm_import.specs.Copies.{Copies, Stops, IsUnited, held_among, FaultIsCaused, IsOwnFault}
 use Rattle.osm_import.specs.Merges.{AreUnited, IsFrontUnited}
 use Rattle.osm_import.specs.Step.{HasCause}

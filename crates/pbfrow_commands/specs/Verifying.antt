@@ -14,7 +14,7 @@ use Rattle.osm_rows.specs.Keeping.{IsForeign, extents_of}
 use Rattle.osm_rows.specs.declared.audit.counts.Counts.{Counts as Rows}
 use Rattle.osm_rows.specs.declared.fault.StoreFault.{StoreFault}
 use Rattle.osm_rows.specs.declared.keeper.Extent.{Extent}
-use Rattle.osm_rows.specs.declared.keeper.Reader.{Ghosts as ReaderOf}
+use Rattle.osm_rows.specs.declared.keeper.BlobReader.{Ghosts as ReaderOf}
 use Rattle.osm_rows.specs.declared.schema.layout.Layout.{Layout}
 use Rattle.osm_reading.specs.Bad.{IsBad}
 use Rattle.osm_reading.specs.Framings.{Known}
@@ -33,7 +33,7 @@ use Rattle.osm_verify.specs.declared.comparing.Agreement.{Agreement}
 use Rattle.osm_verify.specs.declared.comparing.Agreement.TheVariants.{Same, Missing, Differs}
 use Rattle.pbfrow_reading.specs.Checking.{capped}
 use Rattle.pbfrow_reading.specs.CommandLines.{stop_line}
-use Rattle.pbfrow_reading.specs.Walks.{IsPart, Part, joined, lines_from, AreFound, HasEnded, status_of}
+use Rattle.pbfrow_reading.specs.Walks.{IsWholeFrame, Part, joined, lines_from, AreFound, HasEnded, status_of}
 use Rattle.pbfrow_reading.specs.declared.input.Ending.TheVariants as ending
 use Rattle.pbfrow_commands.specs.CommandLines.{broken_line}
 use Rattle.pbfrow_commands.specs.declared.verify.Close.{Close}
@@ -159,7 +159,7 @@ counts_line c = codes "blobs " ++ decimal c.blobs ++ codes " missing " ++ decima
 -- a frame of these bytes was counted, behind those that were before, and so were its rows
 pub record CountsFrame (bytes : List ℕ) (old new : Counts) (rows_old rows_new : Rows) (p : Part Compared) : Type 0 where
   pub bytes_are : p.bytes ≡ bytes
-  pub is_part : IsPart p
+  pub is_part : IsWholeFrame p
   pub counted : (blobs : List (Part Compared)) → old ≡ counts_of blobs 0 → new ≡ counts_of (blobs ++ p ∷ []) 0
   pub rows : CountsMore rows_old p.found.elements rows_new
 

@@ -19,7 +19,7 @@ use crate::parts::put_parts_fault;
 use crate::report::put_store_fault;
 use crate::status::{Holdings, holdings_of, put_counts, put_gaps};
 use osm_parts::{Openings, Part, extents_of_parts, read_parts};
-use osm_rows::Reader;
+use osm_rows::BlobReader;
 use osm_value::Sink;
 use pbfrow_counts::{CountFault, ElementCounts, count_blobs, count_parts, put_element_counts};
 use pbfrow_reading::report::put_fault_at;
@@ -61,14 +61,14 @@ fn put_census<S: Sink>(out: &mut S, census: &Census) -> u8
 }
 
 /// What a store holds, and the counts of its elements.
-fn take_census<K: Reader>(
+fn take_census<K: BlobReader>(
     alloc: Global,
     store: &mut K,
     size: Option<u64>,
 ) -> Result<Census, CountFault>
-    ensures told { OfHeld K.Reader store.old store.new (λ held. IfOk result (IsCensus held size)) }
-    ensures own { OfHeld K.Reader store.old store.new (λ _. IfErr result IsOfMap) }
-    ensures rereads { Rereads K.Reader store.old result store.new }
+    ensures told { OfHeld K.BlobReader store.old store.new (λ held. IfOk result (IsCensus held size)) }
+    ensures own { OfHeld K.BlobReader store.old store.new (λ _. IfErr result IsOfMap) }
+    ensures rereads { Rereads K.BlobReader store.old result store.new }
     ensures cause { IfErr result (CountHasCause (K.failures store.old) (K.failures store.new)) }
 {
     let extents = store.extents(alloc)?;
@@ -82,14 +82,14 @@ fn take_census<K: Reader>(
 /// have, and the times of the oldest and the newest of them; or the line of a fault of the store. That of 66 `NotThisStore`
 /// with the offset of a blob that has other than as many elements as its row says never comes over a held map. Answers the
 /// exit status: 0 if everything was written, and 1 if there was a fault or the output failed.
-pub fn status_with_counts<K: Reader, S: Sink>(
+pub fn status_with_counts<K: BlobReader, S: Sink>(
     alloc: Global,
     store: &mut K,
     size: Option<u64>,
     out: &mut S,
 ) -> u8
-    ensures told { OfHeld K.Reader store.old store.new (λ held. TellsCounts size held (telling K.failures S.Sink store.old store.new out.old out.new result)) }
-    ensures stays { Stays K.Reader store.old store.new }
+    ensures told { OfHeld K.BlobReader store.old store.new (λ held. TellsCounts size held (telling K.failures S.Sink store.old store.new out.old out.new result)) }
+    ensures stays { Stays K.BlobReader store.old store.new }
     ensures bound { result ≤ 1 }
 {
     match take_census(alloc, store, size) {
@@ -102,7 +102,7 @@ pub fn status_with_counts<K: Reader, S: Sink>(
 }
 
 /// What the stores of these parts hold together, and the counts of its elements.
-fn take_census_of_parts<K: Reader + Drop, O: Openings<K>>(
+fn take_census_of_parts<K: BlobReader + Drop, O: Openings<K>>(
     alloc: Global,
     openings: &mut O,
     parts: &[Part],
@@ -125,7 +125,7 @@ fn take_census_of_parts<K: Reader + Drop, O: Openings<K>>(
 /// of a fault: those of `status_parts`. Each store is opened once for its extents, and then once for each run of its blobs,
 /// one after the other. Answers the exit status: 0 if everything was written, and 1 if there was a fault or the output
 /// failed. What the stores hold stays.
-pub fn status_parts_with_counts<K: Reader + Drop, O: Openings<K>, S: Sink>(
+pub fn status_parts_with_counts<K: BlobReader + Drop, O: Openings<K>, S: Sink>(
     alloc: Global,
     openings: &mut O,
     count: u64,

@@ -7,7 +7,7 @@ ghost use Rattle.pbfrow_commands.specs.Exporting.{EndsExport, TellsExport};
 ghost use Rattle.pbfrow_commands.specs.Telling.{telling};
 
 use osm_import::{ExportFault, export_lines, export_pbf, put_fault_at, put_plain_fault};
-use osm_rows::Reader;
+use osm_rows::BlobReader;
 use osm_value::{Form, Sink};
 use std::alloc::Global;
 
@@ -41,7 +41,7 @@ pub(crate) fn finish<S: Sink>(out: &mut S, answer: Result<(), ExportFault>) -> u
 /// Writes the elements of a store as lines or as a PBF file, or the line of the fault at which it stopped. The file has
 /// `size` bytes or, if no size is given, ends with the last blob held. If blobs of it are missing, nothing is exported,
 /// unless the export is `partial`. Answers the exit status: 0 if everything was written, else 1.
-pub fn export<K: Reader, S: Sink>(
+pub fn export<K: BlobReader, S: Sink>(
     alloc: Global,
     store: &mut K,
     size: Option<u64>,
@@ -49,8 +49,8 @@ pub fn export<K: Reader, S: Sink>(
     form: Form,
     out: &mut S,
 ) -> u8
-    ensures told { OfHeld K.Reader store.old store.new (λ held. TellsExport form size partial held (telling K.failures S.Sink store.old store.new out.old out.new result)) }
-    ensures stays { Stays K.Reader store.old store.new }
+    ensures told { OfHeld K.BlobReader store.old store.new (λ held. TellsExport form size partial held (telling K.failures S.Sink store.old store.new out.old out.new result)) }
+    ensures stays { Stays K.BlobReader store.old store.new }
     ensures bound { result ≤ 1 }
 {
     match form {

@@ -11,7 +11,7 @@ ghost use Rattle.pbfrow_commands.specs.Finding.{TellsMatches};
 ghost use Rattle.pbfrow_commands.specs.Telling.{telling};
 
 use crate::report::put_store_fault;
-use osm_rows::{Found, Reader, StoreFault};
+use osm_rows::{BlobReader, Found, StoreFault};
 use osm_value::{Element, MemberKind, Sink, put, put_digits, write_line};
 use std::alloc::{AllocError, Global};
 
@@ -50,15 +50,15 @@ fn write_found<S: Sink>(alloc: Global, found: &Found, out: &mut S) -> Result<(),
 /// a held map is never 66.
 /// Answers the exit status: 0 if everything was written, even if nothing was found, and 1 if there was a fault or the
 /// output failed.
-pub fn find<K: Reader, S: Sink>(
+pub fn find<K: BlobReader, S: Sink>(
     alloc: Global,
     store: &mut K,
     kind: MemberKind,
     id: i64,
     out: &mut S,
 ) -> u8
-    ensures told { OfHeld K.Reader store.old store.new (λ held. TellsMatches (filter (is_of kind id) (placed_in held)) (telling K.failures S.Sink store.old store.new out.old out.new result)) }
-    ensures stays { Stays K.Reader store.old store.new }
+    ensures told { OfHeld K.BlobReader store.old store.new (λ held. TellsMatches (filter (is_of kind id) (placed_in held)) (telling K.failures S.Sink store.old store.new out.old out.new result)) }
+    ensures stays { Stays K.BlobReader store.old store.new }
     ensures bound { result ≤ 1 }
 {
     let found = match store.find(alloc, kind, id) {

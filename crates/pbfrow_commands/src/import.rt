@@ -7,11 +7,11 @@ ghost use Rattle.osm_import.specs.Flows.{input, output};
 ghost use Rattle.osm_import.specs.Stores.{Takes};
 ghost use Rattle.osm_import.specs.Merges.{ImportsPart};
 ghost use Rattle.osm_import.specs.declared.stream.fault.ImportStop.{ImportStop as ImportStopValue};
-ghost use Rattle.pbfrow_commands.specs.Importing.{Skips, IsShort, Imports, ImportsFront, ImportsUpTo, EndsBefore, EndsLine, EndsStop, import_status, HoldsFile, HoldsRange, IsTold, ends_frames, ends_input, imported_of};
+ghost use Rattle.pbfrow_commands.specs.Importing.{Skips, IsShort, DropsAndImports, ImportsUpTo, EndsBefore, EndsLine, EndsStop, import_status, HoldsFile, HoldsRange, IsTold, ends_frames, ends_input, imported_of};
 
 use crate::report::put_summary;
 use osm_import::{ImportFault, ImportStop, Inlet, Source, Stop, Summary, Teller, import_stream};
-use osm_rows::Keeper;
+use osm_rows::BlobKeeper;
 use osm_value::Sink;
 use pbf_frame::{FrameFault, MAX_OFFSET};
 use pbfrow_reading::report::put_fault_at;
@@ -58,7 +58,7 @@ fn skip<R: Source>(reader: &mut R, count: u64) -> Result<(), Short>
 }
 
 /// Reads and drops the bytes before the start, and imports the blobs from there on.
-fn import_from<R: Source, K: Keeper, T: Teller, S: Sink>(
+fn import_from<R: Source, K: BlobKeeper, T: Teller, S: Sink>(
     alloc: Global,
     reader: &mut R,
     store: &mut K,
@@ -67,7 +67,7 @@ fn import_from<R: Source, K: Keeper, T: Teller, S: Sink>(
     out: &mut S,
 ) -> Result<Summary, ImportStop>
     requires { start.at ≤ MAX_OFFSET }
-    ensures { Imports start.dropped start.at (input R.Source reader.old reader.new) (output (T.tells teller.now) S.Sink out.old out.new) (store.new ≡ store.old) (Takes K.Reader store.old store.new) result }
+    ensures { DropsAndImports start.dropped start.at (input R.Source reader.old reader.new) (output (T.tells teller.now) S.Sink out.old out.new) (store.new ≡ store.old) (Takes K.BlobReader store.old store.new) result }
 {
     match skip(reader, start.dropped) {
         Ok(()) => import_stream(alloc, store, reader, start.at, MAX_BLOBS, teller, out),
@@ -113,7 +113,7 @@ fn ended_before(to: u64, lacking: u64) -> Result<Summary, ImportStop>
 }
 
 /// What is told of an import whose input has to reach as far as `to`, and lacked so many bytes of that.
-fn reached(
+fn require_end(
     outcome: Result<Summary, ImportStop>,
     to: u64,
     lacking: u64,
@@ -125,32 +125,6 @@ fn reached(
         Ok(_) => ended_before(to, lacking),
         Err(stop) if lacking > 0 && ends_input(stop.fault) => ended_before(to, lacking),
         Err(stop) => Err(stop),
-    }
-}
-
-/// Imports what of a reader stands before the offset `to` of the file, from which on nothing is read, or all of it.
-fn import_front<R: Read + Drop, K: Keeper, T: Teller, S: Sink>(
-    alloc: Global,
-    reader: R,
-    store: &mut K,
-    start: Start,
-    to: Option<u64>,
-    teller: &T,
-    out: &mut S,
-) -> Result<Summary, ImportStop>
-    requires begins { start.at ≤ MAX_OFFSET }
-    requires drops { OnSome to (start.dropped ≤ start.at) }
-    requires ends { IfSome to (λ end. (start.at < end) × (end ≤ MAX_OFFSET)) }
-    ensures { ImportsFront start.dropped start.at to (R.remaining reader) (output (T.tells teller.now) S.Sink out.old out.new) (store.new ≡ store.old) (Takes K.Reader store.old store.new) result }
-{
-    match to {
-        None => import_from(alloc, &mut Inlet::new(reader), store, start, teller, out),
-        Some(to) => {
-            let mut front = reader.take(start.dropped + (to - start.at));
-            let mut input = Inlet::new(&mut front);
-            let outcome = import_from(alloc, &mut input, store, start, teller, out);
-            reached(outcome, to, front.limit())
-        }
     }
 }
 
@@ -205,7 +179,7 @@ fn finish<S: Sink>(out: &mut S, outcome: Result<Summary, ImportStop>) -> u8
 /// If it answers 0 with `to`, every byte from the start to `to` is in a frame that is held: whole frames, each held at its
 /// offset, follow one another from the one to the other, and where the reader's bytes are known they are these frames. What
 /// was held before stays held, and beside it nothing is held but these frames.
-pub fn import<R: Read + Drop, K: Keeper, T: Teller, S: Sink>(
+pub fn import<R: Read + Drop, K: BlobKeeper, T: Teller, S: Sink>(
     alloc: Global,
     reader: R,
     store: &mut K,
@@ -217,16 +191,24 @@ pub fn import<R: Read + Drop, K: Keeper, T: Teller, S: Sink>(
     requires begins { start.at ≤ MAX_OFFSET }
     requires drops { OnSome to (start.dropped ≤ start.at) }
     requires ends { IfSome to (λ end. (start.at < end) × (end ≤ MAX_OFFSET)) }
-    ensures imports { ImportsUpTo start.dropped start.at to (R.remaining reader) (output (T.tells teller.now) S.Sink out.old out.new) (store.new ≡ store.old) (Takes K.Reader store.old store.new) result }
+    ensures imports { ImportsUpTo start.dropped start.at to (R.remaining reader) (output (T.tells teller.now) S.Sink out.old out.new) (store.new ≡ store.old) (Takes K.BlobReader store.old store.new) result }
     ensures one_file { (bytes : List ℕ) → R.remaining reader ≡ Some bytes → start.at ≡ 0 → result ≡ 0
-        → OfHeld K.Reader store.old store.new (HoldsFile (K.holds store.new) (imported_of start.dropped start.at to bytes)) }
+        → OfHeld K.BlobReader store.old store.new (HoldsFile (K.holds store.new) (imported_of start.dropped start.at to bytes)) }
     ensures part { (bytes : List ℕ) → R.remaining reader ≡ Some bytes → result ≡ 0 → K.holds store.old empty → K.is_honest store.new
         → ImportsPart (K.holds store.new) start.at (imported_of start.dropped start.at to bytes) }
     ensures whole { IfSome to (λ end. result ≡ 0
-        → OfHeld K.Reader store.old store.new (λ held. HoldsRange (K.holds store.new) held start.dropped start.at end (R.remaining reader))) }
+        → OfHeld K.BlobReader store.old store.new (λ held. HoldsRange (K.holds store.new) held start.dropped start.at end (R.remaining reader))) }
     ensures bound { result ≤ 1 }
 {
-    let told = import_front(alloc, reader, store, start, to, teller, out);
+    let told = match to {
+        None => import_from(alloc, &mut Inlet::new(reader), store, start, teller, out),
+        Some(to) => {
+            let mut front = reader.take(start.dropped + (to - start.at));
+            let mut input = Inlet::new(&mut front);
+            let outcome = import_from(alloc, &mut input, store, start, teller, out);
+            require_end(outcome, to, front.limit())
+        }
+    };
     finish(out, told)
 }
 

@@ -13,7 +13,7 @@ use crate::migrate::{put_copied, put_outcome};
 use crate::report::put_store_fault;
 use osm_import::{CopyCounts, CopyStop, copy_held};
 use osm_parts::Openings;
-use osm_rows::{Keeper, Reader, StoreFault};
+use osm_rows::{BlobKeeper, BlobReader, StoreFault};
 use osm_value::{Sink, put};
 use std::alloc::Global;
 
@@ -30,15 +30,15 @@ enum MergeStop {
 /// many were held already, or the line of the fault at which the copy stopped, with the offset of the blob. What the
 /// other store held stays, and what `from` holds. Stores that hold blobs of one file may come in any order, and any blob
 /// in several of them; a merge that stopped can be begun again.
-pub fn merge_one<F: Reader, T: Keeper, S: Sink>(
+pub fn merge_one<F: BlobReader, T: BlobKeeper, S: Sink>(
     alloc: Global,
     from: &mut F,
     into: &mut T,
     out: &mut S,
 ) -> Result<CopyCounts, CopyStop>
-    ensures copies { CopiesStore F.Reader T.Reader from.old from.new into.old into.new result }
+    ensures copies { CopiesStore F.BlobReader T.BlobReader from.old from.new into.old into.new result }
     ensures line { Prints S.Sink out.old out.new (outcome_line result) }
-    ensures source { Rereads F.Reader from.old result from.new }
+    ensures source { Rereads F.BlobReader from.old result from.new }
     ensures honest { T.is_honest into.new → T.is_honest into.old }
     ensures open_if { T.is_open into.new → T.is_open into.old }
 {
@@ -61,7 +61,7 @@ pub fn end_merge<S: Sink>(out: &mut S, counts: CopyCounts) -> u8
 }
 
 /// What the copy of one store is to the merge.
-fn merged(outcome: Result<CopyCounts, CopyStop>) -> Result<CopyCounts, MergeStop>
+fn merge_outcome(outcome: Result<CopyCounts, CopyStop>) -> Result<CopyCounts, MergeStop>
     ensures { result ≡ merged_of outcome }
 {
     match outcome {
@@ -71,14 +71,14 @@ fn merged(outcome: Result<CopyCounts, CopyStop>) -> Result<CopyCounts, MergeStop
 }
 
 /// Copies what the store at a place holds, which is opened and closed again, and writes its line or that of a fault.
-fn merge_at<F: Reader + Drop, O: Openings<F>, T: Keeper, S: Sink>(
+fn merge_at<F: BlobReader + Drop, O: Openings<F>, T: BlobKeeper, S: Sink>(
     alloc: Global,
     openings: &mut O,
     place: u64,
     into: &mut T,
     out: &mut S,
 ) -> Result<CopyCounts, MergeStop>
-    ensures merges { MergesAt O.holds O.is_honest T.Reader openings.old openings.new place into.old into.new result }
+    ensures merges { MergesAt O.holds O.is_honest T.BlobReader openings.old openings.new place into.old into.new result }
     ensures line { Prints S.Sink out.old out.new (store_line result) }
     ensures opens { OnlyOpens O.holds O.is_honest O.is_open openings.old result openings.new }
     ensures cause { MergeHasCause (O.failures openings.old) (O.failures openings.new) (T.failures into.old) (T.failures into.new) result }
@@ -95,11 +95,11 @@ fn merge_at<F: Reader + Drop, O: Openings<F>, T: Keeper, S: Sink>(
     };
     let outcome = merge_one(alloc, &mut store, into, out);
     openings.close(store);
-    merged(outcome)
+    merge_outcome(outcome)
 }
 
 /// The counts of more stores together. A sum stops at 2^64 - 1.
-fn added(total: CopyCounts, counts: CopyCounts) -> CopyCounts
+fn sum_of(total: CopyCounts, counts: CopyCounts) -> CopyCounts
     ensures { (so_far : List CopyCountsValue) → total ≡ total_of so_far → result ≡ total_of (so_far ++ counts ∷ []) }
 {
     CopyCounts {
@@ -110,14 +110,14 @@ fn added(total: CopyCounts, counts: CopyCounts) -> CopyCounts
 
 /// Copies what the stores at `count` places hold, one after the other and up to a fault, each with its line. Answers the
 /// counts of all together.
-fn merge_each<F: Reader + Drop, O: Openings<F>, T: Keeper, S: Sink>(
+fn merge_each<F: BlobReader + Drop, O: Openings<F>, T: BlobKeeper, S: Sink>(
     alloc: Global,
     openings: &mut O,
     count: u64,
     into: &mut T,
     out: &mut S,
 ) -> Result<CopyCounts, MergeStop>
-    ensures merges { (counts : List CopyCountsValue) × MergesStores O.holds O.is_honest O.failures T.Reader openings.old openings.new count into.old into.new counts result
+    ensures merges { (counts : List CopyCountsValue) × MergesStores O.holds O.is_honest O.failures T.BlobReader openings.old openings.new count into.old into.new counts result
         × IsTotal counts result × Prints S.Sink out.old out.new (store_lines counts result) }
     ensures keeps { KeepsMaps O.holds O.is_honest O.is_open openings.old openings.new }
     ensures honest { T.is_honest into.new → T.is_honest into.old }
@@ -126,7 +126,7 @@ fn merge_each<F: Reader + Drop, O: Openings<F>, T: Keeper, S: Sink>(
     let mut total = CopyCounts { copied: 0, held: 0 };
     for place in 0..count {
         let counts = merge_at(alloc, openings, place, into, out)?;
-        total = added(total, counts);
+        total = sum_of(total, counts);
     }
     Ok(total)
 }
@@ -138,7 +138,7 @@ fn merge_each<F: Reader + Drop, O: Openings<F>, T: Keeper, S: Sink>(
 ///
 /// The stores may come in any order, and any blob in several of them. What each holds stays, and what the other held before,
 /// whatever the status and whatever rows the stores have; a merge that ended early can be begun again.
-pub fn merge_all<F: Reader + Drop, O: Openings<F>, T: Keeper, S: Sink>(
+pub fn merge_all<F: BlobReader + Drop, O: Openings<F>, T: BlobKeeper, S: Sink>(
     alloc: Global,
     openings: &mut O,
     count: u64,
@@ -154,10 +154,10 @@ pub fn merge_all<F: Reader + Drop, O: Openings<F>, T: Keeper, S: Sink>(
         → T.is_open into.new → (after : HeldMap) × TakesOf maps held after × T.holds into.new after }
 
     // What it held stays whatever these stores hold and give, also after a crash.
-    ensures stays { NeverLoses T.Reader into.old into.new }
+    ensures stays { NeverLoses T.BlobReader into.old into.new }
 
     // What it came to, and each line.
-    ensures merges { HasMerged O.holds O.is_honest O.failures T.Reader S.Sink openings.old openings.new count into.old into.new out.old out.new result }
+    ensures merges { HasMerged O.holds O.is_honest O.failures T.BlobReader S.Sink openings.old openings.new count into.old into.new out.old out.new result }
 
     // What the stores hold stays.
     ensures keeps { KeepsMaps O.holds O.is_honest O.is_open openings.old openings.new }

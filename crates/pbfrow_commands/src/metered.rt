@@ -3,7 +3,7 @@
 ghost use Rattle.std.specs.Prelude.{None};
 
 use osm_import::{Answer, SourceFailed, Teller};
-use osm_rows::{Extent, Found, Loaded, Reader, StoreFault};
+use osm_rows::{BlobReader, Extent, Found, Loaded, StoreFault};
 use osm_value::MemberKind;
 use osm_verify::FileBytes;
 use pbfrow_reading::watcher::Watcher;
@@ -73,7 +73,7 @@ pub struct MeteredStore<'a, K, P> {
     pub watcher: &'a P,
 }
 
-impl<K: Reader, P: Watcher> Reader for MeteredStore<'_, K, P> {
+impl<K: BlobReader, P: Watcher> BlobReader for MeteredStore<'_, K, P> {
     ghost holds = { λ m held. K.holds m.store held };
 
     ghost leaves = { λ m left. K.leaves m.store left };

@@ -11,7 +11,7 @@ ghost use Rattle.osm_import.specs.declared.copy.CopyStop.{CopyStop as CopyStopVa
 ghost use Rattle.pbfrow_commands.specs.Copying.{CopiesStore, copied_line, outcome_line, copy_status};
 
 use osm_import::{CopyCounts, CopyStop, copy_held};
-use osm_rows::{Keeper, Reader};
+use osm_rows::{BlobKeeper, BlobReader};
 use osm_value::{Sink, put};
 use pbfrow_reading::check::put_total;
 use pbfrow_reading::report::put_fault_at;
@@ -48,19 +48,19 @@ pub(crate) fn put_outcome<S: Sink>(out: &mut S, outcome: Result<CopyCounts, Copy
 /// already, or the line of the fault at which the copy stopped, with the offset of the blob. What the other store held
 /// stays, and what `from` holds. Answers the exit status: 0 if all were copied and the line was written, else 1. A copy
 /// that stopped can be begun again.
-pub fn migrate<F: Reader, T: Keeper, S: Sink>(
+pub fn migrate<F: BlobReader, T: BlobKeeper, S: Sink>(
     alloc: Global,
     from: &mut F,
     to: &mut T,
     out: &mut S,
 ) -> u8
-    ensures copies { (outcome : Result CopyCountsValue CopyStopValue) × CopiesStore F.Reader T.Reader from.old from.new to.old to.new outcome
+    ensures copies { (outcome : Result CopyCountsValue CopyStopValue) × CopiesStore F.BlobReader T.BlobReader from.old from.new to.old to.new outcome
         × Wrote (S.written out.old) (outcome_line outcome) (S.written out.new) (S.has_failed out.new) × (result ≡ copy_status outcome (S.has_failed out.new)) }
 
     // What the other store held stays whatever the first one holds and gives, also after a crash.
-    ensures stays { OfHeld T.Reader to.old to.new (λ held. T.is_open to.new → HoldsStill T.Reader to.new held) }
-    ensures left { OfHeld T.Reader to.old to.new (λ held. (left : HeldMap) → T.leaves to.new left → Keeps held left) }
-    ensures source { Stays F.Reader from.old from.new }
+    ensures stays { OfHeld T.BlobReader to.old to.new (λ held. T.is_open to.new → HoldsStill T.BlobReader to.new held) }
+    ensures left { OfHeld T.BlobReader to.old to.new (λ held. (left : HeldMap) → T.leaves to.new left → Keeps held left) }
+    ensures source { Stays F.BlobReader from.old from.new }
     ensures bound { result ≤ 1 }
 {
     let outcome = copy_held(alloc, from, to);

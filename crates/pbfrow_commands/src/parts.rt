@@ -15,7 +15,7 @@ use crate::status::{Holdings, holdings_of, put_holdings};
 use osm_parts::{
     Openings, PartsFault, export_parts_as_lines, export_parts_as_pbf, extents_of_parts, read_parts,
 };
-use osm_rows::Reader;
+use osm_rows::BlobReader;
 use osm_value::{Form, Sink};
 use pbfrow_reading::report::put_fault_at;
 use std::alloc::Global;
@@ -32,7 +32,7 @@ pub(crate) fn put_parts_fault<S: Sink>(out: &mut S, fault: PartsFault)
 }
 
 /// What `count` stores hold together, read of one after the other.
-fn survey_parts<K: Reader + Drop, O: Openings<K>>(
+fn survey_parts<K: BlobReader + Drop, O: Openings<K>>(
     alloc: Global,
     openings: &mut O,
     count: u64,
@@ -54,7 +54,7 @@ fn survey_parts<K: Reader + Drop, O: Openings<K>>(
 /// way of, 71 `Interleaved` with that of a blob between those of another store, if there are more than twice as many runs
 /// as stores, or a fault of a store. Answers the exit status: 0 if everything was written, and 1 if there was a fault or the output
 /// failed. What the stores hold stays.
-pub fn status_parts<K: Reader + Drop, O: Openings<K>, S: Sink>(
+pub fn status_parts<K: BlobReader + Drop, O: Openings<K>, S: Sink>(
     alloc: Global,
     openings: &mut O,
     count: u64,
@@ -79,7 +79,7 @@ pub fn status_parts<K: Reader + Drop, O: Openings<K>, S: Sink>(
 /// or the line of a fault, before any byte: those of `status_parts`. Each store is opened once for its extents, since a
 /// refusal comes before any byte, and then once for each run of its blobs, one after the other. Answers the exit status: 0 if everything was written, else 1. What the
 /// stores hold stays.
-pub fn export_parts<K: Reader + Drop, O: Openings<K>, S: Sink>(
+pub fn export_parts<K: BlobReader + Drop, O: Openings<K>, S: Sink>(
     alloc: Global,
     openings: &mut O,
     count: u64,

@@ -13,7 +13,7 @@ ghost use Rattle.pbfrow_commands.specs.Telling.{telling};
 
 use crate::report::put_store_fault;
 use osm_import::{gaps_between, greatest_end};
-use osm_rows::{Extent, Reader, StoreFault};
+use osm_rows::{BlobReader, Extent, StoreFault};
 use osm_value::{Sink, put, put_digits};
 use pbfrow_reading::check::put_total;
 use std::alloc::{AllocError, Global};
@@ -44,14 +44,14 @@ pub(crate) fn holdings_of(
 }
 
 /// What a store holds.
-fn survey<K: Reader>(
+fn survey<K: BlobReader>(
     alloc: Global,
     store: &mut K,
     size: Option<u64>,
 ) -> Result<Holdings, StoreFault>
-    ensures told { OfHeld K.Reader store.old store.new (λ held. IfOk result (IsSurvey held size)) }
-    ensures rereads { Rereads K.Reader store.old result store.new }
-    ensures own { OfHeld K.Reader store.old store.new (λ _. IfErr result (λ fault. ¬ (IsForeign fault))) }
+    ensures told { OfHeld K.BlobReader store.old store.new (λ held. IfOk result (IsSurvey held size)) }
+    ensures rereads { Rereads K.BlobReader store.old result store.new }
+    ensures own { OfHeld K.BlobReader store.old store.new (λ _. IfErr result (λ fault. ¬ (IsForeign fault))) }
     ensures cause { IfErr result (HasCause (K.failures store.old) (K.failures store.new)) }
 {
     let extents = store.extents(alloc)?;
@@ -108,14 +108,14 @@ pub(crate) fn put_holdings<S: Sink>(out: &mut S, holdings: &Holdings) -> u8
 /// Writes a line for each range that no blob covers, up to the size in bytes or else the greatest held end, and finally
 /// the counts; or the line of a fault of the store, which over a held map is never 66. Answers the exit status: 0 if everything was written, and 1 if there
 /// was a fault or the output failed.
-pub fn status<K: Reader, S: Sink>(
+pub fn status<K: BlobReader, S: Sink>(
     alloc: Global,
     store: &mut K,
     size: Option<u64>,
     out: &mut S,
 ) -> u8
-    ensures told { OfHeld K.Reader store.old store.new (λ held. TellsStatus size held (telling K.failures S.Sink store.old store.new out.old out.new result)) }
-    ensures stays { Stays K.Reader store.old store.new }
+    ensures told { OfHeld K.BlobReader store.old store.new (λ held. TellsStatus size held (telling K.failures S.Sink store.old store.new out.old out.new result)) }
+    ensures stays { Stays K.BlobReader store.old store.new }
     ensures bound { result ≤ 1 }
 {
     match survey(alloc, store, size) {

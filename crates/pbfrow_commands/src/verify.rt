@@ -19,7 +19,7 @@ ghost use Rattle.pbfrow_reading.specs.Walks.{Part, status_of};
 use osm_import::{
     ExamineFault, Fault, FrameReader, Inlet, Stop, StreamFault, examine_frame, put_fault_at,
 };
-use osm_rows::{Audited, Counts as Rows, Extent, Reader, StoreFault};
+use osm_rows::{Audited, BlobReader, Counts as Rows, Extent, StoreFault};
 use osm_value::{Outlet, Sink, put, put_digits};
 use osm_verify::{Agreement, Depth, compare, extents_beginning, has_rows};
 use pbf_frame::MAX_OFFSET;
@@ -107,7 +107,7 @@ impl Counts {
 /// extent or by its elements too, and which other extents begin in the frame, and at last which begin behind the end.
 /// Writes `missing OFFSET`, `differs OFFSET` or `extra OFFSET` for each that doesn't agree and a fault's line for each bad
 /// blob, ascending by offset, and finally the counts; nothing follows the line of a read that failed, of a fault of the
-/// store or of refused memory. Where by elements all agrees and the tables have yet more rows, as somebody else has
+/// store or of refused memory. Where by elements all agrees and the tables have yet more rows, as another program has
 /// written them, that is the fault `NotThisStore` at the end of the input. The lines so far are flushed before more of the input is read. Where the output fails, no
 /// more is read. What is held stays. The watcher is called for each blob that was compared.
 ///
@@ -121,15 +121,15 @@ pub fn verify<K: Audited, R: Read, P: Watcher, W: Write>(
     watcher: &P,
     out: &mut Outlet<W>,
 ) -> u8
-    ensures verified { OfHeld K.Reader store.old store.new (λ held. VerifiesInput depth held (R.remaining input.old) (W.contents out.old.writer) (W.contents out.new.writer) out.new.has_failed (K.failures store.old) (K.failures store.new) result) }
+    ensures verified { OfHeld K.BlobReader store.old store.new (λ held. VerifiesInput depth held (R.remaining input.old) (W.contents out.old.writer) (W.contents out.new.writer) out.new.has_failed (K.failures store.old) (K.failures store.new) result) }
     // At 0 the input is a file of good blobs, and the store holds what an import of it comes to.
-    ensures exact { OfHeld K.Reader store.old store.new (λ held. result ≡ 0
+    ensures exact { OfHeld K.BlobReader store.old store.new (λ held. result ≡ 0
         → IfSome (R.remaining input.old) (λ bytes. (frames : List (List ℕ)) × IsFile bytes frames × IsExact depth held frames)) }
     // At 0 by elements, whatever rows the tables have had: they are those that an import of the input writes (`has_rows`), and
     // no others, and queries see these. That leaves out an input of more rows than SQL can count.
     ensures shown { K.is_honest store.new → K.has_tables store.old → depth ≡ Depth.Elements → result ≡ 0
         → IfSome (R.remaining input.old) (λ bytes. (frames : List (List ℕ)) × IsFile bytes frames × ShowsFile (K.has_rows (K.trees store.old)) K.layout (K.trees store.old) frames) }
-    ensures stays { Stays K.Reader store.old store.new }
+    ensures stays { Stays K.BlobReader store.old store.new }
     ensures bound { result ≤ 1 }
 {
     let mut counts = Counts::NONE;
@@ -148,9 +148,9 @@ fn compare_blobs<K: Audited, R: Read, P: Watcher, W: Write>(
     out: &mut Outlet<W>,
 ) -> Close
     requires { counts.old ≡ counts_of [] 0 }
-    ensures told { OfHeld K.Reader store.old store.new (λ held. ComparesInput depth held (R.remaining input.old) (W.contents out.old.writer) (W.contents out.new.writer) out.new.has_failed (K.failures store.old) (K.failures store.new) counts.new result) }
+    ensures told { OfHeld K.BlobReader store.old store.new (λ held. ComparesInput depth held (R.remaining input.old) (W.contents out.old.writer) (W.contents out.new.writer) out.new.has_failed (K.failures store.old) (K.failures store.new) counts.new result) }
     ensures seen { K.is_honest store.new → K.has_tables store.old → HasSeenInput (K.has_rows (K.trees store.old)) K.layout (K.trees store.old) depth (R.remaining input.old) counts.new result }
-    ensures stays { Stays K.Reader store.old store.new }
+    ensures stays { Stays K.BlobReader store.old store.new }
 {
     let mut frames = match FrameReader::new(alloc, 0, Inlet::new(input)) {
         Ok(frames) => frames,
@@ -189,11 +189,11 @@ fn close_whole<K: Audited>(
     rows: &Rows,
 ) -> Close
     requires { end ≤ LAST }
-    ensures extras { OfHeld K.Reader store.old store.new (λ held. (depth ≡ Depth.Elements → agree counts.now ≡ true → filter (begins end LAST) (extents_of held) ≡ [] → rows.now ≡ counts_of_rows (elements_held held))
+    ensures extras { OfHeld K.BlobReader store.old store.new (λ held. (depth ≡ Depth.Elements → agree counts.now ≡ true → filter (begins end LAST) (extents_of held) ≡ [] → rows.now ≡ counts_of_rows (elements_held held))
         → IsClosing held end (K.failures store.old) (K.failures store.new) result) }
     ensures shown { K.is_honest store.new → HasCountedRows (K.is_open store.new) (K.has_tables store.old) K.layout (K.trees store.old) depth counts.now rows.now result }
-    ensures same { KeepsTables K.Reader store.old store.new }
-    ensures stays { Stays K.Reader store.old store.new }
+    ensures same { KeepsTables K.BlobReader store.old store.new }
+    ensures stays { Stays K.BlobReader store.old store.new }
     ensures counted { K.failures store.old ≤ K.failures store.new }
 {
     let extras = match extents_beginning(alloc, store, end, MAX_OFFSET) {
@@ -231,13 +231,13 @@ fn compare_blob<K: Audited, S: Sink>(
 ) -> Result<u64, StoreFault>
     requires frame { IsFrame bytes.now }
     requires limit { at + length bytes.now ≤ LAST }
-    ensures told { OfHeld K.Reader store.old store.new (λ held. OnOk result ((p : Part Compared) × CountsFrame bytes.now counts.old counts.new rows.old rows.new p × HasCompared depth held at p
+    ensures told { OfHeld K.BlobReader store.old store.new (λ held. OnOk result ((p : Part Compared) × CountsFrame bytes.now counts.old counts.new rows.old rows.new p × HasCompared depth held at p
         × Prints S.Sink out.old out.new (compared_lines at p))) }
     ensures seen { OnOk result ((p : Part Compared) × CountsFrame bytes.now counts.old counts.new rows.old rows.new p × HasOwnElements at p
         × (K.is_honest store.new → K.is_open store.new → K.has_tables store.old → HasSeen (K.has_rows (K.trees store.old)) depth at p)) }
     ensures end { IfOk result (λ end. end ≡ at + length bytes.now) }
     ensures err { OnErr result ((out.new ≡ out.old) × (counts.new ≡ counts.old)) }
-    ensures reads { ReadsAgain K.Reader store.old result store.new }
+    ensures reads { ReadsAgain K.BlobReader store.old result store.new }
 {
     let finding = match inspect(alloc, store, at, bytes, depth, rows) {
         Ok(finding) => finding,
@@ -260,10 +260,10 @@ fn inspect<K: Audited>(
 ) -> Result<Finding, StoreFault>
     requires frame { IsFrame bytes.now }
     requires limit { at + length bytes.now ≤ LAST }
-    ensures found { IfOk result (λ finding. Inspects K.Reader store.old store.new (K.has_tables store.old) (K.has_rows (K.trees store.old)) rows.old rows.new depth at bytes.now finding.verdict finding.extras.items) }
-    ensures same { KeepsTables K.Reader store.old store.new }
-    ensures rereads { Rereads K.Reader store.old result store.new }
-    ensures own { OfHeld K.Reader store.old store.new (λ _. IfErr result (λ fault. ¬ (IsForeign fault))) }
+    ensures found { IfOk result (λ finding. Inspects K.BlobReader store.old store.new (K.has_tables store.old) (K.has_rows (K.trees store.old)) rows.old rows.new depth at bytes.now finding.verdict finding.extras.items) }
+    ensures same { KeepsTables K.BlobReader store.old store.new }
+    ensures rereads { Rereads K.BlobReader store.old result store.new }
+    ensures own { OfHeld K.BlobReader store.old store.new (λ _. IfErr result (λ fault. ¬ (IsForeign fault))) }
     ensures cause { IfErr result (HasCause (K.failures store.old) (K.failures store.new)) }
     ensures counted { K.failures store.old ≤ K.failures store.new }
 {
@@ -299,10 +299,10 @@ fn judge<K: Audited>(
     rows: &mut Rows,
 ) -> Result<Result<Agreement, Fault>, StoreFault>
     requires { IsFrame bytes.now }
-    ensures judged { IfOk result (Judges K.Reader store.old store.new (K.has_tables store.old) (K.has_rows (K.trees store.old)) rows.old rows.new depth at bytes.now) }
-    ensures same { KeepsTables K.Reader store.old store.new }
-    ensures rereads { Rereads K.Reader store.old result store.new }
-    ensures own { OfHeld K.Reader store.old store.new (λ _. IfErr result (λ fault. ¬ (IsForeign fault))) }
+    ensures judged { IfOk result (Judges K.BlobReader store.old store.new (K.has_tables store.old) (K.has_rows (K.trees store.old)) rows.old rows.new depth at bytes.now) }
+    ensures same { KeepsTables K.BlobReader store.old store.new }
+    ensures rereads { Rereads K.BlobReader store.old result store.new }
+    ensures own { OfHeld K.BlobReader store.old store.new (λ _. IfErr result (λ fault. ¬ (IsForeign fault))) }
     ensures cause { IfErr result (HasCause (K.failures store.old) (K.failures store.new)) }
     ensures counted { K.failures store.old ≤ K.failures store.new }
 {

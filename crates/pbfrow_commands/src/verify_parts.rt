@@ -126,7 +126,7 @@ pub fn verify_parts<K: Audited + Drop, O: Openings<K>, F: FileBytes, S: Sink>(
         → IfSome (F.bytes file.old) (λ bytes. HoldFile depth bytes maps) }
     // At 0 by elements, whatever rows the tables have had: those of each store are the rows of the frames of the file that its
     // extents name, and no others, and each frame of the file is named. That leaves out more rows than SQL can count.
-    ensures shown { O.is_honest openings.new → depth ≡ Depth.Elements → HaveTables K.Reader K.has_tables (O.lies openings.old) → result ≡ 0
+    ensures shown { O.is_honest openings.new → depth ≡ Depth.Elements → HaveTables K.BlobReader K.has_tables (O.lies openings.old) → result ≡ 0
         → IfSome (F.bytes file.old) (λ bytes. ShowTogether (O.lies openings.old) (ShowsExtents K.has_rows K.layout K.trees (Some bytes)) count bytes) }
     ensures keeps { KeepsMaps O.holds O.is_honest O.is_open openings.old openings.new }
     ensures bound { result ≤ 1 }

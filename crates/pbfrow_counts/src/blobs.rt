@@ -12,12 +12,12 @@ ghost use Rattle.pbfrow_counts.specs.Counting.{CountHasCause, CountTells, Counts
 
 use crate::elements::ElementCounts;
 use crate::fault::CountFault;
-use osm_rows::{Extent, Reader};
+use osm_rows::{BlobReader, Extent};
 use std::alloc::Global;
 
 /// Counts the elements of the blob at an extent, unless the store has other than as many of it as the extent says, or a row
 /// of it that no element has.
-fn count_blob<K: Reader>(
+fn count_blob<K: BlobReader>(
     alloc: Global,
     keeper: &mut K,
     extent: &Extent,
@@ -28,7 +28,7 @@ fn count_blob<K: Reader>(
     ensures own { (held : HeldMap) (blob : Blob) → K.holds keeper.old held → K.is_honest keeper.new → get held extent.now.off ≡ Some blob
         → extent.now ≡ extent_of (extent.now.off, blob) → IfErr result IsOfMap }
     ensures complete { OnOk result (CountsSoMany counts.old extent.now.n counts.new) }
-    ensures rereads { Rereads K.Reader keeper.old result keeper.new }
+    ensures rereads { Rereads K.BlobReader keeper.old result keeper.new }
     ensures cause { IfErr result (CountHasCause (K.failures keeper.old) (K.failures keeper.new)) }
     ensures told { CountTells (K.failures keeper.old) (K.failures keeper.new) result }
     ensures counted { K.failures keeper.old ≤ K.failures keeper.new }
@@ -51,7 +51,7 @@ fn count_blob<K: Reader>(
 /// an error is that of a read that has failed, or refused memory. Whatever rows the store has, as many elements are counted
 /// as the extents say; where the store has more or fewer, or a row that no element has, it stops with `Miscounted` and that
 /// offset.
-pub fn count_blobs<K: Reader>(
+pub fn count_blobs<K: BlobReader>(
     alloc: Global,
     keeper: &mut K,
     extents: &[Extent],
@@ -62,7 +62,7 @@ pub fn count_blobs<K: Reader>(
     ensures own { (held run : HeldMap) → K.holds keeper.old held → K.is_honest keeper.new → IsWithin run held → extents.now ≡ extents_of run
         → IfErr result IsOfMap }
     ensures complete { OnOk result (CountsSoMany counts.old (sum_by (λ (extent : ExtentValue). extent.n) extents.now) counts.new) }
-    ensures rereads { Rereads K.Reader keeper.old result keeper.new }
+    ensures rereads { Rereads K.BlobReader keeper.old result keeper.new }
     ensures cause { IfErr result (CountHasCause (K.failures keeper.old) (K.failures keeper.new)) }
     ensures told { CountTells (K.failures keeper.old) (K.failures keeper.new) result }
     ensures counted { K.failures keeper.old ≤ K.failures keeper.new }

@@ -12,11 +12,11 @@ use crate::blobs::count_blobs;
 use crate::elements::ElementCounts;
 use crate::fault::CountFault;
 use osm_parts::{Openings, Part};
-use osm_rows::Reader;
+use osm_rows::BlobReader;
 use std::alloc::Global;
 
 /// Counts the elements of the blobs of a part, whose store is opened and closed.
-fn count_part<K: Reader + Drop, O: Openings<K>>(
+fn count_part<K: BlobReader + Drop, O: Openings<K>>(
     alloc: Global,
     openings: &mut O,
     part: &Part,
@@ -42,7 +42,7 @@ fn count_part<K: Reader + Drop, O: Openings<K>>(
 ///
 /// Where the stores hold maps, an error is that of an opening or a read that has failed, or refused memory; `Miscounted`
 /// comes only over other rows.
-pub fn count_parts<K: Reader + Drop, O: Openings<K>>(
+pub fn count_parts<K: BlobReader + Drop, O: Openings<K>>(
     alloc: Global,
     openings: &mut O,
     parts: &[Part],

@@ -1,6 +1,6 @@
 -- Copies out of a store that another one wraps, as copies out of the store inside.
 use Rattle.std.proofs.Common.{List, [], ◌∷◌, Result, ap}
-use Rattle.osm_rows.specs.declared.keeper.Reader.{Ghosts}
+use Rattle.osm_rows.specs.declared.keeper.BlobReader.{Ghosts}
 use Rattle.osm_import.specs.Copies.{BlobCopied}
 use Rattle.osm_import.specs.Stores.{CopiesEach, CopiesInTurn, CopiesOne, Stays}
 use Rattle.osm_import.specs.declared.copy.CopyCounts.{CopyCounts}

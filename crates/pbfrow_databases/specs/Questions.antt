@@ -10,8 +10,8 @@ use Rattle.pbfrow_commands.specs.Finding.{TellsMatches}
 use Rattle.pbfrow_commands.specs.InParts.{TellsParts, TellsUnionExport}
 use Rattle.pbfrow_commands.specs.Status.{TellsStatus}
 use Rattle.pbfrow_commands.specs.Telling.{Telling}
-use Rattle.pbfrow_databases.specs.declared.database.Query.{Query}
-use Rattle.pbfrow_databases.specs.declared.database.Query.TheVariants.{Whole, Element}
+use Rattle.pbfrow_databases.specs.declared.questions.Query.{Query}
+use Rattle.pbfrow_databases.specs.declared.questions.Query.TheVariants.{Whole, Element}
 
 -- whether the answer goes from blob to blob
 abbrev pub goes_by_blobs : Question → Bool

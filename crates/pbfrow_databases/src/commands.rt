@@ -4,9 +4,10 @@ ghost use Rattle.std.specs.Prelude.{◌≤◌};
 ghost use Rattle.pbfrow_words.specs.Words.{BeginsWithin, CutsSome, EndsWithin};
 
 use crate::copying::copy;
-use crate::database::{Part, Query, ask, fill};
+use crate::database::{Part, ask, fill};
 use crate::merging::merge;
 use crate::parts::ask_parts;
+use crate::questions::Query;
 use crate::starting::{depth_of, start_of, told_of};
 use crate::verifying::compare_all;
 use osm_databases::databases::{CheckedDatabases, Databases};

@@ -7,8 +7,8 @@ ghost use Rattle.osm_import.specs.declared.copy.CopyCounts.{CopyCounts as CopyCo
 ghost use Rattle.osm_import.specs.declared.copy.CopyStop.{CopyStop as CopyStopValue};
 ghost use Rattle.pbfrow_commands.specs.Copying.{CopiesStore, copy_status, outcome_line};
 
-use osm_databases::databases::{Databases, close, opened_or_made, source_of_blocks};
-use osm_rows::{Keeper, Reader};
+use osm_databases::databases::{Databases, close, open_or_make, source_of_blocks};
+use osm_rows::{BlobKeeper, BlobReader};
 use osm_value::{Outlet, Sink};
 use pbfrow_commands::metered::MeteredStore;
 use pbfrow_commands::migrate::migrate;
@@ -20,16 +20,16 @@ use std::io;
 use std::io::Write;
 
 /// Copies what a store holds into another, and answers the first and the exit status, as `migrate` does.
-fn copied<F: Reader, T: Keeper, S: Sink>(
+fn copy_store<F: BlobReader, T: BlobKeeper, S: Sink>(
     alloc: Global,
     from: F,
     to: &mut T,
     meter: &Meter,
     out: &mut S,
 ) -> (F, u8)
-    ensures copies { (outcome : Result CopyCountsValue CopyStopValue) × CopiesStore F.Reader T.Reader from result.0 to.old to.new outcome
+    ensures copies { (outcome : Result CopyCountsValue CopyStopValue) × CopiesStore F.BlobReader T.BlobReader from result.0 to.old to.new outcome
         × Wrote (S.written out.old) (outcome_line outcome) (S.written out.new) (S.has_failed out.new) × (result.1 ≡ copy_status outcome (S.has_failed out.new)) }
-    ensures source { Stays F.Reader from result.0 }
+    ensures source { Stays F.BlobReader from result.0 }
     ensures bound { result.1 ≤ 1 }
 {
     let mut metered = MeteredStore {
@@ -42,7 +42,7 @@ fn copied<F: Reader, T: Keeper, S: Sink>(
 }
 
 /// Copies what a store holds into a database, and answers the exit status.
-fn copy_into<D: Databases, F: Reader + Drop, W: Write>(
+fn copy_into<D: Databases, F: BlobReader + Drop, W: Write>(
     rt: &HostRuntime,
     files: &D,
     from: F,
@@ -52,11 +52,11 @@ fn copy_into<D: Databases, F: Reader + Drop, W: Write>(
 ) -> u8
     ensures { result ≤ 1 }
 {
-    let mut store = match opened_or_made(rt, files, database) {
+    let mut store = match open_or_make(rt, files, database) {
         Ok(store) => store,
         Err(fault) => return refuse_store(out, fault),
     };
-    let (_from, status) = copied(rt.alloc(), from, &mut store, meter, out);
+    let (_from, status) = copy_store(rt.alloc(), from, &mut store, meter, out);
     close(files, store);
     status
 }

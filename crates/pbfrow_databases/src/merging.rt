@@ -5,9 +5,9 @@ ghost use Rattle.osm_databases.specs.Found.{AreFound};
 ghost use Rattle.pbfrow_commands.specs.Merging.{NeverLoses};
 
 use crate::named::merge_named;
-use osm_databases::databases::{Databases, close, opened, opened_or_made};
+use osm_databases::databases::{Databases, close, open_asked, open_or_make};
 use osm_parts::{InTurn, OpensNamed};
-use osm_rows::{Keeper, StoreFault};
+use osm_rows::{BlobKeeper, StoreFault};
 use osm_trees::TreeStore;
 use osm_value::Outlet;
 use pbfrow_commands::metered::MeteredStore;
@@ -32,7 +32,7 @@ impl<'a, D: Databases> OpensNamed<MeteredSource<'a, D>> for Sources<'a, D> {
     ghost lies = { λ sources name store. AreFound D.Trees.Store (D.gives sources.files.now name) store.store.store };
 
     fn open_named(&self, name: &str) -> Result<MeteredSource<'a, D>, StoreFault> {
-        let store = opened(self.rt, self.files, name)?;
+        let store = open_asked(self.rt, self.files, name)?;
         Ok(MeteredStore {
             store,
             watcher: self.meter,
@@ -42,7 +42,7 @@ impl<'a, D: Databases> OpensNamed<MeteredSource<'a, D>> for Sources<'a, D> {
 
 /// Copies what databases hold into a store, one after the other, up to a fault, and answers the exit status. Whatever they hold
 /// and whatever the status, what the store held stays, also after a crash.
-fn merge_from<D: Databases, T: Keeper, W: Write>(
+fn merge_from<D: Databases, T: BlobKeeper, W: Write>(
     rt: &HostRuntime,
     files: &D,
     names: &[&str],
@@ -50,7 +50,7 @@ fn merge_from<D: Databases, T: Keeper, W: Write>(
     meter: &Meter,
     out: &mut Outlet<W>,
 ) -> u8
-    ensures stays { NeverLoses T.Reader into.old into.new }
+    ensures stays { NeverLoses T.BlobReader into.old into.new }
     ensures bound { result ≤ 1 }
 {
     let mut sources = InTurn::<MeteredSource<D>, _>::new(Sources { rt, files, meter }, names);
@@ -73,7 +73,7 @@ pub(crate) fn merge<A: Databases, D: Databases>(
         writer: io::writer(rt),
         watcher: &meter,
     });
-    let mut store = match opened_or_made(rt, filled, into) {
+    let mut store = match open_or_make(rt, filled, into) {
         Ok(store) => store,
         Err(fault) => return refuse_store(&mut out, fault),
     };

@@ -12,7 +12,7 @@ ghost use Rattle.pbfrow_databases.specs.Questions.{AnswersTogether};
 
 use crate::questions::ask_in_turn;
 use osm_parts::Several;
-use osm_rows::{Audited, Keeper, Reader};
+use osm_rows::{Audited, BlobKeeper, BlobReader};
 use osm_value::Sink;
 use osm_verify::{Depth, FileBytes};
 use pbfrow_commands::merge::merge_all;
@@ -21,7 +21,7 @@ use pbfrow_words::Question;
 use std::alloc::Global;
 
 /// Asks all of the stores, as `ask_in_turn` does so many of them, and answers the exit status.
-pub fn ask_named<K: Reader + Drop, O: Several<K>, S: Sink>(
+pub fn ask_named<K: BlobReader + Drop, O: Several<K>, S: Sink>(
     alloc: Global,
     openings: &mut O,
     question: Question,
@@ -48,7 +48,7 @@ pub fn verify_named<K: Audited + Drop, O: Several<K>, F: FileBytes, S: Sink>(
         → VerifiesParts depth (F.bytes file.old) maps (telling O.failures S.Sink openings.old openings.new out.old out.new result) }
     ensures exact { (maps : List HeldMap) → O.holds openings.old maps → O.is_honest openings.new → result ≡ 0
         → IfSome (F.bytes file.old) (λ bytes. HoldFile depth bytes maps) }
-    ensures shown { O.is_honest openings.new → depth ≡ Depth.Elements → HaveTables K.Reader K.has_tables (O.lies openings.old) → result ≡ 0
+    ensures shown { O.is_honest openings.new → depth ≡ Depth.Elements → HaveTables K.BlobReader K.has_tables (O.lies openings.old) → result ≡ 0
         → IfSome (F.bytes file.old) (λ bytes. ShowTogether (O.lies openings.old) (ShowsExtents K.has_rows K.layout K.trees (Some bytes)) (O.many openings.old) bytes) }
     ensures keeps { KeepsMaps O.holds O.is_honest O.is_open openings.old openings.new }
     ensures bound { result ≤ 1 }
@@ -58,7 +58,7 @@ pub fn verify_named<K: Audited + Drop, O: Several<K>, F: FileBytes, S: Sink>(
 }
 
 /// Copies what all of the stores hold into another, as `merge_all` does so many of them, and answers the exit status.
-pub fn merge_named<F: Reader + Drop, O: Several<F>, T: Keeper, S: Sink>(
+pub fn merge_named<F: BlobReader + Drop, O: Several<F>, T: BlobKeeper, S: Sink>(
     alloc: Global,
     openings: &mut O,
     into: &mut T,
@@ -68,8 +68,8 @@ pub fn merge_named<F: Reader + Drop, O: Several<F>, T: Keeper, S: Sink>(
         → result ≡ 0 → (after : HeldMap) × IsMergeOf maps held after × T.holds into.new after }
     ensures kept { (maps : List HeldMap) (held : HeldMap) → O.holds openings.old maps → O.is_honest openings.new → T.holds into.old held → T.is_honest into.new
         → T.is_open into.new → (after : HeldMap) × TakesOf maps held after × T.holds into.new after }
-    ensures stays { NeverLoses T.Reader into.old into.new }
-    ensures merges { HasMerged O.holds O.is_honest O.failures T.Reader S.Sink openings.old openings.new (O.many openings.old) into.old into.new out.old out.new result }
+    ensures stays { NeverLoses T.BlobReader into.old into.new }
+    ensures merges { HasMerged O.holds O.is_honest O.failures T.BlobReader S.Sink openings.old openings.new (O.many openings.old) into.old into.new out.old out.new result }
     ensures keeps { KeepsMaps O.holds O.is_honest O.is_open openings.old openings.new }
     ensures bound { result ≤ 1 }
 {

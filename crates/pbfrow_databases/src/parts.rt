@@ -5,7 +5,7 @@ ghost use Rattle.osm_databases.specs.Found.{AreFound};
 
 use crate::named::ask_named;
 use crate::questions::goes_by_blobs;
-use osm_databases::databases::{Databases, opened};
+use osm_databases::databases::{Databases, open_asked};
 use osm_parts::{InTurn, OpensNamed};
 use osm_rows::StoreFault;
 use osm_trees::TreeStore;
@@ -31,7 +31,7 @@ impl<'a, D: Databases> OpensNamed<MeteredPart<'a, D>> for Parts<'a, D> {
     ghost lies = { λ parts name store. AreFound D.Trees.Store (D.gives parts.files.now name) store.store.store };
 
     fn open_named(&self, name: &str) -> Result<MeteredPart<'a, D>, StoreFault> {
-        let store = opened(self.rt, self.files, name)?;
+        let store = open_asked(self.rt, self.files, name)?;
         Ok(MeteredStore {
             store,
             watcher: self.meter,

@@ -6,17 +6,27 @@ ghost use Rattle.osm_rows.specs.Held.{HeldMap};
 ghost use Rattle.osm_import.specs.Stores.{Stays};
 ghost use Rattle.osm_parts.specs.Opening.{KeepsMaps};
 ghost use Rattle.pbfrow_commands.specs.Telling.{telling};
-ghost use Rattle.pbfrow_databases.specs.Questions.{Answers, AnswersTogether, goes_by_blobs};
+ghost use Rattle.pbfrow_databases.specs.Questions.{AnswersQuery, AnswersTogether, goes_by_blobs};
 
 use osm_parts::Openings;
-use osm_rows::Reader;
-use osm_value::Sink;
+use osm_rows::BlobReader;
+use osm_value::{MemberKind, Sink};
 use pbfrow_commands::counts::{status_parts_with_counts, status_with_counts};
 use pbfrow_commands::export::export;
+use pbfrow_commands::find::find;
 use pbfrow_commands::parts::{export_parts, status_parts};
 use pbfrow_commands::status::status;
 use pbfrow_words::Question;
 use std::alloc::Global;
+
+/// What is asked of one database.
+#[derive(Clone, Copy)]
+pub enum Query {
+    /// What several can be asked as well.
+    Whole(Question),
+    /// Where the element of this kind and id is held.
+    Element(MemberKind, i64),
+}
 
 /// Whether the answer goes from blob to blob, so that a progress line can say how far it has come.
 pub fn goes_by_blobs(question: Question) -> bool
@@ -26,29 +36,32 @@ pub fn goes_by_blobs(question: Question) -> bool
 }
 
 /// Asks a store, and answers the exit status. What it holds stays.
-pub fn ask_one<K: Reader, S: Sink>(
+pub fn ask_one<K: BlobReader, S: Sink>(
     alloc: Global,
     store: &mut K,
-    question: Question,
+    query: Query,
     out: &mut S,
 ) -> u8
-    ensures told { OfHeld K.Reader store.old store.new (λ held. Answers question held (telling K.failures S.Sink store.old store.new out.old out.new result)) }
-    ensures stays { Stays K.Reader store.old store.new }
+    ensures told { OfHeld K.BlobReader store.old store.new (λ held. AnswersQuery query held (telling K.failures S.Sink store.old store.new out.old out.new result)) }
+    ensures stays { Stays K.BlobReader store.old store.new }
     ensures bound { result ≤ 1 }
 {
-    match question {
-        Question::Status { size } => status(alloc, store, size, out),
-        Question::Counts { size } => status_with_counts(alloc, store, size, out),
-        Question::Export {
-            size,
-            partial,
-            form,
-        } => export(alloc, store, size, partial, form, out),
+    match query {
+        Query::Whole(Question::Status { size }) => status(alloc, store, size, out),
+        Query::Whole(Question::Counts { size }) => status_with_counts(alloc, store, size, out),
+        Query::Whole(
+            Question::Export {
+                size,
+                partial,
+                form,
+            },
+        ) => export(alloc, store, size, partial, form, out),
+        Query::Element(kind, id) => find(alloc, store, kind, id, out),
     }
 }
 
 /// Asks `count` stores, which are opened one after the other, and answers the exit status. What they hold stays.
-pub fn ask_in_turn<K: Reader + Drop, O: Openings<K>, S: Sink>(
+pub fn ask_in_turn<K: BlobReader + Drop, O: Openings<K>, S: Sink>(
     alloc: Global,
     openings: &mut O,
     count: u64,

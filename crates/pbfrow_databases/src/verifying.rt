@@ -9,7 +9,7 @@ ghost use Rattle.osm_databases.specs.Found.{AreReadFrom};
 ghost use Rattle.pbfrow_commands.specs.Verifying.{ShowsFile, VerifiesInput};
 
 use crate::named::verify_named;
-use osm_databases::databases::{CheckedDatabases, opened_checked};
+use osm_databases::databases::{CheckedDatabases, open_checked};
 use osm_parts::{InTurn, OpensNamed};
 use osm_rows::{Audited, StoreFault};
 use osm_tree_audits::{Stray, stray_row};
@@ -42,7 +42,7 @@ fn tell_of_stray<S: Store>(rt: &HostRuntime, name: &str, trees: &mut S) {
 
 /// Compares what a reader gives with what a store holds, and answers the store, which was only read, and the exit status, as
 /// `verify` does. The meter is told of each byte and blob.
-fn compared<K: Audited, R: Read + Drop, W: Write>(
+fn compare_one<K: Audited, R: Read + Drop, W: Write>(
     alloc: Global,
     mut store: K,
     reader: R,
@@ -50,14 +50,14 @@ fn compared<K: Audited, R: Read + Drop, W: Write>(
     meter: &Meter,
     out: &mut Outlet<W>,
 ) -> (K, u8)
-    ensures verified { OfHeld K.Reader store result.0 (λ held. VerifiesInput depth held (R.remaining reader) (W.contents out.old.writer) (W.contents out.new.writer) out.new.has_failed (K.failures store) (K.failures result.0) result.1) }
+    ensures verified { OfHeld K.BlobReader store result.0 (λ held. VerifiesInput depth held (R.remaining reader) (W.contents out.old.writer) (W.contents out.new.writer) out.new.has_failed (K.failures store) (K.failures result.0) result.1) }
     // At 0 the input is a file of good blobs, and the store holds what an import of it comes to.
-    ensures exact { OfHeld K.Reader store result.0 (λ held. result.1 ≡ 0
+    ensures exact { OfHeld K.BlobReader store result.0 (λ held. result.1 ≡ 0
         → IfSome (R.remaining reader) (λ bytes. (frames : List (List ℕ)) × IsFile bytes frames × IsExact depth held frames)) }
     // At 0 by elements, whatever rows the tables have had, they are those that an import of the input writes.
     ensures shown { K.is_honest result.0 → K.has_tables store → depth ≡ Depth.Elements → result.1 ≡ 0
         → IfSome (R.remaining reader) (λ bytes. (frames : List (List ℕ)) × IsFile bytes frames × ShowsFile (K.has_rows (K.trees store)) K.layout (K.trees store) frames) }
-    ensures stays { Stays K.Reader store result.0 }
+    ensures stays { Stays K.BlobReader store result.0 }
     ensures bound { result.1 ≤ 1 }
 {
     let mut input = MeteredReader {
@@ -68,7 +68,7 @@ fn compared<K: Audited, R: Read + Drop, W: Write>(
     (store, status)
 }
 
-/// Compares what a reader gives with a database, each page and index of which is looked at as it is opened, and answers the
+/// Compares what a reader gives with a database, each page and index of which is checked as it is opened, and answers the
 /// exit status.
 fn compare_in<D: CheckedDatabases, R: Read + Drop, W: Write>(
     rt: &HostRuntime,
@@ -81,11 +81,11 @@ fn compare_in<D: CheckedDatabases, R: Read + Drop, W: Write>(
 ) -> u8
     ensures { result ≤ 1 }
 {
-    let store = match opened_checked(rt, files, database) {
+    let store = match open_checked(rt, files, database) {
         Ok(store) => store,
         Err(fault) => return refuse_store(out, fault),
     };
-    let (store, status) = compared(rt.alloc(), store, reader, depth, meter, out);
+    let (store, status) = compare_one(rt.alloc(), store, reader, depth, meter, out);
     let mut trees = store.into_store();
     if status != 0 && depth == Depth::Elements {
         meter.erase();
@@ -94,7 +94,7 @@ fn compare_in<D: CheckedDatabases, R: Read + Drop, W: Write>(
     status
 }
 
-/// Opens databases, each page and index of which is looked at.
+/// Opens databases, each page and index of which is checked.
 #[derive(Drop)]
 struct CheckedParts<'a, D> {
     rt: &'a HostRuntime,
@@ -105,7 +105,7 @@ impl<D: CheckedDatabases> OpensNamed<CheckedStore<D::Trees>> for CheckedParts<'_
     ghost lies = { λ parts name store. AreReadFrom D.Trees.Store (D.gives parts.files.now name) store.trees.store };
 
     fn open_named(&self, name: &str) -> Result<CheckedStore<D::Trees>, StoreFault> {
-        opened_checked(self.rt, self.files, name)
+        open_checked(self.rt, self.files, name)
     }
 }
 

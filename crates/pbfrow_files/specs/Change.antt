@@ -25,5 +25,5 @@ weight (Written at bytes) = length bytes.items + 64
 weight (Resized len) = 64
 
 -- these bytes are in the file at this offset, where it has zeros past its end
-abbrev pub IsPart : List ℕ → ℕ → List ℕ → Type 0
-IsPart file at bytes = (i : ℕ) → i < length bytes → slice_index bytes i ≡ slice_index file (at + i)
+abbrev pub AreInFile : List ℕ → ℕ → List ℕ → Type 0
+AreInFile file at bytes = (i : ℕ) → i < length bytes → slice_index bytes i ≡ slice_index file (at + i)

@@ -27,8 +27,8 @@ abbrev pub after_word : List ℕ → List ℕ
 after_word line = after_blank (trim_start line)
 
 -- the word is this number's in this radix, where a plus may stand first
-abbrev pub Writes : ℕ → List ℕ → ℕ → Type 0
-Writes radix word n = IsNumeral radix (without_leading_plus word) × (digits_value radix (without_leading_plus word) ≡ n)
+abbrev pub IsNumeralOf : ℕ → List ℕ → ℕ → Type 0
+IsNumeralOf radix word n = IsNumeral radix (without_leading_plus word) × (digits_value radix (without_leading_plus word) ≡ n)
 
 -- a lock of a program on some bytes, as SQLite takes
 abbrev pub IsOnBytes : List ℕ → Type 0
@@ -37,11 +37,11 @@ IsOnBytes kind = (kind ≡ codes "POSIX") ⊎ (kind ≡ codes "OFDLCK")
 -- the file is this one: the two numbers of its device, and its own
 abbrev pub NamesFile : ℕ → ℕ → ℕ → List ℕ → Type 0
 NamesFile major minor inode word =
-    Writes 16 (before_colon word) major × Writes 16 (before_colon (after_colon word)) minor × Writes 10 (after_colon (after_colon word)) inode
+    IsNumeralOf 16 (before_colon word) major × IsNumeralOf 16 (before_colon (after_colon word)) minor × IsNumeralOf 10 (after_colon (after_colon word)) inode
 
 -- some of the 512 bytes from 2 ^ 30 on, which SQLite locks, are from the first to the last one. No number is the end of the file.
 abbrev pub MeetsLocks : List ℕ → List ℕ → Type 0
-MeetsLocks first last = ((n : ℕ) × Writes 10 first n × (n < 2 ^ 30 + 512)) × ((n : ℕ) → Writes 10 last n → 2 ^ 30 ≤ n)
+MeetsLocks first last = ((n : ℕ) × IsNumeralOf 10 first n × (n < 2 ^ 30 + 512)) × ((n : ℕ) → IsNumeralOf 10 last n → 2 ^ 30 ≤ n)
 
 -- a program holds a lock by which SQLite writes this file
 abbrev pub LocksOut : ℕ → ℕ → ℕ → List ℕ → Type 0

@@ -5,7 +5,7 @@ use Rattle.std.specs.IoError.{error_kind}
 use Rattle.std.specs.declared.io.Error.{Error}
 use Rattle.std.specs.declared.io.ErrorKind.TheVariants.{InvalidInput, OutOfMemory, ReadOnlyFilesystem}
 use Rattle.pbfrow_files.specs.declared.overlay.Overlay.{Overlay}
-use Rattle.pbfrow_files.specs.Change.{changed, IsPart}
+use Rattle.pbfrow_files.specs.Change.{changed, AreInFile}
 
 -- the file after every change that was kept
 abbrev pub shown : List ℕ → Overlay → List ℕ
@@ -25,7 +25,7 @@ pub record IsSeenAt (it : Overlay) (at : ℕ) (bytes : List ℕ) : Type 0 where
   pub own : List ℕ
   pub own_len : length own ≡ length bytes
   pub past : (i : ℕ) → i < length own → base_len it ≤ at + i → slice_index own i ≡ 0
-  pub laid : (file : List ℕ) → IsPart file at own → IsPart (shown file it) at bytes
+  pub laid : (file : List ℕ) → AreInFile file at own → AreInFile (shown file it) at bytes
 
 -- the error of a change: memory was refused, or it is past every offset, or there is no room for it
 abbrev pub Refuses : Error → Type 0 → Type 0 → Type 0

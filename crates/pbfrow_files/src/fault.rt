@@ -62,7 +62,7 @@ impl From<AllocError> for OpenFault {
     }
 }
 
-/// Refuses a file that somebody has locked. Where its file system has no such locks, that can't be told, and the file is
+/// Refuses a file that another program has locked. Where its file system has no such locks, that can't be told, and the file is
 /// taken.
 pub(crate) fn unless_locked(outcome: Result<(), TryLockError>) -> Result<(), OpenFault>
     ensures { result ≡ unless_locked outcome }

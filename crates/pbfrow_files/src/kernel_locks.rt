@@ -1,7 +1,7 @@
 //! The locks on byte ranges that other programs hold, as Linux lists them.
 
 ghost use Rattle.std.specs.Prelude.{◌≡◌, ◌↔◌, ◌≤◌, IsTrue};
-ghost use Rattle.pbfrow_files.specs.KernelLocks.{first_word, after_word, before_blank, after_blank, before_colon, after_colon, Writes, IsOnBytes, NamesFile, MeetsLocks, LocksOut};
+ghost use Rattle.pbfrow_files.specs.KernelLocks.{first_word, after_word, before_blank, after_blank, before_colon, after_colon, IsNumeralOf, IsOnBytes, NamesFile, MeetsLocks, LocksOut};
 
 use std::fs::Metadata;
 use std::io::ErrorKind;
@@ -94,7 +94,7 @@ fn is_on_bytes(kind: &str) -> bool
 fn writes(radix: u32, word: &str, number: u64) -> bool
     requires low { 2 ≤ radix }
     requires high { radix ≤ 36 }
-    ensures { IsTrue result ↔ Writes radix word.now number }
+    ensures { IsTrue result ↔ IsNumeralOf radix word.now number }
 {
     match u64::from_str_radix(word, radix) {
         Ok(found) => found == number,

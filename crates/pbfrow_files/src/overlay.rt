@@ -5,7 +5,7 @@ ghost use Rattle.std.specs.List.{fold, sum_by};
 ghost use Rattle.std.specs.IoError.{error_kind};
 ghost use Rattle.std.specs.declared.io.ErrorKind.TheVariants.{OutOfMemory, ReadOnlyFilesystem};
 ghost use Rattle.sqlite_disk.specs.Events.{overlaid, padded};
-ghost use Rattle.pbfrow_files.specs.Change.{changed, byte_after, len_after, weight, IsPart};
+ghost use Rattle.pbfrow_files.specs.Change.{changed, byte_after, len_after, weight, AreInFile};
 
 use std::alloc::{AllocError, Global};
 use std::io;
@@ -118,7 +118,7 @@ impl Overlay {
     }
 
     /// A copy of bytes that are written, in room that was taken beforehand if they are few.
-    fn copied(&mut self, bytes: &[u8]) -> Result<Vec<u8>, AllocError>
+    fn copy_of(&mut self, bytes: &[u8]) -> Result<Vec<u8>, AllocError>
         ensures copy { IfOk result (λ copy. copy.items ≡ bytes.now) }
         ensures changes { self.new.changes ≡ self.old.changes }
         ensures len { self.new.len ≡ self.old.len }
@@ -150,7 +150,7 @@ impl Overlay {
 
     /// Makes of bytes that were read at an offset of the file below what they are after every change.
     pub(crate) fn lay_over(&self, at: usize, buf: &mut [u8])
-        ensures { (file : List ℕ) → IsPart file at buf.old → IsPart (shown file self.now) at buf.new }
+        ensures { (file : List ℕ) → AreInFile file at buf.old → AreInFile (shown file self.now) at buf.new }
     {
         for change in &self.changes {
             change.lay_over(at, buf);
@@ -201,7 +201,7 @@ impl Overlay {
         }
         let taken = bytes.len() + CHANGE_WEIGHT;
         self.refuse_full(taken)?;
-        let Ok(copy) = self.copied(bytes) else {
+        let Ok(copy) = self.copy_of(bytes) else {
             return Err(ErrorKind::OutOfMemory.into());
         };
         let len = self.len.max(at + bytes.len());

@@ -44,17 +44,17 @@ impl ReadOnly {
         ensures { IfOk result (λ it. it.log.events ≡ settled key ∷ []) }
     {
         let len = file.metadata()?.len() as usize;
-        Ok(ReadOnly::begun(alloc, Some(file), len, key)?)
+        Ok(ReadOnly::begin(alloc, Some(file), len, key)?)
     }
 
     /// No file, which is as an empty one.
     pub(crate) fn missing(alloc: Global, key: u64) -> Result<ReadOnly, AllocError>
         ensures { IfOk result (λ it. it.log.events ≡ settled key ∷ []) }
     {
-        ReadOnly::begun(alloc, None, 0, key)
+        ReadOnly::begin(alloc, None, 0, key)
     }
 
-    fn begun(
+    fn begin(
         alloc: Global,
         file: Option<fs::File>,
         len: usize,

@@ -20,7 +20,7 @@ use Rattle.pbfrow_reading.specs.Checking.{ChecksInput, Passes, bad_line, capped,
 use Rattle.osm_reading.specs.declared.stream.fault.StreamFault.{StreamFault}
 use Rattle.pbfrow_reading.specs.CommandLines.{stop_line}
 use Rattle.pbfrow_reading.specs.Verdicts.{Content, Verdict, Judged, HasVerdict, all_good}
-use Rattle.pbfrow_reading.specs.Walks.{joined, lines_from, Walks, TellsFrames, is_whole, status_of}
+use Rattle.pbfrow_reading.specs.Walks.{joined, lines_from, ReadsFrames, TellsFrames, is_whole, status_of}
 use Rattle.pbfrow_reading.specs.declared.check.Counts.{Counts}
 use Rattle.pbfrow_reading.specs.declared.input.Ending.{Ending}
 use Rattle.pbfrow_reading.specs.declared.input.Ending.TheVariants.{Whole, Early, Unwritten}
@@ -170,7 +170,7 @@ checks-whole left old written failed status h zero =
     let both = and_parts (is_whole h.ending) (some_good h.blobs) well.0 in
     let whole : h.ending ≡ Whole = ended-whole h.ending both.0 in
     let good = some-good h.blobs both.1 in
-    let walked : Walks HasVerdict left failed h.blobs Whole = subst (λ (e : Ending). Walks HasVerdict left failed h.blobs e) whole h.walked in
+    let walked : ReadsFrames HasVerdict left failed h.blobs Whole = subst (λ (e : Ending). ReadsFrames HasVerdict left failed h.blobs e) whole h.walked in
     let lines = lines_from checked_line 0 h.blobs in
     let text : Wrote old (lines ++ counts_at_end h.blobs) written failed = subst (λ (e : Ending). Wrote old (lines ++ check_end e h.blobs) written failed) whole h.text in
     let total = totals_line (counts_of h.blobs 0) in

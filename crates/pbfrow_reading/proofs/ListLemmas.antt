@@ -8,7 +8,7 @@ use Rattle.osm_value.specs.Sink.{Wrote, Writes}
 use Rattle.osm_value.proofs.SinkLemmas.{whole_text}
 use Rattle.osm_reading.specs.Framings.{Known}
 use Rattle.pbfrow_reading.specs.Listing.{Plain, HasAny, listed_line, Lists, ListsInput}
-use Rattle.pbfrow_reading.specs.Walks.{Part, IsPart, joined, lines_from, AreFound, Walks, TellsFrames, is_whole, ending_line, status_of}
+use Rattle.pbfrow_reading.specs.Walks.{Part, IsWholeFrame, joined, lines_from, AreFound, ReadsFrames, TellsFrames, is_whole, ending_line, status_of}
 use Rattle.pbfrow_reading.specs.declared.input.Ending.{Ending}
 use Rattle.pbfrow_reading.specs.declared.input.Ending.TheVariants.{Whole, Unwritten}
 use Rattle.pbfrow_reading.proofs.Walking.{walks-on, and-true, status-zero, ended-whole}
@@ -23,7 +23,7 @@ lists-input left old mid written before failed frames ending status told same li
   status_is = is ∙ ap (λ b. status_of b failed) (and-true (is_whole ending));
 }
 
-pub are-parts : {A : Type 0} (Has : ℕ → Part A → Type 0) (at : ℕ) (ps : List (Part A)) → AreFound Has at ps → AllByRecursion IsPart ps
+pub are-parts : {A : Type 0} (Has : ℕ → Part A → Type 0) (at : ℕ) (ps : List (Part A)) → AreFound Has at ps → AllByRecursion IsWholeFrame ps
 are-parts Has at [] h = tt
 are-parts Has at (p ∷ ps) h = (h.0, are-parts Has (at + length p.bytes) ps h.2)
 
@@ -32,7 +32,7 @@ pub lists-whole : (left old written : Known) (failed : Bool) (status : ℕ) → 
 lists-whole left old written failed status l zero =
     let well = status-zero (is_whole l.ending) failed status l.status_is zero in
     let whole : l.ending ≡ Whole = ended-whole l.ending well.0 in
-    let walked : Walks HasAny left failed l.frames Whole = subst (λ (e : Ending). Walks HasAny left failed l.frames e) whole l.walked in
+    let walked : ReadsFrames HasAny left failed l.frames Whole = subst (λ (e : Ending). ReadsFrames HasAny left failed l.frames e) whole l.walked in
     let lines = lines_from listed_line 0 l.frames in
     let text : Wrote old (lines ++ []) written failed = subst (λ (e : Ending). Wrote old (lines ++ ending_line e) written failed) whole l.text in
     Consumes-whole left walked.behind (joined l.frames) (λ bytes. (text : List ℕ) × Lists true bytes text × Appends old written text) walked.read walked.ended (

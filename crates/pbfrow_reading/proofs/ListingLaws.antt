@@ -11,7 +11,7 @@ use Rattle.pbf_frame.proofs.FrameLaws.{frame_again, frame_takes, frame_faults, f
 use Rattle.pbf_frame.specs.Fault.{number_of, name_of}
 use Rattle.osm_reading.specs.Lines.{fault_line}
 use Rattle.pbfrow_reading.specs.Listing.{Plain, listed_line, frame_line, EndsAs, Lists}
-use Rattle.pbfrow_reading.specs.Walks.{IsPart, joined, lines_from}
+use Rattle.pbfrow_reading.specs.Walks.{IsWholeFrame, joined, lines_from}
 use Rattle.pbfrow_reading.specs.Reading.{Listing, line_and, listing_from, listing}
 use Rattle.pbfrow_reading.proofs.ListingSteps.{listing_step, listing_end}
 
@@ -20,7 +20,7 @@ record ListsFrom (whole : Bool) (at : ℕ) (w text : List ℕ) : Type 0 where
   frames : List Plain
   rest : List ℕ
   line : List ℕ
-  are_frames : AllByRecursion IsPart frames
+  are_frames : AllByRecursion IsWholeFrame frames
   tiled : drop at w ≡ joined frames ++ rest
   ends : EndsAs whole (at + length (joined frames)) rest line
   lines : text ≡ lines_from listed_line at frames ++ line
@@ -102,7 +102,7 @@ read_ending false at w rest line e (fault, first, some, is_line) =
     let f : frame_at (drop at w) ≡ Err fault = faults_again (drop at w) fault (subst (FirstFault fault) (sym e) first) in
     listing_step at w lt ∙ ap (λ (r : Result Found FrameFault). line_and at r (λ next. listing_from next w)) f ∙ ap (made false) (sym is_line)
 
-read_lists : (frames : List Plain) (whole : Bool) (at : ℕ) (w rest line : List ℕ) → AllByRecursion IsPart frames → drop at w ≡ joined frames ++ rest
+read_lists : (frames : List Plain) (whole : Bool) (at : ℕ) (w rest line : List ℕ) → AllByRecursion IsWholeFrame frames → drop at w ≡ joined frames ++ rest
     → EndsAs whole (at + length (joined frames)) rest line → listing_from at w ≡ made whole (lines_from listed_line at frames ++ line)
 read_lists [] whole at w rest line are e ends = read_ending whole at w rest line e (subst (λ (k : ℕ). EndsAs whole k rest line) (add-zero at) ends)
 read_lists (p ∷ ps) whole at w rest line (is, are) e ends =

@@ -13,7 +13,7 @@ use Rattle.pbf_frame.specs.declared.ranges.Range.{Range}
 use Rattle.pbf_frame.proofs.CuttingLemmas.{last_end-get, last_end-push}
 use Rattle.pbfrow_reading.specs.Listing.{Plain, HasAny}
 use Rattle.pbfrow_reading.specs.Ranging.{AreCut, Cuts, CutsInput, ends_from, range_lines}
-use Rattle.pbfrow_reading.specs.Walks.{joined, AreFound, Walks, is_whole, ending_line, status_of}
+use Rattle.pbfrow_reading.specs.Walks.{joined, AreFound, ReadsFrames, is_whole, ending_line, status_of}
 use Rattle.pbfrow_reading.specs.declared.input.Ending.{Ending}
 use Rattle.pbfrow_reading.specs.declared.input.Ending.TheVariants.{Whole, Early, Unwritten}
 use Rattle.pbfrow_reading.proofs.ListLemmas.{are-parts}
@@ -76,7 +76,7 @@ passing-more left was now at end w frames ends after gives end-is after-is so_fa
 -- ---- how they end
 
 abbrev pub WalksTo : Known → List Plain → Ending → Type 0
-WalksTo left frames ending = Walks HasAny left false frames ending
+WalksTo left frames ending = ReadsFrames HasAny left false frames ending
 
 pub passed-early : (left : Known) (was now : Reading) (frames : List Plain) (ends : List ℕ) (stop : StreamFault) → Passing left was frames ends → Halts was now stop → WalksTo left frames (Early stop)
 passed-early left was now frames ends stop so_far halts = record {
@@ -136,7 +136,7 @@ pub cuts-known : (count : ℕ) (left old written : Known) (failed : Bool) (statu
 cuts-known count left old written failed status c zero =
     let well = status-zero (is_whole c.ending) failed status c.status_is zero in
     let whole : c.ending ≡ Whole = ended-whole c.ending well.0 in
-    let walked : Walks HasAny left failed c.frames Whole = subst (λ (e : Ending). Walks HasAny left failed c.frames e) whole c.walked in
+    let walked : ReadsFrames HasAny left failed c.frames Whole = subst (λ (e : Ending). ReadsFrames HasAny left failed c.frames e) whole c.walked in
     let cut : AreRanges (ends_from 0 c.frames) count c.ranges = subst (λ (e : Ending). AreCut count c.frames e c.ranges) whole c.cut in
     let text : Wrote old (range_lines c.ranges ++ []) written failed = subst (λ (e : Ending). Wrote old (range_lines c.ranges ++ ending_line e) written failed) whole c.text in
     Consumes-whole left walked.behind (joined c.frames) (λ bytes. (ranges : List Range) × Cuts count bytes ranges × Appends old written (range_lines ranges)) walked.read walked.ended (

@@ -13,7 +13,7 @@ use Rattle.osm_reading.specs.FrameReads.{Reading, GivesFrame}
 use Rattle.pbfrow_reading.specs.Listing.{Plain}
 use Rattle.pbfrow_reading.specs.Showing.{ShowsBlobs, ShowsInput, begun_line, blob_line, box_line, header_lines, number_line, of_option, shown_lines, text_line}
 use Rattle.pbfrow_reading.specs.Verdicts.{Judged, HasVerdict, all_good}
-use Rattle.pbfrow_reading.specs.Walks.{IsPart, joined, lines_from, TellsFrames, ending_line, is_whole, status_of}
+use Rattle.pbfrow_reading.specs.Walks.{IsWholeFrame, joined, lines_from, TellsFrames, ending_line, is_whole, status_of}
 use Rattle.pbfrow_reading.specs.declared.input.Ending.{Ending}
 use Rattle.pbfrow_reading.specs.declared.input.Ending.TheVariants.{Early, Unwritten}
 use Rattle.pbfrow_reading.proofs.CommandTexts.{eight}
@@ -65,7 +65,7 @@ shows-blobs left old written failed blobs ending told = record {
 
 -- memory was refused for what is in the next frame
 pub shows-refused : (left : Known) (was now : Reading) (at : ℕ) (w : List ℕ) (old mid written : Known) (before failed : Bool) (blobs : List Judged) (p : Plain)
-    → Going HasVerdict shown_lines left was old mid before blobs → GivesFrame was now at w → p.bytes ≡ w → IsPart p → Writes mid before written failed (blob_line at p.type_name (length p.bytes))
+    → Going HasVerdict shown_lines left was old mid before blobs → GivesFrame was now at w → p.bytes ≡ w → IsWholeFrame p → Writes mid before written failed (blob_line at p.type_name (length p.bytes))
     → ShowsBlobs left old written failed blobs (Some p) (Early (refused at))
 unfolding walks-refused
 shows-refused left was now at w old mid written before failed blobs p so_far gives bytes is writes =

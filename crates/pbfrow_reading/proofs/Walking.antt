@@ -9,7 +9,7 @@ use Rattle.osm_reading.specs.Framings.{Known}
 use Rattle.osm_reading.specs.FrameReads.{Reading, GivesFrame, Halts, LacksFrame, framing_of}
 use Rattle.osm_reading.specs.declared.stream.fault.StreamFault.{StreamFault}
 use Rattle.osm_reading.specs.declared.stream.fault.Stop.TheVariants.{Memory}
-use Rattle.pbfrow_reading.specs.Walks.{Part, IsPart, joined, lines_from, AreFound, HasEnded, Walks, TellsFrames, is_whole, status_of}
+use Rattle.pbfrow_reading.specs.Walks.{Part, IsWholeFrame, joined, lines_from, AreFound, HasEnded, ReadsFrames, TellsFrames, is_whole, status_of}
 use Rattle.pbfrow_reading.specs.declared.input.Ending.{Ending}
 use Rattle.pbfrow_reading.specs.declared.input.Ending.TheVariants.{Whole, Early, Unwritten}
 
@@ -28,7 +28,7 @@ lines-push line at (q ∷ ps) p =
     ap (λ (v : List ℕ). line at q ++ v) (lines-push line (at + length q.bytes) ps p ∙ ap (λ k. lines_from line (at + length q.bytes) ps ++ line k p) (place at q ps))
     ∙ sym (append_assoc (line at q) (lines_from line (at + length q.bytes) ps) (line (at + length (joined (q ∷ ps))) p))
 
-pub found-push : {A : Type 0} (Has : ℕ → Part A → Type 0) (at : ℕ) (ps : List (Part A)) (p : Part A) → AreFound Has at ps → IsPart p → Has (at + length (joined ps)) p → AreFound Has at (ps ++ p ∷ [])
+pub found-push : {A : Type 0} (Has : ℕ → Part A → Type 0) (at : ℕ) (ps : List (Part A)) (p : Part A) → AreFound Has at ps → IsWholeFrame p → Has (at + length (joined ps)) p → AreFound Has at (ps ++ p ∷ [])
 found-push Has at [] p all is has = (is, subst (λ k. Has k p) (add-zero at) has, tt)
 found-push Has at (q ∷ ps) p all is has = (all.0, all.1, found-push Has (at + length q.bytes) ps p all.2 is (subst (λ k. Has k p) (sym (place at q ps)) has))
 
@@ -69,7 +69,7 @@ going-on Has line left was now old mid written before failed frames same fine ke
     })
 
 pub going-more : {A : Type 0} (Has : ℕ → Part A → Type 0) (line : ℕ → Part A → List ℕ) (left : Known) (was now : Reading) (at : ℕ) (w : List ℕ) (old mid written : Known) (before failed : Bool) (frames : List (Part A)) (p : Part A)
-    → Going Has line left was old mid before frames → GivesFrame was now at w → p.bytes ≡ w → IsPart p → Has at p → Writes mid before written failed (line at p) → Going Has line left now old written failed (frames ++ p ∷ [])
+    → Going Has line left was old mid before frames → GivesFrame was now at w → p.bytes ≡ w → IsWholeFrame p → Has at p → Writes mid before written failed (line at p) → Going Has line left now old written failed (frames ++ p ∷ [])
 going-more Has line left was now at w old mid written before failed frames p so_far gives bytes is has writes =
     let here : at ≡ length (joined frames) = gives.here ∙ so_far.stands in
     let there : at ≡ 0 + length (joined frames) = here ∙ sym (zero-add (length (joined frames))) in
@@ -102,20 +102,20 @@ refused at = record { fault = Memory; at = at }
 
 -- memory was refused for what is in the next frame
 unfoldable pub walks-refused : {A : Type 0} (Has : ℕ → Part A → Type 0) (line : ℕ → Part A → List ℕ) (left : Known) (was now : Reading) (at : ℕ) (w : List ℕ) (old mid : Known) (before failed : Bool) (frames : List (Part A))
-    → Going Has line left was old mid before frames → GivesFrame was now at w → Walks Has left failed frames (Early (refused at))
+    → Going Has line left was old mid before frames → GivesFrame was now at w → ReadsFrames Has left failed frames (Early (refused at))
 walks-refused Has line left was now at w old mid before failed frames so_far gives =
     record { found = so_far.found; behind = was.left; read = so_far.read; ended = (gives.here ∙ so_far.stands, (w, now.left, false, gives.read, tt)) }
 
 pub tells-refused : {A : Type 0} (Has : ℕ → Part A → Type 0) (line : ℕ → Part A → List ℕ) (left : Known) (was now : Reading) (at : ℕ) (w : List ℕ) (old mid : Known) (failed : Bool) (frames : List (Part A)) (ending : Ending)
     → Going Has line left was old mid failed frames → GivesFrame was now at w → ending ≡ Early (refused at) → TellsFrames Has line left old mid failed frames ending
 tells-refused Has line left was now at w old mid failed frames ending so_far gives is = record {
-  walked = subst (λ (e : Ending). Walks Has left failed frames e) (sym is) (walks-refused Has line left was now at w old mid failed failed frames so_far gives);
+  walked = subst (λ (e : Ending). ReadsFrames Has left failed frames e) (sym is) (walks-refused Has line left was now at w old mid failed failed frames so_far gives);
   lines = so_far.lines;
 }
 
 -- memory was refused before a byte was read
-pub walks-nothing : {A : Type 0} (Has : ℕ → Part A → Type 0) (left : Known) (failed : Bool) (stop : StreamFault) → stop ≡ refused 0 → Walks Has left failed [] (Early stop)
-walks-nothing Has left failed stop is = subst (λ (s : StreamFault). Walks Has left failed [] (Early s)) (sym is)
+pub walks-nothing : {A : Type 0} (Has : ℕ → Part A → Type 0) (left : Known) (failed : Bool) (stop : StreamFault) → stop ≡ refused 0 → ReadsFrames Has left failed [] (Early stop)
+walks-nothing Has left failed stop is = subst (λ (s : StreamFault). ReadsFrames Has left failed [] (Early s)) (sym is)
     (record { found = tt; behind = left; read = Consumes-nil left; ended = (refl, ([], left, false, Consumes-nil left, tt)) })
 
 pub tells-nothing : {A : Type 0} (Has : ℕ → Part A → Type 0) (line : ℕ → Part A → List ℕ) (left written : Known) (failed : Bool) (stop : StreamFault) → stop ≡ refused 0 → TellsFrames Has line left written written failed [] (Early stop)
@@ -123,7 +123,7 @@ tells-nothing Has line left written failed stop is = record { walked = walks-not
 
 -- the output has failed
 pub walks-unwritten : {A : Type 0} (Has : ℕ → Part A → Type 0) (line : ℕ → Part A → List ℕ) (left : Known) (now : Reading) (old mid : Known) (before failed : Bool) (frames : List (Part A))
-    → failed ≡ true → Going Has line left now old mid before frames → Walks Has left failed frames Unwritten
+    → failed ≡ true → Going Has line left now old mid before frames → ReadsFrames Has left failed frames Unwritten
 walks-unwritten Has line left now old mid before failed frames is so_far = record { found = so_far.found; behind = now.left; read = so_far.read; ended = is }
 
 pub lines-unwritten : {A : Type 0} (Has : ℕ → Part A → Type 0) (line : ℕ → Part A → List ℕ) (left : Known) (now : Reading) (old mid written : Known) (before failed : Bool) (frames : List (Part A))
@@ -146,7 +146,7 @@ ended-on at left before failed Whole same h = h
 ended-on at left before failed (Early stop) same h = h
 ended-on at left before failed Unwritten same h = same refl ∙ h
 
-unfoldable pub walks-on : {A : Type 0} (Has : ℕ → Part A → Type 0) (left : Known) (before failed : Bool) (frames : List (Part A)) (ending : Ending) → (ending ≡ Unwritten → failed ≡ before) → Walks Has left before frames ending → Walks Has left failed frames ending
+unfoldable pub walks-on : {A : Type 0} (Has : ℕ → Part A → Type 0) (left : Known) (before failed : Bool) (frames : List (Part A)) (ending : Ending) → (ending ≡ Unwritten → failed ≡ before) → ReadsFrames Has left before frames ending → ReadsFrames Has left failed frames ending
 walks-on Has left before failed frames ending same h =
     record { found = h.found; behind = h.behind; read = h.read; ended = ended-on (length (joined frames)) h.behind before failed ending same h.ended }
 

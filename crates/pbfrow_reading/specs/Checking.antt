@@ -12,7 +12,7 @@ use Rattle.osm_reading.specs.declared.stream.fault.Stop.{Stop}
 use Rattle.osm_reading.specs.declared.stream.fault.Stop.TheVariants.{Frame, NoHeaderFirst}
 use Rattle.pbfrow_reading.specs.CommandLines.{stop_line}
 use Rattle.pbfrow_reading.specs.Verdicts.{Verdict, Judged, HasVerdict, all_good}
-use Rattle.pbfrow_reading.specs.Walks.{joined, lines_from, AreFound, Walks, is_whole, status_of}
+use Rattle.pbfrow_reading.specs.Walks.{joined, lines_from, AreFound, ReadsFrames, is_whole, status_of}
 use Rattle.pbfrow_reading.specs.declared.check.Counts.{Counts}
 use Rattle.pbfrow_reading.specs.declared.input.Ending.{Ending}
 use Rattle.pbfrow_reading.specs.declared.input.Ending.TheVariants.{Whole, Early, Unwritten}
@@ -93,7 +93,7 @@ some_good (p ∷ blobs) = all_good (p ∷ blobs)
 pub record ChecksInput (left written_old written_new : Known) (sink_failed : Bool) (status : ℕ) : Type 0 where
   pub blobs : List Judged
   pub ending : Ending
-  pub walked : Walks HasVerdict left sink_failed blobs ending
+  pub walked : ReadsFrames HasVerdict left sink_failed blobs ending
   pub text : Wrote written_old (lines_from checked_line 0 blobs ++ check_end ending blobs) written_new sink_failed
   pub status_is : status ≡ status_of (is_whole ending && some_good blobs) sink_failed
 

@@ -9,7 +9,7 @@ use Rattle.pbf_frame.specs.Fault.{number_of, name_of}
 use Rattle.pbf_frame.specs.Frame.{FirstFault}
 use Rattle.osm_reading.specs.Framings.{Known}
 use Rattle.osm_reading.specs.Lines.{fault_line}
-use Rattle.pbfrow_reading.specs.Walks.{Part, IsPart, joined, lines_from, Walks, is_whole, ending_line, status_of}
+use Rattle.pbfrow_reading.specs.Walks.{Part, IsWholeFrame, joined, lines_from, ReadsFrames, is_whole, ending_line, status_of}
 use Rattle.pbfrow_reading.specs.declared.input.Ending.{Ending}
 
 -- A byte of a type: as it stands, or as `%` and two upper-case hexadecimal digits.
@@ -40,7 +40,7 @@ pub record Lists (whole : Bool) (bytes text : List ℕ) : Type 0 where
   pub frames : List Plain
   pub rest : List ℕ
   pub line : List ℕ
-  pub are_frames : AllByRecursion IsPart frames
+  pub are_frames : AllByRecursion IsWholeFrame frames
   pub tiled : bytes ≡ joined frames ++ rest
   pub ends : EndsAs whole (length (joined frames)) rest line
   pub lines : text ≡ lines_from listed_line 0 frames ++ line
@@ -50,6 +50,6 @@ pub record Lists (whole : Bool) (bytes text : List ℕ) : Type 0 where
 pub record ListsInput (left written_old written_new : Known) (sink_failed : Bool) (status : ℕ) : Type 0 where
   pub frames : List Plain
   pub ending : Ending
-  pub walked : Walks HasAny left sink_failed frames ending
+  pub walked : ReadsFrames HasAny left sink_failed frames ending
   pub text : Wrote written_old (lines_from listed_line 0 frames ++ ending_line ending) written_new sink_failed
   pub status_is : status ≡ status_of (is_whole ending) sink_failed

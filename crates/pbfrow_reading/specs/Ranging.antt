@@ -7,7 +7,7 @@ use Rattle.osm_reading.specs.Framings.{Known}
 use Rattle.pbf_frame.specs.Cutting.{AreRanges}
 use Rattle.pbf_frame.specs.declared.ranges.Range.{Range}
 use Rattle.pbfrow_reading.specs.Listing.{HasAny, Plain}
-use Rattle.pbfrow_reading.specs.Walks.{Part, IsPart, joined, Walks, is_whole, ending_line, status_of}
+use Rattle.pbfrow_reading.specs.Walks.{Part, IsWholeFrame, joined, ReadsFrames, is_whole, ending_line, status_of}
 use Rattle.pbfrow_reading.specs.declared.input.Ending.{Ending}
 use Rattle.pbfrow_reading.specs.declared.input.Ending.TheVariants.{Whole, Early, Unwritten}
 
@@ -25,7 +25,7 @@ ends_from at (p ∷ ps) = (at + length p.bytes) ∷ ends_from (at + length p.byt
 
 -- the bytes are frames, and these ranges are cut of them
 abbrev pub Cuts : ℕ → List ℕ → List Range → Type 0
-Cuts count bytes ranges = (frames : List Plain) × AllByRecursion IsPart frames × (bytes ≡ joined frames) × AreRanges (ends_from 0 frames) count ranges
+Cuts count bytes ranges = (frames : List Plain) × AllByRecursion IsWholeFrame frames × (bytes ≡ joined frames) × AreRanges (ends_from 0 frames) count ranges
 
 -- where frames ended with the input, the ranges are cut of them, and else there are none
 abbrev pub AreCut : ℕ → List Plain → Ending → List Range → Type 0
@@ -39,7 +39,7 @@ pub record CutsInput (count : ℕ) (left written_old written_new : Known) (sink_
   pub frames : List Plain
   pub ending : Ending
   pub ranges : List Range
-  pub walked : Walks HasAny left sink_failed frames ending
+  pub walked : ReadsFrames HasAny left sink_failed frames ending
   pub cut : AreCut count frames ending ranges
   pub text : Wrote written_old (range_lines ranges ++ ending_line ending) written_new sink_failed
   pub status_is : status ≡ status_of (is_whole ending) sink_failed

@@ -16,7 +16,7 @@ use Rattle.osm_reading.specs.declared.stream.fault.Stop.TheVariants.{Memory}
 use Rattle.pbfrow_reading.specs.Checking.{bad_line}
 use Rattle.pbfrow_reading.specs.Listing.{Plain, byte_text}
 use Rattle.pbfrow_reading.specs.Verdicts.{Verdict, Judged, HasVerdict, all_good}
-use Rattle.pbfrow_reading.specs.Walks.{IsPart, joined, lines_from, Walks, is_whole, ending_line, status_of}
+use Rattle.pbfrow_reading.specs.Walks.{IsWholeFrame, joined, lines_from, ReadsFrames, is_whole, ending_line, status_of}
 use Rattle.pbfrow_reading.specs.declared.input.Ending.{Ending}
 use Rattle.pbfrow_reading.specs.declared.input.Ending.TheVariants.{Early}
 
@@ -68,7 +68,7 @@ shown_lines at p = blob_line at p.type_name (length p.bytes) ++ verdict_lines at
 -- Memory was refused for what is in the next frame, which ended the frames.
 abbrev pub IsBegun : ℕ → Known → Ending → Option Plain → Type 0
 IsBegun at left ending None = Unit {0}
-IsBegun at left ending (Some p) = IsPart p × ((behind : Known) × Consumes left behind p.bytes) × (ending ≡ Early (record { fault = Memory; at = at }))
+IsBegun at left ending (Some p) = IsWholeFrame p × ((behind : Known) × Consumes left behind p.bytes) × (ending ≡ Early (record { fault = Memory; at = at }))
 
 abbrev pub begun_line : ℕ → Option Plain → List ℕ
 begun_line at begun = of_option (λ p. blob_line at p.type_name (length p.bytes)) begun
@@ -76,7 +76,7 @@ begun_line at begun = of_option (λ p. blob_line at p.type_name (length p.bytes)
 -- The input begins with these frames, each good or bad, and they ended so; each has its lines, and one for whose content
 -- memory was refused has its first.
 pub record ShowsBlobs (left written_old written_new : Known) (sink_failed : Bool) (blobs : List Judged) (begun : Option Plain) (ending : Ending) : Type 0 where
-  pub walked : Walks HasVerdict left sink_failed blobs ending
+  pub walked : ReadsFrames HasVerdict left sink_failed blobs ending
   pub next : IsBegun (length (joined blobs)) walked.behind ending begun
   pub lines : Wrote written_old (lines_from shown_lines 0 blobs ++ begun_line (length (joined blobs)) begun) written_new sink_failed
 
@@ -85,7 +85,7 @@ pub record ShowsInput (left written_old written_new : Known) (sink_failed : Bool
   pub blobs : List Judged
   pub begun : Option Plain
   pub ending : Ending
-  pub walked : Walks HasVerdict left sink_failed blobs ending
+  pub walked : ReadsFrames HasVerdict left sink_failed blobs ending
   pub next : IsBegun (length (joined blobs)) walked.behind ending begun
   pub text : Wrote written_old ((lines_from shown_lines 0 blobs ++ begun_line (length (joined blobs)) begun) ++ ending_line ending) written_new sink_failed
   pub status_is : status ≡ status_of (is_whole ending && all_good blobs) sink_failed

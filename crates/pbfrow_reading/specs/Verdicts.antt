@@ -7,7 +7,7 @@ use Rattle.osm_block.specs.HeaderBlock.{HeaderValue}
 use Rattle.osm_reading.specs.Good.{IsGood, HasHeader}
 use Rattle.osm_reading.specs.Bad.{IsBad}
 use Rattle.osm_reading.specs.declared.fault.Fault.{Fault}
-use Rattle.pbfrow_reading.specs.Walks.{Part, IsPart}
+use Rattle.pbfrow_reading.specs.Walks.{Part, IsWholeFrame}
 
 -- what a good blob holds
 pub record Content : Type 0 where
@@ -31,7 +31,7 @@ HasVerdict at p = IsVerdict at p.type_name p.blob p.bytes p.found
 
 -- it is the frame that these bytes are
 abbrev pub IsJudged : ℕ → List ℕ → Judged → Type 0
-IsJudged at w p = (p.bytes ≡ w) × IsPart p × HasVerdict at p
+IsJudged at w p = (p.bytes ≡ w) × IsWholeFrame p × HasVerdict at p
 
 abbrev pub all_good : List Judged → Bool
 all_good blobs = list_all (λ p. is_ok p.found) blobs

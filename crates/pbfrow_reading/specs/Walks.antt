@@ -17,8 +17,8 @@ pub record Part (A : Type 0) : Type 0 where
   pub bytes : List ℕ
   pub found : A
 
-abbrev pub IsPart : {A : Type 0} → Part A → Type 0
-IsPart p = Frame p.type_name p.blob p.bytes
+abbrev pub IsWholeFrame : {A : Type 0} → Part A → Type 0
+IsWholeFrame p = Frame p.type_name p.blob p.bytes
 
 -- the bytes of frames that stand one behind the other
 abbrev pub joined : {A : Type 0} → List (Part A) → List ℕ
@@ -32,7 +32,7 @@ lines_from line at (p ∷ ps) = line at p ++ lines_from line (at + length p.byte
 -- each is whole, and what was found is in it where it stands
 abbrev pub AreFound : {A : Type 0} → (ℕ → Part A → Type 0) → ℕ → List (Part A) → Type 0
 AreFound Has at [] = Unit {0}
-AreFound Has at (p ∷ ps) = IsPart p × Has at p × AreFound Has (at + length p.bytes) ps
+AreFound Has at (p ∷ ps) = IsWholeFrame p × Has at p × AreFound Has (at + length p.bytes) ps
 
 -- How frames end behind which the next would stand at this offset: with the input; early, since that one can't be read;
 -- or where the output has failed, and no more was read.
@@ -43,7 +43,7 @@ HasEnded at left sink_failed (Early stop) = (stop.at ≡ at) × ((got : List ℕ
 HasEnded at left sink_failed Unwritten = sink_failed ≡ true
 
 -- The input begins with these frames, this was found in each, and they ended so.
-pub record Walks {A : Type 0} (Has : ℕ → Part A → Type 0) (left : Known) (sink_failed : Bool) (frames : List (Part A)) (ending : Ending) : Type 0 where
+pub record ReadsFrames {A : Type 0} (Has : ℕ → Part A → Type 0) (left : Known) (sink_failed : Bool) (frames : List (Part A)) (ending : Ending) : Type 0 where
   pub found : AreFound Has 0 frames
   pub behind : Known
   pub read : Consumes left behind (joined frames)
@@ -51,7 +51,7 @@ pub record Walks {A : Type 0} (Has : ℕ → Part A → Type 0) (left : Known) (
 
 -- The frames so walked over, with their lines, of which the output has a front where it has failed.
 pub record TellsFrames {A : Type 0} (Has : ℕ → Part A → Type 0) (line : ℕ → Part A → List ℕ) (left written_old written_new : Known) (sink_failed : Bool) (frames : List (Part A)) (ending : Ending) : Type 0 where
-  pub walked : Walks Has left sink_failed frames ending
+  pub walked : ReadsFrames Has left sink_failed frames ending
   pub lines : Wrote written_old (lines_from line 0 frames) written_new sink_failed
 
 abbrev pub is_whole : Ending → Bool

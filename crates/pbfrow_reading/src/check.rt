@@ -112,7 +112,7 @@ fn count_blobs<R: Read, P: Watcher, W: Write>(
         match frames.next() {
             Ok(Some((at, bytes))) => match count_blob(alloc, at, bytes, counts, out) {
                 Ok(()) => watcher.see_blob(),
-                Err(_) => return Ending::refused(at),
+                Err(_) => return Ending::without_memory(at),
             },
             Ok(None) => return Ending::Whole,
             Err(stop) => return Ending::Early(stop),

@@ -38,7 +38,7 @@ pub enum Ending {
 
 impl Ending {
     /// Memory was refused for what is in the frame at this offset.
-    pub(crate) fn refused(at: u64) -> Ending
+    pub(crate) fn without_memory(at: u64) -> Ending
         ensures { result ≡ Ending.Early (record { fault = Stop.Memory; at = at }) }
     {
         Ending::Early(memory_refused(at))

@@ -7,7 +7,7 @@ ghost use Rattle.pbf_frame.specs.Cutting.{AreEnds, AreRanges};
 ghost use Rattle.pbf_frame.specs.declared.ranges.Range.{Range as RangeValue};
 ghost use Rattle.pbfrow_reading.specs.Listing.{HasAny, Plain};
 ghost use Rattle.pbfrow_reading.specs.Ranging.{Cuts, CutsInput, ends_from, range_line, range_lines};
-ghost use Rattle.pbfrow_reading.specs.Walks.{Walks};
+ghost use Rattle.pbfrow_reading.specs.Walks.{ReadsFrames};
 ghost use Rattle.pbfrow_reading.specs.declared.input.Ending.TheVariants as ending;
 
 use crate::input::{Ending, finish, memory_refused};
@@ -19,8 +19,8 @@ use std::io::Read;
 
 /// The end of each frame of the input. It keeps none of the frames.
 fn ends_of<R: Read>(alloc: Global, input: &mut R) -> Result<Vec<u64>, StreamFault>
-    ensures ok { IfOk result (λ ends. (frames : List Plain) × Walks HasAny (R.remaining input.old) false frames ending.Whole × AreEnds 0 ends.items × (ends.items ≡ ends_from 0 frames)) }
-    ensures err { IfErr result (λ stop. (frames : List Plain) × Walks HasAny (R.remaining input.old) false frames (ending.Early stop)) }
+    ensures ok { IfOk result (λ ends. (frames : List Plain) × ReadsFrames HasAny (R.remaining input.old) false frames ending.Whole × AreEnds 0 ends.items × (ends.items ≡ ends_from 0 frames)) }
+    ensures err { IfErr result (λ stop. (frames : List Plain) × ReadsFrames HasAny (R.remaining input.old) false frames (ending.Early stop)) }
 {
     let mut frames = match FrameReader::new(alloc, 0, Inlet::new(input)) {
         Ok(frames) => frames,
@@ -44,8 +44,8 @@ fn ends_of<R: Read>(alloc: Global, input: &mut R) -> Result<Vec<u64>, StreamFaul
 /// The ranges that the frames of the input are cut into, at most `count`.
 fn cut<R: Read>(alloc: Global, input: &mut R, count: u64) -> Result<Vec<Range>, StreamFault>
     requires { 0 < count }
-    ensures ok { IfOk result (λ ranges. (frames : List Plain) × Walks HasAny (R.remaining input.old) false frames ending.Whole × AreRanges (ends_from 0 frames) count ranges.items) }
-    ensures err { IfErr result (λ stop. (frames : List Plain) × Walks HasAny (R.remaining input.old) false frames (ending.Early stop)) }
+    ensures ok { IfOk result (λ ranges. (frames : List Plain) × ReadsFrames HasAny (R.remaining input.old) false frames ending.Whole × AreRanges (ends_from 0 frames) count ranges.items) }
+    ensures err { IfErr result (λ stop. (frames : List Plain) × ReadsFrames HasAny (R.remaining input.old) false frames (ending.Early stop)) }
 {
     let ends = match ends_of(alloc, input) {
         Ok(ends) => ends,

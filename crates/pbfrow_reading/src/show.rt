@@ -10,7 +10,7 @@ ghost use Rattle.osm_reading.specs.Good.{IsFrame};
 ghost use Rattle.pbfrow_reading.specs.Listing.{Plain};
 ghost use Rattle.pbfrow_reading.specs.Showing.{ShowsBlobs, ShowsInput, blob_line, box_line, content_lines, header_lines, number_line, of_option, shown_lines, text_line};
 ghost use Rattle.pbfrow_reading.specs.Verdicts.{IsJudged, Judged, all_good};
-ghost use Rattle.pbfrow_reading.specs.Walks.{IsPart};
+ghost use Rattle.pbfrow_reading.specs.Walks.{IsWholeFrame};
 
 use crate::input::{Ending, finish, flush_to_wait, frame_of};
 use crate::list::put_type;
@@ -55,7 +55,7 @@ fn show_blobs<R: Read, W: Write>(
         match frames.next() {
             Ok(Some((at, bytes))) => match show_blob(alloc, at, bytes, out) {
                 Ok(is_next_good) => *is_good &= is_next_good,
-                Err(_) => return Ending::refused(at),
+                Err(_) => return Ending::without_memory(at),
             },
             Ok(None) => return Ending::Whole,
             Err(stop) => return Ending::Early(stop),
@@ -68,7 +68,7 @@ fn show_blobs<R: Read, W: Write>(
 fn show_blob<S: Sink>(alloc: Global, at: u64, bytes: &[u8], out: &mut S) -> Result<bool, AllocError>
     requires { IsFrame bytes.now }
     ensures ok { IfOk result (λ is_good. (p : Judged) × IsJudged at bytes.now p × Prints S.Sink out.old out.new (shown_lines at p) × (is_good ≡ is_ok p.found)) }
-    ensures err { OnErr result ((p : Plain) × (p.bytes ≡ bytes.now) × IsPart p × Prints S.Sink out.old out.new (blob_line at p.type_name (length p.bytes))) }
+    ensures err { OnErr result ((p : Plain) × (p.bytes ≡ bytes.now) × IsWholeFrame p × Prints S.Sink out.old out.new (blob_line at p.type_name (length p.bytes))) }
 {
     let frame = frame_of(bytes);
     put_blob(out, at, &frame);

@@ -1,7 +1,6 @@
 //! How a program begins: the words that it was started with, and the command that they name.
 
-ghost use Rattle.std.specs.Prelude.{◌≤◌};
-ghost use Rattle.std.specs.Process.{exit_status};
+ghost use Rattle.std.specs.Prelude.{◌≤◌, IfOk, IfErr};
 ghost use Rattle.pbfrow_words.specs.Words.{BeginsWithin, CutsSome, EndsWithin};
 
 use crate::ending::FAULTY;
@@ -11,7 +10,6 @@ use pbfrow_reading::report::refuse_memory;
 use pbfrow_words::{Words, read_words};
 use std::alloc::{AllocError, Global};
 use std::io::ErrorKind;
-use std::process::ExitCode;
 use std::{env, io};
 
 /// The exit status for invalid arguments.
@@ -20,34 +18,39 @@ pub const INVALID_ARGUMENTS: u8 = 2;
 /// How many bytes are taken once and given back, by which glibc's limits grow.
 const KEPT_MEMORY: usize = 31 << 20;
 
-/// A program, by what it does with a command.
-pub trait Program {
-    /// Runs a command, and answers the exit status.
-    fn run(&self, rt: HostRuntime, words: Words) -> u8
-        requires begins { BeginsWithin words }
-        requires ends { EndsWithin words }
-        requires cuts { CutsSome words }
-        ensures { result ≤ 2 };
-}
-
-/// Runs a program with the words that it was started with. Its exit status is that of the command that they name, 2 where
-/// they name none, and 1 where they can't be read or what they ask for can't be written.
-pub fn start<P: Program>(program: &P, rt: HostRuntime) -> ExitCode
-    ensures { exit_status result ≤ 2 }
+/// The words that the program was started with. Where they can't be read, that is told, and the exit status is answered.
+pub fn given_words(rt: &HostRuntime) -> Result<Vec<String>, u8>
+    ensures { IfErr result (λ status. status ≤ 2) }
 {
     keep_memory(rt.alloc());
-    let words = match words_of(&rt) {
-        Ok(words) => words,
-        Err(error) => return ExitCode::from(refuse_words(&rt, error)),
-    };
-    let Ok(texts) = texts_of(rt.alloc(), &words) else {
-        return ExitCode::from(refuse_memory(&mut Outlet::new(io::writer(&rt)), None));
-    };
-    let status = match read_words(rt.alloc(), texts.as_slice()) {
-        Ok(words) => program.run(rt, words),
-        Err(error) => refuse(&rt, error),
-    };
-    ExitCode::from(status)
+    match words_of(rt) {
+        Ok(words) => Ok(words),
+        Err(error) => Err(refuse_words(rt, error)),
+    }
+}
+
+/// The texts of these words, in their order. Where memory is refused, that is told, and the exit status is answered.
+pub fn texts_of<'a>(rt: &HostRuntime, words: &'a [String]) -> Result<Vec<&'a str>, u8>
+    ensures { IfErr result (λ status. status ≤ 2) }
+{
+    match borrowed(rt.alloc(), words) {
+        Ok(texts) => Ok(texts),
+        Err(_) => Err(refuse_memory(&mut Outlet::new(io::writer(rt)), None)),
+    }
+}
+
+/// The command that these texts name. Where they name none, the help that they ask for is printed, or why they are invalid, and
+/// the exit status is answered: 2 where they are invalid, and 1 where what they ask for can't be written.
+pub fn command_of<'a>(rt: &HostRuntime, texts: &'a [&'a str]) -> Result<Words<'a>, u8>
+    ensures begins { IfOk result BeginsWithin }
+    ensures ends { IfOk result EndsWithin }
+    ensures cuts { IfOk result CutsSome }
+    ensures refused { IfErr result (λ status. status ≤ 2) }
+{
+    match read_words(rt.alloc(), texts) {
+        Ok(words) => Ok(words),
+        Err(error) => Err(refuse(rt, error)),
+    }
 }
 
 /// Takes memory and gives it back at once. From then on glibc's allocator keeps up to twice as much that is given back
@@ -61,7 +64,7 @@ fn words_of(rt: &HostRuntime) -> io::Result<Vec<String>> {
     Ok(env::args(rt)?.collect(rt.alloc())?)
 }
 
-fn texts_of<'a>(alloc: Global, words: &'a [String]) -> Result<Vec<&'a str>, AllocError> {
+fn borrowed<'a>(alloc: Global, words: &'a [String]) -> Result<Vec<&'a str>, AllocError> {
     let mut texts = Vec::new(alloc);
     for word in words {
         texts.push(word.as_str())?;

@@ -1,6 +1,6 @@
 //! Entries of indexes and rows, changed by a store's trees as no statement could.
 
-use osm_tree_writes::trees::ELEMENTS;
+use osm_rows::trees::ELEMENTS;
 use sqlite_trees::store::{Direction, Shape, Store};
 use sqlite_value::keys::Order;
 use sqlite_value::row::Row;

@@ -3,7 +3,7 @@
 use crate::fixtures::Frame;
 use crate::memory::NewStore;
 use osm_import::{Answer, Delivery, ExportFault, deliver_all, export_lines, export_pbf};
-use osm_rows::Reader;
+use osm_rows::BlobReader;
 use osm_value::{Form, Outlet, Sink};
 use std::alloc::{AllocError, Global};
 use std::test::Fail;
@@ -33,7 +33,7 @@ pub fn answers_to<K: NewStore>(
 }
 
 /// An export in this form.
-pub fn export_as<K: Reader, S: Sink>(
+pub fn export_as<K: BlobReader, S: Sink>(
     alloc: Global,
     store: &mut K,
     form: Form,
@@ -48,7 +48,7 @@ pub fn export_as<K: Reader, S: Sink>(
 }
 
 /// What an export answers, and what it has written.
-pub fn exported<K: Reader>(
+pub fn exported<K: BlobReader>(
     alloc: Global,
     store: &mut K,
     form: Form,

@@ -1,7 +1,7 @@
 //! Stores in memory, of both layouts and below SQL, and the rows of their tables.
 
 use osm_old_store::{Bodies, BodyStore};
-use osm_rows::{Audited, Keeper, StoreFault, Tables};
+use osm_rows::{Audited, BlobKeeper, StoreFault, Tables};
 use osm_sql_store::{BlobStore, SqlLayout, TableStore};
 use osm_trees::TreeStore;
 use sqlite::{Alter, Connection, MemStore};
@@ -97,7 +97,7 @@ pub const NODES_AS_ROWS: &[CountedRows] = &[
 ];
 
 /// A store in memory, which holds nothing at first.
-pub trait NewStore: Keeper + Drop {
+pub trait NewStore: BlobKeeper + Drop {
     fn new_store(alloc: Global) -> Result<Self, StoreFault>;
 
     /// How many steps each later statement may take; None is no limit. Below SQL there are no statements.

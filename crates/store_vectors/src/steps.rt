@@ -12,7 +12,7 @@ use osm_import::{
     Answer, ExportFault, ImportStop, Inlet, Summary, Told, deliver, deliver_all, gaps,
     import_stream,
 };
-use osm_rows::{Extent, Keeper, Reader, StoreFault};
+use osm_rows::{BlobKeeper, BlobReader, Extent, StoreFault};
 use osm_value::{Element, Form, MemberKind, Outlet, write_line};
 use std::alloc::Global;
 use std::io::Read;
@@ -116,7 +116,7 @@ impl Step {
     }
 
     /// The same of the calls that read what is held.
-    pub fn is_read<K: Reader>(&self, alloc: Global, store: &mut K) -> Result<bool, StoreFault> {
+    pub fn is_read<K: BlobReader>(&self, alloc: Global, store: &mut K) -> Result<bool, StoreFault> {
         match *self {
             Step::Failures(count) => Ok(store.failures() == count),
             Step::Extents(extents) => Ok(store.extents(alloc)?.as_slice() == extents),
@@ -133,7 +133,7 @@ impl Step {
     }
 
     /// The same of exports.
-    fn is_exported<K: Reader>(&self, alloc: Global, store: &mut K) -> Result<bool, StoreFault> {
+    fn is_exported<K: BlobReader>(&self, alloc: Global, store: &mut K) -> Result<bool, StoreFault> {
         match *self {
             Step::Lines(size, pieces) => Ok(exports(alloc, store, Form::Lines, size, pieces)),
             Step::Pbf(size, pieces) => Ok(exports(alloc, store, Form::Pbf, size, pieces)),
@@ -150,7 +150,7 @@ impl Step {
 }
 
 /// Puts the elements of a block where the extent says. `NotThisStore(None)` where the block or the extent is none.
-pub fn put_block<K: Keeper>(
+pub fn put_block<K: BlobKeeper>(
     alloc: Global,
     store: &mut K,
     extent: &Extent,
@@ -167,7 +167,7 @@ pub fn put_block<K: Keeper>(
 }
 
 /// Imports what a reader gives, from 0 and at most so many blobs: the outcome, and the lines that are written, one for each blob.
-pub fn import<K: Keeper, R: Read + Drop>(
+pub fn import<K: BlobKeeper, R: Read + Drop>(
     alloc: Global,
     store: &mut K,
     reader: R,
@@ -187,7 +187,7 @@ pub fn import<K: Keeper, R: Read + Drop>(
     (outcome, out.into_inner())
 }
 
-fn imports<K: Keeper>(
+fn imports<K: BlobKeeper>(
     alloc: Global,
     store: &mut K,
     part: (usize, usize),
@@ -202,7 +202,7 @@ fn imports<K: Keeper>(
     outcome == wanted && lines.as_slice() == wanted_lines
 }
 
-fn touches<K: Reader>(
+fn touches<K: BlobReader>(
     alloc: Global,
     store: &mut K,
     from: u64,
@@ -216,7 +216,7 @@ fn touches<K: Reader>(
     Ok(found.as_slice() == extents)
 }
 
-fn loads<K: Reader>(
+fn loads<K: BlobReader>(
     alloc: Global,
     store: &mut K,
     off: u64,
@@ -226,7 +226,7 @@ fn loads<K: Reader>(
 }
 
 /// The lines of the elements that are loaded of the blob at an offset.
-pub fn loaded_lines<K: Reader>(
+pub fn loaded_lines<K: BlobReader>(
     alloc: Global,
     store: &mut K,
     off: u64,
@@ -244,7 +244,7 @@ pub fn loaded_lines<K: Reader>(
     Ok(out.into_inner())
 }
 
-fn finds<K: Reader>(
+fn finds<K: BlobReader>(
     alloc: Global,
     store: &mut K,
     kind: MemberKind,
@@ -255,7 +255,7 @@ fn finds<K: Reader>(
 }
 
 /// The lines of the elements of this kind and id, each behind its blob's offset and its position.
-pub fn found_lines<K: Reader>(
+pub fn found_lines<K: BlobReader>(
     alloc: Global,
     store: &mut K,
     kind: MemberKind,
@@ -281,7 +281,7 @@ fn match_lines(alloc: Global, matches: &[(u64, u64, Element)]) -> Result<Vec<u8>
     Ok(lines)
 }
 
-fn exports<K: Reader>(
+fn exports<K: BlobReader>(
     alloc: Global,
     store: &mut K,
     form: Form,
@@ -292,7 +292,7 @@ fn exports<K: Reader>(
     result == Ok(()) && are_joined(&bytes, pieces)
 }
 
-fn exports_partially<K: Reader>(
+fn exports_partially<K: BlobReader>(
     alloc: Global,
     store: &mut K,
     form: Form,
@@ -302,7 +302,7 @@ fn exports_partially<K: Reader>(
     result == Ok(()) && are_joined(&bytes, pieces)
 }
 
-fn refuses<K: Reader>(
+fn refuses<K: BlobReader>(
     alloc: Global,
     store: &mut K,
     form: Form,
@@ -313,7 +313,7 @@ fn refuses<K: Reader>(
     result == Err(fault) && bytes.is_empty()
 }
 
-pub fn holds_the_file<K: Reader>(alloc: Global, store: &mut K) -> Result<bool, StoreFault> {
+pub fn holds_the_file<K: BlobReader>(alloc: Global, store: &mut K) -> Result<bool, StoreFault> {
     let extents = store.extents(alloc)?;
     Ok(
         extents.as_slice() == [HELD_HEADER, HELD_NODES].as_slice()
@@ -323,7 +323,10 @@ pub fn holds_the_file<K: Reader>(alloc: Global, store: &mut K) -> Result<bool, S
 }
 
 /// Whether the file of three frames is held and nothing else, and an export gives its lines.
-pub fn holds_the_tagged_file<K: Reader>(alloc: Global, store: &mut K) -> Result<bool, StoreFault> {
+pub fn holds_the_tagged_file<K: BlobReader>(
+    alloc: Global,
+    store: &mut K,
+) -> Result<bool, StoreFault> {
     let extents = store.extents(alloc)?;
     Ok(
         extents.as_slice() == [HELD_HEADER, HELD_NODES, HELD_TAGGED].as_slice()

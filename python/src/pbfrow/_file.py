@@ -9,7 +9,7 @@ import mmap
 import os
 import stat
 from collections import deque
-from queue import SimpleQueue
+from queue import Empty, SimpleQueue
 from threading import Lock, Thread
 from typing import TYPE_CHECKING, Any, Callable, Generic, Iterator, Literal, Mapping, NamedTuple, TypeVar, Union
 
@@ -81,7 +81,7 @@ class File:
         self.path, self._inflate, self._on_fault, self._progress = path, inflate, on_fault, progress
         self._map = _mapped(path)
         self._bytes: NDArray[np.uint8] | None = np.frombuffer(self._map, np.uint8)
-        self.size = len(self._bytes)
+        self.size, self._address = len(self._bytes), self._bytes.ctypes.data
         self._decoder = Decoder()
 
     def __enter__(self) -> File:
@@ -112,7 +112,7 @@ class File:
         return self.blocks()
 
     def blocks(self, threads: int = 1) -> Iterator[Block]:
-        """The blocks one after the other, decoded by so many threads ahead of the one that asks for them.
+        """The blocks one after the other, decoded ahead by so many threads, of which the one that asks for them is one.
 
         A fault is raised when it is its turn, and next() goes on behind the bad blob; behind the fault of a frame is nothing
         more. Where `on_fault` is a function, it is told each fault, and the next block comes.
@@ -179,11 +179,11 @@ class File:
 
     def _at(self, offset: int) -> tuple[int, Blob | None, int]:
         """The status of the frame at this offset, where its blob is, unless the frame itself is bad, and its compression."""
-        data = self._opened()
-        if len(data) == 0:
+        self._opened()
+        if self.size == 0:
             return 61, None, 0
         answer = BlobAnswer()
-        status = library.pbfrow_blob_at(data.ctypes.data + offset, len(data) - offset, offset, ctypes.byref(answer))
+        status = library.pbfrow_blob_at(self._address + offset, self.size - offset, offset, ctypes.byref(answer))
         if status not in PASSABLE:
             return status, None, 0
         codec = CODECS[answer.compression]
@@ -193,11 +193,13 @@ class File:
 
     def _with_payload(self, blob: Blob, decode: Callable[[int, int], tuple[Any, ...]]) -> Any:
         """What the function makes of the payload of a blob, decompressed if need be. It gives a status, and then that."""
-        data = self._opened()
-        payload = data[blob.payload_at : blob.payload_at + blob.payload_length]
+        data = self._opened()  # it is kept until the payload has been decoded
+        begin, end, _ = slice(blob.payload_at, blob.payload_at + blob.payload_length).indices(self.size)
         if blob.codec:
-            payload = self._inflated(blob, payload)
-        status, *made = decode(payload.ctypes.data, len(payload))
+            inflated = self._inflated(blob, data[begin:end])
+            status, *made = decode(inflated.ctypes.data, len(inflated))
+        else:
+            status, *made = decode(self._address + begin, max(end - begin, 0))
         if status:
             raise Fault(status, blob.offset)
         return made[0] if len(made) == 1 else made
@@ -326,17 +328,30 @@ class _Blocks(Iterator[Any]):
 
 
 class _BlocksAhead(_Blocks):
-    """The same, decoded by threads ahead of the one that asks for them."""
+    """The same, decoded by threads ahead of the one that asks for them. That one is one of them: rather than wait for its block,
+    it decodes another one."""
 
     def __init__(self, file: File, threads: int) -> None:
         super().__init__(file, file.decode)
-        self._started = _started(file, self._walk, threads)
+        self._todo: SimpleQueue[_Ahead | None] = SimpleQueue()
+        self._started = _started(file, self._walk, self._todo, threads)
 
     def __next__(self) -> Any:
         return self._next_of(self._started)
 
     def _made(self, has: Any) -> Any:
-        return has.result() if isinstance(has, _Ahead) else super()._made(has)
+        if not isinstance(has, _Ahead):
+            return super()._made(has)
+        while not has.has_ended():
+            try:
+                other = self._todo.get_nowait()
+            except Empty:
+                break
+            if other is None:  # it is for a thread, which ends by it
+                self._todo.put(None)
+                break
+            other.decode(self._file)
+        return has.result()
 
 
 class _Ahead:
@@ -344,8 +359,8 @@ class _Ahead:
     thread can go on."""
 
     def __init__(self, blob: Blob) -> None:
-        self._blob, self._has_ended = blob, Lock()
-        self._has_ended.acquire()
+        self._blob, self._ended = blob, Lock()
+        self._ended.acquire()
         self._block: Block | None = None
         self._fault: BaseException | None = None
 
@@ -355,10 +370,13 @@ class _Ahead:
         except BaseException as fault:  # it is raised where the block is asked for
             self._fault = fault
         finally:
-            self._has_ended.release()
+            self._ended.release()
+
+    def has_ended(self) -> bool:
+        return not self._ended.locked()
 
     def result(self) -> Block | None:
-        with self._has_ended:
+        with self._ended:
             if self._fault is not None:
                 raise self._fault
             return self._block
@@ -369,11 +387,10 @@ def _decode_each(file: File, todo: SimpleQueue[_Ahead | None]) -> None:
         ahead.decode(file)
 
 
-def _started(file: File, walk: _Walk, threads: int) -> Iterator[tuple[int, Any]]:
-    """The frames of a file, the blobs of some of them on their way to blocks."""
+def _started(file: File, walk: _Walk, todo: SimpleQueue[_Ahead | None], threads: int) -> Iterator[tuple[int, Any]]:
+    """The frames of a file, the blobs of some of them on their way to blocks, by all threads but the one that asks."""
     waiting: deque[tuple[int, Fault | _Ahead | None]] = deque()
-    todo: SimpleQueue[_Ahead | None] = SimpleQueue()
-    workers = [Thread(target=_decode_each, args=(file, todo), daemon=True) for _ in range(threads)]
+    workers = [Thread(target=_decode_each, args=(file, todo), daemon=True) for _ in range(threads - 1)]
     for worker in workers:
         worker.start()
     try:

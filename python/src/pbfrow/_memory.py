@@ -58,16 +58,30 @@ class Room:
         return Room(np.where(needed > self.items, needed + needed // 8 + 16, self.items))
 
 
-class Lease:
-    """Memory on loan: numpy arrays that look at it hold this object, and when the last one is gone it is free again."""
+class Piece:
+    """A piece of memory with this room, at an address that 64 divides. What a call and an array need of it is made once, since no
+    other thread of Python goes on meanwhile."""
 
-    def __init__(self, free: deque[NDArray[np.uint8]], memory: NDArray[np.uint8], size: int) -> None:
-        self._free, self._memory = free, memory
-        address = -(-memory.ctypes.data // _ALIGNED) * _ALIGNED
-        self.__array_interface__ = {"version": 3, "typestr": "|u1", "shape": (size,), "data": (address, False)}
+    def __init__(self, room: Room) -> None:
+        self.room = room
+        self._memory = np.empty(room.size + _ALIGNED, np.uint8)
+        address = -(-self._memory.ctypes.data // _ALIGNED) * _ALIGNED
+        self._slots = room.slots.copy()
+        self._slots[:, 0] += np.uint64(address)
+        #: where pbfrow_columns of this memory is
+        self.slots_at = self._slots.ctypes.data
+        self.interface = {"version": 3, "typestr": "|u1", "shape": (room.size,), "data": (address, False)}
+
+
+class Lease:
+    """A piece on loan: numpy arrays that look at it hold this object, and when the last one is gone it is free again."""
+
+    def __init__(self, free: deque[Piece], piece: Piece) -> None:
+        self._free, self.piece = free, piece
+        self.__array_interface__ = piece.interface
 
     def __del__(self) -> None:
-        self._free.append(self._memory)
+        self._free.append(self.piece)
 
 
 class Pool(threading.local):
@@ -75,17 +89,12 @@ class Pool(threading.local):
     processor that the thread runs on."""
 
     def __init__(self, most: int) -> None:
-        self._free: deque[NDArray[np.uint8]] = deque(maxlen=most)
+        self._free: deque[Piece] = deque(maxlen=most)
 
-    def lend(self, size: int) -> NDArray[np.uint8]:
-        """An array of so many bytes of any value, at an address that 64 divides."""
-        try:
-            memory = self._free.pop()
-        except IndexError:
-            memory = None
-        if memory is None or len(memory) < size + _ALIGNED:
-            memory = np.empty(size + _ALIGNED, np.uint8)
-        return np.asarray(Lease(self._free, memory, size))
+    def lend(self, room: Room) -> Lease:
+        """Memory with this room, whose bytes have any value."""
+        piece = self._free.pop() if self._free else None
+        return Lease(self._free, piece if piece and piece.room is room else Piece(room))
 
 
 class Columns(Dict[str, "NDArray[Any]"]):
@@ -118,15 +127,13 @@ class Decoder:
         counts = Counts()
         room = self._room or Room.guessed(length)
         while True:
-            memory = self._pool.lend(room.size)
-            slots = room.slots.copy()
-            slots[:, 0] += np.uint64(memory.ctypes.data)
-            status = library.pbfrow_block_columns(address, length, ctypes.byref(counts), slots.ctypes.data)
+            lease = self._pool.lend(room)
+            status = library.pbfrow_block_columns(address, length, ctypes.byref(counts), lease.piece.slots_at)
             if status != NO_ROOM:
                 break
             room = room.holding(counts)
         self._room = room
-        return status, counts, Columns(counts, room, memory)
+        return status, counts, Columns(counts, room, np.asarray(lease))
 
 
 assert set(_COUNTED) <= set(COUNTS)

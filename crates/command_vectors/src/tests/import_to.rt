@@ -3,7 +3,7 @@
 use super::stores::{Blocks, Columns, NewStore};
 use super::support::{Breaking, TWO_NODES};
 use osm_import::Told;
-use osm_rows::Keeper;
+use osm_rows::BlobKeeper;
 use osm_value::Outlet;
 use pbfrow_commands::import::{Start, import, seek_start};
 use std::alloc::Global;
@@ -12,7 +12,7 @@ use std::process::Abort;
 use std::test::*;
 
 /// Imports what a reader gives before it fails, which has to reach as far as `to`.
-fn expect_import_to<K: Keeper>(
+fn expect_import_to<K: BlobKeeper>(
     rt: &(impl Abort + Alloc<A = Global>),
     store: &mut K,
     given: &[u8],

@@ -3,7 +3,7 @@
 use super::stores::{Columns, NewStore, expect_import, import_two_nodes};
 use super::support::{Closed, TWO_NODES};
 use osm_parts::Shelf;
-use osm_rows::Keeper;
+use osm_rows::BlobKeeper;
 use osm_value::{Form, Outlet};
 use pbfrow_commands::export::export;
 use pbfrow_commands::merge::merge_all;
@@ -12,19 +12,19 @@ use std::io::Cursor;
 use std::process::Abort;
 use std::test::*;
 
-fn import_header<K: Keeper>(rt: &(impl Abort + Alloc<A = Global>), store: &mut K) {
+fn import_header<K: BlobKeeper>(rt: &(impl Abort + Alloc<A = Global>), store: &mut K) {
     let text = b"0 stored 0\nblobs stored 1 held 0 bad 0 refused 0\n";
     expect_import(rt, store, Cursor::new(&TWO_NODES[..47]), 0, 0, text);
 }
 
 /// Imports the file without its first 47 bytes.
-fn import_nodes<K: Keeper>(rt: &(impl Abort + Alloc<A = Global>), store: &mut K) {
+fn import_nodes<K: BlobKeeper>(rt: &(impl Abort + Alloc<A = Global>), store: &mut K) {
     let text = b"47 stored 2\nblobs stored 1 held 0 bad 0 refused 0\n";
     expect_import(rt, store, Cursor::new(&TWO_NODES[..]), 47, 0, text);
 }
 
 /// The file of two nodes is held, and nothing else.
-fn expect_both_nodes<K: Keeper>(rt: &(impl Abort + Alloc<A = Global>), store: &mut K) {
+fn expect_both_nodes<K: BlobKeeper>(rt: &(impl Abort + Alloc<A = Global>), store: &mut K) {
     let mut out = Outlet::new(Vec::new(rt.alloc()));
     assert_eq!(rt;
         export(rt.alloc(), store, Some(84), false, Form::Lines, &mut out),
@@ -50,7 +50,7 @@ fn shelf_of_parts<K: NewStore>(rt: &(impl Abort + Alloc<A = Global>)) -> Result<
 }
 
 /// A merge of the stores at so many places of a shelf, its exit status, and what it writes.
-fn expect_merge_of<F: NewStore, T: Keeper>(
+fn expect_merge_of<F: NewStore, T: BlobKeeper>(
     rt: &(impl Abort + Alloc<A = Global>),
     shelf: &mut Shelf<F>,
     count: u64,

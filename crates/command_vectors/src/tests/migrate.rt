@@ -2,7 +2,7 @@
 
 use super::stores::{Blocks, Columns, NewStore, import_two_nodes};
 use super::support::Closed;
-use osm_rows::Keeper;
+use osm_rows::BlobKeeper;
 use osm_value::Outlet;
 use pbfrow_commands::migrate::migrate;
 use pbfrow_commands::status::status;
@@ -10,7 +10,7 @@ use std::alloc::Global;
 use std::process::Abort;
 use std::test::*;
 
-fn expect_status<K: Keeper>(rt: &(impl Abort + Alloc<A = Global>), store: &mut K, text: &[u8]) {
+fn expect_status<K: BlobKeeper>(rt: &(impl Abort + Alloc<A = Global>), store: &mut K, text: &[u8]) {
     let mut out = Outlet::new(Vec::new(rt.alloc()));
     assert_eq!(rt; status(rt.alloc(), store, None, &mut out), 0);
     assert!(rt; out.into_inner().as_slice() == text);

@@ -7,7 +7,7 @@ use super::stores::{Columns, NewStore};
 use super::support::{Closed, TWO_NODES};
 use osm_import::Told;
 use osm_parts::Openings;
-use osm_rows::{Reader, StoreFault};
+use osm_rows::{BlobReader, StoreFault};
 use osm_value::{Form, Outlet};
 use pbfrow_commands::import::{Start, import};
 use pbfrow_commands::parts::{export_parts, status_parts};

@@ -3,7 +3,7 @@
 use super::support::{EXTRA, TWO_NODES};
 use osm_import::Told;
 use osm_old_store::BodyStore;
-use osm_rows::{Audited, Keeper};
+use osm_rows::{Audited, BlobKeeper};
 use osm_sql_store::{BlobStore, SqlLayout, TableStore};
 use osm_value::Outlet;
 use pbfrow_commands::import::{Start, import};
@@ -18,7 +18,7 @@ pub type Blocks = BodyStore<MemStore>;
 pub type Columns = TableStore<MemStore>;
 
 /// A store in memory, which holds nothing at first.
-pub trait NewStore: Keeper + Audited + Drop {
+pub trait NewStore: BlobKeeper + Audited + Drop {
     fn new_store(alloc: Global) -> Option<Self>;
 }
 
@@ -32,7 +32,7 @@ impl<L: SqlLayout> NewStore for BlobStore<MemStore, L> {
 }
 
 /// Imports an input and expects this exit status and exactly this text.
-pub fn expect_import<K: Keeper, R: Read + Drop>(
+pub fn expect_import<K: BlobKeeper, R: Read + Drop>(
     rt: &(impl Abort + Alloc<A = Global>),
     store: &mut K,
     input: R,
@@ -51,7 +51,7 @@ pub fn expect_import<K: Keeper, R: Read + Drop>(
 }
 
 /// Imports the file of two nodes.
-pub fn import_two_nodes<K: Keeper>(rt: &(impl Abort + Alloc<A = Global>), store: &mut K) {
+pub fn import_two_nodes<K: BlobKeeper>(rt: &(impl Abort + Alloc<A = Global>), store: &mut K) {
     expect_import(
         rt,
         store,

@@ -2,7 +2,7 @@
 
 use super::deliveries::file_store;
 use osm_import::{Answer, Conflict, CopyCounts, CopyFault, CopyStop, copy_held, deliver};
-use osm_rows::{Reader, StoreFault};
+use osm_rows::{BlobReader, StoreFault};
 use std::alloc::Global;
 use std::process::Abort;
 use std::test::*;

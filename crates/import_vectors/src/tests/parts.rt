@@ -5,7 +5,7 @@ use osm_parts::{
     Openings, Part, PartsFault, Shelf, export_parts_as_lines, export_parts_as_pbf,
     extents_of_parts, gaps_of_parts, read_parts,
 };
-use osm_rows::{Extent, Reader, StoreFault};
+use osm_rows::{BlobReader, Extent, StoreFault};
 use osm_value::Outlet;
 use osm_vectors::FailingWriter;
 use std::alloc::Global;
@@ -40,7 +40,7 @@ fn two_stores<K: NewStore>(alloc: Global, lists: [&[Frame<'_>]; 2]) -> Result<Sh
 }
 
 /// What an export of the parts as lines answers, and what it has written.
-fn lines_of<K: Reader + Drop>(
+fn lines_of<K: BlobReader + Drop>(
     alloc: Global,
     stores: &mut Shelf<K>,
     parts: &[Part],

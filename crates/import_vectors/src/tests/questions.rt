@@ -1,7 +1,7 @@
 //! What can be asked of a store, with what it tells as bytes.
 
 use osm_import::{ExportFault, gaps};
-use osm_rows::{Reader, StoreFault};
+use osm_rows::{BlobReader, StoreFault};
 use osm_value::{Form, MemberKind};
 use std::alloc::Global;
 use store_vectors::deliveries::exported;
@@ -27,7 +27,7 @@ pub(crate) enum Question {
 }
 
 /// Whether an element has a flag, as a line.
-fn history_line<K: Reader>(alloc: Global, store: &mut K) -> Result<Vec<u8>, StoreFault> {
+fn history_line<K: BlobReader>(alloc: Global, store: &mut K) -> Result<Vec<u8>, StoreFault> {
     let found = store.history(alloc)?;
     let line = format!(in alloc; "{found}\n")?;
     let mut text = Vec::new(alloc);
@@ -36,7 +36,7 @@ fn history_line<K: Reader>(alloc: Global, store: &mut K) -> Result<Vec<u8>, Stor
 }
 
 /// What is told to a question other than for an export. Two offsets stand in a line.
-fn told<K: Reader>(
+fn told<K: BlobReader>(
     alloc: Global,
     store: &mut K,
     question: Question,
@@ -62,7 +62,7 @@ fn told<K: Reader>(
 }
 
 /// The answer to a question, and what was told.
-pub(crate) fn answer_to<K: Reader>(
+pub(crate) fn answer_to<K: BlobReader>(
     alloc: Global,
     store: &mut K,
     question: Question,

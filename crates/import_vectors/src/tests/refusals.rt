@@ -2,7 +2,7 @@
 
 use super::questions::{Question, answer_to};
 use osm_import::{Answer, ExportFault, deliver};
-use osm_rows::{Reader, StoreFault};
+use osm_rows::{BlobReader, StoreFault};
 use osm_vectors::vectors::TWO_NODES_FRAME;
 use std::alloc::Global;
 use std::process::Abort;
@@ -31,7 +31,11 @@ fn changed_frame(at: usize, byte: u8) -> [u8; 37] {
 }
 
 /// Whether a store that held nothing holds what a delivery of 37 bytes at 47 was answered with, and nothing else.
-fn holds_just<K: Reader>(alloc: Global, store: &mut K, answer: Answer) -> Result<bool, StoreFault> {
+fn holds_just<K: BlobReader>(
+    alloc: Global,
+    store: &mut K,
+    answer: Answer,
+) -> Result<bool, StoreFault> {
     let extents = store.extents(alloc)?;
     match (answer, extents.as_slice()) {
         (Answer::Stored(n), [only]) => Ok(only.off == 47 && only.fin == 84 && only.n == n),

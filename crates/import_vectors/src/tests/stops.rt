@@ -9,7 +9,7 @@ mod reads;
 
 use super::questions::{Question, answer_to};
 use osm_import::{Answer, ExportFault, deliver_all};
-use osm_rows::{Extent, Keeper, Reader, StoreFault};
+use osm_rows::{BlobKeeper, BlobReader, Extent, StoreFault};
 use osm_sql_store::{BlobStore, SqlLayout, TableStore};
 use sqlite::{Alter, Connection, FileStore, Files};
 use sqlite_disk::{Crash, Disk, Fuse, Memory};
@@ -86,7 +86,7 @@ enum Work<'a> {
 /// What a store is filled with.
 trait Source {
     /// Fills a new store. How far that came before a file stopped.
-    fn fill<K: Keeper>(&mut self, alloc: Global, store: &mut K) -> Option<Reached>;
+    fn fill<K: BlobKeeper>(&mut self, alloc: Global, store: &mut K) -> Option<Reached>;
 
     /// How much of it these extents are.
     fn extents_of(&self, extents: &[Extent]) -> Option<Reached>;
@@ -99,7 +99,12 @@ trait Source {
     ) -> Option<bool>;
 
     /// Whether a store that holds so much of it, filled again, takes the rest and then holds all.
-    fn goes_on<K: Keeper>(&mut self, alloc: Global, store: &mut K, held: Reached) -> Option<bool>;
+    fn goes_on<K: BlobKeeper>(
+        &mut self,
+        alloc: Global,
+        store: &mut K,
+        held: Reached,
+    ) -> Option<bool>;
 }
 
 /// The file of three frames, delivered.
@@ -107,7 +112,7 @@ trait Source {
 struct TaggedFile;
 
 impl Source for TaggedFile {
-    fn fill<K: Keeper>(&mut self, alloc: Global, store: &mut K) -> Option<Reached> {
+    fn fill<K: BlobKeeper>(&mut self, alloc: Global, store: &mut K) -> Option<Reached> {
         let deliveries = deliveries_of(alloc, TAGGED_FILE).ok()?;
         let answers = deliver_all(alloc, store, &deliveries).ok()?;
         answered(&answers)
@@ -125,7 +130,12 @@ impl Source for TaggedFile {
         has_rows_of::<S, L>(database, held)
     }
 
-    fn goes_on<K: Keeper>(&mut self, alloc: Global, store: &mut K, held: Reached) -> Option<bool> {
+    fn goes_on<K: BlobKeeper>(
+        &mut self,
+        alloc: Global,
+        store: &mut K,
+        held: Reached,
+    ) -> Option<bool> {
         let deliveries = deliveries_of(alloc, TAGGED_FILE).ok()?;
         let answers = deliver_all(alloc, store, &deliveries).ok()?;
         Some(
@@ -247,7 +257,7 @@ fn adopted<S: Alter + Drop, L: SqlLayout>(
 }
 
 /// How far a question is answered, if what is told is a front of these pieces.
-fn told<K: Reader>(
+fn told<K: BlobReader>(
     alloc: Global,
     store: &mut K,
     question: Question,

@@ -2,12 +2,12 @@
 //! connection have changed, by SQL and by its trees; which row belongs to no blob; and whether the indexes of trees are whole.
 
 use osm_block::read_block;
+use osm_rows::trees::{ELEMENT_BY_ID, ELEMENT_KEY, LINK_KEY, TAG_KEY};
 use osm_rows::{Audited, Counts, Extent, StoreFault};
 use osm_sql_store::TableStore;
 use osm_tree_audits::{
     ElementTable, Look, Looked, StoreIndex, Stray, TableLook, look_at_indexes, stray_row,
 };
-use osm_tree_writes::trees::{ELEMENT_BY_ID, ELEMENT_KEY, LINK_KEY, TAG_KEY};
 use osm_trees::{CheckedStore, TreeStore};
 use osm_value::Element;
 use sqlite::{Alter, MemStore};
@@ -189,7 +189,7 @@ fn expect_changes<K: NewSqlStore, R: Abort + Alloc<A = Global>>(
     Ok(())
 }
 
-/// The store over trees, each index of which is looked at, if each is whole.
+/// The store over trees, each index of which is checked, if each is whole.
 fn checked<S: Store + Drop>(alloc: Global, mut trees: S) -> Option<CheckedStore<S>> {
     match look_at_indexes(alloc, &mut trees) {
         Ok(Looked::Whole(look)) => Some(CheckedStore::new(TreeStore::new(trees), look)),

@@ -4,7 +4,7 @@
 ghost use Rattle.osm_value.specs.Ranges.{IsWide};
 
 use super::tables::expect_rows;
-use osm_rows::{Keeper, StoreFault};
+use osm_rows::{BlobKeeper, StoreFault};
 use osm_value::{Element, Info, Member, MemberKind, Node, Relation, Way};
 use pbf_frame::Kind;
 use std::alloc::{AllocError, Global};

@@ -143,7 +143,7 @@ fn adopted_databases(rt: HostRuntime) -> Result<(), Fail> {
     Ok(())
 }
 
-/// Tables of a store, and one of somebody else.
+/// Tables of a store, and one of another program.
 #[test]
 fn a_table_stands_already(rt: HostRuntime) -> Result<(), Fail> {
     let store = database_after(rt.alloc(), &[PUT_NODES, PUT_HEADER])?;

@@ -1,6 +1,6 @@
 //! The answers of stores in memory of both layouts, by values from outside.
 
-use osm_rows::{Extent, Reader, StoreFault};
+use osm_rows::{BlobReader, Extent, StoreFault};
 use osm_value::MemberKind;
 use std::alloc::Global;
 use std::process::Abort;

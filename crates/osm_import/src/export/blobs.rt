@@ -12,8 +12,8 @@ ghost use Rattle.osm_import.specs.Walks.{Writing, IsWithin, WritesOne, WritesCom
 ghost use Rattle.osm_import.specs.Stores.{Rereads};
 
 use super::ExportFault;
-use super::refusal::refused;
-use osm_rows::{Extent, Reader};
+use super::refusal::export_refusal;
+use osm_rows::{BlobReader, Extent};
 use osm_value::{Element, Sink};
 use std::alloc::Global;
 
@@ -30,24 +30,24 @@ pub trait BlobStep<S: Sink> {
 
 /// All held extents, by offset, for an export that has written nothing yet. Unless `partial`, an error is also why they
 /// don't tile the size, which is the greatest held end where none is given.
-pub(super) fn extents_to_export<K: Reader>(
+pub(super) fn extents_to_export<K: BlobReader>(
     alloc: Global,
     keeper: &mut K,
     size: Option<u64>,
     partial: bool,
 ) -> Result<Vec<Extent>, ExportFault>
-    ensures all { OfHeld K.Reader keeper.old keeper.new (λ held. IfOk result (λ extents. extents.items ≡ extents_of held)) }
-    ensures tiled { OfHeld K.Reader keeper.old keeper.new (λ held. partial ≡ false → OnOk result (Tiles held (size_of size (extents_of held)))) }
-    ensures refused { OfHeld K.Reader keeper.old keeper.new (λ held. IfErr result (IsUnbegun held (size_of size (extents_of held)) partial)) }
-    ensures rereads { Rereads K.Reader keeper.old result keeper.new }
-    ensures own { OfHeld K.Reader keeper.old keeper.new (λ _. IfErr result (λ fault. ExportIsOwn (Err fault))) }
+    ensures all { OfHeld K.BlobReader keeper.old keeper.new (λ held. IfOk result (λ extents. extents.items ≡ extents_of held)) }
+    ensures tiled { OfHeld K.BlobReader keeper.old keeper.new (λ held. partial ≡ false → OnOk result (Tiles held (size_of size (extents_of held)))) }
+    ensures refused { OfHeld K.BlobReader keeper.old keeper.new (λ held. IfErr result (IsUnbegun held (size_of size (extents_of held)) partial)) }
+    ensures rereads { Rereads K.BlobReader keeper.old result keeper.new }
+    ensures own { OfHeld K.BlobReader keeper.old keeper.new (λ _. IfErr result (λ fault. ExportIsOwn (Err fault))) }
     ensures cause { IfErr result (λ fault. ExportHasCause (K.failures keeper.old) (K.failures keeper.new) false (Err fault)) }
     ensures told { ExportTells (K.failures keeper.old) (K.failures keeper.new) result }
     ensures counted { K.failures keeper.old ≤ K.failures keeper.new }
 {
     let extents = keeper.extents(alloc)?;
     if !partial {
-        if let Some(fault) = refused(&extents, size) {
+        if let Some(fault) = export_refusal(&extents, size) {
             return Err(fault);
         }
     }
@@ -56,7 +56,7 @@ pub(super) fn extents_to_export<K: Reader>(
 
 /// Takes the step at the blob at an extent, unless the store has other than as many elements of it as the extent says, or a
 /// row of it that no element has.
-fn write_blob<K: Reader, S: Sink, W: BlobStep<S>>(
+fn write_blob<K: BlobReader, S: Sink, W: BlobStep<S>>(
     alloc: Global,
     keeper: &mut K,
     extent: &Extent,
@@ -66,8 +66,8 @@ fn write_blob<K: Reader, S: Sink, W: BlobStep<S>>(
     ensures wrote { (held : HeldMap) (blob : Blob) → K.holds keeper.old held → K.is_honest keeper.new → get held extent.now.off ≡ Some blob
         → extent.now ≡ extent_of (extent.now.off, blob) → WritesOne W.writes (S.written out.old) blob.elements (S.written out.new) result }
     ensures complete { WritesComplete W.writes (S.written out.old) extent.now (S.written out.new) result }
-    ensures rereads { Rereads K.Reader keeper.old result keeper.new }
-    ensures own { OfHeld K.Reader keeper.old keeper.new (λ _. ExportIsOwn result) }
+    ensures rereads { Rereads K.BlobReader keeper.old result keeper.new }
+    ensures own { OfHeld K.BlobReader keeper.old keeper.new (λ _. ExportIsOwn result) }
     ensures cause { ExportHasCause (K.failures keeper.old) (K.failures keeper.new) (S.has_failed out.new) result }
     ensures told { ExportTells (K.failures keeper.old) (K.failures keeper.new) result }
     ensures counted { K.failures keeper.old ≤ K.failures keeper.new }
@@ -87,7 +87,7 @@ fn write_blob<K: Reader, S: Sink, W: BlobStep<S>>(
 ///
 /// Whatever rows the store has, the step is taken at as many elements as each extent says; where the store has more or
 /// fewer, or a row that no element has, it stops with `Miscounted` and that offset.
-pub fn write_blobs<K: Reader, S: Sink, W: BlobStep<S>>(
+pub fn write_blobs<K: BlobReader, S: Sink, W: BlobStep<S>>(
     alloc: Global,
     keeper: &mut K,
     extents: &[Extent],
@@ -97,8 +97,8 @@ pub fn write_blobs<K: Reader, S: Sink, W: BlobStep<S>>(
     ensures wrote { (held run : HeldMap) → K.holds keeper.old held → K.is_honest keeper.new → IsWithin run held → extents.now ≡ extents_of run
         → Walks W.writes (S.written out.old) (entries run) (S.written out.new) result }
     ensures complete { WalksComplete W.writes (S.written out.old) extents.now (S.written out.new) result }
-    ensures rereads { Rereads K.Reader keeper.old result keeper.new }
-    ensures own { OfHeld K.Reader keeper.old keeper.new (λ _. ExportIsOwn result) }
+    ensures rereads { Rereads K.BlobReader keeper.old result keeper.new }
+    ensures own { OfHeld K.BlobReader keeper.old keeper.new (λ _. ExportIsOwn result) }
     ensures cause { ExportHasCause (K.failures keeper.old) (K.failures keeper.new) (S.has_failed out.new) result }
     ensures told { ExportTells (K.failures keeper.old) (K.failures keeper.new) result }
     ensures counted { K.failures keeper.old ≤ K.failures keeper.new }

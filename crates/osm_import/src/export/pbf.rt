@@ -15,7 +15,7 @@ ghost use Rattle.osm_import.specs.Stores.{Rereads};
 
 use super::ExportFault;
 use super::blobs::{BlobStep, extents_to_export, write_blobs};
-use osm_rows::{Reader, StoreFault};
+use osm_rows::{BlobReader, StoreFault};
 use osm_value::{Element, Sink, put};
 use osm_write::{BlobCutter, WriteFault, encode_header};
 use pbf_frame::{Kind, MAX_RAW, write_frame};
@@ -104,21 +104,21 @@ impl<S: Sink> BlobStep<S> for Blocks {
 /// Over a map that tiles a file and holds the entries of that file alone it isn't refused, with the file's size or with
 /// none, and at `Ok` it has written a file: one of the same elements, in the same order, where that is 2^62 bytes at
 /// most.
-pub fn export_pbf<K: Reader, S: Sink>(
+pub fn export_pbf<K: BlobReader, S: Sink>(
     alloc: Global,
     keeper: &mut K,
     size: Option<u64>,
     partial: bool,
     out: &mut S,
 ) -> Result<(), ExportFault>
-    ensures export { OfHeld K.Reader keeper.old keeper.new (λ held. IsPbfExport held (size_of size (extents_of held)) partial (S.written out.old) (S.written out.new) result) }
+    ensures export { OfHeld K.BlobReader keeper.old keeper.new (λ held. IsPbfExport held (size_of size (extents_of held)) partial (S.written out.old) (S.written out.new) result) }
 
     // Over a map that tiles a file, with its size or with none, it isn't refused, and writes a file of the same elements.
     ensures one_file { (held : HeldMap) (file : List ℕ) (frames : List (List ℕ)) → K.holds keeper.old held → K.is_honest keeper.new
         → IsFile file frames → IsHeldOfFile frames held → Tiles held (length file) → IsAskedFor size (length file) → WritesPbfFile frames (S.written out.old) (S.written out.new) result }
 
-    ensures rereads { Rereads K.Reader keeper.old result keeper.new }
-    ensures own { OfHeld K.Reader keeper.old keeper.new (λ _. ExportIsOwn result) }
+    ensures rereads { Rereads K.BlobReader keeper.old result keeper.new }
+    ensures own { OfHeld K.BlobReader keeper.old keeper.new (λ _. ExportIsOwn result) }
     ensures cause { ExportHasCause (K.failures keeper.old) (K.failures keeper.new) (S.has_failed out.new) result }
     ensures told { ExportTells (K.failures keeper.old) (K.failures keeper.new) result }
 {

@@ -35,7 +35,7 @@ pub fn greatest_end(extents: &[Extent]) -> u64
 
 /// Why extents, which ascend, don't tile the size in bytes, which is their greatest end where none is given: `Incomplete`
 /// with the first gap, or (0, 0) where there are none and the size is 0; else `PastEnd`.
-pub fn refused(extents: &[Extent], size: Option<u64>) -> Option<ExportFault>
+pub fn export_refusal(extents: &[Extent], size: Option<u64>) -> Option<ExportFault>
     ensures { MatchOption result (AreTiling extents.now (size_of size extents.now)) (IsRefusalOf extents.now (size_of size extents.now)) }
 {
     let greatest = greatest_end(extents);

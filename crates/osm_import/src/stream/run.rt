@@ -16,7 +16,7 @@ use super::teller::Teller;
 use crate::answer::Answer;
 use crate::delivery::deliver;
 use osm_reading::{Piece, Source, Stop, has_more, read_frame};
-use osm_rows::Keeper;
+use osm_rows::BlobKeeper;
 use osm_value::Sink;
 use pbf_frame::{FrameFault, Framer, MAX_OFFSET};
 use std::alloc::Global;
@@ -30,12 +30,12 @@ struct Delivered {
 }
 
 /// Delivers the frame that waits, if one does.
-fn deliver_waiting<K: Keeper>(
+fn deliver_waiting<K: BlobKeeper>(
     alloc: Global,
     keeper: &mut K,
     framer: &mut Framer,
 ) -> Result<Option<Delivered>, FrameFault>
-    ensures { Gave framer.old framer.new (keeper.new ≡ keeper.old) (TakesOne K.Reader keeper.old keeper.new) result }
+    ensures { Gave framer.old framer.new (keeper.new ≡ keeper.old) (TakesOne K.BlobReader keeper.old keeper.new) result }
 {
     let lent = match framer.next_frame() {
         Err(fault) => return Err(fault),
@@ -49,7 +49,7 @@ fn deliver_waiting<K: Keeper>(
 }
 
 /// Reads the next frame, delivers it and writes its line if it is told. None where the input has ended.
-fn import_frame<K: Keeper, R: Source, T: Teller, S: Sink>(
+fn import_frame<K: BlobKeeper, R: Source, T: Teller, S: Sink>(
     alloc: Global,
     keeper: &mut K,
     framer: &mut Framer,
@@ -60,7 +60,7 @@ fn import_frame<K: Keeper, R: Source, T: Teller, S: Sink>(
 ) -> Result<Option<Delivered>, ImportFault>
     requires { framer.old.rest ≡ [] }
     ensures step { FrameStep framer.old framer.new (input_behind R.Source piece.old piece.new reader.old reader.new) (output (T.tells teller.now) S.Sink out.old out.new)
-        (keeper.new ≡ keeper.old) (TakesOne K.Reader keeper.old keeper.new) result }
+        (keeper.new ≡ keeper.old) (TakesOne K.BlobReader keeper.old keeper.new) result }
     ensures spent { IfErr result (λ fault. fault ≡ ImportFault.Stream Stop.ReadFailed → piece.new ≡ []) }
 {
     match read_frame(framer, piece, reader) {
@@ -82,7 +82,7 @@ fn import_frame<K: Keeper, R: Source, T: Teller, S: Sink>(
 }
 
 /// What is said at the end of an input that stood at `from` at its start.
-fn ended(from: u64, summary: Summary) -> Result<Summary, ImportStop>
+fn end_of(from: u64, summary: Summary) -> Result<Summary, ImportStop>
     ensures { result ≡ ended_at from summary }
 {
     if from == 0 && summary.next == 0 {
@@ -109,7 +109,7 @@ fn ended(from: u64, summary: Summary) -> Result<Summary, ImportStop>
 ///
 /// Over the bytes of a whole reader, from 0, `Ok` says that they are a file; and where the store held nothing but
 /// entries of that file and no blob was bad, what it holds now tiles the file.
-pub fn import_stream<K: Keeper, R: Source, T: Teller, S: Sink>(
+pub fn import_stream<K: BlobKeeper, R: Source, T: Teller, S: Sink>(
     alloc: Global,
     keeper: &mut K,
     reader: &mut R,
@@ -119,7 +119,7 @@ pub fn import_stream<K: Keeper, R: Source, T: Teller, S: Sink>(
     out: &mut S,
 ) -> Result<Summary, ImportStop>
     requires { from ≤ MAX_OFFSET }
-    ensures streams { Streams from max_blobs (input R.Source reader.old reader.new) (output (T.tells teller.now) S.Sink out.old out.new) (Takes K.Reader keeper.old keeper.new) result }
+    ensures streams { Streams from max_blobs (input R.Source reader.old reader.new) (output (T.tells teller.now) S.Sink out.old out.new) (Takes K.BlobReader keeper.old keeper.new) result }
     ensures one_file { (file : List ℕ) (held : HeldMap) → R.bytes_left reader.old ≡ Some file → from ≡ 0 → K.holds keeper.old held → K.is_honest keeper.new
         → IfOk result (λ summary. ImportsFile (K.holds keeper.new) file held summary) }
 
@@ -144,7 +144,7 @@ pub fn import_stream<K: Keeper, R: Source, T: Teller, S: Sink>(
     for _blobs in 0..max_blobs {
         match import_frame(alloc, keeper, &mut framer, &mut piece, reader, teller, out) {
             Ok(Some(blob)) => summary.add(&blob.answer, blob.fin),
-            Ok(None) => return ended(from, summary),
+            Ok(None) => return end_of(from, summary),
             Err(fault) => {
                 return Err(ImportStop {
                     fault,
@@ -154,7 +154,7 @@ pub fn import_stream<K: Keeper, R: Source, T: Teller, S: Sink>(
         }
     }
     match has_more(&mut piece, reader) {
-        Ok(false) => ended(from, summary),
+        Ok(false) => end_of(from, summary),
         Ok(true) => Err(ImportStop {
             fault: ImportFault::BlobLimit,
             at: summary.next,

@@ -7,6 +7,7 @@ ghost use Rattle.osm_rows.specs.Audit.{HasCount};
 ghost use Rattle.osm_rows.specs.Keeping.{IsForeign};
 ghost use Rattle.osm_rows.specs.Schema.Bodies.{body_schema};
 ghost use Rattle.osm_sql_store.specs.Load.Asking.{JustAsks};
+ghost use Rattle.osm_rows.specs.declared.trees.TheConstants.{ELEMENTS};
 
 use crate::schema::sql::COUNT_BODIES;
 use osm_rows::StoreFault;
@@ -19,7 +20,7 @@ pub(crate) fn has_body_count<S: Alter>(
     expected: u64,
 ) -> Result<bool, StoreFault>
     ensures told { HasCleanDisk (state S.Store connection.new) → (state S.Store connection.old).now.schema ≡ body_schema
-        → IfOk result (λ told. IsTrue told ↔ HasCount ((state S.Store connection.old).now.trees 2) expected) }
+        → IfOk result (λ told. IsTrue told ↔ HasCount ((state S.Store connection.old).now.trees ELEMENTS) expected) }
     ensures opened { HasCleanDisk (state S.Store connection.new) → IfOk result (λ _. IsTrue (state S.Store connection.new).is_open) }
     ensures ours { IfErr result (λ fault. ¬ (IsForeign fault)) }
     ensures asks { JustAsks (state S.Store connection.old) (state S.Store connection.new) }

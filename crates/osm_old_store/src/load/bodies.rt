@@ -2,15 +2,13 @@
 
 mod flags;
 
-ghost use Rattle.std.specs.Prelude.{◌≡◌, Some, filter, IsTrue, IfOk, MatchResult};
+ghost use Rattle.std.specs.Prelude.{◌≡◌, Some, filter, IfOk};
 ghost use Rattle.std.specs.FinMap as map;
-ghost use Rattle.sqlite.specs.State.{HasCleanDisk};
 ghost use Rattle.sqlite.specs.Held.{state};
 ghost use Rattle.osm_sql_store.specs.Load.Asking.{JustAsks};
+ghost use Rattle.osm_sql_store.specs.Load.Telling.{TellsOf};
 ghost use Rattle.osm_rows.specs.Load.Finding.{AreMatches};
 ghost use Rattle.osm_rows.specs.Held.{Blob, HeldMap};
-ghost use Rattle.osm_rows.specs.LayoutHolding.{Holds};
-ghost use Rattle.osm_rows.specs.Keeping.{IsForeign};
 ghost use Rattle.osm_rows.specs.Load.Loading.{HasRowsOf, IsInPlace};
 ghost use Rattle.osm_rows.specs.Rows.{is_of, placed_in};
 
@@ -31,8 +29,7 @@ pub(crate) fn load_bodies<S: Alter>(
     connection: &mut Connection<S>,
     off: u64,
 ) -> Result<Loaded, StoreFault>
-    ensures held { HasCleanDisk (state S.Store connection.new) → (held : HeldMap) → Holds Layout.Bodies (state S.Store connection.old) held
-        → MatchResult result (λ loaded. ((blob : Blob) → map.get held off ≡ Some blob → HasRowsOf loaded blob.elements) × IsTrue (state S.Store connection.new).is_open) (λ fault. ¬ (IsForeign fault)) }
+    ensures held { (held : HeldMap) → TellsOf Layout.Bodies held (state S.Store connection.old) result (state S.Store connection.new) (λ loaded. (blob : Blob) → map.get held off ≡ Some blob → HasRowsOf loaded blob.elements) }
     ensures positions { IfOk result IsInPlace }
     ensures asks { JustAsks (state S.Store connection.old) (state S.Store connection.new) }
 {
@@ -65,8 +62,7 @@ pub(crate) fn find_bodies<S: Alter>(
     kind: MemberKind,
     id: i64,
 ) -> Result<Found, StoreFault>
-    ensures held { HasCleanDisk (state S.Store connection.new) → (held : HeldMap) → Holds Layout.Bodies (state S.Store connection.old) held
-        → MatchResult result (λ found. AreMatches found (filter (is_of kind id) (placed_in held)) × IsTrue (state S.Store connection.new).is_open) (λ fault. ¬ (IsForeign fault)) }
+    ensures held { (held : HeldMap) → TellsOf Layout.Bodies held (state S.Store connection.old) result (state S.Store connection.new) (λ found. AreMatches found (filter (is_of kind id) (placed_in held))) }
     ensures asks { JustAsks (state S.Store connection.old) (state S.Store connection.new) }
 {
     let code = u64::from(element_code(kind));

@@ -74,8 +74,7 @@ fn fill<R: Source>(framer: &mut Framer, piece: &mut Piece, reader: &mut R) -> Re
     ensures ended { IfOk result (λ is_full. is_full ≡ false → (piece.new ≡ []) × IsAtEnd (R.bytes_left reader.new)) }
     ensures cause { IfErr result (ReadHasCause (R.has_failed reader.new)) }
     ensures late { IsBegun framer.old → HasFull framer.old.offset (framer.old.rest ++ piece.old) → reader.new ≡ reader.old }
-    ensures unfilled { IfErr result (λ stop. stop ≡ Stop.ReadFailed → IsFull framer.new → ⊥) }
-    ensures spent { IfErr result (λ stop. stop ≡ Stop.ReadFailed → piece.new ≡ []) }
+    ensures unread { IfErr result (λ stop. stop ≡ Stop.ReadFailed → ¬ (IsFull framer.new) × (piece.new ≡ [])) }
     ensures begun { IsBegun framer.old → IsBegun framer.new }
     ensures let_go { framer.new.lent ≡ [] }
 {

@@ -10,6 +10,7 @@ use Rattle.sqlite.specs.Kind.TheVariants.{Integer, Text}
 use Rattle.sqlite.specs.Table.{Table}
 use Rattle.sqlite.specs.Schema.{Schema}
 use Rattle.osm_rows.specs.Schema.Bodies.{full_column, plain_table, meta, blob}
+use Rattle.osm_rows.specs.declared.trees.TheConstants.{ELEMENTS, ELEMENT_KEY, LINKS, LINK_KEY, TAGS, TAG_KEY}
 
 -- the version of these tables
 abbrev pub table_version : ℕ
@@ -42,13 +43,13 @@ abbrev pub key_index : List ℕ → ℕ → ℕ → List ℕ → Index
 key_index name tree table columns = record { name = name; tree = tree; table = table; columns = columns; order = plain; is_unique = true }
 
 abbrev pub element_key : Index
-element_key = key_index (codes "sqlite_autoindex_element_1") 3 2 (1 ∷ 2 ∷ [])
+element_key = key_index (codes "sqlite_autoindex_element_1") ELEMENT_KEY ELEMENTS (1 ∷ 2 ∷ [])
 
 abbrev pub tag_key : Index
-tag_key = key_index (codes "sqlite_autoindex_tag_1") 5 4 (1 ∷ 2 ∷ 3 ∷ [])
+tag_key = key_index (codes "sqlite_autoindex_tag_1") TAG_KEY TAGS (1 ∷ 2 ∷ 3 ∷ [])
 
 abbrev pub link_key : Index
-link_key = key_index (codes "sqlite_autoindex_link_1") 7 6 (1 ∷ 2 ∷ 3 ∷ [])
+link_key = key_index (codes "sqlite_autoindex_link_1") LINK_KEY LINKS (1 ∷ 2 ∷ 3 ∷ [])
 
 abbrev pub element_by_id : Index
 element_by_id = record { name = codes "element_by_id"; tree = 8; table = 2; columns = 3 ∷ 4 ∷ []; order = plain; is_unique = false }

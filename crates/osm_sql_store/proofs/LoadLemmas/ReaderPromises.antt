@@ -8,6 +8,7 @@ use Rattle.sqlite.specs.State.{HasCleanDisk}
 use Rattle.osm_rows.specs.declared.fault.StoreFault.{StoreFault}
 use Rattle.osm_rows.specs.declared.schema.layout.Layout.{Layout}
 use Rattle.osm_sql_store.specs.Load.Asking.{JustAsks}
+use Rattle.osm_sql_store.specs.Load.Telling.{TellsOf}
 use Rattle.osm_rows.specs.Held.{HeldMap}
 use Rattle.osm_rows.specs.LayoutHolding.{Holds}
 use Rattle.osm_rows.specs.Keeping.{IsForeign, failures_after}
@@ -51,9 +52,8 @@ module _ {S T : Type 0} {layout at : Layout} (g : Ghosts S) {inside old : Store 
   reads answers = subst (λ s. JustReads layout g s r new) old_is (subst (λ l. JustReads l g inside r new) at_is (just_reads at g inside new asks r answers counted))
 
   -- where the call tells of a held map
-  pub reads_held : (P : HeldMap → T → Type 0) → (HasCleanDisk (state g new.connection) → (held : HeldMap) → Holds at (state g inside.connection) held → MatchResult r (λ v. P held v × IsTrue (state g new.connection).is_open) (λ fault. ¬ (IsForeign fault)))
-      → JustReads layout g old r new
-  reads_held P told = reads (λ clean held holds. MatchResult-weaker r (told clean held holds) (λ v h. h.1) (λ fault h. h))
+  pub reads_held : (P : HeldMap → T → Type 0) → ((held : HeldMap) → TellsOf at held (state g inside.connection) r (state g new.connection) (P held)) → JustReads layout g old r new
+  reads_held P told = reads (λ clean held holds. MatchResult-weaker r (told held clean holds) (λ v h. h.1) (λ fault h. h))
 
 pub ok_of : {A E : Type 0} (P : A → Type 0) (Q : Type 0) (F : E → Type 0) (r : Result A E) → MatchResult r (λ v. P v × Q) F → IfOk r P
 ok_of P Q F (Ok v) h = h.0

@@ -25,7 +25,7 @@ use Rattle.osm_rows.specs.Rows.{Placed, CanStore, placed, body_row, extent_row}
 use Rattle.osm_rows.specs.TableRows.{element_rows, tag_rows, link_rows}
 use Rattle.osm_sql_store.specs.Schema.Over.{IsWriting}
 use Rattle.osm_rows.specs.Put.Gains.{Gains, GainsElements, Puts}
-use Rattle.osm_sql_store.specs.Put.Steps.{KeepsOthers, AddsRow, AddsRows, AddsElements, AddsExtent, Writes, MayPut, KeepsAll}
+use Rattle.osm_sql_store.specs.Put.Steps.{KeepsOthers, AddsRow, AddsRows, AddsElements, AddsExtent, WritesInTransaction, MayPut, KeepsAll}
 use Rattle.osm_sql_store.proofs.PutLemmas.Inserts.{inserts_blob}
 use Rattle.osm_sql_store.proofs.SchemaLemmas.MakeSteps.{becomes}
 use Rattle.osm_sql_store.proofs.PutLemmas.Adds.{blob_values, new_blob, blob_added}
@@ -119,7 +119,7 @@ puts layout old mid new extent elements first rest = record {
 
 -- the extent is written, and then the elements
 pub written : {T : Type 0} (layout : Layout) (old mid new : State) (extent : Extent) (elements : List Placed) (r : Result T StoreFault) → IsTrue old.is_open → IsTrue old.in_transaction
-    → (IsWriting layout old → AddsExtent layout old mid (extent_row extent)) → OnOk r (IsTrue new.in_transaction) → (IsWriting layout mid → OnOk r (AddsElements layout mid new elements)) → OnOk r (Writes layout old new extent elements)
+    → (IsWriting layout old → AddsExtent layout old mid (extent_row extent)) → OnOk r (IsTrue new.in_transaction) → (IsWriting layout mid → OnOk r (AddsElements layout mid new elements)) → OnOk r (WritesInTransaction layout old new extent elements)
 written layout old mid new extent elements (Ok x) was_open inside first still rest = record {
   was_open = was_open;
   inside = still;
@@ -132,7 +132,7 @@ written layout old mid new extent elements (Err fault) was_open inside first sti
 
 module _ {S : Type 0} (g : Ghosts S) (old mid end : Held S) (layout : Layout) (extent : Extent) (elements : List Element) where
   pub put_survives : Survives (state g (record old { in_transaction = true })) (state g mid) (λ _. ⊥)
-      → (HasCleanDisk (state g mid) → Writes layout (state g (record old { in_transaction = true })) (state g mid) extent (placed extent.off 0 elements)) → AllByRecursion (CanStore layout) elements
+      → (HasCleanDisk (state g mid) → WritesInTransaction layout (state g (record old { in_transaction = true })) (state g mid) extent (placed extent.off 0 elements)) → AllByRecursion (CanStore layout) elements
       → Survives (state g mid) (state g end) (λ db. db ≡ (state g mid).now.trees) → Survives (state g old) (state g end) (MayPut layout (state g old) extent elements)
   put_survives inside written can_store commit =
       survives_then (state g old) (state g mid) (state g end) _ _ (MayPut layout (state g old) extent elements) (λ _ db none. absurd none)

@@ -18,6 +18,7 @@ use Rattle.osm_rows.specs.Rows.{Placed, CanStore, placed}
 use Rattle.osm_rows.specs.TableRows.{element_rows, tag_rows, link_rows}
 use Rattle.osm_rows.specs.Put.Gains.{Gains, GainsElements, Puts}
 use Rattle.osm_rows.specs.Put.WrittenRows.{element_columns, tag_columns, link_columns}
+use Rattle.osm_rows.specs.declared.trees.TheConstants.{BLOBS, META}
 
 -- the other tables have the rows of before
 abbrev pub KeepsOthers : Layout → ℕ → Trees → Trees → Type 0
@@ -35,7 +36,7 @@ pub record AddsExtent (layout : Layout) (old new : State) (row : Row) : Type 0 w
   pub becomes : Becomes old new (schema_of layout)
   pub shown : Shows old new new.now old.committed true
   pub others : KeepsOthers layout 1 old.now.trees new.now.trees
-  pub blob : new.now.trees 1 ≡ put_row row (old.now.trees 1)
+  pub blob : new.now.trees BLOBS ≡ put_row row (old.now.trees BLOBS)
 
 -- a table has these rows more, and the other tables are as they were
 pub record AddsRows (layout : Layout) (tree : ℕ) (old new : State) (added : List Row) : Type 0 where
@@ -54,8 +55,8 @@ pub record AddsElements (layout : Layout) (old new : State) (added : List Placed
   pub over : IsWriting layout new
   pub kept : KeepsCommit old new
   pub sound : IsSound (schema_of layout) old.now.trees → IsSound (schema_of layout) new.now.trees
-  pub meta : new.now.trees 0 ≡ old.now.trees 0
-  pub blob : new.now.trees 1 ≡ old.now.trees 1
+  pub meta : new.now.trees META ≡ old.now.trees META
+  pub blob : new.now.trees BLOBS ≡ old.now.trees BLOBS
   pub elements : GainsElements layout added old.now.trees new.now.trees
 
 -- Whichever elements these are the rows of, in each table of the layout of tables: they are added.
@@ -64,7 +65,7 @@ AddsElementsOf elements tags links old new =
     (all : List Placed) → map element_columns elements ≡ element_rows all → map tag_columns tags ≡ tag_rows all → map link_columns links ≡ link_rows all → AddsElements Tables old new all
 
 -- the rows of a blob are written, if the connection is over a store's schema
-pub record Writes (layout : Layout) (old new : State) (extent : Extent) (elements : List Placed) : Type 0 where
+pub record WritesInTransaction (layout : Layout) (old new : State) (extent : Extent) (elements : List Placed) : Type 0 where
   pub was_open : IsTrue old.is_open
   pub inside : IsTrue new.in_transaction
   pub puts : old.now.schema ≡ schema_of layout → (new.now.schema ≡ schema_of layout) × Puts layout old.now.trees new.now.trees extent elements

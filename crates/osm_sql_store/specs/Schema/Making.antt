@@ -18,6 +18,7 @@ use Rattle.osm_rows.specs.Schema.Tables.{element, tag, link, table_schema}
 use Rattle.osm_rows.specs.Schema.Layouts.{schema_of}
 use Rattle.osm_sql_store.specs.Schema.Over.{Becomes}
 use Rattle.osm_rows.specs.Rows.{version_row}
+use Rattle.osm_rows.specs.declared.trees.TheConstants.{BLOBS, ELEMENTS, LINKS, META, TAGS}
 
 -- the statement that makes it
 abbrev pub text_of : Making → List ℕ
@@ -68,28 +69,28 @@ Makes what = MakesOver (before what) (after what) (made what)
 
 -- the tables of elements have no rows
 abbrev pub HaveNoElements : Layout → Trees → Type 0
-HaveNoElements Bodies db = db 2 ≡ []
-HaveNoElements Tables db = (db 2 ≡ []) × (db 4 ≡ []) × (db 6 ≡ [])
+HaveNoElements Bodies db = db ELEMENTS ≡ []
+HaveNoElements Tables db = (db ELEMENTS ≡ []) × (db TAGS ≡ []) × (db LINKS ≡ [])
 
 -- the tables of elements are made, and `meta` and `blob` are as they were
 pub record MakesElements (layout : Layout) (old new : State) : Type 0 where
   pub becomes : Becomes old new (schema_of layout)
-  pub meta : new.now.trees 0 ≡ old.now.trees 0
-  pub blob : new.now.trees 1 ≡ old.now.trees 1
+  pub meta : new.now.trees META ≡ old.now.trees META
+  pub blob : new.now.trees BLOBS ≡ old.now.trees BLOBS
   pub elements : HaveNoElements layout new.now.trees
 
 -- `meta` has the version's row more, and the other tables are as they were
 pub record WritesVersion (layout : Layout) (old new : State) : Type 0 where
   pub becomes : Becomes old new (schema_of layout)
-  pub meta : new.now.trees 0 ≡ put_row (version_row layout) (old.now.trees 0)
-  pub blob : new.now.trees 1 ≡ old.now.trees 1
+  pub meta : new.now.trees META ≡ put_row (version_row layout) (old.now.trees META)
+  pub blob : new.now.trees BLOBS ≡ old.now.trees BLOBS
   pub elements : HaveNoElements layout old.now.trees → HaveNoElements layout new.now.trees
 
 -- the tables of a store that holds nothing
 pub record IsEmptyStore (layout : Layout) (db : Trees) : Type 0 where
   pub sound : IsSound (schema_of layout) db
-  pub meta : db 0 ≡ version_row layout ∷ []
-  pub blob : db 1 ≡ []
+  pub meta : db META ≡ version_row layout ∷ []
+  pub blob : db BLOBS ≡ []
   pub elements : HaveNoElements layout db
 
 -- The connection is open over a store that holds nothing, all that it sees is committed, and a crash leaves nothing else.

@@ -8,7 +8,7 @@ ghost use Rattle.osm_sql_store.specs.Inside.{WorksInside};
 ghost use Rattle.osm_rows.specs.Keeping.{IsForeign};
 ghost use Rattle.osm_rows.specs.Rows.{placed, extent_row, CanStore};
 ghost use Rattle.osm_sql_store.specs.Schema.Over.{IsWriting};
-ghost use Rattle.osm_sql_store.specs.Put.Steps.{AddsExtent, Writes, CommitsBlob, KeepsAll, MayPut};
+ghost use Rattle.osm_sql_store.specs.Put.Steps.{AddsExtent, WritesInTransaction, CommitsBlob, KeepsAll, MayPut};
 
 use crate::layout::SqlLayout;
 use crate::put::statement::execute;
@@ -54,7 +54,7 @@ fn write_rows<L: SqlLayout, S: Alter>(
     requires bounds { (extent.now.off ≤ MAX_OFFSET) × (extent.now.fin ≤ MAX_OFFSET) × (extent.now.n < 2 ^ 63) }
     ensures step { WorksInside S.Store transaction.old.conn result transaction.new.conn }
     ensures written { HasCleanDisk (state S.Store transaction.new.conn.now)
-        → OnOk result (Writes L.LAYOUT (state S.Store transaction.old.conn.now) (state S.Store transaction.new.conn.now) extent.now (placed extent.now.off 0 elements.now)) }
+        → OnOk result (WritesInTransaction L.LAYOUT (state S.Store transaction.old.conn.now) (state S.Store transaction.new.conn.now) extent.now (placed extent.now.off 0 elements.now)) }
     ensures can_store { OnOk result (AllByRecursion (CanStore L.LAYOUT) elements.now) }
 {
     add_extent(transaction, extent)?;

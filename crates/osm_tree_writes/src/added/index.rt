@@ -53,7 +53,7 @@ fn told_index(alloc: Global, row: &Row) -> Result<Option<Index>, AllocError>
     defined(alloc, tree, &table, text)
 }
 
-/// The index that somebody has added to a table of elements, of tags or of links, if a row of the list of objects tells of one
+/// The index added to a table of elements, of tags or of links, if a row of the list of objects tells of one
 /// that a put can keep: one of columns, in any order and by any collation, and neither `UNIQUE`, nor over an expression, nor
 /// of some rows alone. The row begins with its rowid, type, name, table and SQL text.
 pub fn plain_index(alloc: Global, row: &Row) -> Result<Option<Index>, AllocError>
@@ -66,7 +66,7 @@ pub fn plain_index(alloc: Global, row: &Row) -> Result<Option<Index>, AllocError
     }
 }
 
-/// The indexes that somebody has added to the tables of a store, in the order of these rows of the list of objects; none
+/// The indexes added to the tables of a store, in the order of these rows of the list of objects; none
 /// where one of them can't be kept by a put, or where a trigger is on one of the tables.
 pub fn plain_indexes(alloc: Global, rows: &[Row]) -> Result<Option<Vec<Index>>, AllocError>
     ensures { IfOk result (λ found. MatchOption found (list_any spec.is_refused rows.now ≡ true) (λ indexes. (list_any spec.is_refused rows.now ≡ false) × (indexes.items ≡ spec.plain_indexes rows.now))) }

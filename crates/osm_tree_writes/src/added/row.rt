@@ -26,7 +26,7 @@ pub fn is_of_a_store(name: &[u8]) -> bool
         || same_name(name, b"link")
 }
 
-/// Whether a row of the list of objects tells of an index that somebody has added to a table of a store. The row begins with
+/// Whether a row of the list of objects tells of an index added to a table of a store. The row begins with
 /// its rowid, type, name, table and SQL text.
 pub fn is_added_index(row: &Row) -> bool
     ensures { result ≡ spec.is_added_index row.now }
@@ -44,7 +44,7 @@ pub fn binds_a_store(row: &Row) -> bool
     is_word(b"trigger", row.get(1)) && is_of_a_store(bytes_of(row.get(3)))
 }
 
-/// Whether it tells of anything of somebody's own on a table of a store.
+/// Whether it tells of anything of the user's own on a table of a store.
 pub(crate) fn is_on_a_store(row: &Row) -> bool
     ensures { result ≡ spec.is_on_a_store row.now }
 {

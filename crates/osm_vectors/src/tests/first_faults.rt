@@ -180,7 +180,7 @@ fn of_plain_nodes(rt: HostRuntime) {
     );
 }
 
-/// Wire, lengths, sums, ranges, tags, indexes. The arrays of the info are looked at behind the others.
+/// Wire, lengths, sums, ranges, tags, indexes. The arrays of the info are checked behind the others.
 #[test]
 fn of_dense_nodes(rt: HostRuntime) {
     expect_faults(
@@ -247,7 +247,7 @@ fn of_dense_nodes(rt: HostRuntime) {
     );
 }
 
-/// Wire, required fields, lengths, sums, ranges, indexes. Arrays are looked at by field number.
+/// Wire, required fields, lengths, sums, ranges, indexes. Arrays are checked by field number.
 #[test]
 fn of_ways(rt: HostRuntime) {
     expect_faults(

@@ -1,4 +1,4 @@
-//! Whether indexes that somebody has added to a store's tables are whole.
+//! Whether indexes added to a store's tables are whole.
 
 use osm_databases::stores::with_whole_added_indexes;
 use sqlite::{Alter, MemStore};
@@ -23,7 +23,7 @@ fn indexed_blobs(alloc: Global) -> Result<MemStore, Fail> {
     Ok(connection.into_store())
 }
 
-/// The fault of trees of which an index that somebody has added isn't whole, and what is said of it.
+/// The fault of trees of which an index that the user has added isn't whole, and what is said of it.
 fn told_of_added<S: Alter + Drop>(alloc: Global, trees: S) -> Result<String, AllocError> {
     match with_whole_added_indexes(alloc, trees) {
         Ok(_) => format!(in alloc; "whole"),
@@ -31,7 +31,7 @@ fn told_of_added<S: Alter + Drop>(alloc: Global, trees: S) -> Result<String, All
     }
 }
 
-/// Indexes that somebody has added: whole, without an entry, with one too many, and with that of another row.
+/// Indexes that the user has added: whole, without an entry, with one too many, and with that of another row.
 #[test]
 fn added_indexes(rt: HostRuntime) -> Result<(), Fail> {
     const TAGS_TOLD: &str = "Disk, damaged: its index tag_by_key has not one entry for each row";

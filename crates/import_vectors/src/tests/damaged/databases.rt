@@ -1,8 +1,8 @@
 //! Stores that are made over connections in memory, of which each has something else.
 
 use super::openings::{Held, held_by};
-use osm_databases::stores::{made, made_where_none};
-use osm_rows::{Reader, StoreFault};
+use osm_databases::stores::{make_store, make_where_none};
+use osm_rows::{BlobReader, StoreFault};
 use sqlite::{Alter, Connection, MemStore};
 use std::alloc::Global;
 use std::test::*;
@@ -20,7 +20,7 @@ const OF_BLOCKS: Outcome = Err(StoreFault::NotThisStore(Some(1)));
 const OF_ROWS: Outcome = Err(StoreFault::NotThisStore(Some(2)));
 
 /// What a store over trees holds.
-fn by_trees<R: Reader + Drop>(alloc: Global, mut store: R) -> Held {
+fn by_trees<R: BlobReader + Drop>(alloc: Global, mut store: R) -> Held {
     held_by(alloc, &mut store)
 }
 
@@ -29,7 +29,7 @@ fn makes<S: Alter + Drop>(alloc: Global, connection: Connection<S>) -> Outcome {
     if !connection.is_autocommit() {
         return Err(StoreFault::Full);
     }
-    Ok(by_trees(alloc, made(connection)?))
+    Ok(by_trees(alloc, make_store(connection)?))
 }
 
 /// Makes one where the connection has none.
@@ -37,7 +37,7 @@ fn makes_where_none<S: Alter + Drop>(alloc: Global, connection: Connection<S>) -
     if !connection.is_autocommit() {
         return Err(StoreFault::Full);
     }
-    Ok(by_trees(alloc, made_where_none(connection)?))
+    Ok(by_trees(alloc, make_where_none(connection)?))
 }
 
 /// What a connection in memory has.
@@ -48,7 +48,7 @@ enum Content {
     Rows,
     /// The same of blocks.
     Blocks,
-    /// A table of somebody else.
+    /// A table of another program.
     Stranger,
 }
 

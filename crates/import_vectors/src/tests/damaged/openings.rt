@@ -8,7 +8,7 @@ ghost use Rattle.osm_openings.specs.Presumed.{ArePresumedTables};
 use super::shared::Machine;
 use osm_import::{Answer, deliver_all};
 use osm_openings::{Obstacle, find_obstacle, open_checked_tables, open_tables};
-use osm_rows::{Keeper, Reader, StoreFault};
+use osm_rows::{BlobKeeper, BlobReader, StoreFault};
 use osm_sql_store::TableStore;
 use osm_trees::TreeStore;
 use sqlite::{Alter, Connection, FileStore, Files};
@@ -33,7 +33,7 @@ pub(super) enum Held {
 }
 
 /// What a store holds.
-pub(super) fn held_by<R: Reader>(alloc: Global, store: &mut R) -> Held {
+pub(super) fn held_by<R: BlobReader>(alloc: Global, store: &mut R) -> Held {
     match store.extents(alloc) {
         Ok(extents) if extents.is_empty() => Held::Nothing,
         Ok(_) if holds_the_tagged_file(alloc, store) == Ok(true) => Held::All,
@@ -48,7 +48,7 @@ fn held_in<S: Alter + Drop>(alloc: Global, trees: Option<S>) -> Option<Held> {
 }
 
 /// Delivers the file of three frames to a store that holds nothing.
-fn fill<K: Keeper>(alloc: Global, store: &mut K) -> Option<()> {
+fn fill<K: BlobKeeper>(alloc: Global, store: &mut K) -> Option<()> {
     const STORED: [Answer; 3] = [Answer::Stored(0), Answer::Stored(2), Answer::Stored(2)];
     let deliveries = deliveries_of(alloc, TAGGED_FILE).ok()?;
     let answers = deliver_all(alloc, store, &deliveries).ok()?;

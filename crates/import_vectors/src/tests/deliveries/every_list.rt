@@ -2,7 +2,7 @@
 
 use osm_block::BlockFault;
 use osm_import::{Answer, Conflict, Fault, gaps};
-use osm_rows::{Extent, Reader};
+use osm_rows::{BlobReader, Extent};
 use osm_value::Form;
 use pbf_wire::{WireFault, WireFaultKind};
 use std::alloc::{AllocError, Global};

@@ -4,7 +4,7 @@
 use super::below::rows_by_sql;
 use super::{Outcome, Reached, STOPS, Source, Stopped, Unsynced, below, imports, sum};
 use osm_import::{Answer, deliver_all};
-use osm_rows::{Extent, Keeper, Tables};
+use osm_rows::{BlobKeeper, Extent, Tables};
 use osm_value::{Element, Form, Info, Node};
 use osm_write::encode_block;
 use pbf_frame::{Kind, write_frame};
@@ -43,7 +43,7 @@ struct Batch {
 
 impl Batch {
     /// Delivers both, and says what was answered.
-    fn answers<K: Keeper>(&self, alloc: Global, store: &mut K) -> Option<Vec<Answer>> {
+    fn answers<K: BlobKeeper>(&self, alloc: Global, store: &mut K) -> Option<Vec<Answer>> {
         let frames = [HEADER_AT_0, (47, self.frame.as_slice())];
         let deliveries = deliveries_of(alloc, &frames).ok()?;
         deliver_all(alloc, store, &deliveries).ok()
@@ -51,7 +51,7 @@ impl Batch {
 }
 
 impl Source for Batch {
-    fn fill<K: Keeper>(&mut self, alloc: Global, store: &mut K) -> Option<Reached> {
+    fn fill<K: BlobKeeper>(&mut self, alloc: Global, store: &mut K) -> Option<Reached> {
         match self.answers(alloc, store)?.as_slice() {
             [Answer::Fault(_), Answer::Fault(_)] => Some(Reached::Store),
             [Answer::Stored(0), Answer::Fault(_)] => Some(Reached::Header),
@@ -86,7 +86,12 @@ impl Source for Batch {
         )
     }
 
-    fn goes_on<K: Keeper>(&mut self, alloc: Global, store: &mut K, held: Reached) -> Option<bool> {
+    fn goes_on<K: BlobKeeper>(
+        &mut self,
+        alloc: Global,
+        store: &mut K,
+        held: Reached,
+    ) -> Option<bool> {
         let wanted = match held {
             Reached::All => [Answer::AlreadyHeld; 2],
             Reached::Header => [Answer::AlreadyHeld, Answer::Stored(80)],

@@ -5,7 +5,7 @@ use super::{
     copies, new_files, session,
 };
 use osm_openings::open_checked_tables;
-use osm_rows::{Reader, Tables};
+use osm_rows::{BlobReader, Tables};
 use osm_trees::TreeStore;
 use sqlite::{Alter, Files};
 use sqlite_disk::Disk;

@@ -3,7 +3,7 @@
 
 use super::{Reached, Source, below, extents_of, has_rows_of, imports};
 use osm_import::{CopyCounts, CopyFault, CopyStop, copy_held};
-use osm_rows::{Extent, Keeper, StoreFault, Tables};
+use osm_rows::{BlobKeeper, Extent, StoreFault, Tables};
 use sqlite::{Alter, Connection};
 use std::alloc::Global;
 use std::test::*;
@@ -35,7 +35,7 @@ fn counts_behind(held: Reached) -> CopyCounts {
 
 /// What an older store holds, copied.
 impl Source for BodiesInMemory {
-    fn fill<K: Keeper>(&mut self, alloc: Global, store: &mut K) -> Option<Reached> {
+    fn fill<K: BlobKeeper>(&mut self, alloc: Global, store: &mut K) -> Option<Reached> {
         match copy_held(alloc, self, store) {
             Ok(counts) => (counts == counts_behind(Reached::Store)).then_some(Reached::All),
             Err(CopyStop { fault, off }) => {
@@ -61,7 +61,12 @@ impl Source for BodiesInMemory {
     }
 
     /// The older store holds what it held.
-    fn goes_on<K: Keeper>(&mut self, alloc: Global, store: &mut K, held: Reached) -> Option<bool> {
+    fn goes_on<K: BlobKeeper>(
+        &mut self,
+        alloc: Global,
+        store: &mut K,
+        held: Reached,
+    ) -> Option<bool> {
         let outcome = copy_held(alloc, self, store);
         Some(
             outcome == Ok(counts_behind(held))

@@ -9,8 +9,8 @@ use Rattle.osm_import.proofs.copy.copy_blobs.Given as goal
 
 abbrev pub invariant-loop-extent : goal.invariant-loop-extent
 invariant-loop-extent g l =
-    let F = g.F.Reader in
-    let T = g.T.Reader in
+    let F = g.F.BlobReader in
+    let T = g.T.BlobReader in
     record {
       counts : l.copied + l.held ≡ l.extent-index;
       from_honest : F.is_honest l.from → F.is_honest l.fn.from;

@@ -7,5 +7,5 @@ abbrev pub invariant-loop-delivery : goal.invariant-loop-delivery
 invariant-loop-delivery g l = record {
   room : length l.deliveries ≤ vec_capacity l.answers;
   count : vec_len l.answers ≡ l.delivery-index;
-  each : TakesEach g.K.Reader l.fn.keeper l.keeper (take l.delivery-index l.deliveries) l.answers.items;
+  each : TakesEach g.K.BlobReader l.fn.keeper l.keeper (take l.delivery-index l.deliveries) l.answers.items;
 }

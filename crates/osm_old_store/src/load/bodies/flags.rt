@@ -1,15 +1,14 @@
 //! Whether any held element has a flag of visibility.
 
-ghost use Rattle.std.specs.Prelude.{◌≡◌, Some, IsTrue, MatchResult};
+ghost use Rattle.std.specs.Prelude.{◌≡◌, Some};
 ghost use Rattle.std.specs.FinMap.{get};
 ghost use Rattle.std.specs.List.{list_any};
-ghost use Rattle.sqlite.specs.State.{HasCleanDisk};
 ghost use Rattle.sqlite.specs.Held.{state};
 ghost use Rattle.osm_sql_store.specs.Load.Asking.{JustAsks};
+ghost use Rattle.osm_sql_store.specs.Load.Telling.{TellsOf};
 ghost use Rattle.osm_rows.specs.Flags.{has_flag, has_flags};
 ghost use Rattle.osm_rows.specs.Held.{Blob, HeldMap};
-ghost use Rattle.osm_rows.specs.LayoutHolding.{Holds};
-ghost use Rattle.osm_rows.specs.Keeping.{IsForeign, extents_of};
+ghost use Rattle.osm_rows.specs.Keeping.{extents_of};
 
 use crate::load::bodies::load_bodies;
 use osm_rows::{Extent, Layout, StoreFault};
@@ -36,8 +35,7 @@ fn any_flag_at<S: Alter>(
     connection: &mut Connection<S>,
     off: u64,
 ) -> Result<bool, StoreFault>
-    ensures held { HasCleanDisk (state S.Store connection.new) → (held : HeldMap) (blob : Blob) → Holds Layout.Bodies (state S.Store connection.old) held → get held off ≡ Some blob
-        → MatchResult result (λ found. (found ≡ list_any has_flag blob.elements) × IsTrue (state S.Store connection.new).is_open) (λ fault. ¬ (IsForeign fault)) }
+    ensures held { (held : HeldMap) (blob : Blob) → get held off ≡ Some blob → TellsOf Layout.Bodies held (state S.Store connection.old) result (state S.Store connection.new) (λ found. found ≡ list_any has_flag blob.elements) }
     ensures asks { JustAsks (state S.Store connection.old) (state S.Store connection.new) }
 {
     let loaded = load_bodies(alloc, connection, off)?;
@@ -53,8 +51,7 @@ fn any_flag_among<S: Alter>(
     connection: &mut Connection<S>,
     extents: &[Extent],
 ) -> Result<bool, StoreFault>
-    ensures held { HasCleanDisk (state S.Store connection.new) → (held : HeldMap) → Holds Layout.Bodies (state S.Store connection.old) held → extents.now ≡ extents_of held
-        → MatchResult result (λ found. (found ≡ has_flags held) × IsTrue (state S.Store connection.new).is_open) (λ fault. ¬ (IsForeign fault)) }
+    ensures held { (held : HeldMap) → extents.now ≡ extents_of held → TellsOf Layout.Bodies held (state S.Store connection.old) result (state S.Store connection.new) (λ found. found ≡ has_flags held) }
     ensures asks { JustAsks (state S.Store connection.old) (state S.Store connection.new) }
 {
     for extent in extents {
@@ -71,8 +68,7 @@ pub(crate) fn any_flag_in_bodies<S: Alter>(
     alloc: Global,
     connection: &mut Connection<S>,
 ) -> Result<bool, StoreFault>
-    ensures held { HasCleanDisk (state S.Store connection.new) → (held : HeldMap) → Holds Layout.Bodies (state S.Store connection.old) held
-        → MatchResult result (λ found. (found ≡ has_flags held) × IsTrue (state S.Store connection.new).is_open) (λ fault. ¬ (IsForeign fault)) }
+    ensures held { (held : HeldMap) → TellsOf Layout.Bodies held (state S.Store connection.old) result (state S.Store connection.new) (λ found. found ≡ has_flags held) }
     ensures asks { JustAsks (state S.Store connection.old) (state S.Store connection.new) }
 {
     let extents = all_extents(alloc, connection)?;

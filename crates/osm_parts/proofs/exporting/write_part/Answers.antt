@@ -19,7 +19,7 @@ returns-clause-wrote g c = λ maps asked run holds honest is.
     let both = c.close.ensures.honest honest in
     let it = c.in_ok-store.ensures.lent maps holds both.0 (c.write_blobs-answer.ensures.rereads.stays.honest both.1) in
     let same = same-held maps c.args.part.now.place it.held is.store it.at is.at in
-    c.write_blobs-answer.ensures.wrote is.store run (subst (λ (m : HeldMap). g.K.Reader.holds c.in_ok-store.store m) same it.store) both.1 is.within (c.deref.ensures.value ∙ is.extents)
+    c.write_blobs-answer.ensures.wrote is.store run (subst (λ (m : HeldMap). g.K.BlobReader.holds c.in_ok-store.store m) same it.store) both.1 is.within (c.deref.ensures.value ∙ is.extents)
 
 pub returns-clause-cause : goal.returns-clause-cause
 returns-clause-cause g c =

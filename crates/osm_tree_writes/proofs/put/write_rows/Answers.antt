@@ -4,7 +4,7 @@ use Rattle.sqlite_schema.specs.declared.schema.Index.{Index}
 use Rattle.sqlite_trees.specs.View.{IsClean}
 use Rattle.osm_rows.specs.Rows.{placed}
 use Rattle.osm_tree_writes.specs.Appending.{AreBehind, AreIndexesAt, IsStoreAt}
-use Rattle.osm_tree_writes.specs.Putting.{Writes, WritesElements}
+use Rattle.osm_tree_writes.specs.Putting.{WritesUncommitted, WritesElements}
 use Rattle.osm_tree_writes.proofs.Writing.{rise_behind, written, written_after}
 use Rattle.osm_tree_writes.proofs.put.write_rows.Goals as goal
 
@@ -40,8 +40,8 @@ returns-clause-written g c =
     let clean_before : IsClean before = omega (arith, clean_0, c.are_places_free.ensures.harmless.quiet.clean) in
     let shape : v0.shape ≡ before.shape = c.are_places_free.ensures.harmless.schema.shape in
     let elements : WritesElements more v1 v2 ps = subst (λ (m : List Index). WritesElements m v1 v2 ps) c.as_slice.ensures.value (done clean) in
-    let wrote : Writes more before v2 extent ps =
+    let wrote : WritesUncommitted more before v2 extent ps =
     written_after more before v0 v2 extent ps (c.in_ok-are_free.ensures.reads clean_0)
     (written more behind v0 v1 v2 extent ps (c.in_ok-put_extent.ensures.ok clean_1) elements (subst IsStoreAt (sym shape) shaped.0) (λ up. g.met.S.Store.ordered c.append_elements.new.store up)) in
-    subst (λ (m : List Index). Writes m before v2 extent ps) (all clean_before).1 wrote)
+    subst (λ (m : List Index). WritesUncommitted m before v2 extent ps) (all clean_before).1 wrote)
     c.append_elements.ensures.written

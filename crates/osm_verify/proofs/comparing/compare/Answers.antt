@@ -12,20 +12,20 @@ use Rattle.osm_verify.proofs.comparing.compare.Goals as goal
 
 pub returns-in-None-clause-compared : goal.returns-in-None-clause-compared
 returns-in-None-clause-compared g c = λ held holds honest.
-    missing-at held c.args.off c.args.bytes.now c.args.good.now.kind c.args.good.now.elements.items c.in_ok-touched.touched.items c.requires (g.met.K.Reader.is_apart _ held holds)
+    missing-at held c.args.off c.args.bytes.now c.args.good.now.kind c.args.good.now.elements.items c.in_ok-touched.touched.items c.requires (g.met.K.BlobReader.is_apart _ held holds)
     (c.in_ok-touched.ensures.touching held holds honest)
     (λ extent here. (let bad : None ≡ Some extent = c.in-None.ensures ∙ ap (find (λ (e : Extent). e.off == c.args.off)) c.deref.ensures.value ∙ here in cc))
 
 pub returns-then-not-is_extent_of-clause-compared : goal.returns-then-not-is_extent_of-clause-compared
 returns-then-not-is_extent_of-clause-compared g c = λ held holds honest.
-    let at = held-at held c.args.off c.args.bytes.now c.args.good.now.kind c.args.good.now.elements.items c.in_ok-touched.touched.items c.in-Some.found c.requires (g.met.K.Reader.is_apart _ held holds)
+    let at = held-at held c.args.off c.args.bytes.now c.args.good.now.kind c.args.good.now.elements.items c.in_ok-touched.touched.items c.in-Some.found c.requires (g.met.K.BlobReader.is_apart _ held holds)
     (c.in_ok-touched.ensures.touching held holds honest) (c.in-Some.ensures ∙ ap (find (λ (e : Extent). e.off == c.args.off)) c.deref.ensures.value) in
     let test : c.is_extent_of.result ≡ false = search rules in
     other-extent c.args.depth held c.args.off c.args.bytes.now c.args.good.now.kind c.args.good.now.elements.items c.in-Some.found c.requires at (told-false c.is_extent_of.result _ test c.is_extent_of.ensures)
 
 pub returns-then-eq-clause-compared : goal.returns-then-eq-clause-compared
 returns-then-eq-clause-compared g c = λ held holds honest.
-    let at = held-at held c.args.off c.args.bytes.now c.args.good.now.kind c.args.good.now.elements.items c.in_ok-touched.touched.items c.in-Some.found c.requires (g.met.K.Reader.is_apart _ held holds)
+    let at = held-at held c.args.off c.args.bytes.now c.args.good.now.kind c.args.good.now.elements.items c.in_ok-touched.touched.items c.in-Some.found c.requires (g.met.K.BlobReader.is_apart _ held holds)
     (c.in_ok-touched.ensures.touching held holds honest) (c.in-Some.ensures ∙ ap (find (λ (e : Extent). e.off == c.args.off)) c.deref.ensures.value) in
     let test : c.is_extent_of.result ≡ true = search rules in
     let shallow : c.args.depth ≡ Extents = search rules in
@@ -43,7 +43,7 @@ pub returns-clause-compared : goal.returns-clause-compared
 returns-clause-compared g c = λ held holds honest.
     let asked = c.in_ok-has_frame.ensures in
     let earlier = asked.rereads.stays.honest honest in
-    let at = held-at held c.args.off c.args.bytes.now c.args.good.now.kind c.args.good.now.elements.items c.in_ok-touched.touched.items c.in-Some.found c.requires (g.met.K.Reader.is_apart _ held holds)
+    let at = held-at held c.args.off c.args.bytes.now c.args.good.now.kind c.args.good.now.elements.items c.in_ok-touched.touched.items c.in-Some.found c.requires (g.met.K.BlobReader.is_apart _ held holds)
     (c.in_ok-touched.ensures.touching held holds earlier) (c.in-Some.ensures ∙ ap (find (λ (e : Extent). e.off == c.args.off)) c.deref.ensures.value) in
     let deep : c.args.depth ≢ Extents = search rules in
     let told = asked.held held (c.in_ok-touched.ensures.reads.ok earlier held holds) honest in
@@ -75,9 +75,9 @@ returns-clause-rows g c = λ honest up tables deep same. absurd (cc)
 pub returns-then-branch-clause-same : goal.returns-then-branch-clause-same
 returns-then-branch-clause-same g c = λ honest up.
     let asked = c.in_ok-has_frame.ensures in
-    g.met.K.Reader.same_tables_then _ _ _ (c.in_ok-touched.ensures.reads.same (asked.rereads.stays.honest honest) (asked.rereads.stays.open_if up)) (asked.same honest up)
+    g.met.K.BlobReader.same_tables_then _ _ _ (c.in_ok-touched.ensures.reads.same (asked.rereads.stays.honest honest) (asked.rereads.stays.open_if up)) (asked.same honest up)
 
 pub returns-clause-same : goal.returns-clause-same
 returns-clause-same g c = λ honest up.
     let asked = c.in_ok-has_frame.ensures in
-    g.met.K.Reader.same_tables_then _ _ _ (c.in_ok-touched.ensures.reads.same (asked.rereads.stays.honest honest) (asked.rereads.stays.open_if up)) (asked.same honest up)
+    g.met.K.BlobReader.same_tables_then _ _ _ (c.in_ok-touched.ensures.reads.same (asked.rereads.stays.honest honest) (asked.rereads.stays.open_if up)) (asked.same honest up)

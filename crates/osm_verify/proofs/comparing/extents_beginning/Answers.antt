@@ -12,4 +12,4 @@ returns-then-from-to-clause-all g c = λ held holds honest.
 pub returns-clause-all : goal.returns-clause-all
 returns-clause-all g c = λ held holds honest.
     c.in_ok-beginning.ensures ∙ ap (filter (λ (e : Extent). nat_le c.args.from e.off)) c.deref.ensures.value
-    ∙ beginning-are held c.args.from c.args.to c.in_ok-touched.touched.items (g.met.K.Reader.is_apart _ held holds) (c.in_ok-touched.ensures.touching held holds honest)
+    ∙ beginning-are held c.args.from c.args.to c.in_ok-touched.touched.items (g.met.K.BlobReader.is_apart _ held holds) (c.in_ok-touched.ensures.touching held holds honest)

@@ -8,7 +8,7 @@ use Rattle.osm_verify.proofs.part_audit.audit_extent.Goals as goal
 
 pub returns-in_err-bytes-clause-cause : goal.returns-in_err-bytes-clause-cause
 returns-in_err-bytes-clause-cause g c =
-    let now = g.K.Reader.failures c.args.store.now in
+    let now = g.K.BlobReader.failures c.args.store.now in
     if-err c.from_residual.result c.in_err-bytes.field-0.0 (AuditHasCause now now) c.from_residual.ensures.1 (c.in_err-bytes.ensures.cause now now)
 
 pub returns-in-Some-clause-found : goal.returns-in-Some-clause-found
@@ -23,7 +23,7 @@ returns-in-Some-clause-found g c = λ held holds honest.
 
 pub returns-in-Some-clause-seen : goal.returns-in-Some-clause-seen
 returns-in-Some-clause-seen g c =
-    let K = g.K.Reader in
+    let K = g.K.BlobReader in
     let A = g.K.Audited in
     let known = g.F.FileBytes.bytes c.args.file.now in
     let extent = c.args.extent.now in

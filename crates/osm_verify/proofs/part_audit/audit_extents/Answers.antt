@@ -21,7 +21,7 @@ loop-extent-init g c = record {
   crash = λ h held leaves. leaves;
   whole = λ h was. was;
   counted = omega arith;
-  same = λ honest up. g.met.K.Reader.same_tables_self _;
+  same = λ honest up. g.met.K.BlobReader.same_tables_self _;
   bytes = refl;
   found = λ held holds honest. c.new-findings.ensures.items;
   held_rows = λ held holds honest are deep none. c.requires.none;
@@ -30,7 +30,7 @@ loop-extent-init g c = record {
 
 pub loop-extent-preserved : goal.loop-extent-preserved
 loop-extent-preserved g c =
-    let K = g.K.Reader in
+    let K = g.K.BlobReader in
     let A = g.K.Audited in
     let F = g.F.FileBytes in
     let inv = c.loop-extent.invariant in
@@ -50,7 +50,7 @@ loop-extent-preserved g c =
       crash = λ h held leaves. inv.crash (stays.honest h) held (stays.crash h held leaves);
       whole = λ h was. stays.whole h (inv.whole (stays.honest h) was);
       counted = omega (arith, inv.counted, made.reads.counted);
-      same = λ honest up. g.met.K.Reader.same_tables_then _ _ _ (inv.same (stays.honest honest) (stays.open_if up)) (made.reads.same honest up);
+      same = λ honest up. g.met.K.BlobReader.same_tables_then _ _ _ (inv.same (stays.honest honest) (stays.open_if up)) (made.reads.same honest up);
       bytes = made.kept ∙ inv.bytes;
       found = λ held holds honest.
           let earlier = stays.honest honest in

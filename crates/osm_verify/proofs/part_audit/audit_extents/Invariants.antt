@@ -9,7 +9,7 @@ use Rattle.osm_verify.proofs.part_audit.audit_extents.Given as goal
 
 abbrev pub invariant-loop-extent : goal.invariant-loop-extent
 invariant-loop-extent g l =
-    let K = g.K.Reader in
+    let K = g.K.BlobReader in
     let A = g.K.Audited in
     let F = g.F.FileBytes in
     record {

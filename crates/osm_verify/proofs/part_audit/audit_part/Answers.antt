@@ -19,7 +19,7 @@ returns-clause-audited g c = λ held holds honest.
     let second = c.in_ok-refuse_other_rows.ensures.rereads.stays.honest honest in
     let early = middle.reads.rereads.stays.honest second in
     record {
-      apart = g.met.K.Reader.is_apart c.args.store.now held holds;
+      apart = g.met.K.BlobReader.is_apart c.args.store.now held holds;
       extents = first.all held holds early;
       found = subst (λ (es : List Extent). AreJudged c.args.depth held (g.F.FileBytes.bytes c.args.file.now) es c.in_ok-findings.findings.items) (c.deref.ensures.value ∙ first.all held holds early)
           (middle.found held (first.reads.ok early held holds) second);
@@ -60,8 +60,8 @@ pub returns-in_err-extents-clause-fault : goal.returns-in_err-extents-clause-fau
 returns-in_err-extents-clause-fault g c = λ held holds honest.
     let failed = c.in_err-extents.ensures.reads in
     let fault = c.in_err-extents.field-0.0 in
-    let old = g.K.Reader.failures c.args.store.now in
-    let now = g.K.Reader.failures c.extents.new.self in
+    let old = g.K.BlobReader.failures c.args.store.now in
+    let now = g.K.BlobReader.failures c.extents.new.self in
     if-err c.from_residual.result (Parts (Store fault)) (IsOwnFault old now) c.from_residual.ensures.1
     (record { own = failed.own held holds honest; cause = failed-call old now fault failed.counted })
 
@@ -71,9 +71,9 @@ returns-in_err-findings-clause-fault g c = λ held holds honest.
     let failed = c.in_err-findings.ensures in
     let fault = c.in_err-findings.field-0.0 in
     let early = failed.reads.rereads.stays.honest honest in
-    let old = g.K.Reader.failures c.args.store.now in
-    let middle = g.K.Reader.failures c.extents.new.self in
-    let now = g.K.Reader.failures c.audit_extents.new.store in
+    let old = g.K.BlobReader.failures c.args.store.now in
+    let middle = g.K.BlobReader.failures c.extents.new.self in
+    let now = g.K.BlobReader.failures c.audit_extents.new.store in
     if-err c.from_residual-in_err-findings.result fault (IsOwnFault old now) c.from_residual-in_err-findings.ensures.1
     (record { own = failed.own held (first.reads.ok early held holds) honest; cause = audit-later old middle now fault (omega (arith, first.reads.counted)) failed.cause })
 
@@ -89,9 +89,9 @@ returns-in_err-refuse_other_rows-clause-fault g c = λ held holds honest.
     let again = middle.reads.rereads.ok second held still in
     let rows_are : c.deref-2.result.now ≡ [] → c.args.depth ≡ Elements → c.audit_extents.new.rows ≡ counts_of (elements_held held) =
     λ none deep. (middle.seen (sym c.deref-2.ensures.value ∙ none)).held_rows held still second (c.deref.ensures.value ∙ first.all held holds early) deep in
-    let old = g.K.Reader.failures c.args.store.now in
-    let before = g.K.Reader.failures c.audit_extents.new.store in
-    let now = g.K.Reader.failures c.refuse_other_rows.new.store in
+    let old = g.K.BlobReader.failures c.args.store.now in
+    let before = g.K.BlobReader.failures c.audit_extents.new.store in
+    let now = g.K.BlobReader.failures c.refuse_other_rows.new.store in
     if-err c.from_residual-in_err-refuse_other_rows.result fault (IsOwnFault old now) c.from_residual-in_err-refuse_other_rows.ensures.1
     (record {
       own = failed.own held again honest rows_are;

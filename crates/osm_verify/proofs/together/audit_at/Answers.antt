@@ -13,7 +13,7 @@ returns-clause-audited g c = λ maps holds honest held at.
     let both = c.close.ensures.honest honest in
     let it = c.in_ok-store.ensures.lent maps holds both.0 (c.audit_part-answer.ensures.rereads.stays.honest both.1) in
     let same = same-held maps c.args.place it.held held it.at at in
-    c.audit_part-answer.ensures.audited held (subst (λ (m : HeldMap). g.K.Reader.holds c.in_ok-store.store m) same it.store) both.1
+    c.audit_part-answer.ensures.audited held (subst (λ (m : HeldMap). g.K.BlobReader.holds c.in_ok-store.store m) same it.store) both.1
 
 pub returns-in_err-store-clause-fault : goal.returns-in_err-store-clause-fault
 returns-in_err-store-clause-fault g c = λ maps holds honest.
@@ -34,7 +34,7 @@ returns-clause-opens g c =
     let O = g.O.Openings in
     let opened = c.in_ok-store.ensures in
     let closed = c.close.ensures in
-    opened-closed O.holds O.lends O.is_honest O.is_open g.K.Reader c.args.openings.now c.open.new.self c.close.new.self c.in_ok-store.store c.audit_part-answer.new.store c.args.place c.audit_part-answer.result
+    opened-closed O.holds O.lends O.is_honest O.is_open g.K.BlobReader c.args.openings.now c.open.new.self c.close.new.self c.in_ok-store.store c.audit_part-answer.new.store c.args.place c.audit_part-answer.result
     opened.lent opened.honest opened.open_if c.audit_part-answer.ensures.rereads closed.back closed.honest closed.open_if
 
 pub returns-clause-shown : goal.returns-clause-shown
@@ -42,5 +42,5 @@ returns-clause-shown g c = λ honest deep tables.
     let both = c.close.ensures.honest honest in
     let first = c.audit_part-answer.ensures.rereads.stays.honest both.1 in
     let store = c.in_ok-store.store in
-    let there = c.in_ok-store.ensures.given in
+    let there = c.in_ok-store.ensures.given.0 in
     IfOk-weaker c.audit_part-answer.result _ _ (λ audit shown none. record { store = store; there = there; shown = shown none }) (c.audit_part-answer.ensures.shown both.1 (tables store there first) deep)

@@ -11,7 +11,7 @@ abbrev pub invariant-loop-place : goal.invariant-loop-place
 invariant-loop-place g l =
     let O = g.O.Openings in
     let F = g.F.FileBytes in
-    let K = g.K.Reader in
+    let K = g.K.BlobReader in
     let A = g.K.Audited in
     record {
       honest : O.is_honest l.openings → O.is_honest l.fn.openings;

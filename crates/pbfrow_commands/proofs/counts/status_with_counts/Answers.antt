@@ -11,4 +11,4 @@ returns-in-Ok-clause-told g c = λ held holds honest.
 
 pub returns-in-Err-clause-told : goal.returns-in-Err-clause-told
 returns-in-Err-clause-told g c = λ held holds honest.
-    inr (count-fault (telling g.K.Reader.failures g.S.Sink c.args.store.now c.take_census.new.store c.args.out.now c.put_count_fault.new.out 1) c.in-Err.fault (c.in-Err.ensures.own held holds honest) c.in-Err.ensures.cause (c.put_count_fault.ensures _ [] (started _ _)) refl)
+    inr (count-fault (telling g.K.BlobReader.failures g.S.Sink c.args.store.now c.take_census.new.store c.args.out.now c.put_count_fault.new.out 1) c.in-Err.fault (c.in-Err.ensures.own held holds honest) c.in-Err.ensures.cause (c.put_count_fault.ensures _ [] (started _ _)) refl)

@@ -7,6 +7,6 @@ returns-clause-told g c = λ held holds honest.
     let all = c.in_ok-extents.ensures.all held holds earlier in
     let still = c.in_ok-extents.ensures.reads.ok earlier held holds in
     record {
-      survey = c.in_ok-holdings.ensures held (g.met.K.Reader.is_apart _ held holds) (c.deref.ensures.value ∙ all);
+      survey = c.in_ok-holdings.ensures held (g.met.K.BlobReader.is_apart _ held holds) (c.deref.ensures.value ∙ all);
       counts = c.in_ok-count_blobs.ensures.held held held still honest (λ off blob found. found) (c.deref-2.ensures.value ∙ all) [] c.none-counts.ensures;
     }

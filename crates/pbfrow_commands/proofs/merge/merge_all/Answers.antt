@@ -14,7 +14,7 @@ pub returns-in-Ok-clause-kept : goal.returns-in-Ok-clause-kept
 returns-in-Ok-clause-kept g c = λ maps held holds honest all into_holds into_honest up.
     let made = c.in-Ok.ensures.merges in
     let into = c.merge_each.new.into in
-    merges-take (g.T.Reader.is_open into) (g.T.Reader.holds into) maps held made.0 (Ok c.in-Ok.total) (made.1.merges maps held holds honest all into_holds into_honest) up
+    merges-take (g.T.BlobReader.is_open into) (g.T.BlobReader.holds into) maps held made.0 (Ok c.in-Ok.total) (made.1.merges maps held holds honest all into_holds into_honest) up
 
 pub returns-in-Ok-clause-merges : goal.returns-in-Ok-clause-merges
 returns-in-Ok-clause-merges g c =
@@ -29,7 +29,7 @@ pub returns-in-Err-clause-kept : goal.returns-in-Err-clause-kept
 returns-in-Err-clause-kept g c = λ maps held holds honest all into_holds into_honest up.
     let made = c.in-Err.ensures.merges in
     let into = c.merge_each.new.into in
-    merges-take (g.T.Reader.is_open into) (g.T.Reader.holds into) maps held made.0 (Err c.in-Err.field-0) (made.1.merges maps held holds honest all into_holds into_honest) up
+    merges-take (g.T.BlobReader.is_open into) (g.T.BlobReader.holds into) maps held made.0 (Err c.in-Err.field-0) (made.1.merges maps held holds honest all into_holds into_honest) up
 
 pub returns-in-Err-clause-merges : goal.returns-in-Err-clause-merges
 returns-in-Err-clause-merges g c =
@@ -39,7 +39,7 @@ returns-in-Err-clause-merges g c =
 
 pub returns-in-Ok-clause-stays : goal.returns-in-Ok-clause-stays
 returns-in-Ok-clause-stays g c = record {
-  still = λ held into_holds into_honest. held-still g.T.Reader c.merge_each.new.into (Ok c.in-Ok.total) held (c.in-Ok.ensures.merges.1.kept held into_holds into_honest);
+  still = λ held into_holds into_honest. held-still g.T.BlobReader c.merge_each.new.into (Ok c.in-Ok.total) held (c.in-Ok.ensures.merges.1.kept held into_holds into_honest);
   left = λ held into_holds into_honest. (c.in-Ok.ensures.merges.1.kept held into_holds into_honest).crash;
   honest = c.in-Ok.ensures.honest;
   open_if = c.in-Ok.ensures.open_if;
@@ -47,7 +47,7 @@ returns-in-Ok-clause-stays g c = record {
 
 pub returns-in-Err-clause-stays : goal.returns-in-Err-clause-stays
 returns-in-Err-clause-stays g c = record {
-  still = λ held into_holds into_honest. held-still g.T.Reader c.merge_each.new.into (Err c.in-Err.field-0) held (c.in-Err.ensures.merges.1.kept held into_holds into_honest);
+  still = λ held into_holds into_honest. held-still g.T.BlobReader c.merge_each.new.into (Err c.in-Err.field-0) held (c.in-Err.ensures.merges.1.kept held into_holds into_honest);
   left = λ held into_holds into_honest. (c.in-Err.ensures.merges.1.kept held into_holds into_honest).crash;
   honest = c.in-Err.ensures.honest;
   open_if = c.in-Err.ensures.open_if;

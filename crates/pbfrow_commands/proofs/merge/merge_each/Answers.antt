@@ -56,7 +56,7 @@ loop-place-preserved g c =
       open_if = λ o. inv.open_if (made.open_if o);
       copied = (
         so_far ++ more ∷ [],
-        c.added-total.ensures so_far inv.copied.1,
+        c.sum_of-total.ensures so_far inv.copied.1,
         (λ start before h. line-more start before so_far more _ _ (made.line start _ (inv.copied.2 start before h))),
         (λ maps held holds honest all into_holds into_honest.
             let earlier = made.opens.keeps.honest honest in
@@ -76,7 +76,7 @@ pub returns-clause-merges : goal.returns-clause-merges
 returns-clause-merges g c =
     let inv = c.loop-place.invariant in
     let counts = inv.copied.0 in
-    let T = g.T.Reader in
+    let T = g.T.BlobReader in
     let into = c.loop-place.into in (
       counts,
       record {
@@ -86,19 +86,19 @@ returns-clause-merges g c =
         crash = λ maps held holds honest all into_holds into_honest left may.
             let it = inv.copied.3 maps held holds honest all into_holds into_honest in
             let copied = subst (λ (l : List HeldMap). AreCopied l counts held it.0) (take_all c.loop-place.place maps (omega (arith, all, c.loop-place-test.false))) it.1 in
-            subst (λ (h : HeldMap). IsFrontUnited maps held h) (sym (g.met.T.Reader.settled _ it.0 left it.2 may)) (copied-front maps counts held it.0 copied);
+            subst (λ (h : HeldMap). IsFrontUnited maps held h) (sym (g.met.T.BlobReader.settled _ it.0 left it.2 may)) (copied-front maps counts held it.0 copied);
         all = λ maps held holds honest all into_holds into_honest left may.
             let it = inv.copied.3 maps held holds honest all into_holds into_honest in
             let copied = subst (λ (l : List HeldMap). AreCopied l counts held it.0) (take_all c.loop-place.place maps (omega (arith, all, c.loop-place-test.false))) it.1 in
-            subst (λ (h : HeldMap). AreUnited maps held h) (sym (g.met.T.Reader.settled _ it.0 left it.2 may)) (copied-united maps counts held it.0 copied);
+            subst (λ (h : HeldMap). AreUnited maps held h) (sym (g.met.T.BlobReader.settled _ it.0 left it.2 may)) (copied-united maps counts held it.0 copied);
         kept = λ held into_holds into_honest.
             let now = inv.kept held into_holds into_honest in
             record {
               ok = now;
               err = tt;
-              crash = λ left may. subst (Keeps held) (sym (g.met.T.Reader.settled _ now.0 left now.2 may)) now.1;
+              crash = λ left may. subst (Keeps held) (sym (g.met.T.BlobReader.settled _ now.0 left now.2 may)) now.1;
             };
-        whole = λ held into_holds into_honest. (let now = inv.kept held into_holds into_honest in g.met.T.Reader.leaves_held _ now.0 now.2);
+        whole = λ held into_holds into_honest. (let now = inv.kept held into_holds into_honest in g.met.T.BlobReader.leaves_held _ now.0 now.2);
         list = inv.list;
         own = λ maps held holds honest all into_holds into_honest. tt;
         cause = tt;
@@ -111,7 +111,7 @@ pub returns-in_err-counts-clause-merges : goal.returns-in_err-counts-clause-merg
 returns-in_err-counts-clause-merges g c =
     let O = g.O.Openings in
     let S = g.S.Sink in
-    let T = g.T.Reader in
+    let T = g.T.BlobReader in
     let inv = c.loop-place.invariant in
     let made = c.in_err-counts.ensures in
     let counts = inv.copied.0 in

@@ -13,7 +13,7 @@ abbrev pub invariant-loop-place : goal.invariant-loop-place
 invariant-loop-place g l =
     let O = g.O.Openings in
     let S = g.S.Sink in
-    let T = g.T.Reader in
+    let T = g.T.BlobReader in
     record {
       from_honest : O.is_honest l.openings → O.is_honest l.fn.openings;
       from_open_if : O.is_open l.openings → O.is_open l.fn.openings;

@@ -15,7 +15,7 @@ pub returns-clause-source : goal.returns-clause-source
 returns-clause-source g c = c.copy_held-outcome.ensures.source.stays
 
 pub returns-clause-stays : goal.returns-clause-stays
-returns-clause-stays g c = λ held holds honest. held-still g.T.Reader c.copy_held-outcome.new.to c.copy_held-outcome.result held (c.copy_held-outcome.ensures.kept held holds honest)
+returns-clause-stays g c = λ held holds honest. held-still g.T.BlobReader c.copy_held-outcome.new.to c.copy_held-outcome.result held (c.copy_held-outcome.ensures.kept held holds honest)
 
 pub returns-clause-left : goal.returns-clause-left
 returns-clause-left g c = λ held holds honest. (c.copy_held-outcome.ensures.kept held holds honest).crash

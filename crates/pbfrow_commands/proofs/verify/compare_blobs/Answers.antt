@@ -26,7 +26,7 @@ loop-frames-init g c =
       end = sym here;
       limit = omega arith;
       going = λ held holds honest. ([], going-none (HasCompared c.args.depth held) compared_lines left (g.W.Write.contents c.args.out.now.writer) c.in-Ok.frames c.args.out.now.has_failed here same, c.requires, refl);
-      same = λ honest up. g.met.K.Reader.same_tables_self _;
+      same = λ honest up. g.met.K.BlobReader.same_tables_self _;
       reads = ([], reads-none _ _ _ left _ _ _ here same c.requires refl);
     }
 
@@ -64,9 +64,9 @@ loop-frames-preserved g c =
             told.1.counted blobs before.2,
             rows-push blobs p _ _ told.1.rows before.3,
           );
-      same = λ honest up. g.met.K.Reader.same_tables_then _ _ _ (inv.same (stays.honest honest) (stays.open_if up)) (ok.reads.same honest up);
+      same = λ honest up. g.met.K.BlobReader.same_tables_then _ _ _ (inv.same (stays.honest honest) (stays.open_if up)) (ok.reads.same honest up);
       reads =
-          let K = g.K.Reader in
+          let K = g.K.BlobReader in
           let A = g.K.Audited in
           let fine = c.in-Ok-flush_to_wait.ensures in
           let first = c.args.store.now in
@@ -95,8 +95,8 @@ returns-in-Err-compare_blob-clause-told g c = λ held holds honest.
     let blobs = before.0 in
     let so_far = going-on (HasCompared c.args.depth held) compared_lines _ _ _ _ _ (g.W.Write.contents c.flush_to_wait.new.out.writer) _ c.flush_to_wait.new.out.has_failed _ fine.frames fine.ok.0 fine.kept before.1 in
     let gives : GivesFrame c.flush_to_wait.new.frames c.next.follows.lender-at-none c.in-Ok-Some.at c.in-Ok-Some.bytes.now = rw (c.in-Ok-Some.is, c.in-Ok-Some.field-0-is) at c.next.follows.holds-at-none in
-    let first = g.K.Reader.failures c.args.store.now in
-    let last = g.K.Reader.failures c.compare_blob.new.store in
+    let first = g.K.BlobReader.failures c.args.store.now in
+    let last = g.K.BlobReader.failures c.compare_blob.new.store in
     let fault = c.in-Err-compare_blob.fault in
     let broken : IsBroken first last fault = record {
       cause = cause-later first _ last fault c.loop-frames.invariant.counted failed.reads.cause;
@@ -119,8 +119,8 @@ returns-in-Ok-None-clause-told g c = λ held holds honest.
     let ends : ReadsFrame c.flush_to_wait.new.frames c.next.follows.lender-at-none (Ok None) = rw (c.in-Ok-None.is, c.in-Ok-None.field-0-is) at c.next.follows.holds-at-none in
     let here : c.loop-frames.end ≡ c.flush_to_wait.new.frames.offset = c.loop-frames.invariant.end ∙ sym (ap (λ (r : Reading). r.offset) fine.frames) in
     let kept = c.loop-frames.invariant.kept earlier held holds in
-    let rows = rows-held c.args.depth held blobs c.loop-frames.end _ _ (g.met.K.Reader.is_apart _ held kept) before.1.found (here ∙ so_far.stands) before.2 before.3 in
-    let closing = closing-later held c.loop-frames.end (g.K.Reader.failures c.args.store.now) _ _ c.close_whole.result c.loop-frames.invariant.counted (c.close_whole.ensures.extras held kept honest rows) in (
+    let rows = rows-held c.args.depth held blobs c.loop-frames.end _ _ (g.met.K.BlobReader.is_apart _ held kept) before.1.found (here ∙ so_far.stands) before.2 before.3 in
+    let closing = closing-later held c.loop-frames.end (g.K.BlobReader.failures c.args.store.now) _ _ c.close_whole.result c.loop-frames.invariant.counted (c.close_whole.ensures.extras held kept honest rows) in (
       blobs,
       closes-whole c.args.depth held _ _ _ _ _ _ _ blobs c.loop-frames.end c.close_whole.result so_far ends.0 here closing,
       before.2,
@@ -139,7 +139,7 @@ returns-in-Err-next-clause-told g c = λ held holds honest.
 
 pub returns-in-Ok-None-clause-seen : goal.returns-in-Ok-None-clause-seen
 returns-in-Ok-None-clause-seen g c = λ honest tables.
-    let K = g.K.Reader in
+    let K = g.K.BlobReader in
     let A = g.K.Audited in
     let stays = c.close_whole.ensures.stays in
     let inv = c.loop-frames.invariant in

@@ -8,7 +8,7 @@ use Rattle.pbfrow_commands.proofs.verify.compare_blobs.Given as goal
 
 abbrev pub invariant-loop-frames : goal.invariant-loop-frames
 invariant-loop-frames g l =
-    let K = g.K.Reader in
+    let K = g.K.BlobReader in
     let A = g.K.Audited in
     record {
       honest : K.is_honest l.store → K.is_honest l.fn.store;

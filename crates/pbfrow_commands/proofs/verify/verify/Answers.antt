@@ -11,7 +11,7 @@ returns-clause-verified g c = λ held holds honest.
 
 pub returns-clause-exact : goal.returns-clause-exact
 returns-clause-exact g c = λ held holds honest zero.
-    exact-at-zero c.args.depth held _ _ _ _ _ _ _ (g.met.K.Reader.is_apart _ held holds) (returns-clause-verified g c held holds honest) zero
+    exact-at-zero c.args.depth held _ _ _ _ _ _ _ (g.met.K.BlobReader.is_apart _ held holds) (returns-clause-verified g c held holds honest) zero
 
 pub returns-clause-shown : goal.returns-clause-shown
 returns-clause-shown g c = λ honest tables deep zero.

@@ -52,8 +52,8 @@ returns-in_err-count_blob-clause-own g c = λ held run holds honest within are.
 
 pub returns-in_err-count_blob-clause-told : goal.returns-in_err-count_blob-clause-told
 returns-in_err-count_blob-clause-told g c =
-    let now = g.K.Reader.failures c.count_blob.new.keeper in
-    subst (λ (r : Result (Unit {0}) CountFault). CountTells (g.K.Reader.failures c.args.keeper.now) now r) (sym (handed c.from_residual.result _ c.from_residual.ensures.1))
+    let now = g.K.BlobReader.failures c.count_blob.new.keeper in
+    subst (λ (r : Result (Unit {0}) CountFault). CountTells (g.K.BlobReader.failures c.args.keeper.now) now r) (sym (handed c.from_residual.result _ c.from_residual.ensures.1))
     (subst (λ (before : ℕ). CountTells before now (Err c.in_err-count_blob.field-0.0)) c.loop-extent.invariant.told c.in_err-count_blob.ensures.told)
 
 pub returns-clause-held : goal.returns-clause-held

@@ -10,7 +10,7 @@ use Rattle.pbfrow_counts.proofs.blobs.count_blobs.Given as goal
 
 abbrev pub invariant-loop-extent : goal.invariant-loop-extent
 invariant-loop-extent g l =
-    let K = g.K.Reader in
+    let K = g.K.BlobReader in
     record {
       honest : K.is_honest l.keeper → K.is_honest l.fn.keeper;
       open_if : K.is_open l.keeper → K.is_open l.fn.keeper;

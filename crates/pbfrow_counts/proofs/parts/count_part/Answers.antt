@@ -9,14 +9,14 @@ returns-clause-held g c = λ maps asked run holds honest is.
     let both = c.close.ensures.honest honest in
     let it = c.in_ok-store.ensures.lent maps holds both.0 (c.count_blobs-answer.ensures.rereads.stays.honest both.1) in
     let same = same-held maps c.args.part.now.place it.held is.store it.at is.at in
-    c.count_blobs-answer.ensures.held is.store run (subst (λ (m : HeldMap). g.K.Reader.holds c.in_ok-store.store m) same it.store) both.1 is.within (c.deref.ensures.value ∙ is.extents)
+    c.count_blobs-answer.ensures.held is.store run (subst (λ (m : HeldMap). g.K.BlobReader.holds c.in_ok-store.store m) same it.store) both.1 is.within (c.deref.ensures.value ∙ is.extents)
 
 pub returns-clause-own : goal.returns-clause-own
 returns-clause-own g c = λ maps asked run holds honest is.
     let both = c.close.ensures.honest honest in
     let it = c.in_ok-store.ensures.lent maps holds both.0 (c.count_blobs-answer.ensures.rereads.stays.honest both.1) in
     let same = same-held maps c.args.part.now.place it.held is.store it.at is.at in
-    c.count_blobs-answer.ensures.own is.store run (subst (λ (m : HeldMap). g.K.Reader.holds c.in_ok-store.store m) same it.store) both.1 is.within (c.deref.ensures.value ∙ is.extents)
+    c.count_blobs-answer.ensures.own is.store run (subst (λ (m : HeldMap). g.K.BlobReader.holds c.in_ok-store.store m) same it.store) both.1 is.within (c.deref.ensures.value ∙ is.extents)
 
 pub returns-clause-cause : goal.returns-clause-cause
 returns-clause-cause g c =

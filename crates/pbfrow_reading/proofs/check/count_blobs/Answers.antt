@@ -51,7 +51,7 @@ returns-in-Err-count_blob g c =
     let gives : GivesFrame c.flush_to_wait.new.frames c.next.follows.lender-at-none c.in-Ok-Some.at c.in-Ok-Some.bytes.now = rw (c.in-Ok-Some.is, c.in-Ok-Some.field-0-is) at c.next.follows.holds-at-none in
     let same = c.in-Err-count_blob.ensures.err in (
       frames,
-      subst (λ o. TellsFrames HasVerdict checked_line (g.R.Read.remaining c.args.input.now) (g.W.Write.contents c.args.out.now.writer) (g.W.Write.contents o.writer) o.has_failed frames c.refused.result) (sym same.0)
-          (tells-refused HasVerdict checked_line _ _ _ c.in-Ok-Some.at c.in-Ok-Some.bytes.now _ _ _ frames c.refused.result so_far gives c.refused.ensures),
+      subst (λ o. TellsFrames HasVerdict checked_line (g.R.Read.remaining c.args.input.now) (g.W.Write.contents c.args.out.now.writer) (g.W.Write.contents o.writer) o.has_failed frames c.without_memory.result) (sym same.0)
+          (tells-refused HasVerdict checked_line _ _ _ c.in-Ok-Some.at c.in-Ok-Some.bytes.now _ _ _ frames c.without_memory.result so_far gives c.without_memory.ensures),
       same.1 ∙ c.loop-frames.invariant.2,
     )

@@ -54,7 +54,7 @@ returns-in-Err-show_blob g c =
     let written = g.W.Write.contents c.show_blob.new.out.writer in (
       frames,
       Some begun.0,
-      subst (λ (e : Ending). ShowsBlobs (g.R.Read.remaining c.args.input.now) (g.W.Write.contents c.args.out.now.writer) written c.show_blob.new.out.has_failed frames (Some begun.0) e) (sym c.refused.ensures)
+      subst (λ (e : Ending). ShowsBlobs (g.R.Read.remaining c.args.input.now) (g.W.Write.contents c.args.out.now.writer) written c.show_blob.new.out.has_failed frames (Some begun.0) e) (sym c.without_memory.ensures)
           (shows-refused _ _ _ c.in-Ok-Some.at c.in-Ok-Some.bytes.now _ _ written _ c.show_blob.new.out.has_failed frames begun.0 so_far gives begun.1 begun.2 begun.3),
       c.loop-frames.invariant.2,
     )

@@ -3,7 +3,7 @@ use Rattle.osm_databases.proofs.Told.{told_ok}
 use Rattle.osm_databases.proofs.files.AskedFilesCheckedDatabases.checked_trees.Goals as goal
 
 pub returns-clause-given : goal.returns-clause-given
-returns-clause-given c = told_ok (λ (refusal : Refusal). refusal.fault) _ c.checked_trees_to_read.result c.told.result c.told.ensures c.checked_trees_to_read.ensures.opened
+returns-clause-given c = told_ok (λ (refusal : Refusal). refusal.fault) _ c.checked_trees_to_read.result c.tell_refusal.result c.tell_refusal.ensures c.checked_trees_to_read.ensures.opened
 
 pub returns-clause-version : goal.returns-clause-version
-returns-clause-version c = told_ok (λ (refusal : Refusal). refusal.fault) _ c.checked_trees_to_read.result c.told.result c.told.ensures c.checked_trees_to_read.ensures.version
+returns-clause-version c = told_ok (λ (refusal : Refusal). refusal.fault) _ c.checked_trees_to_read.result c.tell_refusal.result c.tell_refusal.ensures c.checked_trees_to_read.ensures.version

@@ -3,7 +3,7 @@ use Rattle.osm_databases.proofs.Told.{told_ok}
 use Rattle.osm_databases.proofs.files.FilledFilesDatabases.trees.Goals as goal
 
 pub returns-clause-given : goal.returns-clause-given
-returns-clause-given c = told_ok (λ (refusal : Refusal). refusal.fault) _ c.trees_to_write.result c.told.result c.told.ensures c.trees_to_write.ensures.opened
+returns-clause-given c = told_ok (λ (refusal : Refusal). refusal.fault) _ c.trees_to_write.result c.tell_refusal.result c.tell_refusal.ensures c.trees_to_write.ensures.opened
 
 pub returns-clause-version : goal.returns-clause-version
-returns-clause-version c = told_ok (λ (refusal : Refusal). refusal.fault) _ c.trees_to_write.result c.told.result c.told.ensures c.trees_to_write.ensures.version
+returns-clause-version c = told_ok (λ (refusal : Refusal). refusal.fault) _ c.trees_to_write.result c.tell_refusal.result c.tell_refusal.ensures c.trees_to_write.ensures.version

@@ -60,8 +60,8 @@ returns-clause-wrote g c = λ held run holds honest within are.
 
 pub returns-in_err-write_blob-clause-told : goal.returns-in_err-write_blob-clause-told
 returns-in_err-write_blob-clause-told g c =
-    let now = g.K.Reader.failures c.write_blob.new.keeper in
-    subst (λ (r : Result (Unit {0}) ExportFault). ExportTells (g.K.Reader.failures c.args.keeper.now) now r) (sym (handed c.from_residual.result _ c.from_residual.ensures.1))
+    let now = g.K.BlobReader.failures c.write_blob.new.keeper in
+    subst (λ (r : Result (Unit {0}) ExportFault). ExportTells (g.K.BlobReader.failures c.args.keeper.now) now r) (sym (handed c.from_residual.result _ c.from_residual.ensures.1))
     (subst (λ (before : ℕ). ExportTells {T = Unit {0}} before now (Err c.in_err-write_blob.field-0.0)) c.loop-extent.invariant.told c.in_err-write_blob.ensures.told)
 
 pub returns-clause-told : goal.returns-clause-told

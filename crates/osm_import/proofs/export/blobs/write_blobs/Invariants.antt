@@ -7,7 +7,7 @@ use Rattle.osm_import.proofs.export.blobs.write_blobs.Given as goal
 
 abbrev pub invariant-loop-extent : goal.invariant-loop-extent
 invariant-loop-extent g l =
-    let K = g.K.Reader in
+    let K = g.K.BlobReader in
     let S = g.S.Sink in
     record {
       honest : K.is_honest l.keeper → K.is_honest l.fn.keeper;

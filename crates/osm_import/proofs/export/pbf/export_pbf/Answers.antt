@@ -50,22 +50,22 @@ returns-clause-export g c = λ held holds honest.
 
 pub returns-in_err-extents-clause-one_file : goal.returns-in_err-extents-clause-one_file
 returns-in_err-extents-clause-one_file g c = λ held file frames holds honest is_file of_file tiles asked.
-    pbf-file held file frames c.args.size c.args.partial (g.S.Sink.written c.args.out.now) (g.S.Sink.written c.args.out.now) c.from_residual.result (g.met.K.Reader.is_apart _ held holds) is_file of_file tiles asked
+    pbf-file held file frames c.args.size c.args.partial (g.S.Sink.written c.args.out.now) (g.S.Sink.written c.args.out.now) c.from_residual.result (g.met.K.BlobReader.is_apart _ held holds) is_file of_file tiles asked
     (returns-in_err-extents-clause-export g c held holds honest)
 
 pub returns-in_err-write_header-clause-one_file : goal.returns-in_err-write_header-clause-one_file
 returns-in_err-write_header-clause-one_file g c = λ held file frames holds honest is_file of_file tiles asked.
-    pbf-file held file frames c.args.size c.args.partial (g.S.Sink.written c.args.out.now) (g.S.Sink.written c.write_header.new.out) c.from_residual-in_err-write_header.result (g.met.K.Reader.is_apart _ held holds) is_file of_file tiles asked
+    pbf-file held file frames c.args.size c.args.partial (g.S.Sink.written c.args.out.now) (g.S.Sink.written c.write_header.new.out) c.from_residual-in_err-write_header.result (g.met.K.BlobReader.is_apart _ held holds) is_file of_file tiles asked
     (returns-in_err-write_header-clause-export g c held holds honest)
 
 pub returns-clause-one_file : goal.returns-clause-one_file
 returns-clause-one_file g c = λ held file frames holds honest is_file of_file tiles asked.
-    pbf-file held file frames c.args.size c.args.partial (g.S.Sink.written c.args.out.now) (g.S.Sink.written c.write_blobs.new.out) c.write_blobs.result (g.met.K.Reader.is_apart _ held holds) is_file of_file tiles asked
+    pbf-file held file frames c.args.size c.args.partial (g.S.Sink.written c.args.out.now) (g.S.Sink.written c.write_blobs.new.out) c.write_blobs.result (g.met.K.BlobReader.is_apart _ held holds) is_file of_file tiles asked
     (returns-clause-export g c held holds honest)
 
 pub returns-in_err-extents-clause-cause : goal.returns-in_err-extents-clause-cause
 returns-in_err-extents-clause-cause g c =
-    subst (λ (r : Result (Unit {0}) ExportFault). ExportHasCause (g.K.Reader.failures c.args.keeper.now) (g.K.Reader.failures c.extents_to_export.new.keeper) (g.S.Sink.has_failed c.args.out.now) r) (sym (handed c.from_residual.result _ c.from_residual.ensures.1))
+    subst (λ (r : Result (Unit {0}) ExportFault). ExportHasCause (g.K.BlobReader.failures c.args.keeper.now) (g.K.BlobReader.failures c.extents_to_export.new.keeper) (g.S.Sink.has_failed c.args.out.now) r) (sym (handed c.from_residual.result _ c.from_residual.ensures.1))
     (cause-unwritten _ _ (g.S.Sink.has_failed c.args.out.now) c.in_err-extents.field-0.0 c.in_err-extents.ensures.cause)
 
 pub returns-in_err-write_header-clause-told : goal.returns-in_err-write_header-clause-told
@@ -73,4 +73,4 @@ returns-in_err-write_header-clause-told g c = tells-none _ _ (c.in_ok-history.en
 
 pub returns-clause-told : goal.returns-clause-told
 returns-clause-told g c =
-    subst (λ (before : ℕ). ExportTells before (g.K.Reader.failures c.write_blobs.new.keeper) c.write_blobs.result) (c.in_ok-history.ensures.reads.counted ∙ c.in_ok-extents.ensures.told) c.write_blobs.ensures.told
+    subst (λ (before : ℕ). ExportTells before (g.K.BlobReader.failures c.write_blobs.new.keeper) c.write_blobs.result) (c.in_ok-history.ensures.reads.counted ∙ c.in_ok-extents.ensures.told) c.write_blobs.ensures.told

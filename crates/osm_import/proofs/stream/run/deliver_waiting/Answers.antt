@@ -6,7 +6,7 @@ use Rattle.osm_import.proofs.stream.run.deliver_waiting.Goals as goal
 
 pub returns : goal.returns
 returns g c =
-    let K = g.K.Reader in
+    let K = g.K.BlobReader in
     let f = c.args.framer.now in
     let lent = c.in-Ok-Some.lent in
     let state : c.next_frame.follows.lender-at-none ≡ given f (waiting f) = search rules in

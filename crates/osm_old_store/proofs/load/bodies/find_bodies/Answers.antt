@@ -20,7 +20,7 @@ unfolding everything
 answer-requires g c = refl
 
 pub returns-in-Ok-clause-held : goal.returns-in-Ok-clause-held
-returns-in-Ok-clause-held g c clean held holds =
+returns-in-Ok-clause-held g c held clean holds =
     let old = state g.S.Store c.args.connection.now in
     let answered = c.in_ok-rows.ensures.rows clean in
     let id : owned c.integer.result ≡ Int c.args.id = c.integer.ensures ∙ ap Int (to_z-of_z w64 c.args.id c.ranges.id) in
@@ -29,7 +29,7 @@ returns-in-Ok-clause-held g c clean held holds =
     (record { rows = record { rows = read; stored = All-from_recursion _ _ (all-filter _ (is_of c.args.kind c.args.id) (placed_in held) (all_stored Bodies held holds.kept)) } }, answered.is_open)
 
 pub returns-in-Err-clause-held : goal.returns-in-Err-clause-held
-returns-in-Err-clause-held g c clean held holds foreign =
+returns-in-Err-clause-held g c held clean holds foreign =
     let old = state g.S.Store c.args.connection.now in
     let answered = c.in_ok-rows.ensures.rows clean in
     let id : owned c.integer.result ≡ Int c.args.id = c.integer.ensures ∙ ap Int (to_z-of_z w64 c.args.id c.ranges.id) in

@@ -21,7 +21,7 @@ unfolding everything
 answer-requires g c = refl
 
 pub returns-then-off-ge-MAX_OFFSET-clause-held : goal.returns-then-off-ge-MAX_OFFSET-clause-held
-returns-then-off-ge-MAX_OFFSET-clause-held g c clean held holds = (
+returns-then-off-ge-MAX_OFFSET-clause-held g c held clean holds = (
   λ blob is.
       let below : c.args.off < blob.fin = holds.kept.apart.filled c.args.off blob is in
       let limit : blob.fin ≤ MAX_OFFSET = holds.kept.apart.limit c.args.off blob is in
@@ -30,7 +30,7 @@ returns-then-off-ge-MAX_OFFSET-clause-held g c clean held holds = (
 )
 
 pub returns-then-not-are_numbered-clause-held : goal.returns-then-not-are_numbered-clause-held
-returns-then-not-are_numbered-clause-held g c clean held holds foreign =
+returns-then-not-are_numbered-clause-held g c held clean holds foreign =
     let old = state g.S.Store c.args.connection.now in
     let answered = c.in_ok-rows.ensures.rows clean in
     let shown = rw c.number.ensures at answered.shown in
@@ -38,7 +38,7 @@ returns-then-not-are_numbered-clause-held g c clean held holds foreign =
     true≢false (sym (c.are_numbered.ensures.1 (held_numbered body_row (λ p. refl) held c.args.off _ (c.deref.ensures.value ∙ read))) ∙ c.if-not-are_numbered.true)
 
 pub returns-in-Ok-clause-held : goal.returns-in-Ok-clause-held
-returns-in-Ok-clause-held g c clean held holds =
+returns-in-Ok-clause-held g c held clean holds =
     let old = state g.S.Store c.args.connection.now in
     let answered = c.in_ok-rows.ensures.rows clean in
     let shown = rw c.number.ensures at answered.shown in
@@ -49,7 +49,7 @@ returns-in-Ok-clause-held g c clean held holds =
     )
 
 pub returns-in-Err-clause-held : goal.returns-in-Err-clause-held
-returns-in-Err-clause-held g c clean held holds foreign =
+returns-in-Err-clause-held g c held clean holds foreign =
     let old = state g.S.Store c.args.connection.now in
     let answered = c.in_ok-rows.ensures.rows clean in
     let shown = rw c.number.ensures at answered.shown in

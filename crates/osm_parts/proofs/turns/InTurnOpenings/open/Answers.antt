@@ -4,7 +4,7 @@ use Rattle.osm_parts.proofs.turns.InTurnOpenings.open.Goals as goal
 
 pub returns-clause-lent : goal.returns-clause-lent
 returns-clause-lent g c = λ maps all honest.
-    let K = g.K.Reader in
+    let K = g.K.BlobReader in
     let same = c.note.ensures.kept in
     let databases = c.args.self.now in
     rw (same.0, same.1)

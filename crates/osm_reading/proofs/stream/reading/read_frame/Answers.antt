@@ -4,7 +4,7 @@ use Rattle.osm_reading.proofs.stream.reading.read_frame.Goals as goal
 
 pub returns-in-Err-clause-err : goal.returns-in-Err-clause-err
 returns-in-Err-clause-err g c =
-    stopped-frame c.fill.new.framer (prepend_known c.fill.new.piece (g.R.Source.bytes_left c.fill.new.reader)) (g.R.Source.has_failed c.fill.new.reader) c.in-Err.stop c.in-Err.ensures.cause c.in-Err.ensures.unfilled
+    stopped-frame c.fill.new.framer (prepend_known c.fill.new.piece (g.R.Source.bytes_left c.fill.new.reader)) (g.R.Source.has_failed c.fill.new.reader) c.in-Err.stop c.in-Err.ensures.cause (λ is. (c.in-Err.ensures.unread is).0)
 
 pub returns-in-Err-end-clause-err : goal.returns-in-Err-end-clause-err
 returns-in-Err-end-clause-err g c =
@@ -29,3 +29,6 @@ returns-in-Ok-end-clause-late g c = λ begun ready. c.fill.ensures.late begun re
 
 pub returns-in-Err-end-clause-late : goal.returns-in-Err-end-clause-late
 returns-in-Err-end-clause-late g c = λ begun ready. c.fill.ensures.late begun ready
+
+pub returns-in-Err-clause-spent : goal.returns-in-Err-clause-spent
+returns-in-Err-clause-spent g c = λ is. (c.in-Err.ensures.unread is).1

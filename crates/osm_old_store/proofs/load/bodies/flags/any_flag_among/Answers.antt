@@ -23,31 +23,31 @@ loop-extent-preserved g c =
       read = λ clean held holds are.
           let before = c.loop-extent.invariant.read (clean_before now next asks clean) held holds are in
           let it = next_blob held c.args.extents.now c.loop-extent.extent-index _ are c.loop-extent-test.true (get_or_default c.args.extents.now c.loop-extent.extent-index _ _ c.loop-extent-test.true) in
-          let found = c.in_ok-any_flag_at.ensures.held clean held it.blob before.0 it.found in (
+          let found = c.in_ok-any_flag_at.ensures.held held it.blob it.found clean before.0 in (
             asks_holds Bodies now next asks held before.0 clean found.1,
             flag_behind held c.loop-extent.extent-index _ it (sym found.0 ∙ c.if-branch.false) ∙ before.1,
           );
     }
 
 pub returns-then-branch-clause-held : goal.returns-then-branch-clause-held
-returns-then-branch-clause-held g c clean held holds are =
+returns-then-branch-clause-held g c held are clean holds =
     let now = state g.S.Store c.loop-extent.connection in
     let next = state g.S.Store c.any_flag_at.new.connection in
     let before = c.loop-extent.invariant.read (clean_before now next c.any_flag_at.ensures.asks clean) held holds are in
     let it = next_blob held c.args.extents.now c.loop-extent.extent-index _ are c.loop-extent-test.true (get_or_default c.args.extents.now c.loop-extent.extent-index _ _ c.loop-extent-test.true) in
-    let found = c.in_ok-any_flag_at.ensures.held clean held it.blob before.0 it.found in
+    let found = c.in_ok-any_flag_at.ensures.held held it.blob it.found clean before.0 in
     (sym (flags_by_blob held ∙ sym before.1 ∙ flag_here held c.loop-extent.extent-index _ it (sym found.0 ∙ c.if-branch.true)), found.1)
 
 pub returns-in_err-any_flag_at-clause-held : goal.returns-in_err-any_flag_at-clause-held
-returns-in_err-any_flag_at-clause-held g c clean held holds are =
+returns-in_err-any_flag_at-clause-held g c held are clean holds =
     let now = state g.S.Store c.loop-extent.connection in
     let next = state g.S.Store c.any_flag_at.new.connection in
     let p = err_from_is_err_and c.from_residual.result c.from_residual.ensures.1 in
     let before = c.loop-extent.invariant.read (clean_before now next c.any_flag_at.ensures.asks clean) held holds are in
     let it = next_blob held c.args.extents.now c.loop-extent.extent-index _ are c.loop-extent-test.true (get_or_default c.args.extents.now c.loop-extent.extent-index _ _ c.loop-extent-test.true) in
-    rw (p.1, p.2) (c.in_err-any_flag_at.ensures.held clean held it.blob before.0 it.found)
+    rw (p.1, p.2) (c.in_err-any_flag_at.ensures.held held it.blob it.found clean before.0)
 
 pub returns-clause-held : goal.returns-clause-held
-returns-clause-held g c clean held holds are =
+returns-clause-held g c held are clean holds =
     let now = c.loop-extent.invariant.read clean held holds are in
     (sym (flags_by_blob held ∙ sym now.1 ∙ no_flag_left held c.args.extents.now c.loop-extent.extent-index are (omega arith)), now.0.opened)

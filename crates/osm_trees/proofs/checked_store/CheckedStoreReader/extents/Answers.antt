@@ -1,5 +1,0 @@
-use Rattle.osm_trees.proofs.CheckedReads.{checked_reads}
-use Rattle.osm_trees.proofs.checked_store.CheckedStoreReader.extents.Goals as goal
-
-pub returns-clause-reads : goal.returns-clause-reads
-returns-clause-reads g c = checked_reads g.S.Store g.met.S.Store.broken_if_shut c.self.inside.trees c.extents.new.self c.self.inside.look c.args.self.now c.self.view_is c.extents.result c.extents.ensures.reads

@@ -1,0 +1,25 @@
+use Rattle.std.proofs.Common.{◌∙◌, subst, sym}
+use Rattle.std.proofs.lemmas.Result.{IfOk-weaker, MatchResult-weaker, err_from_is_err_and}
+use Rattle.osm_rows.specs.declared.schema.layout.Layout.TheVariants.{Tables}
+use Rattle.osm_trees.specs.Below.{HoldsBelow}
+use Rattle.osm_trees.specs.Reading.{Reading}
+use Rattle.osm_trees.proofs.Answers.{ok_of, read_ends, refused}
+use Rattle.osm_trees.proofs.Mending.{clean_until}
+use Rattle.osm_trees.proofs.tree_store.TreeStoreBlobReader.load.Goals as goal
+
+pub returns-in_err-begin_read-clause-reads : goal.returns-in_err-begin_read-clause-reads
+returns-in_err-begin_read-clause-reads g c =
+    let p = err_from_is_err_and c.from_residual.result c.from_residual.ensures.1 in
+    rw (p.1, p.2) (refused g.S.Store _ _ _ c.in_err-begin_read.ensures.reads)
+
+pub returns-clause-reads : goal.returns-clause-reads
+returns-clause-reads g c =
+    let inside : Reading _ = record { store = c.self.inside.store; failures = c.self.inside.failures } in
+    read_ends g.S.Store g.met.S.Store.settled g.met.S.Store.broken_if_shut g.met.S.Store.stays c.args.self.now inside c.load_blob-answer.new.store c.end_read.new.self
+    (c.self.view_is ∙ c.in_ok-begin_read.ensures.same) c.in_ok-begin_read.ensures.up c.load_blob-answer.ensures.looks c.end_read.ensures.mends c.load_blob-answer.result
+    (λ clean held holds. MatchResult-weaker c.load_blob-answer.result (c.load_blob-answer.ensures.held clean held holds) (λ v h. h.1) (λ fault h. h)) c.end_read.ensures.counted
+
+pub returns-clause-rows : goal.returns-clause-rows
+returns-clause-rows g c held blob holds clean is =
+    let was = subst (λ (r : Reading _). HoldsBelow Tables (g.S.Store.view r.store) held) (sym (c.self.view_is ∙ c.in_ok-begin_read.ensures.same)) holds in
+    IfOk-weaker c.load_blob-answer.result _ _ (λ loaded h. h blob is) (ok_of _ _ _ c.load_blob-answer.result (c.load_blob-answer.ensures.held (clean_until g.S.Store _ _ c.end_read.ensures.mends clean) held was))
