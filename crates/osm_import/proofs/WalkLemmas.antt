@@ -72,6 +72,12 @@ read-is [] i d e within = absurd (omega arith)
 read-is (x ∷ xs) zero d e within = refl
 read-is (x ∷ xs) (suc i) d e within = read-is xs i d e (omega arith)
 
+-- the element at a place within the list
+pub element-at : {A : Type 0} (xs : List A) (i : ℕ) → i < length xs → (x : A) × (x ≡ get_or xs i x)
+element-at [] i within = absurd (omega arith)
+element-at (x ∷ xs) zero within = (x, refl)
+element-at (x ∷ xs) (suc i) within = element-at xs i (omega arith)
+
 -- ---- blob after blob
 
 turn-push : (Writes : Writing) (es : List (ℕ × Blob)) (entry : ℕ × Blob) (before middle after : Known) → WritesInTurn Writes before es middle → Writes middle entry.1.elements after (Ok tt) → WritesInTurn Writes before (es ++ entry ∷ []) after

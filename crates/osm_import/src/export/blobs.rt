@@ -1,10 +1,11 @@
 //! The walk over the held blobs, whatever an export writes of each.
 
-ghost use Rattle.std.specs.Prelude.{◌≡◌, ◌≤◌, false, Some, Err, IfOk, IfErr, OnOk};
-ghost use Rattle.std.specs.FinMap.{get, entries};
+ghost use Rattle.std.specs.Prelude.{◌≡◌, ◌≤◌, ℕ, false, Err, IfOk, IfErr, OnOk};
+ghost use Rattle.std.specs.FinMap.{entries};
 ghost use Rattle.osm_rows.specs.Held.{Blob, HeldMap};
 ghost use Rattle.osm_rows.specs.Calls.{OfHeld};
 ghost use Rattle.osm_rows.specs.Keeping.{extent_of, extents_of};
+ghost use Rattle.osm_rows.specs.Load.Loading.{HasRowsOf};
 ghost use Rattle.osm_import.specs.Gaps.{Tiles};
 ghost use Rattle.osm_import.specs.Exports.{size_of, IsUnbegun};
 ghost use Rattle.osm_import.specs.ExportCauses.{ExportHasCause, ExportIsOwn, ExportTells, WriteHasCause};
@@ -13,7 +14,7 @@ ghost use Rattle.osm_import.specs.Stores.{Rereads};
 
 use super::ExportFault;
 use super::refusal::export_refusal;
-use osm_rows::{BlobReader, Extent};
+use osm_rows::{BlobReader, Extent, Loaded};
 use osm_value::{Element, Sink};
 use std::alloc::Global;
 
@@ -54,25 +55,21 @@ pub(super) fn extents_to_export<K: BlobReader>(
     Ok(extents)
 }
 
-/// Takes the step at the blob at an extent, unless the store has other than as many elements of it as the extent says, or a
-/// row of it that no element has.
-fn write_blob<K: BlobReader, S: Sink, W: BlobStep<S>>(
+/// Takes the step at the elements of a loaded blob, unless they are other than as many as the extent says, or a row of it is
+/// that of no element.
+fn write_loaded<S: Sink, W: BlobStep<S>>(
     alloc: Global,
-    keeper: &mut K,
+    loaded: &Loaded,
     extent: &Extent,
     step: &W,
     out: &mut S,
 ) -> Result<(), ExportFault>
-    ensures wrote { (held : HeldMap) (blob : Blob) → K.holds keeper.old held → K.is_honest keeper.new → get held extent.now.off ≡ Some blob
-        → extent.now ≡ extent_of (extent.now.off, blob) → WritesOne W.writes (S.written out.old) blob.elements (S.written out.new) result }
+    ensures wrote { (blob : Blob) → HasRowsOf loaded.now blob.elements → extent.now ≡ extent_of (extent.now.off, blob)
+        → WritesOne W.writes (S.written out.old) blob.elements (S.written out.new) result }
     ensures complete { WritesComplete W.writes (S.written out.old) extent.now (S.written out.new) result }
-    ensures rereads { Rereads K.BlobReader keeper.old result keeper.new }
-    ensures own { OfHeld K.BlobReader keeper.old keeper.new (λ _. ExportIsOwn result) }
-    ensures cause { ExportHasCause (K.failures keeper.old) (K.failures keeper.new) (S.has_failed out.new) result }
-    ensures told { ExportTells (K.failures keeper.old) (K.failures keeper.new) result }
-    ensures counted { K.failures keeper.old ≤ K.failures keeper.new }
+    ensures own { ExportIsOwn result }
+    ensures cause { (before now : ℕ) → ExportHasCause before now (S.has_failed out.new) result }
 {
-    let loaded = keeper.load(alloc, extent.off)?;
     let Some(elements) = loaded.elements(alloc)? else {
         return Err(ExportFault::Miscounted(extent.off));
     };
@@ -104,7 +101,8 @@ pub fn write_blobs<K: BlobReader, S: Sink, W: BlobStep<S>>(
     ensures counted { K.failures keeper.old ≤ K.failures keeper.new }
 {
     for extent in extents {
-        write_blob(alloc, keeper, extent, step, out)?;
+        let loaded = keeper.load(alloc, extent.off)?;
+        write_loaded(alloc, &loaded, extent, step, out)?;
     }
     Ok(())
 }
